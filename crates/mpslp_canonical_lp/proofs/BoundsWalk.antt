@@ -11,16 +11,16 @@ use Rattle.mpslp_builder.specs.Refusal.{refusals_in_turn}
 use Rattle.mpslp_types.specs.declared.kinds.Limit.{Limit}
 use Rattle.mpslp_types.specs.declared.kinds.Limit.TheVariants.{MinusInf, Finite, PlusInf}
 use Rattle.mpslp_decimal.proofs.CutLemmas.{Each}
-use Rattle.mpslp_lp.specs.Words.{class_of}
-use Rattle.mpslp_lp.specs.Terminal.{Terminal, TerminalAt, word_terminal}
-use Rattle.mpslp_lp.specs.Terminal.Terminal.{Name, Number, Sign, Compares, Infinity, Free}
-use Rattle.mpslp_lp.specs.Point.{Point}
-use Rattle.mpslp_lp.specs.declared.sections_seen.SectionsSeen.{SectionsSeen}
-use Rattle.mpslp_lp.specs.declared.states.Place.TheVariants.{InBounds}
-use Rattle.mpslp_lp.specs.Sides.{apply_sign, Limits, limits_by}
-use Rattle.mpslp_lp.specs.Bounds.{no_limits}
-use Rattle.mpslp_lp.specs.declared.relations.Relation.{Relation}
-use Rattle.mpslp_lp.specs.declared.relations.Relation.TheVariants.{AtMost, AtLeast, EqualTo}
+use Rattle.mpslp_lp_tokens.specs.Words.{class_of}
+use Rattle.mpslp_lp_grammar.specs.Terminal.{Terminal, TerminalAt, word_terminal}
+use Rattle.mpslp_lp_grammar.specs.Terminal.Terminal.{Name, Number, Sign, Compares, Infinity, Free}
+use Rattle.mpslp_lp_grammar.specs.Point.{Point}
+use Rattle.mpslp_lp_grammar.specs.declared.sections_seen.SectionsSeen.{SectionsSeen}
+use Rattle.mpslp_lp_grammar.specs.declared.states.Place.TheVariants.{InBounds}
+use Rattle.mpslp_lp_grammar.specs.Sides.{apply_sign, Limits, limits_by}
+use Rattle.mpslp_lp_grammar.specs.Bounds.{no_limits}
+use Rattle.mpslp_lp_grammar.specs.declared.relations.Relation.{Relation}
+use Rattle.mpslp_lp_grammar.specs.declared.relations.Relation.TheVariants.{AtMost, AtLeast, EqualTo}
 use Rattle.mpslp_canonical_lp.specs.Printed.{Lexeme, word, number, sense, minus_infinity}
 use Rattle.mpslp_canonical_lp.specs.CanonicalLp.{bound_lexemes, line_of_some, bound_lines}
 use Rattle.mpslp_canonical_lp.proofs.LexemeLemmas.{IsGoodName}

@@ -7,9 +7,9 @@ use Rattle.mpslp_builder.specs.Refusal.{refusals_in_turn}
 use Rattle.mpslp_builder.specs.Meaning.{Means}
 use Rattle.mpslp_types.specs.declared.faults.Fault.{Fault}
 use Rattle.mpslp_decimal.proofs.CutLemmas.{Each}
-use Rattle.mpslp_lp.specs.Rules.{Outcome}
-use Rattle.mpslp_lp.specs.Rules.Outcome.{Finished}
-use Rattle.mpslp_lp.specs.Grammar.{text_says, text_declares}
+use Rattle.mpslp_lp_grammar.specs.Rules.{Outcome}
+use Rattle.mpslp_lp_grammar.specs.Rules.Outcome.{Finished}
+use Rattle.mpslp_lp_grammar.specs.Grammar.{text_says, text_declares}
 use Rattle.mpslp_lp.specs.LpText.{numbered_lines, first_own_fault, or_else, outcome, is_finished, declarations_of, DeclaresLp}
 use Rattle.mpslp_model_core.specs.Listing.{listing_of}
 use Rattle.mpslp_canonical_lp.specs.CanonicalLp.{row_terms, canonical_lp}

@@ -15,14 +15,14 @@ use Rattle.mpslp_types.proofs.EachLemmas.{Each-from_list_all}
 use Rattle.mpslp_model_core.specs.Model.{Row}
 use Rattle.mpslp_builder.specs.Declaration.{RowDefinition, declare_row, declare_column, declare_lower, declare_upper, bounds_declared, Declarations, draft_of, with_declarations}
 use Rattle.mpslp_builder.proofs.SoundParts.{lower_of, upper_of, bounded_so, bounded_finite}
-use Rattle.mpslp_lp.specs.Rules.{phrases, made_by}
-use Rattle.mpslp_lp.specs.Terminal.{TerminalAt}
-use Rattle.mpslp_lp.specs.Point.{Point, start}
-use Rattle.mpslp_lp.specs.Grammar.{phrase_at}
-use Rattle.mpslp_lp.specs.Objective.{objective_declared, term_declared}
-use Rattle.mpslp_lp.specs.Sides.{limits_by}
-use Rattle.mpslp_lp.specs.declared.relations.Relation.TheVariants.{AtLeast, EqualTo}
-use Rattle.mpslp_lp.specs.declared.states.Place.TheVariants.{BeforeItems, InObjective, BetweenRows, InBounds}
+use Rattle.mpslp_lp_grammar.specs.Rules.{phrases, made_by}
+use Rattle.mpslp_lp_grammar.specs.Terminal.{TerminalAt}
+use Rattle.mpslp_lp_grammar.specs.Point.{Point, start}
+use Rattle.mpslp_lp_grammar.specs.Grammar.{phrase_at}
+use Rattle.mpslp_lp_grammar.specs.Objective.{objective_declared, term_declared}
+use Rattle.mpslp_lp_grammar.specs.Sides.{limits_by}
+use Rattle.mpslp_lp_grammar.specs.declared.relations.Relation.TheVariants.{AtLeast, EqualTo}
+use Rattle.mpslp_lp_grammar.specs.declared.states.Place.TheVariants.{BeforeItems, InObjective, BetweenRows, InBounds}
 use Rattle.mpslp_canonical_lp.specs.Printed.{PrintedLine, word, semi_continuous}
 use Rattle.mpslp_canonical_lp.specs.CanonicalLp.{Lines, Term, heading, label_line, sense_word, term_line, constant_lines, row_terms, row_lines, bound_lines, name_line, semi_heading}
 use Rattle.mpslp_canonical_lp.specs.PrintedDeclarations.{point_at, terminals_at, AreDerived, AreDerivedAt, is_legal_term, after_objective, rows_heading, constant_declared, DeriveObjectives, AreLegalTerms, row_and_terms, DeriveRows, column_and_bounds, DeriveBounds, DeriveAllKinds, end_heading, DeriveAllHeadings}

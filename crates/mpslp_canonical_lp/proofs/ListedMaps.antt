@@ -11,8 +11,8 @@ use Rattle.mpslp_types.specs.declared.kinds.Limit.{Limit}
 use Rattle.mpslp_types.specs.declared.kinds.Limit.TheVariants.{MinusInf, Finite, PlusInf}
 use Rattle.mpslp_builder.proofs.CoefficientLemmas.{flat_map-none}
 use Rattle.mpslp_builder.proofs.DraftLemmas.{row_part, rhs_part, range_part, column_part, coefficient_part, lower_part, upper_part, marked_part, integer_part, binary_part, semi_part}
-use Rattle.mpslp_lp.specs.Sides.{limits_by}
-use Rattle.mpslp_lp.specs.declared.relations.Relation.TheVariants.{AtLeast, EqualTo}
+use Rattle.mpslp_lp_grammar.specs.Sides.{limits_by}
+use Rattle.mpslp_lp_grammar.specs.declared.relations.Relation.TheVariants.{AtLeast, EqualTo}
 use Rattle.mpslp_model_core.specs.Listing.{Listing}
 use Rattle.mpslp_canonical_lp.specs.CanonicalLp.{Term, objective_terms, row_terms, is_integer_column, is_semi_column}
 use Rattle.mpslp_canonical_lp.proofs.PhraseLemmas.{column_and}

@@ -14,9 +14,9 @@ use Rattle.mpslp_types.specs.declared.kinds.Limit.TheVariants.{MinusInf, Finite,
 use Rattle.mpslp_builder.proofs.CoefficientLemmas.{flat_map-flat_map, flat_map-none}
 use Rattle.mpslp_builder.proofs.FlatLemmas.{flat-same}
 use Rattle.mpslp_builder.proofs.NamedEntries.{named}
-use Rattle.mpslp_lp.specs.Sides.{Limits}
-use Rattle.mpslp_lp.specs.Rows.{row_limits}
-use Rattle.mpslp_lp.specs.Objective.{term_declared, objective_declared}
+use Rattle.mpslp_lp_grammar.specs.Sides.{Limits}
+use Rattle.mpslp_lp_grammar.specs.Rows.{row_limits}
+use Rattle.mpslp_lp_grammar.specs.Objective.{term_declared, objective_declared}
 use Rattle.mpslp_model_core.specs.Listing.{Listing}
 use Rattle.mpslp_canonical_lp.specs.CanonicalLp.{Term, objective_terms, row_terms, is_integer_column, is_semi_column}
 use Rattle.mpslp_canonical_lp.proofs.ObjectiveWalk.{terms_declared, constant_declared, objective_made}

@@ -17,8 +17,8 @@ use Rattle.mpslp_model_core.proofs.PutsLemmas.{puts}
 use Rattle.mpslp_builder.proofs.DraftLemmas.{rows-all}
 use Rattle.mpslp_builder.proofs.MeaningFromNoFault.{sorted-mapped}
 use Rattle.mpslp_builder.proofs.SortedDrafts.{bytes_total, tied_names}
-use Rattle.mpslp_lp.specs.Rows.{row_limits as limits_between}
-use Rattle.mpslp_lp.specs.declared.relations.Relation.TheVariants.{AtMost, EqualTo}
+use Rattle.mpslp_lp_grammar.specs.Rows.{row_limits as limits_between}
+use Rattle.mpslp_lp_grammar.specs.declared.relations.Relation.TheVariants.{AtMost, EqualTo}
 use Rattle.mpslp_model_core.specs.Listing.{Listing}
 use Rattle.mpslp_canonical_lp.proofs.RowWalk.{left_of}
 use Rattle.mpslp_canonical_lp.proofs.TextWalk.{listed_declarations}

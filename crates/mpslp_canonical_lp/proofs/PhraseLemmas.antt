@@ -15,30 +15,30 @@ use Rattle.mpslp_types.specs.declared.kinds.Sense.{Sense}
 use Rattle.mpslp_types.specs.declared.kinds.Sense.TheVariants.{Minimize, Maximize}
 use Rattle.mpslp_types.specs.declared.kinds.Limit.{Limit}
 use Rattle.mpslp_types.specs.declared.kinds.Limit.TheVariants.{MinusInf}
-use Rattle.mpslp_lp.specs.Terminal.{TerminalAt}
-use Rattle.mpslp_lp.specs.Terminal.Terminal.{Opens, Name, Number, Sign, Compares, Colon, Infinity, Free}
-use Rattle.mpslp_lp.specs.Words.{section_of}
-use Rattle.mpslp_lp.specs.Rules.{Parsed, after_taking, ◌>>=◌, Outcome, phrases, made_by}
-use Rattle.mpslp_lp.specs.Rules.Parsed.{Reads, Refuses, Unfinished}
-use Rattle.mpslp_lp.specs.Rules.AfterPhrase.{Goes, Ends}
-use Rattle.mpslp_lp.specs.Rules.Outcome.{Finished, Refused, Open}
-use Rattle.mpslp_lp.specs.Point.{no_section_seen, with_section, section_fault, Point, start}
-use Rattle.mpslp_lp.specs.declared.sections_seen.SectionsSeen.{SectionsSeen}
-use Rattle.mpslp_lp.specs.declared.context.Context.{Context}
-use Rattle.mpslp_lp.specs.PartialRow.{PartialRow}
-use Rattle.mpslp_lp.specs.declared.states.Place.{Place}
-use Rattle.mpslp_lp.specs.declared.states.Place.TheVariants.{BeforeItems, InObjective, BetweenRows, InRow, InBounds, InGenerals, InSemis}
-use Rattle.mpslp_lp.specs.Phrase.{PhraseRule, fails, refuses, Follows, goes_to, unless_refused}
-use Rattle.mpslp_lp.specs.Sides.{apply_sign, side, Limits, limits_by, flip}
-use Rattle.mpslp_lp.specs.Objective.{term_declared, objective_declared}
-use Rattle.mpslp_lp.specs.Rows.{fits_left, row_limits, row_declared, row_whole}
-use Rattle.mpslp_lp.specs.Bounds.{no_limits}
-use Rattle.mpslp_lp.specs.Grammar.{section_start, section_from, may_begin_section, phrase_at}
-use Rattle.mpslp_lp.specs.declared.relations.Relation.{Relation}
-use Rattle.mpslp_lp.specs.declared.relations.Relation.TheVariants.{AtMost}
-use Rattle.mpslp_lp.specs.declared.words.Section.TheVariants as sections
-use Rattle.mpslp_lp.specs.declared.words.SectionWord.{SectionWord}
-use Rattle.mpslp_lp.specs.declared.words.SectionWord.TheVariants as section_words
+use Rattle.mpslp_lp_grammar.specs.Terminal.{TerminalAt}
+use Rattle.mpslp_lp_grammar.specs.Terminal.Terminal.{Opens, Name, Number, Sign, Compares, Colon, Infinity, Free}
+use Rattle.mpslp_lp_tokens.specs.Words.{section_of}
+use Rattle.mpslp_lp_grammar.specs.Rules.{Parsed, after_taking, ◌>>=◌, Outcome, phrases, made_by}
+use Rattle.mpslp_lp_grammar.specs.Rules.Parsed.{Reads, Refuses, Unfinished}
+use Rattle.mpslp_lp_grammar.specs.Rules.AfterPhrase.{Goes, Ends}
+use Rattle.mpslp_lp_grammar.specs.Rules.Outcome.{Finished, Refused, Open}
+use Rattle.mpslp_lp_grammar.specs.Point.{no_section_seen, with_section, section_fault, Point, start}
+use Rattle.mpslp_lp_grammar.specs.declared.sections_seen.SectionsSeen.{SectionsSeen}
+use Rattle.mpslp_lp_grammar.specs.declared.context.Context.{Context}
+use Rattle.mpslp_lp_grammar.specs.PartialRow.{PartialRow}
+use Rattle.mpslp_lp_grammar.specs.declared.states.Place.{Place}
+use Rattle.mpslp_lp_grammar.specs.declared.states.Place.TheVariants.{BeforeItems, InObjective, BetweenRows, InRow, InBounds, InGenerals, InSemis}
+use Rattle.mpslp_lp_grammar.specs.Phrase.{PhraseRule, fails, refuses, Follows, goes_to, unless_refused}
+use Rattle.mpslp_lp_grammar.specs.Sides.{apply_sign, side, Limits, limits_by, flip}
+use Rattle.mpslp_lp_grammar.specs.Objective.{term_declared, objective_declared}
+use Rattle.mpslp_lp_grammar.specs.Rows.{fits_left, row_limits, row_declared, row_whole}
+use Rattle.mpslp_lp_grammar.specs.Bounds.{no_limits}
+use Rattle.mpslp_lp_grammar.specs.Grammar.{section_start, section_from, may_begin_section, phrase_at}
+use Rattle.mpslp_lp_grammar.specs.declared.relations.Relation.{Relation}
+use Rattle.mpslp_lp_grammar.specs.declared.relations.Relation.TheVariants.{AtMost}
+use Rattle.mpslp_lp_tokens.specs.declared.words.Section.TheVariants as sections
+use Rattle.mpslp_lp_tokens.specs.declared.words.SectionWord.{SectionWord}
+use Rattle.mpslp_lp_tokens.specs.declared.words.SectionWord.TheVariants as section_words
 pub use Rattle.mpslp_canonical_lp.specs.PrintedDeclarations.{point_at}
 use Rattle.mpslp_canonical_lp.proofs.TerminalLemmas.{at}
 

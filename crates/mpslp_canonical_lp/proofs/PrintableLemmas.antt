@@ -29,14 +29,14 @@ use Rattle.mpslp_types.proofs.EachLemmas.{Each-both, Each-map, Each-flat_map, Ea
 use Rattle.mpslp_decimal.proofs.CutLemmas.{Each}
 use Rattle.mpslp_decimal.proofs.CutLemmas.{Each-weaker}
 use Rattle.mpslp_decimal.proofs.CutLemmas.{Each-append}
-use Rattle.mpslp_lp.specs.Token.{is_word}
+use Rattle.mpslp_lp_tokens.specs.Token.{is_word}
 use Rattle.mpslp_types.specs.Name.{is_visible}
 use Rattle.mpslp_lines.specs.FaultTests.{first_held}
-use Rattle.mpslp_lp.specs.LexicalFault.{name_fault, word_fault, token_fault}
-use Rattle.mpslp_lp.specs.declared.relations.Relation.{Relation}
-use Rattle.mpslp_lp.specs.declared.relations.Relation.TheVariants.{AtMost, AtLeast, EqualTo}
-use Rattle.mpslp_lp.specs.declared.tokens.TokenKind.TheVariants as kinds
-use Rattle.mpslp_lp.proofs.WordLemmas.{word_class-name}
+use Rattle.mpslp_lp_grammar.specs.LexicalFault.{name_fault, word_fault, token_fault}
+use Rattle.mpslp_lp_grammar.specs.declared.relations.Relation.{Relation}
+use Rattle.mpslp_lp_grammar.specs.declared.relations.Relation.TheVariants.{AtMost, AtLeast, EqualTo}
+use Rattle.mpslp_lp_tokens.specs.declared.tokens.TokenKind.TheVariants as kinds
+use Rattle.mpslp_lp_tokens.proofs.WordLemmas.{word_class-name}
 use Rattle.mpslp_canonical_lp.specs.Printed.{Lexeme, word, label, number, sign, sense, minus_infinity, semi_continuous}
 use Rattle.mpslp_model_core.specs.Listing.{Listing, listing_of}
 use Rattle.mpslp_canonical_lp.specs.CanonicalLp.{Lines, heading, long_line, under_heading, label_line, signed_lexemes, Term, term_line, sense_word, term_in, has_coefficients, objective_term, objective_terms, constant_lines, objective_section, left_lines, right_line, minus_large, last_line, some_term, row_terms, row_lines, rows_section, bound_lexemes, line_of_some, bound_lines, bounds_section, is_integer_column, name_line, generals_section, listed_lines, canonical_lines, is_semi_column, semis_section, under_semi_heading}

@@ -11,16 +11,16 @@ use Rattle.mpslp_builder.specs.Declaration.{Draft, with_declarations}
 use Rattle.mpslp_builder.specs.Refusal.{refusals_in_turn}
 use Rattle.mpslp_types.specs.declared.kinds.Limit.{Limit}
 use Rattle.mpslp_decimal.proofs.CutLemmas.{Each}
-use Rattle.mpslp_lp.specs.Terminal.{Terminal, TerminalAt}
-use Rattle.mpslp_lp.specs.Terminal.Terminal.{Name, Number, Sign, Compares, Colon}
-use Rattle.mpslp_lp.specs.Point.{Point}
-use Rattle.mpslp_lp.specs.declared.sections_seen.SectionsSeen.{SectionsSeen}
-use Rattle.mpslp_lp.specs.PartialRow.{PartialRow}
-use Rattle.mpslp_lp.specs.declared.states.Place.TheVariants.{BetweenRows, InRow}
-use Rattle.mpslp_lp.specs.Sides.{apply_sign}
-use Rattle.mpslp_lp.specs.Rows.{fits_left}
-use Rattle.mpslp_lp.specs.declared.relations.Relation.{Relation}
-use Rattle.mpslp_lp.specs.declared.relations.Relation.TheVariants.{AtMost}
+use Rattle.mpslp_lp_grammar.specs.Terminal.{Terminal, TerminalAt}
+use Rattle.mpslp_lp_grammar.specs.Terminal.Terminal.{Name, Number, Sign, Compares, Colon}
+use Rattle.mpslp_lp_grammar.specs.Point.{Point}
+use Rattle.mpslp_lp_grammar.specs.declared.sections_seen.SectionsSeen.{SectionsSeen}
+use Rattle.mpslp_lp_grammar.specs.PartialRow.{PartialRow}
+use Rattle.mpslp_lp_grammar.specs.declared.states.Place.TheVariants.{BetweenRows, InRow}
+use Rattle.mpslp_lp_grammar.specs.Sides.{apply_sign}
+use Rattle.mpslp_lp_grammar.specs.Rows.{fits_left}
+use Rattle.mpslp_lp_grammar.specs.declared.relations.Relation.{Relation}
+use Rattle.mpslp_lp_grammar.specs.declared.relations.Relation.TheVariants.{AtMost}
 use Rattle.mpslp_canonical_lp.specs.Printed.{number, sense}
 use Rattle.mpslp_canonical_lp.specs.CanonicalLp.{Lines, Term, long_line, label_line, term_line, right_line}
 pub use Rattle.mpslp_canonical_lp.specs.PrintedDeclarations.{AreNew}

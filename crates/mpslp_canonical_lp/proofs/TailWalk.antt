@@ -12,17 +12,17 @@ use Rattle.mpslp_types.specs.declared.faults.BuildFault.TheVariants.{UnknownColu
 use Rattle.mpslp_types.specs.declared.kinds.Limit.{Limit}
 use Rattle.mpslp_builder.proofs.MadeDrafts.{with_declarations-append}
 use Rattle.mpslp_decimal.proofs.CutLemmas.{Each}
-use Rattle.mpslp_lp.specs.Terminal.{TerminalAt, word_terminal}
-use Rattle.mpslp_lp.specs.Terminal.Terminal.{Opens, Name, Sign}
-use Rattle.mpslp_lp.specs.Rules.{phrases, made_by}
-use Rattle.mpslp_lp.specs.Rules.Outcome.{Finished}
-use Rattle.mpslp_lp.specs.Point.{with_section, section_fault, Point}
-use Rattle.mpslp_lp.specs.declared.sections_seen.SectionsSeen.{SectionsSeen}
-use Rattle.mpslp_lp.specs.declared.states.Place.{Place}
-use Rattle.mpslp_lp.specs.declared.states.Place.TheVariants.{InGenerals, InSemis}
-use Rattle.mpslp_lp.specs.Grammar.{phrase_at, may_begin_section}
-use Rattle.mpslp_lp.specs.declared.words.Section.TheVariants as sections
-use Rattle.mpslp_lp.specs.declared.words.SectionWord.TheVariants as section_words
+use Rattle.mpslp_lp_grammar.specs.Terminal.{TerminalAt, word_terminal}
+use Rattle.mpslp_lp_grammar.specs.Terminal.Terminal.{Opens, Name, Sign}
+use Rattle.mpslp_lp_grammar.specs.Rules.{phrases, made_by}
+use Rattle.mpslp_lp_grammar.specs.Rules.Outcome.{Finished}
+use Rattle.mpslp_lp_grammar.specs.Point.{with_section, section_fault, Point}
+use Rattle.mpslp_lp_grammar.specs.declared.sections_seen.SectionsSeen.{SectionsSeen}
+use Rattle.mpslp_lp_grammar.specs.declared.states.Place.{Place}
+use Rattle.mpslp_lp_grammar.specs.declared.states.Place.TheVariants.{InGenerals, InSemis}
+use Rattle.mpslp_lp_grammar.specs.Grammar.{phrase_at, may_begin_section}
+use Rattle.mpslp_lp_tokens.specs.declared.words.Section.TheVariants as sections
+use Rattle.mpslp_lp_tokens.specs.declared.words.SectionWord.TheVariants as section_words
 use Rattle.mpslp_canonical_lp.specs.CanonicalLp.{Lines, heading, under_heading, name_line, under_semi_heading}
 use Rattle.mpslp_canonical_lp.proofs.LexemeLemmas.{IsGoodName}
 use Rattle.mpslp_canonical_lp.proofs.PrintableLemmas.{IsFitColumn}

@@ -1,5 +1,5 @@
 -- What the grammar sees of a printed line.
-use Rattle.mpslp_lp.specs.declared.words.SectionWord.TheVariants as section_words
+use Rattle.mpslp_lp_tokens.specs.declared.words.SectionWord.TheVariants as section_words
 use Rattle.std.proofs.Common.{◌≡◌, refl, sym, ap, ◌∙◌, ℕ, ◌+◌, List, [], ◌∷◌, ◌++◌, Bool, true, false, map}
 use Rattle.std.specs.Prelude.{pos, neg_ℤ, unsigned_abs, codes, if◌then◌else◌}
 use Rattle.std.specs.List.{flat_map}
@@ -9,13 +9,13 @@ use Rattle.mpslp_decimal.specs.NumberText.{number_text}
 use Rattle.mpslp_decimal.specs.Literal.{to_signed as literal_sign}
 use Rattle.mpslp_decimal.proofs.NumberTextLemmas.{number-text, signed-size}
 use Rattle.mpslp_decimal.proofs.CutLemmas.{Each}
-use Rattle.mpslp_lp.specs.Words.{class_of}
-use Rattle.mpslp_lp.specs.Terminal.{Terminal, TerminalAt, word_terminal}
+use Rattle.mpslp_lp_tokens.specs.Words.{class_of}
+use Rattle.mpslp_lp_grammar.specs.Terminal.{Terminal, TerminalAt, word_terminal}
 use Rattle.mpslp_lines.specs.Field.{value_of}
-use Rattle.mpslp_lp.specs.Terminal.Terminal.{Name, Number, Sign, Compares, Colon, Infinity, Opens}
-use Rattle.mpslp_lp.specs.Sides.{apply_sign}
-use Rattle.mpslp_lp.specs.declared.relations.Relation.TheVariants.{AtMost, AtLeast, EqualTo}
-use Rattle.mpslp_lp.specs.declared.tokens.TokenKind.TheVariants as kinds
+use Rattle.mpslp_lp_grammar.specs.Terminal.Terminal.{Name, Number, Sign, Compares, Colon, Infinity, Opens}
+use Rattle.mpslp_lp_grammar.specs.Sides.{apply_sign}
+use Rattle.mpslp_lp_grammar.specs.declared.relations.Relation.TheVariants.{AtMost, AtLeast, EqualTo}
+use Rattle.mpslp_lp_tokens.specs.declared.tokens.TokenKind.TheVariants as kinds
 use Rattle.mpslp_canonical_lp.specs.Printed.{Lexeme, PrintedLine, word, label, number, sign, sense, minus_infinity, tokens_in, line_tokens, semi_continuous}
 use Rattle.mpslp_canonical_lp.proofs.LineLemmas.{seen_at, IsPrintableLine}
 use Rattle.mpslp_canonical_lp.proofs.LexemeLemmas.{IsPrintable}

@@ -23,8 +23,8 @@ use Rattle.mpslp_builder.proofs.DraftLemmas.{rhs_part, rhs_values-all}
 use Rattle.mpslp_builder.proofs.SlotLemmas.{has-put, same_name}
 use Rattle.mpslp_builder.proofs.WellFormed.{fresh-from_once}
 use Rattle.mpslp_builder.proofs.RefusalLemmas.{consistent-from_none, none-from_fine_in_turn}
-use Rattle.mpslp_lp.specs.Sides.{limits_by}
-use Rattle.mpslp_lp.specs.declared.relations.Relation.TheVariants.{AtMost, AtLeast, EqualTo}
+use Rattle.mpslp_lp_grammar.specs.Sides.{limits_by}
+use Rattle.mpslp_lp_grammar.specs.declared.relations.Relation.TheVariants.{AtMost, AtLeast, EqualTo}
 use Rattle.mpslp_model_core.specs.Listing.{Listing, listing_of}
 use Rattle.mpslp_canonical_lp.specs.CanonicalLp.{row_terms, is_integer_kind, is_semi_kind, is_integer_column, is_semi_column}
 use Rattle.mpslp_canonical_lp.specs.Unfit.{unfit}

@@ -3,10 +3,10 @@ use Rattle.std.specs.Prelude.{ℕ, Bool, List, [], ◌∷◌, ◌++◌, map, rep
 use Rattle.std.specs.List.{flat_map, join_by}
 use Rattle.mpslp_decimal.specs.Decimal.{Number, is_negative, size_of}
 use Rattle.mpslp_decimal.specs.NumberText.{number_text}
-use Rattle.mpslp_lp.specs.declared.relations.Relation.{Relation}
-use Rattle.mpslp_lp.specs.declared.relations.Relation.TheVariants.{AtMost, AtLeast, EqualTo}
-use Rattle.mpslp_lp.specs.declared.tokens.TokenKind.{TokenKind}
-use Rattle.mpslp_lp.specs.declared.tokens.TokenKind.TheVariants as kinds
+use Rattle.mpslp_lp_grammar.specs.declared.relations.Relation.{Relation}
+use Rattle.mpslp_lp_grammar.specs.declared.relations.Relation.TheVariants.{AtMost, AtLeast, EqualTo}
+use Rattle.mpslp_lp_tokens.specs.declared.tokens.TokenKind.{TokenKind}
+use Rattle.mpslp_lp_tokens.specs.declared.tokens.TokenKind.TheVariants as kinds
 use Rattle.mpslp_lines.specs.WrittenLines.{with_line_feeds}
 
 pub data Lexeme : Type 0 where

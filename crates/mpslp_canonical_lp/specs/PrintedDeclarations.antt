@@ -11,17 +11,17 @@ use Rattle.mpslp_model_core.specs.Lists.{is_nonempty}
 use Rattle.mpslp_model_core.specs.Model.{Row, Column}
 use Rattle.mpslp_builder.specs.Declaration.{by_limits, declare_constant, declare_row, declare_column, declare_lower, declare_upper, declare_integer, declare_semi, Declarations, Draft, draft_of, with_declarations}
 use Rattle.mpslp_builder.specs.Refusal.{refusals_in_turn}
-use Rattle.mpslp_lp.specs.Rules.{phrases, made_by}
-use Rattle.mpslp_lp.specs.Rules.Outcome.{Finished}
-use Rattle.mpslp_lp.specs.Terminal.{TerminalAt, line_terminals}
-use Rattle.mpslp_lp.specs.Point.{Point, start, no_section_seen, with_section, section_fault}
-use Rattle.mpslp_lp.specs.Grammar.{phrase_at, may_begin_section}
-use Rattle.mpslp_lp.specs.LexicalFault.{lexical_fault}
-use Rattle.mpslp_lp.specs.Objective.{objective_declared, term_declared}
-use Rattle.mpslp_lp.specs.declared.sections_seen.SectionsSeen.{SectionsSeen}
-use Rattle.mpslp_lp.specs.declared.states.Place.{Place}
-use Rattle.mpslp_lp.specs.declared.states.Place.TheVariants.{BeforeItems, InObjective, BetweenRows, InBounds, InGenerals, InSemis}
-use Rattle.mpslp_lp.specs.declared.words.Section.TheVariants as sections
+use Rattle.mpslp_lp_grammar.specs.Rules.{phrases, made_by}
+use Rattle.mpslp_lp_grammar.specs.Rules.Outcome.{Finished}
+use Rattle.mpslp_lp_grammar.specs.Terminal.{TerminalAt, line_terminals}
+use Rattle.mpslp_lp_grammar.specs.Point.{Point, start, no_section_seen, with_section, section_fault}
+use Rattle.mpslp_lp_grammar.specs.Grammar.{phrase_at, may_begin_section}
+use Rattle.mpslp_lp_grammar.specs.LexicalFault.{lexical_fault}
+use Rattle.mpslp_lp_grammar.specs.Objective.{objective_declared, term_declared}
+use Rattle.mpslp_lp_grammar.specs.declared.sections_seen.SectionsSeen.{SectionsSeen}
+use Rattle.mpslp_lp_grammar.specs.declared.states.Place.{Place}
+use Rattle.mpslp_lp_grammar.specs.declared.states.Place.TheVariants.{BeforeItems, InObjective, BetweenRows, InBounds, InGenerals, InSemis}
+use Rattle.mpslp_lp_tokens.specs.declared.words.Section.TheVariants as sections
 use Rattle.mpslp_model_core.specs.Listing.{Listing}
 use Rattle.mpslp_canonical_lp.specs.Printed.{line_text}
 use Rattle.mpslp_canonical_lp.specs.CanonicalLp.{Lines, Term, heading, label_line, sense_word, term_line, constant_lines, row_terms, row_lines, bound_lines, name_line, semi_heading}

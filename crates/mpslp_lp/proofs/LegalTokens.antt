@@ -10,16 +10,16 @@ use Rattle.mpslp_decimal.proofs.GrammarLemmas.{before-here, before-past}
 use Rattle.mpslp_types.specs.Name.{is_letter, is_lp_symbol, same_bytes}
 use Rattle.mpslp_builder.proofs.CoefficientLemmas.{same_bytes-true}
 use Rattle.mpslp_lines.specs.LegalLine.{is_legal_byte}
-use Rattle.mpslp_lp.specs.Line.{is_blank, begins_comment, is_period, begins_word, continues_word, has_legal_bytes}
-use Rattle.mpslp_lp.specs.Token.{is_word, is_number, one_byte_operators, two_byte_operators, operator_kind, kind_of, Front, longest_within, longest_token, token_at, Token, tokens_from, tokens}
-use Rattle.mpslp_lp.specs.Scan.{is_known}
-use Rattle.mpslp_lp.proofs.NameTokens.{front-kind}
-use Rattle.mpslp_lp.proofs.SliceLemmas.{token-within}
-use Rattle.mpslp_lp.proofs.NumberRun.{Stage, Class, class_of, next, accepts, Facts, facts, dead, number-takes}
-use Rattle.mpslp_lp.proofs.NumberRun.Stage.{Begin, Whole, Point, Fraction, Mark, Sign, Exponent, Dead}
-use Rattle.mpslp_lp.proofs.NumberRun.Class.{IsDigit, IsPoint, IsMark, IsSign, IsOther}
-use Rattle.mpslp_lp.specs.declared.tokens.TokenKind.{TokenKind}
-use Rattle.mpslp_lp.specs.declared.tokens.TokenKind.TheVariants as kinds
+use Rattle.mpslp_lp_tokens.specs.Line.{is_blank, begins_comment, is_period, begins_word, continues_word}
+use Rattle.mpslp_lp_tokens.specs.Token.{is_word, is_number, one_byte_operators, two_byte_operators, operator_kind, kind_of, Front, longest_within, longest_token, token_at, Token, tokens_from, tokens}
+use Rattle.mpslp_lp.specs.Laws.{has_legal_bytes, is_known}
+use Rattle.mpslp_lp_tokens.proofs.NameTokens.{front-kind}
+use Rattle.mpslp_lp_tokens.proofs.SliceLemmas.{token-within}
+use Rattle.mpslp_lp_tokens.proofs.NumberRun.{Stage, Class, class_of, next, accepts, Facts, facts, dead, number-takes}
+use Rattle.mpslp_lp_tokens.proofs.NumberRun.Stage.{Begin, Whole, Point, Fraction, Mark, Sign, Exponent, Dead}
+use Rattle.mpslp_lp_tokens.proofs.NumberRun.Class.{IsDigit, IsPoint, IsMark, IsSign, IsOther}
+use Rattle.mpslp_lp_tokens.specs.declared.tokens.TokenKind.{TokenKind}
+use Rattle.mpslp_lp_tokens.specs.declared.tokens.TokenKind.TheVariants as kinds
 
 -- a legal byte that does not begin a comment
 abbrev plain : ℕ → Bool

@@ -16,25 +16,26 @@ use Rattle.mpslp_lines.specs.LinesRead.{RefusesLines}
 use Rattle.mpslp_lines.specs.FaultTests.{first_held}
 use Rattle.mpslp_lines.specs.declared.errors.LineError.{LineError}
 use Rattle.mpslp_lines.specs.declared.errors.LineError.TheVariants.{Fault, OutOfMemory}
-use Rattle.mpslp_lp.specs.Rules.Outcome.{Finished, Open}
-use Rattle.mpslp_lp.specs.Line.{outside_comment}
-use Rattle.mpslp_lp.specs.Token.{tokens}
-use Rattle.mpslp_lp.specs.Terminal.{terminals}
-use Rattle.mpslp_lp.specs.Point.{start}
-use Rattle.mpslp_lp.specs.LexicalFault.{lexical_fault}
-use Rattle.mpslp_lp.specs.AfterToken.{AfterToken, Goes, Refuses}
-use Rattle.mpslp_lp.specs.LineByLine.{take_all, token_faults, take_line, is_at_end, read_from}
+use Rattle.mpslp_lp_grammar.specs.Rules.Outcome.{Finished, Open}
+use Rattle.mpslp_lp_tokens.specs.Line.{outside_comment}
+use Rattle.mpslp_lp_tokens.specs.Token.{tokens}
+use Rattle.mpslp_lp_grammar.specs.Terminal.{terminals}
+use Rattle.mpslp_lp_grammar.specs.Point.{start}
+use Rattle.mpslp_lp_grammar.specs.LexicalFault.{lexical_fault}
+use Rattle.mpslp_lp_grammar.specs.AfterToken.{AfterToken, Goes, Refuses}
+use Rattle.mpslp_lp.specs.LineByLine.{take_all, token_faults, take_line, read_from}
+use Rattle.mpslp_lp_grammar.specs.TokenStep.{is_at_end}
 use Rattle.mpslp_lp.specs.ReadAnswer.{ReadsLp}
 use Rattle.mpslp_lp.specs.FirstFault.{fault_of, first_lp_fault}
-use Rattle.mpslp_lp.specs.Declares.{TakesToken}
+use Rattle.mpslp_lp_grammar.specs.Declares.{TakesToken}
 use Rattle.mpslp_lp.specs.Fed.{lines_outcome, IsFaultOfLines, LedTo, HasRead}
 use Rattle.mpslp_lp.specs.FedLaws.{ended-reads}
 use Rattle.mpslp_lp.specs.Laws.{FaultsOfLinesStay}
-use Rattle.mpslp_lp.specs.declared.context.Context.{Context}
+use Rattle.mpslp_lp_grammar.specs.declared.context.Context.{Context}
 use Rattle.mpslp_lp.specs.declared.line_reader.LineReader.{LineReader}
-use Rattle.mpslp_lp.specs.declared.states.State.{State}
-use Rattle.mpslp_lp.specs.declared.states.State.TheVariants.{Between}
-use Rattle.mpslp_lp.specs.declared.states.Place.TheVariants.{AtStart}
+use Rattle.mpslp_lp_grammar.specs.declared.states.State.{State}
+use Rattle.mpslp_lp_grammar.specs.declared.states.State.TheVariants.{Between}
+use Rattle.mpslp_lp_grammar.specs.declared.states.Place.TheVariants.{AtStart}
 use Rattle.mpslp_lp.proofs.ReadingLemmas.{lines-read}
 use Rattle.mpslp_lp.proofs.LoopLemmas.{line-next, line-refused, none-left, refused-stays}
 use Rattle.mpslp_lp.proofs.ModelOrFault.{named-at_end}

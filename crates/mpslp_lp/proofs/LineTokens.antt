@@ -7,15 +7,15 @@ use Rattle.mpslp_types.specs.declared.faults.FaultKind.{FaultKind}
 use Rattle.mpslp_lines.specs.declared.errors.LineError.{LineError}
 use Rattle.mpslp_lines.specs.declared.errors.LineError.TheVariants.{Fault, OutOfMemory}
 use Rattle.mpslp_lines.proofs.LeastLemmas.{least-append}
-use Rattle.mpslp_lp.specs.Token.{Token}
-use Rattle.mpslp_lp.specs.Terminal.{as_terminal}
-use Rattle.mpslp_lp.specs.LexicalFault.{token_fault}
-use Rattle.mpslp_lp.specs.declared.context.Context.{Context}
-use Rattle.mpslp_lp.specs.declared.states.State.{State}
-use Rattle.mpslp_lp.specs.AfterToken.{AfterToken, Goes, Refuses}
-use Rattle.mpslp_lp.specs.TokenStep.{take}
+use Rattle.mpslp_lp_tokens.specs.Token.{Token}
+use Rattle.mpslp_lp_grammar.specs.Terminal.{as_terminal}
+use Rattle.mpslp_lp_grammar.specs.LexicalFault.{token_fault}
+use Rattle.mpslp_lp_grammar.specs.declared.context.Context.{Context}
+use Rattle.mpslp_lp_grammar.specs.declared.states.State.{State}
+use Rattle.mpslp_lp_grammar.specs.AfterToken.{AfterToken, Goes, Refuses}
+use Rattle.mpslp_lp_grammar.specs.TokenStep.{take}
 use Rattle.mpslp_lp.specs.LineByLine.{take_all, token_faults, take_tokens}
-use Rattle.mpslp_lp.specs.Declares.{TakesToken, error_before, lesser_of, IsLeastError}
+use Rattle.mpslp_lp_grammar.specs.Declares.{TakesToken, error_before, lesser_of, IsLeastError}
 
 -- ---- the least error, from the left
 

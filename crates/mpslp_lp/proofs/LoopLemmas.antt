@@ -6,13 +6,14 @@ use Rattle.mpslp_builder.specs.Declaration.{Draft}
 use Rattle.mpslp_types.specs.declared.faults.Fault.{Fault}
 use Rattle.mpslp_types.specs.declared.faults.FaultKind.{FaultKind}
 use Rattle.mpslp_lines.specs.LineAnswer.{fault_on_line}
-use Rattle.mpslp_lp.specs.Rules.{Outcome}
-use Rattle.mpslp_lp.specs.Rules.Outcome.{Finished, Refused, Open}
-use Rattle.mpslp_lp.specs.declared.context.Context.{Context}
-use Rattle.mpslp_lp.specs.declared.states.State.{State}
-use Rattle.mpslp_lp.specs.declared.states.State.TheVariants.{AfterEnd}
-use Rattle.mpslp_lp.specs.AfterToken.{AfterToken, Goes, Refuses}
-use Rattle.mpslp_lp.specs.LineByLine.{take_line, is_at_end, read_from}
+use Rattle.mpslp_lp_grammar.specs.Rules.{Outcome}
+use Rattle.mpslp_lp_grammar.specs.Rules.Outcome.{Finished, Refused, Open}
+use Rattle.mpslp_lp_grammar.specs.declared.context.Context.{Context}
+use Rattle.mpslp_lp_grammar.specs.declared.states.State.{State}
+use Rattle.mpslp_lp_grammar.specs.declared.states.State.TheVariants.{AfterEnd}
+use Rattle.mpslp_lp_grammar.specs.AfterToken.{AfterToken, Goes, Refuses}
+use Rattle.mpslp_lp.specs.LineByLine.{take_line, read_from}
+use Rattle.mpslp_lp_grammar.specs.TokenStep.{is_at_end}
 use Rattle.mpslp_lp.specs.FedLaws.{never_refused}
 
 abbrev pub last_number : ℕ

@@ -13,12 +13,12 @@ use Rattle.std.specs.Cmp.{first_so}
 use Rattle.mpslp_types.proofs.EachLemmas.{imp_all}
 use Rattle.mpslp_builder.proofs.Acceptance.{means-from_none}
 use Rattle.mpslp_builder.proofs.NoFaultFromMeaning.{no_fault-from_means}
-use Rattle.mpslp_lp.specs.Rules.{Outcome}
-use Rattle.mpslp_lp.specs.Rules.Outcome.{Finished, Refused, Open}
-use Rattle.mpslp_lp.specs.Point.{start}
+use Rattle.mpslp_lp_grammar.specs.Rules.{Outcome}
+use Rattle.mpslp_lp_grammar.specs.Rules.Outcome.{Finished, Refused, Open}
+use Rattle.mpslp_lp_grammar.specs.Point.{start}
 use Rattle.mpslp_lines.specs.LineAnswer.{fault_on_line}
-use Rattle.mpslp_lp.specs.Grammar.{text_says, text_declares}
-use Rattle.mpslp_lp.specs.LexicalFault.{lexical_fault}
+use Rattle.mpslp_lp_grammar.specs.Grammar.{text_says, text_declares}
+use Rattle.mpslp_lp_grammar.specs.LexicalFault.{lexical_fault}
 use Rattle.mpslp_lp.specs.LpText.{numbered_lines, sound_terminals, first_own_fault, or_else, lines_say, outcome, is_finished, declarations_of, DeclaresLp}
 use Rattle.mpslp_lp.specs.FirstFault.{fault_of, first_lp_fault}
 use Rattle.mpslp_lp.specs.Laws.{has_lp_name, DeclareLpNames, DeclareOrFail, DeclareUnlessFaulty}

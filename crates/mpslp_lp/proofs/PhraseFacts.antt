@@ -1,19 +1,13 @@
 -- What each phrase declares: legal declarations, none of which is rejected after those before it.
 use Rattle.std.proofs.Common.{◌⊎◌, inl, inr, ◌≡◌, ◌≤◌, ◌<◌, refl, sym, ap, subst, ◌∙◌, ℕ, suc, ◌+◌, ◌-◌, ◌^◌, List, [], ◌∷◌, ◌++◌, Bool, true, false, not, length, arith, pos, negsuc, zero}
-use Rattle.std.specs.Prelude.{Option, Some, None, is_some, unwrap_or, ◌&&◌, ◌||◌, ◌==◌, if◌then◌else◌, min, nat_le}
+use Rattle.std.specs.Prelude.{Option, Some, None, is_some, unwrap_or, ◌&&◌, ◌||◌, ◌==◌, if◌then◌else◌, min}
 use Rattle.std.specs.List.{list_all, list_any, flat_map}
 use Rattle.std.specs.Option.{option_map_or}
 use Rattle.std.specs.Cmp.{first_so, second_so}
-use Rattle.std.specs.Fmt.{decimal}
 use Rattle.std.proofs.lemmas.List.Folds.{list_all-append}
-use Rattle.std.proofs.lemmas.Fmt.{length-decimal-le}
-use Rattle.std.proofs.lemmas.Bool.{le-leb}
 use Rattle.std.proofs.Math.Nat.{min-le_right}
 use Rattle.mpslp_decimal.specs.Decimal.{Number as Decimal, is_decimal, negated}
-use Rattle.mpslp_decimal.specs.Literal.{is_digit}
-use Rattle.mpslp_decimal.proofs.CutLemmas.{list_all-digits, decimal-spells}
-use Rattle.mpslp_types.specs.Name.{same_bytes, is_mps_name, is_lp_name, has_name_length, marker, is_letter, is_lp_symbol, is_lp_byte, begins_a_number, is_like_exponent, is_reserved}
-use Rattle.mpslp_types.proofs.EachLemmas.{imp_all}
+use Rattle.mpslp_types.specs.Name.{same_bytes, is_mps_name, is_lp_name}
 use Rattle.mpslp_types.proofs.NameLemmas.{mps_name-from_lp}
 use Rattle.mpslp_types.specs.Limit.{limit_of}
 use Rattle.mpslp_builder.specs.Declaration.{draft_of, Declaration, declare_sense, declare_objective, declare_constant, declare_row, declare_rhs, declare_range, declare_column, declare_coefficient, declare_lower, declare_upper, declare_marked, declare_integer, declare_binary, declare_semi, Declarations, Draft, empty_draft, with_declarations, bounds_declared}
@@ -27,37 +21,38 @@ use Rattle.mpslp_types.specs.declared.kinds.Sense.TheVariants as senses
 use Rattle.mpslp_types.specs.declared.faults.BuildFault.{BuildFault}
 use Rattle.mpslp_types.specs.declared.faults.FaultKind.{FaultKind}
 use Rattle.mpslp_types.specs.declared.faults.FaultKind.TheVariants.{BadToken}
-use Rattle.mpslp_types.proofs.BoolLemmas.{both_so, or_left, or_right}
+use Rattle.mpslp_types.proofs.BoolLemmas.{both_so}
 use Rattle.mpslp_builder.proofs.MadeDrafts.{refusals_in_turn-append, bounds-in_turn}
 use Rattle.mpslp_builder.proofs.RefusalLemmas.{join_none}
 use Rattle.mpslp_lines.proofs.FieldLemmas.{limit-given}
 use Rattle.mpslp_lines.proofs.ObjectiveLemmas.{named-after}
-use Rattle.mpslp_lp.specs.Rules.{◌>>=◌, next, ahead}
-use Rattle.mpslp_lp.specs.Rules.Parsed.{Reads}
-use Rattle.mpslp_lp.specs.Rules.AfterPhrase.{Goes, Ends}
-use Rattle.mpslp_lp.specs.Words.{section_of}
-use Rattle.mpslp_lp.specs.Terminal.{Terminal, TerminalAt}
-use Rattle.mpslp_lp.specs.Terminal.Terminal.{Opens, Name, Number, Sign, Compares, Colon, Infinity, Free, Other}
-use Rattle.mpslp_lp.specs.Point.{Point, start, with_section, section_fault}
-use Rattle.mpslp_lp.specs.declared.context.Context.{Context}
-use Rattle.mpslp_lp.specs.PartialRow.{PartialRow}
-use Rattle.mpslp_lp.specs.declared.states.Place.{Place}
-use Rattle.mpslp_lp.specs.declared.states.Place.TheVariants.{AtStart, BeforeItems, InObjective, BetweenRows, InRow, InBounds, InGenerals, InBinaries, InSemis}
-use Rattle.mpslp_lp.specs.Phrase.{PhraseRule, Follows, fails, refuses, goes_to, unless_refused, declares}
-use Rattle.mpslp_lp.specs.declared.states.LastWord.{LastWord}
-use Rattle.mpslp_lp.specs.declared.states.LastWord.TheVariants.{To, That, Continuous}
-use Rattle.mpslp_lp.specs.Sides.{Side, Limits, apply_sign, infinity, unsigned_side, side_from, side, next_relation, fits_second, limits_by, flip}
-use Rattle.mpslp_lp.specs.Items.{Item, one, product, number_item, signed_item, item_from, colon}
-use Rattle.mpslp_lp.specs.Items.Item.{Term, Lone}
-use Rattle.mpslp_lp.specs.Objective.{term_declared, objective_item, objective_declared, default_objective, first_item_declared, objective_named, objective_from, objective}
-use Rattle.mpslp_lp.specs.Rows.{numbered_row, default_row, without_terms, row_item, row_first, row_after_left, row_number, row_signed, row_from, row_named, row, fits_left, row_limits, row_declared, row_whole, row_end}
-use Rattle.mpslp_lp.specs.Bounds.{bound_sides, no_limits, bound_right, bound_after, bound_column, bound_left, bound, second_side}
-use Rattle.mpslp_lp.specs.Grammar.{line_end, opened_by, is_last_word, last_word, semi_from, section_start, section_from, may_begin_section, name_in_section, phrase, phrase_at}
-use Rattle.mpslp_lp.specs.declared.relations.Relation.{Relation}
-use Rattle.mpslp_lp.specs.declared.relations.Relation.TheVariants.{AtMost, AtLeast, EqualTo}
-use Rattle.mpslp_lp.specs.declared.words.Section.TheVariants.{Objective}
-use Rattle.mpslp_lp.specs.declared.words.SectionWord.{SectionWord}
-use Rattle.mpslp_lp.specs.declared.words.SectionWord.TheVariants as words
+use Rattle.mpslp_lp_grammar.specs.Rules.{◌>>=◌, next, ahead}
+use Rattle.mpslp_lp_grammar.specs.Rules.Parsed.{Reads}
+use Rattle.mpslp_lp_grammar.specs.Rules.AfterPhrase.{Goes, Ends}
+use Rattle.mpslp_lp_tokens.specs.Words.{section_of}
+use Rattle.mpslp_lp_grammar.specs.Terminal.{Terminal, TerminalAt}
+use Rattle.mpslp_lp_grammar.specs.Terminal.Terminal.{Opens, Name, Number, Sign, Compares, Colon, Infinity, Free, Other}
+use Rattle.mpslp_lp_grammar.specs.Point.{Point, start, with_section, section_fault}
+use Rattle.mpslp_lp_grammar.specs.declared.context.Context.{Context}
+use Rattle.mpslp_lp_grammar.specs.PartialRow.{PartialRow}
+use Rattle.mpslp_lp_grammar.specs.declared.states.Place.{Place}
+use Rattle.mpslp_lp_grammar.specs.declared.states.Place.TheVariants.{AtStart, BeforeItems, InObjective, BetweenRows, InRow, InBounds, InGenerals, InBinaries, InSemis}
+use Rattle.mpslp_lp_grammar.specs.Phrase.{PhraseRule, Follows, fails, refuses, goes_to, unless_refused, declares}
+use Rattle.mpslp_lp_grammar.specs.declared.states.LastWord.{LastWord}
+use Rattle.mpslp_lp_grammar.specs.declared.states.LastWord.TheVariants.{To, That, Continuous}
+use Rattle.mpslp_lp_grammar.specs.Sides.{Side, Limits, apply_sign, infinity, unsigned_side, side_from, side, next_relation, fits_second, limits_by, flip}
+use Rattle.mpslp_lp_grammar.specs.Items.{Item, one, product, number_item, signed_item, item_from, colon}
+use Rattle.mpslp_lp_grammar.specs.Items.Item.{Term, Lone}
+use Rattle.mpslp_lp_grammar.specs.Objective.{term_declared, objective_item, objective_declared, default_objective, first_item_declared, objective_named, objective_from, objective}
+use Rattle.mpslp_lp_grammar.specs.Rows.{default_row, without_terms, row_item, row_first, row_after_left, row_number, row_signed, row_from, row_named, row, fits_left, row_limits, row_declared, row_whole, row_end}
+use Rattle.mpslp_lp_grammar.specs.Bounds.{bound_sides, no_limits, bound_right, bound_after, bound_column, bound_left, bound, second_side}
+use Rattle.mpslp_lp_grammar.specs.Grammar.{line_end, opened_by, is_last_word, last_word, semi_from, section_start, section_from, may_begin_section, name_in_section, phrase, phrase_at}
+use Rattle.mpslp_lp_grammar.specs.declared.relations.Relation.{Relation}
+use Rattle.mpslp_lp_grammar.specs.declared.relations.Relation.TheVariants.{AtMost, AtLeast, EqualTo}
+use Rattle.mpslp_lp_tokens.specs.declared.words.Section.TheVariants.{Objective}
+use Rattle.mpslp_lp_tokens.specs.declared.words.SectionWord.{SectionWord}
+use Rattle.mpslp_lp_tokens.specs.declared.words.SectionWord.TheVariants as words
+use Rattle.mpslp_lp_grammar.proofs.NumberedNames.{numbered-name}
 use Rattle.mpslp_lp.proofs.SoundTokens.{AreSound, IsSoundTerminal}
 use Rattle.mpslp_lp.proofs.RuleFacts.{Holds, Gives, passed, then-gives, IsSoundToken, next-gives, ahead-gives}
 
@@ -313,30 +308,6 @@ row_number-fine context name (Lone value token) named h s = by token.line token.
     by line (Compares relation) = row_left-fine context name (limit_of value) named h (limit-given value s)
     by line (Sign minus) = λ tokens sound. tt
     by line _ = λ tokens sound. tt
-
-digit-lp : (b : ℕ) → is_digit b ≡ true → is_lp_byte b ≡ true
-digit-lp b h = or_right (is_letter b) (is_digit b || is_lp_symbol b) (or_left (is_digit b) (is_lp_symbol b) h)
-
--- `c` and a position is a name
-pub numbered-name : (position : ℕ) → position < 2 ^ 64 → is_lp_name (numbered_row position) ≡ true
-numbered-name position fits =
-    named (decimal position) (length-decimal-le 20 position (omega arith) (omega (arith, fits)) fits)
-    (imp_all is_digit is_lp_byte (decimal position) digit-lp (list_all-digits (decimal position) (decimal-spells position (omega (arith, fits))).digits))
-  where
-    exponent : (ds : List ℕ) → not (is_like_exponent (99 ∷ ds)) ≡ true
-    exponent [] = refl
-    exponent (d ∷ ds) = refl
-
-    named : (ds : List ℕ) → length ds ≤ 20 → list_all is_lp_byte ds ≡ true → is_lp_name (99 ∷ ds) ≡ true
-    named ds short bytes =
-        let some : nat_le 1 (length (99 ∷ ds)) ≡ true = le-leb 1 (length (99 ∷ ds)) (omega arith) in
-        let few : nat_le (length (99 ∷ ds)) 255 ≡ true = le-leb (length (99 ∷ ds)) 255 (omega (arith, short)) in
-        let size : has_name_length (99 ∷ ds) ≡ true = both_so (nat_le 1 (length (99 ∷ ds))) (nat_le (length (99 ∷ ds)) 255) some few in
-        let t4 = not (same_bytes (99 ∷ ds) marker) && not (is_reserved (99 ∷ ds)) in
-        let t3 = not (is_like_exponent (99 ∷ ds)) && t4 in
-        let t2 = not (begins_a_number (99 ∷ ds)) && t3 in
-        both_so (has_name_length (99 ∷ ds)) (list_all is_lp_byte (99 ∷ ds) && t2) size
-        (both_so (list_all is_lp_byte (99 ∷ ds)) t2 bytes (both_so (not (is_like_exponent (99 ∷ ds))) t4 (exponent ds) refl))
 
 default_row-name : (context : Context) → is_lp_name (default_row context) ≡ true
 default_row-name context =

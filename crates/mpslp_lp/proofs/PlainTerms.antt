@@ -11,25 +11,25 @@ use Rattle.mpslp_lines.specs.declared.errors.LineError.{LineError}
 use Rattle.mpslp_lines.specs.declared.errors.LineError.TheVariants.{Fault, OutOfMemory}
 use Rattle.mpslp_decimal.specs.Decimal.{Number as Decimal, zero_number, trailing_zeros}
 use Rattle.mpslp_decimal.specs.declared.literal.NumberFault.{NumberFault}
-use Rattle.mpslp_lp.specs.Items.{one}
-use Rattle.mpslp_lp.specs.PartialRow.{PartialRow}
-use Rattle.mpslp_lp.specs.Token.{Token}
-use Rattle.mpslp_lp.specs.Terminal.{Terminal, as_terminal, terminal_of}
-use Rattle.mpslp_lp.specs.Terminal.Terminal.{Sign, Number, Name}
-use Rattle.mpslp_lp.specs.LexicalFault.{token_fault}
-use Rattle.mpslp_lp.specs.Sides.{apply_sign}
+use Rattle.mpslp_lp_grammar.specs.Items.{one}
+use Rattle.mpslp_lp_grammar.specs.PartialRow.{PartialRow}
+use Rattle.mpslp_lp_tokens.specs.Token.{Token}
+use Rattle.mpslp_lp_grammar.specs.Terminal.{Terminal, as_terminal, terminal_of}
+use Rattle.mpslp_lp_grammar.specs.Terminal.Terminal.{Sign, Number, Name}
+use Rattle.mpslp_lp_grammar.specs.LexicalFault.{token_fault}
+use Rattle.mpslp_lp_grammar.specs.Sides.{apply_sign}
 use Rattle.mpslp_lp.specs.LineByLine.{take_tokens, token_faults}
-use Rattle.mpslp_lp.specs.Declares.{TakesToken, AddsTerm, IsLeastError, error_before}
+use Rattle.mpslp_lp_grammar.specs.Declares.{TakesToken, AddsTerm, IsLeastError, error_before}
 use Rattle.mpslp_lp.specs.PlainTerm.{Begins, BeginsWithNumber, IsPlainTerm}
-use Rattle.mpslp_lp.specs.AfterToken.{AfterToken, Goes, Refuses, refuse, with_made}
-use Rattle.mpslp_lp.specs.TokenStep.{take}
-use Rattle.mpslp_lp.specs.declared.context.Context.{Context}
-use Rattle.mpslp_lp.specs.declared.states.Place.TheVariants.{InRow}
-use Rattle.mpslp_lp.specs.declared.states.ItemOwner.TheVariants.{OfRow}
-use Rattle.mpslp_lp.specs.declared.states.State.{State}
-use Rattle.mpslp_lp.specs.declared.states.State.TheVariants.{Between, Signs, ItemNumber}
+use Rattle.mpslp_lp_grammar.specs.AfterToken.{AfterToken, Goes, Refuses, refuse, with_made}
+use Rattle.mpslp_lp_grammar.specs.TokenStep.{take}
+use Rattle.mpslp_lp_grammar.specs.declared.context.Context.{Context}
+use Rattle.mpslp_lp_grammar.specs.declared.states.Place.TheVariants.{InRow}
+use Rattle.mpslp_lp_grammar.specs.declared.states.ItemOwner.TheVariants.{OfRow}
+use Rattle.mpslp_lp_grammar.specs.declared.states.State.{State}
+use Rattle.mpslp_lp_grammar.specs.declared.states.State.TheVariants.{Between, Signs, ItemNumber}
 use Rattle.mpslp_lp.proofs.LineTokens.{tokens-next, tokens-own, tokens-refused}
-use Rattle.mpslp_lp.proofs.TokenAnswers.{one-parsed}
+use Rattle.mpslp_lp_grammar.proofs.TokenAnswers.{one-parsed}
 
 -- a terminal that is accepted
 step : (context after : Context) (state next : State) (found more : List Token) (terminal : Terminal) → Begins found terminal more → take context state terminal ≡ Goes after next

@@ -7,7 +7,7 @@ use Rattle.mpslp_builder.specs.Meaning.{model_of}
 use Rattle.mpslp_builder.specs.Finish.{Finishes}
 use Rattle.mpslp_types.specs.declared.faults.ReadFault.{ReadFault}
 use Rattle.mpslp_types.specs.declared.faults.ReadFault.TheVariants.{File, Failed, OutOfMemory}
-use Rattle.mpslp_lp.specs.Rules.Outcome.{Finished}
+use Rattle.mpslp_lp_grammar.specs.Rules.Outcome.{Finished}
 use Rattle.mpslp_lp.specs.ReadAnswer.{ReadsLp}
 use Rattle.mpslp_lp.specs.LpText.{outcome, DeclaresLp}
 use Rattle.mpslp_lp.specs.FirstFault.{fault_of}

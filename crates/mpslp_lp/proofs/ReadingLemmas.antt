@@ -8,27 +8,27 @@ use Rattle.mpslp_builder.specs.Declaration.{Draft}
 use Rattle.mpslp_types.specs.declared.faults.Fault.{Fault}
 use Rattle.mpslp_types.specs.declared.faults.FaultKind.{FaultKind}
 use Rattle.mpslp_types.specs.declared.faults.FaultKind.TheVariants.{BadToken}
-use Rattle.mpslp_lp.specs.Rules.{Outcome, follow}
-use Rattle.mpslp_lp.specs.Rules.Parsed.{Reads}
-use Rattle.mpslp_lp.specs.Rules.AfterPhrase.{Ends as StepEnds}
-use Rattle.mpslp_lp.specs.Rules.Outcome.{Finished, Refused, Open}
-use Rattle.mpslp_lp.specs.Token.{Token, tokens}
-use Rattle.mpslp_lp.specs.Terminal.{Terminal, TerminalAt, terminal_of, as_terminal, terminals, line_terminals}
-use Rattle.mpslp_lp.specs.Point.{start}
-use Rattle.mpslp_lp.specs.declared.context.Context.{Context}
-use Rattle.mpslp_lp.specs.declared.states.Place.TheVariants.{AtStart}
+use Rattle.mpslp_lp_grammar.specs.Rules.{Outcome, follow}
+use Rattle.mpslp_lp_grammar.specs.Rules.Parsed.{Reads}
+use Rattle.mpslp_lp_grammar.specs.Rules.AfterPhrase.{Ends as StepEnds}
+use Rattle.mpslp_lp_grammar.specs.Rules.Outcome.{Finished, Refused, Open}
+use Rattle.mpslp_lp_tokens.specs.Token.{Token, tokens}
+use Rattle.mpslp_lp_grammar.specs.Terminal.{Terminal, TerminalAt, terminal_of, as_terminal, terminals, line_terminals}
+use Rattle.mpslp_lp_grammar.specs.Point.{start}
+use Rattle.mpslp_lp_grammar.specs.declared.context.Context.{Context}
+use Rattle.mpslp_lp_grammar.specs.declared.states.Place.TheVariants.{AtStart}
 use Rattle.mpslp_lines.specs.LineAnswer.{fault_on_line}
-use Rattle.mpslp_lp.specs.Phrase.{refuses}
-use Rattle.mpslp_lp.specs.Grammar.{phrase_at}
-use Rattle.mpslp_lp.specs.declared.states.State.{State}
-use Rattle.mpslp_lp.specs.TokenByToken.{says}
-use Rattle.mpslp_lp.specs.declared.states.State.TheVariants.{Between, AfterEnd}
-use Rattle.mpslp_lp.specs.AfterToken.{AfterToken, Goes, Refuses}
-use Rattle.mpslp_lp.specs.TokenStep.{take, says_after, at_end}
-use Rattle.mpslp_lp.specs.LexicalFault.{lexical_fault}
-use Rattle.mpslp_lp.specs.LineByLine.{take_all, take_line, is_at_end, read_from}
+use Rattle.mpslp_lp_grammar.specs.Phrase.{refuses}
+use Rattle.mpslp_lp_grammar.specs.Grammar.{phrase_at}
+use Rattle.mpslp_lp_grammar.specs.declared.states.State.{State}
+use Rattle.mpslp_lp_grammar.specs.TokenByToken.{says}
+use Rattle.mpslp_lp_grammar.specs.declared.states.State.TheVariants.{Between, AfterEnd}
+use Rattle.mpslp_lp_grammar.specs.AfterToken.{AfterToken, Goes, Refuses}
+use Rattle.mpslp_lp_grammar.specs.TokenStep.{take, says_after, at_end, is_at_end}
+use Rattle.mpslp_lp_grammar.specs.LexicalFault.{lexical_fault}
+use Rattle.mpslp_lp.specs.LineByLine.{take_all, take_line, read_from}
 use Rattle.mpslp_lp.specs.LpText.{numbered_lines, sound_terminals, first_own_fault, or_else, outcome}
-use Rattle.mpslp_lp.proofs.TakingLemmas.{take-says, nothing-says}
+use Rattle.mpslp_lp_grammar.proofs.TakingLemmas.{take-says, nothing-says}
 
 -- ---- the tokens of a line
 

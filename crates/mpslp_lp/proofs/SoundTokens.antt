@@ -9,18 +9,19 @@ use Rattle.mpslp_types.specs.declared.faults.FaultKind.{FaultKind}
 use Rattle.mpslp_lines.specs.LegalLine.{legal_tests}
 use Rattle.mpslp_lines.specs.FaultTests.{first_held}
 use Rattle.mpslp_lines.proofs.FieldLemmas.{value-decimal}
-use Rattle.mpslp_lp.specs.Line.{outside_comment}
-use Rattle.mpslp_lp.specs.Token.{is_word, Token, tokens}
-use Rattle.mpslp_lp.specs.Words.{class_of}
-use Rattle.mpslp_lp.specs.Terminal.{Terminal, TerminalAt, word_terminal, terminal_of, line_terminals}
-use Rattle.mpslp_lp.specs.Terminal.Terminal.{Name, Number}
-use Rattle.mpslp_lp.specs.LexicalFault.{word_fault, token_fault, lexical_fault}
+use Rattle.mpslp_lp_tokens.specs.Line.{outside_comment}
+use Rattle.mpslp_lp_tokens.specs.Token.{is_word, Token, tokens}
+use Rattle.mpslp_lp_tokens.specs.Words.{class_of}
+use Rattle.mpslp_lp_grammar.specs.Terminal.{Terminal, TerminalAt, word_terminal, terminal_of, line_terminals}
+use Rattle.mpslp_lp_grammar.specs.Terminal.Terminal.{Name, Number}
+use Rattle.mpslp_lp_grammar.specs.LexicalFault.{word_fault, token_fault, lexical_fault}
 use Rattle.mpslp_lp.specs.LpText.{sound_terminals}
-use Rattle.mpslp_lp.specs.declared.tokens.TokenKind.{TokenKind}
-use Rattle.mpslp_lp.specs.declared.tokens.TokenKind.TheVariants as kinds
-use Rattle.mpslp_lp.specs.declared.words.WordClass.{WordClass}
-use Rattle.mpslp_lp.specs.declared.words.WordClass.TheVariants as meanings
-use Rattle.mpslp_lp.proofs.NameTokens.{WordIs, AreWords, tokens-words, lp-name}
+use Rattle.mpslp_lp_tokens.specs.declared.tokens.TokenKind.{TokenKind}
+use Rattle.mpslp_lp_tokens.specs.declared.tokens.TokenKind.TheVariants as kinds
+use Rattle.mpslp_lp_tokens.specs.declared.words.WordClass.{WordClass}
+use Rattle.mpslp_lp_tokens.specs.declared.words.WordClass.TheVariants as meanings
+use Rattle.mpslp_lp_tokens.proofs.NameTokens.{WordIs, AreWords, tokens-words}
+use Rattle.mpslp_lp.proofs.LpNames.{lp-name}
 
 abbrev pub IsSoundTerminal : Terminal → Type 0
 IsSoundTerminal (Name name) = is_lp_name name ≡ true

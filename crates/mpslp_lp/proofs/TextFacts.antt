@@ -9,14 +9,14 @@ use Rattle.mpslp_types.specs.declared.faults.Fault.{Fault}
 use Rattle.mpslp_types.proofs.BoolLemmas.{both_so}
 use Rattle.mpslp_builder.proofs.MadeDrafts.{with_declarations-append, refusals_in_turn-append}
 use Rattle.mpslp_builder.proofs.RefusalLemmas.{join_none}
-use Rattle.mpslp_lp.specs.Rules.{Parsed, Outcome, phrases, made_by}
-use Rattle.mpslp_lp.specs.Rules.Parsed.{Reads, Refuses, Unfinished}
-use Rattle.mpslp_lp.specs.Rules.AfterPhrase.{Goes, Ends}
-use Rattle.mpslp_lp.specs.Rules.Outcome.{Finished, Refused, Open}
-use Rattle.mpslp_lp.specs.Terminal.{TerminalAt}
-use Rattle.mpslp_lp.specs.Point.{Point}
-use Rattle.mpslp_lp.specs.Phrase.{Follows}
-use Rattle.mpslp_lp.specs.Grammar.{phrase_at}
+use Rattle.mpslp_lp_grammar.specs.Rules.{Parsed, Outcome, phrases, made_by}
+use Rattle.mpslp_lp_grammar.specs.Rules.Parsed.{Reads, Refuses, Unfinished}
+use Rattle.mpslp_lp_grammar.specs.Rules.AfterPhrase.{Goes, Ends}
+use Rattle.mpslp_lp_grammar.specs.Rules.Outcome.{Finished, Refused, Open}
+use Rattle.mpslp_lp_grammar.specs.Terminal.{TerminalAt}
+use Rattle.mpslp_lp_grammar.specs.Point.{Point}
+use Rattle.mpslp_lp_grammar.specs.Phrase.{Follows}
+use Rattle.mpslp_lp_grammar.specs.Grammar.{phrase_at}
 use Rattle.mpslp_lp.proofs.SoundTokens.{AreSound}
 use Rattle.mpslp_lp.proofs.RuleFacts.{Holds}
 use Rattle.mpslp_lp.proofs.PhraseFacts.{is_lp_legal, IsSoundPoint, IsFine, phrase_at-fine}

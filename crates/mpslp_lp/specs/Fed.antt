@@ -6,13 +6,14 @@ use Rattle.mpslp_types.specs.declared.faults.Fault.{Fault}
 use Rattle.mpslp_model.specs.CompleteLines.{complete_lines}
 use Rattle.mpslp_lines.specs.Pieces.{IsFed}
 use Rattle.mpslp_lines.specs.declared.piece_reader.PieceReader.{PieceReader}
-use Rattle.mpslp_lp.specs.Rules.{Outcome}
-use Rattle.mpslp_lp.specs.Rules.Outcome.{Refused}
+use Rattle.mpslp_lp_grammar.specs.Rules.{Outcome}
+use Rattle.mpslp_lp_grammar.specs.Rules.Outcome.{Refused}
 use Rattle.mpslp_lp.specs.LpText.{lines_say}
-use Rattle.mpslp_lp.specs.LineByLine.{is_at_end, read_from}
-use Rattle.mpslp_lp.specs.declared.context.Context.{Context}
+use Rattle.mpslp_lp.specs.LineByLine.{read_from}
+use Rattle.mpslp_lp_grammar.specs.TokenStep.{is_at_end}
+use Rattle.mpslp_lp_grammar.specs.declared.context.Context.{Context}
 use Rattle.mpslp_lp.specs.declared.line_reader.LineReader.{LineReader}
-use Rattle.mpslp_lp.specs.declared.states.State.{State}
+use Rattle.mpslp_lp_grammar.specs.declared.states.State.{State}
 
 -- the outcome of a text of these lines
 abbrev pub lines_outcome : List (List ℕ) → Outcome Fault Draft

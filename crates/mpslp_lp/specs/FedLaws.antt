@@ -7,15 +7,15 @@ use Rattle.mpslp_types.specs.declared.faults.Fault.{Fault}
 use Rattle.mpslp_model.specs.CompleteLines.{open_tail}
 use Rattle.mpslp_model.proofs.CompleteLineLemmas.{lines-more}
 use Rattle.mpslp_lines.specs.declared.piece_reader.PieceReader.{PieceReader}
-use Rattle.mpslp_lp.specs.Rules.Outcome.{Finished, Refused}
+use Rattle.mpslp_lp_grammar.specs.Rules.Outcome.{Finished, Refused}
 use Rattle.mpslp_lp.specs.FirstFault.{fault_of, IsFirstLpFault}
-use Rattle.mpslp_lp.specs.TokenStep.{at_end}
-use Rattle.mpslp_lp.specs.LineByLine.{is_at_end, read_from}
+use Rattle.mpslp_lp_grammar.specs.TokenStep.{at_end, is_at_end}
+use Rattle.mpslp_lp.specs.LineByLine.{read_from}
 use Rattle.mpslp_lp.specs.Fed.{lines_outcome, IsFaultOfLines, IsFaultOfComplete, HasRead, is_ended, IsFedAll}
-use Rattle.mpslp_lp.specs.declared.context.Context.{Context}
+use Rattle.mpslp_lp_grammar.specs.declared.context.Context.{Context}
 use Rattle.mpslp_lp.specs.declared.line_reader.LineReader.{LineReader}
-use Rattle.mpslp_lp.specs.declared.states.State.{State}
-use Rattle.mpslp_lp.specs.declared.states.State.TheVariants.{AfterEnd}
+use Rattle.mpslp_lp_grammar.specs.declared.states.State.{State}
+use Rattle.mpslp_lp_grammar.specs.declared.states.State.TheVariants.{AfterEnd}
 
 -- ---- lines after that of `end`
 

@@ -4,8 +4,8 @@ use Rattle.mpslp_builder.specs.Declaration.{Draft}
 use Rattle.mpslp_builder.specs.Meaning.{whole_fault, file_fault}
 use Rattle.mpslp_types.specs.declared.faults.Fault.{Fault}
 use Rattle.mpslp_types.specs.declared.faults.FaultKind.TheVariants.{MissingEnd}
-use Rattle.mpslp_lp.specs.Rules.{Outcome}
-use Rattle.mpslp_lp.specs.Rules.Outcome.{Finished, Refused, Open}
+use Rattle.mpslp_lp_grammar.specs.Rules.{Outcome}
+use Rattle.mpslp_lp_grammar.specs.Rules.Outcome.{Finished, Refused, Open}
 use Rattle.mpslp_lp.specs.LpText.{outcome}
 
 -- the error that is reported for an outcome; for complete text, the error of the whole file

@@ -1,20 +1,19 @@
--- Lines read one after another, instead of all tokens at once.
-use Rattle.std.specs.Prelude.{ℕ, Bool, true, false, List, [], ◌∷◌, map, filter_map, Some, None}
+-- Lines read one after another, in place of all their tokens.
+use Rattle.std.specs.Prelude.{ℕ, true, false, List, [], ◌∷◌, map, filter_map, Some, None}
 use Rattle.mpslp_types.specs.FaultOrder.{least_kind}
 use Rattle.mpslp_types.specs.declared.faults.FaultKind.{FaultKind}
-use Rattle.mpslp_lp.specs.Token.{Token}
+use Rattle.mpslp_lp_tokens.specs.Token.{Token}
 use Rattle.mpslp_builder.specs.Declaration.{Draft}
 use Rattle.mpslp_types.specs.declared.faults.Fault.{Fault}
-use Rattle.mpslp_lp.specs.Rules.{Outcome}
-use Rattle.mpslp_lp.specs.Rules.Outcome.{Finished, Refused}
-use Rattle.mpslp_lp.specs.Terminal.{Terminal, as_terminal, terminals}
-use Rattle.mpslp_lp.specs.declared.context.Context.{Context}
+use Rattle.mpslp_lp_grammar.specs.Rules.{Outcome}
+use Rattle.mpslp_lp_grammar.specs.Rules.Outcome.{Finished, Refused}
+use Rattle.mpslp_lp_grammar.specs.Terminal.{Terminal, as_terminal, terminals}
+use Rattle.mpslp_lp_grammar.specs.declared.context.Context.{Context}
 use Rattle.mpslp_lines.specs.LineAnswer.{fault_on_line}
-use Rattle.mpslp_lp.specs.declared.states.State.{State}
-use Rattle.mpslp_lp.specs.declared.states.State.TheVariants.{AfterEnd}
-use Rattle.mpslp_lp.specs.AfterToken.{AfterToken, Goes, Refuses}
-use Rattle.mpslp_lp.specs.TokenStep.{take, at_end}
-use Rattle.mpslp_lp.specs.LexicalFault.{token_fault, lexical_fault}
+use Rattle.mpslp_lp_grammar.specs.declared.states.State.{State}
+use Rattle.mpslp_lp_grammar.specs.AfterToken.{AfterToken, Goes, Refuses}
+use Rattle.mpslp_lp_grammar.specs.TokenStep.{take, at_end, is_at_end}
+use Rattle.mpslp_lp_grammar.specs.LexicalFault.{token_fault, lexical_fault}
 
 -- tokens one after another, up to one that causes an error
 abbrev pub take_all : Context → State → List Terminal → AfterToken
@@ -41,11 +40,6 @@ take_line context state line = elim (lexical_fault line) [
   | Some kind ↦ Refuses kind
   | None ↦ take_all context state (terminals line)
 ]
-
--- `end` was the last token
-abbrev pub is_at_end : State → Bool
-is_at_end AfterEnd = true
-is_at_end _ = false
 
 -- lines up to that of `end`
 abbrev pub read_from : Context → State → List (ℕ × List ℕ) → Outcome Fault Draft

@@ -6,12 +6,12 @@ use Rattle.mpslp_model_core.specs.Model.{LinearModel}
 use Rattle.mpslp_builder.specs.Declaration.{Declarations, Draft}
 use Rattle.mpslp_builder.specs.Meaning.{Means}
 use Rattle.mpslp_types.specs.declared.faults.Fault.{Fault}
-use Rattle.mpslp_lp.specs.Rules.{Outcome}
-use Rattle.mpslp_lp.specs.Rules.Outcome.{Finished, Refused, Open}
-use Rattle.mpslp_lp.specs.Terminal.{TerminalAt, line_terminals}
+use Rattle.mpslp_lp_grammar.specs.Rules.{Outcome}
+use Rattle.mpslp_lp_grammar.specs.Rules.Outcome.{Finished, Refused, Open}
+use Rattle.mpslp_lp_grammar.specs.Terminal.{TerminalAt, line_terminals}
 use Rattle.mpslp_lines.specs.LineAnswer.{fault_on_line}
-use Rattle.mpslp_lp.specs.Grammar.{text_says, text_declares}
-use Rattle.mpslp_lp.specs.LexicalFault.{lexical_fault}
+use Rattle.mpslp_lp_grammar.specs.Grammar.{text_says, text_declares}
+use Rattle.mpslp_lp_grammar.specs.LexicalFault.{lexical_fault}
 
 -- the lines with their numbers, from 1; a line ends with LF or CRLF
 abbrev pub numbered_lines : List ℕ → List (ℕ × List ℕ)

@@ -2,17 +2,17 @@
 use Rattle.std.specs.Prelude.{◌≡◌, ◌⊎◌, ℕ, Bool, List, ◌∷◌, None, Result, Ok, Err, codes}
 use Rattle.mpslp_types.specs.Name.{IsMpsName}
 use Rattle.mpslp_lines.specs.declared.errors.LineError.{LineError}
-use Rattle.mpslp_lp.specs.PartialRow.{PartialRow}
-use Rattle.mpslp_lp.specs.Token.{Token}
-use Rattle.mpslp_lp.specs.Terminal.{Terminal, as_terminal}
-use Rattle.mpslp_lp.specs.Terminal.Terminal.{Sign, Name}
-use Rattle.mpslp_lp.specs.LexicalFault.{token_fault}
+use Rattle.mpslp_lp_grammar.specs.PartialRow.{PartialRow}
+use Rattle.mpslp_lp_tokens.specs.Token.{Token}
+use Rattle.mpslp_lp_grammar.specs.Terminal.{Terminal, as_terminal}
+use Rattle.mpslp_lp_grammar.specs.Terminal.Terminal.{Sign, Name}
+use Rattle.mpslp_lp_grammar.specs.LexicalFault.{token_fault}
 use Rattle.mpslp_lp.specs.LineByLine.{take_tokens}
-use Rattle.mpslp_lp.specs.Declares.{TakesToken}
-use Rattle.mpslp_lp.specs.declared.context.Context.{Context}
-use Rattle.mpslp_lp.specs.declared.states.Place.TheVariants.{InRow}
-use Rattle.mpslp_lp.specs.declared.states.State.TheVariants.{Between}
-use Rattle.mpslp_lp.specs.declared.tokens.TokenKind.TheVariants as kinds
+use Rattle.mpslp_lp_grammar.specs.Declares.{TakesToken}
+use Rattle.mpslp_lp_grammar.specs.declared.context.Context.{Context}
+use Rattle.mpslp_lp_grammar.specs.declared.states.Place.TheVariants.{InRow}
+use Rattle.mpslp_lp_grammar.specs.declared.states.State.TheVariants.{Between}
+use Rattle.mpslp_lp_tokens.specs.declared.tokens.TokenKind.TheVariants as kinds
 
 -- The first token is this terminal, without an error of its own, and the others follow it.
 pub record Begins (found : List Token) (terminal : Terminal) (more : List Token) : Type 0 where

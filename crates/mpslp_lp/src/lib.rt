@@ -1,44 +1,21 @@
 //! LP text: what it declares, and the first error of text that declares no model.
 //!
-//! The format follows the CPLEX file format reference. The definitions are in `specs/`: the bytes of lines (`Line`), their
-//! tokens (`Token`), reserved words (`Words`), what the grammar sees of a token (`Terminal`), the errors of a line on its
-//! own (`LexicalFault`), the grammar by its rules (`Rules`, `Point`, `Phrase`, `Sides`, `Items`, `Objective`, `Rows`,
-//! `Bounds`, `Grammar`), and the whole text (`LpText`, `FirstFault`). The same is defined token by token, in terms of what a
-//! reader keeps: `TokenByToken`, `AfterToken`, `FirstToken`, `TokenStep`, `LineByLine`. `Fed` states what was read of a text
-//! that comes in pieces.
+//! The tokens of a line are those of `mpslp_lp_tokens`, the grammar and its states are those of `mpslp_lp_grammar`. The
+//! definitions of `specs/` say what a whole text is: its bytes, lines and declarations (`LpText`, `FirstFault`), lines read one
+//! after another (`LineByLine`), and what was read of text that comes in pieces (`Fed`).
 //!
-//! [`LpReader`] reads text in pieces: it takes the tokens of each line (`read_line`, `token_step`), going from state to
-//! state (`states`), and passes what they declare to the builder (`lp_builder`). [`read_lp`] reads a whole text.
-//! [`tokens_of`] divides a line into tokens.
+//! [`LpReader`] reads a text that comes in pieces: it takes the tokens of each line from a state to the next, and the terms of
+//! rows that are plain as a whole (`plain_terms`). [`read_lp`] reads a whole text. [`tokens_of`] cuts a line.
 #![tactic(auto)]
 
-mod answers;
-mod bounds;
-mod context;
-mod first_token;
-mod given_limit;
-mod items;
 pub mod laws;
 mod line_reader;
-mod lp_builder;
 mod plain_terms;
 mod read_line;
 mod reader;
 mod reading;
-mod relations;
-mod rows;
-mod scan;
-mod sections_seen;
-mod sides;
-mod states;
-mod term_names;
-mod terminals;
-mod token_step;
-mod tokens;
-mod words;
 
 pub use mpslp_lines::MAX_LINE_LEN;
+pub use mpslp_lp_tokens::{Section, Token, TokenKind, Tokens, next_token, tokens_of};
 pub use reader::LpReader;
 pub use reading::read_lp;
-pub use tokens::{Token, TokenKind, Tokens, next_token, tokens_of};
-pub use words::Section;

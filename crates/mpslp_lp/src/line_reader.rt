@@ -1,52 +1,13 @@
 //! Reads LP text line by line.
 
-ghost use Rattle.std.specs.Prelude.{◌≡◌};
-ghost use Rattle.mpslp_lp.specs.Point.{start};
-ghost use Rattle.mpslp_lp.specs.LineByLine.{is_at_end};
-
-use crate::context::Context;
-use crate::lp_builder::LpBuilder;
 use crate::read_line::read_line;
-use crate::sections_seen::SectionsSeen;
-use crate::states::{Place, State};
 use mpslp_lines::{LineError, ReadLines, read_fault};
+use mpslp_lp_grammar::{Context, Place, State};
 use mpslp_model::{Fault, FaultKind, Model, ReadFault};
 use std::alloc::Global;
 use std::mem::replace;
 
-impl Context {
-    /// The context at the start of a text.
-    fn start(alloc: Global) -> Context
-        ensures { result ≡ start.context }
-    {
-        Context {
-            sections_seen: SectionsSeen {
-                objective: false,
-                rows: false,
-                bounds: false,
-                generals: false,
-                binaries: false,
-                semis: false,
-                end: false,
-            },
-            earlier: LpBuilder::new(alloc),
-        }
-    }
-}
-
-impl State {
-    /// Whether `end` was the last token.
-    fn is_at_end(&self) -> bool
-        ensures { result ≡ is_at_end self.now }
-    {
-        match self {
-            State::AfterEnd => true,
-            _ => false,
-        }
-    }
-}
-
-/// Reads LP text line by line.
+/// Reads the lines of LP text one after another.
 #[derive(Drop)]
 pub(crate) struct LineReader {
     context: Context,
@@ -105,7 +66,7 @@ impl ReadLines for LineReader {
                 name: None,
             }));
         }
-        self.context.earlier.into_builder().finish()
+        self.context.into_builder().finish()
     }
 
     ghost behind_end = { read-behind_end };

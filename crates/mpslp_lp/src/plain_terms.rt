@@ -3,22 +3,18 @@
 
 ghost use Rattle.std.specs.Prelude.{◌≡◌, ◌≤◌, List, Err, IfSome, MatchResult, length};
 ghost use Rattle.mpslp_types.specs.Name.{IsMpsName};
-ghost use Rattle.mpslp_lp.specs.Declares.{TakesToken};
+ghost use Rattle.mpslp_lp_grammar.specs.Declares.{TakesToken};
 ghost use Rattle.mpslp_lp.specs.PlainTerm.{Begins, IsUnsignedTerm, IsPlainTerm, TakesInRow};
 ghost use Rattle.mpslp_lp.specs.LineByLine.{take_tokens};
-ghost use Rattle.mpslp_lp.specs.Terminal.{Terminal};
-ghost use Rattle.mpslp_lp.specs.Token.{Token};
-ghost use Rattle.mpslp_lp.specs.declared.states.Place.{Place};
-ghost use Rattle.mpslp_lp.specs.declared.states.State.{State};
+ghost use Rattle.mpslp_lp_grammar.specs.Terminal.{Terminal};
+ghost use Rattle.mpslp_lp_tokens.specs.Token.{Token};
+ghost use Rattle.mpslp_lp_grammar.specs.declared.states.Place.{Place};
+ghost use Rattle.mpslp_lp_grammar.specs.declared.states.State.{State};
 
-use crate::context::Context;
-use crate::items::apply_sign;
 use crate::read_line::{error_before, least_error};
-use crate::states::{PartialRow, Place, State};
-use crate::term_names::TermName;
-use crate::terminals::{TerminalKind, classify};
-use crate::tokens::{TokenKind, Tokens};
 use mpslp_lines::{LineError, value_of};
+use mpslp_lp_grammar::{Context, PartialRow, Place, State, TerminalKind, apply_sign, classify};
+use mpslp_lp_tokens::{TokenKind, Tokens};
 
 /// A sign, the text of a number (`1` if the term has none), and the name of a column.
 #[derive(Clone, Copy)]
@@ -100,8 +96,7 @@ fn take_plain_term(
         Ok(value) => apply_sign(term.minus, value),
         Err(kind) => return Err(least_error(kind, left)),
     };
-    let column = TermName::copied(context.earlier.alloc(), term.column)?;
-    match row.with_term(column, value) {
+    match row.with_term(context, term.column, value) {
         Ok(longer) => Ok(longer),
         Err(error) => Err(error_before(error, left)),
     }

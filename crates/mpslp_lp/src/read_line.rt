@@ -3,19 +3,16 @@
 ghost use Rattle.std.specs.Prelude.{◌≡◌, ◌≤◌, ◌∷◌, length, not};
 ghost use Rattle.std.specs.List.{prefix_len};
 ghost use Rattle.mpslp_types.specs.FaultOrder.{least_kind};
-ghost use Rattle.mpslp_lp.specs.Line.{begins_comment, outside_comment};
-ghost use Rattle.mpslp_lp.specs.Token.{tokens};
-ghost use Rattle.mpslp_lp.specs.Declares.{error_before, lesser_of, IsLeastError, TakesToken};
+ghost use Rattle.mpslp_lp_tokens.specs.Line.{begins_comment, outside_comment};
+ghost use Rattle.mpslp_lp_tokens.specs.Token.{tokens};
+ghost use Rattle.mpslp_lp_grammar.specs.Declares.{error_before, lesser_of, IsLeastError, TakesToken};
 ghost use Rattle.mpslp_lp.specs.LineByLine.{token_faults, take_tokens, take_line};
 
-use crate::context::Context;
 use crate::plain_terms::take_terms;
-use crate::states::State;
-use crate::terminals::{TerminalToken, classify};
-use crate::token_step::take;
-use crate::tokens::{Tokens, tokens_of};
 use bstr::ByteSlice;
 use mpslp_lines::{LineError, are_legal_bytes, has_legal_length, lesser_kind};
+use mpslp_lp_grammar::{Context, State, TerminalToken, classify, take};
+use mpslp_lp_tokens::{Tokens, tokens_of};
 use mpslp_model::FaultKind;
 
 /// The lesser of the kinds of two errors, of which the first is optional.

@@ -8,7 +8,7 @@ use Rattle.mpslp_decimal.specs.NumberText.{number_text}
 use Rattle.mpslp_model_core.specs.Model.{LinearModel}
 use Rattle.mpslp_types.specs.declared.kinds.Sense.{Sense}
 use Rattle.mpslp_types.specs.declared.kinds.Sense.TheVariants.{Minimize, Maximize}
-use Rattle.mpslp_lp.specs.declared.relations.Relation.TheVariants.{AtLeast}
+use Rattle.mpslp_lp_grammar.specs.declared.relations.Relation.TheVariants.{AtLeast}
 use Rattle.mpslp_canonical_lp.specs.Printed.{Lexeme, word, label, number, sign, lexeme_text, sign_bytes, line_text}
 use Rattle.mpslp_canonical_lp.specs.CanonicalLp.{Lines, heading, under_heading, semi_heading, under_semi_heading, label_line, long_line, term_line, signed_lexemes, right_line, minus_large, canonical_lp}
 use Rattle.mpslp_write.specs.TextBuffer.{text_by, text_under}

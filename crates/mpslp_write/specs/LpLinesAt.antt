@@ -6,7 +6,7 @@ use Rattle.mpslp_types.specs.declared.kinds.Kind.{Kind}
 use Rattle.mpslp_decimal.specs.Decimal.{Number, have_same_value}
 use Rattle.mpslp_types.specs.declared.kinds.Sense.{Sense}
 use Rattle.mpslp_types.specs.declared.kinds.Limit.TheVariants.{Finite, PlusInf}
-use Rattle.mpslp_lp.specs.declared.relations.Relation.TheVariants.{AtMost, EqualTo}
+use Rattle.mpslp_lp_grammar.specs.declared.relations.Relation.TheVariants.{AtMost, EqualTo}
 use Rattle.mpslp_canonical_lp.specs.Printed.{number, sense}
 use Rattle.mpslp_model_core.specs.Listing.{Listing, listing_of}
 use Rattle.mpslp_canonical_lp.specs.CanonicalLp.{Lines, heading, long_line, sense_word, Term, term_line, term_in, objective_term, right_line, bound_lexemes, line_of_some, is_integer_kind, is_semi_kind, name_line}

@@ -3,7 +3,7 @@
 ghost use Rattle.std.specs.Prelude.{◌≡◌, [], ◌∷◌, ◌++◌, codes};
 ghost use Rattle.mpslp_decimal.specs.Decimal.{is_negative, size_of};
 ghost use Rattle.mpslp_decimal.specs.NumberText.{number_text};
-ghost use Rattle.mpslp_lp.specs.declared.relations.Relation.TheVariants as relations;
+ghost use Rattle.mpslp_lp_grammar.specs.declared.relations.Relation.TheVariants as relations;
 ghost use Rattle.mpslp_canonical_lp.specs.Printed.{line_text, sign_bytes, word, number, sense, minus_infinity};
 ghost use Rattle.mpslp_canonical_lp.specs.CanonicalLp.{short_line, long_line, label_line, term_line, signed_lexemes, right_line, minus_large};
 ghost use Rattle.mpslp_write.specs.TextBuffer.{Emits, Prints};

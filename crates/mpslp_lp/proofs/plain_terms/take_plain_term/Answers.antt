@@ -1,14 +1,13 @@
-use Rattle.std.proofs.Common.{◌∙◌, sym, subst, ap, ℕ, List}
+use Rattle.std.proofs.Common.{◌∙◌, sym, subst, ap}
 use Rattle.std.specs.Prelude.{Ok, Err}
 use Rattle.mpslp_decimal.specs.Decimal.{Number}
-use Rattle.mpslp_lines.specs.Field.{value_of}
 use Rattle.mpslp_lines.specs.declared.errors.LineError.{LineError}
-use Rattle.mpslp_lp.specs.Declares.{AddsTerm, TakesToken}
-use Rattle.mpslp_lp.specs.Sides.{apply_sign}
+use Rattle.mpslp_lp_grammar.specs.Declares.{AddsTerm, TakesToken}
+use Rattle.mpslp_lp_grammar.specs.Sides.{apply_sign}
 use Rattle.mpslp_lp.specs.LineByLine.{take_tokens}
-use Rattle.mpslp_lp.specs.declared.states.Place.TheVariants.{InRow}
-use Rattle.mpslp_lp.specs.declared.states.State.TheVariants.{Between}
-use Rattle.mpslp_lp.proofs.SeenLemmas.{tested-number}
+use Rattle.mpslp_lp_grammar.specs.declared.states.Place.TheVariants.{InRow}
+use Rattle.mpslp_lp_grammar.specs.declared.states.State.TheVariants.{Between}
+use Rattle.mpslp_lp_grammar.proofs.NumberFaults.{tested-number}
 use Rattle.mpslp_lp.proofs.PlainTerms.{plain-goes, plain-refused, plain-number}
 use Rattle.mpslp_lp.proofs.plain_terms.take_plain_term.Goals as goal
 
@@ -22,9 +21,8 @@ returns-in-Ok-with_term c = λ found p.
     let term = c.args.term in
     plain-goes c.args.context.now c.args.row found c.args.left term.minus term.literal.now term.column.now p c.in-Ok-with_term.longer
     (sym (tested-number term.literal.now) ∙ c.in-Ok.ensures.0)
-    (subst (λ (column : List ℕ). AddsTerm c.args.row column (apply_sign term.minus (value_of term.literal.now)) (Ok c.in-Ok-with_term.longer)) c.in_ok-column.ensures
-    (subst (λ (value : Number). AddsTerm c.args.row c.in_ok-column.column value (Ok c.in-Ok-with_term.longer)) (c.apply_sign-value.ensures ∙ ap (apply_sign term.minus) c.in-Ok.ensures.1)
-    c.in-Ok-with_term.ensures))
+    (subst (λ (value : Number). AddsTerm c.args.row term.column.now value (Ok c.in-Ok-with_term.longer)) (c.apply_sign-value.ensures ∙ ap (apply_sign term.minus) c.in-Ok.ensures.1)
+    c.in-Ok-with_term.ensures)
 
 pub returns-in-Err-with_term : goal.returns-in-Err-with_term
 returns-in-Err-with_term c = λ found p.
@@ -33,6 +31,5 @@ returns-in-Err-with_term c = λ found p.
     subst (λ (told : LineError). TakesToken (take_tokens c.args.context.now (Between (InRow c.args.row)) found) (Err told) c.args.context.now) (sym c.error_before.ensures)
     (plain-refused c.args.context.now c.args.row found c.args.left term.minus term.literal.now term.column.now p error
     (sym (tested-number term.literal.now) ∙ c.in-Ok.ensures.0)
-    (subst (λ (column : List ℕ). AddsTerm c.args.row column (apply_sign term.minus (value_of term.literal.now)) (Err error)) c.in_ok-column.ensures
-    (subst (λ (value : Number). AddsTerm c.args.row c.in_ok-column.column value (Err error)) (c.apply_sign-value.ensures ∙ ap (apply_sign term.minus) c.in-Ok.ensures.1)
-    c.in-Err-with_term.ensures)))
+    (subst (λ (value : Number). AddsTerm c.args.row term.column.now value (Err error)) (c.apply_sign-value.ensures ∙ ap (apply_sign term.minus) c.in-Ok.ensures.1)
+    c.in-Err-with_term.ensures))

@@ -1,6 +1,6 @@
 use Rattle.std.proofs.Common.{refl, sym, subst, ◌∙◌, ap, inr}
-use Rattle.mpslp_lp.specs.TerminalToken.{terminal_with_text, HasLegalNameKind}
-use Rattle.mpslp_lp.specs.declared.terminals.TerminalKind.{TerminalKind}
+use Rattle.mpslp_lp_grammar.specs.TerminalToken.{terminal_with_text, HasLegalNameKind}
+use Rattle.mpslp_lp_grammar.specs.declared.terminals.TerminalKind.{TerminalKind}
 use Rattle.mpslp_lp.proofs.plain_terms.unsigned_term.Goals as goal
 
 -- a name without a number

@@ -1,12 +1,12 @@
 use Rattle.std.proofs.Common.{sym, ap, subst, ◌∙◌, ◌∷◌}
 use Rattle.std.specs.Prelude.{Err}
 use Rattle.mpslp_lines.specs.declared.errors.LineError.{LineError}
-use Rattle.mpslp_lp.specs.Scan.{token_of}
-use Rattle.mpslp_lp.specs.Terminal.{Terminal}
-use Rattle.mpslp_lp.specs.AfterToken.{AfterToken}
-use Rattle.mpslp_lp.specs.TokenStep.{take}
+use Rattle.mpslp_lp_tokens.specs.Scan.{token_of}
+use Rattle.mpslp_lp_grammar.specs.Terminal.{Terminal}
+use Rattle.mpslp_lp_grammar.specs.AfterToken.{AfterToken}
+use Rattle.mpslp_lp_grammar.specs.TokenStep.{take}
 use Rattle.mpslp_lp.specs.LineByLine.{take_tokens}
-use Rattle.mpslp_lp.specs.Declares.{TakesToken}
+use Rattle.mpslp_lp_grammar.specs.Declares.{TakesToken}
 use Rattle.mpslp_lp.proofs.LineTokens.{tokens-refused}
 use Rattle.mpslp_lp.proofs.read_line.take_tokens.Goals as goal
 

@@ -1,5 +1,5 @@
 use Rattle.std.proofs.Common.{◌≡◌, length}
-use Rattle.mpslp_lp.specs.Token.{tokens}
+use Rattle.mpslp_lp_tokens.specs.Token.{tokens}
 use Rattle.mpslp_lp.specs.LineByLine.{take_tokens}
 use Rattle.mpslp_lp.proofs.read_line.take_tokens.Given as goal
 

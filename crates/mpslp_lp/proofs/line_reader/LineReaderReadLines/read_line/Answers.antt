@@ -1,8 +1,8 @@
 use Rattle.std.proofs.Common.{◌≡◌, ap, subst, sym, ◌∙◌, rules}
 use Rattle.std.specs.Prelude.{Err}
-use Rattle.mpslp_lp.specs.Declares.{TakesToken}
+use Rattle.mpslp_lp_grammar.specs.Declares.{TakesToken}
 use Rattle.mpslp_lp.specs.LineByLine.{take_line}
-use Rattle.mpslp_lp.specs.declared.states.State.{State}
+use Rattle.mpslp_lp_grammar.specs.declared.states.State.{State}
 use Rattle.mpslp_lp.proofs.LineReaderLemmas.{led-line, refuses-line}
 use Rattle.mpslp_lp.proofs.line_reader.LineReaderReadLines.read_line.Goals as goal
 

@@ -1,5 +1,5 @@
 use Rattle.std.proofs.Common.{[], ◌∷◌}
-use Rattle.mpslp_lp.specs.declared.relations.Relation.TheVariants.{EqualTo}
+use Rattle.mpslp_lp_grammar.specs.declared.relations.Relation.TheVariants.{EqualTo}
 use Rattle.mpslp_canonical_lp.specs.Printed.{word, number, sense}
 use Rattle.mpslp_write.proofs.LpLineTexts.{line-text}
 use Rattle.mpslp_write.proofs.OutputLemmas.{emits_then, prints_line}

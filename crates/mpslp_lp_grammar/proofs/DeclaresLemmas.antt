@@ -1,0 +1,215 @@
+-- What calls of a builder return for declarations, and the number of rows after them.
+use Rattle.std.proofs.Common.{◌≡◌, refl, sym, ap, subst, ◌∙◌, ℕ, ◌+◌, List, [], ◌∷◌, ◌++◌, Bool, true, false, cond, length}
+use Rattle.std.specs.Prelude.{Option, Some, None, Ok, Err, is_some, not, ◌||◌}
+use Rattle.std.specs.Option.{option_map}
+use Rattle.std.specs.Result.{IsErrAnd}
+use Rattle.std.specs.FinMap.{find}
+use Rattle.std.specs.FinMap.Entries.{length-put}
+use Rattle.std.specs.Cmp.Lexicographic.{nat_list_cmp_total}
+use Rattle.mpslp_types.specs.Name.{bytes_cmp}
+use Rattle.mpslp_types.specs.declared.faults.BuildFault.{BuildFault}
+use Rattle.mpslp_types.specs.declared.faults.BuildFault.TheVariants as builds
+use Rattle.mpslp_types.specs.declared.kinds.Limit.{Limit}
+use Rattle.mpslp_model_core.specs.Lists.{head_of, those_of}
+use Rattle.mpslp_builder.specs.Answer.{Answer, Answers}
+use Rattle.mpslp_builder.specs.Declaration.{Declaration, declare_row, declare_column, declare_coefficient, has_row, has_column, has_coefficient, at_name, RowDefinition, Declarations, Draft, with_declaration, with_declarations, bounds_declared, has_name, is_objective, have_infinite_side}
+use Rattle.mpslp_builder.specs.Refusal.{refusals, refusals_in_turn}
+use Rattle.mpslp_builder.specs.Made.{IsMade}
+use Rattle.mpslp_builder.proofs.AnswerLemmas.{put_again}
+use Rattle.mpslp_builder.proofs.LaterDrafts.{itself_named}
+use Rattle.mpslp_builder.proofs.SlotLemmas.{at-put}
+use Rattle.mpslp_builder.proofs.SortedDrafts.{sorted-from_made}
+use Rattle.mpslp_builder.proofs.MadeDrafts.{with_declarations-append, refusals_in_turn-append}
+use Rattle.mpslp_lines.specs.declared.errors.LineError.TheVariants.{Fault, OutOfMemory}
+use Rattle.mpslp_lines.specs.Declaring.{kind_of_build_fault}
+use Rattle.mpslp_lines.specs.ErrorOf.{error_of_build}
+use Rattle.mpslp_lines.specs.LineAnswer.{LineResult}
+use Rattle.mpslp_lines.specs.declared.errors.LineError.{LineError}
+use Rattle.mpslp_decimal.specs.Decimal.{Number}
+use Rattle.mpslp_lp_grammar.specs.Objective.{term_declared}
+use Rattle.mpslp_lp_grammar.specs.Declares.{DeclaresUnless, Declares}
+
+-- ---- a call that is rejected
+
+error_told : (earlier later : Draft) (made : Declarations) (refusals : List BuildFault) (fault : BuildFault) → head_of refusals ≡ Some fault
+    → DeclaresUnless refusals earlier made (Err (error_of_build fault)) later
+error_told earlier later made refusals builds.OutOfMemory e = tt
+error_told earlier later made refusals builds.DuplicateSense e = ap (option_map kind_of_build_fault) e
+error_told earlier later made refusals builds.SecondObjective e = ap (option_map kind_of_build_fault) e
+error_told earlier later made refusals builds.UnknownRow e = ap (option_map kind_of_build_fault) e
+error_told earlier later made refusals builds.UnknownColumn e = ap (option_map kind_of_build_fault) e
+error_told earlier later made refusals builds.DuplicateRow e = ap (option_map kind_of_build_fault) e
+error_told earlier later made refusals builds.DuplicateEntry e = ap (option_map kind_of_build_fault) e
+error_told earlier later made refusals builds.DuplicateRhs e = ap (option_map kind_of_build_fault) e
+error_told earlier later made refusals builds.DuplicateRange e = ap (option_map kind_of_build_fault) e
+error_told earlier later made refusals builds.DuplicateBound e = ap (option_map kind_of_build_fault) e
+error_told earlier later made refusals builds.RangeOnFree e = ap (option_map kind_of_build_fault) e
+error_told earlier later made refusals builds.SemiContinuous e = ap (option_map kind_of_build_fault) e
+error_told earlier later made refusals builds.InfiniteValue e = ap (option_map kind_of_build_fault) e
+
+same_fault : (a b : BuildFault) → ◌≡◌ {A = Answer} (Err a) (Err b) → a ≡ b
+same_fault a b e = cc
+
+-- the errors of a call come first among all
+refused-first : (earlier later : Draft) (made : Declarations) (faults more : List BuildFault) (fault : BuildFault) (P Q : Type 0) → Answers faults (Err fault) P Q
+    → DeclaresUnless (faults ++ more) earlier made (Err (error_of_build fault)) later
+refused-first earlier later made [] more fault P Q answer =
+    subst (λ (f : BuildFault). DeclaresUnless more earlier made (Err (error_of_build f)) later) (sym answer.0) tt
+refused-first earlier later made (first ∷ faults) more fault P Q answer =
+    error_told earlier later made (first ∷ faults ++ more) fault (ap (λ (f : BuildFault). Some f) (sym (same_fault fault first answer.0)))
+
+pub told-by : (refusals : List BuildFault) (earlier later : Draft) (made : Declarations) (answer : LineResult) (error : LineError) → IsErrAnd answer (λ e. e ≡ error)
+    → DeclaresUnless refusals earlier made (Err error) later → DeclaresUnless refusals earlier made answer later
+told-by refusals earlier later made (Ok u) error h d = absurd h
+told-by refusals earlier later made (Err e) error h d = subst (λ (x : LineError). DeclaresUnless refusals earlier made (Err x) later) (sym h) d
+
+pub refused-declares : (earlier later : Draft) (d : Declaration) (fault : BuildFault) (P Q : Type 0) (answer : LineResult) → IsErrAnd answer (λ e. e ≡ error_of_build fault)
+    → Answers (refusals earlier d) (Err fault) P Q → Declares earlier (d ∷ []) answer later
+refused-declares earlier later d fault P Q answer told refused =
+    told-by (refusals_in_turn earlier (d ∷ [])) earlier later (d ∷ []) answer (error_of_build fault) told (refused-first earlier later (d ∷ []) (refusals earlier d) [] fault P Q refused)
+
+pub refused-unless : (faults : List BuildFault) (earlier later : Draft) (made : Declarations) (fault : BuildFault) (P Q : Type 0) (answer : LineResult) → IsErrAnd answer (λ e. e ≡ error_of_build fault)
+    → Answers faults (Err fault) P Q → DeclaresUnless faults earlier made answer later
+refused-unless faults earlier later made fault P Q answer told refused =
+    told-by faults earlier later made answer (error_of_build fault) told (by faults refused)
+  where
+    by : (fs : List BuildFault) → Answers fs (Err fault) P Q → DeclaresUnless fs earlier made (Err (error_of_build fault)) later
+    by [] a = subst (λ (f : BuildFault). DeclaresUnless [] earlier made (Err (error_of_build f)) later) (sym a.0) tt
+    by (first ∷ more) a = error_told earlier later made (first ∷ more) fault (ap (λ (f : BuildFault). Some f) (sym (same_fault fault first a.0)))
+
+-- ---- declarations one after another
+
+-- an error of the first declarations is the first of all
+pub refused-here : (first more all : List BuildFault) (a b c d : Draft) (xs ys : Declarations) (error : LineError) → all ≡ first ++ more → DeclaresUnless first a xs (Err error) b
+    → DeclaresUnless all c ys (Err error) d
+refused-here first more all a b c d xs ys error is h = subst (λ (faults : List BuildFault). DeclaresUnless faults c ys (Err error) d) (sym is) (by first error h)
+  where
+    by : (faults : List BuildFault) (e : LineError) → DeclaresUnless faults a xs (Err e) b → DeclaresUnless (faults ++ more) c ys (Err e) d
+    by [] (Fault kind) k = cc
+    by (fault ∷ faults) (Fault kind) k = k
+    by faults OutOfMemory k = tt
+
+pub declares-then : (earlier between later : Draft) (xs ys : Declarations) (answer : LineResult) → refusals_in_turn earlier xs ≡ [] → between ≡ with_declarations earlier xs
+    → Declares between ys answer later → Declares earlier (xs ++ ys) answer later
+declares-then earlier between later xs ys answer none made declared =
+    subst (λ (faults : List BuildFault). DeclaresUnless faults earlier (xs ++ ys) answer later)
+    (sym (refusals_in_turn-append xs ys earlier ∙ (λ i. none i ++ refusals_in_turn (made_all i) ys)))
+    (by answer (subst (λ (d : Draft). Declares d ys answer later) made declared))
+  where
+    made_all : with_declarations earlier xs ≡ with_declarations earlier xs
+    made_all = refl
+
+    by : (a : LineResult) → DeclaresUnless (refusals_in_turn (with_declarations earlier xs) ys) (with_declarations earlier xs) ys a later
+        → DeclaresUnless (refusals_in_turn (with_declarations earlier xs) ys) earlier (xs ++ ys) a later
+    by (Ok u) h = (h.0, h.1 ∙ sym (with_declarations-append xs ys earlier))
+    by (Err (Fault kind)) h = h
+    by (Err OutOfMemory) h = tt
+
+-- ---- the number of rows
+
+pub rows-kept : (faults : List BuildFault) (answer : Answer) (earlier made later : Draft) → made.rows ≡ earlier.rows → Answers faults answer (later ≡ made) (later ≡ earlier) → later.rows ≡ earlier.rows
+rows-kept (fault ∷ faults) answer earlier made later h a = ap (λ (d : Draft). d.rows) a.1
+rows-kept [] (Ok u) earlier made later h a = ap (λ (d : Draft). d.rows) a ∙ h
+rows-kept [] (Err fault) earlier made later h a = ap (λ (d : Draft). d.rows) a.1
+
+-- a call that is rejected
+pub refused-rows : (faults : List BuildFault) (fault : BuildFault) (earlier later : Draft) (P : Type 0) → Answers faults (Err fault) P (later ≡ earlier) → later.rows ≡ earlier.rows
+refused-rows (first ∷ faults) fault earlier later P a = ap (λ (d : Draft). d.rows) a.1
+refused-rows [] fault earlier later P a = ap (λ (d : Draft). d.rows) a.1
+
+-- a call that is accepted
+pub declared-by : (faults : List BuildFault) (earlier later made : Draft) → Answers faults (Ok tt) (later ≡ made) (later ≡ earlier) → (faults ≡ []) × (later ≡ made)
+declared-by [] earlier later made a = (refl, a)
+declared-by (fault ∷ faults) earlier later made a = no-error a.0
+  where
+    no-error : ◌≡◌ {A = Answer} (Ok tt) (Err fault) → (fault ∷ faults ≡ []) × (later ≡ made)
+    no-error e = cc
+
+pub bounds-rows : (earlier : Draft) (column : List ℕ) (lower upper : Option Limit) → (with_declarations earlier (bounds_declared column lower upper)).rows ≡ earlier.rows
+bounds-rows earlier column None None = refl
+bounds-rows earlier column None (Some u) = refl
+bounds-rows earlier column (Some l) None = refl
+bounds-rows earlier column (Some l) (Some u) = refl
+
+new_name : (earlier : Draft) (name : List ℕ) (form : RowDefinition) → refusals earlier (declare_row name form) ≡ [] → is_some (find bytes_cmp name earlier.rows) ≡ false
+new_name earlier name form h = by (is_objective earlier name) (has_name earlier.rows name) (have_infinite_side form) h
+  where
+    by : (a b d : Bool) → those_of ((a || b, builds.DuplicateRow) ∷ (d, builds.InfiniteValue) ∷ []) ≡ [] → b ≡ false
+    by true b d e = cc
+    by false true d e = cc
+    by false false d e = refl
+
+-- a row with a new name adds one
+pub row-added : (earlier later : Draft) (name : List ℕ) (form : RowDefinition) → IsMade earlier → refusals earlier (declare_row name form) ≡ [] → later ≡ with_declaration earlier (declare_row name form)
+    → length later.rows ≡ length earlier.rows + 1
+row-added earlier later name form made none added =
+    ap (λ (d : Draft). length d.rows) added
+    ∙ length-put bytes_cmp nat_list_cmp_total name form earlier.rows (sorted-from_made earlier made).rows
+    ∙ ap (λ (b : Bool). cond b (length earlier.rows) (length earlier.rows + 1)) (new_name earlier name form none)
+
+-- ---- a coefficient that is declared before it is known whether its column exists
+
+no-error : {fault : BuildFault} → ◌≡◌ {A = Answer} (Ok tt) (Err fault) → ⊥
+no-error e = cc
+
+abbrev term_faults : Bool → Bool → Bool → List BuildFault
+term_faults row column entry = those_of ((not row, builds.UnknownRow) ∷ (not column, builds.UnknownColumn) ∷ (entry, builds.DuplicateEntry) ∷ [])
+
+in-turn : (earlier : Draft) (row column : List ℕ) (value : Number)
+    → refusals_in_turn earlier (term_declared row (column, value)) ≡ term_faults (has_row earlier row) true (has_coefficient earlier (record { row = row; column = column }))
+in-turn earlier row column value =
+    by (has_row earlier row) (has_column (with_declaration earlier (declare_column column)) column) (has_coefficient earlier (record { row = row; column = column })) there
+  where
+    there : has_column (with_declaration earlier (declare_column column)) column ≡ true
+    there = ap (λ (o : Option (Unit {0})). is_some o) (at-put column column tt earlier.columns ∙ ap (λ (b : Bool). cond b (Some tt) (at_name earlier.columns column)) (itself_named column))
+
+    by : (h k e : Bool) → k ≡ true → term_faults h k e ++ [] ≡ term_faults h true e
+    by h false e absent = cc
+    by false true false is = refl
+    by false true true is = refl
+    by true true false is = refl
+    by true true true is = refl
+
+-- a call that is rejected changes nothing
+pub refused-same : (faults : List BuildFault) (fault : BuildFault) (P Q : Type 0) → Answers faults (Err fault) P Q → Q
+refused-same [] fault P Q a = a.1
+refused-same (first ∷ faults) fault P Q a = a.1
+
+-- its column exists
+pub term-made : (earlier later : Draft) (row column : List ℕ) (value : Number) → IsMade earlier
+    → Answers (refusals earlier (declare_coefficient (record { row = row; column = column }) value)) (Ok tt) (later ≡ with_declaration earlier (declare_coefficient (record { row = row; column = column }) value)) (later ≡ earlier)
+    → Declares earlier (term_declared row (column, value)) (Ok tt) later
+term-made earlier later row column value made answer =
+    subst (λ (faults : List BuildFault). DeclaresUnless faults earlier (term_declared row (column, value)) (Ok tt) later) (sym (in-turn earlier row column value))
+    (by (has_row earlier row) (has_column earlier column) (has_coefficient earlier (record { row = row; column = column })) again answer)
+  where
+    put : Draft → Draft
+    put all = with_declaration all (declare_coefficient (record { row = row; column = column }) value)
+
+    again : has_column earlier column ≡ true → earlier ≡ with_declaration earlier (declare_column column)
+    again there = ap (λ (columns : List (List ℕ × Unit {0})). record earlier { columns = columns }) (put_again column earlier.columns (sorted-from_made earlier made).columns there)
+
+    by : (h k e : Bool) → (k ≡ true → earlier ≡ with_declaration earlier (declare_column column)) → Answers (term_faults h k e) (Ok tt) (later ≡ put earlier) (later ≡ earlier)
+        → (term_faults h true e ≡ []) × (later ≡ put (with_declaration earlier (declare_column column)))
+    by true true false same a = (refl, a ∙ ap put (same refl))
+    by true true true same a = absurd (no-error a.0)
+    by true false e same a = absurd (no-error a.0)
+    by false k e same a = absurd (no-error a.0)
+
+-- it is rejected, but not because its column is missing
+pub term-refused : (earlier later : Draft) (row column : List ℕ) (value : Number) (fault : BuildFault) → (fault ≡ builds.UnknownColumn → ⊥)
+    → Answers (refusals earlier (declare_coefficient (record { row = row; column = column }) value)) (Err fault) (later ≡ with_declaration earlier (declare_coefficient (record { row = row; column = column }) value)) (later ≡ earlier)
+    → Declares earlier (term_declared row (column, value)) (Err (error_of_build fault)) later
+term-refused earlier later row column value fault other answer =
+    subst (λ (faults : List BuildFault). DeclaresUnless faults earlier (term_declared row (column, value)) (Err (error_of_build fault)) later) (sym (in-turn earlier row column value))
+    (by (has_row earlier row) (has_column earlier column) (has_coefficient earlier (record { row = row; column = column })) answer)
+  where
+    all : Declarations
+    all = term_declared row (column, value)
+
+    by : (h k e : Bool) → Answers (term_faults h k e) (Err fault) (later ≡ with_declaration earlier (declare_coefficient (record { row = row; column = column }) value)) (later ≡ earlier)
+        → DeclaresUnless (term_faults h true e) earlier all (Err (error_of_build fault)) later
+    by false k e a = error_told earlier later all (term_faults false true e) fault (ap (λ (f : BuildFault). Some f) (sym (same_fault fault builds.UnknownRow a.0)))
+    by true false e a = absurd (other (same_fault fault builds.UnknownColumn a.0))
+    by true true true a = error_told earlier later all (term_faults true true true) fault (ap (λ (f : BuildFault). Some f) (sym (same_fault fault builds.DuplicateEntry a.0)))
+    by true true false a = subst (λ (f : BuildFault). DeclaresUnless [] earlier all (Err (error_of_build f)) later) (sym a.0) tt

@@ -1,0 +1,63 @@
+-- The effect of tokens that have no case of their own.
+use Rattle.std.proofs.Common.{◌≡◌, refl, ℕ, List, Bool, true, false}
+use Rattle.std.specs.Prelude.{None}
+use Rattle.mpslp_decimal.specs.Decimal.{Number as Decimal}
+use Rattle.mpslp_types.specs.declared.kinds.Sense.{Sense}
+use Rattle.mpslp_lp_grammar.specs.TerminalToken.{terminal_with_text}
+use Rattle.mpslp_lp_grammar.specs.Sides.{apply_sign}
+use Rattle.mpslp_lp_grammar.specs.Objective.{objective_declared, first_item_declared, default_objective}
+use Rattle.mpslp_lp_grammar.specs.Rows.{without_terms}
+use Rattle.mpslp_lp_grammar.specs.declared.context.Context.{Context}
+use Rattle.mpslp_lp_tokens.specs.declared.words.SectionWord.{SectionWord}
+use Rattle.mpslp_lp_grammar.specs.declared.terminals.TerminalKind.{TerminalKind}
+use Rattle.mpslp_lp_grammar.specs.declared.terminals.TerminalKind.TheVariants.{Opens, Name, Number, Sign, Colon, Infinity}
+use Rattle.mpslp_lp_grammar.specs.declared.states.ItemOwner.{ItemOwner}
+use Rattle.mpslp_lp_grammar.specs.declared.states.ItemOwner.TheVariants.{OfRow}
+use Rattle.mpslp_lp_grammar.specs.declared.states.Place.{Place}
+use Rattle.mpslp_lp_grammar.specs.declared.states.Place.TheVariants.{BeforeItems, InObjective, InSemis}
+use Rattle.mpslp_lp_grammar.specs.declared.states.SideOwner.{SideOwner}
+use Rattle.mpslp_lp_grammar.specs.declared.states.State.TheVariants.{AtObjective, ObjectiveName, AtSemi, ItemNumber, RowSign, AtSide}
+use Rattle.mpslp_lp_grammar.specs.AfterToken.{take_after_signs, take_side, take_limit}
+use Rattle.mpslp_lp_grammar.specs.FirstToken.{begin_phrase, begin}
+use Rattle.mpslp_lp_grammar.specs.TokenStep.{begin_after, take_lone, take}
+
+-- ---- the first token of a phrase
+
+pub begun-other : (place : Place) (context : Context) (kind : TerminalKind) (text : List ℕ) → ((word : SectionWord) → kind ≡ Opens word → ⊥)
+    → begin place context (terminal_with_text kind text) ≡ begin_phrase place context (terminal_with_text kind text)
+begun-other place context (Opens word) text h = absurd (h word refl)
+begun-other place context _ text h = refl
+
+-- ---- later ones
+
+pub objective-other : (context : Context) (goal : Sense) (kind : TerminalKind) (text : List ℕ) → (kind ≡ Name → ⊥)
+    → take context (AtObjective goal) (terminal_with_text kind text) ≡ begin_after context (objective_declared goal default_objective) (BeforeItems default_objective) (terminal_with_text kind text)
+objective-other context goal Name text h = absurd (h refl)
+objective-other context goal _ text h = refl
+
+pub objective_name-other : (context : Context) (goal : Sense) (name : List ℕ) (kind : TerminalKind) (text : List ℕ) → (kind ≡ Colon → ⊥)
+    → take context (ObjectiveName goal name) (terminal_with_text kind text) ≡ begin_after context (first_item_declared goal name) (InObjective default_objective) (terminal_with_text kind text)
+objective_name-other context goal name Colon text h = absurd (h refl)
+objective_name-other context goal name _ text h = refl
+
+pub semi-other : (context : Context) (kind : TerminalKind) (text : List ℕ) → (kind ≡ Sign true → ⊥) → take context AtSemi (terminal_with_text kind text) ≡ begin InSemis context (terminal_with_text kind text)
+semi-other context (Sign true) text h = absurd (h refl)
+semi-other context (Sign false) text h = refl
+semi-other context _ text h = refl
+
+pub item-other : (context : Context) (owner : ItemOwner) (minus : Bool) (value : Decimal) (kind : TerminalKind) (text : List ℕ) → (kind ≡ Name → ⊥)
+    → take context (ItemNumber owner minus value) (terminal_with_text kind text) ≡ take_lone context owner (apply_sign minus value) (terminal_with_text kind text)
+item-other context owner minus value Name text h = absurd (h refl)
+item-other context owner minus value _ text h = refl
+
+pub row_sign-other : (context : Context) (name : List ℕ) (minus : Bool) (kind : TerminalKind) (text : List ℕ) → (kind ≡ Infinity → ⊥) → ((value : Decimal) → kind ≡ Number value → ⊥)
+    → take context (RowSign name minus) (terminal_with_text kind text) ≡ take_after_signs context (OfRow (without_terms name None)) minus (terminal_with_text kind text)
+row_sign-other context name minus Infinity text h k = absurd (h refl)
+row_sign-other context name minus (Number value) text h k = absurd (k value refl)
+row_sign-other context name minus _ text h k = refl
+
+pub side-other : (context : Context) (sided : SideOwner) (kind : TerminalKind) (text : List ℕ) → ((minus : Bool) → kind ≡ Sign minus → ⊥)
+    → take context (AtSide sided) (terminal_with_text kind text)
+    ≡ take_limit (λ limit. take_side context sided limit (terminal_with_text kind text)) context false (terminal_with_text kind text)
+side-other context sided (Sign minus) text h = absurd (h minus refl)
+side-other context sided _ text h = refl

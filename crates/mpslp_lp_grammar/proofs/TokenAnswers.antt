@@ -1,0 +1,61 @@
+-- The effect of tokens that complete declarations, and of terms of a row.
+use Rattle.std.proofs.Common.{◌≡◌, refl, sym, ap, subst, ◌∙◌, ℕ, List, [], ◌∷◌, Bool, true, false, cond}
+use Rattle.std.specs.Prelude.{Option, Some, None, Ok, Err, is_some, ◌||◌, unwrap_or}
+use Rattle.std.specs.List.{list_any}
+use Rattle.std.specs.Map.{lookup}
+use Rattle.mpslp_decimal.specs.Decimal.{Number as Decimal, trailing_zeros}
+use Rattle.mpslp_decimal.specs.Literal.{number_of}
+use Rattle.mpslp_types.specs.Name.{same_bytes}
+use Rattle.mpslp_types.specs.declared.faults.BuildFault.{BuildFault}
+use Rattle.mpslp_types.specs.declared.faults.FaultKind.{FaultKind}
+use Rattle.mpslp_builder.specs.Declaration.{Declarations, Draft}
+use Rattle.mpslp_lines.specs.Declaring.{kind_of_build_fault}
+use Rattle.mpslp_lines.specs.LineAnswer.{LineResult}
+use Rattle.mpslp_lines.specs.declared.errors.LineError.TheVariants.{Fault, OutOfMemory}
+use Rattle.mpslp_lp_grammar.specs.Terminal.{Terminal}
+use Rattle.mpslp_lp_grammar.specs.Phrase.{terminal_fault}
+use Rattle.mpslp_lp_grammar.specs.Items.{one}
+use Rattle.mpslp_lp_grammar.specs.declared.context.Context.{Context}
+use Rattle.mpslp_lp_grammar.specs.declared.states.Place.{Place}
+use Rattle.mpslp_lp_grammar.specs.declared.states.State.TheVariants.{Between}
+use Rattle.mpslp_lp_grammar.specs.AfterToken.{Goes, Refuses, refuse, declare_unless_refused}
+use Rattle.mpslp_lp_grammar.specs.Declares.{DeclaresUnless, TokenResult, TakesToken, answer_at}
+
+-- ---- declarations
+
+told-kind : (context : Context) (terminal : Terminal) (refusal : BuildFault) (kind : FaultKind) → terminal_fault context terminal ≡ None
+    → ◌≡◌ {A = Option FaultKind} (Some (kind_of_build_fault refusal)) (Some kind) → refuse context terminal (kind_of_build_fault refusal) ≡ Refuses kind
+told-kind context terminal refusal kind none told =
+    let same : kind_of_build_fault refusal ≡ kind = cc in
+    ap (λ (o : Option FaultKind). Refuses (unwrap_or o (kind_of_build_fault refusal))) none ∙ ap (λ (k : FaultKind). Refuses k) same
+
+-- a token that completes declarations
+pub completes : (context : Context) (later : Draft) (terminal : Terminal) (refusals : List BuildFault) (place : Place) (made : Declarations) (answer : LineResult) (result : TokenResult)
+    → terminal_fault context terminal ≡ None → result ≡ answer_at place answer → DeclaresUnless refusals context.earlier made answer later
+    → TakesToken (declare_unless_refused context terminal refusals place made) result (record context { earlier = later })
+completes context later terminal refusals place made answer result none is declared =
+    subst (λ (r : TokenResult). TakesToken (declare_unless_refused context terminal refusals place made) r (record context { earlier = later })) (sym is) (by answer refusals declared)
+  where
+    by : (a : LineResult) (faults : List BuildFault) → DeclaresUnless faults context.earlier made a later
+        → TakesToken (declare_unless_refused context terminal faults place made) (answer_at place a) (record context { earlier = later })
+    by (Ok u) faults h =
+        ap (λ (fs : List BuildFault). declare_unless_refused context terminal fs place made) h.0
+        ∙ ap (λ (d : Draft). Goes (record context { earlier = d }) (Between place)) (sym h.1)
+    by (Err (Fault kind)) [] h = cc
+    by (Err (Fault kind)) (refusal ∷ more) h = told-kind context terminal refusal kind none h
+    by (Err OutOfMemory) faults h = tt
+
+-- ---- terms
+
+pub one-parsed : number_of (49 ∷ []) ≡ Ok one
+unfolding trailing_zeros
+one-parsed = refl
+
+pub looked-up : (name : List ℕ) (terms : List (List ℕ × Decimal)) → list_any (λ term. same_bytes name term.0) terms ≡ is_some (lookup (same_bytes name) terms)
+looked-up name [] = refl
+looked-up name (term ∷ terms) = by (same_bytes name term.0) (looked-up name terms)
+  where
+    by : (b : Bool) → list_any (λ t. same_bytes name t.0) terms ≡ is_some (lookup (same_bytes name) terms)
+        → (b || list_any (λ t. same_bytes name t.0) terms) ≡ is_some (cond b (Some term.1) (lookup (same_bytes name) terms))
+    by true h = refl
+    by false h = h

@@ -1,0 +1,18 @@
+use Rattle.std.proofs.Common.{sym, subst, List}
+use Rattle.mpslp_types.specs.declared.faults.BuildFault.{BuildFault}
+use Rattle.mpslp_builder.specs.Declaration.{Draft}
+use Rattle.mpslp_lines.specs.LineAnswer.{LineResult}
+use Rattle.mpslp_lp_grammar.specs.TerminalToken.{terminal_of_token}
+use Rattle.mpslp_lp_grammar.specs.AfterToken.{take_after_declarations, with_made}
+use Rattle.mpslp_lp_grammar.specs.FirstToken.{begin}
+use Rattle.mpslp_lp_grammar.specs.Declares.{DeclaresUnless, TakesToken}
+use Rattle.mpslp_lp_grammar.proofs.first_token.begin_after.Goals as goal
+
+pub returns-in-Ok : goal.returns-in-Ok
+returns-in-Ok c = λ earlier refusals made declared.
+    let context = c.args.context.now in
+    let terminal = terminal_of_token c.args.token.now in
+    let fine = subst (λ (answer : LineResult). DeclaresUnless refusals earlier made answer context.earlier) c.in-Ok.is declared in
+    subst (λ (faults : List BuildFault). TakesToken (take_after_declarations (record context { earlier = earlier }) terminal faults made (begin c.args.place (with_made (record context { earlier = earlier }) made) terminal)) c.begin.result c.begin.new.context)
+    (sym fine.0)
+    (subst (λ (draft : Draft). TakesToken (begin c.args.place (record context { earlier = draft }) terminal) c.begin.result c.begin.new.context) fine.1 c.begin.ensures)

@@ -1,0 +1,45 @@
+use Rattle.std.proofs.Common.{◌≡◌, sym, ap, subst, ◌∙◌, ℕ, List, [], ◌∷◌, ◌++◌}
+use Rattle.std.specs.List.{flat_map}
+use Rattle.mpslp_builder.specs.Declaration.{Declarations, by_limits, declare_row, with_declarations}
+use Rattle.mpslp_builder.specs.Refusal.{refusals_in_turn}
+use Rattle.mpslp_builder.proofs.MadeDrafts.{refusals_in_turn-append}
+use Rattle.mpslp_lp_grammar.specs.PartialRow.{PartialRow}
+use Rattle.mpslp_lp_grammar.specs.declared.states.PartialParts.{PartialParts}
+use Rattle.mpslp_lp_grammar.specs.Objective.{term_declared}
+use Rattle.mpslp_lp_grammar.specs.Declares.{Declares}
+use Rattle.mpslp_lp_grammar.proofs.DeclaresLemmas.{refused-here, told-by, declares-then}
+use Rattle.mpslp_lp_grammar.proofs.lp_builder.LpBuilder.declare_partial.Goals as goal
+
+pub returns-in_err-declare_row : goal.returns-in_err-declare_row
+returns-in_err-declare_row c =
+    let earlier = c.args.self.now in
+    let later = c.declare_row.new.self in
+    let form = by_limits c.args.lower c.args.upper in
+    let row = c.args.row.now in
+    let terms = flat_map (term_declared row.name) row.terms in
+    let named : c.in_ok-name.name ≡ row.name = c.in_ok-name.ensures ∙ c.as_bytes.ensures ∙ ap (λ (p : PartialParts). p.name) c.deref-parts.ensures ∙ ap (λ (r : PartialRow). r.name) c.row.view_is in
+    let all = declare_row row.name form ∷ terms in
+    let first = refusals_in_turn earlier (declare_row c.in_ok-name.name form ∷ []) in
+    let behind = refusals_in_turn (with_declarations earlier (declare_row c.in_ok-name.name form ∷ [])) terms in
+    let split : refusals_in_turn earlier all ≡ first ++ behind =
+    ap (λ (name : List ℕ). refusals_in_turn earlier (declare_row name form ∷ terms)) (sym named) ∙ refusals_in_turn-append (declare_row c.in_ok-name.name form ∷ []) terms earlier in
+    told-by (refusals_in_turn earlier all) earlier later all c.from_residual-in_err-declare_row.result c.in_err-declare_row.field-0.0 c.from_residual-in_err-declare_row.ensures.1
+    (refused-here first behind (refusals_in_turn earlier all) earlier later earlier later (declare_row c.in_ok-name.name form ∷ []) all c.in_err-declare_row.field-0.0 split c.in_err-declare_row.ensures)
+
+pub returns : goal.returns
+returns c =
+    let earlier = c.args.self.now in
+    let between = c.declare_row.new.self in
+    let later = c.declare_terms.new.self in
+    let form = by_limits c.args.lower c.args.upper in
+    let row = c.args.row.now in
+    let terms = flat_map (term_declared row.name) row.terms in
+    let named : c.in_ok-name.name ≡ row.name = c.in_ok-name.ensures ∙ c.as_bytes.ensures ∙ ap (λ (p : PartialParts). p.name) c.deref-parts.ensures ∙ ap (λ (r : PartialRow). r.name) c.row.view_is in
+    let parts = c.deref-parts.result.now in
+    let same : flat_map (term_declared c.as_bytes-2.result.now) parts.terms.entries ≡ terms =
+    ap (λ (name : List ℕ). flat_map (term_declared name) parts.terms.entries) c.as_bytes-2.ensures
+    ∙ ap (λ (p : PartialParts). flat_map (term_declared p.name) p.terms.entries) c.deref-parts.ensures
+    ∙ ap (λ (r : PartialRow). flat_map (term_declared r.name) r.terms) c.row.view_is in
+    subst (λ (name : List ℕ). Declares earlier (declare_row name form ∷ terms) c.declare_terms.result later) named
+    (declares-then earlier between later (declare_row c.in_ok-name.name form ∷ []) terms c.declare_terms.result c.in_ok-declare_row.ensures.0 c.in_ok-declare_row.ensures.1
+    (subst (λ (ds : Declarations). Declares between ds c.declare_terms.result later) same c.declare_terms.ensures))

@@ -1,0 +1,13 @@
+use Rattle.std.proofs.Common.{rules, ◌≡◌, ◌<◌, ◌^◌, subst, sym}
+use Rattle.mpslp_types.specs.Name.{IsMpsName}
+use Rattle.mpslp_types.proofs.NameLemmas.{mps_name-from_lp}
+use Rattle.mpslp_lp_grammar.specs.Rows.{numbered_row}
+use Rattle.mpslp_lp_grammar.proofs.NumberedNames.{numbered-name}
+use Rattle.mpslp_lp_grammar.proofs.lp_builder.numbered_row.Goals as goal
+
+pub from_legal-requires : goal.from_legal-requires
+from_legal-requires c =
+    let position = c.args.position in
+    let fits : position < 2 ^ 64 = c.ranges.position.fits in
+    let text : c.extend_from_slice.new.self.items ≡ numbered_row position = search rules in
+    subst IsMpsName (sym text) (mps_name-from_lp (numbered_row position) (numbered-name position fits))

@@ -1,0 +1,21 @@
+use Rattle.std.proofs.Common.{sym, subst, ℕ, List}
+use Rattle.mpslp_builder.specs.Refusal.{refusals_in_turn}
+use Rattle.mpslp_lp_grammar.specs.Objective.{first_item_declared}
+use Rattle.mpslp_lp_grammar.specs.TerminalToken.{terminal_of_token}
+use Rattle.mpslp_lp_grammar.specs.AfterToken.{AfterToken}
+use Rattle.mpslp_lp_grammar.specs.TokenStep.{begin_after}
+use Rattle.mpslp_lp_grammar.specs.Declares.{Declares, TakesToken}
+use Rattle.mpslp_lp_grammar.specs.declared.states.Place.TheVariants.{InObjective}
+use Rattle.mpslp_lp_grammar.proofs.OtherTokens.{objective_name-other}
+use Rattle.mpslp_lp_grammar.proofs.token_step.take_after_objective_name.Goals as goal
+
+pub returns-in_ok-objective-in_default : goal.returns-in_ok-objective-in_default
+returns-in_ok-objective-in_default c =
+    let context = c.args.context.now in
+    let token = c.args.token.now in
+    let made = first_item_declared c.args.sense c.args.name in
+    let declared = subst (λ (name : List ℕ). Declares context.earlier (first_item_declared c.args.sense name) c.declare_first_item-answer.result c.declare_first_item-answer.new.self)
+    c.as_bytes.ensures c.declare_first_item-answer.ensures in
+    subst (λ (taken : AfterToken). TakesToken taken c.begin_after.result c.begin_after.new.context) (sym (objective_name-other context c.args.sense c.args.name token.kind token.text.now c.in_default.not-Colon))
+    (subst (λ (name : List ℕ). TakesToken (begin_after context made (InObjective name) (terminal_of_token token)) c.begin_after.result c.begin_after.new.context) c.in_ok-objective-in_default.ensures
+    (c.begin_after.ensures context.earlier (refusals_in_turn context.earlier made) made declared))

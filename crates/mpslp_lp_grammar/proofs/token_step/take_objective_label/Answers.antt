@@ -1,0 +1,17 @@
+use Rattle.std.proofs.Common.{◌≡◌, refl, subst, ◌∙◌, ℕ, List}
+use Rattle.mpslp_builder.specs.Refusal.{refusals_in_turn}
+use Rattle.mpslp_lp_grammar.specs.Terminal.{Terminal}
+use Rattle.mpslp_lp_grammar.specs.Objective.{objective_declared}
+use Rattle.mpslp_lp_grammar.specs.Declares.{Declares}
+use Rattle.mpslp_lp_grammar.specs.declared.states.Place.TheVariants.{BeforeItems}
+use Rattle.mpslp_lp_grammar.proofs.TokenAnswers.{completes}
+use Rattle.mpslp_lp_grammar.proofs.token_step.take_objective_label.Goals as goal
+
+pub returns : goal.returns
+returns c =
+    let context = c.args.context.now in
+    let later = c.declare_objective.new.self in
+    let made = objective_declared c.args.sense c.args.name in
+    let named : c.in_ok-copy.copy ≡ c.args.name = c.in_ok-copy.ensures ∙ c.as_bytes.ensures in
+    completes context later Terminal.Colon (refusals_in_turn context.earlier made) (BeforeItems c.args.name) made c.declare_objective.result c.at_place.result refl c.at_place.ensures
+    (subst (λ (name : List ℕ). Declares context.earlier (objective_declared c.args.sense name) c.declare_objective.result later) named c.declare_objective.ensures)

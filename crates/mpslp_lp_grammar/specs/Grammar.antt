@@ -1,0 +1,132 @@
+-- The grammar of LP text: which phrase begins with a token at a place, and the outcome of a whole text.
+use Rattle.std.specs.Prelude.{ℕ, Bool, true, false, ◌==◌, if◌then◌else◌, List, [], ◌∷◌, map, codes, Some, None}
+use Rattle.mpslp_types.specs.Name.{same_bytes, lower_byte}
+use Rattle.mpslp_builder.specs.Declaration.{Declaration, declare_column, declare_integer, declare_binary, declare_semi, Declarations, Draft}
+use Rattle.mpslp_types.specs.declared.kinds.Sense.TheVariants as senses
+use Rattle.mpslp_types.specs.declared.faults.Fault.{Fault}
+use Rattle.mpslp_types.specs.declared.faults.FaultKind.TheVariants.{BadToken}
+use Rattle.mpslp_lp_grammar.specs.Rules.{◌>>=◌, next, ahead, Outcome, phrases, made_by}
+use Rattle.mpslp_lp_grammar.specs.Rules.Parsed.{Reads}
+use Rattle.mpslp_lp_grammar.specs.Rules.AfterPhrase.{Ends}
+use Rattle.mpslp_lp_tokens.specs.Words.{section_of}
+use Rattle.mpslp_lp_grammar.specs.Terminal.{TerminalAt}
+use Rattle.mpslp_lp_grammar.specs.Terminal.Terminal.{Opens, Name, Sign, Compares}
+use Rattle.mpslp_lp_grammar.specs.Point.{section_fault, with_section, Point, start}
+use Rattle.mpslp_lp_grammar.specs.declared.context.Context.{Context}
+use Rattle.mpslp_lp_grammar.specs.declared.states.Place.{Place}
+use Rattle.mpslp_lp_grammar.specs.Phrase.{PhraseRule, Follows, fails, refuses, goes_to, declares}
+use Rattle.mpslp_lp_grammar.specs.declared.states.Place.TheVariants.{AtStart, BeforeItems, InObjective, BetweenRows, InRow, InBounds, InGenerals, InBinaries, InSemis}
+use Rattle.mpslp_lp_grammar.specs.declared.states.LastWord.{LastWord}
+use Rattle.mpslp_lp_grammar.specs.declared.states.LastWord.TheVariants.{To, That, Continuous}
+use Rattle.mpslp_lp_grammar.specs.Items.{signed_item, item_from}
+use Rattle.mpslp_lp_grammar.specs.Objective.{objective, objective_item}
+use Rattle.mpslp_lp_grammar.specs.Rows.{row, row_item, row_end}
+use Rattle.mpslp_lp_grammar.specs.Bounds.{bound, second_side}
+use Rattle.mpslp_lp_tokens.specs.declared.words.SectionWord.{SectionWord}
+use Rattle.mpslp_lp_tokens.specs.declared.words.SectionWord.TheVariants.{Minimize, Maximize, Rows, Subject, Such, Bounds, Generals, Binaries, Semi, Semis, End}
+
+-- ---- sections
+
+-- `end` must be the last token of its line
+abbrev pub line_end : Context → ℕ → PhraseRule Follows
+line_end context line [] = Reads (Ends context.earlier) 0
+line_end context line (token ∷ tokens) = if token.line == line then refuses context token BadToken tokens else Reads (Ends context.earlier) 0
+
+-- the last word of a section heading of several words, and the place where it leads
+abbrev pub last_word_text : LastWord → List ℕ
+last_word_text To = codes "to"
+last_word_text That = codes "that"
+last_word_text Continuous = codes "continuous"
+
+abbrev pub opened_by : LastWord → Place
+opened_by To = BetweenRows
+opened_by That = BetweenRows
+opened_by Continuous = InSemis
+
+-- ignoring case
+abbrev pub is_last_word : LastWord → List ℕ → Bool
+is_last_word wanted word = same_bytes (map lower_byte word) (last_word_text wanted)
+
+abbrev pub last_word : Context → LastWord → TerminalAt → PhraseRule Follows
+last_word context wanted token = elim token.terminal [
+  | Name word ↦ if is_last_word wanted word then goes_to context (opened_by wanted) [] else refuses context token BadToken
+  | _ ↦ refuses context token BadToken
+]
+
+-- after `semi`: optionally `- continuous`
+abbrev pub semi_from : Context → TerminalAt → PhraseRule Follows
+semi_from context token = elim token.terminal [
+  | Sign minus ↦ if minus then (next >>= λ dash. next >>= last_word context Continuous) else goes_to context InSemis []
+  | _ ↦ goes_to context InSemis []
+]
+
+abbrev pub section_start : Context → TerminalAt → SectionWord → PhraseRule Follows
+section_start context token Minimize = objective context senses.Minimize
+section_start context token Maximize = objective context senses.Maximize
+section_start context token Rows = goes_to context BetweenRows []
+section_start context token Subject = next >>= last_word context To
+section_start context token Such = next >>= last_word context That
+section_start context token Bounds = goes_to context (InBounds None) []
+section_start context token Generals = goes_to context InGenerals []
+section_start context token Binaries = goes_to context InBinaries []
+section_start context token Semi = ahead >>= semi_from context
+section_start context token Semis = goes_to context InSemis []
+section_start context token End = line_end context token.line
+
+-- a section word, if a section may begin here
+abbrev pub section_from : Context → TerminalAt → SectionWord → PhraseRule Follows
+section_from context token word = elim (section_fault context.sections_seen (section_of word)) [
+  | Some kind ↦ fails token kind
+  | None ↦ section_start (record context { sections_seen = with_section context.sections_seen (section_of word) }) token word
+]
+
+-- a section begins anywhere but inside a row
+abbrev pub may_begin_section : Place → Bool
+may_begin_section (InRow _) = false
+may_begin_section _ = true
+
+-- ---- names in Generals, Binaries and semi-continuous columns
+
+abbrev pub name_in_section : Place → (List ℕ → Declaration) → Context → TerminalAt → PhraseRule Follows
+name_in_section place kind_declared context token = elim token.terminal [
+  | Name column ↦ declares context token place (declare_column column ∷ kind_declared column ∷ [])
+  | _ ↦ refuses context token BadToken
+]
+
+-- ---- the text
+
+-- the phrase that begins with a token that opens no section; at the start only a section may begin
+abbrev pub phrase : Place → Context → TerminalAt → PhraseRule Follows
+phrase AtStart context token = refuses context token BadToken
+phrase (BeforeItems name) context token = item_from context token >>= objective_item context name
+phrase (InObjective name) context token = elim token.terminal [
+  | Sign minus ↦ signed_item context minus >>= objective_item context name
+  | _ ↦ refuses context token BadToken
+]
+phrase BetweenRows context token = row context token
+phrase (InRow partial) context token = elim token.terminal [
+  | Sign minus ↦ signed_item context minus >>= row_item context partial
+  | Compares relation ↦ row_end context partial relation token
+  | _ ↦ refuses context token BadToken
+]
+phrase (InBounds left) context token = elim token.terminal [
+  | Compares relation ↦ second_side context left relation token
+  | _ ↦ bound context token
+]
+phrase InGenerals context token = name_in_section InGenerals declare_integer context token
+phrase InBinaries context token = name_in_section InBinaries declare_binary context token
+phrase InSemis context token = name_in_section InSemis declare_semi context token
+
+abbrev pub phrase_at : Point → TerminalAt → PhraseRule Follows
+phrase_at point token = elim token.terminal [
+  | Opens word ↦ if may_begin_section point.place then section_from point.context token word else refuses point.context token BadToken
+  | _ ↦ phrase point.place point.context token
+]
+
+-- the outcome of the tokens of a text: `end`, the first token that causes an error, or neither
+abbrev pub text_says : List TerminalAt → Outcome Fault Draft
+text_says tokens = phrases phrase_at start 0 tokens
+
+-- what they declare
+abbrev pub text_declares : List TerminalAt → Declarations
+text_declares tokens = made_by phrase_at start 0 tokens

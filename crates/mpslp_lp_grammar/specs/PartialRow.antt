@@ -1,0 +1,11 @@
+-- An incomplete row.
+use Rattle.std.specs.Prelude.{ℕ, List, Option}
+use Rattle.mpslp_decimal.specs.Decimal.{Number}
+use Rattle.mpslp_types.specs.declared.kinds.Limit.{Limit}
+use Rattle.mpslp_lp_grammar.specs.declared.relations.Relation.{Relation}
+
+pub record PartialRow : Type 0 where
+  pub name : List ℕ
+  -- the left-hand side and the relation after it, if the row has them
+  pub left : Option (Limit × Relation)
+  pub terms : List (List ℕ × Number)

@@ -1,0 +1,123 @@
+-- Rows: optionally `name :`, optionally a side and a relation, terms, a relation and a side.
+use Rattle.std.specs.Prelude.{ℕ, ◌+◌, ◌-◌, ◌^◌, min, Bool, true, false, if◌then◌else◌, List, [], ◌∷◌, ◌++◌, length, codes, Option, Some, None, unwrap_or}
+use Rattle.std.specs.List.{list_any, flat_map}
+use Rattle.std.specs.Fmt.{decimal}
+use Rattle.mpslp_types.specs.Name.{same_bytes}
+use Rattle.mpslp_types.specs.Limit.{limit_of}
+use Rattle.mpslp_builder.specs.Declaration.{by_limits, declare_row, Declarations}
+use Rattle.mpslp_types.specs.declared.kinds.Limit.{Limit}
+use Rattle.mpslp_types.specs.declared.kinds.Limit.TheVariants.{MinusInf, PlusInf}
+use Rattle.mpslp_types.specs.declared.faults.FaultKind.TheVariants.{BadToken, DuplicateEntry, ConstantInRow, MixedSenses}
+use Rattle.mpslp_lp_grammar.specs.Rules.{◌>>=◌, next, ahead}
+use Rattle.mpslp_lp_grammar.specs.Terminal.{TerminalAt}
+use Rattle.mpslp_lp_grammar.specs.Terminal.Terminal.{Name, Number, Sign, Compares, Infinity}
+use Rattle.mpslp_lp_grammar.specs.declared.context.Context.{Context}
+use Rattle.mpslp_lp_grammar.specs.PartialRow.{PartialRow}
+use Rattle.mpslp_lp_grammar.specs.Phrase.{PhraseRule, Follows, refuses, goes_to, declares}
+use Rattle.mpslp_lp_grammar.specs.declared.states.Place.TheVariants.{BetweenRows, InRow}
+use Rattle.mpslp_lp_grammar.specs.Sides.{Side, Limits, limits_by, fits_second, infinity, side, next_relation}
+use Rattle.mpslp_lp_grammar.specs.Items.{Item, one, number_item, signed_item, item_from, colon}
+use Rattle.mpslp_lp_grammar.specs.Items.Item.{Term, Lone}
+use Rattle.mpslp_lp_grammar.specs.Objective.{term_declared}
+use Rattle.mpslp_lp_grammar.specs.declared.relations.Relation.{Relation}
+use Rattle.mpslp_lp_grammar.specs.declared.relations.Relation.TheVariants.{AtMost}
+
+-- a row without a label is named `c` and its position among all rows, from 1 to at most 2^64 - 1
+abbrev pub numbered_row : (position : ℕ) → List ℕ
+numbered_row position = codes "c" ++ decimal position
+
+abbrev pub default_row : Context → List ℕ
+default_row context = numbered_row (min (length context.earlier.rows + 1) (2 ^ 64 - 1))
+
+-- ---- terms
+
+abbrev pub without_terms : List ℕ → Option (Limit × Relation) → PartialRow
+without_terms name left = record { name = name; left = left; terms = [] }
+
+-- the column of a term must be new in its row, and a row has no constant
+abbrev pub row_item : Context → PartialRow → Item → PhraseRule Follows
+row_item context row (Term value column token) =
+    if list_any (λ term. same_bytes column term.0) row.terms then refuses context token DuplicateEntry
+    else goes_to context (InRow (record row { terms = row.terms ++ (column, value) ∷ [] })) []
+row_item context row (Lone value token) = elim token.terminal [
+  | Sign minus ↦ refuses context token ConstantInRow
+  | Compares relation ↦ refuses context token ConstantInRow
+  | _ ↦ refuses context token BadToken
+]
+
+-- ---- the beginning of a row, up to its first term
+
+-- the first term, from this token on
+abbrev pub row_first : Context → PartialRow → TerminalAt → PhraseRule Follows
+row_first context row token = item_from context token >>= row_item context row
+
+-- after the left-hand side
+abbrev pub row_after_left : Context → List ℕ → Limit → PhraseRule Follows
+row_after_left context name limit = next_relation context >>= λ relation. next >>= row_first context (without_terms name (Some (limit, relation)))
+
+-- after the first number of a row, with at most one sign before it: it is the left-hand side if a relation follows
+abbrev pub row_number : Context → List ℕ → Item → PhraseRule Follows
+row_number context name (Term value column token) = row_item context (without_terms name None) (Term value column token)
+row_number context name (Lone value token) = elim token.terminal [
+  | Compares relation ↦ row_after_left context name (limit_of value)
+  | _ ↦ row_item context (without_terms name None) (Lone value token)
+]
+
+-- after the first sign of a row; the token after it is this one, which is not taken
+abbrev pub row_signed : Context → List ℕ → (minus : Bool) → TerminalAt → PhraseRule Follows
+row_signed context name minus second = elim second.terminal [
+  | Infinity ↦ next >>= λ word. row_after_left context name (infinity minus)
+  | Number value ↦ next >>= λ number. number_item minus value >>= row_number context name
+  | _ ↦ signed_item context minus >>= row_item context (without_terms name None)
+]
+
+-- after the label, from this token on: a left-hand side, or the first term
+abbrev pub row_from : Context → List ℕ → TerminalAt → PhraseRule Follows
+row_from context name token = elim token.terminal [
+  | Infinity ↦ row_after_left context name PlusInf
+  | Number value ↦ number_item false value >>= row_number context name
+  | Name column ↦ row_item context (without_terms name None) (Term one column token)
+  | Sign minus ↦ ahead >>= row_signed context name minus
+  | _ ↦ refuses context token BadToken
+]
+
+-- a name without a colon after it is the first term
+abbrev pub row_named : Context → List ℕ → (labelled : Bool) → PhraseRule Follows
+row_named context name labelled =
+    if labelled then next >>= row_from context name
+    else goes_to context (InRow (record { name = default_row context; left = None; terms = (name, one) ∷ [] })) []
+
+abbrev pub row : Context → TerminalAt → PhraseRule Follows
+row context token = elim token.terminal [
+  | Name name ↦ colon >>= row_named context name
+  | _ ↦ row_from context (default_row context) token
+]
+
+-- ---- its end
+
+-- the relation of the left-hand side, if there is one, agrees with the second
+abbrev pub fits_left : Option (Limit × Relation) → Relation → Bool
+fits_left None relation = true
+fits_left (Some left) relation = fits_second left.1 relation
+
+-- `terms < v` declares only an upper limit; `l < terms < u` and `u > terms > l` declare the limits l and u
+abbrev pub row_limits : Option (Limit × Relation) → Relation → Limit → Limits
+row_limits None relation right = limits_by relation right
+row_limits (Some left) AtMost right = record { lower = Some left.0; upper = Some right }
+row_limits (Some left) _ right = record { lower = Some right; upper = Some left.0 }
+
+-- a limit that is not declared is infinite
+abbrev pub row_declared : PartialRow → Limits → Declarations
+row_declared row limits =
+    declare_row row.name (by_limits (unwrap_or limits.lower MinusInf) (unwrap_or limits.upper PlusInf)) ∷ flat_map (term_declared row.name) row.terms
+
+-- after the right-hand side
+abbrev pub row_whole : Context → PartialRow → Relation → Side → PhraseRule Follows
+row_whole context row relation right = declares context right.last BetweenRows (row_declared row (row_limits row.left relation right.limit))
+
+-- after the relation, which is this token
+abbrev pub row_end : Context → PartialRow → Relation → TerminalAt → PhraseRule Follows
+row_end context row relation token =
+    if fits_left row.left relation
+    then (side context >>= row_whole context row relation)
+    else refuses context token MixedSenses

@@ -1,0 +1,135 @@
+-- What a reader makes of one token.
+use Rattle.std.specs.Prelude.{ℕ, Bool, true, false, if◌then◌else◌, List, [], ◌∷◌, Some, None}
+use Rattle.mpslp_decimal.specs.Decimal.{Number as Decimal}
+use Rattle.mpslp_types.specs.Limit.{limit_of}
+use Rattle.mpslp_builder.specs.Declaration.{declare_column, declare_constant, Declarations, Draft}
+use Rattle.mpslp_builder.specs.Refusal.{refusals_in_turn}
+use Rattle.mpslp_types.specs.declared.faults.Fault.{Fault}
+use Rattle.mpslp_types.specs.declared.faults.FaultKind.TheVariants.{BadToken, ConstantInRow}
+use Rattle.mpslp_lp_grammar.specs.declared.states.Place.{Place}
+use Rattle.mpslp_lp_grammar.specs.Rules.{Outcome}
+use Rattle.mpslp_lp_grammar.specs.Rules.Outcome.{Finished, Refused, Open}
+use Rattle.mpslp_lp_grammar.specs.Terminal.{TerminalAt}
+use Rattle.mpslp_lp_grammar.specs.Terminal.{Terminal}
+use Rattle.mpslp_lp_grammar.specs.declared.context.Context.{Context}
+use Rattle.mpslp_lp_grammar.specs.declared.states.Place.TheVariants.{BeforeItems, InObjective, InRow, InBounds, InSemis}
+use Rattle.mpslp_lp_grammar.specs.declared.states.LastWord.TheVariants.{Continuous}
+use Rattle.mpslp_lp_grammar.specs.Grammar.{is_last_word, opened_by}
+use Rattle.mpslp_lines.specs.LineAnswer.{fault_on_line}
+use Rattle.mpslp_lp_grammar.specs.Sides.{apply_sign, infinity, limits_by, flip}
+use Rattle.mpslp_lp_grammar.specs.Items.{one}
+use Rattle.mpslp_lp_grammar.specs.Objective.{objective_declared, first_item_declared, default_objective}
+use Rattle.mpslp_lp_grammar.specs.Rows.{default_row, without_terms}
+use Rattle.mpslp_lp_grammar.specs.Bounds.{no_limits}
+use Rattle.mpslp_lp_grammar.specs.declared.states.ItemOwner.{ItemOwner}
+use Rattle.mpslp_lp_grammar.specs.declared.states.State.{State}
+use Rattle.mpslp_lp_grammar.specs.declared.states.ItemOwner.TheVariants.{OfObjective, OfRow}
+use Rattle.mpslp_lp_grammar.specs.declared.states.SideOwner.TheVariants.{SideOfBound}
+use Rattle.mpslp_lp_grammar.specs.TokenByToken.{says}
+use Rattle.mpslp_lp_grammar.specs.declared.states.State.TheVariants.{Between, AtObjective, ObjectiveName, AtLastWord, AtSemi, Signs, ItemNumber, RowName, RowLabel, RowSign, RowNumber, RowLeft, RowLeftRelation, BoundName, BoundSign, BoundLeft, BoundLeftRelation, AtSide, SideSign, AfterEnd}
+use Rattle.mpslp_lp_grammar.specs.AfterToken.{AfterToken, refuse, with_made, take_term, take_after_signs, begin_item, take_bound, take_side, take_limit, take_after_declarations, declare_at, Goes, Refuses}
+use Rattle.mpslp_lp_grammar.specs.FirstToken.{begin_row, begin}
+
+-- ---- a token that completes what is before it, and is taken at the place that follows
+
+-- after declarations that the token completes
+abbrev pub begin_after : Context → Declarations → Place → Terminal → AfterToken
+begin_after context made place terminal =
+    take_after_declarations context terminal (refusals_in_turn context.earlier made) made (begin place (with_made context made) terminal)
+
+-- a number in a row that no name follows
+abbrev pub refuse_constant : Context → Terminal → AfterToken
+refuse_constant context terminal = elim terminal as (λ _. AfterToken) [
+  | Terminal.Sign minus ↦ refuse context terminal ConstantInRow
+  | Terminal.Compares relation ↦ refuse context terminal ConstantInRow
+  | _ ↦ refuse context terminal BadToken
+]
+
+-- a number that no name follows
+abbrev pub take_lone : Context → ItemOwner → Decimal → Terminal → AfterToken
+take_lone context (OfObjective name) value terminal = elim terminal as (λ _. AfterToken) [
+  | Terminal.Sign minus ↦ begin_after context (declare_constant value ∷ []) (InObjective name) terminal
+  | Terminal.Opens word ↦ begin_after context (declare_constant value ∷ []) (InObjective name) terminal
+  | _ ↦ refuse context terminal BadToken
+]
+take_lone context (OfRow row) value terminal = refuse_constant context terminal
+
+abbrev pub take : Context → State → Terminal → AfterToken
+take context (Between place) terminal = begin place context terminal
+take context (AtObjective sense) terminal = elim terminal as (λ _. AfterToken) [
+  | Terminal.Name name ↦ Goes context (ObjectiveName sense name)
+  | _ ↦ begin_after context (objective_declared sense default_objective) (BeforeItems default_objective) terminal
+]
+take context (ObjectiveName sense name) terminal = elim terminal as (λ _. AfterToken) [
+  | Terminal.Colon ↦ declare_at context terminal (BeforeItems name) (objective_declared sense name)
+  | _ ↦ begin_after context (first_item_declared sense name) (InObjective default_objective) terminal
+]
+take context (AtLastWord wanted) terminal = elim terminal as (λ _. AfterToken) [
+  | Terminal.Name word ↦ if is_last_word wanted word then Goes (with_made context []) (Between (opened_by wanted)) else refuse context terminal BadToken
+  | _ ↦ refuse context terminal BadToken
+]
+take context AtSemi terminal = elim terminal as (λ _. AfterToken) [
+  | Terminal.Sign minus ↦ if minus then Goes context (AtLastWord Continuous) else begin InSemis (with_made context []) terminal
+  | _ ↦ begin InSemis (with_made context []) terminal
+]
+take context (Signs owner minus) terminal = take_after_signs context owner minus terminal
+take context (ItemNumber owner minus value) terminal = elim terminal as (λ _. AfterToken) [
+  | Terminal.Name column ↦ take_term context owner column (apply_sign minus value) terminal
+  | _ ↦ take_lone context owner (apply_sign minus value) terminal
+]
+take context (RowName name) terminal = elim terminal as (λ _. AfterToken) [
+  | Terminal.Colon ↦ Goes context (RowLabel name)
+  | _ ↦ begin (InRow (record { name = default_row context; left = None; terms = (name, one) ∷ [] })) (with_made context []) terminal
+]
+take context (RowLabel name) terminal = begin_row context name terminal
+take context (RowSign name minus) terminal = elim terminal as (λ _. AfterToken) [
+  | Terminal.Infinity ↦ Goes context (RowLeft name (infinity minus))
+  | Terminal.Number value ↦ Goes context (RowNumber name minus value)
+  | _ ↦ take_after_signs context (OfRow (without_terms name None)) minus terminal
+]
+take context (RowNumber name minus value) terminal = elim terminal as (λ _. AfterToken) [
+  | Terminal.Name column ↦ take_term context (OfRow (without_terms name None)) column (apply_sign minus value) terminal
+  | Terminal.Compares relation ↦ Goes context (RowLeftRelation (without_terms name (Some (limit_of (apply_sign minus value), relation))))
+  | _ ↦ take_lone context (OfRow (without_terms name None)) (apply_sign minus value) terminal
+]
+take context (RowLeft name limit) terminal = elim terminal as (λ _. AfterToken) [
+  | Terminal.Compares relation ↦ Goes context (RowLeftRelation (without_terms name (Some (limit, relation))))
+  | _ ↦ refuse context terminal BadToken
+]
+take context (RowLeftRelation row) terminal = begin_item context (OfRow row) terminal
+take context (BoundName column) terminal = elim terminal as (λ _. AfterToken) [
+  | Terminal.Free ↦ take_bound context (declare_column column ∷ []) column no_limits terminal (InBounds None)
+  | Terminal.Compares relation ↦ Goes context (AtSide (SideOfBound true column relation))
+  | _ ↦ refuse context terminal BadToken
+]
+take context (BoundSign minus) terminal = take_limit (λ limit. Goes context (BoundLeft limit)) context minus terminal
+take context (BoundLeft limit) terminal = elim terminal as (λ _. AfterToken) [
+  | Terminal.Compares relation ↦ Goes context (BoundLeftRelation limit relation)
+  | _ ↦ refuse context terminal BadToken
+]
+take context (BoundLeftRelation limit relation) terminal = elim terminal as (λ _. AfterToken) [
+  | Terminal.Name column ↦ take_bound context (declare_column column ∷ []) column (limits_by (flip relation) limit) terminal (InBounds (Some (column, relation)))
+  | _ ↦ refuse context terminal BadToken
+]
+take context (AtSide sided) terminal = elim terminal as (λ _. AfterToken) [
+  | Terminal.Sign minus ↦ Goes context (SideSign sided minus)
+  | _ ↦ take_limit (λ limit. take_side context sided limit terminal) context false terminal
+]
+take context (SideSign sided minus) terminal = take_limit (λ limit. take_side context sided limit terminal) context minus terminal
+-- `end` must be the last token of its line
+take context AfterEnd terminal = refuse context terminal BadToken
+
+-- the outcome of the tokens after one on this line
+abbrev pub says_after : (line : ℕ) → AfterToken → List TerminalAt → Outcome Fault Draft
+says_after line (Goes context state) tokens = says line context state tokens
+says_after line (Refuses kind) tokens = Refused (fault_on_line line kind)
+
+-- `end` was the last token
+abbrev pub is_at_end : State → Bool
+is_at_end AfterEnd = true
+is_at_end _ = false
+
+-- what no token says
+abbrev pub at_end : Context → State → Outcome Fault Draft
+at_end context AfterEnd = Finished context.earlier
+at_end context _ = Open

@@ -1,0 +1,166 @@
+//! Bounds, token by token.
+
+ghost use Rattle.std.specs.Prelude.{◌≡◌, ◌++◌, ◌∷◌, [], Some, None, IsTrue};
+ghost use Rattle.std.specs.Option.{ForSome};
+ghost use Rattle.mpslp_types.specs.Name.{IsMpsName};
+ghost use Rattle.mpslp_types.specs.Limit.{is_given};
+ghost use Rattle.mpslp_builder.specs.Declaration.{declare_column};
+ghost use Rattle.mpslp_lp_grammar.specs.Sides.{limits_by, flip};
+ghost use Rattle.mpslp_lp_grammar.specs.Bounds.{no_limits};
+ghost use Rattle.mpslp_lp_grammar.specs.TokenByToken.{new_column};
+ghost use Rattle.mpslp_lp_grammar.specs.TerminalToken.{HasLegalName, terminal_of_token};
+ghost use Rattle.mpslp_lp_grammar.specs.Declares.{DeclaresSides, TakesToken};
+ghost use Rattle.mpslp_lp_grammar.specs.Phrase.{terminal_fault};
+ghost use Rattle.mpslp_lp_grammar.specs.Terminal.{Terminal};
+ghost use Rattle.mpslp_lp_grammar.specs.declared.states.Place.{Place};
+ghost use Rattle.mpslp_lp_grammar.specs.AfterToken.{take_bound, take_side, take_limit};
+ghost use Rattle.mpslp_lp_grammar.specs.FirstToken.{begin_bound, take_second_relation};
+
+use crate::answers::{at_place, refuse};
+use crate::context::Context;
+use crate::given_limit::GivenLimit;
+use crate::items::apply_sign;
+use crate::relations::Relation;
+use crate::rows::{end_row, fits_second};
+use crate::sides::{flip, limit_of_terminal};
+use crate::states::{Place, SideOwner, State};
+use crate::terminals::{TerminalKind, TerminalToken};
+use mpslp_lines::LineError;
+use mpslp_model::laws::each_name_is_legal;
+use mpslp_model::{FaultKind, Limit, Name};
+
+/// Takes the first token of a bound.
+pub(crate) fn begin_bound(
+    context: &mut Context,
+    token: &TerminalToken<'_>,
+) -> Result<State, LineError>
+    requires { HasLegalName token.now }
+    ensures { TakesToken (begin_bound context.old (terminal_of_token token.now)) result context.new }
+{
+    match token.kind {
+        TerminalKind::Name => Ok(State::BoundName(context.earlier.copied(token.text)?)),
+        TerminalKind::Sign(minus) => Ok(State::BoundSign(minus)),
+        _ => match limit_of_terminal(false, token) {
+            Some(limit) => Ok(State::BoundLeft(limit)),
+            None => refuse(context, token, FaultKind::BadToken),
+        },
+    }
+}
+
+/// Takes a relation after a bound, which is legal only if the bound has just a left-hand side, as in `1 <= x`.
+pub(crate) fn take_second_relation(
+    context: &mut Context,
+    left: Option<(Name, Relation)>,
+    relation: Relation,
+    token: &TerminalToken<'_>,
+) -> Result<State, LineError>
+    ensures { TakesToken (take_second_relation context.old left relation (terminal_of_token token.now)) result context.new }
+{
+    match left {
+        None => refuse(context, token, FaultKind::BadToken),
+        Some((column, first)) => {
+            if fits_second(first, relation) {
+                Ok(State::AtSide(SideOwner::SideOfBound(false, column, relation)))
+            } else {
+                refuse(context, token, FaultKind::MixedSenses)
+            }
+        }
+    }
+}
+
+/// Takes a token that completes the right-hand side of a bound, and declares the bound.
+pub(crate) fn take_bound(
+    context: &mut Context,
+    is_new: bool,
+    column: Name,
+    relation: Relation,
+    limit: &GivenLimit,
+    token: &TerminalToken<'_>,
+) -> Result<State, LineError>
+    requires { terminal_fault context.old (terminal_of_token token.now) ≡ None }
+    ensures { TakesToken (take_bound context.old (new_column is_new column) column (limits_by relation limit.now) (terminal_of_token token.now) (Place.InBounds None)) result context.new }
+{
+    each_name_is_legal(&column);
+    at_place(
+        context
+            .earlier
+            .declare_bound_by(is_new, column.as_bytes(), relation, limit),
+        Place::InBounds(None),
+    )
+}
+
+/// Takes `free` after the column of a bound.
+pub(crate) fn take_free(context: &mut Context, column: Name) -> Result<State, LineError>
+    ensures { TakesToken (take_bound context.old (declare_column column ∷ []) column no_limits Terminal.Free (Place.InBounds None)) result context.new }
+{
+    each_name_is_legal(&column);
+    at_place(
+        context.earlier.declare_bound(
+            true,
+            column.as_bytes(),
+            Some(Limit::MinusInf),
+            Some(Limit::PlusInf),
+        ),
+        Place::InBounds(None),
+    )
+}
+
+/// Takes the column of a bound after its left-hand side.
+pub(crate) fn take_bound_column(
+    context: &mut Context,
+    limit: &GivenLimit,
+    relation: Relation,
+    column: &[u8],
+) -> Result<State, LineError>
+    requires { IsMpsName column.now }
+    ensures { TakesToken (take_bound context.old (declare_column column.now ∷ []) column.now (limits_by (flip relation) limit.now) (Terminal.Name column.now) (Place.InBounds (Some (column.now, relation)))) result context.new }
+{
+    let name = context.earlier.copied(column)?;
+    at_place(
+        context
+            .earlier
+            .declare_bound_by(true, column, flip(relation), limit),
+        Place::InBounds(Some((name, relation))),
+    )
+}
+
+/// Takes a token that completes the right-hand side of a row or a bound.
+pub(crate) fn take_side(
+    context: &mut Context,
+    sided: SideOwner,
+    limit: &GivenLimit,
+    token: &TerminalToken<'_>,
+) -> Result<State, LineError>
+    requires { terminal_fault context.old (terminal_of_token token.now) ≡ None }
+    ensures { TakesToken (take_side context.old sided limit.now (terminal_of_token token.now)) result context.new }
+{
+    match sided {
+        SideOwner::SideOfRow(row, relation) => end_row(context, row, relation, limit, token),
+        SideOwner::SideOfBound(is_new, column, relation) => {
+            take_bound(context, is_new, column, relation, limit, token)
+        }
+    }
+}
+
+/// Takes a token of a right-hand side, after its sign if it has one.
+pub(crate) fn take_limit(
+    context: &mut Context,
+    sided: SideOwner,
+    minus: bool,
+    token: &TerminalToken<'_>,
+) -> Result<State, LineError>
+    ensures { TakesToken (take_limit (λ limit. take_side context.old sided limit (terminal_of_token token.now)) context.old minus (terminal_of_token token.now)) result context.new }
+{
+    match token.kind {
+        TerminalKind::Number(value) => {
+            take_side(
+                context,
+                sided,
+                &GivenLimit::of(apply_sign(minus, value)),
+                token,
+            )
+        }
+        TerminalKind::Infinity => take_side(context, sided, &GivenLimit::infinity(minus), token),
+        _ => refuse(context, token, FaultKind::BadToken),
+    }
+}

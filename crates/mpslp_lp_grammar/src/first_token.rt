@@ -1,0 +1,234 @@
+//! The first token of a phrase.
+
+ghost use Rattle.std.specs.Prelude.{◌≡◌};
+ghost use Rattle.mpslp_types.specs.Name.{IsMpsName};
+ghost use Rattle.mpslp_builder.specs.Declaration.{Declarations, Draft};
+ghost use Rattle.mpslp_types.specs.declared.faults.BuildFault.{BuildFault};
+ghost use Rattle.mpslp_lp_grammar.specs.declared.context.Context.{Context};
+ghost use Rattle.mpslp_lp_grammar.specs.declared.states.Place.{Place};
+ghost use Rattle.mpslp_lp_grammar.specs.Grammar.{may_begin_section};
+ghost use Rattle.std.specs.Prelude.{List};
+ghost use Rattle.mpslp_lp_grammar.specs.Rows.{default_row};
+ghost use Rattle.mpslp_lp_grammar.specs.TerminalToken.{HasLegalName, terminal_of_token};
+ghost use Rattle.mpslp_lp_grammar.specs.Declares.{DeclaresUnless, TakesToken};
+ghost use Rattle.mpslp_lp_grammar.specs.AfterToken.{Goes, take_after_declarations, with_made};
+ghost use Rattle.mpslp_lp_grammar.specs.FirstToken.{after_section_word, open_section, begin_phrase, begin};
+
+use crate::answers::{at_place, refuse};
+use crate::bounds::{begin_bound, take_second_relation};
+use crate::context::Context;
+use crate::items::begin_item;
+use crate::relations::Relation;
+use crate::rows::{begin_row, fits_left};
+use crate::states::{ItemOwner, LastWord, PartialRow, Place, SideOwner, State};
+use crate::terminals::{TerminalKind, TerminalToken};
+use mpslp_lines::LineError;
+use mpslp_lp_tokens::SectionWord;
+use mpslp_model::{FaultKind, Name, Sense};
+
+/// The state after the first word of a section.
+fn opened_state(word: SectionWord) -> State
+    ensures { (context : Context) → after_section_word context word ≡ Goes context result }
+{
+    match word {
+        SectionWord::Minimize => State::AtObjective(Sense::Minimize),
+        SectionWord::Maximize => State::AtObjective(Sense::Maximize),
+        SectionWord::Rows => State::Between(Place::BetweenRows),
+        SectionWord::Subject => State::AtLastWord(LastWord::To),
+        SectionWord::Such => State::AtLastWord(LastWord::That),
+        SectionWord::Bounds => State::Between(Place::InBounds(None)),
+        SectionWord::Generals => State::Between(Place::InGenerals),
+        SectionWord::Binaries => State::Between(Place::InBinaries),
+        SectionWord::Semi => State::AtSemi,
+        SectionWord::Semis => State::Between(Place::InSemis),
+        SectionWord::End => State::AfterEnd,
+    }
+}
+
+/// Takes the first word of a section.
+fn open_section(context: &mut Context, word: SectionWord) -> Result<State, LineError>
+    ensures { TakesToken (open_section context.old word) result context.new }
+{
+    match context.sections_seen.section_fault(word.section()) {
+        Some(kind) => Err(LineError::Fault(kind)),
+        None => {
+            context.sections_seen = context.sections_seen.with(word.section());
+            Ok(opened_state(word))
+        }
+    }
+}
+
+/// Whether a section may begin at the place: anywhere but inside a row.
+fn may_begin_section(place: &Place) -> bool
+    ensures { result ≡ may_begin_section place.now }
+{
+    match place {
+        Place::InRow(_) => false,
+        _ => true,
+    }
+}
+
+/// Takes the first token of an item of the objective other than the first item.
+fn begin_later_item(
+    context: &mut Context,
+    objective: Name,
+    token: &TerminalToken<'_>,
+) -> Result<State, LineError>
+    ensures { TakesToken (begin_phrase (Place.InObjective objective) context.old (terminal_of_token token.now)) result context.new }
+{
+    match token.kind {
+        TerminalKind::Sign(minus) => Ok(State::Signs(ItemOwner::OfObjective(objective), minus)),
+        _ => refuse(context, token, FaultKind::BadToken),
+    }
+}
+
+/// Takes the first token of a row, which may be its label.
+fn begin_labelled(context: &mut Context, token: &TerminalToken<'_>) -> Result<State, LineError>
+    requires { HasLegalName token.now }
+    ensures { TakesToken (begin_phrase Place.BetweenRows context.old (terminal_of_token token.now)) result context.new }
+{
+    match token.kind {
+        TerminalKind::Name => Ok(State::RowName(context.earlier.copied(token.text)?)),
+        TerminalKind::Infinity | TerminalKind::Number(_) | TerminalKind::Sign(_) => {
+            let name = context.earlier.next_row()?;
+            begin_row(context, name, token)
+        }
+        _ => refuse(context, token, FaultKind::BadToken),
+    }
+}
+
+/// Takes a token after a term of a row.
+fn go_on_in_row(
+    context: &mut Context,
+    row: PartialRow,
+    token: &TerminalToken<'_>,
+) -> Result<State, LineError>
+    ensures { TakesToken (begin_phrase (Place.InRow row) context.old (terminal_of_token token.now)) result context.new }
+{
+    match token.kind {
+        TerminalKind::Sign(minus) => Ok(State::Signs(ItemOwner::OfRow(row), minus)),
+        TerminalKind::Compares(relation) => {
+            if fits_left(&row, relation) {
+                Ok(State::AtSide(SideOwner::SideOfRow(row, relation)))
+            } else {
+                refuse(context, token, FaultKind::MixedSenses)
+            }
+        }
+        _ => refuse(context, token, FaultKind::BadToken),
+    }
+}
+
+/// Takes a name in the Generals section.
+fn take_general(context: &mut Context, token: &TerminalToken<'_>) -> Result<State, LineError>
+    requires { HasLegalName token.now }
+    ensures { TakesToken (begin_phrase Place.InGenerals context.old (terminal_of_token token.now)) result context.new }
+{
+    match token.kind {
+        TerminalKind::Name => at_place(
+            context.earlier.declare_integer(token.text),
+            Place::InGenerals,
+        ),
+        _ => refuse(context, token, FaultKind::BadToken),
+    }
+}
+
+/// Takes a name in the Binaries section.
+fn take_binary(context: &mut Context, token: &TerminalToken<'_>) -> Result<State, LineError>
+    requires { HasLegalName token.now }
+    ensures { TakesToken (begin_phrase Place.InBinaries context.old (terminal_of_token token.now)) result context.new }
+{
+    match token.kind {
+        TerminalKind::Name => at_place(
+            context.earlier.declare_binary(token.text),
+            Place::InBinaries,
+        ),
+        _ => refuse(context, token, FaultKind::BadToken),
+    }
+}
+
+/// Takes a name in the semi-continuous section.
+fn take_semi(context: &mut Context, token: &TerminalToken<'_>) -> Result<State, LineError>
+    requires { HasLegalName token.now }
+    ensures { TakesToken (begin_phrase Place.InSemis context.old (terminal_of_token token.now)) result context.new }
+{
+    match token.kind {
+        TerminalKind::Name => at_place(context.earlier.declare_semi(token.text), Place::InSemis),
+        _ => refuse(context, token, FaultKind::BadToken),
+    }
+}
+
+/// Takes a token in the Bounds section, where a bound may begin, or the last one may continue with a right-hand side.
+fn begin_in_bounds(
+    context: &mut Context,
+    left: Option<(Name, Relation)>,
+    token: &TerminalToken<'_>,
+) -> Result<State, LineError>
+    requires { HasLegalName token.now }
+    ensures { TakesToken (begin_phrase (Place.InBounds left) context.old (terminal_of_token token.now)) result context.new }
+{
+    match token.kind {
+        TerminalKind::Compares(relation) => take_second_relation(context, left, relation, token),
+        _ => begin_bound(context, token),
+    }
+}
+
+/// Takes the first token of a phrase, if it opens no section.
+fn begin_phrase(
+    context: &mut Context,
+    place: Place,
+    token: &TerminalToken<'_>,
+) -> Result<State, LineError>
+    requires { HasLegalName token.now }
+    ensures { TakesToken (begin_phrase place context.old (terminal_of_token token.now)) result context.new }
+{
+    match place {
+        Place::AtStart => refuse(context, token, FaultKind::BadToken),
+        Place::BeforeItems(name) => begin_item(context, ItemOwner::OfObjective(name), token),
+        Place::InObjective(name) => begin_later_item(context, name, token),
+        Place::BetweenRows => begin_labelled(context, token),
+        Place::InRow(row) => go_on_in_row(context, row, token),
+        Place::InBounds(left) => begin_in_bounds(context, left, token),
+        Place::InGenerals => take_general(context, token),
+        Place::InBinaries => take_binary(context, token),
+        Place::InSemis => take_semi(context, token),
+    }
+}
+
+/// Takes the first token of a phrase.
+pub(crate) fn begin(
+    context: &mut Context,
+    place: Place,
+    token: &TerminalToken<'_>,
+) -> Result<State, LineError>
+    requires { HasLegalName token.now }
+    ensures { TakesToken (begin place context.old (terminal_of_token token.now)) result context.new }
+{
+    match token.kind {
+        TerminalKind::Opens(word) => {
+            if may_begin_section(&place) {
+                open_section(context, word)
+            } else {
+                refuse(context, token, FaultKind::BadToken)
+            }
+        }
+        _ => begin_phrase(context, place, token),
+    }
+}
+
+/// Takes the first token of a phrase after the declarations of the phrase before it, which this token completes.
+pub(crate) fn begin_after(
+    context: &mut Context,
+    answer: Result<(), LineError>,
+    place: Place,
+    token: &TerminalToken<'_>,
+) -> Result<State, LineError>
+    requires { HasLegalName token.now }
+    ensures { (earlier : Draft) (refusals : List BuildFault) (made : Declarations) → DeclaresUnless refusals earlier made answer context.old.earlier
+        → TakesToken (take_after_declarations (record context.old { earlier = earlier }) (terminal_of_token token.now) refusals made (begin place (with_made (record context.old { earlier = earlier }) made) (terminal_of_token token.now))) result context.new }
+{
+    match answer {
+        Ok(()) => begin(context, place, token),
+        Err(LineError::Fault(kind)) => refuse(context, token, kind),
+        Err(LineError::OutOfMemory) => Err(LineError::OutOfMemory),
+    }
+}

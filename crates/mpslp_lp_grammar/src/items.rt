@@ -1,0 +1,119 @@
+//! Items of the objective and of rows, token by token.
+
+ghost use Rattle.std.specs.Prelude.{◌≡◌};
+ghost use Rattle.mpslp_types.specs.Name.{IsMpsName};
+ghost use Rattle.mpslp_lp_grammar.specs.Items.{one};
+ghost use Rattle.mpslp_lp_grammar.specs.Sides.{apply_sign};
+ghost use Rattle.mpslp_lp_grammar.specs.TerminalToken.{HasLegalName, terminal_of_token};
+ghost use Rattle.mpslp_lp_grammar.specs.Declares.{TakesToken};
+ghost use Rattle.mpslp_lp_grammar.specs.Terminal.{Terminal};
+ghost use Rattle.mpslp_lp_grammar.specs.declared.states.ItemOwner.{ItemOwner};
+ghost use Rattle.mpslp_lp_grammar.specs.AfterToken.{take_term, take_after_signs, begin_item};
+
+use crate::answers::{at_place, refuse};
+use crate::context::Context;
+use crate::states::{ItemOwner, PartialRow, Place, State};
+use crate::terminals::{TerminalKind, TerminalToken};
+use mpslp_decimal::Decimal;
+use mpslp_lines::LineError;
+use mpslp_model::{FaultKind, Name};
+
+/// The coefficient of a term without a number.
+pub(crate) fn one() -> Decimal
+    ensures { result ≡ one }
+{
+    match Decimal::parse(b"1") {
+        Ok(one) => one,
+        Err(_) => Decimal::zero(),
+    }
+}
+
+/// The value with the sign of a run of signs: its negative after a minus.
+pub fn apply_sign(minus: bool, value: Decimal) -> Decimal
+    ensures { result ≡ apply_sign minus value }
+{
+    if minus { value.negate() } else { value }
+}
+
+/// Takes the name of a term of the objective.
+fn take_objective_term(
+    context: &mut Context,
+    objective: Name,
+    column: &[u8],
+    value: Decimal,
+) -> Result<State, LineError>
+    requires { IsMpsName column.now }
+    ensures { TakesToken (take_term context.old (ItemOwner.OfObjective objective) column.now value (Terminal.Name column.now)) result context.new }
+{
+    let answer = context
+        .earlier
+        .declare_term(objective.as_bytes(), column, value);
+    at_place(answer, Place::InObjective(objective))
+}
+
+/// Takes the name of a term of a row.
+fn take_row_term(
+    context: &Context,
+    row: PartialRow,
+    column: &[u8],
+    value: Decimal,
+) -> Result<State, LineError>
+    requires { IsMpsName column.now }
+    ensures { TakesToken (take_term context.now (ItemOwner.OfRow row) column.now value (Terminal.Name column.now)) result context.now }
+{
+    match row.with_term(context, column, value) {
+        Ok(row) => Ok(State::Between(Place::InRow(row))),
+        Err(error) => Err(error),
+    }
+}
+
+/// Takes the name of a term.
+pub(crate) fn take_term(
+    context: &mut Context,
+    owner: ItemOwner,
+    column: &[u8],
+    value: Decimal,
+) -> Result<State, LineError>
+    requires { IsMpsName column.now }
+    ensures { TakesToken (take_term context.old owner column.now value (Terminal.Name column.now)) result context.new }
+{
+    match owner {
+        ItemOwner::OfObjective(name) => take_objective_term(context, name, column, value),
+        ItemOwner::OfRow(row) => take_row_term(context, row, column, value),
+    }
+}
+
+/// Takes a token of an item after its first sign.
+pub(crate) fn take_after_signs(
+    context: &mut Context,
+    owner: ItemOwner,
+    minus: bool,
+    token: &TerminalToken<'_>,
+) -> Result<State, LineError>
+    requires { HasLegalName token.now }
+    ensures { TakesToken (take_after_signs context.old owner minus (terminal_of_token token.now)) result context.new }
+{
+    match token.kind {
+        TerminalKind::Sign(more) => Ok(State::Signs(owner, minus != more)),
+        TerminalKind::Name => take_term(context, owner, token.text, apply_sign(minus, one())),
+        TerminalKind::Number(value) => Ok(State::ItemNumber(owner, minus, value)),
+        _ => refuse(context, token, FaultKind::BadToken),
+    }
+}
+
+/// Takes the first token of an item that may have no sign.
+pub(crate) fn begin_item(
+    context: &mut Context,
+    owner: ItemOwner,
+    token: &TerminalToken<'_>,
+) -> Result<State, LineError>
+    requires { HasLegalName token.now }
+    ensures { TakesToken (begin_item context.old owner (terminal_of_token token.now)) result context.new }
+{
+    match token.kind {
+        TerminalKind::Sign(minus) => Ok(State::Signs(owner, minus)),
+        TerminalKind::Name => take_term(context, owner, token.text, one()),
+        TerminalKind::Number(value) => Ok(State::ItemNumber(owner, false, value)),
+        _ => refuse(context, token, FaultKind::BadToken),
+    }
+}

@@ -1,0 +1,118 @@
+//! Rows, token by token.
+
+ghost use Rattle.std.specs.Prelude.{◌≡◌, None};
+ghost use Rattle.mpslp_lp_grammar.specs.Rows.{fits_left, row_limits, row_declared};
+ghost use Rattle.mpslp_lp_grammar.specs.Sides.{fits_second};
+ghost use Rattle.mpslp_lp_grammar.specs.TerminalToken.{HasLegalName, terminal_of_token};
+ghost use Rattle.mpslp_lp_grammar.specs.Declares.{TakesToken};
+ghost use Rattle.std.specs.Prelude.{IsTrue, unwrap_or};
+ghost use Rattle.mpslp_types.specs.Limit.{is_given};
+ghost use Rattle.mpslp_types.specs.declared.kinds.Limit.{Limit};
+ghost use Rattle.mpslp_lp_grammar.specs.Phrase.{terminal_fault};
+ghost use Rattle.mpslp_lp_grammar.specs.declared.states.Place.{Place};
+ghost use Rattle.mpslp_lp_grammar.specs.AfterToken.{declare_at};
+ghost use Rattle.mpslp_lp_grammar.specs.FirstToken.{begin_row};
+
+use crate::answers::{at_place, refuse};
+use crate::context::Context;
+use crate::given_limit::GivenLimit;
+use crate::items::{one, take_term};
+use crate::relations::Relation;
+use crate::states::{ItemOwner, PartialRow, Place, State};
+use crate::terminals::{TerminalKind, TerminalToken};
+use mpslp_lines::LineError;
+use mpslp_model::{FaultKind, Limit, Name};
+
+/// Whether the relations on both sides of a row or column agree: both are `<` or both are `>`.
+pub(crate) fn fits_second(first: Relation, second: Relation) -> bool
+    ensures { result ≡ fits_second first second }
+{
+    match first {
+        Relation::AtMost => second == Relation::AtMost,
+        Relation::AtLeast => second == Relation::AtLeast,
+        Relation::EqualTo => false,
+    }
+}
+
+/// Whether the relation agrees with that of the row's left-hand side, if it has one.
+pub(crate) fn fits_left(row: &PartialRow, relation: Relation) -> bool
+    ensures { result ≡ fits_left row.now.left relation }
+{
+    match &row.parts.left {
+        Some((_limit, first)) => fits_second(*first, relation),
+        None => true,
+    }
+}
+
+/// Takes the first token of a row after its label, or of a row without one.
+pub(crate) fn begin_row(
+    context: &mut Context,
+    name: Name,
+    token: &TerminalToken<'_>,
+) -> Result<State, LineError>
+    requires { HasLegalName token.now }
+    ensures { TakesToken (begin_row context.old name (terminal_of_token token.now)) result context.new }
+{
+    match token.kind {
+        TerminalKind::Infinity => Ok(State::RowLeft(name, GivenLimit::infinity(false))),
+        TerminalKind::Number(value) => Ok(State::RowNumber(name, false, value)),
+        TerminalKind::Name => {
+            let row = context.earlier.row_without_terms(name, None)?;
+            take_term(context, ItemOwner::OfRow(row), token.text, one())
+        }
+        TerminalKind::Sign(minus) => Ok(State::RowSign(name, minus)),
+        _ => refuse(context, token, FaultKind::BadToken),
+    }
+}
+
+/// The lower limit of a row with this relation and right-hand side.
+fn lower_limit(row: &PartialRow, relation: Relation, right: &GivenLimit) -> Limit
+    ensures value { result ≡ unwrap_or (row_limits row.now.left relation right.now).lower Limit.MinusInf }
+    ensures given { IsTrue (is_given result) }
+{
+    match &row.parts.left {
+        None => match relation {
+            Relation::AtMost => Limit::MinusInf,
+            Relation::AtLeast | Relation::EqualTo => right.limit(),
+        },
+        Some((left, _first)) => match relation {
+            Relation::AtMost => left.limit(),
+            Relation::AtLeast | Relation::EqualTo => right.limit(),
+        },
+    }
+}
+
+/// The upper limit of a row with this relation and right-hand side.
+fn upper_limit(row: &PartialRow, relation: Relation, right: &GivenLimit) -> Limit
+    ensures value { result ≡ unwrap_or (row_limits row.now.left relation right.now).upper Limit.PlusInf }
+    ensures given { IsTrue (is_given result) }
+{
+    match &row.parts.left {
+        None => match relation {
+            Relation::AtMost | Relation::EqualTo => right.limit(),
+            Relation::AtLeast => Limit::PlusInf,
+        },
+        Some((left, _first)) => match relation {
+            Relation::AtMost => right.limit(),
+            Relation::AtLeast | Relation::EqualTo => left.limit(),
+        },
+    }
+}
+
+/// Completes a row with its right-hand side, and declares it.
+pub(crate) fn end_row(
+    context: &mut Context,
+    row: PartialRow,
+    relation: Relation,
+    right: &GivenLimit,
+    token: &TerminalToken<'_>,
+) -> Result<State, LineError>
+    requires { terminal_fault context.old (terminal_of_token token.now) ≡ None }
+    ensures { TakesToken (declare_at context.old (terminal_of_token token.now) Place.BetweenRows (row_declared row (row_limits row.left relation right.now))) result context.new }
+{
+    let lower = lower_limit(&row, relation, right);
+    let upper = upper_limit(&row, relation, right);
+    let answer = context.earlier.declare_partial(&row, lower, upper);
+    context.earlier.keep_parts(row);
+    at_place(answer, Place::BetweenRows)
+}

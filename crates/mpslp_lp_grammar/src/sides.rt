@@ -1,0 +1,34 @@
+//! The left-hand and right-hand sides of rows and bounds, token by token.
+
+ghost use Rattle.std.specs.Prelude.{◌≡◌};
+ghost use Rattle.mpslp_lp_grammar.specs.Sides.{Limits, limits_by, flip};
+ghost use Rattle.mpslp_lp_grammar.specs.Bounds.{no_limits};
+ghost use Rattle.mpslp_lp_grammar.specs.TerminalToken.{limit_of_terminal, terminal_of_token};
+
+use crate::given_limit::GivenLimit;
+use crate::items::apply_sign;
+use crate::relations::Relation;
+use crate::terminals::{TerminalKind, TerminalToken};
+use mpslp_model::Limit;
+
+/// The limit that a number or an infinity gives after the signs before it; `None` for any other token.
+pub(crate) fn limit_of_terminal(minus: bool, token: &TerminalToken<'_>) -> Option<GivenLimit>
+    ensures { result ≡ limit_of_terminal minus (terminal_of_token token.now) }
+{
+    match token.kind {
+        TerminalKind::Number(value) => Some(GivenLimit::of(apply_sign(minus, value))),
+        TerminalKind::Infinity => Some(GivenLimit::infinity(minus)),
+        _ => None,
+    }
+}
+
+/// The relation as seen from the column, if the value is on its left.
+pub(crate) fn flip(relation: Relation) -> Relation
+    ensures { result ≡ flip relation }
+{
+    match relation {
+        Relation::AtMost => Relation::AtLeast,
+        Relation::AtLeast => Relation::AtMost,
+        Relation::EqualTo => Relation::EqualTo,
+    }
+}

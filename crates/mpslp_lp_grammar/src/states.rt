@@ -1,0 +1,198 @@
+//! The states between tokens: what a reader keeps of an incomplete phrase, besides what is declared.
+
+ghost use Rattle.std.specs.Prelude.{◌≡◌};
+ghost use Rattle.mpslp_types.specs.Name.{IsMpsName};
+ghost use Rattle.mpslp_lp_grammar.specs.Declares.{AddsTerm};
+ghost use Rattle.mpslp_lp_grammar.specs.Grammar.{last_word_text, opened_by};
+ghost use Rattle.mpslp_lp_grammar.specs.TokenStep.{is_at_end};
+
+use crate::context::Context;
+use crate::given_limit::GivenLimit;
+use crate::relations::Relation;
+use crate::term_names::TermName;
+use indexmap::IndexMap;
+use mpslp_decimal::Decimal;
+use mpslp_lines::LineError;
+use mpslp_model::{FaultKind, Name, Sense};
+use std::marker::Model;
+
+/// An incomplete row. It is in a box because a state is moved with each token.
+#[derive(Drop)]
+pub struct PartialRow {
+    pub(crate) parts: Box<PartialParts>,
+}
+
+/// What is known of an incomplete row.
+#[derive(Drop)]
+pub struct PartialParts {
+    pub(crate) name: Name,
+    /// The left-hand side and the relation after it, if the row has them.
+    pub(crate) left: Option<(GivenLimit, Relation)>,
+    /// The terms by their columns, in the order of the text.
+    pub(crate) terms: IndexMap<TermName, Decimal>,
+}
+
+impl Model for PartialRow {
+    ghost use Rattle.mpslp_lp_grammar.specs.PartialRow.{PartialRow};
+
+    ghost Value = { PartialRow };
+
+    ghost view = { λ r. record { name = r.parts.value.name; left = r.parts.value.left; terms = r.parts.value.terms.entries } };
+}
+
+impl PartialRow {
+    /// The row with one more term, of a column that has none in it. The name of the column is copied.
+    ///
+    /// # Errors
+    ///
+    /// `DuplicateEntry` of a column that has a term in the row; `OutOfMemory` where a growth was refused.
+    pub fn with_term(
+        self,
+        context: &Context,
+        column: &[u8],
+        value: Decimal,
+    ) -> Result<PartialRow, LineError>
+        requires { IsMpsName column.now }
+        ensures { AddsTerm self column.now value result }
+    {
+        let name = TermName::copied(context.earlier.alloc(), column)?;
+        let mut row = self;
+        match row.parts.terms.insert(name, value) {
+            Ok(None) => Ok(row),
+            Ok(Some(_)) => Err(LineError::Fault(FaultKind::DuplicateEntry)),
+            Err(_) => Err(LineError::OutOfMemory),
+        }
+    }
+}
+
+/// Where in the text a phrase begins.
+#[derive(Drop)]
+pub enum Place {
+    /// At the start, before the word `minimize` or `maximize`.
+    AtStart,
+    /// Before the first item of the objective with this name.
+    BeforeItems(Name),
+    /// After an item of the objective with this name.
+    InObjective(Name),
+    /// Where a row may begin.
+    BetweenRows,
+    /// After a term of a row.
+    InRow(PartialRow),
+    /// Where a bound may begin. After a bound with only a left-hand side: its column and the relation before it.
+    InBounds(Option<(Name, Relation)>),
+    /// In the Generals section.
+    InGenerals,
+    /// In the Binaries section.
+    InBinaries,
+    /// In the semi-continuous section.
+    InSemis,
+}
+
+/// To what an item belongs.
+#[derive(Drop)]
+pub enum ItemOwner {
+    /// The objective with this name.
+    OfObjective(Name),
+    /// A row.
+    OfRow(PartialRow),
+}
+
+/// What comes before a relation that a right-hand side follows.
+#[derive(Drop)]
+pub enum SideOwner {
+    /// The terms of a row.
+    SideOfRow(PartialRow, Relation),
+    /// A column, and whether the bound has no left-hand side, so that the column is still to be declared.
+    SideOfBound(bool, Name, Relation),
+}
+
+/// The last word of a section heading of several words.
+#[derive(Clone, Copy)]
+pub enum LastWord {
+    /// `to` in `subject to`.
+    To,
+    /// `that` in `such that`.
+    That,
+    /// `continuous` in `semi-continuous`.
+    Continuous,
+}
+
+impl LastWord {
+    /// The word in lower case.
+    pub(crate) fn text(self) -> &'static [u8]
+        ensures { result.now ≡ last_word_text self }
+    {
+        match self {
+            LastWord::To => b"to".as_slice(),
+            LastWord::That => b"that".as_slice(),
+            LastWord::Continuous => b"continuous".as_slice(),
+        }
+    }
+
+    /// Where it leads.
+    pub(crate) fn opens(self) -> Place
+        ensures { result ≡ opened_by self }
+    {
+        match self {
+            LastWord::To | LastWord::That => Place::BetweenRows,
+            LastWord::Continuous => Place::InSemis,
+        }
+    }
+}
+
+/// How far a phrase has come.
+#[derive(Drop)]
+pub enum State {
+    /// Before the first token of a phrase.
+    Between(Place),
+    /// After `minimize` or `maximize`.
+    AtObjective(Sense),
+    /// After a name that follows `minimize` or `maximize` and may be a label.
+    ObjectiveName(Sense, Name),
+    /// Before the last word of a section heading.
+    AtLastWord(LastWord),
+    /// After `semi`.
+    AtSemi,
+    /// After the signs of an item, and whether they multiply to a minus.
+    Signs(ItemOwner, bool),
+    /// After the number of an item.
+    ItemNumber(ItemOwner, bool, Decimal),
+    /// After a name at the start of a row, which may be a label.
+    RowName(Name),
+    /// After the label of a row.
+    RowLabel(Name),
+    /// After the first sign of a row.
+    RowSign(Name, bool),
+    /// After the first number of a row, and whether a minus is before it. At most one sign is before it.
+    RowNumber(Name, bool, Decimal),
+    /// After the left-hand side of a row.
+    RowLeft(Name, GivenLimit),
+    /// After the relation that follows the left-hand side of a row.
+    RowLeftRelation(PartialRow),
+    /// After the column of a bound.
+    BoundName(Name),
+    /// After the sign of a bound's left-hand side.
+    BoundSign(bool),
+    /// After the left-hand side of a bound.
+    BoundLeft(GivenLimit),
+    /// After the relation that follows the left-hand side of a bound.
+    BoundLeftRelation(GivenLimit, Relation),
+    /// Before a right-hand side.
+    AtSide(SideOwner),
+    /// After the sign of a right-hand side.
+    SideSign(SideOwner, bool),
+    /// After `end`, on the same line.
+    AfterEnd,
+}
+
+impl State {
+    /// Whether `end` was the last token.
+    pub fn is_at_end(&self) -> bool
+        ensures { result ≡ is_at_end self.now }
+    {
+        match self {
+            State::AfterEnd => true,
+            _ => false,
+        }
+    }
+}

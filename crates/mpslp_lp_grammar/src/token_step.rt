@@ -1,0 +1,387 @@
+//! The step from one state to the next by a token.
+
+ghost use Rattle.std.specs.Prelude.{◌≡◌, Some, None};
+ghost use Rattle.mpslp_lp_grammar.specs.TerminalToken.{HasLegalName, terminal_of_token};
+ghost use Rattle.mpslp_lp_grammar.specs.Declares.{TakesToken};
+ghost use Rattle.mpslp_lp_grammar.specs.TokenStep.{refuse_constant, take_lone, take};
+ghost use Rattle.mpslp_lp_grammar.specs.Terminal.{Terminal};
+ghost use Rattle.mpslp_lp_grammar.specs.declared.states.ItemOwner.{ItemOwner};
+ghost use Rattle.mpslp_lp_grammar.specs.declared.states.State.{State};
+
+use crate::answers::{at_place, refuse};
+use crate::bounds::{take_bound_column, take_free, take_limit};
+use crate::context::Context;
+use crate::first_token::{begin, begin_after};
+use crate::given_limit::GivenLimit;
+use crate::items::{apply_sign, begin_item, one, take_after_signs, take_term};
+use crate::relations::Relation;
+use crate::rows::begin_row;
+use crate::sides::limit_of_terminal;
+use crate::states::{ItemOwner, LastWord, PartialRow, Place, SideOwner, State};
+use crate::terminals::{TerminalKind, TerminalToken};
+use mpslp_decimal::Decimal;
+use mpslp_lines::LineError;
+use mpslp_lp_tokens::is_word;
+use mpslp_model::laws::each_name_is_legal;
+use mpslp_model::{FaultKind, Name, Sense};
+
+/// Takes a token after the word of the objective.
+fn take_at_objective(
+    context: &mut Context,
+    sense: Sense,
+    token: &TerminalToken<'_>,
+) -> Result<State, LineError>
+    requires { HasLegalName token.now }
+    ensures { TakesToken (take context.old (State.AtObjective sense) (terminal_of_token token.now)) result context.new }
+{
+    match token.kind {
+        TerminalKind::Name => Ok(State::ObjectiveName(sense, context.earlier.copied(token.text)?)),
+        _ => {
+            let name = context.earlier.default_objective()?;
+            let objective = context.earlier.default_objective()?;
+            let answer = context.earlier.declare_objective(sense, name);
+            begin_after(context, answer, Place::BeforeItems(objective), token)
+        }
+    }
+}
+
+/// Takes the colon after the label of the objective.
+fn take_objective_label(context: &mut Context, sense: Sense, name: Name) -> Result<State, LineError>
+    ensures { TakesToken (take context.old (State.ObjectiveName sense name) Terminal.Colon) result context.new }
+{
+    each_name_is_legal(&name);
+    let copy = context.earlier.copied(name.as_bytes())?;
+    at_place(
+        context.earlier.declare_objective(sense, copy),
+        Place::BeforeItems(name),
+    )
+}
+
+/// Takes the token after a name that follows `minimize` or `maximize` and may be a label.
+fn take_after_objective_name(
+    context: &mut Context,
+    sense: Sense,
+    name: Name,
+    token: &TerminalToken<'_>,
+) -> Result<State, LineError>
+    requires { HasLegalName token.now }
+    ensures { TakesToken (take context.old (State.ObjectiveName sense name) (terminal_of_token token.now)) result context.new }
+{
+    match token.kind {
+        TerminalKind::Colon => take_objective_label(context, sense, name),
+        _ => {
+            each_name_is_legal(&name);
+            let objective = context.earlier.default_objective()?;
+            let answer = context.earlier.declare_first_item(sense, name.as_bytes());
+            begin_after(context, answer, Place::InObjective(objective), token)
+        }
+    }
+}
+
+/// Takes the last word of a section heading.
+fn take_last_word(
+    context: &mut Context,
+    wanted: LastWord,
+    token: &TerminalToken<'_>,
+) -> Result<State, LineError>
+    ensures { TakesToken (take context.old (State.AtLastWord wanted) (terminal_of_token token.now)) result context.new }
+{
+    match token.kind {
+        TerminalKind::Name => {
+            if is_word(token.text, wanted.text()) {
+                Ok(State::Between(wanted.opens()))
+            } else {
+                refuse(context, token, FaultKind::BadToken)
+            }
+        }
+        _ => refuse(context, token, FaultKind::BadToken),
+    }
+}
+
+/// Takes the token after `semi`.
+fn take_after_semi(context: &mut Context, token: &TerminalToken<'_>) -> Result<State, LineError>
+    requires { HasLegalName token.now }
+    ensures { TakesToken (take context.old State.AtSemi (terminal_of_token token.now)) result context.new }
+{
+    match token.kind {
+        TerminalKind::Sign(true) => Ok(State::AtLastWord(LastWord::Continuous)),
+        _ => begin(context, Place::InSemis, token),
+    }
+}
+
+/// Takes the token after a number in the objective that no name follows: the constant.
+fn take_constant(
+    context: &mut Context,
+    objective: Name,
+    value: Decimal,
+    token: &TerminalToken<'_>,
+) -> Result<State, LineError>
+    requires { HasLegalName token.now }
+    ensures { TakesToken (take_lone context.old (ItemOwner.OfObjective objective) value (terminal_of_token token.now)) result context.new }
+{
+    match token.kind {
+        TerminalKind::Sign(_) | TerminalKind::Opens(_) => {
+            let answer = context.earlier.declare_constant(value);
+            begin_after(context, answer, Place::InObjective(objective), token)
+        }
+        _ => refuse(context, token, FaultKind::BadToken),
+    }
+}
+
+/// Takes the token after a number in a row that no name follows, which is an error.
+fn refuse_constant(context: &Context, token: &TerminalToken<'_>) -> Result<State, LineError>
+    ensures { TakesToken (refuse_constant context.now (terminal_of_token token.now)) result context.now }
+{
+    match token.kind {
+        TerminalKind::Sign(_) | TerminalKind::Compares(_) => refuse(
+            context,
+            token,
+            FaultKind::ConstantInRow,
+        ),
+        _ => refuse(context, token, FaultKind::BadToken),
+    }
+}
+
+/// Takes the token after a number that no name follows.
+fn take_lone(
+    context: &mut Context,
+    owner: ItemOwner,
+    value: Decimal,
+    token: &TerminalToken<'_>,
+) -> Result<State, LineError>
+    requires { HasLegalName token.now }
+    ensures { TakesToken (take_lone context.old owner value (terminal_of_token token.now)) result context.new }
+{
+    match owner {
+        ItemOwner::OfObjective(name) => take_constant(context, name, value, token),
+        ItemOwner::OfRow(_row) => refuse_constant(context, token),
+    }
+}
+
+/// Takes the token after the number of an item.
+fn take_after_number(
+    context: &mut Context,
+    owner: ItemOwner,
+    minus: bool,
+    value: Decimal,
+    token: &TerminalToken<'_>,
+) -> Result<State, LineError>
+    requires { HasLegalName token.now }
+    ensures { TakesToken (take context.old (State.ItemNumber owner minus value) (terminal_of_token token.now)) result context.new }
+{
+    match token.kind {
+        TerminalKind::Name => take_term(context, owner, token.text, apply_sign(minus, value)),
+        _ => take_lone(context, owner, apply_sign(minus, value), token),
+    }
+}
+
+/// Takes the token after a name at the start of a row, which may be a label.
+fn take_after_row_name(
+    context: &mut Context,
+    name: Name,
+    token: &TerminalToken<'_>,
+) -> Result<State, LineError>
+    requires { HasLegalName token.now }
+    ensures { TakesToken (take context.old (State.RowName name) (terminal_of_token token.now)) result context.new }
+{
+    match token.kind {
+        TerminalKind::Colon => Ok(State::RowLabel(name)),
+        TerminalKind::Sign(_) | TerminalKind::Compares(_) => {
+            let label = context.earlier.next_row()?;
+            let empty = context.earlier.row_without_terms(label, None)?;
+            each_name_is_legal(&name);
+            let row = empty.with_term(context, name.as_bytes(), one())?;
+            begin(context, Place::InRow(row), token)
+        }
+        _ => refuse(context, token, FaultKind::BadToken),
+    }
+}
+
+/// Takes the token after the first sign of a row.
+fn take_after_row_sign(
+    context: &mut Context,
+    name: Name,
+    minus: bool,
+    token: &TerminalToken<'_>,
+) -> Result<State, LineError>
+    requires { HasLegalName token.now }
+    ensures { TakesToken (take context.old (State.RowSign name minus) (terminal_of_token token.now)) result context.new }
+{
+    match token.kind {
+        TerminalKind::Infinity => Ok(State::RowLeft(name, GivenLimit::infinity(minus))),
+        TerminalKind::Number(value) => Ok(State::RowNumber(name, minus, value)),
+        TerminalKind::Sign(_) | TerminalKind::Name => {
+            let row = context.earlier.row_without_terms(name, None)?;
+            take_after_signs(context, ItemOwner::OfRow(row), minus, token)
+        }
+        _ => refuse(context, token, FaultKind::BadToken),
+    }
+}
+
+/// Takes the token after the first number of a row.
+fn take_after_row_number(
+    context: &mut Context,
+    name: Name,
+    minus: bool,
+    value: Decimal,
+    token: &TerminalToken<'_>,
+) -> Result<State, LineError>
+    requires { HasLegalName token.now }
+    ensures { TakesToken (take context.old (State.RowNumber name minus value) (terminal_of_token token.now)) result context.new }
+{
+    match token.kind {
+        TerminalKind::Name => {
+            let row = context.earlier.row_without_terms(name, None)?;
+            take_term(
+                context,
+                ItemOwner::OfRow(row),
+                token.text,
+                apply_sign(minus, value),
+            )
+        }
+        TerminalKind::Compares(relation) => {
+            let left = Some((GivenLimit::of(apply_sign(minus, value)), relation));
+            Ok(State::RowLeftRelation(context.earlier.row_without_terms(name, left)?))
+        }
+        _ => refuse_constant(context, token),
+    }
+}
+
+/// Takes the token after the left-hand side of a row.
+fn take_row_relation(
+    context: &mut Context,
+    name: Name,
+    limit: GivenLimit,
+    token: &TerminalToken<'_>,
+) -> Result<State, LineError>
+    ensures { TakesToken (take context.old (State.RowLeft name limit) (terminal_of_token token.now)) result context.new }
+{
+    match token.kind {
+        TerminalKind::Compares(relation) => {
+            let left = Some((limit, relation));
+            Ok(State::RowLeftRelation(context.earlier.row_without_terms(name, left)?))
+        }
+        _ => refuse(context, token, FaultKind::BadToken),
+    }
+}
+
+/// Takes the token after the column of a bound.
+fn take_after_bound_name(
+    context: &mut Context,
+    column: Name,
+    token: &TerminalToken<'_>,
+) -> Result<State, LineError>
+    ensures { TakesToken (take context.old (State.BoundName column) (terminal_of_token token.now)) result context.new }
+{
+    match token.kind {
+        TerminalKind::Free => take_free(context, column),
+        TerminalKind::Compares(relation) => {
+            Ok(State::AtSide(SideOwner::SideOfBound(true, column, relation)))
+        }
+        _ => refuse(context, token, FaultKind::BadToken),
+    }
+}
+
+/// Takes the token after the sign of a bound's left-hand side.
+fn take_after_bound_sign(
+    context: &mut Context,
+    minus: bool,
+    token: &TerminalToken<'_>,
+) -> Result<State, LineError>
+    ensures { TakesToken (take context.old (State.BoundSign minus) (terminal_of_token token.now)) result context.new }
+{
+    match limit_of_terminal(minus, token) {
+        Some(limit) => Ok(State::BoundLeft(limit)),
+        None => refuse(context, token, FaultKind::BadToken),
+    }
+}
+
+/// Takes the token after the left-hand side of a bound.
+fn take_bound_relation(
+    context: &mut Context,
+    limit: GivenLimit,
+    token: &TerminalToken<'_>,
+) -> Result<State, LineError>
+    ensures { TakesToken (take context.old (State.BoundLeft limit) (terminal_of_token token.now)) result context.new }
+{
+    match token.kind {
+        TerminalKind::Compares(relation) => Ok(State::BoundLeftRelation(limit, relation)),
+        _ => refuse(context, token, FaultKind::BadToken),
+    }
+}
+
+/// Takes the token after the relation that follows the left-hand side of a bound.
+fn take_after_bound_relation(
+    context: &mut Context,
+    limit: GivenLimit,
+    relation: Relation,
+    token: &TerminalToken<'_>,
+) -> Result<State, LineError>
+    requires { HasLegalName token.now }
+    ensures { TakesToken (take context.old (State.BoundLeftRelation limit relation) (terminal_of_token token.now)) result context.new }
+{
+    match token.kind {
+        TerminalKind::Name => take_bound_column(context, &limit, relation, token.text),
+        _ => refuse(context, token, FaultKind::BadToken),
+    }
+}
+
+/// Takes the first token of a right-hand side.
+fn take_at_side(
+    context: &mut Context,
+    sided: SideOwner,
+    token: &TerminalToken<'_>,
+) -> Result<State, LineError>
+    ensures { TakesToken (take context.old (State.AtSide sided) (terminal_of_token token.now)) result context.new }
+{
+    match token.kind {
+        TerminalKind::Sign(minus) => Ok(State::SideSign(sided, minus)),
+        _ => take_limit(context, sided, false, token),
+    }
+}
+
+/// Takes a token: the state after it. What it declares is declared.
+///
+/// # Errors
+///
+/// `Fault` of a token that may not stand here, or of what it declares, as the grammar tells it: a section's word that may not
+/// stand here has its own fault, which comes before all others. `OutOfMemory` where a growth was refused. After an error nothing
+/// is known of the context.
+#[inline(always)]
+pub fn take(
+    context: &mut Context,
+    state: State,
+    token: &TerminalToken<'_>,
+) -> Result<State, LineError>
+    requires { HasLegalName token.now }
+    ensures { TakesToken (take context.old state (terminal_of_token token.now)) result context.new }
+{
+    match state {
+        State::Between(place) => begin(context, place, token),
+        State::AtObjective(sense) => take_at_objective(context, sense, token),
+        State::ObjectiveName(sense, name) => take_after_objective_name(context, sense, name, token),
+        State::AtLastWord(wanted) => take_last_word(context, wanted, token),
+        State::AtSemi => take_after_semi(context, token),
+        State::Signs(owner, minus) => take_after_signs(context, owner, minus, token),
+        State::ItemNumber(owner, minus, value) => {
+            take_after_number(context, owner, minus, value, token)
+        }
+        State::RowName(name) => take_after_row_name(context, name, token),
+        State::RowLabel(name) => begin_row(context, name, token),
+        State::RowSign(name, minus) => take_after_row_sign(context, name, minus, token),
+        State::RowNumber(name, minus, value) => {
+            take_after_row_number(context, name, minus, value, token)
+        }
+        State::RowLeft(name, limit) => take_row_relation(context, name, limit, token),
+        State::RowLeftRelation(row) => begin_item(context, ItemOwner::OfRow(row), token),
+        State::BoundName(column) => take_after_bound_name(context, column, token),
+        State::BoundSign(minus) => take_after_bound_sign(context, minus, token),
+        State::BoundLeft(limit) => take_bound_relation(context, limit, token),
+        State::BoundLeftRelation(limit, relation) => {
+            take_after_bound_relation(context, limit, relation, token)
+        }
+        State::AtSide(sided) => take_at_side(context, sided, token),
+        State::SideSign(sided, minus) => take_limit(context, sided, minus, token),
+        State::AfterEnd => refuse(context, token, FaultKind::BadToken),
+    }
+}

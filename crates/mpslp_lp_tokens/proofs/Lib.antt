@@ -1,0 +1,9 @@
+pub mod SliceLemmas
+pub mod JoinedTokens
+pub mod WordLemmas
+pub mod NameTokens
+pub mod NumberRun
+pub mod NumberSize
+pub mod FrontLemmas
+pub mod FrontText
+pub mod TokenLemmas

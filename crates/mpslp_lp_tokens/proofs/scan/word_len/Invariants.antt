@@ -1,0 +1,8 @@
+use Rattle.std.proofs.Common.{◌≡◌, ◌+◌, drop}
+use Rattle.std.specs.List.{prefix_len}
+use Rattle.mpslp_lp_tokens.specs.Line.{continues_word}
+use Rattle.mpslp_lp_tokens.proofs.scan.word_len.Given as goal
+
+-- the bytes so far continue a word
+abbrev pub invariant-loop-at : goal.invariant-loop-at
+invariant-loop-at l = l.at + prefix_len continues_word (drop l.at l.text) ≡ prefix_len continues_word l.text

@@ -1,0 +1,5 @@
+pub mod Line
+pub mod Token
+pub mod Scan
+pub mod Words
+pub mod Laws

@@ -1,0 +1,91 @@
+-- The tokens of a line of LP text.
+use Rattle.std.specs.Prelude.{ℕ, zero, suc, ◌+◌, ◌-◌, Bool, true, false, ◌==◌, ◌&&◌, List, [], ◌∷◌, length, take, codes, Option, Some, None, zip}
+use Rattle.std.specs.List.{list_all, find}
+use Rattle.std.specs.Option.{option_map}
+use Rattle.mpslp_decimal.specs.Literal.{is_literal}
+use Rattle.mpslp_types.specs.Name.{same_bytes, begins_a_number}
+use Rattle.mpslp_lp_tokens.specs.Line.{is_blank, begins_comment, begins_word, continues_word}
+use Rattle.mpslp_lp_tokens.specs.declared.tokens.TokenKind.{TokenKind}
+use Rattle.mpslp_lp_tokens.specs.declared.tokens.TokenKind.TheVariants.{Word, Number, Less, Greater, Equal, DoubleColon, Colon, Arrow, Plus, Minus, OpenBracket, CloseBracket, Caret, Star, Period, Unknown}
+
+-- ---- the kind of a whole text
+
+abbrev pub is_word : List ℕ → Bool
+is_word [] = false
+is_word (byte ∷ bytes) = begins_word byte && list_all continues_word bytes
+
+-- a number is a literal without a sign
+abbrev pub is_number : List ℕ → Bool
+is_number text = elim (begins_a_number text) [ true ↦ is_literal text | false ↦ false ]
+
+-- operators of one byte; a period is one if it begins no number, and no rule accepts it
+abbrev pub one_byte_operators : List (ℕ × TokenKind)
+one_byte_operators = zip (codes "<>=:+-[]^*.")
+    (Less ∷ Greater ∷ Equal ∷ Colon ∷ Plus ∷ Minus ∷ OpenBracket ∷ CloseBracket ∷ Caret ∷ Star ∷ Period ∷ [])
+
+-- operators of two bytes
+abbrev pub two_byte_operators : List (List ℕ × TokenKind)
+two_byte_operators =
+    (codes "<=", Less) ∷ (codes "=<", Less) ∷ (codes ">=", Greater) ∷ (codes "=>", Greater)
+    ∷ (codes "::", DoubleColon) ∷ (codes "->", Arrow) ∷ []
+
+abbrev pub operator_kind : List ℕ → Option TokenKind
+operator_kind (first ∷ []) = option_map (λ (entry : ℕ × TokenKind). entry.1) (find (λ entry. entry.0 == first) one_byte_operators)
+operator_kind (first ∷ second ∷ []) =
+    option_map (λ (entry : List ℕ × TokenKind). entry.1) (find (λ entry. same_bytes entry.0 (first ∷ second ∷ [])) two_byte_operators)
+operator_kind _ = None
+
+-- the kind of token that a whole text is, if it is one
+abbrev pub kind_of : List ℕ → Option TokenKind
+kind_of text = elim (is_word text) [
+  | true ↦ Some Word
+  | false ↦ elim (is_number text) [ true ↦ Some Number | false ↦ operator_kind text ]
+]
+
+-- ---- the longest token at a position
+
+-- a prefix of the bytes that is a token: its kind and its length
+pub record Front : Type 0 where
+  pub kind : TokenKind
+  pub size : ℕ
+
+-- the longest prefix of at most this size that is a token
+abbrev pub longest_within : ℕ → List ℕ → Option Front
+longest_within zero bytes = None
+longest_within (suc size) bytes = elim (kind_of (take (suc size) bytes)) [
+  | Some kind ↦ Some (record { kind = kind; size = suc size })
+  | None ↦ longest_within size bytes
+]
+
+abbrev pub longest_token : List ℕ → Option Front
+longest_token bytes = longest_within (length bytes) bytes
+
+-- if no token begins here, one byte is an unknown token
+abbrev pub token_at : List ℕ → Front
+token_at bytes = elim (longest_token bytes) [ Some front ↦ front | None ↦ record { kind = Unknown; size = 1 } ]
+
+-- ---- the tokens of a line
+
+pub record Token : Type 0 where
+  pub kind : TokenKind
+  pub start : ℕ
+  pub text : List ℕ
+
+-- From a position on, after bytes that a token has taken: spaces and tabs separate tokens, a backslash begins the comment,
+-- and each token is the longest at its position.
+abbrev pub tokens_from : ℕ → ℕ → List ℕ → List Token
+tokens_from place taken [] = []
+tokens_from place (suc taken) (byte ∷ bytes) = tokens_from (place + 1) taken bytes
+tokens_from place zero (byte ∷ bytes) = elim (begins_comment byte) [
+  | true ↦ []
+  | false ↦ elim (is_blank byte) [
+    | true ↦ tokens_from (place + 1) zero bytes
+    | false ↦
+        let front = token_at (byte ∷ bytes) in
+        record { kind = front.kind; start = place; text = take front.size (byte ∷ bytes) }
+        ∷ tokens_from (place + 1) (front.size - 1) bytes
+  ]
+]
+
+abbrev pub tokens : List ℕ → List Token
+tokens line = tokens_from 0 0 line

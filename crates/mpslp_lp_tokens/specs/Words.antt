@@ -1,0 +1,66 @@
+-- Reserved words and their meanings.
+use Rattle.std.specs.Prelude.{ℕ, List, [], ◌∷◌, ◌++◌, ◌&&◌, Bool, false, map, length, codes, nat_eq, nat_le}
+use Rattle.std.specs.List.{find, list_any}
+use Rattle.std.specs.Option.{option_map_or}
+use Rattle.mpslp_types.specs.Name.{same_bytes, lower_byte}
+use Rattle.mpslp_lp_tokens.specs.declared.words.Section.{Section}
+use Rattle.mpslp_lp_tokens.specs.declared.words.Section.TheVariants as sections
+use Rattle.mpslp_lp_tokens.specs.declared.words.SectionWord.{SectionWord}
+use Rattle.mpslp_lp_tokens.specs.declared.words.SectionWord.TheVariants.{Minimize, Maximize, Rows, Subject, Such, Bounds, Generals, Binaries, Semi, Semis, End}
+use Rattle.mpslp_lp_tokens.specs.declared.words.WordClass.{WordClass}
+use Rattle.mpslp_lp_tokens.specs.declared.words.WordClass.TheVariants.{Opens, Infinity, Free, Sos, Name}
+
+abbrev all_of_class : WordClass → List (List ℕ) → List (List ℕ × WordClass)
+all_of_class word_class words = map (λ word. (word, word_class)) words
+
+-- the reserved words, in lower case
+abbrev pub word_classes : List (List ℕ × WordClass)
+word_classes =
+    all_of_class (Opens Minimize) (codes "min" ∷ codes "minimize" ∷ codes "minimum" ∷ [])
+    ++ all_of_class (Opens Maximize) (codes "max" ∷ codes "maximize" ∷ codes "maximum" ∷ [])
+    ++ all_of_class (Opens Subject) (codes "subject" ∷ [])
+    ++ all_of_class (Opens Such) (codes "such" ∷ [])
+    ++ all_of_class (Opens Rows) (codes "st" ∷ codes "s.t." ∷ codes "st." ∷ [])
+    ++ all_of_class (Opens Bounds) (codes "bound" ∷ codes "bounds" ∷ [])
+    ++ all_of_class (Opens Generals) (codes "general" ∷ codes "generals" ∷ codes "gen" ∷ codes "integer" ∷ codes "integers" ∷ codes "int" ∷ [])
+    ++ all_of_class (Opens Binaries) (codes "binary" ∷ codes "binaries" ∷ codes "bin" ∷ [])
+    ++ all_of_class (Opens Semi) (codes "semi" ∷ [])
+    ++ all_of_class (Opens Semis) (codes "semis" ∷ [])
+    ++ all_of_class Sos (codes "sos" ∷ codes "sos1" ∷ codes "sos2" ∷ [])
+    ++ all_of_class Free (codes "free" ∷ [])
+    ++ all_of_class Infinity (codes "inf" ∷ codes "infinity" ∷ [])
+    ++ all_of_class (Opens End) (codes "end" ∷ [])
+
+-- the meaning of a word, ignoring case; a word that is not reserved is a name
+abbrev pub class_of : List ℕ → WordClass
+class_of word =
+    let lower = map lower_byte word in
+    option_map_or (λ (entry : List ℕ × WordClass). entry.1) (find (λ entry. same_bytes lower entry.0) word_classes) Name
+
+-- the first two letters of reserved words, in lower case
+abbrev pub reserved_beginnings : List (List ℕ)
+reserved_beginnings =
+    codes "bi" ∷ codes "bo" ∷ codes "en" ∷ codes "fr" ∷ codes "ge" ∷ codes "in" ∷ codes "ma" ∷ codes "mi"
+    ∷ codes "s." ∷ codes "se" ∷ codes "so" ∷ codes "st" ∷ codes "su" ∷ []
+
+-- two letters with which a reserved word begins, ignoring case
+abbrev pub begins_reserved : ℕ → ℕ → Bool
+begins_reserved first second = list_any (same_bytes (lower_byte first ∷ lower_byte second ∷ [])) reserved_beginnings
+
+-- a word that is not longer than the longest reserved word, and begins like one of them
+abbrev pub may_be_reserved : List ℕ → Bool
+may_be_reserved (first ∷ second ∷ rest) = nat_le (length (first ∷ second ∷ rest)) 8 && begins_reserved first second
+may_be_reserved _ = false
+
+abbrev pub section_of : SectionWord → Section
+section_of Minimize = sections.Objective
+section_of Maximize = sections.Objective
+section_of Rows = sections.Rows
+section_of Subject = sections.Rows
+section_of Such = sections.Rows
+section_of Bounds = sections.Bounds
+section_of Generals = sections.Generals
+section_of Binaries = sections.Binaries
+section_of Semi = sections.SemiContinuous
+section_of Semis = sections.SemiContinuous
+section_of End = sections.End

@@ -1,0 +1,16 @@
+//! Tokens of a line of LP text, and what its words mean.
+//!
+//! The definitions are in `specs/`: the bytes of lines (`Line`), their tokens (`Token`), the same by stages (`Scan`), reserved
+//! words (`Words`), and what holds of every line (`Laws`).
+//!
+//! [`tokens_of`] cuts a line, without memory and in one pass. [`class_of`] returns what a word means. Which tokens make an LP
+//! file is said in `mpslp_lp_grammar`.
+#![tactic(auto)]
+
+pub mod laws;
+mod scan;
+mod tokens;
+mod words;
+
+pub use tokens::{Token, TokenKind, Tokens, next_token, tokens_of};
+pub use words::{Section, SectionWord, WordClass, class_of, is_word};
