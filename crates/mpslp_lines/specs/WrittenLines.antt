@@ -1,4 +1,4 @@
--- Lines as they are written: a line feed after each.
+-- Lines of a text that is written: a line feed after each.
 use Rattle.std.specs.Prelude.{ℕ, List, [], ◌∷◌, ◌++◌}
 use Rattle.std.specs.List.{flat_map}
 

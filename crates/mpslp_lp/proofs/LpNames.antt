@@ -1,4 +1,4 @@
--- A word that is a name and has no fault is an LP name.
+-- A word that is a name and has no error is an LP name.
 use Rattle.std.proofs.Common.{◌≡◌, refl, ap, ℕ, List, [], ◌∷◌, Bool, true, false, not}
 use Rattle.std.specs.Prelude.{None, ◌&&◌}
 use Rattle.std.specs.List.{list_all}

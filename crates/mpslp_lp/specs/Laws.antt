@@ -15,7 +15,7 @@ use Rattle.mpslp_lp.specs.FirstFault.{IsFirstLpFault}
 use Rattle.mpslp_lp_grammar.specs.Rules.Outcome.{Refused}
 use Rattle.mpslp_lp.specs.Fed.{lines_outcome, IsFaultOfLines}
 
--- what a declaration gives a name, it gives an LP name
+-- a name that a declaration declares is an LP name
 abbrev pub has_lp_name : Declaration → Bool
 has_lp_name (declare_objective name) = is_lp_name name
 has_lp_name (declare_row name form) = is_lp_name name
@@ -49,7 +49,7 @@ abbrev pub is_known : TokenKind → Bool
 is_known Unknown = false
 is_known _ = true
 
--- The bytes of a line are legal exactly where each of its tokens is known.
+-- The bytes of a line are legal if and only if none of its tokens is unknown.
 abbrev pub UnknownAreIllegal : Type 0
 UnknownAreIllegal = (line : List ℕ) → has_legal_bytes line ≡ list_all (λ (token : Token). is_known token.kind) (tokens line)
 

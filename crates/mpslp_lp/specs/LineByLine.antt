@@ -1,4 +1,4 @@
--- Lines read one after another, in place of all their tokens.
+-- Lines read one after another, instead of all tokens at once.
 use Rattle.std.specs.Prelude.{ℕ, true, false, List, [], ◌∷◌, map, filter_map, Some, None}
 use Rattle.mpslp_types.specs.FaultOrder.{least_kind}
 use Rattle.mpslp_types.specs.declared.faults.FaultKind.{FaultKind}

@@ -1,11 +1,11 @@
 //! LP text: what it declares, and the first error of text that declares no model.
 //!
-//! The tokens of a line are those of `mpslp_lp_tokens`, the grammar and its states are those of `mpslp_lp_grammar`. The
-//! definitions of `specs/` say what a whole text is: its bytes, lines and declarations (`LpText`, `FirstFault`), lines read one
-//! after another (`LineByLine`), and what was read of text that comes in pieces (`Fed`).
+//! The tokens of a line are defined in `mpslp_lp_tokens`, the grammar and its states in `mpslp_lp_grammar`. The definitions in
+//! `specs/` are those of a whole text (`LpText`, `FirstFault`), of lines read one after another (`LineByLine`), and of what was
+//! read of a text that comes in pieces (`Fed`).
 //!
-//! [`LpReader`] reads a text that comes in pieces: it takes the tokens of each line from a state to the next, and the terms of
-//! rows that are plain as a whole (`plain_terms`). [`read_lp`] reads a whole text. [`tokens_of`] cuts a line.
+//! [`LpReader`] reads text in pieces: it takes the tokens of each line, going from state to state, and takes plain terms of rows
+//! at once (`plain_terms`). [`read_lp`] reads a whole text. [`tokens_of`] divides a line into tokens.
 #![tactic(auto)]
 
 pub mod laws;

@@ -1,4 +1,4 @@
--- What a reader makes of one token.
+-- What a reader does with one token.
 use Rattle.std.specs.Prelude.{ℕ, Bool, true, false, if◌then◌else◌, List, [], ◌∷◌, Some, None}
 use Rattle.mpslp_decimal.specs.Decimal.{Number as Decimal}
 use Rattle.mpslp_types.specs.Limit.{limit_of}
@@ -129,7 +129,7 @@ abbrev pub is_at_end : State → Bool
 is_at_end AfterEnd = true
 is_at_end _ = false
 
--- what no token says
+-- the outcome at the end of the tokens
 abbrev pub at_end : Context → State → Outcome Fault Draft
 at_end context AfterEnd = Finished context.earlier
 at_end context _ = Open

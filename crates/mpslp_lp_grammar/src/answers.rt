@@ -23,8 +23,7 @@ pub(crate) fn at_place(answer: Result<(), LineError>, place: Place) -> Result<St
     }
 }
 
-/// A token that the grammar cannot take for this reason. A section's word that may not stand here has its own fault, which
-/// comes before.
+/// Rejects a token with an error of the grammar. A section word in the wrong place has its own error, which is reported instead.
 pub(crate) fn refuse(
     context: &Context,
     token: &TerminalToken<'_>,

@@ -1,4 +1,4 @@
-//! What stands before a phrase.
+//! The context of a phrase: what earlier tokens mean for it.
 
 ghost use Rattle.std.specs.Prelude.{◌≡◌};
 ghost use Rattle.mpslp_lp_grammar.specs.Point.{start};
@@ -8,7 +8,7 @@ use crate::sections_seen::SectionsSeen;
 use mpslp_model::Builder;
 use std::alloc::Global;
 
-/// What stands before a phrase.
+/// The context of a phrase: what earlier tokens mean for it.
 #[derive(Drop)]
 pub struct Context {
     /// The sections that were opened.
@@ -18,7 +18,7 @@ pub struct Context {
 }
 
 impl Context {
-    /// What stands before a text: no section was opened, and nothing declared.
+    /// The context at the start of a text: no section is open, and nothing is declared.
     pub fn start(alloc: Global) -> Context
         ensures { result ≡ start.context }
     {

@@ -1,13 +1,13 @@
 //! The grammar of LP text: which tokens may follow one another, and what they declare.
 //!
-//! The format is that of the CPLEX file format reference. The definitions are in `specs/`: what the grammar sees of a token
-//! (`Terminal`), the faults of a token and a line by itself (`LexicalFault`), the grammar by its rules (`Rules`, `Point`, `Phrase`,
-//! `Sides`, `Items`, `Objective`, `Rows`, `Bounds`, `Grammar`), and the same one token after another, by what a reader keeps
-//! (`TokenByToken`, `AfterToken`, `FirstToken`, `TokenStep`).
+//! The format follows the CPLEX file format reference. The definitions are in `specs/`: what the grammar sees of a token
+//! (`Terminal`), the lexical errors of a token and of a line (`LexicalFault`), the grammar by its rules (`Rules`, `Point`,
+//! `Phrase`, `Sides`, `Items`, `Objective`, `Rows`, `Bounds`, `Grammar`), and the same grammar token by token, in terms of what
+//! a reader keeps (`TokenByToken`, `AfterToken`, `FirstToken`, `TokenStep`).
 //!
-//! [`classify`] returns what the grammar sees of a token, or the fault that the token has wherever it stands. [`take`] takes a
-//! token from one [`State`] to the next, and tells the builder in the [`Context`] what it declares. That both ways to state the
-//! grammar are one is proved in `proofs/TakingLemmas`. `mpslp_lp` takes the tokens of lines.
+//! [`classify`] returns what the grammar sees of a token, or the lexical error of the token. [`take`] takes a token, going from
+//! one [`State`] to the next, and passes what it declares to the builder in the [`Context`]. `proofs/TakingLemmas` proves that
+//! both definitions of the grammar agree. `mpslp_lp` takes the tokens of lines.
 #![tactic(auto)]
 
 mod answers;

@@ -41,11 +41,11 @@ impl Model for PartialRow {
 }
 
 impl PartialRow {
-    /// The row with one more term, of a column that has none in it. The name of the column is copied.
+    /// Adds a term to the row. The name of the column is copied.
     ///
     /// # Errors
     ///
-    /// `DuplicateEntry` of a column that has a term in the row; `OutOfMemory` where a growth was refused.
+    /// `DuplicateEntry` if the column already has a term in the row; `OutOfMemory` if an allocation fails.
     pub fn with_term(
         self,
         context: &Context,

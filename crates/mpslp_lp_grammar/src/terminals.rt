@@ -102,7 +102,7 @@ fn classify_number(literal: &[u8]) -> Result<TerminalKind, FaultKind>
     }
 }
 
-/// What is seen of a token, or its fault wherever it stands.
+/// What the grammar sees of a token, or its lexical error.
 ///
 /// # Errors
 ///

@@ -340,13 +340,12 @@ fn take_at_side(
     }
 }
 
-/// Takes a token: the state after it. What it declares is declared.
+/// Takes a token, declares what it declares, and returns the state after it.
 ///
 /// # Errors
 ///
-/// `Fault` of a token that may not stand here, or of what it declares, as the grammar tells it: a section's word that may not
-/// stand here has its own fault, which comes before all others. `OutOfMemory` where a growth was refused. After an error nothing
-/// is known of the context.
+/// `Fault` if the grammar does not allow the token here, or if what it declares is rejected; the error of a section word in the
+/// wrong place comes before all others. `OutOfMemory` if an allocation fails. After an error nothing is known of the context.
 #[inline(always)]
 pub fn take(
     context: &mut Context,

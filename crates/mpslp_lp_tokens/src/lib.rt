@@ -1,10 +1,10 @@
-//! Tokens of a line of LP text, and what its words mean.
+//! The tokens of a line of LP text, and what words mean.
 //!
 //! The definitions are in `specs/`: the bytes of lines (`Line`), their tokens (`Token`), the same by stages (`Scan`), reserved
 //! words (`Words`), and what holds of every line (`Laws`).
 //!
-//! [`tokens_of`] cuts a line, without memory and in one pass. [`class_of`] returns what a word means. Which tokens make an LP
-//! file is said in `mpslp_lp_grammar`.
+//! [`tokens_of`] divides a line into tokens, in one pass and without allocating. [`class_of`] returns what a word means. The
+//! grammar is in `mpslp_lp_grammar`.
 #![tactic(auto)]
 
 pub mod laws;

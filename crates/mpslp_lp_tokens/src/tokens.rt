@@ -110,7 +110,7 @@ impl<'a> Model for Tokens<'a> {
 }
 
 impl<'a> Tokens<'a> {
-    /// The same tokens once more. What is taken of them leaves these as they are.
+    /// The same tokens again. Taking them does not change these.
     pub fn again(&self) -> Tokens<'a>
         ensures { result ≡ self.now }
     {
