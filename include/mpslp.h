@@ -77,8 +77,14 @@ typedef MPSLP_ENUM(mpslp_status) {
     MPSLP_UNKNOWN_FORMAT = 6  /* a format is neither MPSLP_MPS nor MPSLP_LP */
 } mpslp_status;
 
-/* Places in a model. */
-typedef MPSLP_ENUM(mpslp_place) { MPSLP_NOWHERE = 0, MPSLP_AT_OBJECTIVE = 1, MPSLP_AT_ROW = 2, MPSLP_AT_COLUMN = 3 } mpslp_place;
+/* Places in a model. Only mpslp_store reports an element. */
+typedef MPSLP_ENUM(mpslp_place) {
+    MPSLP_NOWHERE = 0,
+    MPSLP_AT_OBJECTIVE = 1,
+    MPSLP_AT_ROW = 2,
+    MPSLP_AT_COLUMN = 3,
+    MPSLP_AT_ELEMENT = 4
+} mpslp_place;
 
 /* A byte string, not NUL-terminated. Release a returned text with mpslp_free. */
 typedef struct mpslp_text {
@@ -92,8 +98,8 @@ typedef struct mpslp_text {
 typedef struct mpslp_fault {
     mpslp_text kind;  /* the name of its kind, as DuplicateEntry; docs/FORMATS.md has them all. NotLp at MPSLP_NOT_LP */
     uint64_t line;    /* counted from 1; 0 for a fault of the whole text, and at MPSLP_NOT_LP */
-    mpslp_place place; /* at MPSLP_NOT_LP: the objective, a row or a column has the name; else MPSLP_NOWHERE */
-    size_t number;    /* the number of that row or column, from 0 in byte order of names; else 0 */
+    mpslp_place place; /* at MPSLP_NOT_LP: the objective, a row or a column has the name. Of mpslp_store: what has the fault. Else MPSLP_NOWHERE */
+    size_t number;    /* the number of that row or column, from 0 in byte order of names. Of mpslp_store: its index in the arrays. Else 0 */
     size_t name_len;  /* the length of the name of the row or column that a whole text's fault is told of; or 0 */
     char name[256];   /* that name, and zeros behind it */
 } mpslp_fault;
@@ -250,6 +256,39 @@ typedef struct mpslp_model {
  * MPSLP_OUT_OF_MEMORY, or MPSLP_UNKNOWN_FORMAT. Other outputs are left unchanged; a previous model in `*out` is not freed.
  */
 MPSLP_MUST_USE mpslp_status mpslp_load(mpslp_format format, const uint8_t *bytes, size_t len, mpslp_model *out, mpslp_fault *fault);
+
+/*
+ * Writes the canonical text, in the format `to`, of the model that arrays define.
+ *
+ * The arrays have the form that mpslp_load gives them, with less order: rows, columns, and the elements of one column may come in
+ * any order, and numbers need not be in normal form. What counts:
+ *
+ * - The elements of a column are those from its `first` up to the `first` of the next column, or to the last element. The
+ *   first column begins at 0.
+ * - A limit or bound of size 1e20 or more is the infinity of its sign.
+ * - An element or cost of 0 is allowed, and is no coefficient of the model.
+ *
+ * MPSLP_OK: `*out` is the text. MPSLP_NOT_LP: `to` is LP, and `*fault` has the place of the first name that is not legal in LP,
+ * counted in byte order of names. MPSLP_REFUSED: the arrays define no model, and `*fault` has the first error. Or MPSLP_OUT_OF_MEMORY, or
+ * MPSLP_UNKNOWN_FORMAT. Outputs that the status does not mention are unchanged; an old text in `*out` is not freed.
+ *
+ * Errors are found in this order: the objective, the rows, and then each column followed by its elements. `place` and `number`
+ * say which item it is. Its kind is one of those of files:
+ *
+ * - NameLength, NameByte, NameMarker: the name is not legal, or not within `names` (NameLength).
+ * - BadNumber, TooManyDigits, ExponentRange: a constant, cost or element is infinite; a number has more than 36 digits, or an exponent
+ *   beyond 500.
+ * - BadType: a sense or kind that is none.
+ * - DuplicateRow, DuplicateBound, DuplicateEntry: a row (or a row and the objective), a column, or an element for the second time.
+ * - InfiniteValue: a lower side of plus infinity, or an upper one of minus infinity.
+ * - UnknownRow: an element of a row that is not there. ColumnSplit: a `first` that is out of order.
+ *
+ * If no item has an error, the model as a whole may have one, with `name` the row or column: NoColumns, RangeInexact, LimitTooLarge,
+ * LimitsCrossed, BoundsCrossed, SemiBounds.
+ *
+ * Nothing outside of the arrays is read, whatever the numbers in them. The arrays are the caller's, and do not change.
+ */
+MPSLP_MUST_USE mpslp_status mpslp_store(mpslp_format to, const mpslp_model *model, mpslp_text *out, mpslp_fault *fault);
 
 /*
  * Accessors. Row and column indices must be in range, and so must the index of an entry in its column: nothing checks them.
@@ -592,7 +631,7 @@ MPSLP_INLINE void mpslp_matrix(const mpslp_model *model, int32_t *starts, int32_
 
 /* ---- releasing memory */
 
-/* Frees a text that mpslp_canonical gave, and makes it MPSLP_NO_TEXT. A text of no bytes has nothing to free. */
+/* Frees a text that mpslp_canonical or mpslp_store gave, and makes it MPSLP_NO_TEXT. A text of no bytes has nothing to free. */
 MPSLP_INLINE void mpslp_free(mpslp_text *text) {
     const mpslp_text none = MPSLP_NO_TEXT;
     if (text->len != 0) free(MPSLP_POINTER(void *, MPSLP_POINTER(uintptr_t, text->bytes)));

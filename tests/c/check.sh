@@ -70,6 +70,7 @@ for input in examples/*.mps examples/*.lp; do
         test -f "$wanted" || continue
         for program in $tried/program $tried/program-sanitized "$checked $tried/program"; do
             $program canon "$form" "$to" "$input" | cmp - "$wanted" || die "$input to $to"
+            $program store "$form" "$to" "$input" | cmp - "$wanted" || die "$input stored as $to"
         done
     done
     case $model in *.canonical) $tried/program is "$form" "$input" || die "$input is canonical" ;; esac
@@ -95,6 +96,12 @@ for input in vectors/*.mps vectors/*.lp; do
     status=0
     $tried/program-sanitized canon "${input##*.}" lp "$input" > $tried/text 2> $tried/fault || status=$?
     test $status -le 2 || die "$input: $(cat $tried/fault)"
+    for to in mps lp; do
+        stored=0
+        $tried/program-sanitized canon "${input##*.}" $to "$input" > $tried/text 2> $tried/fault || status=$?
+        $tried/program-sanitized store "${input##*.}" $to "$input" > $tried/stored 2> $tried/stored-fault || stored=$?
+        test $stored -le 2 && cmp $tried/text $tried/stored && cmp $tried/fault $tried/stored-fault || die "$input stored as $to"
+    done
     status=0
     $tried/program-sanitized show "${input##*.}" "$input" > $tried/text 2> $tried/fault || status=$?
     test $status -le 2 || die "$input: $(cat $tried/fault)"

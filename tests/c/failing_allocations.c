@@ -18,11 +18,12 @@ static int fails(void) { return left >= 0 && left-- == 0; }
 void *__wrap_malloc(size_t size) { return fails() ? NULL : __real_malloc(size); }
 void *__wrap_realloc(void *at, size_t size) { return fails() ? NULL : __real_realloc(at, size); }
 
-enum { CANONICAL_MPS, CANONICAL_LP, SAME, IS_CANONICAL, LOAD, CALLS };
-static const char *const names[CALLS] = { "mpslp_canonical to MPS", "mpslp_canonical to LP", "mpslp_same", "mpslp_is_canonical", "mpslp_load" };
+enum { CANONICAL_MPS, CANONICAL_LP, SAME, IS_CANONICAL, LOAD, STORE_MPS, STORE_LP, CALLS };
+static const char *const names[CALLS] = { "mpslp_canonical to MPS", "mpslp_canonical to LP", "mpslp_same", "mpslp_is_canonical", "mpslp_load", "mpslp_store to MPS", "mpslp_store to LP" };
 
 static uint8_t bytes[1 << 20];
 static size_t len;
+static mpslp_model stored = MPSLP_NO_MODEL;
 
 /* What a call gives: a text, a model, or a fault. */
 typedef struct {
@@ -39,6 +40,8 @@ static uint32_t call(int which, uint32_t format, answer *to) {
     case CANONICAL_LP: return mpslp_canonical(format, MPSLP_LP, bytes, len, &to->text, &to->fault);
     case SAME: return mpslp_same(format, bytes, len, format, bytes, len, &to->fault);
     case IS_CANONICAL: return mpslp_is_canonical(format, bytes, len, &to->fault);
+    case STORE_MPS: return mpslp_store(MPSLP_MPS, &stored, &to->text, &to->fault);
+    case STORE_LP: return mpslp_store(MPSLP_LP, &stored, &to->text, &to->fault);
     default: return mpslp_load(format, bytes, len, &to->model, &to->fault);
     }
 }
@@ -99,10 +102,15 @@ static int try_call(int which, uint32_t format) {
 
 int main(int count, char **words) {
     FILE *file = count == 3 ? fopen(words[2], "rb") : NULL;
+    mpslp_fault fault = MPSLP_NO_FAULT;
+    uint32_t format;
     int wrong = 0;
     if (!file) return 3;
     len = fread(bytes, 1, sizeof bytes, file);
     fclose(file);
-    for (int which = 0; which < CALLS; which++) wrong |= try_call(which, strcmp(words[1], "mps") == 0 ? MPSLP_MPS : MPSLP_LP);
+    format = strcmp(words[1], "mps") == 0 ? MPSLP_MPS : MPSLP_LP;
+    if (mpslp_load(format, bytes, len, &stored, &fault) != MPSLP_OK) return 3;
+    for (int which = 0; which < CALLS; which++) wrong |= try_call(which, format);
+    mpslp_free_model(&stored);
     return wrong;
 }

@@ -1,7 +1,7 @@
 /*
  * The words of the program mpslp, done by the calls of the library: canon, same and show, and beside them
- * `is FORMAT PATH`, which tells whether a text is canonical, and `double FORMAT PATH`, which prints each number of a model in
- * hexadecimal. So what tests the program tests the library.
+ * `is FORMAT PATH`, which tells whether a text is canonical, `double FORMAT PATH`, which prints each number of a model in
+ * hexadecimal, and `store FORMAT FORMAT PATH`, which is canon by mpslp_load and mpslp_store, through arrays in another order. So what tests the program tests the library.
  */
 #include "mpslp.h"
 
@@ -253,10 +253,72 @@ static int show(uint32_t format, const char *path, void (*put_it)(const mpslp_mo
     return DONE;
 }
 
+/* ---- a model that is loaded, put into another order, and stored */
+
+/* The same value, with a zero more behind the digits where there is room. */
+static mpslp_number with_zero(mpslp_number number) {
+    if (number.infinity == 0 && number.high == 0 && number.low < UINT64_MAX / 10) {
+        number.low *= 10;
+        number.exponent--;
+    }
+    return number;
+}
+
+/* The model with its rows, its columns and the elements of each column from the last to the first. */
+static mpslp_model turned(const mpslp_model *model) {
+    mpslp_model other = *model;
+    mpslp_row *rows = (mpslp_row *)malloc((model->num_rows + 1) * sizeof *rows);
+    mpslp_column *columns = (mpslp_column *)malloc((model->num_columns + 1) * sizeof *columns);
+    mpslp_element *elements = (mpslp_element *)malloc((model->num_elements + 1) * sizeof *elements);
+    size_t count = 0;
+    if (!rows || !columns || !elements) exit(NO_MEMORY);
+    for (size_t i = 0; i < model->num_rows; i++) {
+        rows[i] = model->rows[model->num_rows - 1 - i];
+        rows[i].lower = with_zero(rows[i].lower);
+        rows[i].upper = with_zero(rows[i].upper);
+    }
+    for (size_t j = 0; j < model->num_columns; j++) {
+        const size_t old = model->num_columns - 1 - j, own = mpslp_column_len(model, old);
+        columns[j] = model->columns[old];
+        columns[j].first = count;
+        columns[j].cost = with_zero(columns[j].cost);
+        for (size_t k = 0; k < own; k++) {
+            const mpslp_element entry = mpslp_entry(model, old, own - 1 - k);
+            elements[count].row = model->num_rows - 1 - entry.row;
+            elements[count++].value = with_zero(entry.value);
+        }
+    }
+    other.rows = rows;
+    other.columns = columns;
+    other.elements = elements;
+    return other;
+}
+
+static int store(uint32_t from, uint32_t to, const char *path) {
+    content all = load(path);
+    mpslp_model model = MPSLP_NO_MODEL, other;
+    mpslp_text text = MPSLP_NO_TEXT;
+    mpslp_fault fault = MPSLP_NO_FAULT;
+    uint32_t status = mpslp_load(from, all.bytes, all.len, &model, &fault);
+    free(all.bytes);
+    if (status != MPSLP_OK) return tell(status, "", &fault);
+    other = turned(&model);
+    status = mpslp_store(to, &other, &text, &fault);
+    free((void *)(uintptr_t)other.rows);
+    free((void *)(uintptr_t)other.columns);
+    free((void *)(uintptr_t)other.elements);
+    mpslp_free_model(&model);
+    if (status != MPSLP_OK) return tell(status, "", &fault);
+    put(stdout, text);
+    mpslp_free(&text);
+    return DONE;
+}
+
 static int run(int count, char **words) {
     uint32_t format, other;
     if (count < 4 || !format_of(words[2], &format)) return WRONG_WORDS;
     if (count == 5 && strcmp(words[1], "canon") == 0 && format_of(words[3], &other)) return canon(format, other, words[4]);
+    if (count == 5 && strcmp(words[1], "store") == 0 && format_of(words[3], &other)) return store(format, other, words[4]);
     if (count == 6 && strcmp(words[1], "same") == 0 && format_of(words[4], &other)) return same(format, words[3], other, words[5]);
     if (count == 4 && strcmp(words[1], "is") == 0) return is(format, words[3]);
     if (count == 4 && strcmp(words[1], "show") == 0) return show(format, words[3], put_model);

@@ -11,11 +11,16 @@ use Rattle.mpslp_convert.specs.Performed.{declares_in, first_fault_in, unfit_in,
 use Rattle.mpslp_convert.specs.declared.faults.ConvertFault.{ConvertFault}
 use Rattle.mpslp_convert.specs.declared.faults.ConvertFault.TheVariants.{First, Second, NotLp, OutOfMemory}
 use Rattle.mpslp_c.specs.Arrays.{TellsModel}
-use Rattle.mpslp_c.specs.Faults.{IsFaultTold}
+use Rattle.mpslp_builder.specs.Declaration.{Draft, empty_draft}
+use Rattle.mpslp_builder.specs.Meaning.{file_fault}
+use Rattle.mpslp_c.specs.Faults.{IsFaultTold, IsStoreFaultTold}
+use Rattle.mpslp_c.specs.Stored.{Item, items, first_item_fault, after_items, Defines}
 use Rattle.mpslp_c.specs.declared.answers.TheConstants.{OK, DIFFERS, REFUSED, SECOND_REFUSED, NOT_LP, OUT_OF_MEMORY, UNKNOWN_FORMAT}
 use Rattle.mpslp_c.specs.declared.arrays.MpslpModel.{MpslpModel}
 use Rattle.mpslp_c.specs.declared.calls.MpslpText.{MpslpText}
 use Rattle.mpslp_c.specs.declared.faults.MpslpFault.{MpslpFault}
+use Rattle.mpslp_c.specs.declared.faults.StoreFault.{StoreFault}
+use Rattle.mpslp_c.specs.declared.faults.StoreFault.TheVariants as stored
 
 -- the format of a number
 abbrev pub form_of : ℕ → Option Form
@@ -130,3 +135,62 @@ abbrev pub IsLoadAnswer : Option Form → List ℕ → ℕ → MpslpModel → Mp
 IsLoadAnswer (Some form) bytes status out out' fault fault' =
     IsLoaded (declares_in form) (first_fault_in form) bytes status out out' fault fault'
 IsLoadAnswer None bytes status out out' fault fault' = (status ≡ UNKNOWN_FORMAT) × (out' ≡ out) × (fault' ≡ fault)
+
+-- ---- the call that stores a model
+
+-- Items were declared, one after another; or the first fault is told; or there was no memory.
+abbrev pub TakesItems : List Item → Draft → Draft → Result (Unit {0}) StoreFault → Type 0
+TakesItems taken old new (Ok _) = (first_item_fault old taken ≡ None) × (new ≡ after_items old taken)
+TakesItems taken old new (Err (stored.Item fault)) = first_item_fault old taken ≡ Some fault
+TakesItems taken old new (Err (stored.Whole fault)) = ⊥
+TakesItems taken old new (Err (stored.NotLp place)) = ⊥
+TakesItems taken old new (Err stored.OutOfMemory) = Unit {0}
+
+-- The first fault of arrays: an item's, or where no item has one, that of the whole.
+abbrev pub HasFault : MpslpModel → StoreFault → Type 0
+HasFault told (stored.Item fault) = first_item_fault empty_draft (items told) ≡ Some fault
+HasFault told (stored.Whole fault) =
+    (first_item_fault empty_draft (items told) ≡ None) × (file_fault (after_items empty_draft (items told)) ≡ Some fault)
+HasFault told (stored.NotLp place) = ⊥
+HasFault told stored.OutOfMemory = ⊥
+
+-- The model that arrays define, or their first fault.
+abbrev pub IsStoredModel : MpslpModel → Result LinearModel StoreFault → Type 0
+IsStoredModel told (Ok m) = Defines told m
+IsStoredModel told (Err (stored.Item fault)) = HasFault told (stored.Item fault)
+IsStoredModel told (Err (stored.Whole fault)) = HasFault told (stored.Whole fault)
+IsStoredModel told (Err (stored.NotLp place)) = ⊥
+IsStoredModel told (Err stored.OutOfMemory) = Unit {0}
+
+-- The text of the model that arrays define, or their first fault; or the first place of the model that the format cannot tell.
+abbrev pub IsStoring : Unfit → TextOf → MpslpModel → Result (Vec ℕ Global) StoreFault → Type 0
+IsStoring unfit text told (Ok out) = (m : LinearModel) × Defines told m × (unfit m ≡ None) × (out.items ≡ text m)
+IsStoring unfit text told (Err (stored.Item fault)) = HasFault told (stored.Item fault)
+IsStoring unfit text told (Err (stored.Whole fault)) = HasFault told (stored.Whole fault)
+IsStoring unfit text told (Err (stored.NotLp place)) = (m : LinearModel) × Defines told m × (unfit m ≡ Some place)
+IsStoring unfit text told (Err stored.OutOfMemory) = Unit {0}
+
+abbrev pub store_status : StoreFault → ℕ
+store_status (stored.Item fault) = REFUSED
+store_status (stored.Whole fault) = REFUSED
+store_status (stored.NotLp place) = NOT_LP
+store_status stored.OutOfMemory = OUT_OF_MEMORY
+
+-- A text is given, or it is told why there is none. What is not given or told stays as it is.
+abbrev pub IsStoreTold : Result (Vec ℕ Global) StoreFault → ℕ → MpslpText → MpslpText → MpslpFault → MpslpFault → Type 0
+IsStoreTold (Ok text) status out out' fault fault' = (status ≡ OK) × (out'.bytes.now ≡ text.items) × (fault' ≡ fault)
+IsStoreTold (Err why) status out out' fault fault' = (status ≡ store_status why) × (out' ≡ out) × IsStoreFaultTold why fault fault'
+
+-- The text of arrays was answered, and handed on. Arrays that define a model which the format can tell are never refused, and
+-- so on.
+pub record IsStored (unfit : Unfit) (text : TextOf) (told : MpslpModel) (status : ℕ) (out out' : MpslpText) (fault fault' : MpslpFault) : Type 0 where
+  pub answer : Result (Vec ℕ Global) StoreFault
+  pub is : IsStoring unfit text told answer
+  pub given : IsStoreTold answer status out out' fault fault'
+  pub accepts : (m : LinearModel) → Defines told m → unfit m ≡ None → IsUnless OK status
+  pub refuses : (why : StoreFault) → HasFault told why → IsUnless REFUSED status
+  pub cannot_tell : (m : LinearModel) (place : NameAt) → Defines told m → unfit m ≡ Some place → IsUnless NOT_LP status
+
+abbrev pub IsStoreAnswer : Option Form → MpslpModel → ℕ → MpslpText → MpslpText → MpslpFault → MpslpFault → Type 0
+IsStoreAnswer (Some to) told status out out' fault fault' = IsStored (unfit_in to) (text_in to) told status out out' fault fault'
+IsStoreAnswer None told status out out' fault fault' = (status ≡ UNKNOWN_FORMAT) × (out' ≡ out) × (fault' ≡ fault)

@@ -6,7 +6,10 @@ use Rattle.mpslp_types.specs.declared.faults.NameAt.{NameAt}
 use Rattle.mpslp_types.specs.declared.faults.NameAt.TheVariants.{Objective, Row, Column}
 use Rattle.mpslp_convert.specs.declared.faults.ConvertFault.{ConvertFault}
 use Rattle.mpslp_convert.specs.declared.faults.ConvertFault.TheVariants.{First, Second, NotLp, OutOfMemory}
+use Rattle.mpslp_c.specs.declared.faults.ItemFault.{ItemFault}
 use Rattle.mpslp_c.specs.declared.faults.MpslpFault.{MpslpFault}
+use Rattle.mpslp_c.specs.declared.faults.StoreFault.{StoreFault}
+use Rattle.mpslp_c.specs.declared.faults.StoreFault.TheVariants as stored
 use Rattle.mpslp_c.specs.declared.faults.TheConstants.{NAME_ROOM, NOWHERE, AT_OBJECTIVE, AT_ROW, AT_COLUMN}
 
 -- A fault is told by the name of its kind, its line, a place in a model with its number, and a name that zeros fill up.
@@ -34,3 +37,14 @@ IsFaultTold (First fault) old new = TellsFault fault new
 IsFaultTold (Second fault) old new = TellsFault fault new
 IsFaultTold (NotLp place) old new = TellsPlace place new
 IsFaultTold OutOfMemory old new = new ≡ old
+
+-- The fault of an item of arrays that should define a model.
+abbrev pub TellsItem : ItemFault → MpslpFault → Type 0
+TellsItem fault = Tells (kind_name fault.kind) 0 fault.place fault.number []
+
+-- What is told of arrays that have no text. Of want of memory nothing is.
+abbrev pub IsStoreFaultTold : StoreFault → MpslpFault → MpslpFault → Type 0
+IsStoreFaultTold (stored.Item fault) old new = TellsItem fault new
+IsStoreFaultTold (stored.Whole fault) old new = TellsFault fault new
+IsStoreFaultTold (stored.NotLp place) old new = TellsPlace place new
+IsStoreFaultTold stored.OutOfMemory old new = new ≡ old

@@ -10,19 +10,19 @@ use mpslp_model::{Kind, Model, Name, Sense};
 use std::alloc::{AllocError, Global};
 
 /// Whatever lies within the bounds.
-const CONTINUOUS: u32 = 0;
+pub(crate) const CONTINUOUS: u32 = 0;
 
 /// Whole numbers alone.
-const INTEGER: u32 = 1;
+pub(crate) const INTEGER: u32 = 1;
 
 /// 0, or whatever lies within the bounds.
-const SEMI: u32 = 2;
+pub(crate) const SEMI: u32 = 2;
 
 /// The least value of the objective is wanted.
-const MINIMIZE: u32 = 0;
+pub(crate) const MINIMIZE: u32 = 0;
 
 /// The greatest one.
-const MAXIMIZE: u32 = 1;
+pub(crate) const MAXIMIZE: u32 = 1;
 
 /// Where a name stands in the names of a model.
 #[repr(C)]

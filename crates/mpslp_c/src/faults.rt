@@ -1,11 +1,11 @@
 //! Faults as C sees them.
 
 ghost use Rattle.std.specs.Prelude.{◌≡◌, ◌++◌, [], length, drop, codes};
-ghost use Rattle.mpslp_c.specs.Faults.{Tells, TellsFault, TellsPlace, IsFaultTold};
+ghost use Rattle.mpslp_c.specs.Faults.{Tells, TellsFault, TellsPlace, TellsItem, IsFaultTold, IsStoreFaultTold};
 
 use mpslp_convert::ConvertFault;
 use mpslp_model::laws::each_name_is_legal;
-use mpslp_model::{Fault, MAX_NAME_LEN, Name, NameAt};
+use mpslp_model::{Fault, FaultKind, MAX_NAME_LEN, Name, NameAt};
 
 /// The room for a name and the 0 behind it.
 const NAME_ROOM: usize = MAX_NAME_LEN + 1;
@@ -14,13 +14,16 @@ const NAME_ROOM: usize = MAX_NAME_LEN + 1;
 const NOWHERE: u32 = 0;
 
 /// The name of the objective.
-const AT_OBJECTIVE: u32 = 1;
+pub(crate) const AT_OBJECTIVE: u32 = 1;
 
 /// The name of a row, by its number.
-const AT_ROW: u32 = 2;
+pub(crate) const AT_ROW: u32 = 2;
 
 /// The name of a column, by its number.
-const AT_COLUMN: u32 = 3;
+pub(crate) const AT_COLUMN: u32 = 3;
+
+/// An element of a model that is stored, by its number.
+pub(crate) const AT_ELEMENT: u32 = 4;
 
 /// A fault. The text of its kind lives as long as the program, so nothing of it is ever freed.
 #[repr(C)]
@@ -41,6 +44,30 @@ pub struct MpslpFault {
 }
 
 const _: () = prove!(size_of::<MpslpFault>() == 304);
+
+/// What is wrong with an item of arrays that should define a model.
+#[derive(Clone, Copy)]
+pub(crate) struct ItemFault {
+    /// What it is.
+    pub(crate) kind: FaultKind,
+    /// Whether it is the objective's, or that of a row, a column or an element.
+    pub(crate) place: u32,
+    /// The number of that row, column or element; or 0.
+    pub(crate) number: usize,
+}
+
+/// Why arrays have no text.
+#[derive(Drop)]
+pub(crate) enum StoreFault {
+    /// An item of them has this fault.
+    Item(ItemFault),
+    /// What they declare together has this fault.
+    Whole(Fault),
+    /// The model has a name that the format cannot tell, at this place.
+    NotLp(NameAt),
+    /// There was no memory.
+    OutOfMemory,
+}
 
 /// The fault of a text.
 fn told_fault(fault: &Fault) -> MpslpFault
@@ -85,6 +112,20 @@ fn not_lp(place: u32, number: usize) -> MpslpFault
     }
 }
 
+/// The fault of an item, by its place and number.
+fn told_item(fault: ItemFault) -> MpslpFault
+    ensures { TellsItem fault result }
+{
+    MpslpFault {
+        kind: fault.kind.text().as_bytes(),
+        line: 0,
+        place: fault.place,
+        number: fault.number,
+        name_len: 0,
+        name: [0; NAME_ROOM],
+    }
+}
+
 /// The place in a model that LP cannot tell.
 fn told_place(at: NameAt) -> MpslpFault
     ensures { TellsPlace at result }
@@ -104,5 +145,17 @@ pub(crate) fn tell(fault: &ConvertFault, told: &mut MpslpFault)
         ConvertFault::First(fault) | ConvertFault::Second(fault) => *told = told_fault(fault),
         ConvertFault::NotLp(place) => *told = told_place(*place),
         ConvertFault::OutOfMemory => {}
+    }
+}
+
+/// Tells why arrays have no text. Want of memory leaves what was told as it is.
+pub(crate) fn tell_stored(fault: &StoreFault, told: &mut MpslpFault)
+    ensures { IsStoreFaultTold fault.now told.old told.new }
+{
+    match fault {
+        StoreFault::Item(fault) => *told = told_item(*fault),
+        StoreFault::Whole(fault) => *told = told_fault(fault),
+        StoreFault::NotLp(place) => *told = told_place(*place),
+        StoreFault::OutOfMemory => {}
     }
 }

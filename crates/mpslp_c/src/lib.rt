@@ -10,4 +10,6 @@ mod calls;
 mod faults;
 mod loading;
 mod numbers;
+mod stored_items;
+mod storing;
 mod texts;

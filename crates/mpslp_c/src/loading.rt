@@ -3,7 +3,7 @@
 ghost use Rattle.std.specs.Prelude.{◌≡◌, IsOkUnless};
 ghost use Rattle.mpslp_model_core.specs.Model.{LinearModel};
 ghost use Rattle.mpslp_types.specs.declared.faults.Fault.{Fault};
-ghost use Rattle.mpslp_convert.specs.Conversions.{IsReadingOfFirst, IsErrUnless};
+ghost use Rattle.mpslp_convert.specs.Conversions.{IsErrUnless};
 ghost use Rattle.mpslp_convert.specs.Performed.{declares_in, first_fault_in};
 ghost use Rattle.mpslp_c.specs.Answers.{form_of, IsLoading, IsModelTold, IsLoadAnswer};
 
@@ -11,22 +11,10 @@ use crate::answers::{OK, UNKNOWN_FORMAT, fault_status};
 use crate::arrays::{MpslpModel, told_model};
 use crate::faults::{MpslpFault, tell};
 use crate::texts::form_of;
-use mpslp_convert::{ConvertFault, Form};
-use mpslp_model::{Format, Model, ReadFault};
+use mpslp_convert::{ConvertFault, Form, model_of};
+use mpslp_model::Format;
 use mpslp_write::{Lp, Mps};
 use std::alloc::Global;
-
-/// The model that the bytes declare.
-fn model_of<A: Format>(alloc: Global, bytes: &[u8]) -> Result<Model, ConvertFault>
-    ensures { IsReadingOfFirst A.declares A.first_fault bytes.now result }
-{
-    match A::read(alloc, bytes) {
-        Ok(model) => Ok(model),
-        Err(ReadFault::File(fault)) => Err(ConvertFault::First(fault)),
-        Err(ReadFault::Failed) => unreachable!(),
-        Err(ReadFault::OutOfMemory) => Err(ConvertFault::OutOfMemory),
-    }
-}
 
 /// The arrays that tell the model which the bytes declare.
 fn arrays_of<A: Format>(alloc: Global, bytes: &[u8]) -> Result<MpslpModel, ConvertFault>
