@@ -1,5 +1,5 @@
 #!/bin/sh
-# tests/c/check.sh: tries build/libmpslp.a and build/libmpslp.so.0 from C and C++. It needs gcc, g++, valgrind and python3,
+# tests/c/check.sh: tests build/libmpslp.a and build/libmpslp.so.0 from C and C++. It needs gcc, g++, valgrind and python3,
 # and the program, which shows models as the library has to.
 set -eu
 cd "$(dirname "$0")/../.."

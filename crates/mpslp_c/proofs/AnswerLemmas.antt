@@ -1,4 +1,4 @@
--- What the status of an answer says, and the answers of the calls put together.
+-- What a status says of a result, and the contracts of the calls put together.
 use Rattle.std.proofs.Common.{◌≡◌, ℕ, List, Bool, true, false, ◌∙◌, ap, inl, inr, None, Some, Result, Ok, Err, Vec}
 use Rattle.std.specs.Prelude.{IsOkUnless}
 use Rattle.std.specs.declared.alloc.Global.{Global}
@@ -17,13 +17,13 @@ use Rattle.mpslp_c.specs.declared.faults.MpslpFault.{MpslpFault}
 use Rattle.mpslp_c.specs.declared.faults.StoreFault.{StoreFault}
 use Rattle.mpslp_c.specs.declared.faults.StoreFault.TheVariants as stored
 
--- a text that is not refused is given, unless there was no memory
+-- a text that is not rejected is returned, unless an allocation failed
 text_accepted : (answer : Result (Vec ℕ Global) ConvertFault) (status : ℕ) (out out' : MpslpText) (fault fault' : MpslpFault)
     → IsOkUnless answer OutOfMemory → IsTextTold answer status out out' fault fault' → IsUnless OK status
 text_accepted (Ok text) status out out' fault fault' accepted told = inl told.0
 text_accepted (Err why) status out out' fault fault' accepted told = inr (told.0 ∙ ap fault_status accepted)
 
--- a fault that is found gives its status
+-- an error gives its status
 text_refused : (answer : Result (Vec ℕ Global) ConvertFault) (why : ConvertFault) (status : ℕ) (out out' : MpslpText) (fault fault' : MpslpFault)
     → IsErrUnless answer why OutOfMemory → IsTextTold answer status out out' fault fault' → IsUnless (fault_status why) status
 text_refused (Ok text) why status out out' fault fault' refused told = absurd refused
@@ -134,7 +134,7 @@ stored_refused (Ok text) why status out out' fault fault' refused given = absurd
 stored_refused (Err found) why status out out' fault fault' (inl same) given = inl (given.0 ∙ ap store_status same)
 stored_refused (Err found) why status out out' fault fault' (inr memory) given = inr (given.0 ∙ ap store_status memory)
 
--- what has a fault is refused by one status
+-- each error of arrays has one status
 refused_as : (told : MpslpModel) (why : StoreFault) (status : ℕ) → HasFault told why → IsUnless (store_status why) status → IsUnless REFUSED status
 refused_as told (stored.Item fault) status has so = so
 refused_as told (stored.Whole fault) status has so = so

@@ -1,4 +1,4 @@
--- Items without a fault define a model, and arrays that define a model have items without a fault.
+-- Items without an error define a model, and the items of arrays that define a model have no error.
 use Rattle.std.proofs.Common.{◌≡◌, refl, sym, ap, ◌∙◌, subst, ℕ, zero, suc, List, [], ◌∷◌, ◌++◌, map, Bool, true, false, not, Option, None, Some, Result, Ok, Err}
 use Rattle.std.specs.Prelude.{◌&&◌, ◌||◌, is_some, IsTrue}
 use Rattle.std.specs.List.{list_all, list_any, flat_map}
@@ -35,7 +35,7 @@ no_head : (faults : List BuildFault) → head_of (map kind_of_build_fault faults
 no_head [] h = refl
 no_head (fault ∷ more) h = let no : ⊥ = cc in absurd no
 
--- a step without a fault is good, and nothing of it is refused
+-- a step without an error is good, and nothing of it is rejected
 record IsFree (all : Draft) (step : Step) : Type 0 where
   good : is_good step ≡ true
   free : refusals_in_turn all (step_declared step) ≡ []
@@ -179,7 +179,7 @@ objective_of told good = names_objective told (first_so (list_all is_good (objec
 
 -- ---- the model
 
--- the objective is declared where no item has a fault
+-- the objective is declared if no item has an error
 pub objective-declared : (told : MpslpModel) → first_item_fault empty_draft (items told) ≡ None → is_some (after_items empty_draft (items told)).objective ≡ true
 objective-declared told none =
     let free = items_free (items told) empty_draft none in

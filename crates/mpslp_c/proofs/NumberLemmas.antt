@@ -55,7 +55,7 @@ unsigned : (z : ℤ) (ds : List ℕ) → AreDigits ds → 0 < length ds → with
 unsigned (pos n) ds h some = no_sign ds h some
 unsigned (negsuc n) ds h some = refl
 
--- the value of a sign and the digits of the size
+-- the value of a sign and the digits of the absolute value
 valued : (z : ℤ) (ds rest : List ℕ) → AreDigits ds → 0 < length ds → digits_sum ds ≡ unsigned_abs z → to_signed (is_minus ((sign_of z ++ ds) ++ rest)) (digits_sum ds) ≡ z
 valued (pos n) ds rest h some sum = (λ i. to_signed (no_minus ds rest h some i) (sum i))
 valued (negsuc n) ds rest h some sum = ap (λ (m : ℕ). neg_ℤ (pos m)) sum
@@ -131,7 +131,7 @@ pub short-short : (z : ℤ) → mag z < 2 ^ 31 → unsigned_abs z < 10 ^ 60
 short-short (pos n) h = omega (arith, h)
 short-short (negsuc n) h = omega (arith, h)
 
--- ---- what is answered of it
+-- ---- the result of the literal
 
 abbrev read_of : Bool → Bool → Bool → Bool → Number → Result Number NumberFault
 read_of lit long few small v =

@@ -31,7 +31,7 @@ use Rattle.mpslp_c.specs.declared.faults.TheConstants.{AT_COLUMN, AT_ELEMENT}
 use Rattle.mpslp_c.specs.declared.faults.StoreFault.{StoreFault}
 use Rattle.mpslp_c.specs.declared.faults.StoreFault.TheVariants as stored
 
--- ---- values that are given, or faults
+-- ---- values, or their errors
 
 pub steps_given : {X : Type 0} (given : Result X FaultKind) (value : X) (steps : X → List Step) → given ≡ Ok value → steps_with given steps ≡ steps value
 steps_given {X} given value steps h = ap (λ (r : Result X FaultKind). steps_with r steps) h
@@ -43,7 +43,7 @@ fault_given given OutOfMemory steps old new h = absurd h
 
 -- ---- a call of the builder that is a step
 
--- what is said of steps, said of equal ones
+-- what is true of steps is true of equal ones
 pub steps_are : (steps others : List Step) (old new : Draft) (answer : Result (Unit {0}) LineError) → steps ≡ others → TakesSteps others old new answer → TakesSteps steps old new answer
 steps_are steps others old new answer h taken = subst (λ (s : List Step). TakesSteps s old new answer) (sym h) taken
 
@@ -72,7 +72,7 @@ kinded builds.OutOfMemory = inr refl
 first_of_step : (old : Draft) (step : Step) (more : List Step) (kind : FaultKind) → head_of (step_faults old step) ≡ Some kind → first_kind old (step ∷ more) ≡ Some kind
 first_of_step old step more kind h = ap (λ (o : Option FaultKind). or_else o (first_kind (with_declarations old (step_declared step)) more)) h
 
--- a step that was refused
+-- a step that was rejected
 pub step_refused : (step : Step) (more : List Step) (old new : Draft) (faults : List BuildFault) (fault : BuildFault) (P Q : Type 0) → step_faults old step ≡ map kind_of_build_fault faults
     → Answers faults (Err fault) P Q → TakesSteps (step ∷ more) old new (Err (error_of_build fault))
 step_refused step more old new [] fault P Q are answered =
@@ -88,14 +88,14 @@ step_refused step more old new (first ∷ later) fault P Q are answered =
     err_same : {f g : BuildFault} → ◌≡◌ {A = Answer} (Err f) (Err g) → f ≡ g
     err_same e = cc
 
--- what a call tells is handed on
+-- the error of a call is returned
 pub call_err : (step : Step) (more : List Step) (old new : Draft) (answer : Result (Unit {0}) LineError) (faults : List BuildFault) (fault : BuildFault) (P Q : Type 0)
     → step_faults old step ≡ map kind_of_build_fault faults → Answers faults (Err fault) P Q → IsErrAnd answer (λ e. e ≡ error_of_build fault) → TakesSteps (step ∷ more) old new answer
 call_err step more old new (Ok _) faults fault P Q are answered told = absurd told
 call_err step more old new (Err error) faults fault P Q are answered told =
     subst (λ (e : LineError). TakesSteps (step ∷ more) old new (Err e)) (sym told) (step_refused step more old new faults fault P Q are answered)
 
--- steps behind one that was taken
+-- steps after one that was taken
 pub step_then : (step : Step) (more : List Step) (old mid new : Draft) (answer : Result (Unit {0}) LineError) → head_of (step_faults old step) ≡ None
     → mid ≡ with_declarations old (step_declared step) → TakesSteps more mid new answer → TakesSteps (step ∷ more) old new answer
 step_then step more old mid new (Ok _) none declared taken = (
@@ -106,7 +106,7 @@ step_then step more old mid new (Err (Fault kind)) none declared taken =
     ap (λ (o : Option FaultKind). or_else o (first_kind (with_declarations old (step_declared step)) more)) none ∙ ap (λ (d : Draft). first_kind d more) (sym declared) ∙ taken
 step_then step more old mid new (Err OutOfMemory) none declared taken = tt
 
--- the same, of a call that was answered
+-- the same, of a call of the builder
 pub call_then : (step : Step) (more : List Step) (old mid new : Draft) (answer : Result (Unit {0}) LineError) (faults : List BuildFault) (Q : Type 0)
     → step_faults old step ≡ map kind_of_build_fault faults → Answers faults (Ok tt) (mid ≡ with_declarations old (step_declared step)) Q
     → TakesSteps more mid new answer → TakesSteps (step ∷ more) old new answer
@@ -169,7 +169,7 @@ leads_err all xs ys old now new later (stored.Whole fault) l taken = taken
 leads_err all xs ys old now new later (stored.NotLp place) l taken = taken
 leads_err all xs ys old now new later stored.OutOfMemory l taken = tt
 
--- what is told of it is handed on
+-- its error is returned
 pub leads_told : (all xs ys : List Item) (old now new later : Draft) (why : StoreFault) (answer : Result (Unit {0}) StoreFault) → Leads all old (xs ++ ys) now → TakesItems xs now new (Err why)
     → IsErrAnd answer (λ e. e ≡ why) → TakesItems all old later answer
 leads_told all xs ys old now new later why (Ok _) l taken told = absurd told
@@ -256,7 +256,7 @@ legal_by true None bytes name h = let same : bytes ≡ name = cc in (refl, same)
 legal_by true (Some fault) bytes name h = let no : ⊥ = cc in absurd no
 legal_by false refusal bytes name h = let no : ⊥ = cc in absurd no
 
--- so a name of its bytes is made, where there is memory
+-- so a name is made of its bytes, unless an allocation fails
 pub name_made : (all : List ℕ) (told : MpslpName) (name made : List ℕ) → name_given all told ≡ Ok name → IfNone (name_refusal name) (made ≡ name) → made ≡ name
 name_made all told name made h taken =
     let legal = legal_by (nat_le (told.at + told.len) (length all)) (name_refusal (bytes_at all told)) (bytes_at all told) name h in
@@ -266,7 +266,7 @@ name_made all told name made h taken =
 pub given_bytes : (all : List ℕ) (told : MpslpName) (name : List ℕ) → name_given all told ≡ Ok name → bytes_at all told ≡ name
 given_bytes all told name h = (legal_by (nat_le (told.at + told.len) (length all)) (name_refusal (bytes_at all told)) (bytes_at all told) name h).1
 
--- ---- the items from a number on
+-- ---- the items from an index on
 
 -- what stands for an element or a column that is not there
 abbrev no_number : MpslpNumber

@@ -1,4 +1,4 @@
--- What is answered of arrays: they define a model, or have a fault, and never both.
+-- The result for arrays: they define a model, or have an error, and never both.
 use Rattle.std.proofs.Common.{◌≡◌, sym, ap, ◌∙◌, subst, ◌⊎◌, inl, inr, None, Some, Option, Result, Ok, Err}
 use Rattle.std.specs.Prelude.{IsErrAnd, IsOkUnless, is_some}
 use Rattle.mpslp_model_core.specs.Model.{LinearModel}
@@ -22,11 +22,11 @@ some_none {X} o x h k = let no : ◌≡◌ {A = Option X} None (Some x) = sym h 
 pub same_some : {X : Type 0} {x y : X} → ◌≡◌ {A = Option X} (Some x) (Some y) → x ≡ y
 same_some h = cc
 
--- arrays that define a model have no item with a fault
+-- arrays that define a model have no item with an error
 pub no_item : (told : MpslpModel) (m : LinearModel) → Defines told m → first_item_fault empty_draft (items told) ≡ None
 no_item told m defines = none-from_defines told m (items-known told m defines) defines
 
--- nor a fault of the whole
+-- nor an error of the whole
 pub no_whole : (told : MpslpModel) (m : LinearModel) (all : Draft) → Defines told m → all ≡ after_items empty_draft (items told) → IsMade all → file_fault all ≡ None
 no_whole told m all defines is made =
     no_fault-from_made all m made (ap (λ (d : Draft). is_some d.objective) is ∙ objective-declared told (no_item told m defines))

@@ -1,7 +1,7 @@
 -- What the arrays of a caller define.
 --
--- Their items are gone through in this order: the objective, the rows, and then each column with its elements. Each item has
--- steps: what it declares, or a fault of its own.
+-- Their items, in this order: the objective, the rows, and then each column with its elements. Each item has steps: what it
+-- declares, or an error of its own.
 use Rattle.std.specs.Prelude.{◌≡◌, ℕ, zero, suc, ◌+◌, ◌-◌, ◌^◌, ℤ, pos, negsuc, ◌+ℤ◌, ◌*ℤ◌, Bool, true, false, ◌&&◌, not, nat_le, int_lt, IsTrue, List, [], ◌∷◌, ◌++◌, map, length, slice_get, slice_range, Option, None, Some, Result, Ok, Err, if◌then◌else◌}
 use Rattle.std.specs.List.{list_all, flat_map}
 use Rattle.std.specs.Option.{option_map_or}
@@ -59,7 +59,7 @@ abbrev pub finite_limit : Result Number FaultKind → Result Limit FaultKind
 finite_limit (Ok value) = Ok (limit_of value)
 finite_limit (Err kind) = Err kind
 
--- A side. As in a file, a number of size 10^20 or more is the infinity of its sign.
+-- A limit or bound. As in a file, a number with an absolute value of 10^20 or more is the infinity of its sign.
 abbrev pub limit_given : MpslpNumber → Result Limit FaultKind
 limit_given number =
     if int_lt number.infinity (pos 0) then Ok MinusInf
@@ -81,7 +81,7 @@ kind_of_name_fault names.OutOfMemory = NameLength
 abbrev pub bytes_at : List ℕ → MpslpName → List ℕ
 bytes_at all name = slice_range all name.at (name.at + name.len)
 
--- the bytes of a name that lies within the names and is legal
+-- the bytes of a name, if they are within the names and legal
 abbrev pub name_given : List ℕ → MpslpName → Result (List ℕ) FaultKind
 name_given all name =
     if nat_le (name.at + name.len) (length all)
@@ -90,13 +90,13 @@ name_given all name =
 
 -- ---- steps
 
--- A fault; or one declaration; or both bounds of a column, which are declared by one call.
+-- An error; or one declaration; or both bounds of a column, which are declared by one call.
 pub data Step : Type 0 where
   fails : FaultKind → Step
   declares : Declaration → Step
   bounds : List ℕ → Limit → Limit → Step
 
--- the faults of a step after what was declared before it, the first one first
+-- the errors of a step after what was declared before it, in their order
 abbrev pub step_faults : Draft → Step → List FaultKind
 step_faults all (fails kind) = kind ∷ []
 step_faults all (declares declaration) = map kind_of_build_fault (refusals all declaration)
@@ -107,22 +107,22 @@ step_declared (fails kind) = []
 step_declared (declares declaration) = declaration ∷ []
 step_declared (bounds column lower upper) = bounds_declared column (Some lower) (Some upper)
 
--- the first of the faults, or else what follows
+-- the first of two errors, if there is one
 abbrev pub or_else : {X : Type 0} → Option X → Option X → Option X
 or_else None later = later
 or_else (Some first) later = Some first
 
--- the first fault of steps, each after all before it
+-- the first error of steps, each after all before it
 abbrev pub first_kind : Draft → List Step → Option FaultKind
 first_kind all [] = None
 first_kind all (step ∷ more) = or_else (head_of (step_faults all step)) (first_kind (with_declarations all (step_declared step)) more)
 
--- what has been declared after them
+-- the draft after them
 abbrev pub after_steps : Draft → List Step → Draft
 after_steps all [] = all
 after_steps all (step ∷ more) = after_steps (with_declarations all (step_declared step)) more
 
--- the steps that want a value, or its fault
+-- the steps that need a value, or its error
 abbrev pub steps_with : {X : Type 0} → Result X FaultKind → (X → List Step) → List Step
 steps_with (Ok value) steps = steps value
 steps_with (Err kind) steps = fails kind ∷ []
@@ -163,7 +163,7 @@ column_steps all objective column =
     declares (declare_column name) ∷ bounds name lower upper
     ∷ declares (declare_coefficient (record { row = objective; column = name }) cost) ∷ kind_steps name column.kind))))
 
--- an element, of a row that is there or not
+-- an element of a row, which is there or not
 abbrev pub element_steps : List ℕ → List ℕ → Option MpslpRow → MpslpElement → List Step
 element_steps all column None element = fails UnknownRow ∷ []
 element_steps all column (Some row) element =
@@ -185,12 +185,12 @@ element_items all rows column k [] = []
 element_items all rows column k (element ∷ elements) =
     record { place = AT_ELEMENT; number = k; steps = element_steps all column (slice_get rows element.row) element } ∷ element_items all rows column (suc k) elements
 
--- where the elements of a column end: where those of the next one begin, or where all end
+-- where the elements of a column end: where those of the next column begin, or where all end
 abbrev pub elements_end : List MpslpColumn → ℕ → ℕ
 elements_end [] count = count
 elements_end (column ∷ columns) count = column.first
 
--- the elements of a column of number `j`, which begin where those before it end
+-- the elements of the column of index `j`, or its error if they are none
 abbrev pub own_items : List ℕ → List MpslpRow → List MpslpElement → ℕ → MpslpColumn → ℕ → List Item
 own_items all rows elements j column end =
     if nat_le column.first end && nat_le end (length elements)
@@ -204,7 +204,7 @@ column_items all objective rows elements j (column ∷ columns) =
     ∷ own_items all rows elements j column (elements_end columns (length elements)))
     ++ column_items all objective rows elements (suc j) columns
 
--- no element stands before those of the first column
+-- no element comes before those of the first column
 abbrev pub first_column_steps : List MpslpColumn → List Step
 first_column_steps [] = []
 first_column_steps (column ∷ columns) = if nat_le column.first 0 then [] else fails ColumnSplit ∷ []
@@ -216,12 +216,12 @@ items told =
     ++ (record { place = AT_COLUMN; number = 0; steps = first_column_steps told.columns.now }
     ∷ column_items told.names.now (bytes_at told.names.now told.objective) told.rows.now told.elements.now 0 told.columns.now))
 
--- ---- what they come to
+-- ---- the first error, and the draft
 
 abbrev pub item_fault : Item → FaultKind → ItemFault
 item_fault item kind = record { kind = kind; place = item.place; number = item.number }
 
--- the first fault of an item, each after all before it
+-- the first error of items, each after all before it
 abbrev pub first_item_fault : Draft → List Item → Option ItemFault
 first_item_fault all [] = None
 first_item_fault all (item ∷ more) =
@@ -243,25 +243,25 @@ is_good_item item = list_all is_good item.steps
 abbrev pub declared_by : Item → Declarations
 declared_by item = flat_map step_declared item.steps
 
--- The arrays define a model: no item has a fault of its own, and what they declare together means the model.
+-- The arrays define a model: no item has an error of its own, and what they declare together means the model.
 pub record Defines (told : MpslpModel) (m : LinearModel) : Type 0 where
   pub good : IsTrue (list_all is_good_item (items told))
   pub means : Means (flat_map declared_by (items told)) m
 
--- ---- answers
+-- ---- results
 
--- What is told where a value is none.
+-- The error of a value, where it has one.
 abbrev pub IsFaultGiven : {X : Type 0} → Result X FaultKind → LineError → Type 0
 IsFaultGiven given (Fault kind) = given ≡ Err kind
 IsFaultGiven given OutOfMemory = ⊥
 
--- Steps were taken; or the first fault is told; or there was no memory.
+-- Steps were taken; or the result is the first error, or that an allocation failed.
 abbrev pub TakesSteps : List Step → Draft → Draft → Result (Unit {0}) LineError → Type 0
 TakesSteps steps old new (Ok _) = (first_kind old steps ≡ None) × (new ≡ after_steps old steps)
 TakesSteps steps old new (Err (Fault kind)) = first_kind old steps ≡ Some kind
 TakesSteps steps old new (Err OutOfMemory) = Unit {0}
 
--- what is answered of an item at a place whose steps had this answer
+-- the result of an item at a place, by the result of its steps
 abbrev pub placed : ℕ → ℕ → Result (Unit {0}) LineError → Result (Unit {0}) StoreFault
 placed place number (Ok _) = Ok tt
 placed place number (Err (Fault kind)) = Err (stored.Item (record { kind = kind; place = place; number = number }))

@@ -1,4 +1,4 @@
-//! The call that gives a whole model.
+//! The call that reads a whole model.
 
 ghost use Rattle.std.specs.Prelude.{◌≡◌, IsOkUnless};
 ghost use Rattle.mpslp_model_core.specs.Model.{LinearModel};
@@ -16,7 +16,7 @@ use mpslp_model::Format;
 use mpslp_write::{Lp, Mps};
 use std::alloc::Global;
 
-/// The arrays that tell the model which the bytes declare.
+/// The arrays of the model that the bytes define.
 fn arrays_of<A: Format>(alloc: Global, bytes: &[u8]) -> Result<MpslpModel, ConvertFault>
     ensures answer { IsLoading A.declares A.first_fault bytes.now result }
     ensures accepts { (m : LinearModel) → A.declares bytes.now m → IsOkUnless result ConvertFault.OutOfMemory }
@@ -43,7 +43,7 @@ fn arrays_in(alloc: Global, form: Form, bytes: &[u8]) -> Result<MpslpModel, Conv
     }
 }
 
-/// Gives a model, or tells why there is none.
+/// Sets the model, or the error.
 fn give_model(
     answer: Result<MpslpModel, ConvertFault>,
     out: &mut MpslpModel,
@@ -63,14 +63,14 @@ fn give_model(
     }
 }
 
-/// Gives the model that the bytes declare in their format: 0 is MPS, 1 is LP.
+/// Reads the model that the bytes define in their format: 0 is MPS, 1 is LP.
 ///
 /// | status | when |
 /// |---|---|
-/// | 0 | `out` is the model, in memory of the caller's `malloc`, which frees each array that is not empty |
-/// | 2 | the bytes declare no model; `fault` tells their first fault |
-/// | 5 | memory was refused |
-/// | 6 | the format is none |
+/// | 0 | `out` is the model, allocated by `malloc`; the caller frees each array that is not empty |
+/// | 2 | the bytes define no model; `fault` is their first error |
+/// | 5 | an allocation failed |
+/// | 6 | the format is unknown |
 #[unsafe(no_mangle)]
 pub extern "C" fn mpslp_load(
     alloc: Global,

@@ -15,8 +15,8 @@ use mpslp_model::{FaultKind, Limit};
 /// How many numbers the lower part of a mantissa has: 2^64.
 const LOWS: u128 = 1 << 64;
 
-/// A number: the mantissa `high` times 2^64 and `low`, times ten to the `exponent`. Or, where `infinity` is not 0, the infinity
-/// of that sign, and the rest is 0.
+/// A number: the mantissa `high` times 2^64 plus `low`, times ten to the `exponent`. Or, if `infinity` is not 0, the infinity
+/// of that sign; in a model that was loaded, the rest is then 0.
 #[repr(C)]
 #[derive(Clone, Copy)]
 pub struct MpslpNumber {
@@ -26,7 +26,7 @@ pub struct MpslpNumber {
     pub high: i64,
     /// The power of ten.
     pub exponent: i32,
-    /// -1 or 1 for an infinite side, and else 0.
+    /// -1 or 1 for an infinity, and else 0.
     pub infinity: i32,
 }
 
@@ -71,7 +71,7 @@ fn told_infinity(sign: i32) -> MpslpNumber
     }
 }
 
-/// A side of a row or a column.
+/// A limit or a bound.
 pub(crate) fn told_limit(limit: Limit) -> MpslpNumber
     ensures { TellsLimit limit result }
 {
@@ -85,14 +85,14 @@ pub(crate) fn told_limit(limit: Limit) -> MpslpNumber
 /// Room for the literal of any mantissa and exponent.
 const LITERAL_ROOM: usize = 96;
 
-/// The mantissa of a number, of both its parts.
+/// The mantissa of a number, from its two parts.
 fn mantissa_of(number: MpslpNumber) -> i128
     ensures { result ≡ (number.high *ℤ pos (2 ^ 64)) +ℤ pos number.low }
 {
     number.high as i128 * (1 << 64) + number.low as i128
 }
 
-/// Puts a piece behind what a literal has.
+/// Appends a piece to a literal.
 fn append(literal: &mut ArrayVec<u8, LITERAL_ROOM>, piece: &[u8])
     requires { length literal.old.items + length piece.now ≤ LITERAL_ROOM }
     ensures { literal.new.items ≡ literal.old.items ++ piece.now }
@@ -112,8 +112,8 @@ fn literal_of(mantissa: i128, exponent: i32) -> ArrayVec<u8, LITERAL_ROOM>
     literal
 }
 
-/// The decimal of a mantissa and an exponent, which need not be in normal form. It is read from their literal, since a
-/// decimal is made of text alone.
+/// The decimal of a mantissa and an exponent, which need not be in normal form. It is read from their literal, as every
+/// decimal is.
 fn decimal_given(mantissa: i128, exponent: i32) -> Result<Decimal, LineError>
     ensures { MatchResult result (λ value. decimal_given (record { mantissa = mantissa; exponent = exponent }) ≡ Ok value) (IsFaultGiven (decimal_given (record { mantissa = mantissa; exponent = exponent }))) }
 {
@@ -124,7 +124,7 @@ fn decimal_given(mantissa: i128, exponent: i32) -> Result<Decimal, LineError>
     }
 }
 
-/// A finite number that a caller gives.
+/// A finite number of a caller.
 pub(crate) fn number_given(number: MpslpNumber) -> Result<Decimal, LineError>
     ensures { MatchResult result (λ value. number_given number ≡ Ok value) (IsFaultGiven (number_given number)) }
 {
@@ -134,7 +134,7 @@ pub(crate) fn number_given(number: MpslpNumber) -> Result<Decimal, LineError>
     decimal_given(mantissa_of(number), number.exponent)
 }
 
-/// A side of a row or a column that a caller gives.
+/// A limit or a bound of a caller.
 pub(crate) fn limit_given(number: MpslpNumber) -> Result<Limit, LineError>
     ensures limit { MatchResult result (λ limit. limit_given number ≡ Ok limit) (IsFaultGiven (limit_given number)) }
     ensures given { IfOk result (λ limit. IsTrue (is_given limit)) }

@@ -1,4 +1,4 @@
-//! The items of arrays that define a model, declared to a builder.
+//! The items of the arrays of a caller, declared to a builder.
 
 ghost use Rattle.std.specs.Prelude.{◌≡◌, Ok, slice_get, MatchResult};
 ghost use Rattle.mpslp_c.specs.Stored.{name_given, bytes_at, IsFaultGiven, TakesSteps, sense_steps, objective_steps, row_steps, kind_steps, column_steps, element_steps};
@@ -12,7 +12,7 @@ use mpslp_lines::LineError;
 use mpslp_model::{Builder, FaultKind, Name, Sense};
 use std::alloc::Global;
 
-/// The bytes of a name that lies within the names and is legal.
+/// The bytes of a name, if they are within the names and legal.
 fn name_given<'a>(names: &'a [u8], name: MpslpName) -> Result<&'a [u8], LineError>
     ensures { MatchResult result (λ bytes. name_given names.now name ≡ Ok bytes.now) (IsFaultGiven (name_given names.now name)) }
 {
@@ -24,7 +24,7 @@ fn name_given<'a>(names: &'a [u8], name: MpslpName) -> Result<&'a [u8], LineErro
     Ok(bytes)
 }
 
-/// Declares which value of the objective is wanted.
+/// Declares the sense of the objective.
 fn declare_sense(sense: u32, builder: &mut Builder) -> Result<(), LineError>
     ensures { TakesSteps (sense_steps sense) builder.old builder.new result }
 {
@@ -67,7 +67,7 @@ pub(crate) fn declare_row(
     Ok(())
 }
 
-/// Declares which values a column may take.
+/// Declares the type of a column.
 fn declare_kind(column: &[u8], kind: u32, builder: &mut Builder) -> Result<(), LineError>
     ensures { TakesSteps (kind_steps column.now kind) builder.old builder.new result }
 {
@@ -118,7 +118,7 @@ pub(crate) fn declare_element(
     Ok(())
 }
 
-/// The bytes at a place within the names; what of it lies beyond them is left out.
+/// The bytes at a place in the names, without what would be beyond their end.
 pub(crate) fn bytes_at(names: &[u8], name: MpslpName) -> &[u8]
     ensures { result.now ≡ bytes_at names.now name }
 {

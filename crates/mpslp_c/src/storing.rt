@@ -1,4 +1,4 @@
-//! The call that gives the text of a model that a caller has.
+//! The call that writes the text of a model given as arrays.
 
 ghost use Rattle.std.specs.Prelude.{◌≡◌, ◌+◌, ◌<◌, ◌≤◌, None, Some, length, drop, slice_range, IsOkUnless};
 ghost use Rattle.mpslp_model_core.specs.Model.{LinearModel};
@@ -26,7 +26,7 @@ use mpslp_model::{Builder, FaultKind, Format, Model, ReadFault};
 use mpslp_write::{Lp, Mps};
 use std::alloc::Global;
 
-/// What is answered of an item at a place whose steps had this answer.
+/// The result of an item, with its place if it has an error.
 fn placed(place: u32, number: usize, answer: Result<(), LineError>) -> Result<(), StoreFault>
     ensures { result ≡ placed place number answer }
 {
@@ -56,7 +56,7 @@ fn declare_rows(
     Ok(())
 }
 
-/// Declares the elements of a column from one number to another.
+/// Declares the elements of a column, from one index to another.
 fn declare_elements(
     names: &[u8],
     rows: &[MpslpRow],
@@ -80,7 +80,7 @@ fn declare_elements(
     Ok(())
 }
 
-/// Declares the elements of the column of number `j`, which lie before `end`.
+/// Declares the elements of the column of index `j`, which end before `end`.
 fn declare_own(
     names: &[u8],
     rows: &[MpslpRow],
@@ -107,7 +107,7 @@ fn declare_own(
     }
 }
 
-/// Where the elements end of the column before number `j`: where those of this one begin, or where all end.
+/// Where the elements of the column before index `j` end: where those of the column `j` begin, or where all end.
 fn elements_end(columns: &[MpslpColumn], j: usize, count: usize) -> usize
     ensures { result ≡ elements_end (drop j columns.now) count }
 {
@@ -147,7 +147,7 @@ fn declare_columns(
     Ok(())
 }
 
-/// Whether no element stands before those of the first column.
+/// Checks that no element comes before those of the first column.
 fn check_first(columns: &[MpslpColumn]) -> Result<(), LineError>
     ensures { (all : Draft) → TakesSteps (first_column_steps columns.now) all all result }
 {
@@ -219,7 +219,7 @@ fn stored_text_in(alloc: Global, to: Form, model: &MpslpModel) -> Result<Vec<u8>
     }
 }
 
-/// The status of arrays that have no text.
+/// The status of an error of arrays.
 fn store_status(fault: &StoreFault) -> u32
     ensures { result ≡ store_status fault.now }
 {
@@ -230,7 +230,7 @@ fn store_status(fault: &StoreFault) -> u32
     }
 }
 
-/// Gives a text, or tells why there is none.
+/// Sets the text, or the error.
 fn give_stored(
     answer: Result<Vec<u8>, StoreFault>,
     out: &mut MpslpText,
@@ -250,23 +250,23 @@ fn give_stored(
     }
 }
 
-/// Gives the canonical text, in the format `to`, of the model that arrays define: 0 is MPS, 1 is LP.
+/// Writes the canonical text, in the format `to`, of the model that arrays define: 0 is MPS, 1 is LP.
 ///
-/// The arrays have the form that [`mpslp_load`](crate::loading::mpslp_load) gives them, but rows and columns may have any
-/// order, and so have the elements of a column; and numbers need not be in normal form. A limit or bound of size 10^20 or more is the
-/// infinity of its sign. A coefficient of 0 is no element of the model. Every index is looked at before it is used.
+/// The arrays have the form that [`mpslp_load`](crate::loading::mpslp_load) returns, but rows, columns and the elements of a
+/// column may come in any order, and numbers need not be in normal form. A limit or bound with an absolute value of 10^20 or
+/// more is the infinity of its sign. A coefficient of 0 is no nonzero of the model. Every index is checked before it is used.
 ///
 /// | status | when |
 /// |---|---|
-/// | 0 | `out` is the text, in memory of the caller's `malloc`, which frees it where it is not empty |
-/// | 2 | the arrays define no model; `fault` tells their first fault |
-/// | 4 | the model has a name that LP cannot tell; `fault` tells where the first such name stands |
-/// | 5 | memory was refused |
-/// | 6 | `to` is no format |
+/// | 0 | `out` is the text, allocated by `malloc`; the caller frees it unless it is empty |
+/// | 2 | the arrays define no model; `fault` is their first error |
+/// | 4 | the model has a name that is not legal in LP; `fault` has the place of the first one |
+/// | 5 | an allocation failed |
+/// | 6 | `to` is an unknown format |
 ///
-/// Faults are looked for in this order: the objective (its name, its constant, its sense), the rows, and then each column (its
-/// name, its bounds, its cost, its kind) with its elements; of each the place and number in the arrays is told. Only where none has a fault,
-/// those of the whole are looked for, as at the end of a file: the name is told.
+/// The first error is the first in this order: the objective (name, constant, sense), the rows, and then each column (name,
+/// bounds, cost, type) with its elements. It has its place and index in the arrays. If no item has an error, the error is that
+/// of the whole, as at the end of a file, with its name.
 #[unsafe(no_mangle)]
 pub extern "C" fn mpslp_store(
     alloc: Global,
