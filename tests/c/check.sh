@@ -50,6 +50,12 @@ int main(void) { mpslp_text text = MPSLP_NO_TEXT; mpslp_fault fault = MPSLP_NO_F
 done
 ! gcc -std=c99 -fshort-enums -Iinclude -c -o $tried/wrong.o tests/c/layout.c 2> $tried/warning || die "short enumerations compile"
 
+# Models made in C: as C and as C++, with either library.
+gcc -std=c99 $warn -g -fsanitize=address,undefined -fno-sanitize-recover=all -Iinclude -o $tried/arrays-sanitized tests/c/arrays.c build/libmpslp.a
+g++ -std=c++11 -x c++ $warn -Wold-style-cast -Iinclude -o $tried/arrays-cpp tests/c/arrays.c -x none -Lbuild -lmpslp
+$tried/arrays-sanitized || die "a model made in C"
+LD_LIBRARY_PATH=build $checked $tried/arrays-cpp || die "a model made in C++"
+
 # Each call, on a stack of 256 KiB.
 gcc -std=c99 $warn -Iinclude -pthread -o $tried/stack tests/c/stack.c build/libmpslp.a
 for input in examples/*.mps examples/*.lp; do
@@ -93,14 +99,13 @@ for format in mps lp; do
     $checked $tried/failing $format examples/small.$format > /dev/null || die "an allocation that fails, in $format, by valgrind"
 done
 for input in vectors/*.mps vectors/*.lp; do
-    status=0
-    $tried/program-sanitized canon "${input##*.}" lp "$input" > $tried/text 2> $tried/fault || status=$?
-    test $status -le 2 || die "$input: $(cat $tried/fault)"
     for to in mps lp; do
-        stored=0
-        $tried/program-sanitized canon "${input##*.}" $to "$input" > $tried/text 2> $tried/fault || status=$?
-        $tried/program-sanitized store "${input##*.}" $to "$input" > $tried/stored 2> $tried/stored-fault || stored=$?
-        test $stored -le 2 && cmp $tried/text $tried/stored && cmp $tried/fault $tried/stored-fault || die "$input stored as $to"
+        for call in canon store; do
+            status=0
+            $tried/program-sanitized $call "${input##*.}" $to "$input" > $tried/$call-text 2> $tried/$call-error || status=$?
+            test $status -le 2 || die "$input: $(cat $tried/$call-error)"
+        done
+        cmp $tried/canon-text $tried/store-text && cmp $tried/canon-error $tried/store-error || die "$input stored as $to"
     done
     status=0
     $tried/program-sanitized show "${input##*.}" "$input" > $tried/text 2> $tried/fault || status=$?
