@@ -112,4 +112,4 @@ for input in vectors/*.mps vectors/*.lp; do
     test $status -le 2 || die "$input: $(cat $tried/fault)"
     $mpslp show "${input##*.}" "$input" 2>&1 | cmp - "$(test $status = 0 && echo $tried/text || echo $tried/fault)" || die "$input shown"
 done
-echo "the library answers as the program does"
+echo "the library returns what the program prints"
