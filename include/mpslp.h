@@ -2,11 +2,11 @@
  * mpslp: one canonical text for each linear or mixed-integer model in an MPS or LP file.
  *
  * Every function of the library (all that are not inline) is proved to behave as documented here, for every input;
- * docs/C.md says what that rests on, and what a caller owes. In short: no pointer may be null,
- * even if a length is 0; outputs must not overlap inputs or each other;
- * texts, models and faults begin as MPSLP_NO_TEXT, MPSLP_NO_MODEL and MPSLP_NO_FAULT. A call keeps no pointer, has
- * no state, and may run in many threads at once, each with texts, models and faults of its own. It wants a stack of 256 KiB.
- * Texts may have any length for which there is memory: the limit of 1 GiB is the program's, and TooLong is none of the library's.
+ * docs/C.md says what that rests on, and lists the caller's obligations. In short: no pointer may be null, even if a length is
+ * 0; outputs must not overlap inputs or each other; initialise each mpslp_text, mpslp_model and mpslp_fault with MPSLP_NO_TEXT,
+ * MPSLP_NO_MODEL and MPSLP_NO_FAULT. The library keeps no pointer and has no state. Threads may call it at the same time, each
+ * with outputs of its own. A call needs a stack of 256 KiB. Texts may have any length for which there is memory: the limit of
+ * 1 GiB belongs to the program, and the library never reports TooLong.
  */
 #ifndef MPSLP_H
 #define MPSLP_H
@@ -27,8 +27,8 @@
 #define MPSLP_VERSION_PATCH 0
 
 /*
- * An enumeration has 4 bytes. In C++ it has the type of these, so that a number that is none of its words is no undefined
- * behaviour.
+ * An enumeration has 4 bytes. In C++ its underlying type is fixed, so that a value that is none of its constants is no
+ * undefined behaviour.
  */
 #if defined __cplusplus && __cplusplus >= 201103L
 #define MPSLP_ENUM(name) enum name : uint32_t
@@ -43,7 +43,7 @@
 #define MPSLP_MUST_USE
 #endif
 
-/* A call that is inline here, and exported by the library, too, for languages that read no header. */
+/* An inline call. The library exports it too, for languages that read no header. */
 #if defined __GNUC_GNU_INLINE__ && !defined __cplusplus
 #define MPSLP_INLINE extern inline __attribute__((gnu_inline))
 #else
@@ -70,15 +70,21 @@ typedef MPSLP_ENUM(mpslp_format) { MPSLP_MPS = 0, MPSLP_LP = 1 } mpslp_format;
 typedef MPSLP_ENUM(mpslp_status) {
     MPSLP_OK = 0,             /* done; yes */
     MPSLP_DIFFERS = 1,        /* no */
-    MPSLP_REFUSED = 2,        /* the text, or the first of two, declares no model; the fault is told */
-    MPSLP_SECOND_REFUSED = 3, /* the first text declares a model and the second does not; its fault is told */
+    MPSLP_REFUSED = 2,        /* the text, the first of two, or the arrays define no model; see `fault` */
+    MPSLP_SECOND_REFUSED = 3, /* the first text defines a model and the second does not; see `fault` */
     MPSLP_NOT_LP = 4,         /* a name is not legal in LP; see place and number */
-    MPSLP_OUT_OF_MEMORY = 5,  /* malloc or realloc gave none */
+    MPSLP_OUT_OF_MEMORY = 5,  /* malloc or realloc failed */
     MPSLP_UNKNOWN_FORMAT = 6  /* a format is neither MPSLP_MPS nor MPSLP_LP */
 } mpslp_status;
 
-/* Places in a model. */
-typedef MPSLP_ENUM(mpslp_place) { MPSLP_NOWHERE = 0, MPSLP_AT_OBJECTIVE = 1, MPSLP_AT_ROW = 2, MPSLP_AT_COLUMN = 3 } mpslp_place;
+/* Places in a model. Only mpslp_store reports an element. */
+typedef MPSLP_ENUM(mpslp_place) {
+    MPSLP_NOWHERE = 0,
+    MPSLP_AT_OBJECTIVE = 1,
+    MPSLP_AT_ROW = 2,
+    MPSLP_AT_COLUMN = 3,
+    MPSLP_AT_ELEMENT = 4
+} mpslp_place;
 
 /* A byte string, not NUL-terminated. Release a returned text with mpslp_free. */
 typedef struct mpslp_text {
@@ -88,55 +94,58 @@ typedef struct mpslp_text {
 
 #define MPSLP_NO_TEXT { MPSLP_POINTER(const uint8_t *, ""), 0 }
 
-/* Why a text is refused, or has no LP text. There is nothing to free: the name of the kind lives as long as the library. */
+/*
+ * Why a text or arrays are rejected, or have no LP text. There is nothing to free: the name of the kind lives as long as the
+ * library.
+ */
 typedef struct mpslp_fault {
-    mpslp_text kind;  /* the name of its kind, as DuplicateEntry; docs/FORMATS.md has them all. NotLp at MPSLP_NOT_LP */
-    uint64_t line;    /* counted from 1; 0 for a fault of the whole text, and at MPSLP_NOT_LP */
-    mpslp_place place; /* at MPSLP_NOT_LP: the objective, a row or a column has the name; else MPSLP_NOWHERE */
-    size_t number;    /* the number of that row or column, from 0 in byte order of names; else 0 */
-    size_t name_len;  /* the length of the name of the row or column that a whole text's fault is told of; or 0 */
-    char name[256];   /* that name, and zeros behind it */
+    mpslp_text kind;   /* the name of the kind of error, as DuplicateEntry; docs/FORMATS.md lists them. NotLp for MPSLP_NOT_LP */
+    uint64_t line;     /* counted from 1; 0 for an error of the whole text or of arrays, and for MPSLP_NOT_LP */
+    mpslp_place place; /* for MPSLP_NOT_LP what has the name; of mpslp_store also what has the error; else MPSLP_NOWHERE */
+    size_t number;     /* the index of that row, column or element: for MPSLP_NOT_LP in byte order of names, else in the arrays */
+    size_t name_len;   /* the length of the name of the row or column that has an error of the whole model; or 0 */
+    char name[256];    /* that name, padded with zeros */
 } mpslp_fault;
 
 #define MPSLP_NO_FAULT { MPSLP_NO_TEXT, 0, MPSLP_NOWHERE, 0, 0, { 0 } }
 
 /*
- * Gives the canonical text, in the format `to`, of the model that `len` bytes declare in the format `from`.
+ * Writes the canonical text, in the format `to`, of the model that `len` bytes define in the format `from`.
  *
- * MPSLP_OK: `*out` is the text. MPSLP_REFUSED: the bytes declare no model, and `*fault` is their first fault.
- * MPSLP_NOT_LP: `to` is LP, and `*fault` tells where the first name stands that LP cannot tell. Or MPSLP_OUT_OF_MEMORY,
+ * MPSLP_OK: `*out` is the text. MPSLP_REFUSED: the bytes define no model, and `*fault` is their first error.
+ * MPSLP_NOT_LP: `to` is LP, and `*fault` has the place of the first name that is not legal in LP. Or MPSLP_OUT_OF_MEMORY,
  * or MPSLP_UNKNOWN_FORMAT. Other outputs are left unchanged; a previous text in `*out` is not freed.
  */
 MPSLP_MUST_USE mpslp_status mpslp_canonical(mpslp_format from, mpslp_format to, const uint8_t *bytes, size_t len, mpslp_text *out, mpslp_fault *fault);
 
 /*
- * Tells whether two texts, each in its format, declare the same model: MPSLP_OK if they do, MPSLP_DIFFERS if not.
+ * Compares two texts, each in its format: MPSLP_OK if they define the same model, MPSLP_DIFFERS if not.
  *
- * MPSLP_REFUSED: the first declares no model, and `*fault` is its first fault. MPSLP_SECOND_REFUSED: the first declares
- * one and the second none, and `*fault` is the first fault of the second. Or MPSLP_OUT_OF_MEMORY, or
- * MPSLP_UNKNOWN_FORMAT. At another status `*fault` stays as it was. The two texts may overlap.
+ * MPSLP_REFUSED: the first defines no model, and `*fault` is its first error. MPSLP_SECOND_REFUSED: the first defines
+ * one and the second none, and `*fault` is the first error of the second. Or MPSLP_OUT_OF_MEMORY, or
+ * MPSLP_UNKNOWN_FORMAT. With any other status `*fault` is unchanged. The two texts may overlap.
  */
 MPSLP_MUST_USE mpslp_status mpslp_same(mpslp_format first_format, const uint8_t *first, size_t first_len, mpslp_format second_format,
                                        const uint8_t *second, size_t second_len, mpslp_fault *fault);
 
 /*
- * Tells whether bytes are the canonical text of the model that they declare: MPSLP_OK if they are, MPSLP_DIFFERS if not.
- * No copy of the text is made.
+ * Checks whether bytes are the canonical text of the model that they define: MPSLP_OK if they are, MPSLP_DIFFERS if not.
+ * It makes no copy of the text.
  *
- * MPSLP_REFUSED: they declare no model, and `*fault` is their first fault. Or MPSLP_OUT_OF_MEMORY, or
- * MPSLP_UNKNOWN_FORMAT. At another status `*fault` stays as it was.
+ * MPSLP_REFUSED: they define no model, and `*fault` is their first error. Or MPSLP_OUT_OF_MEMORY, or
+ * MPSLP_UNKNOWN_FORMAT. With any other status `*fault` is unchanged.
  */
 MPSLP_MUST_USE mpslp_status mpslp_is_canonical(mpslp_format format, const uint8_t *bytes, size_t len, mpslp_fault *fault);
 
 /* The version of the library, as "0.1.0". */
 const char *mpslp_version(void);
 
-/* What a status says, in a few words. */
+/* A status in a few words. */
 MPSLP_INLINE const char *mpslp_status_text(mpslp_status status) {
     switch (status) {
     case MPSLP_OK: return "done";
     case MPSLP_DIFFERS: return "no";
-    case MPSLP_REFUSED: return "the text, or the first of two, defines no model";
+    case MPSLP_REFUSED: return "the text, the first of two, or the arrays define no model";
     case MPSLP_SECOND_REFUSED: return "the second text defines no model";
     case MPSLP_NOT_LP: return "a name is not legal in LP";
     case MPSLP_OUT_OF_MEMORY: return "out of memory";
@@ -145,12 +154,12 @@ MPSLP_INLINE const char *mpslp_status_text(mpslp_status status) {
     }
 }
 
-/* Room for each line of a fault, with the 0 at its end. */
+/* Room for the line of any error, with its final 0. */
 enum { MPSLP_LINE_ROOM = 320 };
 
 /*
- * Writes the line that the program mpslp prints for a fault, as "line 7: DuplicateEntry", without an end of line, and a 0 after
- * it. A line with no room in `size` bytes is cut off. Answers how many letters the whole line has.
+ * Writes the line that the program mpslp prints for an error, as "line 7: DuplicateEntry", without an end of line, and a 0 after
+ * it. A line that needs more than `size` bytes is cut off. Returns the length of the whole line.
  */
 MPSLP_INLINE size_t mpslp_fault_line(const mpslp_fault *fault, char *line, size_t size) {
     const unsigned long number = fault->line != 0 ? fault->line : fault->number;
@@ -159,6 +168,7 @@ MPSLP_INLINE size_t mpslp_fault_line(const mpslp_fault *fault, char *line, size_
     if (fault->line != 0) snprintf(where, sizeof where, "line %lu", number);
     else if (fault->place == MPSLP_AT_ROW) snprintf(where, sizeof where, "row %lu", number);
     else if (fault->place == MPSLP_AT_COLUMN) snprintf(where, sizeof where, "column %lu", number);
+    else if (fault->place == MPSLP_AT_ELEMENT) snprintf(where, sizeof where, "element %lu", number);
     else snprintf(where, sizeof where, "%s", fault->place == MPSLP_AT_OBJECTIVE ? "objective" : "file");
     len = snprintf(line, size, "%s: %.*s%s%.*s", where, MPSLP_CAST(int, fault->kind.len), MPSLP_POINTER(const char *, fault->kind.bytes),
                    fault->name_len != 0 ? " " : "", MPSLP_CAST(int, fault->name_len), fault->name);
@@ -167,10 +177,10 @@ MPSLP_INLINE size_t mpslp_fault_line(const mpslp_fault *fault, char *line, size_
 
 /* ---- a whole model */
 
-/* Which values a column may take. */
+/* The type of a column. */
 typedef MPSLP_ENUM(mpslp_kind) {
-    MPSLP_CONTINUOUS = 0,     /* those within its bounds */
-    MPSLP_INTEGER = 1,        /* the whole numbers within its bounds */
+    MPSLP_CONTINUOUS = 0,     /* its values are those within its bounds */
+    MPSLP_INTEGER = 1,        /* the integers within its bounds */
     MPSLP_SEMI_CONTINUOUS = 2 /* 0, and those within its bounds */
 } mpslp_kind;
 
@@ -184,9 +194,10 @@ typedef char mpslp_enumerations_have_4_bytes[sizeof(mpslp_format) == 4 && sizeof
                                                  : -1];
 
 /*
- * An exact decimal: `high` times 2^64 and `low`, together the mantissa, times ten to the `exponent`. The mantissa has 36
- * digits at most and does not end in a zero; the exponent lies from -500 to 500; 0 has the exponent 0. So numbers are
- * the same where their parts are. Or, where `infinity` is -1 or 1, the infinity of that sign; then the rest is 0.
+ * An exact decimal: `high` times 2^64 plus `low` is the mantissa, which is multiplied by ten to the `exponent`. In a model that
+ * mpslp_load returned the mantissa has at most 36 digits and does not end in a zero, the exponent is from -500 to 500, and 0 has
+ * the exponent 0, so numbers are equal if and only if their parts are. If `infinity` is -1 or 1 the number is the infinity of
+ * that sign, and the rest is 0.
  */
 typedef struct mpslp_number {
     uint64_t low;
@@ -195,7 +206,7 @@ typedef struct mpslp_number {
     int32_t infinity;
 } mpslp_number;
 
-/* Where a name stands within the names of a model. */
+/* A name: `len` bytes from the offset `at` of the names of a model. */
 typedef struct mpslp_name {
     size_t at;
     size_t len;
@@ -209,21 +220,21 @@ typedef struct mpslp_row {
 typedef struct mpslp_column {
     mpslp_name name;
     mpslp_number lower, upper;
-    mpslp_number cost; /* its coefficient in the objective */
-    size_t first;      /* its first element: how many elements the columns before it have */
-    mpslp_kind kind;   /* MPSLP_CONTINUOUS, MPSLP_INTEGER or MPSLP_SEMI_CONTINUOUS */
+    mpslp_number cost; /* its objective coefficient */
+    size_t first;      /* the index of its first element: how many elements the columns before it have */
+    mpslp_kind kind;
 } mpslp_column;
 
-/* A coefficient of a row, which is not 0. */
+/* A nonzero: the index of its row, and its value. */
 typedef struct mpslp_element {
     size_t row;
     mpslp_number value;
 } mpslp_element;
 
 /*
- * A model. Rows and columns are numbered from 0, in byte order of their names; the objective is no row. The elements stand
- * column after column, those of a column in the order of rows. A model that mpslp_load gave is the caller's, who gives it
- * back by mpslp_free_model. No pointer is null.
+ * A model. In a model that mpslp_load returned, rows and columns are in byte order of their names; the objective is no row; and
+ * the elements are those of the first column, then those of the second, and so on, each column's in the order of rows. Release
+ * such a model with mpslp_free_model. No pointer is null.
  */
 typedef struct mpslp_model {
     mpslp_text names; /* the bytes of all names */
@@ -235,7 +246,7 @@ typedef struct mpslp_model {
     size_t num_elements;
     mpslp_number constant; /* of the objective */
     mpslp_name objective;
-    mpslp_sense sense; /* MPSLP_MINIMIZE or MPSLP_MAXIMIZE */
+    mpslp_sense sense;
 } mpslp_model;
 
 #define MPSLP_NO_MODEL \
@@ -244,25 +255,63 @@ typedef struct mpslp_model {
       { 0, 0, 0, 0 }, { 0, 0 }, MPSLP_MINIMIZE }
 
 /*
- * Gives the model that `len` bytes declare in the format `format`.
+ * Reads the model that `len` bytes define in the format `format`.
  *
- * MPSLP_OK: `*out` is the model, exactly. MPSLP_REFUSED: the bytes declare no model, and `*fault` is their first fault. Or
+ * MPSLP_OK: `*out` is the model, exactly. MPSLP_REFUSED: the bytes define no model, and `*fault` is their first error. Or
  * MPSLP_OUT_OF_MEMORY, or MPSLP_UNKNOWN_FORMAT. Other outputs are left unchanged; a previous model in `*out` is not freed.
  */
 MPSLP_MUST_USE mpslp_status mpslp_load(mpslp_format format, const uint8_t *bytes, size_t len, mpslp_model *out, mpslp_fault *fault);
+
+/*
+ * Writes the canonical text, in the format `to`, of the model that arrays define.
+ *
+ * The arrays have the form that mpslp_load returns, with fewer conditions. Rows, columns, and the elements of one column may come
+ * in any order, and numbers need not be in normal form. In detail:
+ *
+ * - The elements of a column are those from its `first` up to the `first` of the next column, or to the last element. The
+ *   `first` of the first column is 0.
+ * - Only the sign of `infinity` counts, and the rest of an infinite number is ignored. A limit or bound with an absolute value of
+ *   1e20 or more is the infinity of its sign.
+ * - An element or a cost of 0 is allowed, and is no coefficient of the model.
+ *
+ * MPSLP_OK: `*out` is the text. MPSLP_NOT_LP: `to` is LP, and `*fault` has the place of the first name that is not legal in LP,
+ * with its index in byte order of names. MPSLP_REFUSED: the arrays define no model, and `*fault` is their first error. Or
+ * MPSLP_OUT_OF_MEMORY, or MPSLP_UNKNOWN_FORMAT. Other outputs are left unchanged; a previous text in `*out` is not freed.
+ *
+ * The first error is the first in this order: the objective (its name, constant and sense), the rows (name, lower and upper
+ * limit), and then each column (name, lower and upper bound, cost, type) followed by its elements. `place` and `number` are its
+ * place in the arrays. Its kind is one of those of files:
+ *
+ * - NameLength: a name has no byte or more than 255, or is not within `names`. NameByte, NameMarker: it is no legal name.
+ * - BadNumber: a constant, a cost or an element is infinite. TooManyDigits, ExponentRange: a number has more than 36 digits, or
+ *   in normal form an exponent outside -500 to 500.
+ * - BadType: an unknown sense or type.
+ * - DuplicateRow: a second row of that name, or a row with the name of the objective. DuplicateBound: a second column of that
+ *   name. DuplicateEntry: a second element of that row in the column.
+ * - InfiniteValue: a lower limit or bound of plus infinity, or an upper one of minus infinity.
+ * - UnknownRow: the row of an element is no index of a row.
+ * - ColumnSplit: the `first` of the first column is not 0, or that of a column is above that of the next one or the number of
+ *   elements.
+ *
+ * If there is none of these, the model as a whole may have an error: NoColumns, RangeInexact, LimitTooLarge, LimitsCrossed,
+ * BoundsCrossed or SemiBounds. Then `place` is MPSLP_NOWHERE, and `name` is the name of the row or column.
+ *
+ * Any number in the arrays is allowed: nothing outside of them is read. They are not changed.
+ */
+MPSLP_MUST_USE mpslp_status mpslp_store(mpslp_format to, const mpslp_model *model, mpslp_text *out, mpslp_fault *fault);
 
 /*
  * Accessors. Row and column indices must be in range, and so must the index of an entry in its column: nothing checks them.
  * A returned text is valid as long as the model, and is not freed.
  */
 
-/* Below 0, 0 or above: a name of a model against `len` bytes, in byte order. */
+/* Compares a name of a model with `len` bytes, in byte order: below 0, 0 or above 0, as memcmp. */
 MPSLP_INLINE int mpslp_compare_name(const mpslp_model *model, mpslp_name name, const char *bytes, size_t len) {
     const int order = memcmp(model->names.bytes + name.at, bytes, name.len < len ? name.len : len);
     return order != 0 ? order : (name.len > len) - (name.len < len);
 }
 
-/* Finds the row whose name is `len` bytes, by bisection: whether there is one, and its number in `*number`. */
+/* Finds the row whose name is `len` bytes, by bisection. Returns whether there is one, and its index in `*number`. */
 MPSLP_INLINE MPSLP_MUST_USE bool mpslp_find_row(const mpslp_model *model, const char *name, size_t len, size_t *number) {
     size_t first = 0, end = model->num_rows;
     while (first < end) {
@@ -278,7 +327,7 @@ MPSLP_INLINE MPSLP_MUST_USE bool mpslp_find_row(const mpslp_model *model, const 
     return false;
 }
 
-/* Finds the column whose name is `len` bytes, by bisection: whether there is one, and its number in `*number`. */
+/* Finds the column whose name is `len` bytes, by bisection. Returns whether there is one, and its index in `*number`. */
 MPSLP_INLINE MPSLP_MUST_USE bool mpslp_find_column(const mpslp_model *model, const char *name, size_t len, size_t *number) {
     size_t first = 0, end = model->num_columns;
     while (first < end) {
@@ -294,16 +343,16 @@ MPSLP_INLINE MPSLP_MUST_USE bool mpslp_find_column(const mpslp_model *model, con
     return false;
 }
 
-/* How many rows there are. */
+/* The number of rows. */
 MPSLP_INLINE size_t mpslp_num_rows(const mpslp_model *model) { return model->num_rows; }
 
-/* How many columns there are: one at least. */
+/* The number of columns: at least one. */
 MPSLP_INLINE size_t mpslp_num_columns(const mpslp_model *model) { return model->num_columns; }
 
-/* How many coefficients of rows are not 0. Those of the objective are not counted. */
+/* The number of nonzeros in rows. Those of the objective are not counted. */
 MPSLP_INLINE size_t mpslp_num_elements(const mpslp_model *model) { return model->num_elements; }
 
-/* The bytes of a name that the model tells. */
+/* The bytes of a name of the model. */
 MPSLP_INLINE mpslp_text mpslp_name_text(const mpslp_model *model, mpslp_name name) {
     mpslp_text text;
     text.bytes = model->names.bytes + name.at;
@@ -314,42 +363,42 @@ MPSLP_INLINE mpslp_text mpslp_name_text(const mpslp_model *model, mpslp_name nam
 /* The name of row `i`. */
 MPSLP_INLINE mpslp_text mpslp_row_name(const mpslp_model *model, size_t i) { return mpslp_name_text(model, model->rows[i].name); }
 
-/* The lower limit of row `i`; minus infinity where there is none. */
+/* The lower limit of row `i`; minus infinity if there is none. */
 MPSLP_INLINE mpslp_number mpslp_row_lower(const mpslp_model *model, size_t i) { return model->rows[i].lower; }
 
-/* The upper limit of row `i`; plus infinity where there is none. */
+/* The upper limit of row `i`; plus infinity if there is none. */
 MPSLP_INLINE mpslp_number mpslp_row_upper(const mpslp_model *model, size_t i) { return model->rows[i].upper; }
 
 /* The name of column `j`. */
 MPSLP_INLINE mpslp_text mpslp_column_name(const mpslp_model *model, size_t j) { return mpslp_name_text(model, model->columns[j].name); }
 
-/* The lower bound of column `j`; minus infinity where there is none. */
+/* The lower bound of column `j`; minus infinity if there is none. */
 MPSLP_INLINE mpslp_number mpslp_column_lower(const mpslp_model *model, size_t j) { return model->columns[j].lower; }
 
-/* The upper bound of column `j`; plus infinity where there is none. */
+/* The upper bound of column `j`; plus infinity if there is none. */
 MPSLP_INLINE mpslp_number mpslp_column_upper(const mpslp_model *model, size_t j) { return model->columns[j].upper; }
 
-/* Which values column `j` may take: MPSLP_CONTINUOUS, MPSLP_INTEGER or MPSLP_SEMI_CONTINUOUS. */
+/* The type of column `j`. */
 MPSLP_INLINE mpslp_kind mpslp_column_kind(const mpslp_model *model, size_t j) { return model->columns[j].kind; }
 
-/* Whether column `j` takes whole numbers alone. */
+/* Whether column `j` is an integer one. */
 MPSLP_INLINE bool mpslp_is_integer(const mpslp_model *model, size_t j) { return model->columns[j].kind == MPSLP_INTEGER; }
 
-/* The coefficient of the objective in column `j`, which may be 0. */
+/* The objective coefficient of column `j`, which may be 0. */
 MPSLP_INLINE mpslp_number mpslp_objective_coefficient(const mpslp_model *model, size_t j) { return model->columns[j].cost; }
 
-/* How many coefficients of rows in column `j` are not 0. */
+/* The number of nonzeros in the rows of column `j`. */
 MPSLP_INLINE size_t mpslp_column_len(const mpslp_model *model, size_t j) {
     return (j + 1 < model->num_columns ? model->columns[j + 1].first : model->num_elements) - model->columns[j].first;
 }
 
-/* The coefficient of number `k` among those of rows in column `j`, in the order of rows: the row's number, and the value. */
+/* The nonzero of index `k` in column `j`, in the order of rows: the index of its row, and its value. */
 MPSLP_INLINE mpslp_element mpslp_entry(const mpslp_model *model, size_t j, size_t k) { return model->elements[model->columns[j].first + k]; }
 
 /* The name of the objective. */
 MPSLP_INLINE mpslp_text mpslp_objective_name(const mpslp_model *model) { return mpslp_name_text(model, model->objective); }
 
-/* Which value of the objective is wanted: MPSLP_MINIMIZE or MPSLP_MAXIMIZE. */
+/* The sense of the objective. */
 MPSLP_INLINE mpslp_sense mpslp_objective_sense(const mpslp_model *model) { return model->sense; }
 
 /* The constant of the objective, which is added to its value. */
@@ -357,7 +406,7 @@ MPSLP_INLINE mpslp_number mpslp_objective_constant(const mpslp_model *model) { r
 
 /* ---- numbers as floating point */
 
-/* Divides a number of 128 bits, its highest 32 bits first, and answers what is left over. */
+/* Divides a number of 128 bits, its highest 32 bits first, and returns the remainder. */
 MPSLP_INLINE uint32_t mpslp_divide_limbs(uint32_t limbs[4], uint32_t divisor) {
     uint64_t left = 0;
     int i;
@@ -382,12 +431,12 @@ MPSLP_INLINE void mpslp_mantissa_limbs(mpslp_number number, uint32_t limbs[4]) {
     limbs[3] = MPSLP_CAST(uint32_t, low);
 }
 
-/* The room for the text of a number: a sign, 39 digits, `e`, 11 letters of an exponent, and 0. */
+/* Room for the text of a number: a sign, 39 digits, `e`, 11 characters of an exponent, and 0. */
 enum { MPSLP_NUMBER_ROOM = 53 };
 
 /*
- * Writes a finite number: a minus where it is below 0, its digits, `e` and the exponent, and a 0 behind it. There is no point,
- * so no locale changes what is read of it. Answers how many letters there are before the 0.
+ * Writes a finite number: a minus if it is below 0, its digits, `e`, the exponent, and a final 0. There is no decimal point, so
+ * the text is read alike in every locale. Returns its length without the 0.
  */
 MPSLP_INLINE size_t mpslp_number_text(mpslp_number number, char text[MPSLP_NUMBER_ROOM]) {
     char turned[40];
@@ -409,8 +458,8 @@ MPSLP_INLINE size_t mpslp_number_text(mpslp_number number, char text[MPSLP_NUMBE
 }
 
 /*
- * Whether a finite number is a double. It is where it is an odd number below 2^53 times a power of two that a double has
- * room for.
+ * Whether a finite number is a double: whether it is an odd integer below 2^53 times a power of two that is in the range of a
+ * double.
  */
 MPSLP_INLINE bool mpslp_is_double(mpslp_number number) {
     uint32_t limbs[4];
@@ -435,8 +484,8 @@ MPSLP_INLINE bool mpslp_is_double(mpslp_number number) {
 }
 
 /*
- * Whether a finite number is one product or quotient of two doubles that are exact: a mantissa of 53 bits and a power of ten up
- * to 10^22. Such a double is rounded once, and so is the nearest one.
+ * Whether a finite number is the product or quotient of two doubles that are exact: a mantissa of 53 bits and a power of ten up
+ * to 10^22. The product or quotient is rounded only once, so it is the nearest double.
  */
 MPSLP_INLINE bool mpslp_is_short(mpslp_number number) {
     const int64_t limit = MPSLP_CAST(int64_t, 1) << 53;
@@ -458,7 +507,7 @@ MPSLP_INLINE double mpslp_short_to_double(mpslp_number number) {
     return number.exponent < 0 ? mantissa / powers[-number.exponent] : mantissa * powers[number.exponent];
 }
 
-/* The double of a finite number, by strtod; `errno` stays as it was. */
+/* The double of a finite number, by strtod; `errno` is unchanged. */
 MPSLP_INLINE double mpslp_text_to_double(mpslp_number number) {
     char text[MPSLP_NUMBER_ROOM];
     const int error = errno;
@@ -470,9 +519,9 @@ MPSLP_INLINE double mpslp_text_to_double(mpslp_number number) {
 }
 
 /*
- * The double that is nearest to a number, the one with an even last bit of two; an infinity if the number is one or is too
- * large. `*is_exact` says whether the double is the number; it may be null. It relies on a strtod that rounds correctly, as
- * those of glibc and musl do, and rounds in the mode that is set. `errno` stays as it was.
+ * The double nearest to a number, and of two the one with an even last bit; an infinity if the number is one or is too large.
+ * `*is_exact` says whether the double is the number; `is_exact` may be null. It relies on a strtod that rounds correctly, as
+ * those of glibc and musl do, and rounds in the mode that is set. `errno` is unchanged.
  */
 MPSLP_INLINE double mpslp_to_double(mpslp_number number, bool *is_exact) {
     if (number.infinity != 0) {
@@ -483,13 +532,13 @@ MPSLP_INLINE double mpslp_to_double(mpslp_number number, bool *is_exact) {
     return mpslp_is_short(number) ? mpslp_short_to_double(number) : mpslp_text_to_double(number);
 }
 
-/* Which decimal of a double is wanted: the shortest one that is read back as it, as 0.1, or the one that it is exactly. */
+/* Which decimal of a double is wanted: the shortest one that is read as that double, such as 0.1, or its exact value. */
 typedef MPSLP_ENUM(mpslp_decimal) { MPSLP_SHORTEST = 0, MPSLP_EXACT = 1 } mpslp_decimal;
 
-/* The most significant digits of a double, and the room for its text: a sign, these, a point, `e-1074` and 0. */
+/* The largest number of significant digits of a double, and room for its text: a sign, these, a point, `e-1074` and 0. */
 enum { MPSLP_DOUBLE_DIGITS = 767, MPSLP_DOUBLE_ROOM = 780, MPSLP_MOST_DIGITS = 36 };
 
-/* Makes a number of the text of printf's %e, whatever its point is. Answers whether it has 36 digits at most. */
+/* Makes a number of the text of printf's %e, whatever its decimal point is. Returns whether it has at most 36 digits. */
 MPSLP_INLINE bool mpslp_read_double(const char *text, mpslp_number *number) {
     uint32_t limbs[4] = { 0, 0, 0, 0 };
     char digits[MPSLP_DOUBLE_ROOM];
@@ -526,9 +575,9 @@ MPSLP_INLINE bool mpslp_read_double(const char *text, mpslp_number *number) {
 }
 
 /*
- * Makes a number of a double. Answers false, and leaves `*number` as it was, for what is no number, and if the exact decimal is
- * wanted and has more than 36 digits. An infinity is that of its sign, and -0 is 0. It relies on a printf and a strtod that
- * round correctly, as those of glibc and musl do.
+ * Makes a number of a double. Returns false, and leaves `*number` unchanged, for NaN, and if the exact decimal is wanted and has
+ * more than 36 digits. An infinity becomes that of its sign, and -0 becomes 0. It relies on a printf and a strtod that round
+ * correctly, as those of glibc and musl do.
  */
 MPSLP_INLINE MPSLP_MUST_USE bool mpslp_from_double(double value, mpslp_decimal wanted, mpslp_number *number) {
     const mpslp_number infinite = { 0, 0, 0, value < 0 ? -1 : 1 };
@@ -547,14 +596,14 @@ MPSLP_INLINE MPSLP_MUST_USE bool mpslp_from_double(double value, mpslp_decimal w
     return true;
 }
 
-/* ---- doubles in bulk, into arrays of the caller's, as solvers take a model */
+/* ---- doubles in bulk, into arrays of the caller, in the form in which solvers take a model */
 
-/* The coefficient of the objective in each column. */
+/* The objective coefficient of each column. */
 MPSLP_INLINE void mpslp_costs(const mpslp_model *model, double *costs) {
     for (size_t j = 0; j < model->num_columns; j++) costs[j] = mpslp_to_double(model->columns[j].cost, NULL);
 }
 
-/* The limits of each row, with infinities where there is none. */
+/* The limits of each row; an infinity if there is none. */
 MPSLP_INLINE void mpslp_row_limits(const mpslp_model *model, double *lower, double *upper) {
     for (size_t i = 0; i < model->num_rows; i++) {
         lower[i] = mpslp_to_double(model->rows[i].lower, NULL);
@@ -562,7 +611,7 @@ MPSLP_INLINE void mpslp_row_limits(const mpslp_model *model, double *lower, doub
     }
 }
 
-/* The bounds of each column, with infinities where there is none. */
+/* The bounds of each column; an infinity if there is none. */
 MPSLP_INLINE void mpslp_column_bounds(const mpslp_model *model, double *lower, double *upper) {
     for (size_t j = 0; j < model->num_columns; j++) {
         lower[j] = mpslp_to_double(model->columns[j].lower, NULL);
@@ -570,16 +619,16 @@ MPSLP_INLINE void mpslp_column_bounds(const mpslp_model *model, double *lower, d
     }
 }
 
-/* Whether all numbers of rows, columns and elements are an int32_t: what mpslp_matrix asks for. */
+/* Whether all indices of rows, columns and elements fit an int32_t, as mpslp_matrix requires. */
 MPSLP_INLINE bool mpslp_fits_int32(const mpslp_model *model) {
     const size_t most = INT32_MAX;
     return model->num_rows <= most && model->num_columns <= most && model->num_elements <= most;
 }
 
 /*
- * The coefficients of the rows in compressed columns: `starts`, with one item more than there are columns, has the first
- * element of each column, and at its end how many elements there are; `rows` and `values` have the row and the value of each
- * element. The model is one of which mpslp_fits_int32 holds.
+ * The nonzeros of the rows in compressed columns. `starts` has one item more than there are columns: the index of the first
+ * element of each column, and then the number of elements. `rows` and `values` have the row and the value of each element. The
+ * model must be one for which mpslp_fits_int32 is true.
  */
 MPSLP_INLINE void mpslp_matrix(const mpslp_model *model, int32_t *starts, int32_t *rows, double *values) {
     for (size_t j = 0; j < model->num_columns; j++) starts[j] = MPSLP_CAST(int32_t, model->columns[j].first);
@@ -592,14 +641,14 @@ MPSLP_INLINE void mpslp_matrix(const mpslp_model *model, int32_t *starts, int32_
 
 /* ---- releasing memory */
 
-/* Frees a text that mpslp_canonical gave, and makes it MPSLP_NO_TEXT. A text of no bytes has nothing to free. */
+/* Frees a text that mpslp_canonical or mpslp_store returned, and makes it MPSLP_NO_TEXT. An empty text has nothing to free. */
 MPSLP_INLINE void mpslp_free(mpslp_text *text) {
     const mpslp_text none = MPSLP_NO_TEXT;
     if (text->len != 0) free(MPSLP_POINTER(void *, MPSLP_POINTER(uintptr_t, text->bytes)));
     *text = none;
 }
 
-/* Frees a model that mpslp_load gave, and makes it MPSLP_NO_MODEL. An array without items has nothing to free. */
+/* Frees a model that mpslp_load returned, and makes it MPSLP_NO_MODEL. An empty array has nothing to free. */
 MPSLP_INLINE void mpslp_free_model(mpslp_model *model) {
     const mpslp_model none = MPSLP_NO_MODEL;
     mpslp_free(&model->names);

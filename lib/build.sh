@@ -11,7 +11,9 @@ root=$PWD
 if test "${1:-}" = gate; then
     set --
     for name in $(sed -n 's/^mpslp_c staticlib: //p' crates.txt); do
-        set -- "$@" --extern "$name=$root/crates/$name/out/rlib/$name.rlib"
+        library=$root/crates/$name/out/rlib/$name.rlib
+        test -e "$library" || library=$kit/rlibs/$name.rlib
+        set -- "$@" --extern "$name=$library"
     done
     for folder in "$root"/crates/*/out/rlib; do
         set -- "$@" -L "dependency=$folder"

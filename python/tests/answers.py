@@ -1,5 +1,6 @@
 """Calls of the extension module that take each way out of it; as a program, it makes each of them."""
 
+from decimal import Decimal
 from functools import partial
 
 from mpslp import _mpslp
@@ -13,6 +14,9 @@ ON_A_LINE = b"ROWS\n N  cost\n N  cost\nENDATA\n"
 WITH_A_NAME = b"ROWS\n N  cost\nCOLUMNS\n    x  cost  1\nBOUNDS\n UP  B  x  -1\nENDATA\n"
 LOADED = _mpslp.load(OTHER, _mpslp.LP)
 NOT_LP = b"ROWS\n N  cost\nCOLUMNS\n    x[1]  cost  1\nENDATA\n"
+LOW, SMALL, LARGE, HIGH = Decimal("-Infinity"), Decimal("-1.5E-7"), Decimal("40"), Decimal("Infinity")
+ROWS = [("weight", LOW, LARGE), ("size", SMALL, HIGH)]
+COLUMNS = [("y", _mpslp.INTEGER, SMALL, HIGH, LARGE, [(1, SMALL), (0, LARGE)]), ("x", _mpslp.CONTINUOUS, LOW, LARGE, SMALL, [])]
 
 # Each has all of its arguments, so that nothing but the call itself takes memory.
 CALLS = {
@@ -39,6 +43,10 @@ CALLS = {
     "a model's column's entries": lambda: (LOADED.column_len(0), LOADED.column_entries(0)),
     "a model's row's entries": lambda: (lambda loaded: (loaded.row_len(0), loaded.row_entries(0)))(_mpslp.load(OTHER, _mpslp.LP)),
     "load, refused": partial(_mpslp.load, ON_A_LINE, _mpslp.MPS),
+    "store": partial(_mpslp.store, LOADED, _mpslp.LP),
+    "store, not LP": partial(_mpslp.store, _mpslp.load(NOT_LP, _mpslp.MPS), _mpslp.LP),
+    "make": lambda: _mpslp.store(_mpslp.make(_mpslp.MAXIMIZE, "profit", SMALL, ROWS, COLUMNS), _mpslp.MPS),
+    "make, refused": partial(_mpslp.make, _mpslp.MINIMIZE, "weight", SMALL, ROWS, COLUMNS),
 }
 
 # Arguments that the modules of the package never give.
@@ -49,6 +57,12 @@ WRONG_CALLS = {
     "a column that is not there": partial(LOADED.column_entries, 2**64),
     "a number below 0": partial(LOADED.row_entries, -1),
     "no number": partial(LOADED.entry, 0, None),
+    "a model that is none": partial(_mpslp.store, None, _mpslp.MPS),
+    "an unknown format of a model": partial(_mpslp.store, LOADED, 2),
+    "a name without a byte": partial(_mpslp.make, _mpslp.MINIMIZE, "", SMALL, [], []),
+    "a row that is no tuple": partial(_mpslp.make, _mpslp.MINIMIZE, "cost", SMALL, ["weight"], []),
+    "a row below 0": partial(_mpslp.make, _mpslp.MINIMIZE, "cost", SMALL, [], [("x", 0, SMALL, HIGH, LARGE, [(-1, SMALL)])]),
+    "a number that is none": partial(_mpslp.make, _mpslp.MINIMIZE, "cost", Decimal("NaN"), [], []),
     "an argument too few": partial(_mpslp.same, MPS, _mpslp.MPS, LP),
 }
 

@@ -70,11 +70,12 @@ class Texts(unittest.TestCase):
 
     def test_texts_of_random_models(self):
         source = random.Random(7)
-        for _ in range(150):
+        for _ in range(1000):
             drawn = models.drawn_model(source)
             model = made(drawn)
             text = models.canonical_mps(drawn).encode()
             self.assertEqual(mpslp.dumps(model, "mps"), text)
+            self.assertEqual(mpslp.canonical(text, "mps"), text)
             self.assertEqual(mpslp.load(text, "mps"), model)
             lp = models.canonical_lp(drawn)
             if lp.endswith(": NotLp\n"):
@@ -83,12 +84,14 @@ class Texts(unittest.TestCase):
                 self.assertEqual(f"{caught.exception}\n", lp)
             else:
                 self.assertEqual(mpslp.dumps(model, "lp"), lp.encode())
+                self.assertEqual(mpslp.load(lp.encode(), "lp"), model)
 
     def test_texts_do_not_depend_on_the_context(self):
         wanted = mpslp.dumps(sample(), "lp")
         with localcontext() as context:
             context.prec = 3
             context.Emax, context.Emin = 9, -9
+            context.capitals = 0
             self.assertEqual(mpslp.dumps(sample(), "lp"), wanted)
             self.assertEqual(mpslp.dumps(made_again(sample()), "lp"), wanted)
 

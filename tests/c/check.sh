@@ -1,5 +1,5 @@
 #!/bin/sh
-# tests/c/check.sh: tries build/libmpslp.a and build/libmpslp.so.0 from C and C++. It needs gcc, g++, valgrind and python3,
+# tests/c/check.sh: tests build/libmpslp.a and build/libmpslp.so.0 from C and C++. It needs gcc, g++, valgrind and python3,
 # and the program, which shows models as the library has to.
 set -eu
 cd "$(dirname "$0")/../.."
@@ -50,6 +50,12 @@ int main(void) { mpslp_text text = MPSLP_NO_TEXT; mpslp_fault fault = MPSLP_NO_F
 done
 ! gcc -std=c99 -fshort-enums -Iinclude -c -o $tried/wrong.o tests/c/layout.c 2> $tried/warning || die "short enumerations compile"
 
+# Models made in C: as C and as C++, with either library.
+gcc -std=c99 $warn -g -fsanitize=address,undefined -fno-sanitize-recover=all -Iinclude -o $tried/arrays-sanitized tests/c/arrays.c build/libmpslp.a
+g++ -std=c++11 -x c++ $warn -Wold-style-cast -Iinclude -o $tried/arrays-cpp tests/c/arrays.c -x none -Lbuild -lmpslp
+$tried/arrays-sanitized || die "a model made in C"
+LD_LIBRARY_PATH=build $checked $tried/arrays-cpp || die "a model made in C++"
+
 # Each call, on a stack of 256 KiB.
 gcc -std=c99 $warn -Iinclude -pthread -o $tried/stack tests/c/stack.c build/libmpslp.a
 for input in examples/*.mps examples/*.lp; do
@@ -70,6 +76,7 @@ for input in examples/*.mps examples/*.lp; do
         test -f "$wanted" || continue
         for program in $tried/program $tried/program-sanitized "$checked $tried/program"; do
             $program canon "$form" "$to" "$input" | cmp - "$wanted" || die "$input to $to"
+            $program store "$form" "$to" "$input" | cmp - "$wanted" || die "$input stored as $to"
         done
     done
     case $model in *.canonical) $tried/program is "$form" "$input" || die "$input is canonical" ;; esac
@@ -92,12 +99,17 @@ for format in mps lp; do
     $checked $tried/failing $format examples/small.$format > /dev/null || die "an allocation that fails, in $format, by valgrind"
 done
 for input in vectors/*.mps vectors/*.lp; do
-    status=0
-    $tried/program-sanitized canon "${input##*.}" lp "$input" > $tried/text 2> $tried/fault || status=$?
-    test $status -le 2 || die "$input: $(cat $tried/fault)"
+    for to in mps lp; do
+        for call in canon store; do
+            status=0
+            $tried/program-sanitized $call "${input##*.}" $to "$input" > $tried/$call-text 2> $tried/$call-error || status=$?
+            test $status -le 2 || die "$input: $(cat $tried/$call-error)"
+        done
+        cmp $tried/canon-text $tried/store-text && cmp $tried/canon-error $tried/store-error || die "$input stored as $to"
+    done
     status=0
     $tried/program-sanitized show "${input##*.}" "$input" > $tried/text 2> $tried/fault || status=$?
     test $status -le 2 || die "$input: $(cat $tried/fault)"
     $mpslp show "${input##*.}" "$input" 2>&1 | cmp - "$(test $status = 0 && echo $tried/text || echo $tried/fault)" || die "$input shown"
 done
-echo "the library answers as the program does"
+echo "the library returns what the program prints"

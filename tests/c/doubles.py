@@ -1,9 +1,9 @@
 #!/usr/bin/env python3
-"""doubles.py PROGRAM: what mpslp_to_double answers, against exact fractions.
+"""doubles.py PROGRAM: checks the results of mpslp_to_double against exact fractions.
 
 PROGRAM is tests/c/program.c, compiled. It is given a model with many numbers: digits that lie
 halfway between two doubles or beside that, powers of two, the ends of the range of doubles, and
-random ones. Exits with 1 where a double is not the nearest one, or is said to be the number and
+random ones. Exits with 1 if a double is not the nearest one, or is said to be the number and
 is not.
 """
 

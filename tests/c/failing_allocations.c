@@ -1,7 +1,7 @@
 /*
- * Lets each allocation of each call fail in turn: failing_allocations FORMAT FILE, linked with
- * -Wl,--wrap=malloc,--wrap=realloc. A call that has no memory says so and leaves what it was given as it was; else it
- * answers as ever, also where it can do without the memory that it asked for.
+ * Makes each allocation of each call fail in turn: failing_allocations FORMAT FILE, linked with
+ * -Wl,--wrap=malloc,--wrap=realloc. A call whose allocation fails either reports it and leaves its outputs unchanged, or can do
+ * without it and returns what it always does.
  */
 #include "mpslp.h"
 
@@ -18,13 +18,16 @@ static int fails(void) { return left >= 0 && left-- == 0; }
 void *__wrap_malloc(size_t size) { return fails() ? NULL : __real_malloc(size); }
 void *__wrap_realloc(void *at, size_t size) { return fails() ? NULL : __real_realloc(at, size); }
 
-enum { CANONICAL_MPS, CANONICAL_LP, SAME, IS_CANONICAL, LOAD, CALLS };
-static const char *const names[CALLS] = { "mpslp_canonical to MPS", "mpslp_canonical to LP", "mpslp_same", "mpslp_is_canonical", "mpslp_load" };
+enum { CANONICAL_MPS, CANONICAL_LP, SAME, IS_CANONICAL, LOAD, STORE_MPS, STORE_LP, CALLS };
+static const char *const names[CALLS] = {
+    "mpslp_canonical to MPS", "mpslp_canonical to LP", "mpslp_same", "mpslp_is_canonical", "mpslp_load", "mpslp_store to MPS", "mpslp_store to LP",
+};
 
 static uint8_t bytes[1 << 20];
 static size_t len;
+static mpslp_model stored = MPSLP_NO_MODEL;
 
-/* What a call gives: a text, a model, or a fault. */
+/* The outputs of a call. */
 typedef struct {
     mpslp_text text;
     mpslp_model model;
@@ -39,6 +42,8 @@ static uint32_t call(int which, uint32_t format, answer *to) {
     case CANONICAL_LP: return mpslp_canonical(format, MPSLP_LP, bytes, len, &to->text, &to->fault);
     case SAME: return mpslp_same(format, bytes, len, format, bytes, len, &to->fault);
     case IS_CANONICAL: return mpslp_is_canonical(format, bytes, len, &to->fault);
+    case STORE_MPS: return mpslp_store(MPSLP_MPS, &stored, &to->text, &to->fault);
+    case STORE_LP: return mpslp_store(MPSLP_LP, &stored, &to->text, &to->fault);
     default: return mpslp_load(format, bytes, len, &to->model, &to->fault);
     }
 }
@@ -58,12 +63,12 @@ static int is_same_text(const mpslp_text *one, const mpslp_text *other) {
     return one->len == other->len && memcmp(one->bytes, other->bytes, one->len) == 0;
 }
 
-/* Whether two columns are the same; behind the kind of a column lies padding. */
+/* Whether two columns are the same. Padding follows the kind of a column. */
 static int is_same_column(const mpslp_column *one, const mpslp_column *other) {
     return memcmp(one, other, offsetof(mpslp_column, kind) + sizeof one->kind) == 0;
 }
 
-/* Whether two answers are alike. */
+/* Whether two outputs are alike. */
 static int is_same(const answer *one, const answer *other) {
     const mpslp_model *a = &one->model, *b = &other->model;
     if (a->num_rows != b->num_rows || a->num_columns != b->num_columns || a->num_elements != b->num_elements) return 0;
@@ -86,23 +91,28 @@ static int try_call(int which, uint32_t format) {
         is_refused = left < 0;
         left = -1;
         if (status == MPSLP_OUT_OF_MEMORY ? !is_refused || !is_untouched(&got) : status != done || !is_same(&got, &wanted)) {
-            fprintf(stderr, "%s answers %u where allocation %ld fails\n", names[which], (unsigned)status, n);
+            fprintf(stderr, "%s returns %u if allocation %ld fails\n", names[which], (unsigned)status, n);
             return 1;
         }
         told += status == MPSLP_OUT_OF_MEMORY;
         give_back(&got);
     }
     give_back(&wanted);
-    printf("%s: no memory at %ld of %ld allocations, and without the others it answers\n", names[which], told, n - 1);
+    printf("%s: %ld of %ld allocations that fail are reported\n", names[which], told, n - 1);
     return told == 0;
 }
 
 int main(int count, char **words) {
     FILE *file = count == 3 ? fopen(words[2], "rb") : NULL;
+    mpslp_fault fault = MPSLP_NO_FAULT;
+    uint32_t format;
     int wrong = 0;
     if (!file) return 3;
     len = fread(bytes, 1, sizeof bytes, file);
     fclose(file);
-    for (int which = 0; which < CALLS; which++) wrong |= try_call(which, strcmp(words[1], "mps") == 0 ? MPSLP_MPS : MPSLP_LP);
+    format = strcmp(words[1], "mps") == 0 ? MPSLP_MPS : MPSLP_LP;
+    if (mpslp_load(format, bytes, len, &stored, &fault) != MPSLP_OK) return 3;
+    for (int which = 0; which < CALLS; which++) wrong |= try_call(which, format);
+    mpslp_free_model(&stored);
     return wrong;
 }

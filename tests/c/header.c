@@ -1,6 +1,6 @@
 /*
- * The inline calls of mpslp.h that the program of program.c makes none of: `header VERSION` tries them, and `header doubles`
- * reads doubles in hexadecimal, a line each, and prints the shortest and the exact decimal of each, or `-`.
+ * The inline calls of mpslp.h that program.c does not make: `header VERSION` checks them, and `header doubles` reads doubles in
+ * hexadecimal, one a line, and prints the shortest and the exact decimal of each, or `-`.
  */
 #include "mpslp.h"
 
@@ -33,7 +33,7 @@ static void check_status_texts(void) {
     assert(strcmp(mpslp_status_text(MPSLP_CAST(mpslp_status, 7)), "unknown status") == 0);
 }
 
-/* The line of a canonical text that there is not. */
+/* The line of the error of a text. */
 static void check_line(mpslp_format from, const char *text, const char *wanted) {
     char line[MPSLP_LINE_ROOM], cut[6] = "?????";
     mpslp_text out = MPSLP_NO_TEXT;

@@ -73,6 +73,7 @@ int main(void) {
     mpslp_status (*const same)(mpslp_format, const uint8_t *, size_t, mpslp_format, const uint8_t *, size_t, mpslp_fault *) = mpslp_same;
     mpslp_status (*const is_canonical)(mpslp_format, const uint8_t *, size_t, mpslp_fault *) = mpslp_is_canonical;
     mpslp_status (*const load)(mpslp_format, const uint8_t *, size_t, mpslp_model *, mpslp_fault *) = mpslp_load;
+    mpslp_status (*const store)(mpslp_format, const mpslp_model *, mpslp_text *, mpslp_fault *) = mpslp_store;
     const mpslp_format unknown = MPSLP_CAST(mpslp_format, 2), largest = MPSLP_CAST(mpslp_format, 4294967295u);
     const uint8_t none = 0;
     mpslp_text text = MPSLP_NO_TEXT;
@@ -87,6 +88,8 @@ int main(void) {
     if (is_canonical(largest, &none, 0, &fault) != MPSLP_UNKNOWN_FORMAT) return 7;
     if (load(MPSLP_LP, &none, 1, &model, &fault) != MPSLP_REFUSED || fault.line != 1) return 8;
     if (load(unknown, &none, 0, &model, &fault) != MPSLP_UNKNOWN_FORMAT) return 9;
+    if (store(MPSLP_LP, &model, &text, &fault) != MPSLP_REFUSED || fault.place != MPSLP_AT_OBJECTIVE) return 10;
+    if (store(largest, &model, &text, &fault) != MPSLP_UNKNOWN_FORMAT) return 11;
     mpslp_free_model(&model);
     mpslp_free(&text);
     return text.len != 0 || model.num_columns != 0;

@@ -1,7 +1,7 @@
 /*
- * The words of the program mpslp, done by the calls of the library: canon, same and show, and beside them
- * `is FORMAT PATH`, which tells whether a text is canonical, and `double FORMAT PATH`, which prints each number of a model in
- * hexadecimal. So what tests the program tests the library.
+ * The commands of the program mpslp, done by the calls of the library: canon, same and show, so that what tests the program
+ * tests the library. Also `is FORMAT PATH`, which says whether a text is canonical; `double FORMAT PATH`, which prints each
+ * number of a model in hexadecimal; and `store FORMAT FORMAT PATH`, which is canon by mpslp_load and mpslp_store.
  */
 #include "mpslp.h"
 
@@ -10,14 +10,14 @@
 #include <stdio.h>
 #include <string.h>
 
-enum { DONE = 0, NO = 1, REFUSED = 2, WRONG_WORDS = 3, BROKEN = 4, NO_MEMORY = 5 };
+enum { DONE = 0, NO = 1, REFUSED = 2, WRONG_WORDS = 3, BROKEN = 4, NO_MEMORY = 5, UNEQUAL = 6 };
 
 typedef struct {
     uint8_t *bytes;
     size_t len;
 } content;
 
-/* All of a file, or of standard input where the path is `-`. It ends the program where a read fails. */
+/* All of a file, or of standard input if the path is `-`. Exits if a read fails. */
 static content load(const char *path) {
     FILE *file = strcmp(path, "-") == 0 ? stdin : fopen(path, "rb");
     content all = { malloc(1), 0 };
@@ -53,7 +53,7 @@ static void tell_place(const mpslp_fault *fault) {
     }
 }
 
-/* Tells why there is no answer, behind a word for one of two inputs, and answers the status that ends the program. */
+/* Prints the error of an input, after a word for one of two inputs. Returns the exit status of the program. */
 static int tell(uint32_t status, const char *input, const mpslp_fault *fault) {
     if (status == MPSLP_OUT_OF_MEMORY) {
         fprintf(stderr, "out of memory\n");
@@ -100,7 +100,7 @@ static int is(uint32_t format, const char *path) {
     return status == MPSLP_OK ? DONE : NO;
 }
 
-/* ---- a model as the program shows it, through the views */
+/* ---- a model as the program shows it, through the accessors */
 
 /* Digits of a number, the lowest first, from 10^-500 on: those of any number, and of the difference of two. */
 enum { LOWEST = -500, DIGITS = 1040 };
@@ -253,10 +253,123 @@ static int show(uint32_t format, const char *path, void (*put_it)(const mpslp_mo
     return DONE;
 }
 
+/* ---- a model that is loaded, shuffled and stored */
+
+/* As loaded, and then in so many random orders. */
+enum { ORDERS = 8 };
+
+static void *room_for(size_t count, size_t size) {
+    void *room = calloc(count + 1, size);
+    if (!room) exit(NO_MEMORY);
+    return room;
+}
+
+/* The next number of a linear congruential generator, below `limit`. */
+static size_t below(uint64_t *seed, size_t limit) {
+    *seed = *seed * 6364136223846793005u + 1442695040888963407u;
+    return (size_t)(*seed >> 33) % limit;
+}
+
+/* The numbers from 0 in a random order; with the seed 0 in their own. */
+static size_t *shuffled_numbers(size_t count, uint64_t *seed) {
+    size_t *numbers = room_for(count, sizeof *numbers);
+    for (size_t i = 0; i < count; i++) numbers[i] = i;
+    for (size_t i = count; *seed != 0 && i > 1; i--) {
+        const size_t other = below(seed, i), number = numbers[i - 1];
+        numbers[i - 1] = numbers[other];
+        numbers[other] = number;
+    }
+    return numbers;
+}
+
+/* The same value, with one more zero after its digits if there is room. */
+static mpslp_number with_zero(mpslp_number number) {
+    if (number.infinity == 0 && number.high == 0 && number.low < UINT64_MAX / 10) {
+        number.low *= 10;
+        number.exponent--;
+    }
+    return number;
+}
+
+static mpslp_row *shuffled_rows(const mpslp_model *model, const size_t *old_rows) {
+    mpslp_row *rows = room_for(model->num_rows, sizeof *rows);
+    for (size_t i = 0; i < model->num_rows; i++) {
+        rows[i] = model->rows[old_rows[i]];
+        rows[i].lower = with_zero(rows[i].lower);
+        rows[i].upper = with_zero(rows[i].upper);
+    }
+    return rows;
+}
+
+/* The model with its rows, its columns and the elements of each column in a random order. */
+static mpslp_model shuffled(const mpslp_model *model, uint64_t seed) {
+    mpslp_model other = *model;
+    size_t *old_rows = shuffled_numbers(model->num_rows, &seed), *old_columns = shuffled_numbers(model->num_columns, &seed);
+    size_t *new_rows = room_for(model->num_rows, sizeof *new_rows), count = 0;
+    mpslp_column *columns = room_for(model->num_columns, sizeof *columns);
+    mpslp_element *elements = room_for(model->num_elements, sizeof *elements);
+    for (size_t i = 0; i < model->num_rows; i++) new_rows[old_rows[i]] = i;
+    for (size_t j = 0; j < model->num_columns; j++) {
+        size_t *own = shuffled_numbers(mpslp_column_len(model, old_columns[j]), &seed);
+        columns[j] = model->columns[old_columns[j]];
+        columns[j].first = count;
+        columns[j].cost = with_zero(columns[j].cost);
+        for (size_t k = 0; k < mpslp_column_len(model, old_columns[j]); k++) {
+            const mpslp_element entry = mpslp_entry(model, old_columns[j], own[k]);
+            elements[count].row = new_rows[entry.row];
+            elements[count++].value = with_zero(entry.value);
+        }
+        free(own);
+    }
+    other.rows = shuffled_rows(model, old_rows);
+    other.columns = columns;
+    other.elements = elements;
+    free(old_rows);
+    free(old_columns);
+    free(new_rows);
+    return other;
+}
+
+static bool is_same_text(mpslp_text one, mpslp_text other) { return one.len == other.len && memcmp(one.bytes, other.bytes, one.len) == 0; }
+
+/* Whether a model has the same text, or the same error, in a random order. */
+static bool is_stored_alike(uint32_t to, const mpslp_model *model, uint64_t seed, uint32_t status, mpslp_text text, const mpslp_fault *fault) {
+    mpslp_model other = shuffled(model, seed);
+    mpslp_text other_text = MPSLP_NO_TEXT;
+    mpslp_fault other_fault = MPSLP_NO_FAULT;
+    bool is_alike = mpslp_store(to, &other, &other_text, &other_fault) == status && is_same_text(text, other_text) &&
+                    is_same_text(fault->kind, other_fault.kind) && fault->place == other_fault.place && fault->number == other_fault.number;
+    mpslp_free(&other_text);
+    free((void *)(uintptr_t)other.rows);
+    free((void *)(uintptr_t)other.columns);
+    free((void *)(uintptr_t)other.elements);
+    return is_alike;
+}
+
+static int store(uint32_t from, uint32_t to, const char *path) {
+    content all = load(path);
+    mpslp_model model = MPSLP_NO_MODEL;
+    mpslp_text text = MPSLP_NO_TEXT;
+    mpslp_fault fault = MPSLP_NO_FAULT;
+    bool are_alike = true;
+    uint32_t status = mpslp_load(from, all.bytes, all.len, &model, &fault);
+    free(all.bytes);
+    if (status != MPSLP_OK) return tell(status, "", &fault);
+    status = mpslp_store(to, &model, &text, &fault);
+    for (uint64_t seed = 0; seed <= ORDERS; seed++) are_alike &= is_stored_alike(to, &model, seed, status, text, &fault);
+    mpslp_free_model(&model);
+    if (!are_alike) return UNEQUAL;
+    if (status != MPSLP_OK) return tell(status, "", &fault);
+    put(stdout, text);
+    mpslp_free(&text);
+    return DONE;
+}
+
 static int run(int count, char **words) {
     uint32_t format, other;
     if (count < 4 || !format_of(words[2], &format)) return WRONG_WORDS;
     if (count == 5 && strcmp(words[1], "canon") == 0 && format_of(words[3], &other)) return canon(format, other, words[4]);
+    if (count == 5 && strcmp(words[1], "store") == 0 && format_of(words[3], &other)) return store(format, other, words[4]);
     if (count == 6 && strcmp(words[1], "same") == 0 && format_of(words[4], &other)) return same(format, words[3], other, words[5]);
     if (count == 4 && strcmp(words[1], "is") == 0) return is(format, words[3]);
     if (count == 4 && strcmp(words[1], "show") == 0) return show(format, words[3], put_model);

@@ -1,4 +1,4 @@
-/* stack FORMAT FILE: makes each call in a thread whose stack has 256 KiB. */
+/* stack FORMAT FILE: makes each call in a thread with a stack of 256 KiB. */
 #include "mpslp.h"
 
 #include <limits.h>
@@ -22,6 +22,10 @@ static void *call(void *unused) {
     if (mpslp_same(format, bytes, len, format, bytes, len, &fault) != MPSLP_OK) exit(1);
     if (mpslp_is_canonical(format, bytes, len, &fault) > MPSLP_DIFFERS) exit(1);
     if (mpslp_load(format, bytes, len, &model, &fault) != MPSLP_OK) exit(1);
+    for (int to = MPSLP_MPS; to <= MPSLP_LP; to++) {
+        if (mpslp_store((mpslp_format)to, &model, &text, &fault) != MPSLP_OK) exit(1);
+        mpslp_free(&text);
+    }
     mpslp_free_model(&model);
     return NULL;
 }

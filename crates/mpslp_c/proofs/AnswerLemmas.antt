@@ -1,4 +1,4 @@
--- What the status of an answer says, and the answers of the calls put together.
+-- What a status says of a result, and the contracts of the calls put together.
 use Rattle.std.proofs.Common.{◌≡◌, ℕ, List, Bool, true, false, ◌∙◌, ap, inl, inr, None, Some, Result, Ok, Err, Vec}
 use Rattle.std.specs.Prelude.{IsOkUnless}
 use Rattle.std.specs.declared.alloc.Global.{Global}
@@ -8,19 +8,22 @@ use Rattle.mpslp_types.specs.declared.faults.NameAt.{NameAt}
 use Rattle.mpslp_convert.specs.Conversions.{Declares, HasFirstFault, Unfit, TextOf, IsConversion, IsComparison, IsTestOfText, IsErrUnless}
 use Rattle.mpslp_convert.specs.declared.faults.ConvertFault.{ConvertFault}
 use Rattle.mpslp_convert.specs.declared.faults.ConvertFault.TheVariants.{First, Second, NotLp, OutOfMemory}
-use Rattle.mpslp_c.specs.Answers.{IsLoading, IsTextTold, IsTruthTold, IsModelTold, IsUnless, IsTruthUnless, IsConverted, IsCompared, IsTested, IsLoaded, fault_status}
-use Rattle.mpslp_c.specs.declared.answers.TheConstants.{OK}
+use Rattle.mpslp_c.specs.Answers.{IsLoading, IsTextTold, IsTruthTold, IsModelTold, IsUnless, IsTruthUnless, IsConverted, IsCompared, IsTested, IsLoaded, fault_status, HasFault, IsStoring, IsStoreTold, IsStored, store_status}
+use Rattle.mpslp_c.specs.Stored.{Defines}
+use Rattle.mpslp_c.specs.declared.answers.TheConstants.{OK, REFUSED}
 use Rattle.mpslp_c.specs.declared.arrays.MpslpModel.{MpslpModel}
 use Rattle.mpslp_c.specs.declared.calls.MpslpText.{MpslpText}
 use Rattle.mpslp_c.specs.declared.faults.MpslpFault.{MpslpFault}
+use Rattle.mpslp_c.specs.declared.faults.StoreFault.{StoreFault}
+use Rattle.mpslp_c.specs.declared.faults.StoreFault.TheVariants as stored
 
--- a text that is not refused is given, unless there was no memory
+-- a text that is not rejected is returned, unless an allocation failed
 text_accepted : (answer : Result (Vec ℕ Global) ConvertFault) (status : ℕ) (out out' : MpslpText) (fault fault' : MpslpFault)
     → IsOkUnless answer OutOfMemory → IsTextTold answer status out out' fault fault' → IsUnless OK status
 text_accepted (Ok text) status out out' fault fault' accepted told = inl told.0
 text_accepted (Err why) status out out' fault fault' accepted told = inr (told.0 ∙ ap fault_status accepted)
 
--- a fault that is found gives its status
+-- an error gives its status
 text_refused : (answer : Result (Vec ℕ Global) ConvertFault) (why : ConvertFault) (status : ℕ) (out out' : MpslpText) (fault fault' : MpslpFault)
     → IsErrUnless answer why OutOfMemory → IsTextTold answer status out out' fault fault' → IsUnless (fault_status why) status
 text_refused (Ok text) why status out out' fault fault' refused told = absurd refused
@@ -116,4 +119,40 @@ loaded declares first_fault bytes answer status out out' fault fault' is accepts
   told = told;
   accepts = λ m declared. model_accepted answer status out out' fault fault' (accepts m declared) told;
   refuses = λ found has. model_refused answer (First found) status out out' fault fault' (refuses found has) told;
+}
+
+-- ---- a model that is stored
+
+stored_accepted : (answer : Result (Vec ℕ Global) StoreFault) (status : ℕ) (out out' : MpslpText) (fault fault' : MpslpFault)
+    → IsOkUnless answer stored.OutOfMemory → IsStoreTold answer status out out' fault fault' → IsUnless OK status
+stored_accepted (Ok text) status out out' fault fault' accepted given = inl given.0
+stored_accepted (Err why) status out out' fault fault' accepted given = inr (given.0 ∙ ap store_status accepted)
+
+stored_refused : (answer : Result (Vec ℕ Global) StoreFault) (why : StoreFault) (status : ℕ) (out out' : MpslpText) (fault fault' : MpslpFault)
+    → IsErrUnless answer why stored.OutOfMemory → IsStoreTold answer status out out' fault fault' → IsUnless (store_status why) status
+stored_refused (Ok text) why status out out' fault fault' refused given = absurd refused
+stored_refused (Err found) why status out out' fault fault' (inl same) given = inl (given.0 ∙ ap store_status same)
+stored_refused (Err found) why status out out' fault fault' (inr memory) given = inr (given.0 ∙ ap store_status memory)
+
+-- each error of arrays has one status
+refused_as : (told : MpslpModel) (why : StoreFault) (status : ℕ) → HasFault told why → IsUnless (store_status why) status → IsUnless REFUSED status
+refused_as told (stored.Item fault) status has so = so
+refused_as told (stored.Whole fault) status has so = so
+refused_as told (stored.NotLp place) status has so = absurd has
+refused_as told stored.OutOfMemory status has so = absurd has
+
+pub stored_so : (unfit : Unfit) (text : TextOf) (told : MpslpModel) (answer : Result (Vec ℕ Global) StoreFault) (status : ℕ) (out out' : MpslpText) (fault fault' : MpslpFault)
+    → IsStoring unfit text told answer
+    → ((m : LinearModel) → Defines told m → unfit m ≡ None → IsOkUnless answer stored.OutOfMemory)
+    → ((why : StoreFault) → HasFault told why → IsErrUnless answer why stored.OutOfMemory)
+    → ((m : LinearModel) (place : NameAt) → Defines told m → unfit m ≡ Some place → IsErrUnless answer (stored.NotLp place) stored.OutOfMemory)
+    → IsStoreTold answer status out out' fault fault'
+    → IsStored unfit text told status out out' fault fault'
+stored_so unfit text told answer status out out' fault fault' is accepts refuses cannot_tell given = record {
+  answer = answer;
+  is = is;
+  given = given;
+  accepts = λ m defines fits. stored_accepted answer status out out' fault fault' (accepts m defines fits) given;
+  refuses = λ why has. refused_as told why status has (stored_refused answer why status out out' fault fault' (refuses why has) given);
+  cannot_tell = λ m place defines found. stored_refused answer (stored.NotLp place) status out out' fault fault' (cannot_tell m place defines found) given;
 }

@@ -1,4 +1,4 @@
--- What was told of rows, columns and elements stays told while more is put behind it.
+-- What is true of rows, columns and elements stays true while more are appended.
 use Rattle.std.proofs.Common.{◌≡◌, refl, sym, ap, ◌∙◌, subst, ℕ, zero, suc, ◌<◌, ◌+◌, List, [], ◌∷◌, ◌++◌, length, None, Some, Option}
 use Rattle.std.specs.Prelude.{slice_get}
 use Rattle.std.proofs.lemmas.List.Sums.{sum_by_more}

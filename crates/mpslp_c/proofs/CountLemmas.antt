@@ -1,4 +1,4 @@
--- Each coefficient of a row stands in one column: the columns of a sound model have all of them together.
+-- Each nonzero is in one column: the columns of a well-formed model together have all of them.
 use Rattle.std.proofs.Common.{◌≡◌, refl, sym, ap, ◌∙◌, subst, ℕ, ◌+◌, List, [], ◌∷◌, length, map, Bool, true, false, cond, not, filter, arith, zero-add}
 use Rattle.std.proofs.lemmas.List.{take_all}
 use Rattle.std.specs.Prelude.{sum_by, ◌&&◌, ◌||◌}

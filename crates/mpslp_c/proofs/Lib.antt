@@ -1,3 +1,8 @@
 pub mod AnswerLemmas
 pub mod ArrayLemmas
 pub mod CountLemmas
+pub mod DefinesLemmas
+pub mod KnownLemmas
+pub mod NumberLemmas
+pub mod StepLemmas
+pub mod StoredLemmas

@@ -1,4 +1,4 @@
--- What callers in C are answered.
+-- What the calls for C return.
 use Rattle.std.specs.Prelude.{◌≡◌, ◌⊎◌, ℕ, zero, suc, List, Bool, true, false, Option, None, Some, Result, Ok, Err, Vec}
 use Rattle.std.specs.declared.alloc.Global.{Global}
 use Rattle.mpslp_model_core.specs.Model.{LinearModel}
@@ -11,11 +11,16 @@ use Rattle.mpslp_convert.specs.Performed.{declares_in, first_fault_in, unfit_in,
 use Rattle.mpslp_convert.specs.declared.faults.ConvertFault.{ConvertFault}
 use Rattle.mpslp_convert.specs.declared.faults.ConvertFault.TheVariants.{First, Second, NotLp, OutOfMemory}
 use Rattle.mpslp_c.specs.Arrays.{TellsModel}
-use Rattle.mpslp_c.specs.Faults.{IsFaultTold}
+use Rattle.mpslp_builder.specs.Declaration.{Draft, empty_draft}
+use Rattle.mpslp_builder.specs.Meaning.{file_fault}
+use Rattle.mpslp_c.specs.Faults.{IsFaultTold, IsStoreFaultTold}
+use Rattle.mpslp_c.specs.Stored.{Item, items, first_item_fault, after_items, Defines}
 use Rattle.mpslp_c.specs.declared.answers.TheConstants.{OK, DIFFERS, REFUSED, SECOND_REFUSED, NOT_LP, OUT_OF_MEMORY, UNKNOWN_FORMAT}
 use Rattle.mpslp_c.specs.declared.arrays.MpslpModel.{MpslpModel}
 use Rattle.mpslp_c.specs.declared.calls.MpslpText.{MpslpText}
 use Rattle.mpslp_c.specs.declared.faults.MpslpFault.{MpslpFault}
+use Rattle.mpslp_c.specs.declared.faults.StoreFault.{StoreFault}
+use Rattle.mpslp_c.specs.declared.faults.StoreFault.TheVariants as stored
 
 -- the format of a number
 abbrev pub form_of : ℕ → Option Form
@@ -35,17 +40,17 @@ abbrev pub truth_status : Bool → ℕ
 truth_status true = OK
 truth_status false = DIFFERS
 
--- The status is this one, or that of want of memory.
+-- The status is this one, or that of an allocation that failed.
 abbrev pub IsUnless : ℕ → ℕ → Type 0
 IsUnless status result = (result ≡ status) ⊎ (result ≡ OUT_OF_MEMORY)
 
--- The status is that of yes, of no, or of want of memory.
+-- The status is that of yes, of no, or of an allocation that failed.
 abbrev pub IsTruthUnless : ℕ → Type 0
 IsTruthUnless result = (result ≡ OK) ⊎ ((result ≡ DIFFERS) ⊎ (result ≡ OUT_OF_MEMORY))
 
--- ---- what is answered of one text
+-- ---- the result of one text
 
--- The bytes declare a model, and the arrays tell it. Or the answer is the first fault of the bytes.
+-- The bytes declare a model, and the arrays are its. Or the result is the first error of the bytes.
 abbrev pub IsLoading : Declares → HasFirstFault → List ℕ → Result MpslpModel ConvertFault → Type 0
 IsLoading declares first_fault bytes (Ok told) = (m : LinearModel) × declares bytes m × TellsModel m told
 IsLoading declares first_fault bytes (Err (First fault)) = first_fault bytes fault
@@ -53,27 +58,27 @@ IsLoading declares first_fault bytes (Err (Second fault)) = ⊥
 IsLoading declares first_fault bytes (Err (NotLp place)) = ⊥
 IsLoading declares first_fault bytes (Err OutOfMemory) = Unit {0}
 
--- ---- how answers are handed on
+-- ---- how results are returned
 
--- A text is given, or it is told why there is none. What is not given or told stays as it is.
+-- The text is set, or the error. The other one is unchanged.
 abbrev pub IsTextTold : Result (Vec ℕ Global) ConvertFault → ℕ → MpslpText → MpslpText → MpslpFault → MpslpFault → Type 0
 IsTextTold (Ok text) status out out' fault fault' = (status ≡ OK) × (out'.bytes.now ≡ text.items) × (fault' ≡ fault)
 IsTextTold (Err why) status out out' fault fault' = (status ≡ fault_status why) × (out' ≡ out) × IsFaultTold why fault fault'
 
--- A model is given, or it is told why there is none. What is not given or told stays as it is.
+-- The model is set, or the error. The other one is unchanged.
 abbrev pub IsModelTold : Result MpslpModel ConvertFault → ℕ → MpslpModel → MpslpModel → MpslpFault → MpslpFault → Type 0
 IsModelTold (Ok model) status out out' fault fault' = (status ≡ OK) × (out' ≡ model) × (fault' ≡ fault)
 IsModelTold (Err why) status out out' fault fault' = (status ≡ fault_status why) × (out' ≡ out) × IsFaultTold why fault fault'
 
--- Yes or no is answered, or it is told why neither is.
+-- The status is that of yes or no, or the error is set.
 abbrev pub IsTruthTold : Result Bool ConvertFault → ℕ → MpslpFault → MpslpFault → Type 0
 IsTruthTold (Ok is_true) status fault fault' = (status ≡ truth_status is_true) × (fault' ≡ fault)
 IsTruthTold (Err why) status fault fault' = (status ≡ fault_status why) × IsFaultTold why fault fault'
 
 -- ---- the calls
 
--- A conversion had an answer, and it was handed on. Bytes that declare a model which the format can tell are never
--- refused, and so on.
+-- A conversion had a result, and it was returned. Bytes that declare a model whose names are legal in the format are never
+-- rejected, and so on.
 pub record IsConverted (declares : Declares) (first_fault : HasFirstFault) (unfit : Unfit) (text : TextOf) (bytes : List ℕ)
     (status : ℕ) (out out' : MpslpText) (fault fault' : MpslpFault) : Type 0 where
   pub answer : Result (Vec ℕ Global) ConvertFault
@@ -88,7 +93,7 @@ IsCanonicalAnswer (Some from) (Some to) bytes status out out' fault fault' =
     IsConverted (declares_in from) (first_fault_in from) (unfit_in to) (text_in to) bytes status out out' fault fault'
 IsCanonicalAnswer _ _ bytes status out out' fault fault' = (status ≡ UNKNOWN_FORMAT) × (out' ≡ out) × (fault' ≡ fault)
 
--- A comparison of two texts had an answer, and it was handed on.
+-- A comparison of two texts had a result, and it was returned.
 pub record IsCompared (declares : Declares) (first_fault : HasFirstFault) (declares' : Declares) (first_fault' : HasFirstFault)
     (first second : List ℕ) (status : ℕ) (fault fault' : MpslpFault) : Type 0 where
   pub answer : Result Bool ConvertFault
@@ -103,7 +108,7 @@ IsSameAnswer (Some one) (Some other) first second status fault fault' =
     IsCompared (declares_in one) (first_fault_in one) (declares_in other) (first_fault_in other) first second status fault fault'
 IsSameAnswer _ _ first second status fault fault' = (status ≡ UNKNOWN_FORMAT) × (fault' ≡ fault)
 
--- A text was compared with that of its model, and the answer handed on.
+-- A text was compared with that of its model, and the result returned.
 pub record IsTested (declares : Declares) (first_fault : HasFirstFault) (text : TextOf) (bytes : List ℕ) (status : ℕ) (fault fault' : MpslpFault)
     : Type 0 where
   pub answer : Result Bool ConvertFault
@@ -117,7 +122,7 @@ IsTestAnswer (Some form) bytes status fault fault' =
     IsTested (declares_in form) (first_fault_in form) (text_in form) bytes status fault fault'
 IsTestAnswer None bytes status fault fault' = (status ≡ UNKNOWN_FORMAT) × (fault' ≡ fault)
 
--- A model was loaded, and the answer handed on. Bytes that declare a model are never refused, and so on.
+-- A model was loaded, and the result returned. Bytes that declare a model are never rejected, and so on.
 pub record IsLoaded (declares : Declares) (first_fault : HasFirstFault) (bytes : List ℕ) (status : ℕ) (out out' : MpslpModel) (fault fault' : MpslpFault)
     : Type 0 where
   pub answer : Result MpslpModel ConvertFault
@@ -130,3 +135,62 @@ abbrev pub IsLoadAnswer : Option Form → List ℕ → ℕ → MpslpModel → Mp
 IsLoadAnswer (Some form) bytes status out out' fault fault' =
     IsLoaded (declares_in form) (first_fault_in form) bytes status out out' fault fault'
 IsLoadAnswer None bytes status out out' fault fault' = (status ≡ UNKNOWN_FORMAT) × (out' ≡ out) × (fault' ≡ fault)
+
+-- ---- the call that stores a model
+
+-- Items were declared, one after another; or the result is the first error, or that an allocation failed.
+abbrev pub TakesItems : List Item → Draft → Draft → Result (Unit {0}) StoreFault → Type 0
+TakesItems taken old new (Ok _) = (first_item_fault old taken ≡ None) × (new ≡ after_items old taken)
+TakesItems taken old new (Err (stored.Item fault)) = first_item_fault old taken ≡ Some fault
+TakesItems taken old new (Err (stored.Whole fault)) = ⊥
+TakesItems taken old new (Err (stored.NotLp place)) = ⊥
+TakesItems taken old new (Err stored.OutOfMemory) = Unit {0}
+
+-- The first error of arrays: that of an item, or if no item has one, that of the whole.
+abbrev pub HasFault : MpslpModel → StoreFault → Type 0
+HasFault told (stored.Item fault) = first_item_fault empty_draft (items told) ≡ Some fault
+HasFault told (stored.Whole fault) =
+    (first_item_fault empty_draft (items told) ≡ None) × (file_fault (after_items empty_draft (items told)) ≡ Some fault)
+HasFault told (stored.NotLp place) = ⊥
+HasFault told stored.OutOfMemory = ⊥
+
+-- The model that arrays define, or their first error.
+abbrev pub IsStoredModel : MpslpModel → Result LinearModel StoreFault → Type 0
+IsStoredModel told (Ok m) = Defines told m
+IsStoredModel told (Err (stored.Item fault)) = HasFault told (stored.Item fault)
+IsStoredModel told (Err (stored.Whole fault)) = HasFault told (stored.Whole fault)
+IsStoredModel told (Err (stored.NotLp place)) = ⊥
+IsStoredModel told (Err stored.OutOfMemory) = Unit {0}
+
+-- The text of the model that arrays define, or their first error, or the place of the first name that is not legal in the format.
+abbrev pub IsStoring : Unfit → TextOf → MpslpModel → Result (Vec ℕ Global) StoreFault → Type 0
+IsStoring unfit text told (Ok out) = (m : LinearModel) × Defines told m × (unfit m ≡ None) × (out.items ≡ text m)
+IsStoring unfit text told (Err (stored.Item fault)) = HasFault told (stored.Item fault)
+IsStoring unfit text told (Err (stored.Whole fault)) = HasFault told (stored.Whole fault)
+IsStoring unfit text told (Err (stored.NotLp place)) = (m : LinearModel) × Defines told m × (unfit m ≡ Some place)
+IsStoring unfit text told (Err stored.OutOfMemory) = Unit {0}
+
+abbrev pub store_status : StoreFault → ℕ
+store_status (stored.Item fault) = REFUSED
+store_status (stored.Whole fault) = REFUSED
+store_status (stored.NotLp place) = NOT_LP
+store_status stored.OutOfMemory = OUT_OF_MEMORY
+
+-- The text is set, or the error. The other one is unchanged.
+abbrev pub IsStoreTold : Result (Vec ℕ Global) StoreFault → ℕ → MpslpText → MpslpText → MpslpFault → MpslpFault → Type 0
+IsStoreTold (Ok text) status out out' fault fault' = (status ≡ OK) × (out'.bytes.now ≡ text.items) × (fault' ≡ fault)
+IsStoreTold (Err why) status out out' fault fault' = (status ≡ store_status why) × (out' ≡ out) × IsStoreFaultTold why fault fault'
+
+-- The text of arrays was made, and the result returned. Arrays that define a model whose names are legal in the format are never
+-- rejected, and so on.
+pub record IsStored (unfit : Unfit) (text : TextOf) (told : MpslpModel) (status : ℕ) (out out' : MpslpText) (fault fault' : MpslpFault) : Type 0 where
+  pub answer : Result (Vec ℕ Global) StoreFault
+  pub is : IsStoring unfit text told answer
+  pub given : IsStoreTold answer status out out' fault fault'
+  pub accepts : (m : LinearModel) → Defines told m → unfit m ≡ None → IsUnless OK status
+  pub refuses : (why : StoreFault) → HasFault told why → IsUnless REFUSED status
+  pub cannot_tell : (m : LinearModel) (place : NameAt) → Defines told m → unfit m ≡ Some place → IsUnless NOT_LP status
+
+abbrev pub IsStoreAnswer : Option Form → MpslpModel → ℕ → MpslpText → MpslpText → MpslpFault → MpslpFault → Type 0
+IsStoreAnswer (Some to) told status out out' fault fault' = IsStored (unfit_in to) (text_in to) told status out out' fault fault'
+IsStoreAnswer None told status out out' fault fault' = (status ≡ UNKNOWN_FORMAT) × (out' ≡ out) × (fault' ≡ fault)

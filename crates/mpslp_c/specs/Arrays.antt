@@ -1,4 +1,4 @@
--- Arrays that tell a model.
+-- The arrays of a model.
 use Rattle.std.specs.Prelude.{◌≡◌, ◌<◌, ◌≤◌, ◌+◌, ◌^◌, ℕ, ℤ, pos, negsuc, ◌+ℤ◌, ◌*ℤ◌, List, length, take, slice_get, slice_range, sum_by, Option, None, Some}
 use Rattle.std.specs.Option.{option_map}
 use Rattle.mpslp_decimal.specs.Decimal.{Number}
@@ -20,13 +20,13 @@ use Rattle.mpslp_c.specs.declared.arrays.MpslpModel.{MpslpModel}
 
 -- ---- numbers
 
--- A decimal is told exactly: its mantissa in two parts, and its exponent.
+-- A decimal, exactly: its mantissa in two parts, and its exponent.
 pub record TellsNumber (number : Number) (told : MpslpNumber) : Type 0 where
   pub mantissa : number.mantissa ≡ (told.high *ℤ pos (2 ^ 64)) +ℤ pos told.low
   pub exponent : told.exponent ≡ number.exponent
   pub infinity : told.infinity ≡ pos 0
 
--- An infinite side is told by its sign alone.
+-- Of an infinite limit only the sign is set.
 abbrev pub TellsInfinity : ℤ → MpslpNumber → Type 0
 TellsInfinity sign told = told ≡ record { low = 0; high = pos 0; exponent = pos 0; infinity = sign }
 
@@ -35,19 +35,19 @@ TellsLimit MinusInf told = TellsInfinity (negsuc 0) told
 TellsLimit (Finite number) told = TellsNumber number told
 TellsLimit PlusInf told = TellsInfinity (pos 1) told
 
--- A side of what has a number, which is there.
+-- The limit of a row or the bound of a column, whose index is in range.
 abbrev pub TellsSide : Option Limit → MpslpNumber → Type 0
 TellsSide None told = ⊥
 TellsSide (Some limit) told = TellsLimit limit told
 
 -- ---- names
 
--- A name is told by a place within the names.
+-- A name, by its place in the names.
 pub record TellsName (names : List ℕ) (name : List ℕ) (told : MpslpName) : Type 0 where
   pub within : told.at + told.len ≤ length names
   pub bytes : slice_range names told.at (told.at + told.len) ≡ name
 
--- Each name that was told stays told.
+-- Each name that is in the old names is in the new ones, at the same place.
 abbrev pub KeepsNames : List ℕ → List ℕ → Type 0
 KeepsNames old new = (name : List ℕ) (told : MpslpName) → TellsName old name told → TellsName new name told
 
@@ -58,32 +58,32 @@ pub record TellsRow (m : LinearModel) (names : List ℕ) (i : ℕ) (told : Mpslp
   pub lower : TellsSide (option_map (λ (row : Row). row.lower) (slice_get (rows_of m) i)) told.lower
   pub upper : TellsSide (option_map (λ (row : Row). row.upper) (slice_get (rows_of m) i)) told.upper
 
--- Each of the rows is told that there are.
+-- Each row of the list is that of its index.
 abbrev pub TellsRows : LinearModel → List ℕ → List MpslpRow → Type 0
 TellsRows m names rows = (i : ℕ) (told : MpslpRow) → slice_get rows i ≡ Some told → TellsRow m names i told
 
 -- ---- elements
 
--- A coefficient, by the number of its row and its value.
+-- A nonzero, by the index of its row and its value.
 abbrev pub TellsElement : Option (Option ℕ × Number) → Option MpslpElement → Type 0
 TellsElement None told = ⊥
 TellsElement (Some element) None = ⊥
 TellsElement (Some element) (Some told) = (element.0 ≡ Some told.row) × TellsNumber element.1 told.value
 
--- From the number `first` on stand the coefficients of rows in a column, or the first `count` of them.
+-- From the index `first` on come the nonzeros of a column, or the first `count` of them.
 abbrev pub TellsElements : LinearModel → ℕ → ℕ → ℕ → List MpslpElement → Type 0
 TellsElements m j first count elements =
     (k : ℕ) → k < count → TellsElement (slice_get (numbered_elements m (column_name m j)) k) (slice_get elements (first + k))
 
--- Each element that was told stays told.
+-- Each element of the old list is in the new one, at the same index.
 abbrev pub KeepsElements : List MpslpElement → List MpslpElement → Type 0
 KeepsElements old new = (k : ℕ) (told : MpslpElement) → slice_get old k ≡ Some told → slice_get new k ≡ Some told
 
--- how many coefficients of rows a column has
+-- how many nonzeros a column has
 abbrev pub column_len : LinearModel → List ℕ → ℕ
 column_len m column = length (column_elements m column)
 
--- how many coefficients of rows the first `j` columns have
+-- how many nonzeros the first `j` columns have
 abbrev pub elements_before : LinearModel → ℕ → ℕ
 elements_before m j = sum_by (column_len m) (take j (column_names m))
 
@@ -94,7 +94,7 @@ kind_number Continuous = CONTINUOUS
 kind_number Integer = INTEGER
 kind_number Semi = SEMI
 
--- A column without its coefficients.
+-- A column without its nonzeros.
 pub record TellsColumnHead (m : LinearModel) (names : List ℕ) (j : ℕ) (told : MpslpColumn) : Type 0 where
   pub name : TellsName names (column_name m j) told.name
   pub lower : TellsSide (option_map (λ (column : Column). column.lower) (slice_get (columns_of m) j)) told.lower
@@ -103,7 +103,7 @@ pub record TellsColumnHead (m : LinearModel) (names : List ℕ) (j : ℕ) (told 
   pub kind : option_map (λ (column : Column). kind_number column.kind) (slice_get (columns_of m) j) ≡ Some told.kind
   pub first : told.first ≡ elements_before m j
 
--- With its coefficients, which stand together in the order of rows.
+-- With its nonzeros, one after another in the order of rows.
 pub record TellsColumn (m : LinearModel) (names : List ℕ) (all : List MpslpElement) (j : ℕ) (told : MpslpColumn) : Type 0 where
   pub head : TellsColumnHead m names j told
   pub elements : TellsElements m j told.first (column_len m (column_name m j)) all
@@ -117,7 +117,7 @@ abbrev pub sense_number : Sense → ℕ
 sense_number Minimize = MINIMIZE
 sense_number Maximize = MAXIMIZE
 
--- Arrays tell a model: as many rows, columns and coefficients of rows as it has, each of them by its number, and the rest.
+-- The arrays of a model: as many rows, columns and nonzeros as it has, each of them by its index, and the rest.
 pub record TellsModel (m : LinearModel) (told : MpslpModel) : Type 0 where
   pub num_rows : length told.rows.now ≡ num_rows m
   pub num_columns : length told.columns.now ≡ num_columns m

@@ -1,3 +1,4 @@
-pub mod Faults
 pub mod Arrays
+pub mod Faults
+pub mod Stored
 pub mod Answers

@@ -5,28 +5,28 @@ ghost use Rattle.mpslp_c.specs.Answers.{fault_status, truth_status};
 
 use mpslp_convert::ConvertFault;
 
-/// The call is done; the answer is yes.
+/// Done; or yes.
 pub(crate) const OK: u32 = 0;
 
-/// The answer is no.
+/// No.
 pub(crate) const DIFFERS: u32 = 1;
 
-/// The text, or the first of two, declares no model.
+/// The text, the first of two, or the arrays define no model.
 pub(crate) const REFUSED: u32 = 2;
 
-/// The second text declares no model.
+/// The second text defines no model.
 pub(crate) const SECOND_REFUSED: u32 = 3;
 
-/// The model has a name that LP cannot tell.
+/// The model has a name that is not legal in LP.
 pub(crate) const NOT_LP: u32 = 4;
 
-/// There was no memory.
+/// An allocation failed.
 pub(crate) const OUT_OF_MEMORY: u32 = 5;
 
-/// A format is none that is known.
+/// An unknown format.
 pub(crate) const UNKNOWN_FORMAT: u32 = 6;
 
-/// The status of a fault.
+/// The status of an error.
 pub(crate) fn fault_status(fault: &ConvertFault) -> u32
     ensures { result ≡ fault_status fault.now }
 {
@@ -38,7 +38,7 @@ pub(crate) fn fault_status(fault: &ConvertFault) -> u32
     }
 }
 
-/// The status of an answer of yes or no.
+/// The status of yes or no.
 pub(crate) fn truth_status(is_true: bool) -> u32
     ensures { result ≡ truth_status is_true }
 {

@@ -9,28 +9,28 @@ use mpslp_model::laws::each_model_is_sound;
 use mpslp_model::{Kind, Model, Name, Sense};
 use std::alloc::{AllocError, Global};
 
-/// Whatever lies within the bounds.
-const CONTINUOUS: u32 = 0;
+/// A continuous column.
+pub(crate) const CONTINUOUS: u32 = 0;
 
-/// Whole numbers alone.
-const INTEGER: u32 = 1;
+/// An integer column.
+pub(crate) const INTEGER: u32 = 1;
 
-/// 0, or whatever lies within the bounds.
-const SEMI: u32 = 2;
+/// A semi-continuous column.
+pub(crate) const SEMI: u32 = 2;
 
-/// The least value of the objective is wanted.
-const MINIMIZE: u32 = 0;
+/// The objective is minimised.
+pub(crate) const MINIMIZE: u32 = 0;
 
-/// The greatest one.
-const MAXIMIZE: u32 = 1;
+/// It is maximised.
+pub(crate) const MAXIMIZE: u32 = 1;
 
-/// Where a name stands in the names of a model.
+/// A name, by its place in the names of a model.
 #[repr(C)]
 #[derive(Clone, Copy)]
 pub struct MpslpName {
-    /// How many bytes stand before it.
+    /// How many bytes come before it.
     pub at: usize,
-    /// How many bytes it has.
+    /// Its length in bytes.
     pub len: usize,
 }
 
@@ -60,51 +60,51 @@ pub struct MpslpColumn {
     pub lower: MpslpNumber,
     /// Its upper bound.
     pub upper: MpslpNumber,
-    /// Its coefficient in the objective.
+    /// Its objective coefficient.
     pub cost: MpslpNumber,
-    /// The number of its first element: how many the columns before it have.
+    /// The index of its first element: how many the columns before it have.
     pub first: usize,
-    /// Which values it may take: 0 is continuous, 1 integer, 2 semi-continuous.
+    /// Its type: 0 is continuous, 1 integer, 2 semi-continuous.
     pub kind: u32,
 }
 
 const _: () = prove!(size_of::<MpslpColumn>() == 104);
 
-/// A coefficient of a row.
+/// A nonzero of a row.
 #[repr(C)]
 #[derive(Clone, Copy)]
 pub struct MpslpElement {
-    /// The number of the row.
+    /// The index of the row.
     pub row: usize,
-    /// The coefficient, which is not 0.
+    /// Its value.
     pub value: MpslpNumber,
 }
 
 const _: () = prove!(size_of::<MpslpElement>() == 32);
 
-/// A model. The memory of its arrays is the caller's, who frees those that are not empty.
+/// A model. The caller frees the arrays of a model that was loaded, except empty ones.
 #[repr(C)]
 #[derive(Drop)]
 pub struct MpslpModel {
     /// The bytes of all names.
     pub names: &'static [u8],
-    /// The rows, in byte order of their names.
+    /// The rows; of a model that was loaded, in byte order of their names.
     pub rows: &'static [MpslpRow],
-    /// The columns, in byte order of their names.
+    /// The columns; of a model that was loaded, in byte order of their names.
     pub columns: &'static [MpslpColumn],
-    /// The coefficients of rows that are not 0, column after column, each column's in the order of rows.
+    /// The nonzeros, column after column; of a model that was loaded, each column's in the order of rows.
     pub elements: &'static [MpslpElement],
     /// The constant of the objective.
     pub constant: MpslpNumber,
     /// The name of the objective.
     pub objective: MpslpName,
-    /// Whether the least or the greatest value is wanted: 0 or 1.
+    /// Whether the objective is minimised or maximised: 0 or 1.
     pub sense: u32,
 }
 
 const _: () = prove!(size_of::<MpslpModel>() == 112);
 
-/// The number of a kind of columns.
+/// The number of a type of columns.
 fn kind_number(kind: Kind) -> u32
     ensures { result ≡ kind_number kind }
 {
@@ -125,7 +125,7 @@ fn sense_number(sense: Sense) -> u32
     }
 }
 
-/// Puts a name behind those that are there.
+/// Appends a name.
 fn told_name(name: &Name, names: &mut Vec<u8>) -> Result<MpslpName, AllocError>
     ensures keeps { KeepsNames names.old.items names.new.items }
     ensures tells { IfOk result (TellsName names.new.items name.now) }
@@ -139,7 +139,7 @@ fn told_name(name: &Name, names: &mut Vec<u8>) -> Result<MpslpName, AllocError>
     })
 }
 
-/// The row of number `i`.
+/// The row of index `i`.
 fn told_row(model: &Model, i: usize, names: &mut Vec<u8>) -> Result<MpslpRow, AllocError>
     requires { i < num_rows model.now }
     ensures keeps { KeepsNames names.old.items names.new.items }
@@ -166,7 +166,7 @@ fn told_rows(alloc: Global, model: &Model, names: &mut Vec<u8>) -> Result<Vec<Mp
     Ok(rows)
 }
 
-/// The coefficient of number `k` among those of rows in the column of number `j`.
+/// The nonzero of index `k` in the column of index `j`.
 fn told_element(model: &Model, j: usize, k: usize) -> MpslpElement
     requires column { j < num_columns model.now }
     requires entry { k < length (column_elements model.now (column_name model.now j)) }
@@ -179,7 +179,7 @@ fn told_element(model: &Model, j: usize, k: usize) -> MpslpElement
     }
 }
 
-/// Puts the coefficients of rows in the column of number `j` behind those that are there.
+/// Appends the nonzeros of the column of index `j`.
 fn put_elements(model: &Model, j: usize, elements: &mut Vec<MpslpElement>) -> Result<(), AllocError>
     requires { j < num_columns model.now }
     ensures keeps { KeepsElements elements.old.items elements.new.items }
@@ -193,7 +193,7 @@ fn put_elements(model: &Model, j: usize, elements: &mut Vec<MpslpElement>) -> Re
     Ok(())
 }
 
-/// The column of number `j` without its coefficients of rows, the first of which has the number `first`.
+/// The column of index `j` without its nonzeros, the first of which has the index `first`.
 fn told_column(
     model: &Model,
     j: usize,
@@ -215,7 +215,7 @@ fn told_column(
     })
 }
 
-/// All columns, and their coefficients of rows.
+/// All columns, and their nonzeros.
 fn told_columns(
     alloc: Global,
     model: &Model,
@@ -237,7 +237,7 @@ fn told_columns(
     Ok(columns)
 }
 
-/// Room for the coefficients of rows.
+/// Room for the nonzeros.
 fn room_for_elements(alloc: Global, model: &Model) -> Result<Vec<MpslpElement>, AllocError>
     ensures { IfOk result (λ elements. length elements.items ≡ 0) }
 {
@@ -247,7 +247,7 @@ fn room_for_elements(alloc: Global, model: &Model) -> Result<Vec<MpslpElement>, 
     }
 }
 
-/// The arrays that tell a model. They are handed over when all of them are made: want of memory loses none.
+/// The arrays of a model. No array is leaked before all of them are made, so an allocation that fails loses none.
 pub(crate) fn told_model(alloc: Global, model: &Model) -> Result<MpslpModel, AllocError>
     ensures { IfOk result (TellsModel model.now) }
 {

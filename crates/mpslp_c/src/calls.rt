@@ -1,6 +1,6 @@
 //! The calls on whole texts.
 //!
-//! Of each call that is not said to be done, `out` stays as it is; where no fault is told, `fault` stays as it is.
+//! `out` and `fault` are unchanged unless the status of the call says that they are set.
 
 ghost use Rattle.mpslp_c.specs.Answers.{form_of, IsCanonicalAnswer, IsSameAnswer, IsTestAnswer, IsTextTold, IsTruthTold};
 
@@ -10,7 +10,7 @@ use crate::texts::{canonical_in, form_of, is_canonical_in, same_in};
 use mpslp_convert::ConvertFault;
 use std::alloc::Global;
 
-/// A text. Its memory is the caller's, who frees it where the text is not empty.
+/// A text. The caller frees it unless it is empty.
 #[repr(C)]
 #[derive(Drop)]
 pub struct MpslpText {
@@ -20,7 +20,7 @@ pub struct MpslpText {
 
 const _: () = prove!(size_of::<MpslpText>() == 16);
 
-/// Gives a text, or tells why there is none.
+/// Sets the text, or the error.
 fn give_text(
     answer: Result<Vec<u8>, ConvertFault>,
     out: &mut MpslpText,
@@ -40,7 +40,7 @@ fn give_text(
     }
 }
 
-/// Answers yes or no, or tells why there is no answer.
+/// Returns the status of yes or no, or sets the error.
 fn give_truth(answer: Result<bool, ConvertFault>, fault: &mut MpslpFault) -> u32
     ensures { IsTruthTold answer result fault.old fault.new }
 {
@@ -53,16 +53,16 @@ fn give_truth(answer: Result<bool, ConvertFault>, fault: &mut MpslpFault) -> u32
     }
 }
 
-/// Gives the canonical text, in the format `to`, of the model that the bytes declare in the format `from`: 0 is MPS, 1 is
+/// Writes the canonical text, in the format `to`, of the model that the bytes define in the format `from`: 0 is MPS, 1 is
 /// LP.
 ///
 /// | status | when |
 /// |---|---|
-/// | 0 | `out` is the text, in memory of the caller's `malloc`, which frees it where it is not empty |
-/// | 2 | the bytes declare no model; `fault` tells their first fault |
-/// | 4 | the model has a name that LP cannot tell; `fault` tells where the first such name stands |
-/// | 5 | memory was refused |
-/// | 6 | `from` or `to` is no format |
+/// | 0 | `out` is the text, allocated by `malloc`; the caller frees it unless it is empty |
+/// | 2 | the bytes define no model; `fault` is their first error |
+/// | 4 | the model has a name that is not legal in LP; `fault` has the place of the first one |
+/// | 5 | an allocation failed |
+/// | 6 | `from` or `to` is an unknown format |
 #[unsafe(no_mangle)]
 pub extern "C" fn mpslp_canonical(
     alloc: Global,
@@ -83,16 +83,16 @@ pub extern "C" fn mpslp_canonical(
     give_text(canonical_in(alloc, from, to, bytes), out, fault)
 }
 
-/// Whether the first text declares the model that the second declares, each in its format: 0 is MPS, 1 is LP.
+/// Whether two texts define the same model, each in its format: 0 is MPS, 1 is LP.
 ///
 /// | status | when |
 /// |---|---|
-/// | 0 | both declare the same model |
-/// | 1 | they declare different models |
-/// | 2 | the first text declares no model; `fault` tells its first fault |
-/// | 3 | the first text declares a model and the second does not; `fault` tells the first fault of the second |
-/// | 5 | memory was refused |
-/// | 6 | one of the formats is none |
+/// | 0 | they do |
+/// | 1 | they define different models |
+/// | 2 | the first text defines no model; `fault` is its first error |
+/// | 3 | the first text defines a model and the second does not; `fault` is the first error of the second |
+/// | 5 | an allocation failed |
+/// | 6 | one of the formats is unknown |
 #[unsafe(no_mangle)]
 pub extern "C" fn mpslp_same(
     alloc: Global,
@@ -116,15 +116,15 @@ pub extern "C" fn mpslp_same(
     )
 }
 
-/// Whether the bytes are the canonical text of the model that they declare in their format: 0 is MPS, 1 is LP.
+/// Whether the bytes are the canonical text of the model that they define in their format: 0 is MPS, 1 is LP.
 ///
 /// | status | when |
 /// |---|---|
 /// | 0 | they are |
-/// | 1 | they declare a model, and its text is another one |
-/// | 2 | they declare no model; `fault` tells their first fault |
-/// | 5 | memory was refused |
-/// | 6 | the format is none |
+/// | 1 | they define a model, and its text is another one |
+/// | 2 | they define no model; `fault` is their first error |
+/// | 5 | an allocation failed |
+/// | 6 | the format is unknown |
 #[unsafe(no_mangle)]
 pub extern "C" fn mpslp_is_canonical(
     alloc: Global,

@@ -1,48 +1,75 @@
-//! Faults as C sees them.
+//! Errors as C sees them.
 
 ghost use Rattle.std.specs.Prelude.{◌≡◌, ◌++◌, [], length, drop, codes};
-ghost use Rattle.mpslp_c.specs.Faults.{Tells, TellsFault, TellsPlace, IsFaultTold};
+ghost use Rattle.mpslp_c.specs.Faults.{Tells, TellsFault, TellsPlace, TellsItem, IsFaultTold, IsStoreFaultTold};
 
 use mpslp_convert::ConvertFault;
 use mpslp_model::laws::each_name_is_legal;
-use mpslp_model::{Fault, MAX_NAME_LEN, Name, NameAt};
+use mpslp_model::{Fault, FaultKind, MAX_NAME_LEN, Name, NameAt};
 
-/// The room for a name and the 0 behind it.
+/// Room for a name and a final 0.
 const NAME_ROOM: usize = MAX_NAME_LEN + 1;
 
-/// No place in a model is told.
+/// No place in a model.
 const NOWHERE: u32 = 0;
 
-/// The name of the objective.
-const AT_OBJECTIVE: u32 = 1;
+/// The objective.
+pub(crate) const AT_OBJECTIVE: u32 = 1;
 
-/// The name of a row, by its number.
-const AT_ROW: u32 = 2;
+/// A row, by its index.
+pub(crate) const AT_ROW: u32 = 2;
 
-/// The name of a column, by its number.
-const AT_COLUMN: u32 = 3;
+/// A column, by its index.
+pub(crate) const AT_COLUMN: u32 = 3;
 
-/// A fault. The text of its kind lives as long as the program, so nothing of it is ever freed.
+/// An element of the arrays of a caller, by its index.
+pub(crate) const AT_ELEMENT: u32 = 4;
+
+/// An error. The text of its kind lives as long as the program, so nothing of it is ever freed.
 #[repr(C)]
 #[derive(Drop)]
 pub struct MpslpFault {
     /// The name of its kind.
     pub kind: &'static [u8],
-    /// The line, counted from 1; 0 for a fault of the whole text, or of a place in a model.
+    /// The line, counted from 1; 0 for an error of the whole text, of arrays, or of a place in a model.
     pub line: u64,
-    /// What has the name that LP cannot tell: nothing, the objective, a row or a column.
+    /// What has the error, or the name that is not legal in LP: nothing, the objective, a row, a column or an element.
     pub place: u32,
-    /// The number of that row or column.
+    /// The index of that row, column or element.
     pub number: usize,
-    /// How many bytes the name of a row or column has that the fault is told of; 0 where there is none.
+    /// The length of the name of the row or column that has an error of the whole model; or 0.
     pub name_len: usize,
-    /// That name, and 0 behind it.
+    /// That name, padded with zeros.
     pub name: [u8; NAME_ROOM],
 }
 
 const _: () = prove!(size_of::<MpslpFault>() == 304);
 
-/// The fault of a text.
+/// The error of an item of arrays: of the objective, a row, a column or an element.
+#[derive(Clone, Copy)]
+pub(crate) struct ItemFault {
+    /// Its kind.
+    pub(crate) kind: FaultKind,
+    /// What has it.
+    pub(crate) place: u32,
+    /// The index of that row, column or element; or 0.
+    pub(crate) number: usize,
+}
+
+/// Why arrays have no text.
+#[derive(Drop)]
+pub(crate) enum StoreFault {
+    /// An item has this error.
+    Item(ItemFault),
+    /// No item has an error, and the whole has this one.
+    Whole(Fault),
+    /// The model has a name that is not legal in the format, at this place.
+    NotLp(NameAt),
+    /// An allocation failed.
+    OutOfMemory,
+}
+
+/// The error of a text.
 fn told_fault(fault: &Fault) -> MpslpFault
     ensures { TellsFault fault.now result }
 {
@@ -60,7 +87,7 @@ fn told_fault(fault: &Fault) -> MpslpFault
     told
 }
 
-/// Puts a name into an array, and answers how many bytes it has.
+/// Puts a name into an array, and returns its length.
 fn put_name(name: &Name, to: &mut [u8; NAME_ROOM]) -> usize
     ensures len { result ≡ length name.now }
     ensures bytes { to.new ≡ name.now ++ drop (length name.now) to.old }
@@ -71,7 +98,7 @@ fn put_name(name: &Name, to: &mut [u8; NAME_ROOM]) -> usize
     bytes.len()
 }
 
-/// A name that LP cannot tell, by its place and number.
+/// A name that is not legal in LP, by its place.
 fn not_lp(place: u32, number: usize) -> MpslpFault
     ensures { Tells (codes "NotLp") 0 place number [] result }
 {
@@ -85,7 +112,21 @@ fn not_lp(place: u32, number: usize) -> MpslpFault
     }
 }
 
-/// The place in a model that LP cannot tell.
+/// The error of an item, by its place.
+fn told_item(fault: ItemFault) -> MpslpFault
+    ensures { TellsItem fault result }
+{
+    MpslpFault {
+        kind: fault.kind.text().as_bytes(),
+        line: 0,
+        place: fault.place,
+        number: fault.number,
+        name_len: 0,
+        name: [0; NAME_ROOM],
+    }
+}
+
+/// The place of a name that is not legal in LP.
 fn told_place(at: NameAt) -> MpslpFault
     ensures { TellsPlace at result }
 {
@@ -96,7 +137,7 @@ fn told_place(at: NameAt) -> MpslpFault
     }
 }
 
-/// Tells a fault. Want of memory leaves what was told as it is.
+/// Sets the error. An allocation that failed leaves it unchanged.
 pub(crate) fn tell(fault: &ConvertFault, told: &mut MpslpFault)
     ensures { IsFaultTold fault.now told.old told.new }
 {
@@ -104,5 +145,17 @@ pub(crate) fn tell(fault: &ConvertFault, told: &mut MpslpFault)
         ConvertFault::First(fault) | ConvertFault::Second(fault) => *told = told_fault(fault),
         ConvertFault::NotLp(place) => *told = told_place(*place),
         ConvertFault::OutOfMemory => {}
+    }
+}
+
+/// Sets the error of arrays. An allocation that failed leaves it unchanged.
+pub(crate) fn tell_stored(fault: &StoreFault, told: &mut MpslpFault)
+    ensures { IsStoreFaultTold fault.now told.old told.new }
+{
+    match fault {
+        StoreFault::Item(fault) => *told = told_item(*fault),
+        StoreFault::Whole(fault) => *told = told_fault(fault),
+        StoreFault::NotLp(place) => *told = told_place(*place),
+        StoreFault::OutOfMemory => {}
     }
 }

@@ -1,7 +1,7 @@
 //! The calls for C: conversions and comparisons of whole texts in memory, and whole models as arrays.
 //!
-//! Each call gives its answer through pointers of the caller and returns a status. `include/mpslp.h` declares them, and
-//! `docs/C.md` says what a caller owes.
+//! Each call returns a status and its results through pointers of the caller. `include/mpslp.h` declares them, and
+//! `docs/C.md` lists the obligations of the caller.
 #![tactic(auto)]
 
 mod answers;
@@ -10,4 +10,6 @@ mod calls;
 mod faults;
 mod loading;
 mod numbers;
+mod stored_items;
+mod storing;
 mod texts;

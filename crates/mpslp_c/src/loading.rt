@@ -1,9 +1,9 @@
-//! The call that gives a whole model.
+//! The call that reads a whole model.
 
 ghost use Rattle.std.specs.Prelude.{◌≡◌, IsOkUnless};
 ghost use Rattle.mpslp_model_core.specs.Model.{LinearModel};
 ghost use Rattle.mpslp_types.specs.declared.faults.Fault.{Fault};
-ghost use Rattle.mpslp_convert.specs.Conversions.{IsReadingOfFirst, IsErrUnless};
+ghost use Rattle.mpslp_convert.specs.Conversions.{IsErrUnless};
 ghost use Rattle.mpslp_convert.specs.Performed.{declares_in, first_fault_in};
 ghost use Rattle.mpslp_c.specs.Answers.{form_of, IsLoading, IsModelTold, IsLoadAnswer};
 
@@ -11,24 +11,12 @@ use crate::answers::{OK, UNKNOWN_FORMAT, fault_status};
 use crate::arrays::{MpslpModel, told_model};
 use crate::faults::{MpslpFault, tell};
 use crate::texts::form_of;
-use mpslp_convert::{ConvertFault, Form};
-use mpslp_model::{Format, Model, ReadFault};
+use mpslp_convert::{ConvertFault, Form, model_of};
+use mpslp_model::Format;
 use mpslp_write::{Lp, Mps};
 use std::alloc::Global;
 
-/// The model that the bytes declare.
-fn model_of<A: Format>(alloc: Global, bytes: &[u8]) -> Result<Model, ConvertFault>
-    ensures { IsReadingOfFirst A.declares A.first_fault bytes.now result }
-{
-    match A::read(alloc, bytes) {
-        Ok(model) => Ok(model),
-        Err(ReadFault::File(fault)) => Err(ConvertFault::First(fault)),
-        Err(ReadFault::Failed) => unreachable!(),
-        Err(ReadFault::OutOfMemory) => Err(ConvertFault::OutOfMemory),
-    }
-}
-
-/// The arrays that tell the model which the bytes declare.
+/// The arrays of the model that the bytes define.
 fn arrays_of<A: Format>(alloc: Global, bytes: &[u8]) -> Result<MpslpModel, ConvertFault>
     ensures answer { IsLoading A.declares A.first_fault bytes.now result }
     ensures accepts { (m : LinearModel) → A.declares bytes.now m → IsOkUnless result ConvertFault.OutOfMemory }
@@ -55,7 +43,7 @@ fn arrays_in(alloc: Global, form: Form, bytes: &[u8]) -> Result<MpslpModel, Conv
     }
 }
 
-/// Gives a model, or tells why there is none.
+/// Sets the model, or the error.
 fn give_model(
     answer: Result<MpslpModel, ConvertFault>,
     out: &mut MpslpModel,
@@ -75,14 +63,14 @@ fn give_model(
     }
 }
 
-/// Gives the model that the bytes declare in their format: 0 is MPS, 1 is LP.
+/// Reads the model that the bytes define in their format: 0 is MPS, 1 is LP.
 ///
 /// | status | when |
 /// |---|---|
-/// | 0 | `out` is the model, in memory of the caller's `malloc`, which frees each array that is not empty |
-/// | 2 | the bytes declare no model; `fault` tells their first fault |
-/// | 5 | memory was refused |
-/// | 6 | the format is none |
+/// | 0 | `out` is the model, allocated by `malloc`; the caller frees each array that is not empty |
+/// | 2 | the bytes define no model; `fault` is their first error |
+/// | 5 | an allocation failed |
+/// | 6 | the format is unknown |
 #[unsafe(no_mangle)]
 pub extern "C" fn mpslp_load(
     alloc: Global,

@@ -14,7 +14,6 @@ from mpslp._arrays import Arrays, arrays_of, listed
 from mpslp._mappings import Held, Numbered
 from mpslp._numbers import INFINITY, Number, decimal_of, difference, limit_of
 from mpslp._sources import Format, Path, Source, format_number, naming, read, write
-from mpslp._writing import ColumnParts, Parts, RowParts, _store, mps_text
 
 Sense: TypeAlias = Literal["minimize", "maximize"]
 """The objective sense."""
@@ -322,17 +321,18 @@ class Model(_Part):
             for row in column.entries:
                 if row not in all_rows:
                     raise ValueError(f"column {column.name!r} has an entry in row {row!r}, which is not there")
-        parts = Parts(
+        numbers = {name: number for number, name in enumerate(all_rows)}
+        arrays = _mpslp.make(
             _SENSE_NUMBERS[sense],
             objective,
             _finite("the objective", "constant", constant),
-            [RowParts(row.name, row.lower, row.upper) for row in all_rows.values()],
+            [(row.name, row.lower, row.upper) for row in all_rows.values()],
             [
-                ColumnParts(each.name, _KIND_NUMBERS[each.kind], each.lower, each.upper, each.cost, each.entries.items())
+                (each.name, _KIND_NUMBERS[each.kind], each.lower, each.upper, each.cost, [(numbers[row], value) for row, value in each.entries.items()])
                 for each in all_columns.values()
             ],
         )
-        self._keep(_mpslp.load(mps_text(parts), _mpslp.MPS))
+        self._keep(arrays)
 
     def _keep(self, arrays: _mpslp.Arrays) -> None:
         sense, objective, constant = arrays.objective()
@@ -346,7 +346,7 @@ class Model(_Part):
         if found is None:
             import hashlib  # it breaks further interpreters of CPython 3.12.1, and is wanted here only
 
-            found = hashlib.sha256(_store(self._arrays, _mpslp.MPS)).hexdigest()
+            found = hashlib.sha256(_mpslp.store(self._arrays, _mpslp.MPS)).hexdigest()
             self._fill(_digest=found)
         return found
 
@@ -370,7 +370,7 @@ class Model(_Part):
         return hash(self.digest)
 
     def __reduce__(self) -> tuple[Any, ...]:
-        return load, (_store(self._arrays, _mpslp.MPS), "mps")
+        return load, (_mpslp.store(self._arrays, _mpslp.MPS), "mps")
 
     def __repr__(self) -> str:
         rows, columns, elements = self._arrays.counts()
@@ -434,7 +434,7 @@ def dumps(model: Model, format: Format) -> bytes:
     number = format_number(format)
     if not isinstance(model, Model):
         raise TypeError(f"a model is a mpslp.Model, not {type(model).__name__}")
-    return _store(model._arrays, number)
+    return _mpslp.store(model._arrays, number)
 
 
 def dump(model: Model, path: Path, format: Format | None = None) -> None:

@@ -48,6 +48,7 @@ static const char *place_word(mpslp_place place) {
     case MPSLP_AT_OBJECTIVE: return "objective";
     case MPSLP_AT_ROW: return "row";
     case MPSLP_AT_COLUMN: return "column";
+    case MPSLP_AT_ELEMENT: return "element";
     default: return NULL;
     }
 }
@@ -55,7 +56,7 @@ static const char *place_word(mpslp_place place) {
 /* Raises a ModelFileError. `which` says which of two texts has the error, and is null if there is only one text. */
 static void raise_fault(PyObject *module, const mpslp_fault *fault, const char *which) {
     PyObject *class = state_of(module)->error;
-    int is_numbered = fault->place == MPSLP_AT_ROW || fault->place == MPSLP_AT_COLUMN;
+    int is_numbered = fault->place != MPSLP_NOWHERE && fault->place != MPSLP_AT_OBJECTIVE;
     /* A null pointer becomes None. The call takes the references of objects for N, even if it fails. */
     PyObject *error = PyObject_CallFunction(
         class, "s#Nz#zNz", (const char *)fault->kind.bytes, (Py_ssize_t)fault->kind.len,
@@ -79,6 +80,15 @@ static PyObject *refuse(PyObject *module, mpslp_status status, const mpslp_fault
     return NULL;
 }
 
+/* The text of a call, or its exception. */
+static PyObject *text_of(PyObject *module, mpslp_status status, mpslp_text *text, const mpslp_fault *fault) {
+    PyObject *made;
+    if (status != MPSLP_OK) return refuse(module, status, fault, NULL);
+    made = PyBytes_FromStringAndSize((const char *)text->bytes, (Py_ssize_t)text->len);
+    mpslp_free(text);
+    return made;
+}
+
 /* The result of a call that returns yes or no. */
 static PyObject *truth(PyObject *module, mpslp_status status, const mpslp_fault *fault, const char *which) {
     switch (status) {
@@ -89,7 +99,7 @@ static PyObject *truth(PyObject *module, mpslp_status status, const mpslp_fault 
 }
 
 static PyObject *canonical(PyObject *module, PyObject *arguments) {
-    PyObject *source, *answer;
+    PyObject *source;
     unsigned from, to;
     content text;
     mpslp_text out = MPSLP_NO_TEXT;
@@ -99,10 +109,7 @@ static PyObject *canonical(PyObject *module, PyObject *arguments) {
     Py_BEGIN_ALLOW_THREADS
     status = mpslp_canonical(from, to, text.bytes, text.len, &out, &fault);
     Py_END_ALLOW_THREADS
-    if (status != MPSLP_OK) return refuse(module, status, &fault, NULL);
-    answer = PyBytes_FromStringAndSize((const char *)out.bytes, (Py_ssize_t)out.len);
-    mpslp_free(&out);
-    return answer;
+    return text_of(module, status, &out, &fault);
 }
 
 static PyObject *same(PyObject *module, PyObject *arguments) {
@@ -543,6 +550,181 @@ static PyObject *load(PyObject *module, PyObject *arguments) {
     return status == MPSLP_OK ? arrays_of(module, &model) : refuse(module, status, &fault, NULL);
 }
 
+static PyObject *store(PyObject *module, PyObject *arguments) {
+    PyObject *source;
+    unsigned to;
+    mpslp_text out = MPSLP_NO_TEXT;
+    mpslp_fault fault = MPSLP_NO_FAULT;
+    mpslp_status status;
+    if (!PyArg_ParseTuple(arguments, "O!I:store", state_of(module)->arrays, &source, &to)) return NULL;
+    Py_BEGIN_ALLOW_THREADS
+    status = mpslp_store(to, model_of(source), &out, &fault);
+    Py_END_ALLOW_THREADS
+    return text_of(module, status, &out, &fault);
+}
+
+/* ---- models that are made of Python's objects: the library checks all of what these say */
+
+/* An array that grows. */
+typedef struct {
+    void *items;
+    size_t len, room;
+} growing;
+
+/* The arrays of a model that is made. */
+typedef struct {
+    growing names, rows, columns, elements;
+} parts;
+
+/* Room for more items at the end of an array, or null. */
+static void *more(growing *array, size_t count, size_t size) {
+    if (array->items == NULL || count > array->room - array->len) {
+        const size_t room = 2 * array->room + count + 1;
+        void *items = realloc(array->items, room * size);
+        if (items == NULL) return PyErr_NoMemory();
+        array->items = items;
+        array->room = room;
+    }
+    array->len += count;
+    return (char *)array->items + (array->len - count) * size;
+}
+
+/* Reads the text of a Decimal: digits with a sign, a point and an exponent, or an infinity. */
+static int read_number(const char *at, mpslp_number *number) {
+    const mpslp_number none = { 0, 0, 0, 0 };
+    const int is_negative = *at == '-';
+    magnitude mantissa = 0;
+    long exponent = 0;
+    int is_fraction = 0;
+    *number = none;
+    at += is_negative;
+    if (strcmp(at, "Infinity") == 0) {
+        number->infinity = is_negative ? -1 : 1;
+        return 1;
+    }
+    for (; *at == '.' || (*at >= '0' && *at <= '9'); at++) {
+        if (*at == '.') is_fraction = 1;
+        else {
+            mantissa = mantissa * 10 + (unsigned)(*at - '0');
+            exponent -= is_fraction;
+        }
+    }
+    /* The letter depends on the context of the thread. */
+    if (*at == 'E' || *at == 'e') exponent += strtol(at + 1, (char **)&at, 10);
+    if (is_negative) mantissa = -mantissa;
+    number->low = (uint64_t)mantissa;
+    number->high = (int64_t)(mantissa >> 64);
+    number->exponent = (int32_t)exponent;
+    return *at == 0;
+}
+
+static int make_number(PyObject *decimal, mpslp_number *number) {
+    PyObject *text = PyObject_Str(decimal);
+    const char *bytes = text == NULL ? NULL : PyUnicode_AsUTF8AndSize(text, NULL);
+    const int is_read = bytes != NULL && read_number(bytes, number);
+    if (bytes != NULL && !is_read) PyErr_Format(PyExc_ValueError, "%R is no number of a model", decimal);
+    Py_XDECREF(text);
+    return is_read;
+}
+
+static int make_name(parts *all, const char *bytes, Py_ssize_t len, mpslp_name *name) {
+    void *room = more(&all->names, (size_t)len, 1);
+    if (room == NULL) return 0;
+    memcpy(room, bytes, (size_t)len);
+    name->at = all->names.len - (size_t)len;
+    name->len = (size_t)len;
+    return 1;
+}
+
+/* A row is a tuple of its name, lower and upper limit. */
+static int make_row(parts *all, PyObject *row) {
+    const char *name;
+    Py_ssize_t len;
+    PyObject *lower, *upper;
+    mpslp_row *made;
+    if (!PyArg_ParseTuple(row, "s#OO:row", &name, &len, &lower, &upper)) return 0;
+    made = more(&all->rows, 1, sizeof *made);
+    return made != NULL && make_name(all, name, len, &made->name) && make_number(lower, &made->lower) && make_number(upper, &made->upper);
+}
+
+/* An entry is a tuple of the number of its row and its value. */
+static int make_element(parts *all, PyObject *entry) {
+    Py_ssize_t row;
+    PyObject *value;
+    mpslp_element *made;
+    if (!PyArg_ParseTuple(entry, "nO:entry", &row, &value)) return 0;
+    made = more(&all->elements, 1, sizeof *made);
+    if (made == NULL) return 0;
+    made->row = (size_t)row;
+    return make_number(value, &made->value);
+}
+
+/* Makes each item of a list. */
+static int make_each(parts *all, PyObject *list, int (*make_one)(parts *, PyObject *)) {
+    for (Py_ssize_t k = 0; k < PyList_Size(list); k++)
+        if (!make_one(all, PyList_GetItem(list, k))) return 0;
+    return 1;
+}
+
+/* A column is a tuple of its name, kind, lower and upper bound and cost, and a list of its entries. */
+static int make_column(parts *all, PyObject *column) {
+    const char *name;
+    Py_ssize_t len;
+    unsigned kind;
+    PyObject *lower, *upper, *cost, *entries;
+    mpslp_column *made;
+    if (!PyArg_ParseTuple(column, "s#IOOOO!:column", &name, &len, &kind, &lower, &upper, &cost, &PyList_Type, &entries)) return 0;
+    made = more(&all->columns, 1, sizeof *made);
+    if (made == NULL) return 0;
+    made->kind = kind;
+    made->first = all->elements.len;
+    return make_name(all, name, len, &made->name) && make_number(lower, &made->lower) && make_number(upper, &made->upper) &&
+           make_number(cost, &made->cost) && make_each(all, entries, make_element);
+}
+
+/* The arrays of the library for a model: rows and columns in byte order, and numbers in normal form. */
+static PyObject *arrays_of_made(PyObject *module, const mpslp_model *made) {
+    mpslp_text text = MPSLP_NO_TEXT;
+    mpslp_model model = MPSLP_NO_MODEL;
+    mpslp_fault fault = MPSLP_NO_FAULT;
+    mpslp_status status;
+    Py_BEGIN_ALLOW_THREADS
+    status = mpslp_store(MPSLP_MPS, made, &text, &fault);
+    if (status == MPSLP_OK) status = mpslp_load(MPSLP_MPS, text.bytes, text.len, &model, &fault);
+    mpslp_free(&text);
+    Py_END_ALLOW_THREADS
+    return status == MPSLP_OK ? arrays_of(module, &model) : refuse(module, status, &fault, NULL);
+}
+
+static PyObject *make(PyObject *module, PyObject *arguments) {
+    const char *objective;
+    Py_ssize_t len;
+    unsigned sense;
+    PyObject *constant, *rows, *columns, *made = NULL;
+    parts all = { { NULL, 0, 0 }, { NULL, 0, 0 }, { NULL, 0, 0 }, { NULL, 0, 0 } };
+    mpslp_model model = MPSLP_NO_MODEL;
+    if (!PyArg_ParseTuple(arguments, "Is#OO!O!:make", &sense, &objective, &len, &constant, &PyList_Type, &rows, &PyList_Type, &columns)) return NULL;
+    model.sense = sense;
+    if (make_name(&all, objective, len, &model.objective) && make_number(constant, &model.constant) && make_each(&all, rows, make_row) &&
+        make_each(&all, columns, make_column)) {
+        /* No pointer may be null, and an empty array has no items. */
+        if (all.names.len != 0) model.names.bytes = all.names.items;
+        if (all.rows.len != 0) model.rows = all.rows.items;
+        if (all.columns.len != 0) model.columns = all.columns.items;
+        if (all.elements.len != 0) model.elements = all.elements.items;
+        model.names.len = all.names.len;
+        model.num_rows = all.rows.len;
+        model.num_columns = all.columns.len;
+        model.num_elements = all.elements.len;
+        made = arrays_of_made(module, &model);
+    }
+    free(all.names.items);
+    free(all.rows.items);
+    free(all.columns.items);
+    free(all.elements.items);
+    return made;
+}
+
 static PyMethodDef calls[] = {
     { "canonical", canonical, METH_VARARGS,
       "canonical($module, source, from_format, to_format, /)\n--\n\nThe canonical text of the model that bytes declare." },
@@ -552,6 +734,10 @@ static PyMethodDef calls[] = {
       "is_canonical($module, source, format, /)\n--\n\nWhether bytes are the canonical text of their model." },
     { "load", load, METH_VARARGS,
       "load($module, source, format, /)\n--\n\nThe model that bytes declare." },
+    { "store", store, METH_VARARGS,
+      "store($module, arrays, format, /)\n--\n\nThe canonical text of a model." },
+    { "make", make, METH_VARARGS,
+      "make($module, sense, objective, constant, rows, columns, /)\n--\n\nThe model of such parts, in any order." },
     { NULL, NULL, 0, NULL },
 };
 

@@ -1,3 +1,4 @@
+-- Each place, by its variant.
 use Rattle.mpslp_c.proofs.faults.told_place.Goals as goal
 
 pub returns-in-Objective : goal.returns-in-Objective

@@ -1,0 +1,210 @@
+-- Items without an error define a model, and the items of arrays that define a model have no error.
+use Rattle.std.proofs.Common.{◌≡◌, refl, sym, ap, ◌∙◌, subst, ℕ, zero, suc, List, [], ◌∷◌, ◌++◌, map, Bool, true, false, not, Option, None, Some, Result, Ok, Err}
+use Rattle.std.specs.Prelude.{◌&&◌, ◌||◌, is_some, IsTrue}
+use Rattle.std.specs.List.{list_all, list_any, flat_map}
+use Rattle.std.specs.Option.{option_map_or}
+use Rattle.std.specs.Cmp.{first_so, second_so}
+use Rattle.std.proofs.lemmas.List.{append-nil}
+use Rattle.mpslp_model_core.specs.Model.{LinearModel}
+use Rattle.mpslp_model_core.specs.Lists.{head_of}
+use Rattle.mpslp_types.proofs.BoolLemmas.{both_so, or_left, nor, both_false}
+use Rattle.mpslp_types.specs.Limit.{is_plus_infinite, is_minus_infinite}
+use Rattle.mpslp_types.specs.declared.kinds.Limit.{Limit}
+use Rattle.mpslp_types.specs.declared.faults.BuildFault.{BuildFault}
+use Rattle.mpslp_types.specs.declared.faults.BuildFault.TheVariants as builds
+use Rattle.mpslp_types.specs.declared.faults.FaultKind.{FaultKind}
+use Rattle.mpslp_builder.specs.Declaration.{Declaration, declare_objective, declare_constant, declare_lower, declare_upper, Declarations, Draft, empty_draft, with_declaration, with_declarations, draft_of, has_column, has_name}
+use Rattle.mpslp_builder.specs.Refusal.{refusals, refusals_in_turn, bounds_refusals}
+use Rattle.mpslp_builder.specs.Consistency.{has_objective, AreConsistent}
+use Rattle.mpslp_builder.specs.Meaning.{DraftMeans, Means}
+use Rattle.mpslp_builder.proofs.RefusalLemmas.{left_none, right_none, join_none, first_none, rest_none, pass, are_known_in_turn, consistent-from_none, none-from_consistent}
+use Rattle.mpslp_builder.proofs.MadeDrafts.{with_declarations-append, refusals_in_turn-append, bounds-in_turn}
+use Rattle.mpslp_lines.specs.Declaring.{kind_of_build_fault}
+use Rattle.mpslp_c.specs.Stored.{Step, fails, declares, bounds, step_faults, step_declared, or_else, first_kind, after_steps, steps_with, name_given, number_given, objective_steps, sense_steps, Item, item_fault, items, first_item_fault, after_items, is_good, is_good_item, declared_by, Defines}
+use Rattle.mpslp_c.specs.declared.arrays.MpslpModel.{MpslpModel}
+use Rattle.mpslp_c.specs.declared.faults.ItemFault.{ItemFault}
+
+-- ---- steps
+
+pub steps-after : (steps : List Step) (all : Draft) → after_steps all steps ≡ with_declarations all (flat_map step_declared steps)
+steps-after [] all = refl
+steps-after (step ∷ more) all =
+    steps-after more (with_declarations all (step_declared step)) ∙ sym (with_declarations-append (step_declared step) (flat_map step_declared more) all)
+
+no_head : (faults : List BuildFault) → head_of (map kind_of_build_fault faults) ≡ None → faults ≡ []
+no_head [] h = refl
+no_head (fault ∷ more) h = let no : ⊥ = cc in absurd no
+
+-- a step without an error is good, and nothing of it is rejected
+record IsFree (all : Draft) (step : Step) : Type 0 where
+  good : is_good step ≡ true
+  free : refusals_in_turn all (step_declared step) ≡ []
+
+step_free : (all : Draft) (step : Step) → head_of (step_faults all step) ≡ None → IsFree all step
+step_free all (fails kind) h = let no : ⊥ = cc in absurd no
+step_free all (declares d) h = record { good = refl; free = append-nil (refusals all d) ∙ no_head (refusals all d) h }
+step_free all (bounds column lower upper) h = record {
+  good = refl;
+  free = bounds-in_turn all column (Some lower) (Some upper) (no_head (bounds_refusals all column (Some lower) (Some upper)) h);
+}
+
+first_none_of : (o p : Option FaultKind) → or_else o p ≡ None → (o ≡ None) × (p ≡ None)
+first_none_of None p h = (refl, h)
+first_none_of (Some kind) p h = let no : ⊥ = cc in absurd no
+
+pub record AreFree (all : Draft) (are_good : Bool) (declarations : Declarations) : Type 0 where
+  pub good : are_good ≡ true
+  pub free : refusals_in_turn all declarations ≡ []
+
+free-append : (xs ys : Declarations) (all : Draft) → refusals_in_turn all xs ≡ [] → refusals_in_turn (with_declarations all xs) ys ≡ [] → refusals_in_turn all (xs ++ ys) ≡ []
+free-append xs ys all h k = refusals_in_turn-append xs ys all ∙ join_none (refusals_in_turn all xs) (refusals_in_turn (with_declarations all xs) ys) h k
+
+free-parts : (xs ys : Declarations) (all : Draft) → refusals_in_turn all (xs ++ ys) ≡ [] → (refusals_in_turn all xs ≡ []) × (refusals_in_turn (with_declarations all xs) ys ≡ [])
+free-parts xs ys all h =
+    let joined = sym (refusals_in_turn-append xs ys all) ∙ h in
+    (left_none (refusals_in_turn all xs) (refusals_in_turn (with_declarations all xs) ys) joined, right_none (refusals_in_turn all xs) (refusals_in_turn (with_declarations all xs) ys) joined)
+
+pub steps_free : (steps : List Step) (all : Draft) → first_kind all steps ≡ None → AreFree all (list_all is_good steps) (flat_map step_declared steps)
+steps_free [] all h = record { good = refl; free = refl }
+steps_free (step ∷ more) all h =
+    let parts = first_none_of (head_of (step_faults all step)) (first_kind (with_declarations all (step_declared step)) more) h in
+    let here = step_free all step parts.0 in
+    let later = steps_free more (with_declarations all (step_declared step)) parts.1 in
+    record {
+      good = both_so (is_good step) (list_all is_good more) here.good later.good;
+      free = free-append (step_declared step) (flat_map step_declared more) all here.free later.free;
+    }
+
+-- ---- and conversely
+
+no_kind : (faults : List BuildFault) → faults ≡ [] → head_of (map kind_of_build_fault faults) ≡ None
+no_kind faults h = ap (λ (f : List BuildFault). head_of (map kind_of_build_fault f)) h
+
+bounds_free : (all : Draft) (column : List ℕ) (lower upper : Limit) → refusals_in_turn all (declare_lower column lower ∷ declare_upper column upper ∷ []) ≡ []
+    → bounds_refusals all column (Some lower) (Some upper) ≡ []
+bounds_free all column lower upper h =
+    let next = with_declaration all (declare_lower column lower) in
+    let low = left_none (refusals all (declare_lower column lower)) (refusals_in_turn next (declare_upper column upper ∷ [])) h in
+    let up = left_none (refusals next (declare_upper column upper)) [] (right_none (refusals all (declare_lower column lower)) (refusals_in_turn next (declare_upper column upper ∷ [])) h) in
+    let unknown = not (has_column all column) in
+    let low_infinite = (is_plus_infinite lower, builds.InfiniteValue) ∷ [] in
+    let up_infinite = (is_minus_infinite upper, builds.InfiniteValue) ∷ [] in
+    let low_filled = (has_name all.lowers column, builds.DuplicateBound) ∷ low_infinite in
+    let up_filled = (has_name all.uppers column, builds.DuplicateBound) ∷ up_infinite in
+    let low_rest = rest_none unknown builds.UnknownColumn low_filled low in
+    let up_rest = rest_none unknown builds.UnknownColumn up_filled up in
+    let filled = both_false (has_name all.lowers column) (has_name all.uppers column)
+    (first_none (has_name all.lowers column) builds.DuplicateBound low_infinite low_rest)
+    (first_none (has_name all.uppers column) builds.DuplicateBound up_infinite up_rest) in
+    let infinite = both_false (is_plus_infinite lower) (is_minus_infinite upper)
+    (first_none (is_plus_infinite lower) builds.InfiniteValue [] (rest_none (has_name all.lowers column) builds.DuplicateBound low_infinite low_rest))
+    (first_none (is_minus_infinite upper) builds.InfiniteValue [] (rest_none (has_name all.uppers column) builds.DuplicateBound up_infinite up_rest)) in
+    let last = (is_plus_infinite lower || is_minus_infinite upper, builds.InfiniteValue) ∷ [] in
+    pass unknown builds.UnknownColumn ((has_name all.lowers column || has_name all.uppers column, builds.DuplicateBound) ∷ last) (first_none unknown builds.UnknownColumn low_filled low)
+    (pass (has_name all.lowers column || has_name all.uppers column) builds.DuplicateBound last filled
+    (pass (is_plus_infinite lower || is_minus_infinite upper) builds.InfiniteValue [] infinite refl))
+
+step_none : (all : Draft) (step : Step) → is_good step ≡ true → refusals_in_turn all (step_declared step) ≡ [] → head_of (step_faults all step) ≡ None
+step_none all (fails kind) good h = let no : ⊥ = cc in absurd no
+step_none all (declares d) good h = no_kind (refusals all d) (left_none (refusals all d) [] h)
+step_none all (bounds column lower upper) good h = no_kind (bounds_refusals all column (Some lower) (Some upper)) (bounds_free all column lower upper h)
+
+pub steps_none : (steps : List Step) (all : Draft) → list_all is_good steps ≡ true → refusals_in_turn all (flat_map step_declared steps) ≡ [] → first_kind all steps ≡ None
+steps_none [] all good h = refl
+steps_none (step ∷ more) all good h =
+    let parts = free-parts (step_declared step) (flat_map step_declared more) all h in
+    ap (λ (o : Option FaultKind). or_else o (first_kind (with_declarations all (step_declared step)) more)) (step_none all step (first_so (is_good step) (list_all is_good more) good) parts.0)
+    ∙ steps_none more (with_declarations all (step_declared step)) (second_so (is_good step) (list_all is_good more) good) parts.1
+
+-- ---- items
+
+pub items-after : (all : List Item) (before : Draft) → after_items before all ≡ with_declarations before (flat_map declared_by all)
+items-after [] before = refl
+items-after (item ∷ more) before =
+    items-after more (after_steps before item.steps)
+    ∙ ap (λ (d : Draft). with_declarations d (flat_map declared_by more)) (steps-after item.steps before)
+    ∙ sym (with_declarations-append (declared_by item) (flat_map declared_by more) before)
+
+no_item : (item : Item) (o : Option FaultKind) (p : Option ItemFault) → option_map_or (λ kind. Some (item_fault item kind)) o p ≡ None → (o ≡ None) × (p ≡ None)
+no_item item None p h = (refl, h)
+no_item item (Some kind) p h = let no : ⊥ = cc in absurd no
+
+pub items_free : (all : List Item) (before : Draft) → first_item_fault before all ≡ None → AreFree before (list_all is_good_item all) (flat_map declared_by all)
+items_free [] before h = record { good = refl; free = refl }
+items_free (item ∷ more) before h =
+    let parts = no_item item (first_kind before item.steps) (first_item_fault (after_steps before item.steps) more) h in
+    let here = steps_free item.steps before parts.0 in
+    let later = items_free more (after_steps before item.steps) parts.1 in
+    record {
+      good = both_so (is_good_item item) (list_all is_good_item more) here.good later.good;
+      free = free-append (declared_by item) (flat_map declared_by more) before here.free
+          (ap (λ (d : Draft). refusals_in_turn d (flat_map declared_by more)) (sym (steps-after item.steps before)) ∙ later.free);
+    }
+
+pub items_none : (all : List Item) (before : Draft) → list_all is_good_item all ≡ true → refusals_in_turn before (flat_map declared_by all) ≡ [] → first_item_fault before all ≡ None
+items_none [] before good h = refl
+items_none (item ∷ more) before good h =
+    let parts = free-parts (declared_by item) (flat_map declared_by more) before h in
+    ap (λ (o : Option FaultKind). option_map_or (λ kind. Some (item_fault item kind)) o (first_item_fault (after_steps before item.steps) more))
+    (steps_none item.steps before (first_so (is_good_item item) (list_all is_good_item more) good) parts.0)
+    ∙ items_none more (after_steps before item.steps) (second_so (is_good_item item) (list_all is_good_item more) good)
+    (ap (λ (d : Draft). refusals_in_turn d (flat_map declared_by more)) (steps-after item.steps before) ∙ parts.1)
+
+-- ---- the objective
+
+objective_kept : (ds : Declarations) (before : Draft) → is_some before.objective ≡ true → is_some (with_declarations before ds).objective ≡ true
+objective_kept [] before h = h
+objective_kept (declare_objective name ∷ more) before h = objective_kept more (with_declaration before (declare_objective name)) refl
+objective_kept (d ∷ more) before h = objective_kept more (with_declaration before d) h
+
+pub objective_there : (ds : Declarations) (before : Draft) → has_objective ds ≡ true → is_some (with_declarations before ds).objective ≡ true
+objective_there [] before h = let no : ⊥ = cc in absurd no
+objective_there (declare_objective name ∷ more) before h = objective_kept more (with_declaration before (declare_objective name)) refl
+objective_there (d ∷ more) before h = objective_there more (with_declaration before d) h
+
+names_objective : (told : MpslpModel) → list_all is_good (objective_steps told) ≡ true → (more : Declarations) → has_objective (flat_map step_declared (objective_steps told) ++ more) ≡ true
+names_objective told good more =
+    elim (name_given told.names.now told.objective) as (λ r. list_all is_good (steps_with r (λ name. steps_with (number_given told.constant) (λ constant. declares (declare_objective name) ∷ declares (declare_constant constant) ∷ sense_steps told.sense))) ≡ true
+    → has_objective (flat_map step_declared (steps_with r (λ name. steps_with (number_given told.constant) (λ constant. declares (declare_objective name) ∷ declares (declare_constant constant) ∷ sense_steps told.sense))) ++ more) ≡ true) [
+      | Err kind ↦ λ bad. let no : ⊥ = cc in absurd no
+      | Ok name ↦ elim (number_given told.constant) as (λ r. list_all is_good (steps_with r (λ constant. declares (declare_objective name) ∷ declares (declare_constant constant) ∷ sense_steps told.sense)) ≡ true
+          → has_objective (flat_map step_declared (steps_with r (λ constant. declares (declare_objective name) ∷ declares (declare_constant constant) ∷ sense_steps told.sense)) ++ more) ≡ true) [
+            | Err kind ↦ λ bad. let no : ⊥ = cc in absurd no
+            | Ok constant ↦ λ _. refl
+          ]
+    ] good
+
+objective_of : (told : MpslpModel) → list_all is_good_item (items told) ≡ true → has_objective (flat_map declared_by (items told)) ≡ true
+objective_of told good = names_objective told (first_so (list_all is_good (objective_steps told)) _ good) _
+
+-- ---- the model
+
+-- the objective is declared if no item has an error
+pub objective-declared : (told : MpslpModel) → first_item_fault empty_draft (items told) ≡ None → is_some (after_items empty_draft (items told)).objective ≡ true
+objective-declared told none =
+    let free = items_free (items told) empty_draft none in
+    ap (λ (d : Draft). is_some d.objective) (items-after (items told) empty_draft)
+    ∙ objective_there (flat_map declared_by (items told)) empty_draft (objective_of told free.good)
+
+pub defines-from_none : (told : MpslpModel) (m : LinearModel) → first_item_fault empty_draft (items told) ≡ None → DraftMeans (after_items empty_draft (items told)) m → Defines told m
+defines-from_none told m none meant =
+    let free = items_free (items told) empty_draft none in
+    record {
+      good = free.good;
+      means = record {
+        consistent = consistent-from_none (flat_map declared_by (items told)) (objective_of told free.good) free.free;
+        meant = subst (λ (d : Draft). DraftMeans d m) (items-after (items told) empty_draft) meant;
+      };
+    }
+
+pub meant-from_defines : (told : MpslpModel) (m : LinearModel) → Defines told m → DraftMeans (after_items empty_draft (items told)) m
+meant-from_defines told m defines = subst (λ (d : Draft). DraftMeans d m) (sym (items-after (items told) empty_draft)) defines.means.meant
+
+pub none-from_defines : (told : MpslpModel) (m : LinearModel) → are_known_in_turn empty_draft (flat_map declared_by (items told)) ≡ true → Defines told m
+    → first_item_fault empty_draft (items told) ≡ None
+none-from_defines told m known defines =
+    items_none (items told) empty_draft defines.good (none-from_consistent (flat_map declared_by (items told)) defines.means.consistent known)
+
+-- arrays define one model
+pub one_model : (told : MpslpModel) (m n : LinearModel) → Defines told m → Defines told n → m ≡ n
+one_model told m n a b = a.means.meant.model ∙ sym b.means.meant.model

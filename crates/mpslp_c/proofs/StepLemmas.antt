@@ -1,0 +1,315 @@
+-- Steps and items, one after another.
+use Rattle.std.proofs.Common.{◌≡◌, refl, sym, ap, ◌∙◌, subst, ℕ, zero, suc, ◌<◌, ◌≤◌, ◌+◌, ◌-◌, List, [], ◌∷◌, ◌++◌, length, drop, take, map, Bool, true, false, Option, None, Some, Result, Ok, Err, inl, inr, arith, add-one}
+use Rattle.std.specs.Prelude.{◌⊎◌, pos, slice_get, slice_range, get_or, nat_le, IfNone, IsErrAnd, if◌then◌else◌}
+use Rattle.std.specs.Option.{option_map_or}
+use Rattle.std.proofs.lemmas.Option.{slice_get-get_or}
+use Rattle.mpslp_decimal.specs.Decimal.{Number}
+use Rattle.mpslp_model_core.specs.Lists.{head_of}
+use Rattle.mpslp_types.specs.Name.{name_refusal}
+use Rattle.mpslp_types.specs.declared.kinds.Limit.{Limit}
+use Rattle.mpslp_types.specs.declared.names.NameFault.{NameFault}
+use Rattle.mpslp_types.specs.declared.faults.FaultKind.TheVariants.{NameLength}
+use Rattle.mpslp_types.specs.declared.faults.BuildFault.{BuildFault}
+use Rattle.mpslp_types.specs.declared.faults.BuildFault.TheVariants as builds
+use Rattle.mpslp_types.specs.declared.faults.FaultKind.{FaultKind}
+use Rattle.mpslp_builder.specs.Answer.{Answer, Answers}
+use Rattle.mpslp_builder.specs.Declaration.{declare_objective, declare_constant, declare_row, declare_column, declare_coefficient, by_limits, Draft, with_declarations}
+use Rattle.mpslp_lines.specs.Declaring.{kind_of_build_fault}
+use Rattle.mpslp_lines.specs.ErrorOf.{error_of_build}
+use Rattle.mpslp_lines.specs.declared.errors.LineError.{LineError}
+use Rattle.mpslp_lines.specs.declared.errors.LineError.TheVariants.{Fault, OutOfMemory}
+use Rattle.mpslp_c.specs.Answers.{TakesItems}
+use Rattle.mpslp_c.specs.Stored.{Step, declares, bounds, kind_of_name_fault, name_given, number_given, limit_given, bytes_at, sense_steps, objective_steps, row_steps, kind_steps, column_steps, element_steps, element_items, own_items, elements_end, column_items, step_faults, step_declared, or_else, first_kind, after_steps, steps_with, Item, item_fault, first_item_fault, after_items, IsFaultGiven, TakesSteps, placed}
+use Rattle.mpslp_c.specs.declared.numbers.MpslpNumber.{MpslpNumber}
+use Rattle.mpslp_c.specs.declared.arrays.MpslpName.{MpslpName}
+use Rattle.mpslp_c.specs.declared.arrays.MpslpRow.{MpslpRow}
+use Rattle.mpslp_c.specs.declared.arrays.MpslpColumn.{MpslpColumn}
+use Rattle.mpslp_c.specs.declared.arrays.MpslpElement.{MpslpElement}
+use Rattle.mpslp_c.specs.declared.arrays.MpslpModel.{MpslpModel}
+use Rattle.mpslp_c.specs.declared.faults.ItemFault.{ItemFault}
+use Rattle.mpslp_c.specs.declared.faults.TheConstants.{AT_COLUMN, AT_ELEMENT}
+use Rattle.mpslp_c.specs.declared.faults.StoreFault.{StoreFault}
+use Rattle.mpslp_c.specs.declared.faults.StoreFault.TheVariants as stored
+
+-- ---- values, or their errors
+
+pub steps_given : {X : Type 0} (given : Result X FaultKind) (value : X) (steps : X → List Step) → given ≡ Ok value → steps_with given steps ≡ steps value
+steps_given {X} given value steps h = ap (λ (r : Result X FaultKind). steps_with r steps) h
+
+pub fault_given : {X : Type 0} (given : Result X FaultKind) (error : LineError) (steps : X → List Step) (old new : Draft)
+    → IsFaultGiven given error → TakesSteps (steps_with given steps) old new (Err error)
+fault_given {X} given (Fault kind) steps old new h = ap (λ (r : Result X FaultKind). first_kind old (steps_with r steps)) h
+fault_given given OutOfMemory steps old new h = absurd h
+
+-- ---- a call of the builder that is a step
+
+-- what is true of steps is true of equal ones
+pub steps_are : (steps others : List Step) (old new : Draft) (answer : Result (Unit {0}) LineError) → steps ≡ others → TakesSteps others old new answer → TakesSteps steps old new answer
+steps_are steps others old new answer h taken = subst (λ (s : List Step). TakesSteps s old new answer) (sym h) taken
+
+none_of : (faults : List BuildFault) (P Q : Type 0) → Answers faults (Ok tt) P Q → (head_of (map kind_of_build_fault faults) ≡ None) × P
+none_of [] P Q h = (refl, h)
+none_of (fault ∷ more) P Q h = let no : ⊥ = bad fault h.0 in absurd no
+  where
+    bad : (f : BuildFault) → ◌≡◌ {A = Answer} (Ok tt) (Err f) → ⊥
+    bad f e = cc
+
+kinded : (fault : BuildFault) → (error_of_build fault ≡ Fault (kind_of_build_fault fault)) ⊎ (error_of_build fault ≡ OutOfMemory)
+kinded builds.DuplicateSense = inl refl
+kinded builds.SecondObjective = inl refl
+kinded builds.UnknownRow = inl refl
+kinded builds.UnknownColumn = inl refl
+kinded builds.DuplicateRow = inl refl
+kinded builds.DuplicateEntry = inl refl
+kinded builds.DuplicateRhs = inl refl
+kinded builds.DuplicateRange = inl refl
+kinded builds.DuplicateBound = inl refl
+kinded builds.RangeOnFree = inl refl
+kinded builds.SemiContinuous = inl refl
+kinded builds.InfiniteValue = inl refl
+kinded builds.OutOfMemory = inr refl
+
+first_of_step : (old : Draft) (step : Step) (more : List Step) (kind : FaultKind) → head_of (step_faults old step) ≡ Some kind → first_kind old (step ∷ more) ≡ Some kind
+first_of_step old step more kind h = ap (λ (o : Option FaultKind). or_else o (first_kind (with_declarations old (step_declared step)) more)) h
+
+-- a step that was rejected
+pub step_refused : (step : Step) (more : List Step) (old new : Draft) (faults : List BuildFault) (fault : BuildFault) (P Q : Type 0) → step_faults old step ≡ map kind_of_build_fault faults
+    → Answers faults (Err fault) P Q → TakesSteps (step ∷ more) old new (Err (error_of_build fault))
+step_refused step more old new [] fault P Q are answered =
+    subst (λ (e : LineError). TakesSteps (step ∷ more) old new (Err e)) (sym (ap error_of_build answered.0)) tt
+step_refused step more old new (first ∷ later) fault P Q are answered =
+    let same : fault ≡ first = err_same answered.0 in
+    let told : head_of (step_faults old step) ≡ Some (kind_of_build_fault fault) = ap head_of are ∙ ap (λ (f : BuildFault). Some (kind_of_build_fault f)) (sym same) in
+    elim (kinded fault) as (λ _. TakesSteps (step ∷ more) old new (Err (error_of_build fault))) [
+      | inl is ↦ subst (λ (e : LineError). TakesSteps (step ∷ more) old new (Err e)) (sym is) (first_of_step old step more (kind_of_build_fault fault) told)
+      | inr is ↦ subst (λ (e : LineError). TakesSteps (step ∷ more) old new (Err e)) (sym is) tt
+    ]
+  where
+    err_same : {f g : BuildFault} → ◌≡◌ {A = Answer} (Err f) (Err g) → f ≡ g
+    err_same e = cc
+
+-- the error of a call is returned
+pub call_err : (step : Step) (more : List Step) (old new : Draft) (answer : Result (Unit {0}) LineError) (faults : List BuildFault) (fault : BuildFault) (P Q : Type 0)
+    → step_faults old step ≡ map kind_of_build_fault faults → Answers faults (Err fault) P Q → IsErrAnd answer (λ e. e ≡ error_of_build fault) → TakesSteps (step ∷ more) old new answer
+call_err step more old new (Ok _) faults fault P Q are answered told = absurd told
+call_err step more old new (Err error) faults fault P Q are answered told =
+    subst (λ (e : LineError). TakesSteps (step ∷ more) old new (Err e)) (sym told) (step_refused step more old new faults fault P Q are answered)
+
+-- steps after one that was taken
+pub step_then : (step : Step) (more : List Step) (old mid new : Draft) (answer : Result (Unit {0}) LineError) → head_of (step_faults old step) ≡ None
+    → mid ≡ with_declarations old (step_declared step) → TakesSteps more mid new answer → TakesSteps (step ∷ more) old new answer
+step_then step more old mid new (Ok _) none declared taken = (
+  ap (λ (o : Option FaultKind). or_else o (first_kind (with_declarations old (step_declared step)) more)) none ∙ ap (λ (d : Draft). first_kind d more) (sym declared) ∙ taken.0,
+  taken.1 ∙ ap (λ (d : Draft). after_steps d more) declared,
+)
+step_then step more old mid new (Err (Fault kind)) none declared taken =
+    ap (λ (o : Option FaultKind). or_else o (first_kind (with_declarations old (step_declared step)) more)) none ∙ ap (λ (d : Draft). first_kind d more) (sym declared) ∙ taken
+step_then step more old mid new (Err OutOfMemory) none declared taken = tt
+
+-- the same, of a call of the builder
+pub call_then : (step : Step) (more : List Step) (old mid new : Draft) (answer : Result (Unit {0}) LineError) (faults : List BuildFault) (Q : Type 0)
+    → step_faults old step ≡ map kind_of_build_fault faults → Answers faults (Ok tt) (mid ≡ with_declarations old (step_declared step)) Q
+    → TakesSteps more mid new answer → TakesSteps (step ∷ more) old new answer
+call_then step more old mid new answer faults Q are answered taken =
+    let n = none_of faults (mid ≡ with_declarations old (step_declared step)) Q answered in
+    step_then step more old mid new answer (ap head_of are ∙ n.0) n.1 taken
+
+pub no_steps : (old : Draft) → TakesSteps [] old old (Ok tt)
+no_steps old = (refl, refl)
+
+-- ---- items
+
+-- what was declared so far, and what the rest of the items comes to, is what all of them come to
+pub record Leads (all : List Item) (old : Draft) (rest : List Item) (now : Draft) : Type 0 where
+  pub fault : first_item_fault old all ≡ first_item_fault now rest
+  pub after : after_items old all ≡ after_items now rest
+
+pub leads_all : (all : List Item) (old : Draft) → Leads all old all old
+leads_all all old = record { fault = refl; after = refl }
+
+pub leads_is : {all rest others : List Item} {old now : Draft} → rest ≡ others → Leads all old rest now → Leads all old others now
+leads_is {all} {rest} {others} {old} {now} h l = subst (λ (r : List Item). Leads all old r now) h l
+
+fault_append : (xs ys : List Item) (all : Draft) → first_item_fault all xs ≡ None → first_item_fault all (xs ++ ys) ≡ first_item_fault (after_items all xs) ys
+fault_append [] ys all h = refl
+fault_append (x ∷ xs) ys all h =
+    elim (first_kind all x.steps) as (λ o. option_map_or (λ kind. Some (item_fault x kind)) o (first_item_fault (after_steps all x.steps) xs) ≡ None
+    → option_map_or (λ kind. Some (item_fault x kind)) o (first_item_fault (after_steps all x.steps) (xs ++ ys)) ≡ first_item_fault (after_items (after_steps all x.steps) xs) ys) [
+      | None ↦ λ later. fault_append xs ys (after_steps all x.steps) later
+      | Some kind ↦ λ bad. let no : ⊥ = some_none bad in absurd no
+    ] h
+  where
+    some_none : {f : ItemFault} → ◌≡◌ {A = Option ItemFault} (Some f) None → ⊥
+    some_none e = cc
+
+fault_first : (xs ys : List Item) (all : Draft) (fault : ItemFault) → first_item_fault all xs ≡ Some fault → first_item_fault all (xs ++ ys) ≡ Some fault
+fault_first [] ys all fault h = let no : ⊥ = cc in absurd no
+fault_first (x ∷ xs) ys all fault h =
+    elim (first_kind all x.steps) as (λ o. option_map_or (λ kind. Some (item_fault x kind)) o (first_item_fault (after_steps all x.steps) xs) ≡ Some fault
+    → option_map_or (λ kind. Some (item_fault x kind)) o (first_item_fault (after_steps all x.steps) (xs ++ ys)) ≡ Some fault) [
+      | None ↦ λ later. fault_first xs ys (after_steps all x.steps) fault later
+      | Some kind ↦ λ here. here
+    ] h
+
+pub after_append : (xs ys : List Item) (all : Draft) → after_items all (xs ++ ys) ≡ after_items (after_items all xs) ys
+after_append [] ys all = refl
+after_append (x ∷ xs) ys all = after_append xs ys (after_steps all x.steps)
+
+-- items that were taken
+pub leads_then : (all xs ys : List Item) (old now new : Draft) → Leads all old (xs ++ ys) now → TakesItems xs now new (Ok tt) → Leads all old ys new
+leads_then all xs ys old now new l taken = record {
+  fault = l.fault ∙ fault_append xs ys now taken.0 ∙ ap (λ (d : Draft). first_item_fault d ys) (sym taken.1);
+  after = l.after ∙ after_append xs ys now ∙ ap (λ (d : Draft). after_items d ys) (sym taken.1);
+}
+
+-- one that was not
+pub leads_err : (all xs ys : List Item) (old now new later : Draft) (why : StoreFault) → Leads all old (xs ++ ys) now → TakesItems xs now new (Err why) → TakesItems all old later (Err why)
+leads_err all xs ys old now new later (stored.Item fault) l taken = l.fault ∙ fault_first xs ys now fault taken
+leads_err all xs ys old now new later (stored.Whole fault) l taken = taken
+leads_err all xs ys old now new later (stored.NotLp place) l taken = taken
+leads_err all xs ys old now new later stored.OutOfMemory l taken = tt
+
+-- its error is returned
+pub leads_told : (all xs ys : List Item) (old now new later : Draft) (why : StoreFault) (answer : Result (Unit {0}) StoreFault) → Leads all old (xs ++ ys) now → TakesItems xs now new (Err why)
+    → IsErrAnd answer (λ e. e ≡ why) → TakesItems all old later answer
+leads_told all xs ys old now new later why (Ok _) l taken told = absurd told
+leads_told all xs ys old now new later why (Err e) l taken told = subst (λ (w : StoreFault). TakesItems all old later (Err w)) (sym told) (leads_err all xs ys old now new later why l taken)
+
+-- the end
+pub leads_end : {all : List Item} {old new : Draft} → Leads all old [] new → TakesItems all old new (Ok tt)
+leads_end l = (l.fault, sym l.after)
+
+-- what is left
+pub leads_last : (all xs : List Item) (old now new : Draft) (answer : Result (Unit {0}) StoreFault) → Leads all old xs now → TakesItems xs now new answer → TakesItems all old new answer
+leads_last all xs old now new (Ok _) l taken = (l.fault ∙ taken.0, taken.1 ∙ sym l.after)
+leads_last all xs old now new (Err (stored.Item fault)) l taken = l.fault ∙ taken
+leads_last all xs old now new (Err (stored.Whole fault)) l taken = taken
+leads_last all xs old now new (Err (stored.NotLp place)) l taken = taken
+leads_last all xs old now new (Err stored.OutOfMemory) l taken = tt
+
+-- one item by its steps
+pub one_item : (item : Item) (old new : Draft) (answer : Result (Unit {0}) LineError) → TakesSteps item.steps old new answer → TakesItems (item ∷ []) old new (placed item.place item.number answer)
+one_item item old new (Ok _) taken = (ap (λ (o : Option FaultKind). option_map_or (λ kind. Some (item_fault item kind)) o None) taken.0, taken.1)
+one_item item old new (Err (Fault kind)) taken = ap (λ (o : Option FaultKind). option_map_or (λ kind. Some (item_fault item kind)) o None) taken
+one_item item old new (Err OutOfMemory) taken = tt
+
+-- ---- lists by their indices
+
+pub drop_next : {X : Type 0} (xs : List X) (i : ℕ) (x : X) → slice_get xs i ≡ Some x → drop i xs ≡ x ∷ drop (suc i) xs
+drop_next [] i x h = let no : ⊥ = cc in absurd no
+drop_next {X} (y ∷ xs) zero x h = let same : y ≡ x = cc in (λ j. same j ∷ whole xs j)
+  where
+    whole : (zs : List X) → zs ≡ drop 0 zs
+    whole [] = refl
+    whole (z ∷ zs) = refl
+drop_next (y ∷ xs) (suc i) x h = drop_next xs i x h
+
+pub drop_end : {X : Type 0} (xs : List X) → drop (length xs) xs ≡ []
+drop_end [] = refl
+drop_end (x ∷ xs) = drop_end xs
+
+pub drop_start : {X : Type 0} (xs : List X) → drop 0 xs ≡ xs
+drop_start [] = refl
+drop_start (x ∷ xs) = refl
+
+pub range_next : {X : Type 0} (xs : List X) (k end : ℕ) (x : X) → k < end → slice_get xs k ≡ Some x → slice_range xs k end ≡ x ∷ slice_range xs (suc k) end
+range_next {X} xs k end x below h =
+    let more : end - k ≡ suc (end - suc k) = omega (arith, below) in
+    (λ i. take (more i) (drop_next xs k x h i))
+
+pub range_end : {X : Type 0} (xs : List X) (end : ℕ) → slice_range xs end end ≡ []
+range_end {X} xs end = let none : end - end ≡ 0 = omega arith in ap (λ (n : ℕ). take n (drop end xs)) none ∙ nothing (drop end xs)
+  where
+    nothing : (zs : List X) → take 0 zs ≡ []
+    nothing [] = refl
+    nothing (z ∷ zs) = refl
+
+-- ---- the steps of items whose values are given
+
+pub objective_taken : (told : MpslpModel) (name : List ℕ) (constant : Number) → name_given told.names.now told.objective ≡ Ok name → number_given told.constant ≡ Ok constant
+    → objective_steps told ≡ declares (declare_objective name) ∷ declares (declare_constant constant) ∷ sense_steps told.sense
+objective_taken told name constant h k =
+    (λ i. steps_with (h i) (λ name. steps_with (k i) (λ constant. declares (declare_objective name) ∷ declares (declare_constant constant) ∷ sense_steps told.sense)))
+
+pub row_taken : (all : List ℕ) (row : MpslpRow) (name : List ℕ) (lower upper : Limit) → name_given all row.name ≡ Ok name → limit_given row.lower ≡ Ok lower → limit_given row.upper ≡ Ok upper
+    → row_steps all row ≡ declares (declare_row name (by_limits lower upper)) ∷ []
+row_taken all row name lower upper h k l =
+    (λ i. steps_with (h i) (λ name. steps_with (k i) (λ lower. steps_with (l i) (λ upper. declares (declare_row name (by_limits lower upper)) ∷ []))))
+
+pub column_taken : (all objective : List ℕ) (column : MpslpColumn) (name : List ℕ) (lower upper : Limit) (cost : Number)
+    → name_given all column.name ≡ Ok name → limit_given column.lower ≡ Ok lower → limit_given column.upper ≡ Ok upper → number_given column.cost ≡ Ok cost
+    → column_steps all objective column ≡ declares (declare_column name) ∷ bounds name lower upper ∷ declares (declare_coefficient (record { row = objective; column = name }) cost) ∷ kind_steps name column.kind
+column_taken all objective column name lower upper cost h k l m =
+    (λ i. steps_with (h i) (λ name. steps_with (k i) (λ lower. steps_with (l i) (λ upper. steps_with (m i) (λ cost.
+    declares (declare_column name) ∷ bounds name lower upper ∷ declares (declare_coefficient (record { row = objective; column = name }) cost) ∷ kind_steps name column.kind)))))
+
+pub element_taken : (all column : List ℕ) (found : Option MpslpRow) (row : MpslpRow) (element : MpslpElement) (value : Number) → found ≡ Some row → number_given element.value ≡ Ok value
+    → element_steps all column found element ≡ declares (declare_coefficient (record { row = bytes_at all row.name; column = column }) value) ∷ []
+element_taken all column found row element value h k =
+    ap (λ (o : Option MpslpRow). element_steps all column o element) h
+    ∙ (λ i. steps_with (k i) (λ value. declares (declare_coefficient (record { row = bytes_at all row.name; column = column }) value) ∷ []))
+
+-- a name that is given is legal
+legal_by : (fits : Bool) (refusal : Option NameFault) (bytes name : List ℕ)
+    → (if fits then option_map_or (λ fault. Err (kind_of_name_fault fault)) refusal (Ok bytes) else Err NameLength) ≡ Ok name → (refusal ≡ None) × (bytes ≡ name)
+legal_by true None bytes name h = let same : bytes ≡ name = cc in (refl, same)
+legal_by true (Some fault) bytes name h = let no : ⊥ = cc in absurd no
+legal_by false refusal bytes name h = let no : ⊥ = cc in absurd no
+
+-- so a name is made of its bytes, unless an allocation fails
+pub name_made : (all : List ℕ) (told : MpslpName) (name made : List ℕ) → name_given all told ≡ Ok name → IfNone (name_refusal name) (made ≡ name) → made ≡ name
+name_made all told name made h taken =
+    let legal = legal_by (nat_le (told.at + told.len) (length all)) (name_refusal (bytes_at all told)) (bytes_at all told) name h in
+    let none : name_refusal name ≡ None = ap name_refusal (sym legal.1) ∙ legal.0 in
+    subst (λ (o : Option NameFault). IfNone o (made ≡ name)) none taken
+
+pub given_bytes : (all : List ℕ) (told : MpslpName) (name : List ℕ) → name_given all told ≡ Ok name → bytes_at all told ≡ name
+given_bytes all told name h = (legal_by (nat_le (told.at + told.len) (length all)) (name_refusal (bytes_at all told)) (bytes_at all told) name h).1
+
+-- ---- the items from an index on
+
+-- what stands for an element or a column that is not there
+abbrev no_number : MpslpNumber
+no_number = record { low = 0; high = pos 0; exponent = pos 0; infinity = pos 0 }
+
+abbrev pub element_at : List MpslpElement → ℕ → MpslpElement
+element_at elements k = get_or elements k (record { row = 0; value = no_number })
+
+abbrev pub column_at : List MpslpColumn → ℕ → MpslpColumn
+column_at columns j =
+    get_or columns j (record { name = record { at = 0; len = 0 }; lower = no_number; upper = no_number; cost = no_number; first = 0; kind = 0 })
+
+abbrev pub element_item : List ℕ → List MpslpRow → List ℕ → ℕ → MpslpElement → Item
+element_item all rows column k element = record { place = AT_ELEMENT; number = k; steps = element_steps all column (slice_get rows element.row) element }
+
+abbrev pub column_item : List ℕ → List ℕ → ℕ → MpslpColumn → Item
+column_item all objective j column = record { place = AT_COLUMN; number = j; steps = column_steps all objective column }
+
+get_or_same : {X : Type 0} (xs : List X) (i : ℕ) (d : X) → i < length xs → get_or xs i (get_or xs i d) ≡ get_or xs i d
+get_or_same [] i d h = absurd (omega arith)
+get_or_same (x ∷ xs) zero d h = refl
+get_or_same (x ∷ xs) (suc i) d h = get_or_same xs i d (omega (arith, h))
+
+pub element_lead : (all : List ℕ) (rows : List MpslpRow) (column : List ℕ) (elements : List MpslpElement) (k end : ℕ) → k < end → end ≤ length elements
+    → element_items all rows column k (slice_range elements k end)
+    ≡ (element_item all rows column k (element_at elements k) ∷ [])
+    ++ element_items all rows column (k + 1) (slice_range elements (k + 1) end)
+element_lead all rows column elements k end below within =
+    let element = element_at elements k in
+    let there : slice_get elements k ≡ Some element = slice_get-get_or elements k element (omega (arith, below, within)) ∙ ap Some (get_or_same elements k _ (omega (arith, below, within))) in
+    ap (λ (es : List MpslpElement). element_items all rows column k es) (range_next elements k end element below there)
+    ∙ (λ i. record { place = AT_ELEMENT; number = k; steps = element_steps all column (slice_get rows element.row) element }
+    ∷ element_items all rows column (sym (add-one k) i) (slice_range elements (sym (add-one k) i) end))
+
+pub column_lead : (all objective : List ℕ) (rows : List MpslpRow) (elements : List MpslpElement) (columns : List MpslpColumn) (j : ℕ) → j < length columns
+    → column_items all objective rows elements j (drop j columns)
+    ≡ (column_item all objective j (column_at columns j) ∷ [])
+    ++ (own_items all rows elements j (column_at columns j) (elements_end (drop (j + 1) columns) (length elements))
+    ++ column_items all objective rows elements (j + 1) (drop (j + 1) columns))
+column_lead all objective rows elements columns j below =
+    let column = column_at columns j in
+    let there : slice_get columns j ≡ Some column = slice_get-get_or columns j column below ∙ ap Some (get_or_same columns j _ below) in
+    ap (λ (cs : List MpslpColumn). column_items all objective rows elements j cs) (drop_next columns j column there)
+    ∙ (λ i. record { place = AT_COLUMN; number = j; steps = column_steps all objective column }
+    ∷ (own_items all rows elements j column (elements_end (drop (sym (add-one j) i) columns) (length elements))
+    ++ column_items all objective rows elements (sym (add-one j) i) (drop (sym (add-one j) i) columns)))

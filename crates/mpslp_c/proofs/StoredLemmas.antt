@@ -1,0 +1,45 @@
+-- The result for arrays: they define a model, or have an error, and never both.
+use Rattle.std.proofs.Common.{◌≡◌, sym, ap, ◌∙◌, subst, ◌⊎◌, inl, inr, None, Some, Option, Result, Ok, Err}
+use Rattle.std.specs.Prelude.{IsErrAnd, IsOkUnless, is_some}
+use Rattle.mpslp_model_core.specs.Model.{LinearModel}
+use Rattle.mpslp_types.specs.declared.faults.Fault.{Fault}
+use Rattle.mpslp_builder.specs.Declaration.{Draft, empty_draft}
+use Rattle.mpslp_builder.specs.Made.{IsMade}
+use Rattle.mpslp_builder.specs.Meaning.{file_fault, DraftMeans}
+use Rattle.mpslp_builder.proofs.MadeDrafts.{no_fault-from_made}
+use Rattle.mpslp_c.specs.Answers.{TakesItems, HasFault}
+use Rattle.mpslp_c.specs.Stored.{items, first_item_fault, after_items, Defines}
+use Rattle.mpslp_c.specs.declared.arrays.MpslpModel.{MpslpModel}
+use Rattle.mpslp_c.specs.declared.faults.ItemFault.{ItemFault}
+use Rattle.mpslp_c.specs.declared.faults.StoreFault.{StoreFault}
+use Rattle.mpslp_c.specs.declared.faults.StoreFault.TheVariants as stored
+use Rattle.mpslp_c.proofs.DefinesLemmas.{objective-declared, defines-from_none, none-from_defines, meant-from_defines}
+use Rattle.mpslp_c.proofs.KnownLemmas.{items-known}
+
+pub some_none : {X : Type 0} (o : Option X) (x : X) → o ≡ None → o ≡ Some x → ⊥
+some_none {X} o x h k = let no : ◌≡◌ {A = Option X} None (Some x) = sym h ∙ k in cc
+
+pub same_some : {X : Type 0} {x y : X} → ◌≡◌ {A = Option X} (Some x) (Some y) → x ≡ y
+same_some h = cc
+
+-- arrays that define a model have no item with an error
+pub no_item : (told : MpslpModel) (m : LinearModel) → Defines told m → first_item_fault empty_draft (items told) ≡ None
+no_item told m defines = none-from_defines told m (items-known told m defines) defines
+
+-- nor an error of the whole
+pub no_whole : (told : MpslpModel) (m : LinearModel) (all : Draft) → Defines told m → all ≡ after_items empty_draft (items told) → IsMade all → file_fault all ≡ None
+no_whole told m all defines is made =
+    no_fault-from_made all m made (ap (λ (d : Draft). is_some d.objective) is ∙ objective-declared told (no_item told m defines))
+    (subst (λ (d : Draft). DraftMeans d m) (sym is) (meant-from_defines told m defines))
+
+pub no_fault : (told : MpslpModel) (m : LinearModel) (all : Draft) (fault : Fault) → Defines told m → all ≡ after_items empty_draft (items told) → IsMade all → file_fault all ≡ Some fault → ⊥
+no_fault told m all fault defines is made h = some_none (file_fault all) fault (no_whole told m all defines is made) h
+
+-- items that were not all taken
+pub not_taken : (told : MpslpModel) (m : LinearModel) (new : Draft) (why : StoreFault) (answer : Result LinearModel StoreFault) → TakesItems (items told) empty_draft new (Err why) → Defines told m
+    → IsErrAnd answer (λ e. e ≡ why) → IsOkUnless answer stored.OutOfMemory
+not_taken told m new why (Ok n) taken defines handed = absurd handed
+not_taken told m new (stored.Item fault) (Err e) taken defines handed = absurd (some_none (first_item_fault empty_draft (items told)) fault (no_item told m defines) taken)
+not_taken told m new (stored.Whole fault) (Err e) taken defines handed = absurd taken
+not_taken told m new (stored.NotLp place) (Err e) taken defines handed = absurd taken
+not_taken told m new stored.OutOfMemory (Err e) taken defines handed = handed
