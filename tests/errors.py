@@ -19,6 +19,11 @@ SOURCE = ROOT / "docs" / "errors.tsv"
 PAGE = ROOT / "docs" / "ERRORS.md"
 MANUAL = ROOT / "docs" / "mpslp.1"
 TABLE_HEAD = "| kind | cause | fix | example |\n|---|---|---|---|\n"
+MANUAL_INTRODUCTION = (
+    "The kind of an error, its usual causes, and what to do.",
+    "If the error is in the last line of the file, whatever its kind, the file is probably truncated.",
+    "In LP, an error may be reported in a line after the mistake, since line breaks have no meaning there.",
+)
 
 
 class Cause(NamedTuple):
@@ -94,7 +99,7 @@ def roff(text):
 
 def manual():
     """The section of the manual page."""
-    lines, last = [".SH DIAGNOSTICS\n", "The kind of an error, its usual causes, and what to do.\n"], ("", "")
+    lines, last = [".SH DIAGNOSTICS\n", *(f"{line}\n" for line in MANUAL_INTRODUCTION)], ("", "")
     for cause in causes():
         if (cause.kind, cause.cause) != last:
             lines.append(f".TP\n.B {cause.kind}\n" if cause.kind != last[0] else ".br\n")
