@@ -31,7 +31,7 @@ use Rattle.mpslp_builder.proofs.RefusalLemmas.{first_none, rest_none}
 use Rattle.mpslp_types.proofs.BoolLemmas.{either, nor}
 use Rattle.mpslp_builder.proofs.PutOrderLemmas.{put-again}
 use Rattle.mpslp_builder.proofs.SortedDrafts.{bytes_total, tied_names}
-use Rattle.mpslp_builder.proofs.MadeDrafts.{made-with_declaration, made-bounds, good-from_made}
+use Rattle.mpslp_builder.proofs.MadeDrafts.{is_free_rhs, made-with_declaration, made-bounds, good-from_made}
 
 pub none_refused : (faults : List BuildFault) → Ok tt ≡ first_refusal faults → faults ≡ []
 none_refused [] h = refl
@@ -47,6 +47,11 @@ pub handed_on : (faults : List BuildFault) (answer : Answer) (fault : BuildFault
     → IsErrAnd answer (λ told. told ≡ fault) → Err fault ≡ first_refusal faults → Q → Answers faults answer P Q
 handed_on faults (Ok x) fault P Q told first q = absurd told
 handed_on faults (Err e) fault P Q told first q = first_answered faults e P Q (cc) q
+
+-- if there is no error, none is returned
+pub none_told : {X : Type 0} (faults : List BuildFault) (fault : BuildFault) → faults ≡ [] → Err fault ≡ first_refusal faults → X
+none_told [] fault none told = absurd cc
+none_told (first ∷ later) fault none told = absurd cc
 
 -- there is no error, and the declaration is made
 pub declared : (faults : List BuildFault) (P Q : Type 0) → faults ≡ [] → P → Answers faults (Ok tt) P Q
@@ -66,12 +71,12 @@ want_of_memory faults (Err e) P Q told none q = subst (λ (t : BuildFault). Answ
 -- ---- what is known if a call has no error
 
 -- one more declaration is made
-pub made_next : {inner all : Draft} (d : Declaration) → inner ≡ all → IsMade inner → is_legal d ≡ true → refusals all d ≡ [] → IsMade (with_declaration inner d)
-made_next {inner} {all} d seen made legal none = made-with_declaration inner d made legal (ap (λ (before : Draft). refusals before d) seen ∙ none)
+pub made_next : {inner all : Draft} (d : Declaration) → inner ≡ all → IsMade inner → is_legal d ≡ true → refusals all d ≡ [] → is_free_rhs inner d ≡ false → IsMade (with_declaration inner d)
+made_next {inner} {all} d seen made legal none limited = made-with_declaration inner d made legal (ap (λ (before : Draft). refusals before d) seen ∙ none) limited
 
 -- a draft that equals one with one more declaration is made too
-pub made_after : {inner later : Draft} (d : Declaration) → later ≡ with_declaration inner d → IsMade inner → is_legal d ≡ true → refusals inner d ≡ [] → IsMade later
-made_after d after made legal none = subst IsMade (sym after) (made_next d refl made legal none)
+pub made_after : {inner later : Draft} (d : Declaration) → later ≡ with_declaration inner d → IsMade inner → is_legal d ≡ true → refusals inner d ≡ [] → is_free_rhs inner d ≡ false → IsMade later
+made_after d after made legal none limited = subst IsMade (sym after) (made_next d refl made legal none limited)
 
 -- which proves the contract of the call
 pub answered : {inner all later : Draft} (d : Declaration) → inner ≡ all → later ≡ with_declaration inner d → refusals inner d ≡ [] → Answers (refusals all d) (Ok tt) (later ≡ with_declaration all d) (later ≡ all)

@@ -1,11 +1,11 @@
 -- A result that meets the contract of `finish` is the model that the declarations mean.
 use Rattle.std.proofs.Common.{◌≡◌, refl, sym, subst, ◌∙◌, true}
-use Rattle.std.specs.Prelude.{IsTrue, Option, Some, None, is_some, Result, Ok, Err, IfOk, MatchResult}
+use Rattle.std.specs.Prelude.{Some, None, is_some, Result, Ok, Err, IfOk, MatchResult}
 use Rattle.mpslp_model_core.specs.Model.{LinearModel}
 use Rattle.mpslp_types.specs.declared.faults.Fault.{Fault}
 use Rattle.mpslp_types.specs.declared.faults.ReadFault.{ReadFault}
 use Rattle.mpslp_types.specs.declared.faults.ReadFault.TheVariants.{File, Failed, OutOfMemory}
-use Rattle.mpslp_builder.specs.Declaration.{Declarations, Draft, draft_of}
+use Rattle.mpslp_builder.specs.Declaration.{Draft}
 use Rattle.mpslp_builder.specs.Finish.{Finishes}
 use Rattle.mpslp_builder.specs.Made.{IsMade}
 use Rattle.mpslp_builder.specs.Meaning.{file_fault, DraftMeans, Means}

@@ -6,20 +6,22 @@ use Rattle.std.specs.List.{list_all}
 use Rattle.std.specs.Option.{option_map_or}
 use Rattle.std.proofs.lemmas.List.{append-nil, append_assoc}
 use Rattle.std.proofs.lemmas.List.Folds.{list_all-append}
-use Rattle.mpslp_decimal.specs.Decimal.{Number, is_decimal}
+use Rattle.mpslp_decimal.specs.Decimal.{Number}
 use Rattle.mpslp_model_core.specs.Model.{LinearModel}
-use Rattle.mpslp_builder.specs.Declaration.{Declaration, declare_objective, declare_rhs, declare_lower, declare_upper, Declarations, Draft, empty_draft, with_declaration, with_declarations, draft_of, has_name, has_column, is_free_row, rhs_declared, bounds_declared}
+use Rattle.mpslp_builder.specs.Declaration.{RowDefinition, by_type, by_limits, Declaration, declare_objective, declare_row, declare_rhs, declare_lower, declare_upper, Declarations, Draft, empty_draft, with_declaration, with_declarations, draft_of, at_name, has_name, has_row, has_column, is_objective, is_free_definition, is_free_row, is_row_by_limits, is_definition_by_limits, have_infinite_side, bounds_declared}
+use Rattle.mpslp_types.specs.Name.{same_bytes}
 use Rattle.mpslp_types.specs.Limit.{is_plus_infinite, is_minus_infinite, is_given}
 use Rattle.mpslp_builder.specs.Consistency.{has_objective, AreConsistent}
 use Rattle.mpslp_model_core.specs.Lists.{those_of}
 use Rattle.mpslp_builder.specs.Refusal.{refusals, refusals_in_turn, bounds_refusals}
-use Rattle.mpslp_builder.specs.Made.{is_legal, IsMade}
+use Rattle.mpslp_builder.specs.Made.{is_legal, HasNoFreeRhs, IsMade}
 use Rattle.mpslp_builder.specs.Meaning.{model_of, file_fault, DraftMeans}
 use Rattle.mpslp_types.specs.declared.kinds.Limit.{Limit}
 use Rattle.mpslp_types.specs.declared.faults.BuildFault.{BuildFault}
-use Rattle.mpslp_types.specs.declared.faults.BuildFault.TheVariants.{UnknownColumn, DuplicateBound, InfiniteValue}
-use Rattle.mpslp_types.proofs.BoolLemmas.{both_so, nor}
-use Rattle.mpslp_builder.proofs.RefusalLemmas.{HasDeclaredNames, first_none, rest_none, pass, join_none, empty_declared_names, empty_kinds_apart, none-fine, consistent-from_none}
+use Rattle.mpslp_types.specs.declared.faults.BuildFault.TheVariants.{UnknownRow, UnknownColumn, DuplicateRow, DuplicateRhs, DuplicateBound, InfiniteValue}
+use Rattle.mpslp_types.proofs.BoolLemmas.{both_so, or_right, back, nor, both_false}
+use Rattle.mpslp_builder.proofs.RefusalLemmas.{HasDeclaredNames, not_both, first_none, rest_none, pass, join_none, empty_declared_names, empty_kinds_apart, none-fine, consistent-from_none}
+use Rattle.mpslp_builder.proofs.SlotLemmas.{at-put, has-put, same_name}
 use Rattle.mpslp_builder.proofs.DraftEntries.{IsGood, good-with_declarations, empty_good}
 use Rattle.mpslp_builder.proofs.WellFormed.{IsWellFormed, well_formed-from_consistent}
 use Rattle.mpslp_builder.proofs.MeaningFromNoFault.{meant-from_no_fault}
@@ -39,36 +41,68 @@ refusals_in_turn-append (x ∷ xs) ys before =
     ap (λ (faults : List _). refusals before x ++ faults) (refusals_in_turn-append xs ys (with_declaration before x))
     ∙ sym (append_assoc (refusals before x) (refusals_in_turn (with_declaration before x) xs) (refusals_in_turn (with_declarations (with_declaration before x) xs) ys))
 
+-- ---- right-hand sides of rows of type N
+
+-- the right-hand side of a row of type N
+abbrev pub is_free_rhs : Draft → Declaration → Bool
+is_free_rhs all (declare_rhs row value) = is_free_row all row
+is_free_rhs all _ = false
+
+-- a new row, which has no right-hand side yet
+free_rhs-row : (all : Draft) (name : List ℕ) (definition : RowDefinition) → HasDeclaredNames all → has_row all name ≡ false → HasNoFreeRhs all
+    → HasNoFreeRhs (with_declaration all (declare_row name definition))
+free_rhs-row all name definition names new none = λ row free.
+    by row (same_bytes row name) refl (sym (ap (λ (o : Option RowDefinition). option_map_or is_free_definition o false) (at-put row name definition all.rows)) ∙ free)
+  where
+    by : (row : List ℕ) (same : Bool) → same_bytes row name ≡ same → option_map_or is_free_definition (cond same (Some definition) (at_name all.rows row)) false ≡ true
+        → has_name all.rhs_values row ≡ false
+    by row true same free = back (has_name all.rhs_values row) (has_row all row) (names.rhs_values row) (ap (has_row all) (same_name row name same) ∙ new)
+    by row false same free = none row free
+
+-- the right-hand side of another row
+free_rhs-side : (all : Draft) (name : List ℕ) (value : Number) → is_free_row all name ≡ false → HasNoFreeRhs all → HasNoFreeRhs (with_declaration all (declare_rhs name value))
+free_rhs-side all name value limited none = λ row free. has-put row name value all.rhs_values ∙ by row free (same_bytes row name) refl
+  where
+    by : (row : List ℕ) → is_free_row all row ≡ true → (same : Bool) → same_bytes row name ≡ same → (same || has_name all.rhs_values row) ≡ false
+    by row free true same = let limited' : is_free_row all row ≡ false = ap (is_free_row all) (same_name row name same) ∙ limited in cc
+    by row free false same = none row free
+
+free_rhs-kept : (all : Draft) (d : Declaration) → HasDeclaredNames all → refusals all d ≡ [] → is_free_rhs all d ≡ false → HasNoFreeRhs all → HasNoFreeRhs (with_declaration all d)
+free_rhs-kept all (declare_row name definition) names unrefused limited none =
+    free_rhs-row all name definition names (first_none (has_row all name) DuplicateRow ((have_infinite_side definition, InfiniteValue) ∷ []) unrefused) none
+free_rhs-kept all (declare_rhs name value) names unrefused limited none = free_rhs-side all name value limited none
+free_rhs-kept all _ names unrefused limited none = none
+
 -- ---- what makes a draft that a builder can hold
 
 -- a builder starts without declarations
 pub empty_made : IsMade empty_draft
-empty_made = record { declarations = []; legal = refl; unrefused = refl; draft = refl }
+empty_made = record { declarations = []; legal = refl; unrefused = refl; draft = refl; no_free_rhs = λ row free. refl }
+
+-- the names that it uses are declared
+pub declared_names-from_made : (all : Draft) → IsMade all → HasDeclaredNames all
+declared_names-from_made all made =
+    let fine = none-fine made.declarations empty_draft empty_declared_names empty_kinds_apart refl made.unrefused in
+    subst HasDeclaredNames (sym made.draft) fine.declared_names
 
 -- several legal declarations, none of them rejected
-pub made-with_declarations : (all : Draft) (more : Declarations) → IsMade all → list_all is_legal more ≡ true → refusals_in_turn all more ≡ []
-    → IsMade (with_declarations all more)
-made-with_declarations all more made legal unrefused = record {
+made-with_declarations : (all : Draft) (more : Declarations) → IsMade all → list_all is_legal more ≡ true → refusals_in_turn all more ≡ []
+    → HasNoFreeRhs (with_declarations all more) → IsMade (with_declarations all more)
+made-with_declarations all more made legal unrefused no_free_rhs = record {
   declarations = made.declarations ++ more;
   legal = list_all-append is_legal made.declarations more ∙ both_so (list_all is_legal made.declarations) (list_all is_legal more) made.legal legal;
   unrefused = refusals_in_turn-append made.declarations more empty_draft
       ∙ join_none (refusals_in_turn empty_draft made.declarations) (refusals_in_turn (draft_of made.declarations) more) made.unrefused
       (ap (λ (before : Draft). refusals_in_turn before more) (sym made.draft) ∙ unrefused);
   draft = ap (λ (before : Draft). with_declarations before more) made.draft ∙ sym (with_declarations-append made.declarations more empty_draft);
+  no_free_rhs = no_free_rhs;
 }
 
--- one legal declaration that is not rejected
-pub made-with_declaration : (all : Draft) (d : Declaration) → IsMade all → is_legal d ≡ true → refusals all d ≡ [] → IsMade (with_declaration all d)
-made-with_declaration all d made legal unrefused = made-with_declarations all (d ∷ []) made (both_so (is_legal d) true legal refl) (append-nil (refusals all d) ∙ unrefused)
-
--- a right-hand side, which declares nothing on a row of type N
-pub made-right_side : (all : Draft) (row : List ℕ) (value : Number) → IsMade all → is_decimal value ≡ true → refusals all (declare_rhs row value) ≡ []
-    → IsMade (with_declarations all (rhs_declared all row value))
-made-right_side all row value made legal unrefused =
-    elim (is_free_row all row) as (λ (free : Bool). IsMade (with_declarations all (cond free [] (declare_rhs row value ∷ [])))) [
-      | true ↦ made
-      | false ↦ made-with_declaration all (declare_rhs row value) made legal unrefused
-    ]
+-- one legal declaration that is not rejected and is no right-hand side of a row of type N
+pub made-with_declaration : (all : Draft) (d : Declaration) → IsMade all → is_legal d ≡ true → refusals all d ≡ [] → is_free_rhs all d ≡ false → IsMade (with_declaration all d)
+made-with_declaration all d made legal unrefused limited =
+    made-with_declarations all (d ∷ []) made (both_so (is_legal d) true legal refl) (append-nil (refusals all d) ∙ unrefused)
+    (free_rhs-kept all d (declared_names-from_made all made) unrefused limited made.no_free_rhs)
 
 -- the tests of a bound
 abbrev bound_tests : Bool → Bool → Bool → List (Bool × BuildFault)
@@ -121,7 +155,13 @@ legal_bounds column (Some l) (Some u) h k = both_so (is_given l) (is_given u && 
 pub made-bounds : (all : Draft) (column : List ℕ) (lower upper : Option Limit) → IsMade all → option_map_or is_given lower true ≡ true
     → option_map_or is_given upper true ≡ true → bounds_refusals all column lower upper ≡ [] → IsMade (with_declarations all (bounds_declared column lower upper))
 made-bounds all column lower upper made h k unrefused =
-    made-with_declarations all (bounds_declared column lower upper) made (legal_bounds column lower upper h k) (bounds-in_turn all column lower upper unrefused)
+    made-with_declarations all (bounds_declared column lower upper) made (legal_bounds column lower upper h k) (bounds-in_turn all column lower upper unrefused) (free_rhs-bounds lower upper)
+  where
+    free_rhs-bounds : (lower upper : Option Limit) → HasNoFreeRhs (with_declarations all (bounds_declared column lower upper))
+    free_rhs-bounds None None = made.no_free_rhs
+    free_rhs-bounds (Some l) None = made.no_free_rhs
+    free_rhs-bounds None (Some u) = made.no_free_rhs
+    free_rhs-bounds (Some l) (Some u) = made.no_free_rhs
 
 -- ---- properties of such a draft
 
@@ -131,17 +171,31 @@ objective-declared [] before none there = absurd cc
 objective-declared (declare_objective name ∷ more) before none there = refl
 objective-declared (d ∷ more) before none there = objective-declared more (with_declaration before d) none there
 
--- the names that it uses are declared
-pub declared_names-from_made : (all : Draft) → IsMade all → HasDeclaredNames all
-declared_names-from_made all made =
-    let fine = none-fine made.declarations empty_draft empty_declared_names empty_kinds_apart refl made.unrefused in
-    subst HasDeclaredNames (sym made.draft) fine.declared_names
-
 -- with an objective, its declarations are consistent
 pub consistent-from_made : (all : Draft) (made : IsMade all) → is_some all.objective ≡ true → AreConsistent made.declarations
 consistent-from_made all made there =
     consistent-from_none made.declarations
     (objective-declared made.declarations empty_draft refl (ap (λ (draft : Draft). is_some draft.objective) (sym made.draft) ∙ there)) made.unrefused
+
+-- a right-hand side of a row of type N is never rejected
+pub free_rhs-passes : (all : Draft) (row : List ℕ) (value : Number) → IsMade all → is_free_row all row ≡ true → refusals all (declare_rhs row value) ≡ []
+free_rhs-passes all row value made free =
+    let there = definition_there (at_name all.rows row) free in
+    let no_objective : is_objective all row ≡ false = not_both (is_objective all row) (has_name all.rows row) ((declared_names-from_made all made).apart row) there in
+    let filled = has_name all.rhs_values row || (is_row_by_limits all row || (is_objective all row && is_some all.constant)) in
+    pass (not (has_row all row)) UnknownRow ((filled, DuplicateRhs) ∷ []) (ap not (or_right (is_objective all row) (has_name all.rows row) there))
+    (pass filled DuplicateRhs [] (both_false (has_name all.rhs_values row) (is_row_by_limits all row || (is_objective all row && is_some all.constant)) (made.no_free_rhs row free)
+    (both_false (is_row_by_limits all row) (is_objective all row && is_some all.constant) (not_by_limits (at_name all.rows row) free)
+    (ap (λ (b : Bool). b && is_some all.constant) no_objective))) refl)
+  where
+    definition_there : (o : Option RowDefinition) → option_map_or is_free_definition o false ≡ true → is_some o ≡ true
+    definition_there None h = cc
+    definition_there (Some definition) h = refl
+
+    not_by_limits : (o : Option RowDefinition) → option_map_or is_free_definition o false ≡ true → option_map_or is_definition_by_limits o false ≡ false
+    not_by_limits None h = refl
+    not_by_limits (Some (by_type type)) h = refl
+    not_by_limits (Some (by_limits lower upper)) h = cc
 
 -- each entry of it is valid, also before the objective is named
 pub good-from_made : (all : Draft) → IsMade all → IsGood all all

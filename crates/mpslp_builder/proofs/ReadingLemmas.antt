@@ -18,7 +18,7 @@ use Rattle.mpslp_model_core.proofs.SortedLemmas.{find-sorted_of}
 use Rattle.mpslp_model_core.proofs.CellLemmas.{at, or_else, find-two}
 use Rattle.mpslp_builder.specs.Declaration.{at_name, has_name, has_coefficient, is_objective, is_free_row, is_row_by_limits, is_integer}
 use Rattle.mpslp_builder.specs.Consistency.{has_objective_rhs}
-use Rattle.mpslp_builder.specs.Tables.{bytes, definition_of, rhs_of, range_of, no_part, cells_of, as_part, name_of_objective, objective_rhs, draft, IsNumbered}
+use Rattle.mpslp_builder.specs.Tables.{bytes, definition_of, rhs_of, range_of, cells_of, as_part, name_of_objective, objective_rhs, draft, IsNumbered}
 use Rattle.mpslp_builder.specs.Calls.{row_key_of, row_name, row_tells, column_tells, cells_at, is_objective_ref, IsOnceEach}
 use Rattle.mpslp_builder_parts.specs.declared.parts.ObjectiveParts.{ObjectiveParts}
 use Rattle.mpslp_builder_parts.specs.declared.parts.RowParts.{RowParts}

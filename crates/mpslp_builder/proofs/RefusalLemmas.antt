@@ -288,7 +288,7 @@ pub join_none : {X : Type 0} (xs ys : List X) → xs ≡ [] → ys ≡ [] → xs
 join_none [] ys p q = q
 join_none (x ∷ xs) ys p q = cc
 
-not_both : (a b : Bool) → (a ≡ true → b ≡ false) → b ≡ true → a ≡ false
+pub not_both : (a b : Bool) → (a ≡ true → b ≡ false) → b ≡ true → a ≡ false
 not_both true b f h = cc_of (f refl) h
   where
     cc_of : {x : Bool} → x ≡ false → x ≡ true → true ≡ false

@@ -2,10 +2,10 @@
 
 mod finish;
 
-ghost use Rattle.std.specs.Prelude.{◌≡◌, IsTrue};
+ghost use Rattle.std.specs.Prelude.{◌≡◌, IsTrue, Ok};
 ghost use Rattle.std.specs.Option.{ForSome};
 ghost use Rattle.mpslp_types.specs.Limit.{is_given};
-ghost use Rattle.mpslp_builder.specs.Declaration.{empty_draft, with_declaration, with_declarations, declare_sense, declare_objective, declare_constant, declare_row, by_type, by_limits, declare_rhs, declare_range, declare_column, declare_coefficient, declare_marked, declare_integer, declare_binary, declare_semi, rhs_declared, bounds_declared};
+ghost use Rattle.mpslp_builder.specs.Declaration.{empty_draft, with_declaration, with_declarations, declare_sense, declare_objective, declare_constant, declare_row, by_type, by_limits, declare_rhs, declare_range, declare_column, declare_coefficient, declare_marked, declare_integer, declare_binary, declare_semi, is_free_row, rhs_declared, bounds_declared};
 ghost use Rattle.mpslp_builder.specs.Refusal.{refusals, bounds_refusals};
 ghost use Rattle.mpslp_builder.specs.Answer.{Answers, IsNotOutOfMemory};
 
@@ -144,7 +144,7 @@ impl Builder {
     }
 
     /// Declares the right-hand side of a row. For the objective it is the negated constant. For a row of type
-    /// [`Free`](RowType::Free) it declares nothing and may be repeated.
+    /// [`Free`](RowType::Free) it declares nothing, may be repeated, and is never rejected.
     ///
     /// # Errors
     ///
@@ -152,6 +152,7 @@ impl Builder {
     /// This call allocates nothing.
     pub fn rhs(&mut self, row: &[u8], value: Decimal) -> Result<(), BuildFault>
         ensures answers { Answers (refusals self.old (declare_rhs row.now value)) result (self.new ≡ with_declarations self.old (rhs_declared self.old row.now value)) (self.new ≡ self.old) }
+        ensures free { IsTrue (is_free_row self.old row.now) → result ≡ Ok tt }
         ensures memory { IsNotOutOfMemory result }
     {
         let place = self.tables.rhs_target(row, &self.constant)?;

@@ -36,7 +36,7 @@ invariant_of-self-2 c =
     let absent : has_coefficient (draft b.sense b.constant b.tables) (at c.args.row.now c.args.column.now) ≡ false =
     cell_at b.sense b.constant b.tables place.once at_column c.args.column.now s at_row c.args.row.now c.self.invariant.1 place.row ∙ ap is_some place.absent in
     let after = cell_added b.sense b.constant b.tables c.put_cell.new.self place.once at_column c.args.column.now place.column c.self.invariant.1 at_row c.args.row.now place.row c.args.value c.in_ok-put_cell.ensures.ok absent in (
-      made_after d after c.self.invariant.0 c.each_value_is_a_decimal.ensures none,
+      made_after d after c.self.invariant.0 c.each_value_is_a_decimal.ensures none refl,
       cell_added_numbered b.sense b.constant b.tables c.put_cell.new.self place.once at_column c.args.column.now place.column c.self.invariant.1 at_row c.args.row.now place.row c.args.value c.in_ok-put_cell.ensures.ok,
     )
 

@@ -22,7 +22,7 @@ invariant_of-self-2 c =
     let absent : has_column inner (bytes c.into_bytes.result) ≡ false =
     ap (has_column inner) name ∙ ap (λ (all : Draft). has_column all c.args.name) c.self.view_is ∙ sym (c.if-has_column.ensures ∙ ap (has_column c.args.self.now) c.as_bytes.ensures) in
     let after = column_added b.sense b.constant b.tables c.add_column.new.self c.into_bytes.result c.in_ok-add_column.ensures.ok absent ∙ ap (λ (n : List ℕ). with_declaration inner (declare_column n)) name in (
-      made_after d after c.self.invariant.0 (ap is_mps_name (sym c.name.view_is) ∙ c.name.invariant) refl,
+      made_after d after c.self.invariant.0 (ap is_mps_name (sym c.name.view_is) ∙ c.name.invariant) refl refl,
       column_added_numbered b.sense b.constant b.tables c.add_column.new.self c.into_bytes.result c.in_ok-add_column.ensures.ok c.self.invariant.1,
     )
 

@@ -1,4 +1,4 @@
-use Rattle.std.proofs.Common.{◌≡◌, sym, ap, ◌∙◌, ℕ, List, [], ◌∷◌, Bool, false}
+use Rattle.std.proofs.Common.{◌≡◌, refl, sym, ap, ◌∙◌, ℕ, List, [], ◌∷◌, Bool, false}
 use Rattle.std.specs.Prelude.{is_some}
 use Rattle.mpslp_types.specs.Name.{is_mps_name}
 use Rattle.mpslp_types.specs.declared.faults.BuildFault.{BuildFault}
@@ -24,7 +24,7 @@ invariant_of-self c =
     let unnamed = objective_absent b.tables.objective (first_none (is_some inner.objective) SecondObjective tests none) in
     let absent : has_row inner c.args.name ≡ false = first_none (has_row inner c.args.name) DuplicateRow [] (rest_none (is_some inner.objective) SecondObjective tests none) in
     let after = objective_named b.sense b.constant b.tables c.name_objective.new.self c.args.name c.self.invariant.1 unnamed c.name_objective.ensures in (
-      made_after d after c.self.invariant.0 (ap is_mps_name (sym c.name.view_is) ∙ c.name.invariant) none,
+      made_after d after c.self.invariant.0 (ap is_mps_name (sym c.name.view_is) ∙ c.name.invariant) none refl,
       objective_named_numbered b.sense b.constant b.tables c.name_objective.new.self c.args.name c.self.invariant.1 unnamed c.name_objective.ensures absent,
     )
 

@@ -20,7 +20,7 @@ invariant_of-self c =
     let d = declare_range c.args.row.now c.args.value in
     let none = none_refused (refusals (draft b.sense b.constant b.tables) d) c.in_ok-index.ensures.answer in
     let after = range_added b.sense b.constant b.tables c.put_range.new.self c.self.invariant.1 c.in_ok-index.ensures.once c.in_ok-index.index c.args.row.now c.in_ok-index.ensures.place c.args.value c.put_range.ensures in (
-      made_after d after c.self.invariant.0 c.each_value_is_a_decimal.ensures none,
+      made_after d after c.self.invariant.0 c.each_value_is_a_decimal.ensures none refl,
       row_changed_numbered b.sense b.constant b.tables c.put_range.new.self (λ row. record row { range = Some c.args.value }) c.in_ok-index.index c.put_range.ensures c.self.invariant.1,
     )
 

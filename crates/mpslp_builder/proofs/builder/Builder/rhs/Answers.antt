@@ -4,7 +4,8 @@ use Rattle.mpslp_builder.specs.Answer.{first_refusal}
 use Rattle.mpslp_builder.specs.Declaration.{Draft, declare_rhs, with_declarations, is_free_row}
 use Rattle.mpslp_builder.specs.Refusal.{refusals}
 use Rattle.mpslp_builder.specs.Tables.{draft}
-use Rattle.mpslp_builder.proofs.AnswerLemmas.{none_refused, made_after, declared, handed_on}
+use Rattle.mpslp_builder.proofs.AnswerLemmas.{none_refused, none_told, made_after, made_now, declared, handed_on}
+use Rattle.mpslp_builder.proofs.MadeDrafts.{free_rhs-passes}
 use Rattle.mpslp_builder.proofs.CallLemmas.{rhs_added, rhs_added_numbered}
 use Rattle.mpslp_builder.proofs.ReadingLemmas.{free_at}
 use Rattle.mpslp_builder.proofs.builder.Builder.rhs.Goals as goal
@@ -14,6 +15,14 @@ returns-in_err-place-clause-answers c =
     let d = declare_rhs c.args.row.now c.args.value in
     let refused = c.in_err-place.ensures.answer ∙ ap (λ (all : Draft). first_refusal (refusals all d)) c.self.view_is in
     handed_on (refusals c.args.self.now d) c.from_residual.result c.in_err-place.field-0.0 _ _ c.from_residual.ensures.1 refused refl
+
+pub returns-in_err-place-clause-free : goal.returns-in_err-place-clause-free
+returns-in_err-place-clause-free c =
+    λ free.
+    let d = declare_rhs c.args.row.now c.args.value in
+    let refused = c.in_err-place.ensures.answer ∙ ap (λ (all : Draft). first_refusal (refusals all d)) c.self.view_is in
+    let passes = free_rhs-passes c.args.self.now c.args.row.now c.args.value (made_now c.self.view_is c.self.invariant.0) free in
+    none_told (refusals c.args.self.now d) c.in_err-place.field-0.0 passes refused
 
 pub returns-then-is_free-clause-answers : goal.returns-then-is_free-clause-answers
 returns-then-is_free-clause-answers c =
@@ -32,8 +41,9 @@ invariant_of-self c =
     let place = c.in_ok-place.ensures in
     let d = declare_rhs c.args.row.now c.args.value in
     let none = none_refused (refusals (draft b.sense b.constant b.tables) d) place.answer in
+    let free = free_at b.sense b.constant b.tables place.once c.self.invariant.1 c.in_ok-place.place c.args.row.now place.place ∙ sym c.if-is_free.ensures in
     let after = rhs_added b.sense b.constant b.tables c.put_rhs.new.self c.self.invariant.1 place.once c.in_ok-place.place c.args.row.now c.args.value (is_some b.constant) place.place place.absent c.put_rhs.ensures in (
-      made_after d after c.self.invariant.0 c.each_value_is_a_decimal.ensures none,
+      made_after d after c.self.invariant.0 c.each_value_is_a_decimal.ensures none free,
       rhs_added_numbered b.sense b.constant b.tables c.put_rhs.new.self c.in_ok-place.place c.args.value c.self.invariant.1 c.put_rhs.ensures,
     )
 

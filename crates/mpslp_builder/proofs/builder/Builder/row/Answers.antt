@@ -25,7 +25,7 @@ invariant_of-self-2 c =
     let after = row_added b.sense b.constant b.tables c.add_row.new.self c.into_bytes.result c.of_type.result c.self.invariant.1 added absent
     ∙ (λ i. with_declaration inner (declare_row (name i) (c.of_type.ensures i))) in
     let legal = both_so (is_mps_name c.args.name) true (ap is_mps_name (sym c.name.view_is) ∙ c.name.invariant) refl in (
-      made_after d after c.self.invariant.0 legal none,
+      made_after d after c.self.invariant.0 legal none refl,
       row_added_numbered b.sense b.constant b.tables c.add_row.new.self c.into_bytes.result c.of_type.result c.self.invariant.1 added (c.has_room.ensures c.if-not-has_room.false) absent,
     )
 

@@ -31,7 +31,7 @@ invariant_of-self-2 c =
     ∙ (λ i. with_declaration inner (declare_row (name i) (c.in_ok-definition.ensures i))) in
     let given = both_so (is_given c.args.lower) (is_given c.args.upper) c.requires.lower c.requires.upper in
     let legal = both_so (is_mps_name c.args.name) (is_given c.args.lower && is_given c.args.upper) (ap is_mps_name (sym c.name.view_is) ∙ c.name.invariant) given in (
-      made_after d after c.self.invariant.0 legal none,
+      made_after d after c.self.invariant.0 legal none refl,
       row_added_numbered b.sense b.constant b.tables c.add_row.new.self c.into_bytes.result c.in_ok-definition.definition c.self.invariant.1 added (c.has_room.ensures c.if-not-has_room.false) absent,
     )
 
