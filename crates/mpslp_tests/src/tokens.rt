@@ -1,6 +1,7 @@
 //! Tests of the tokens of LP lines.
 
-use mpslp_lp::{TokenKind, next_token, tokens_of};
+use mpslp_lp::{Section, TokenKind, next_token, tokens_of};
+use mpslp_lp_tokens::{SectionWord, WordClass, class_of, is_word};
 use std::test::Fail;
 
 /// A line, and the texts of its tokens, separated by spaces.
@@ -98,4 +99,47 @@ fn has_tokens(line: &[u8], wanted: &[(TokenKind, usize, &str)]) -> bool {
 #[test]
 fn tokens_that_touch_are_cut(rt: HostRuntime) {
     assert!(rt; has_tokens(b"  3x1>=2", &TOUCHING));
+}
+
+/// What words mean.
+const MEANINGS: [(&str, WordClass); 9] = [
+    ("min", WordClass::Opens(SectionWord::Minimize)),
+    ("MAXIMUM", WordClass::Opens(SectionWord::Maximize)),
+    ("s.t.", WordClass::Opens(SectionWord::Rows)),
+    ("Integers", WordClass::Opens(SectionWord::Generals)),
+    ("END", WordClass::Opens(SectionWord::End)),
+    ("infinity", WordClass::Infinity),
+    ("free", WordClass::Free),
+    ("sos2", WordClass::Sos),
+    ("minimise", WordClass::Name),
+];
+
+#[test]
+fn words_have_a_meaning(rt: HostRuntime) {
+    for (text, meaning) in MEANINGS {
+        assert!(rt; class_of(text.as_bytes()) == meaning, "at {text}");
+    }
+}
+
+#[test]
+fn case_makes_no_difference(rt: HostRuntime) {
+    assert!(rt; is_word(b"To", b"to"));
+    assert!(rt; !is_word(b"tom", b"to"));
+}
+
+#[test]
+fn words_open_sections(rt: HostRuntime) {
+    assert!(rt; SectionWord::Such.section() == Section::Rows);
+    assert!(rt; SectionWord::Semis.section() == Section::SemiContinuous);
+}
+
+#[test]
+fn tokens_once_more_are_the_same(rt: HostRuntime) {
+    let mut tokens = tokens_of(b"3x1>=2");
+    let mut again = tokens.again();
+    assert!(rt; again.next().is_some());
+    match tokens.next() {
+        Some(token) => assert!(rt; token.start == 0),
+        None => assert!(rt; false),
+    }
 }
