@@ -2,6 +2,8 @@
 
 from typing import Any, Literal
 
+from mpslp._explanations import Explanation, explain
+
 
 class ModelFileError(ValueError):
     """A text defines no model, or its model has a name that is not legal in LP.
@@ -11,7 +13,7 @@ class ModelFileError(ValueError):
     ``plan.mps: line 7: DuplicateEntry``.
 
     kind
-        The kind of the fault, as ``DuplicateEntry``; docs/FORMATS.md explains each. ``NotLp`` for a name that is not
+        The kind of the fault, as ``DuplicateEntry``; docs/ERRORS.md explains each. ``NotLp`` for a name that is not
         legal in LP.
     line
         The line of the fault, counted from 1; None for a fault of the whole text.
@@ -25,6 +27,8 @@ class ModelFileError(ValueError):
         ``"first"`` or ``"second"``: which of the two texts of ``same`` is rejected; None for the other calls.
     filename
         The path of the file; None for a text that is bytes.
+    explanation
+        The usual causes of this kind of error, and what to do about each: an :class:`Explanation`, which can be printed.
     """
 
     kind: str
@@ -53,6 +57,11 @@ class ModelFileError(ValueError):
         self.number = number
         self.which = which
         self.filename = filename
+
+    @property
+    def explanation(self) -> Explanation:
+        """The usual causes of this kind of error, and what to do about each."""
+        return explain(self.kind)
 
     def __reduce__(self) -> tuple[Any, ...]:
         # By its attributes: the path is found after the fault, and the arguments are those of the fault.
