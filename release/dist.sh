@@ -97,8 +97,9 @@ Description: one canonical text for each linear or mixed-integer model
  text for each model, with exact decimals. It converts between both formats and
  compares models. An ambiguous file is rejected with its line and the reason.
  .
- The package has the program, the library for C with its header, and the wheel
- of the package for Python in /usr/share/mpslp.
+ The package has the program, the library for C with its header, and in
+ /usr/share/mpslp the wheel of the package for Python, which also has the
+ command mpslp-tools.
 CONTROL
 }
 

@@ -17,6 +17,7 @@ page=$(man -w mpslp)
 test -s "$page" || die "man -w mpslp prints $page"
 man mpslp > page.txt 2> /dev/null
 grep -q '^SYNOPSIS' page.txt || die "the man page is not shown"
+man mpslp-tools 2> /dev/null | cmp - page.txt
 
 test "$(pkg-config --modversion mpslp)" = "$version" || die "pkg-config --modversion prints $(pkg-config --modversion mpslp)"
 flags=$(pkg-config --cflags mpslp)
@@ -68,3 +69,8 @@ assert mpslp.is_canonical("examples/small.canonical.mps")
 assert mpslp.same("examples/small.mps", "examples/small.lp")
 assert mpslp.load("examples/small.mps") == mpslp.load("examples/small.lp")
 PYTHON
+tools=planning/bin/mpslp-tools
+test "$($tools --version)" = "mpslp $version" || die "mpslp-tools --version prints $($tools --version)"
+test "$($tools diff examples/small.mps examples/small.lp)" = same || die "mpslp-tools diff finds a difference"
+test "$($tools check examples/small.canonical.lp examples/small.lp)" = examples/small.lp || die "mpslp-tools check finds other files"
+$tools explain DuplicateEntry | grep -q 'Add the coefficients' || die "mpslp-tools explain has no causes"

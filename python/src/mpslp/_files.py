@@ -31,13 +31,20 @@ def replace_file(path: str, content: bytes) -> None:
     The content goes to a file in the same directory, which then takes the name. A file that is there keeps its mode, and
     its owner if that is permitted; a symbolic link keeps leading to it. A pipe or a device is written to.
     """
-    target = os.path.realpath(path)
-    old = _status_of(target)
-    if old is not None and not stat.S_ISREG(old.st_mode):
-        with open(target, "wb") as file:
-            file.write(content)
-        return
-    directory = os.path.dirname(target)
+    try:
+        old = _status_of(path)
+        if old is None or stat.S_ISREG(old.st_mode):
+            _replace(os.path.realpath(path), content, old)
+        else:
+            with open(path, "wb") as file:
+                file.write(content)
+    except OSError as error:
+        error.filename, error.filename2 = path, None  # not that of the temporary file
+        raise
+
+
+def _replace(path: str, content: bytes, old: os.stat_result | None) -> None:
+    directory = os.path.dirname(path)
     temporary = os.path.join(directory, f".mpslp-{uuid.uuid4().hex}.tmp")
     try:
         with open(temporary, "xb") as file:
@@ -48,12 +55,10 @@ def replace_file(path: str, content: bytes) -> None:
                     os.fchown(file.fileno(), old.st_uid, old.st_gid)
                 os.fchmod(file.fileno(), stat.S_IMODE(old.st_mode))
             os.fsync(file.fileno())
-        os.replace(temporary, target)
-    except BaseException as error:
+        os.replace(temporary, path)
+    except BaseException:  # an interrupt, too
         with suppress(OSError):
             os.unlink(temporary)
-        if isinstance(error, OSError):
-            error.filename, error.filename2 = path, None  # that of the file which was to be written
         raise
     _sync_directory(directory)
 

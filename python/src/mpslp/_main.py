@@ -40,11 +40,12 @@ class Status(IntEnum):
 
 
 class Outcome(NamedTuple):
-    """What came of a file, and what is printed of it."""
+    """What came of a file, and what is printed of it: a line on each stream, or a text."""
 
     status: Status = Status.DONE
     output: str = ""
     error: str = ""
+    text: Iterable[bytes] = ()
 
 
 class Parser(argparse.ArgumentParser):
@@ -154,6 +155,7 @@ def _outcomes(files: list[str], options: argparse.Namespace, work: Callable[[Tex
 
 
 def _print(outcome: Outcome) -> None:
+    sys.stdout.buffer.writelines(outcome.text)
     if outcome.output:
         print(outcome.output, flush=True)
     if outcome.error:
@@ -190,11 +192,9 @@ def _write(text: Text, options: argparse.Namespace) -> Outcome:
     path = options.output or STANDARD_INPUT
     to: Format | None = options.to or format_of_name(path)
     content = _mpslp.canonical(text.content, text.format, text.format if to is None else format_number(to))
-    if path != STANDARD_INPUT:
-        replace_file(path, pack(path, content))
-    else:
-        sys.stdout.flush()
-        sys.stdout.buffer.write(content)
+    if path == STANDARD_INPUT:
+        return Outcome(text=[content])
+    replace_file(path, pack(path, content))
     return Outcome()
 
 
@@ -217,8 +217,7 @@ def digest(options: argparse.Namespace) -> Status:
 
 def show(options: argparse.Namespace) -> Status:
     def work(text: Text) -> Outcome:
-        sys.stdout.writelines(f"{line}\n" for line in shown(model_of(_mpslp.load(text.content, text.format))))
-        return Outcome()
+        return Outcome(text=(f"{line}\n".encode("ascii") for line in shown(model_of(_mpslp.load(text.content, text.format)))))
 
     outcome = attempt(options.file, options, work)
     _print(outcome)
@@ -479,6 +478,9 @@ def run(prog: str | None = None) -> int:
         return status
     except KeyboardInterrupt:
         return 128 + signal.SIGINT
+    except MemoryError:
+        print("out of memory", file=sys.stderr)
+        return Status.NO_MEMORY
     except OSError:  # of standard output: errors of files are reported with their paths
         print("write failed", file=sys.stderr)
         _drop_output()
