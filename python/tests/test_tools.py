@@ -311,6 +311,9 @@ class Models(Directory):
         self.prints(["diff", "--digits", "8", "--by-position", small, other], 1, "entry MYG Y: 1.5 -> 1.5000001\n")
         self.file("a.lp", BROKEN)
         self.prints(["diff", small, "a.lp"], 2, error="a.lp:1: BadToken: y\n")
+        self.prints(["diff", small, "/dev/null"], 1, "- model: 2 rows, 2 columns, 2 entries\n")
+        self.prints(["diff", "/dev/null", small], 1, "+ model: 2 rows, 2 columns, 2 entries\n")
+        self.prints(["diff", "/dev/null", "a.lp"], 2, error="a.lp:1: BadToken: y\n")
         for digits in ("0", "37", "x"):
             self.assertEqual(self.run_tools("diff", "--digits", digits, small, other).returncode, 3)
 

@@ -261,6 +261,9 @@ def same(options: argparse.Namespace) -> Status:
 
 
 def difference(options: argparse.Namespace) -> Status:
+    if os.devnull in (options.first, options.second):
+        return _print_whole_model(options)
+
     def work(first: Text, second: Text) -> Status:
         differences = diff(
             first.content,
@@ -280,6 +283,19 @@ def difference(options: argparse.Namespace) -> Status:
         return Status.DIFFERS if differs else Status.DONE
 
     return _compare(options, work)
+
+
+def _print_whole_model(options: argparse.Namespace) -> Status:
+    """The model that is there, of two of which one is /dev/null: git says so of a file that is new or deleted."""
+    path, sign = (options.first, "-") if options.second == os.devnull else (options.second, "+")
+
+    def work(text: Text) -> Outcome:
+        rows, columns, entries = _mpslp.load(text.content, text.format).counts()
+        return Outcome(Status.DIFFERS, f"{sign} model: {rows} rows, {columns} columns, {entries} entries")
+
+    outcome = attempt(path, options, work)
+    _print(outcome)
+    return outcome.status
 
 
 def _format_of(text: Text) -> Format:
