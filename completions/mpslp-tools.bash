@@ -21,7 +21,7 @@ _mpslp_tools() {
         check | digest) options+=' --jobs' ;;
         diff) options+=' --ignore-objective-name --digits --by-position' ;;
         explain) options=--help ;;
-        report) options+=' --output' ;;
+        report) options='--help --output --digits --by-position' ;;
     esac
     case $command:$word in
         *:-*)

@@ -312,20 +312,22 @@ def explanation(options: argparse.Namespace) -> Status:
 
 
 def report(options: argparse.Namespace) -> Status:
-    """The page is made by the module _report, of paths and these options."""
     paths = [path for path in (options.first, options.second) if path is not None]
     try:
-        page = import_module("mpslp._report").page(paths, options)
-        content = page.encode("utf-8")
-        if options.output is None:
-            sys.stdout.buffer.write(content)
-        else:
-            replace_file(options.output, content)
-    except (ModelFileError, MemoryError, OSError) as error:
-        outcome = failure(getattr(error, "filename", None) or paths[0], error)
-        _print(outcome)
-        return outcome.status
-    return Status.DONE
+        page: str = import_module("mpslp._report").page(paths, digits=options.digits, by_position=options.by_position)
+        if options.output is not None:
+            replace_file(options.output, page.encode("utf-8"))
+    except ModelFileError as error:
+        path = error.filename or paths[0]
+        outcome = failure(path, error, read(path, None))
+    except (MemoryError, OSError, ImportError) as error:
+        outcome = failure(paths[0], error)
+    except ValueError as error:  # a path without a format
+        raise UsageError(str(error)) from None
+    else:
+        outcome = Outcome(text=[page.encode("utf-8")] if options.output is None else ())
+    _print(outcome)
+    return outcome.status
 
 
 # ---- the command line
@@ -428,8 +430,7 @@ def _add_diff(commands: Any) -> None:
         "the same, but no difference counts because of the options.",
     )
     command.add_argument("--ignore-objective-name", action="store_true", help="the name of the objective does not count")
-    command.add_argument("--digits", type=whole_digits, metavar="N", help="numbers are equal if they agree to N significant digits")
-    command.add_argument("--by-position", action="store_true", help="names do not count, but the order of rows and columns in the files")
+    _add_nearness(command)
     _add_two_files(command)
 
 
@@ -454,10 +455,15 @@ def _add_explain(commands: Any) -> None:
 
 def _add_report(commands: Any) -> None:
     command = _add(commands, "report", report, "make a page about a model", "Write a page in HTML about a model, or about two and in what they differ.")
-    _add_format(command)
-    command.add_argument("-o", "--output", metavar="PAGE.html", help="write the page to this file")
+    command.add_argument("-o", "--output", metavar="PAGE", help="write the page to this file")
+    _add_nearness(command)
     command.add_argument("first", metavar="FILE", help="a model file")
     command.add_argument("second", nargs="?", metavar="SECOND", help="a second one, to compare")
+
+
+def _add_nearness(command: argparse.ArgumentParser) -> None:
+    command.add_argument("--digits", type=whole_digits, metavar="N", help="numbers are equal if they agree to N significant digits")
+    command.add_argument("--by-position", action="store_true", help="names do not count, but the order of rows and columns in the files")
 
 
 def _processors() -> int:
