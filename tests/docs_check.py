@@ -14,7 +14,8 @@ not see, says how:
                                also knows some tables by their heads, without a comment
     <!-- check: COMMAND -->    without a block: the command ends with status 0
     <!-- needs: PROGRAM -->    if it is missing, what comes from here to the next
-                               paragraph in bold or heading is skipped, and it says so
+                               paragraph in bold or heading is skipped, and it says so;
+                               there may be several
 
 A block in the language console needs no comment: a line that begins with "$ "
 is a command, and the lines up to the next one are what it prints.
@@ -158,8 +159,8 @@ class Document:
             at += 1
 
     def need(self, number, program):
-        self.passes_over = not shutil.which(program)
-        if self.passes_over:
+        if not shutil.which(program):
+            self.passes_over = True
             print(f"skipped: {self.name}:{number}: {program} is missing")
 
     def block(self, at, indent):
