@@ -3,8 +3,10 @@
 import csv
 import pickle
 import unittest
+from unittest import mock
 
 import mpslp
+from mpslp import _places
 from mpslp._explanations import kinds
 from mpslp._places import about
 from mpslp._sources import read
@@ -132,6 +134,9 @@ class Places(unittest.TestCase):
     def test_long_lines(self):
         self.assertEqual(self.about("min x\n\\" + 2**20 * "-" + "\r\nend\n", "lp"), ("LineTooLong", "1,048,577 bytes"))
         self.assertEqual(self.about("min " + "x + " * 1000 + "y\nend\n", "lp"), ("DuplicateEntry", "x"))
+        with mock.patch.object(_places, "_MOST_READ_AGAIN", 10):
+            self.assertEqual(self.about("min " + "x + " * 1000 + "y\nst x x\nend\n", "lp"), ("DuplicateEntry", "x"))
+            self.assertEqual(self.about("min x + y\nst x x\nend\n", "lp"), ("BadToken", ""), "it is not read again")
 
     def test_names_that_are_not_legal_in_lp(self):
         rows = " N  {}\n L  K{}\nCOLUMNS\n    X{}  {}  1\nENDATA\n"

@@ -1,6 +1,7 @@
 """The command mpslp-tools: what it prints, its exit statuses, and files that it rewrites."""
 
 import gzip
+import io
 import os
 import pty
 import re
@@ -14,6 +15,7 @@ import tempfile
 import time
 import unittest
 from pathlib import Path
+from unittest import mock
 
 import mpslp
 from mpslp import _main
@@ -36,6 +38,8 @@ class Directory(unittest.TestCase):
         folder = tempfile.TemporaryDirectory()
         self.addCleanup(folder.cleanup)
         self.folder = Path(folder.name)
+        self.addCleanup(os.chdir, os.getcwd())
+        os.chdir(self.folder)
 
     def file(self, name, content=SMALL):
         path = self.folder / name
@@ -43,8 +47,19 @@ class Directory(unittest.TestCase):
         path.write_bytes(content)
         return path
 
-    def run_tools(self, *words, content=b"", **options):
-        return subprocess.run([*TOOLS, *map(str, words)], input=content, capture_output=True, cwd=self.folder, timeout=60, **options)
+    def run_tools(self, *words, content=b""):
+        """What the command prints, and its exit status, in this process."""
+        streams = [io.TextIOWrapper(io.BytesIO(each), "utf-8", "surrogateescape", newline="", write_through=True) for each in (content, b"", b"")]
+        with mock.patch.multiple(sys, stdin=streams[0], stdout=streams[1], stderr=streams[2]):
+            try:
+                status = int(_main.main([str(word) for word in words], "python3 -m mpslp"))
+            except SystemExit as ended:
+                status = ended.code
+        return subprocess.CompletedProcess(words, status, *(stream.buffer.getvalue() for stream in streams[1:]))
+
+    def run_process(self, *words, **options):
+        """The same in a process of its own."""
+        return subprocess.run([*TOOLS, *map(str, words)], capture_output=True, cwd=self.folder, timeout=60, **options)
 
     def prints(self, words, status, output="", error="", content=b""):
         done = self.run_tools(*words, content=content)
@@ -76,7 +91,7 @@ class Canon(Directory):
 
     def test_another_file_that_is_a_device(self):
         self.file("a.mps")
-        self.prints(["canon", "a.mps", "-o", "/dev/stdout"], 0, CANONICAL.decode())
+        self.assertEqual(self.run_process("canon", "a.mps", "-o", "/dev/stdout").stdout, CANONICAL)
         self.prints(["canon", "a.mps", "-o", "/dev/full"], 4, error="/dev/full: No space left on device\n")
         self.assertTrue(stat.S_ISCHR(os.stat("/dev/full").st_mode))
 
@@ -157,7 +172,7 @@ class InPlace(Directory):
             signal.signal(signal.SIGXFSZ, signal.SIG_IGN)
             resource.setrlimit(resource.RLIMIT_FSIZE, (1000, 1000))
 
-        done = self.run_tools("canon", "-i", "b.mps", "a.mps", preexec_fn=limit)
+        done = self.run_process("canon", "-i", "b.mps", "a.mps", preexec_fn=limit)
         self.assertEqual((done.returncode, done.stdout, done.stderr), (4, b"a.mps\n", b"b.mps: File too large\n"))
         self.leaves(a_mps=CANONICAL, b_mps=large_text(300))
 
@@ -250,9 +265,11 @@ class Files(Directory):
         self.file("a.mps").chmod(0)
         options = {"user": 65534} if os.geteuid() == 0 else {}  # root reads all files
         self.folder.chmod(0o755)
-        if subprocess.run([*TOOLS, "--version"], capture_output=True, **options).returncode:
+        try:
+            subprocess.run([*TOOLS, "--version"], capture_output=True, check=True, **options)
+        except (OSError, subprocess.CalledProcessError):
             self.skipTest("another user cannot run this Python")
-        done = self.run_tools("check", "a.mps", **options)
+        done = self.run_process("check", "a.mps", **options)
         self.assertEqual((done.returncode, done.stderr), (4, b"a.mps: Permission denied\n"))
 
     def test_formats_that_are_not_known(self):
@@ -260,6 +277,7 @@ class Files(Directory):
         for words in (["check", "a.txt"], ["show", "a.txt"]):
             self.prints(words, 3, error="a.txt: its name ends neither in .mps nor in .lp: say -f mps or -f lp\n")
         self.prints(["same", "a.txt", EXAMPLES / "small.lp"], 3, error="python3 -m mpslp: error: a.txt: its name ends neither in .mps nor in .lp: say -f mps or -f lp\n")
+        self.prints(["check", "-"], 3, error="-: its name ends neither in .mps nor in .lp: say -f mps or -f lp\n")
         self.prints(["same", "a.txt", EXAMPLES / "small.lp", "-f", "mps"], 0, "same\n")
         self.prints(["canon", "-f", "mps", "a.txt"], 0, CANONICAL.decode())
         self.prints(["canon", "-f", "lp", EXAMPLES / "small.mps"], 0, CANONICAL.decode())
@@ -269,7 +287,7 @@ class Files(Directory):
         self.file(name)
         self.file(os.fsdecode(b"\xfe.lp"), BROKEN)
         for locale in ("C", "C.UTF-8", "en_US.ISO-8859-1"):
-            done = self.run_tools("check", ".", env={**os.environ, "LC_ALL": locale})
+            done = self.run_process("check", ".", env={**os.environ, "LC_ALL": locale})
             self.assertEqual((done.returncode, done.stdout, done.stderr), (2, b"./\xff \xc3\xa9\n.mps\n", b"./\xfe.lp:1: BadToken: y\n"))
         self.prints(["canon", "-i", name], 0, name + "\n")
         self.assertEqual((self.folder / name).read_bytes(), CANONICAL)
@@ -345,16 +363,24 @@ class Models(Directory):
         self.prints(["explain", "BadBite"], 3, error="python3 -m mpslp: error: no such kind of error: 'BadBite'; is it BadByte?\n")
 
 
-class Command(unittest.TestCase):
+class Command(Directory):
     def test_help_and_version(self):
         for words in (["--help"], ["canon", "-h"], ["diff", "--help"]):
-            done = subprocess.run([*TOOLS, *words], capture_output=True, text=True, timeout=60)
-            self.assertEqual((done.returncode, done.stderr), (0, ""))
-            self.assertTrue(done.stdout.startswith("usage: python3 -m mpslp"))
-        done = subprocess.run([*TOOLS, "--version"], capture_output=True, text=True, timeout=60)
-        self.assertEqual((done.returncode, done.stdout), (0, f"mpslp {mpslp.__version__}\n"))
+            done = self.run_tools(*words)
+            self.assertEqual((done.returncode, done.stderr), (0, b""))
+            self.assertTrue(done.stdout.startswith(b"usage: python3 -m mpslp"))
+        self.prints(["--version"], 0, f"mpslp {mpslp.__version__}\n")
         for words in ([], ["solve"], ["--color"], ["check"], ["diff", "a.mps"]):
-            self.assertEqual(subprocess.run([*TOOLS, *words], capture_output=True, timeout=60).returncode, 3, words)
+            self.assertEqual(self.run_tools(*words).returncode, 3, words)
+            self.assertEqual(self.run_process(*words).returncode, 3, words)
+
+    def test_the_process_is_the_function(self):
+        """What the other tests call is what a process does."""
+        self.file("a.lp", BROKEN)
+        self.file("b.mps")
+        for words, content in ((["check", "."], b""), (["canon", "-", "-f", "lp"], CANONICAL_LP), (["digest", "b.mps"], b""), (["canon", "b.mps", "a.lp"], b"")):
+            one, other = self.run_tools(*words, content=content), self.run_process(*words, input=content)
+            self.assertEqual((one.returncode, one.stdout, one.stderr), (other.returncode, other.stdout, other.stderr))
 
     def test_the_installed_command(self):
         command = Path(sys.executable).parent / "mpslp-tools"

@@ -10,6 +10,7 @@ import sys
 from collections.abc import Callable, Iterable, Iterator, Sequence
 from concurrent.futures import Future, ThreadPoolExecutor
 from enum import IntEnum
+from functools import partial
 from importlib import import_module
 from importlib.util import find_spec
 from typing import Any, NamedTuple, NoReturn
@@ -21,11 +22,13 @@ from mpslp._explanations import explain, kinds
 from mpslp._faults import ModelFileError
 from mpslp._files import model_files, replace_file
 from mpslp._models import model_of
+from mpslp._numbers import MOST_DIGITS
 from mpslp._places import about
 from mpslp._shown import shown
 from mpslp._sources import Format, Text, format_number, format_of_name, naming, read
 
 STANDARD_INPUT = "-"
+_MOST_JOBS = 1000
 
 
 class Status(IntEnum):
@@ -67,7 +70,8 @@ def text_of(path: str, options: argparse.Namespace) -> Text:
     """The text of a path, by its format or else the one of the option."""
     format: Format | None = format_of_name(path) or options.format
     if format is None:
-        os.stat(path)  # a path that is missing is not reported by its name
+        if path != STANDARD_INPUT:
+            os.stat(path)  # what is wrong with a path that is missing is not its name
         raise UsageError(f"{path}: its name ends neither in .mps nor in .lp: say -f mps or -f lp")
     if path == STANDARD_INPUT:
         return Text(sys.stdin.buffer.read(), format_number(format), path)
@@ -333,22 +337,11 @@ def report(options: argparse.Namespace) -> Status:
 # ---- the command line
 
 
-def whole_digits(word: str) -> int:
-    number = int(word)
-    if not 1 <= number <= 36:
-        raise ValueError
-    return number
-
-
-def jobs(word: str) -> int:
-    number = int(word)
-    if number < 1:
-        raise ValueError
-    return number
-
-
-whole_digits.__name__ = "number of digits (1 to 36)"
-jobs.__name__ = "number of files (1 or more)"
+def whole_number(word: str, most: int) -> int:
+    """An argument that is a whole number from 1 on."""
+    if not word.isdecimal() or not 1 <= int(word) <= most:
+        raise argparse.ArgumentTypeError(f"{word!r} is no whole number from 1 to {most}")
+    return int(word)
 
 
 def parser(prog: str | None) -> Parser:
@@ -394,7 +387,7 @@ def _add_format(command: argparse.ArgumentParser) -> None:
 
 def _add_files(command: argparse.ArgumentParser, help: str) -> None:
     _add_format(command)
-    command.add_argument("-j", "--jobs", type=jobs, default=_processors(), metavar="N", help="work on N files at a time (default: the number of processors)")
+    command.add_argument("-j", "--jobs", type=partial(whole_number, most=_MOST_JOBS), default=_processors(), metavar="N", help="work on N files at a time (default: the number of processors)")
     command.add_argument("files", nargs="+", metavar="FILE", help=help)
 
 
@@ -462,7 +455,7 @@ def _add_report(commands: Any) -> None:
 
 
 def _add_nearness(command: argparse.ArgumentParser) -> None:
-    command.add_argument("--digits", type=whole_digits, metavar="N", help="numbers are equal if they agree to N significant digits")
+    command.add_argument("--digits", type=partial(whole_number, most=MOST_DIGITS), metavar="N", help="numbers are equal if they agree to N significant digits")
     command.add_argument("--by-position", action="store_true", help="names do not count, but the order of rows and columns in the files")
 
 

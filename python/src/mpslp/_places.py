@@ -17,6 +17,7 @@ from mpslp._faults import ModelFileError
 from mpslp._sources import Text
 
 _MOST_SHOWN = 80
+_MOST_READ_AGAIN = 2**24
 _PACKED = {
     b"\x1f\x8b": "the file is compressed by gzip",
     b"BZh": "the file is compressed by bzip2",
@@ -50,7 +51,7 @@ def about(text: Text, error: ModelFileError) -> str:
     if error.kind == "BadByte":
         return _bad_byte(text, start, line)
     place = _Place(text, start, line, error)
-    with suppress(IndexError):  # a line that has too few fields for its kind of error
+    with suppress(IndexError, _TooLarge):  # the first is of a line that has too few fields for its kind of error
         found = place.of_mps() if text.format == _mpslp.MPS else place.of_lp()
         return found if len(found) <= _MOST_SHOWN else f"{found[:_MOST_SHOWN]}..."
     return ""
@@ -79,6 +80,10 @@ def _bad_byte(text: Text, start: int, line: bytes) -> str:
     return f"byte 0x{(line + b'?')[at]:02X} at column {at + 1}"
 
 
+class _TooLarge(Exception):
+    """The text up to the line is too large to be read again and again for one word of a message."""
+
+
 class _Place:
     """A line that has an error."""
 
@@ -90,6 +95,8 @@ class _Place:
 
     def _has_error(self, line: bytes) -> bool:
         """Whether the text up to the line, and this instead of it, has the same error there."""
+        if self._start > _MOST_READ_AGAIN:
+            raise _TooLarge
         try:
             _mpslp.is_canonical(self._text.content[: self._start] + line + b"\n", self._text.format)
         except ModelFileError as error:
