@@ -1,6 +1,6 @@
 #!/bin/sh
-# release/use.sh VERSION WHEEL: uses mpslp as it is installed: the program, its man page, the library from C, the wheel from
-# Python. check.sh runs this within the root that it was installed in, in a directory with what is used here.
+# release/use.sh VERSION WHEEL: uses mpslp as it is installed: the program, its man page, mpslp-tools, the library from C, the
+# wheel from Python. check.sh runs this within the root that it was installed in, in a directory with what is used here.
 set -eu
 version=$1
 wheel=$2
@@ -69,8 +69,11 @@ assert mpslp.is_canonical("examples/small.canonical.mps")
 assert mpslp.same("examples/small.mps", "examples/small.lp")
 assert mpslp.load("examples/small.mps") == mpslp.load("examples/small.lp")
 PYTHON
-tools=planning/bin/mpslp-tools
-test "$($tools --version)" = "mpslp $version" || die "mpslp-tools --version prints $($tools --version)"
-test "$($tools diff examples/small.mps examples/small.lp)" = same || die "mpslp-tools diff finds a difference"
-test "$($tools check examples/small.canonical.lp examples/small.lp)" = examples/small.lp || die "mpslp-tools check finds other files"
-$tools explain DuplicateEntry | grep -q 'Add the coefficients' || die "mpslp-tools explain has no causes"
+for tools in mpslp-tools planning/bin/mpslp-tools; do
+    test "$($tools --version)" = "mpslp $version" || die "$tools --version prints $($tools --version)"
+    test "$($tools diff examples/small.mps examples/small.lp)" = same || die "$tools diff finds a difference"
+    ! $tools check examples/small.canonical.lp examples/small.lp > said || die "$tools check finds no file"
+    test "$(cat said)" = examples/small.lp || die "$tools check finds other files: $(cat said)"
+    $tools explain DuplicateEntry > said
+    grep -q 'Add the coefficients' said || die "$tools explain has no causes"
+done

@@ -250,6 +250,11 @@ class Names(unittest.TestCase):
             texts.append((spellings.mps_text(source, each), "mps"))
             if not models.canonical_lp(each).endswith("NotLp\n"):
                 texts.append((spellings.lp_text(source, each), "lp"))
+        texts += [(text, "lp") for text in (
+            b"min x\nsubject to y + to >= 1\n c: to + z <= 1 end\n", b"max x\nSuch\nThat\n y + That + that >= 1\nend\n",
+            b"min x st c1: x >= 1 y + x <= 2 c: z <= 2 x + to >= 1 a: y <= 9\nbounds s <= 3 continuous <= 4 semi - continuous s continuous\nend\n",
+            b"min x\nbounds y <= 3 continuous <= 4 semi-continuous continuous y\nend\nto: x : 3\n", b"min 3e5x + 2 x1 \\ a + b\n st 4c>=1\nend\n")]
+        self.assertGreater(len(texts), 300)
         for text, form in texts:
             with self.subTest(text):
                 found = names_by_position(read(text, form), mpslp.load(text, form))

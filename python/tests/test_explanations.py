@@ -134,7 +134,7 @@ class Places(unittest.TestCase):
     def test_long_lines(self):
         self.assertEqual(self.about("min x\n\\" + 2**20 * "-" + "\r\nend\n", "lp"), ("LineTooLong", "1,048,577 bytes"))
         self.assertEqual(self.about("min " + "x + " * 1000 + "y\nend\n", "lp"), ("DuplicateEntry", "x"))
-        with mock.patch.object(_places, "_MOST_READ_AGAIN", 10):
+        with mock.patch.object(_places, "_MOST_READ_AGAIN", 9):
             self.assertEqual(self.about("min " + "x + " * 1000 + "y\nst x x\nend\n", "lp"), ("DuplicateEntry", "x"))
             self.assertEqual(self.about("min x + y\nst x x\nend\n", "lp"), ("BadToken", ""), "it is not read again")
 
