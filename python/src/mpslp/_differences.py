@@ -3,13 +3,13 @@
 # Annotations are evaluated here: the classes say that they are of the package, whose names are fewer.
 
 import os
-from collections.abc import Callable, Iterable, Iterator, Mapping
+from collections.abc import Callable, Iterable, Iterator
 from dataclasses import dataclass
 from decimal import Decimal
 from functools import partial
 from itertools import islice, zip_longest
 from operator import eq
-from typing import Literal, NamedTuple, TypeAlias, TypeVar, Union
+from typing import Literal, NamedTuple, TypeAlias, Union
 
 from mpslp import _mpslp
 from mpslp._faults import ModelFileError
@@ -28,7 +28,10 @@ Verdict: TypeAlias = Literal["same", "close", "not the same"]
 
 _SIGNS: dict[Which, str] = {"first": "-", "second": "+"}
 _ZERO = Decimal(0)
+_LIMITS: tuple[Literal["lower", "upper"], ...] = ("lower", "upper")
 _MOST_LINES = 100
+
+_Numbers: TypeAlias = tuple[Union[int, None], Union[int, None]]
 
 
 @dataclass(frozen=True)
@@ -134,7 +137,7 @@ class Differences(Iterable[Difference]):
         ``digits``, ``by_position`` or ``ignore_objective_name``; else ``"not the same"``.
     """
 
-    __slots__ = ("first", "second", "_rules")
+    __slots__ = ("first", "second", "_first", "_second", "_rules")
 
     first: Model
     second: Model
@@ -142,6 +145,9 @@ class Differences(Iterable[Difference]):
     def __init__(self, first: Model, second: Model, rules: _Rules) -> None:
         self.first = first
         self.second = second
+        # Where most is equal, these are looked at, which is faster than to make rows and columns of them.
+        self._first = first._arrays
+        self._second = second._arrays
         self._rules = rules
 
     def __iter__(self) -> Iterator[Difference]:
@@ -177,29 +183,32 @@ class Differences(Iterable[Difference]):
             yield ModelDifference("constant", first.constant, second.constant)
 
     def _of_rows(self) -> Iterator[Difference]:
-        for one, other in self._paired_rows():
-            if one is not None and other is not None:
-                yield from self._of_row(one, other)
-            elif one is not None:
-                yield RowOnly("first", one)
-            elif other is not None:
-                yield RowOnly("second", other)
+        for i, k in self._row_numbers():
+            if i is not None and k is not None:
+                name, *limits = self._first.row(i)
+                _, *others = self._second.row(k)
+                if limits != others:
+                    yield from self._of_row(name, limits, others)
+            elif i is not None:
+                yield RowOnly("first", self.first.rows[self._first.row_name(i)])
+            elif k is not None:
+                yield RowOnly("second", self.second.rows[self._second.row_name(k)])
 
-    def _of_row(self, one: Row, other: Row) -> Iterator[Difference]:
-        is_equal = self._rules.is_equal
-        if not is_equal(one.lower, other.lower):
-            yield RowDifference(one.name, "lower", one.lower, other.lower)
-        if not is_equal(one.upper, other.upper):
-            yield RowDifference(one.name, "upper", one.upper, other.upper)
+    def _of_row(self, name: str, limits: list[Decimal], others: list[Decimal]) -> Iterator[Difference]:
+        for what, limit, other in zip(_LIMITS, limits, others):
+            if not self._rules.is_equal(limit, other):
+                yield RowDifference(name, what, limit, other)
 
     def _of_columns(self) -> Iterator[Difference]:
-        for one, other in self._paired_columns():
-            if one is not None and other is not None:
-                yield from self._of_column(one, other)
-            elif one is not None:
-                yield ColumnOnly("first", one)
-            elif other is not None:
-                yield ColumnOnly("second", other)
+        for j, k in self._column_numbers():
+            if j is not None and k is not None:
+                if self._first.column(j)[1:] != self._second.column(k)[1:]:
+                    name, other = self._first.column_name(j), self._second.column_name(k)
+                    yield from self._of_column(self.first.columns[name], self.second.columns[other])
+            elif j is not None:
+                yield ColumnOnly("first", self.first.columns[self._first.column_name(j)])
+            elif k is not None:
+                yield ColumnOnly("second", self.second.columns[self._second.column_name(k)])
 
     def _of_column(self, one: Column, other: Column) -> Iterator[Difference]:
         is_equal = self._rules.is_equal
@@ -216,29 +225,38 @@ class Differences(Iterable[Difference]):
         names = self._rules.names
         renamed = None if names is None else dict(zip(names[1].rows, names[0].rows))
         is_in_both = self._is_row_of_both if renamed is None else frozenset(renamed.values()).__contains__
-        for one, other in self._paired_columns():
-            if one is None or other is None:
+        for j, k in self._column_numbers():
+            if j is None or k is None:
                 continue
-            values, others = dict(one.entries.items()), dict(other.entries.items())
+            entries, others = self._first.column_entries(j), self._second.column_entries(k)
             if renamed is not None:
-                others = {renamed[row]: value for row, value in others.items() if row in renamed}
-            if values == others:
-                continue
-            for row in sorted(values.keys() | others.keys()):
-                value, another = values.get(row, _ZERO), others.get(row, _ZERO)
-                if not self._rules.is_equal(value, another) and is_in_both(row):
-                    yield EntryDifference(row, one.name, value, another)
+                others = [(renamed[row], value) for row, value in others if row in renamed]
+            if entries != others:
+                yield from self._of_entries_of(self._first.column_name(j), dict(entries), dict(others), is_in_both)
 
-    def _paired_rows(self) -> Iterator[tuple[Row | None, Row | None]]:
-        names = self._rules.names
-        return _paired(self.first.rows, self.second.rows, names and (names[0].rows, names[1].rows))
-
-    def _paired_columns(self) -> Iterator[tuple[Column | None, Column | None]]:
-        names = self._rules.names
-        return _paired(self.first.columns, self.second.columns, names and (names[0].columns, names[1].columns))
+    def _of_entries_of(
+        self, column: str, entries: dict[str, Decimal], others: dict[str, Decimal], is_in_both: Callable[[str], bool]
+    ) -> Iterator[Difference]:
+        for row in sorted(entries.keys() | others.keys()):
+            value, other = entries.get(row, _ZERO), others.get(row, _ZERO)
+            if not self._rules.is_equal(value, other) and is_in_both(row):
+                yield EntryDifference(row, column, value, other)
 
     def _is_row_of_both(self, row: object) -> bool:
         return row in self.first.rows and row in self.second.rows
+
+    def _row_numbers(self) -> Iterator[_Numbers]:
+        """The numbers of the rows that are compared, in both models; None where there is no such row."""
+        first, second, names = self._first, self._second, self._rules.names
+        if names is None:
+            return _merged(iter(self.first.rows), iter(self.second.rows))
+        return zip_longest(map(first.find_row, names[0].rows), map(second.find_row, names[1].rows))
+
+    def _column_numbers(self) -> Iterator[_Numbers]:
+        first, second, names = self._first, self._second, self._rules.names
+        if names is None:
+            return _merged(iter(self.first.columns), iter(self.second.columns))
+        return zip_longest(map(first.find_column, names[0].columns), map(second.find_column, names[1].columns))
 
 
 def diff(
@@ -327,31 +345,20 @@ def _loaded(source: Union[Model, Source], format: Format | None, which: Which) -
         raise
 
 
-_Part = TypeVar("_Part", Row, Column)
-
-
-def _paired(
-    first: Mapping[str, _Part], second: Mapping[str, _Part], names: tuple[list[str], list[str]] | None
-) -> Iterator[tuple[_Part | None, _Part | None]]:
-    """The rows or columns of two models with one name, or at one position of these names; those of one model with None."""
-    if names is None:
-        return _merged(iter(first.values()), iter(second.values()))
-    return zip_longest((first[name] for name in names[0]), (second[name] for name in names[1]))
-
-
-def _merged(firsts: Iterator[_Part], seconds: Iterator[_Part]) -> Iterator[tuple[_Part | None, _Part | None]]:
-    """Rows or columns of two models that are in byte order of their names."""
+def _merged(firsts: Iterator[str], seconds: Iterator[str]) -> Iterator[_Numbers]:
+    """The numbers of each name in two models, which have names in byte order."""
+    i = k = 0
     one, other = next(firsts, None), next(seconds, None)
     while one is not None or other is not None:
-        if other is None or (one is not None and one.name < other.name):
-            yield one, None
-            one = next(firsts, None)
-        elif one is None or other.name < one.name:
-            yield None, other
-            other = next(seconds, None)
+        if other is None or (one is not None and one < other):
+            yield i, None
+            i, one = i + 1, next(firsts, None)
+        elif one is None or other < one:
+            yield None, k
+            k, other = k + 1, next(seconds, None)
         else:
-            yield one, other
-            one, other = next(firsts, None), next(seconds, None)
+            yield i, k
+            i, one, k, other = i + 1, next(firsts, None), k + 1, next(seconds, None)
 
 
 def _change(first: Union[str, Decimal], second: Union[str, Decimal]) -> str:
