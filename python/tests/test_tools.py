@@ -403,6 +403,45 @@ class Command(Directory):
                         self.assertTrue(found, option)
 
 
+class Completions(Directory):
+    WANTED = {
+        "": "canon check same diff show digest explain report --help --version", "d": "diff digest", "canon -t ": "mps lp", "check -f l": "lp",
+        "diff --": "--help --format --ignore-objective-name --digits --by-position", "canon -i sm": "small.lp small.mps", "explain DuplicateR": "DuplicateRange DuplicateRhs DuplicateRow",
+        "diff --digits ": "",
+    }
+
+    def setUp(self):
+        super().setUp()
+        self.file("small.lp")
+        self.file("small.mps")
+        command = self.file("bin/mpslp-tools", f'#!/bin/sh\nexec {sys.executable} -m mpslp "$@"\n'.encode())
+        command.chmod(0o755)
+        self.environment = {**os.environ, "PATH": f"{command.parent}{os.pathsep}{os.environ['PATH']}"}
+
+    def check(self, shell, script, wanted):
+        """A script of a shell that prints the completions of a line, each on a line of its own."""
+        if shutil.which(shell) is None:
+            self.skipTest(f"{shell} is missing")
+        for line, words in wanted.items():
+            done = subprocess.run([shell, "-c", script.format(line=line)], capture_output=True, text=True, env=self.environment, timeout=60)
+            self.assertEqual((sorted(done.stdout.split()), done.stderr), (sorted(words.split()), ""), f"{shell}: {line!r}")
+
+    def test_bash(self):
+        script = "compopt() {{ :; }}; source " + str(ROOT / "completions" / "mpslp-tools.bash") + """
+read -ra COMP_WORDS <<< 'mpslp-tools {line}'
+case '{line}' in '' | *' ') COMP_WORDS+=('') ;; esac
+COMP_CWORD=$((${{#COMP_WORDS[@]}} - 1))
+_mpslp_tools
+printf '%s\\n' "${{COMPREPLY[@]}}"
+"""
+        self.check("bash", script, self.WANTED)
+
+    def test_fish(self):
+        script = "source " + str(ROOT / "completions" / "mpslp-tools.fish") + "; complete -C 'mpslp-tools {line}' | string replace -r '\\t.*' ''"
+        wanted = {line: words.replace(" --help --version", "") for line, words in self.WANTED.items()}
+        self.check("fish", script, wanted)
+
+
 def words_of_the_commands():
     """The commands with their long options, of the parser itself."""
     commands = next(action for action in _main.parser("mpslp-tools")._actions if hasattr(action, "choices") and isinstance(action.choices, dict))
