@@ -37,7 +37,7 @@ work=$(realpath "$dist/work")
 # The wheel is made of the commit's files, whose modes go into it, and without debug information, which contains their paths.
 build_wheel() {
     mkdir -p "$work/source/build"
-    git -c tar.umask=0022 archive HEAD VERSION include python | tar -xf - -C "$work/source"
+    git -c tar.umask=0022 archive HEAD VERSION include python docs/errors.tsv | tar -xf - -C "$work/source"
     cp build/libmpslp.a "$work/source/build/"
     CFLAGS=-g0 sh "$work/source/python/build.sh" > /dev/null
     test -f "$work/source/build/$wheel" || die "the wheel has another name than $wheel"
@@ -53,6 +53,13 @@ unpack_wheel() {
     "${PYTHON:-/usr/bin/python3}" -m zipfile -e "$work/source/build/$wheel" "$work/wheel"
 }
 
+# The command of the wheel, which runs without an installation by pip.
+install_tools() {
+    install -D -m 755 release/mpslp-tools "$1/bin/mpslp-tools"
+    mkdir -p "$1/lib/mpslp/python"
+    cp -R "$work/wheel/mpslp" "$1/lib/mpslp/python/"
+}
+
 # The checksums of all files below a directory.
 sums() {
     (cd "$1" && find . -type f -printf '%P\0' | sort -z | xargs -0 sha256sum)
@@ -66,6 +73,7 @@ set_times() {
 stage_archive() {
     PREFIX=$work/$name PC_PREFIX='${pcfiledir}/../..' sh release/install.sh program library documents
     install -D -m 644 "$work/source/build/$wheel" "$work/$name/share/mpslp/$wheel"
+    install_tools "$work/$name"
     install -m 644 release/INSTALL.md "$work/$name/INSTALL.md"
     sums "$work/$name" > "$work/SHA256SUMS"
     mv "$work/SHA256SUMS" "$work/$name/SHA256SUMS"
@@ -89,7 +97,8 @@ Architecture: amd64
 Maintainer: mpslp maintainers
 Installed-Size: $1
 Depends: libc6 (>= $glibc)
-Suggests: gcc, pkgconf, python3 (>= 3.10), python3-venv
+Recommends: python3 (>= 3.10)
+Suggests: gcc, pkgconf, python3-venv
 Section: math
 Priority: optional
 Description: one canonical text for each linear or mixed-integer model
@@ -97,8 +106,9 @@ Description: one canonical text for each linear or mixed-integer model
  text for each model, with exact decimals. It converts between both formats and
  compares models. An ambiguous file is rejected with its line and the reason.
  .
- The package has the program, the library for C with its header, and the wheel
- of the package for Python in /usr/share/mpslp.
+ The package has the program, the command mpslp-tools for many files, which
+ needs python3, the library for C with its header, and in /usr/share/mpslp the
+ wheel of the package for Python.
 CONTROL
 }
 
@@ -109,6 +119,7 @@ stage_package() {
     gzip -9n "$root/usr/share/man/man1/mpslp.1"
     mv "$root/usr/share/zsh/site-functions" "$root/usr/share/zsh/vendor-completions"
     install -D -m 644 "$work/source/build/$wheel" "$root/usr/share/mpslp/$wheel"
+    install_tools "$root/usr"
     install -m 644 release/copyright "$root/usr/share/doc/mpslp/copyright"
     size=$(installed_size "$root")
     mkdir "$root/DEBIAN"

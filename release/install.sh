@@ -1,7 +1,7 @@
 #!/bin/sh
 # release/install.sh PART..: installs what is built, by parts, or removes it again.
 #
-#     program      the program, its man page and its completions
+#     program      the program, its man page and its completions, also those of mpslp-tools, which the wheel has
 #     library      the library for C, its header and its pkg-config file
 #     documents    the documents and the examples
 #     uninstall    removes everything that these three install
@@ -21,9 +21,13 @@ files() {
     cat <<TABLE
 program 755 crates/mpslp/out/mpslp $prefix/bin/mpslp
 program 644 docs/mpslp.1 $prefix/share/man/man1/mpslp.1
+program 644 docs/mpslp-tools.1 $prefix/share/man/man1/mpslp-tools.1
 program 644 completions/mpslp.bash $prefix/share/bash-completion/completions/mpslp
+program 644 completions/mpslp-tools.bash $prefix/share/bash-completion/completions/mpslp-tools
 program 644 completions/_mpslp $prefix/share/zsh/site-functions/_mpslp
+program 644 completions/_mpslp-tools $prefix/share/zsh/site-functions/_mpslp-tools
 program 644 completions/mpslp.fish $prefix/share/fish/vendor_completions.d/mpslp.fish
+program 644 completions/mpslp-tools.fish $prefix/share/fish/vendor_completions.d/mpslp-tools.fish
 library 644 include/mpslp.h $prefix/include/mpslp.h
 library 644 build/libmpslp.a $libdir/libmpslp.a
 library 755 build/libmpslp.so.0 $libdir/libmpslp.so.0

@@ -1,6 +1,6 @@
 #!/bin/sh
-# release/use.sh VERSION WHEEL: uses an installed mpslp: the program, its man page, the library from C, the wheel from Python.
-# check.sh runs this within the root in which it was installed, in a directory with the files that are used here.
+# release/use.sh VERSION WHEEL: uses an installed mpslp: the program, its man page, mpslp-tools, the library from C, the wheel
+# from Python. check.sh runs this within the root in which it was installed, in a directory with the files that are used here.
 set -eu
 version=$1
 wheel=$2
@@ -17,6 +17,7 @@ page=$(man -w mpslp)
 test -s "$page" || die "man -w mpslp prints $page"
 man mpslp > page.txt 2> /dev/null
 grep -q '^SYNOPSIS' page.txt || die "the man page is not shown"
+man mpslp-tools 2> /dev/null | cmp - page.txt
 
 test "$(pkg-config --modversion mpslp)" = "$version" || die "pkg-config --modversion prints $(pkg-config --modversion mpslp)"
 flags=$(pkg-config --cflags mpslp)
@@ -68,3 +69,11 @@ assert mpslp.is_canonical("examples/small.canonical.mps")
 assert mpslp.same("examples/small.mps", "examples/small.lp")
 assert mpslp.load("examples/small.mps") == mpslp.load("examples/small.lp")
 PYTHON
+for tools in mpslp-tools planning/bin/mpslp-tools; do
+    test "$($tools --version)" = "mpslp $version" || die "$tools --version prints $($tools --version)"
+    test "$($tools diff examples/small.mps examples/small.lp)" = same || die "$tools diff finds a difference"
+    ! $tools check examples/small.canonical.lp examples/small.lp > said || die "$tools check finds no file"
+    test "$(cat said)" = examples/small.lp || die "$tools check finds other files: $(cat said)"
+    $tools explain DuplicateEntry > said
+    grep -q 'Add the coefficients' said || die "$tools explain has no causes"
+done

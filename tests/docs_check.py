@@ -14,7 +14,9 @@ not see, says how:
                                also knows some tables by their heads, without a comment
     <!-- check: COMMAND -->    without a block: the command ends with status 0
     <!-- needs: PROGRAM -->    if it is missing, the part from here to the next paragraph
-                               in bold or heading is skipped, and reported as skipped
+                               in bold or heading is skipped, and reported as skipped.
+                               There may be several, and several words are a command
+                               that ends with status 0 if what is needed is there
 
 A block in the language console needs no comment: a line that begins with "$ "
 is a command, and the lines up to the next one are what it prints.
@@ -157,10 +159,11 @@ class Document:
                 self.check_links(number, line)
             at += 1
 
-    def need(self, number, program):
-        self.passes_over = not shutil.which(program)
-        if self.passes_over:
-            print(f"skipped: {self.name}:{number}: {program} is missing")
+    def need(self, number, what):
+        is_there = self.scratch.run(what)[0] == 0 if " " in what else shutil.which(what)
+        if not is_there:
+            self.passes_over = True
+            print(f"skipped: {self.name}:{number}: {what} is missing")
 
     def block(self, at, indent):
         """The lines of a fenced block, and the line that ends it."""

@@ -9,12 +9,12 @@ from fractions import Fraction
 from pathlib import Path
 
 import mpslp
+from drawn_models import INFINITY, made
 from repository import EXAMPLES, VECTORS, model_files
 from test_load import entries, sample
 
 import models  # from tests/ of the repository
 
-INFINITY = Decimal("Infinity")
 NOT_LP = mpslp.Model(columns=[mpslp.Column("x"), mpslp.Column("x[1]")])
 
 
@@ -34,25 +34,6 @@ def made_again(model):
         for column in model.columns.values()
     ]
     return mpslp.Model(model.sense, model.objective, model.constant, reversed(rows), reversed(columns))
-
-
-def decimal(number):
-    """A number of tests/models.py, where None is an infinite limit."""
-    return None if number is None else Decimal(f"{number.mantissa}e{number.exponent}")
-
-
-def made(drawn):
-    """A model of tests/models.py."""
-    rows = [mpslp.Row(name, -INFINITY if row.lower is None else decimal(row.lower), INFINITY if row.upper is None else decimal(row.upper))
-            for name, row in drawn.rows.items()]
-    columns = []
-    for name, column in drawn.columns.items():
-        values = {row: decimal(value) for row, value in column.values.items()}
-        columns.append(mpslp.Column(name, "semi-continuous" if column.kind == "semi" else column.kind,
-                                    -INFINITY if column.lower is None else decimal(column.lower),
-                                    INFINITY if column.upper is None else decimal(column.upper),
-                                    values.pop(drawn.objective, 0), values))
-    return mpslp.Model("maximize" if drawn.maximise else "minimize", drawn.objective, decimal(drawn.constant), rows, columns)
 
 
 class Texts(unittest.TestCase):

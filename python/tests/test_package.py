@@ -73,7 +73,9 @@ class Package(unittest.TestCase):
             (mpslp.Row, ("The lower limit", "The upper limit", "nonzero coefficients of columns")),
             (mpslp.Column, ("The lower bound", "'semi-continuous'", "coefficient in the objective", "nonzero coefficients in rows")),
             (mpslp.Model, ("The name of the objective", "added to the objective", "The rows by name", "SHA-256")),
-            (mpslp.ModelFileError, ("kind\n", "line\n", "name\n", "place\n", "number\n", "which\n", "filename\n")),
+            (mpslp.Differences, ("verdict\n", '"close"', "digits")),
+            (mpslp.EntryDifference, ("0 if there is none", "entry MYG Y: 1.5 -> 0")),
+            (mpslp.ModelFileError, ("kind\n", "line\n", "name\n", "place\n", "number\n", "which\n", "filename\n", "explanation\n")),
         ):
             text = pydoc.render_doc(each, renderer=pydoc.plaintext)
             for word in words:

@@ -17,24 +17,43 @@ import docs_check  # from tests/ of the repository
 
 
 class Page(docs_check.Document):
-    """A page whose comment `needs` may name a module of Python, too, and may stand twice."""
+    """A page whose comment `needs` may name a module of Python, too."""
 
     def need(self, number, what):
-        was_over = self.passes_over
         if not importlib.util.find_spec(what):
             super().need(number, what)
-        self.passes_over |= was_over
+
+
+class Recipes(Page):
+    """What a page has for the command of the package: the paragraphs that need it."""
+
+    MARK = "<!-- needs: mpslp-tools -->"
+
+    def __init__(self, path, scratch):
+        super().__init__(path, scratch)
+        paragraphs = [[]]
+        for line in self.lines:
+            if docs_check.PARAGRAPH.match(line):
+                paragraphs.append([])
+            paragraphs[-1].append(line)
+        self.lines = [line if self.MARK in lines else "" for lines in paragraphs for line in lines]
 
 
 class Shown(unittest.TestCase):
-    def test_what_the_readme_shows(self):
+    def check(self, kind, path):
         # Its commands find this Python first, and call the package alone.
-        path = f"{Path(sys.executable).parent}{os.pathsep}{os.environ['PATH']}"
-        with tempfile.TemporaryDirectory() as folder, mock.patch.dict(os.environ, PATH=path):
-            page = Page(ROOT / "python" / "README.md", docs_check.Scratch(folder, shutil.which("false")))
+        found = f"{Path(sys.executable).parent}{os.pathsep}{os.environ['PATH']}"
+        with tempfile.TemporaryDirectory() as folder, mock.patch.dict(os.environ, PATH=found):
+            page = kind(ROOT / path, docs_check.Scratch(folder, shutil.which("false")))
             page.check()
         self.assertEqual(page.wrong, [])
         self.assertGreater(page.tried, 5)
+
+    def test_what_the_readme_shows(self):
+        self.check(Page, "python/README.md")
+
+    def test_recipes_for_the_command(self):
+        self.check(Recipes, "docs/RECIPES.md")
 
     def test_what_the_package_shows(self):
         failed, tried = doctest.testmod(mpslp, extraglobs={"mpslp": mpslp})

@@ -10,7 +10,7 @@ from io import BytesIO
 from mmap import mmap
 from os import PathLike
 from pathlib import Path
-from typing import Union, assert_type
+from typing import Literal, Union, assert_type
 
 import mpslp
 
@@ -38,6 +38,9 @@ def faults(error: mpslp.ModelFileError) -> None:
     assert_type(error.name, Union[str, None])
     assert_type(error.number, Union[int, None])
     assert_type(error.filename, Union[str, None])
+    assert_type(error.explanation, mpslp.Explanation)
+    assert_type(mpslp.explain("BadByte").causes[0], mpslp.Cause)
+    assert_type(mpslp.explain("BadByte").causes[0].fix, str)
 
 
 def models(source: mpslp.Source) -> None:
@@ -61,9 +64,33 @@ def models(source: mpslp.Source) -> None:
     assert_type(replace(made, constant=1), mpslp.Model)
 
 
+def differences(first: mpslp.Model, second: Path) -> None:
+    found = mpslp.diff(first, second, second_format="lp", digits=12, by_position=True)
+    assert_type(found, mpslp.Differences)
+    assert_type(found.first, mpslp.Model)
+    assert_type(found.verdict, Literal["same", "close", "not the same"])
+    assert_type(list(found), list[mpslp.Difference])
+    for each in found:
+        if isinstance(each, mpslp.RowOnly):
+            assert_type(each.row, mpslp.Row)
+        elif isinstance(each, mpslp.ColumnOnly):
+            assert_type(each.column, mpslp.Column)
+        elif isinstance(each, mpslp.ColumnDifference):
+            assert_type(each.first, Union[mpslp.Kind, Decimal])
+        elif isinstance(each, mpslp.RowDifference):
+            assert_type(each.first, Decimal)
+        elif isinstance(each, mpslp.EntryDifference):
+            assert_type(each.row, str)
+        else:
+            assert_type(each, mpslp.ModelDifference)
+    mpslp.assert_same_model(first, second, ignore_objective_name=True)
+    assert_type(mpslp.digest(second), str)
+
+
 def wrong(text: bytes) -> None:
     mpslp.canonical(7, "mps")  # type: ignore[arg-type]
     mpslp.canonical(text, "qps")  # type: ignore[arg-type]
     mpslp.Row("r", "3")  # type: ignore[arg-type]
+    mpslp.diff(text, text, "mps", "mps", digits="3")  # type: ignore[arg-type]
     mpslp.load(text, "lp").sense = "maximize"  # type: ignore[misc]
     mpslp.load(text, "lp").rows["r"] = mpslp.Row("r")  # type: ignore[index]

@@ -22,7 +22,20 @@ others.
 from mpslp._mpslp import VERSION as __version__
 
 from mpslp._arrays import Arrays
-from mpslp._calls import canonical, is_canonical, same
+from mpslp._calls import canonical, digest, is_canonical, same
+from mpslp._differences import (
+    ColumnDifference,
+    ColumnOnly,
+    Difference,
+    Differences,
+    EntryDifference,
+    ModelDifference,
+    RowDifference,
+    RowOnly,
+    assert_same_model,
+    diff,
+)
+from mpslp._explanations import Cause, Explanation, explain
 from mpslp._faults import ModelFileError
 from mpslp._models import Column, Kind, Model, Row, Sense, dump, dumps, from_arrays, load
 from mpslp._numbers import Number, fraction
@@ -31,18 +44,32 @@ from mpslp._sources import Format, Source
 __all__ = [
     "__version__",
     "Arrays",
+    "Cause",
     "Column",
+    "ColumnDifference",
+    "ColumnOnly",
+    "Difference",
+    "Differences",
+    "EntryDifference",
+    "Explanation",
     "Format",
     "Kind",
     "Model",
+    "ModelDifference",
     "ModelFileError",
     "Number",
     "Row",
+    "RowDifference",
+    "RowOnly",
     "Sense",
     "Source",
+    "assert_same_model",
     "canonical",
+    "diff",
+    "digest",
     "dump",
     "dumps",
+    "explain",
     "fraction",
     "from_arrays",
     "is_canonical",
@@ -51,6 +78,7 @@ __all__ = [
 ]
 
 # In whatever module they are defined, they are shown and pickled by the names under which they are found.
-for _each in (Arrays, Column, Model, ModelFileError, Row, canonical, dump, dumps, fraction, from_arrays, is_canonical, load, same):
-    _each.__module__ = __name__
-del _each
+for _name in __all__:
+    if isinstance(globals()[_name], (type, type(canonical))):
+        globals()[_name].__module__ = __name__
+del _name

@@ -54,3 +54,20 @@ def is_canonical(source: Source, format: Format | None = None) -> bool:
     text = read(source, format)
     with naming(text):
         return _mpslp.is_canonical(text.content, text.format)
+
+
+def digest(source: Source, format: Format | None = None) -> str:
+    """Returns the SHA-256 of the canonical MPS text of the model that a text declares, as 64 hexadecimal digits.
+
+    Every text of one model has the same, in either format; it is the ``digest`` of the :class:`Model`.
+
+    The format may be left out for a path that ends in ``.mps`` or ``.lp``.
+
+    Raises ModelFileError where the text declares no model.
+
+    >>> mpslp.digest(b"min x + 2 y\\nend\\n", "lp") == mpslp.digest(b"min 2.0 y + x\\nend\\n", "lp")
+    True
+    """
+    import hashlib  # it breaks further interpreters of CPython 3.12.1, and is wanted here only
+
+    return hashlib.sha256(canonical(source, format, "mps")).hexdigest()

@@ -2,6 +2,8 @@
 
 from typing import Any, Literal
 
+from mpslp._explanations import Explanation, explain
+
 
 class ModelFileError(ValueError):
     """A text defines no model, or its model has a name that is not legal in LP.
@@ -25,6 +27,8 @@ class ModelFileError(ValueError):
         ``"first"`` or ``"second"``: which of the two texts of ``same`` is rejected; None for the other calls.
     filename
         The path of the file; None for a text that is bytes.
+    explanation
+        The usual causes of this kind of error, and what to do about each: an :class:`Explanation`, which can be printed.
     """
 
     kind: str
@@ -53,6 +57,11 @@ class ModelFileError(ValueError):
         self.number = number
         self.which = which
         self.filename = filename
+
+    @property
+    def explanation(self) -> Explanation:
+        """The usual causes of this kind of error, and what to do about each."""
+        return explain(self.kind)
 
     def __reduce__(self) -> tuple[Any, ...]:
         # By its attributes: the path is set after the error is raised, and the arguments are those of the error.

@@ -19,6 +19,10 @@ LARGE = Decimal(10**20)
 # The maximum number of zeros that are written out after digits, as in the extension module.
 _MOST_ZEROS = 20
 
+# The same in canonical texts, and the most decimal places there; other numbers have an exponent.
+_MOST_ZEROS_OF_TEXT = 5
+_MOST_PLACES_OF_TEXT = 18
+
 # Enough precision for each difference of two numbers of a model.
 _EXACT = Context(prec=4 * MOST_EXPONENT, Emax=MAX_EMAX, Emin=MIN_EMIN)
 
@@ -55,6 +59,35 @@ def limit_of(number: Number) -> Decimal:
     """The same for a limit or a bound, which is infinite, by its sign, from a magnitude of 10^20."""
     found = decimal_of(number)
     return found if found.copy_abs() < LARGE else INFINITY.copy_sign(found)
+
+
+def is_near(first: Decimal, second: Decimal, digits: int) -> bool:
+    """Whether two numbers differ by less than one unit in this significant digit of the larger; those that are equal do."""
+    if first == second:
+        return True
+    if first.is_infinite() or second.is_infinite():
+        return False
+    larger = max(first.copy_abs(), second.copy_abs())
+    return _EXACT.subtract(first, second).adjusted() <= larger.adjusted() - digits
+
+
+def number_text(number: Decimal) -> str:
+    """The number text of docs/FORMATS.md, as it is in canonical texts; ``inf`` or ``-inf`` for what is infinite."""
+    sign, digits, exponent = number.as_tuple()
+    minus = "-" if sign and number else ""
+    if not isinstance(exponent, int):
+        return f"{minus}inf"
+    written = "".join(map(str, digits)).lstrip("0")
+    significant = written.rstrip("0")
+    exponent += len(written) - len(significant)
+    if not significant:
+        return "0"
+    if 0 <= exponent <= _MOST_ZEROS_OF_TEXT:
+        return f"{minus}{significant}{'0' * exponent}"
+    if -_MOST_PLACES_OF_TEXT <= exponent < 0:
+        padded = significant.rjust(1 - exponent, "0")
+        return f"{minus}{padded[:exponent]}.{padded[exponent:]}"
+    return f"{minus}{significant}e{exponent}"
 
 
 def difference(upper: Decimal, lower: Decimal) -> Decimal:

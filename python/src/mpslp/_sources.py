@@ -102,12 +102,17 @@ def naming(first: Text, second: Text | None = None) -> Iterator[None]:
         raise
 
 
+def format_of_name(path: str) -> Format | None:
+    """The format that the ending of a path says, or None."""
+    name, _ = without_ending(path)
+    return next((format for format in _NUMBERS if name.lower().endswith("." + format)), None)
+
+
 def _format_of_path(path: str | bytes) -> Format:
-    name, _ = without_ending(os.fsdecode(path))
-    for format in _NUMBERS:
-        if name.lower().endswith("." + format):
-            return format
-    raise ValueError(f"the format of {os.fsdecode(path)!r} has to be told, 'mps' or 'lp': it ends neither in .mps nor in .lp")
+    format = format_of_name(os.fsdecode(path))
+    if format is None:
+        raise ValueError(f"the format of {os.fsdecode(path)!r} has to be told, 'mps' or 'lp': it ends neither in .mps nor in .lp")
+    return format
 
 
 def _view(source: ReadableBuffer | BinaryFile) -> bytes | memoryview | None:

@@ -1,0 +1,39 @@
+# Completion of mpslp-tools for bash.
+_mpslp_tools() {
+    local word=${COMP_WORDS[COMP_CWORD]} previous=${COMP_WORDS[COMP_CWORD - 1]} command=${COMP_WORDS[1]}
+    local commands='canon check same diff show digest explain report' options='--help --format'
+    COMPREPLY=()
+    if ((COMP_CWORD == 1)); then
+        mapfile -t COMPREPLY < <(compgen -W "$commands --help --version" -- "$word")
+        return
+    fi
+    case $previous in
+        -f | --format | -t | --to)
+            mapfile -t COMPREPLY < <(compgen -W 'mps lp' -- "$word")
+            return
+            ;;
+        -j | --jobs | --digits)
+            return
+            ;;
+    esac
+    case $command in
+        canon) options+=' --output --in-place --to --jobs' ;;
+        check | digest) options+=' --jobs' ;;
+        diff) options+=' --ignore-objective-name --digits --by-position' ;;
+        explain) options=--help ;;
+        report) options='--help --output --digits --by-position' ;;
+    esac
+    case $command:$word in
+        *:-*)
+            mapfile -t COMPREPLY < <(compgen -W "$options" -- "$word")
+            ;;
+        explain:*)
+            mapfile -t COMPREPLY < <(compgen -W "$("${COMP_WORDS[0]}" explain 2> /dev/null)" -- "$word")
+            ;;
+        *)
+            compopt -o filenames
+            mapfile -t COMPREPLY < <(compgen -f -- "$word")
+            ;;
+    esac
+}
+complete -F _mpslp_tools mpslp-tools

@@ -1,0 +1,32 @@
+# Completion of mpslp-tools for fish.
+
+function __mpslp_tools_at
+    set -l words (commandline -opc)
+    test (count $words) -ge 2; and contains -- $words[2] $argv
+end
+
+function __mpslp_tools_first
+    test (count (commandline -opc)) = 1
+end
+
+complete -c mpslp-tools -f
+complete -c mpslp-tools -n __mpslp_tools_first -a canon -d 'Write the canonical text of a file'
+complete -c mpslp-tools -n __mpslp_tools_first -a check -d 'Print which files are not canonical'
+complete -c mpslp-tools -n __mpslp_tools_first -a same -d 'Say whether two files define the same model'
+complete -c mpslp-tools -n __mpslp_tools_first -a diff -d 'Print in what two models differ'
+complete -c mpslp-tools -n __mpslp_tools_first -a show -d 'Print the model of a file'
+complete -c mpslp-tools -n __mpslp_tools_first -a digest -d 'Print a checksum of the model of each file'
+complete -c mpslp-tools -n __mpslp_tools_first -a explain -d 'Explain a kind of error'
+complete -c mpslp-tools -n __mpslp_tools_first -a report -d 'Make a page about a model'
+complete -c mpslp-tools -n __mpslp_tools_first -l version -d 'Print the version'
+complete -c mpslp-tools -s h -l help -d 'Print help'
+complete -c mpslp-tools -n '__mpslp_tools_at canon check same diff show digest report' -F
+complete -c mpslp-tools -n '__mpslp_tools_at canon check same diff show digest' -s f -l format -xa 'mps lp' -d 'The format of a file whose extension does not say it'
+complete -c mpslp-tools -n '__mpslp_tools_at canon check digest' -s j -l jobs -x -d 'Work on so many files at a time'
+complete -c mpslp-tools -n '__mpslp_tools_at canon' -s t -l to -xa 'mps lp' -d 'The format to write'
+complete -c mpslp-tools -n '__mpslp_tools_at canon' -s i -l in-place -d 'Rewrite each file that is not canonical'
+complete -c mpslp-tools -n '__mpslp_tools_at canon report' -s o -l output -rF -d 'Write to this file'
+complete -c mpslp-tools -n '__mpslp_tools_at diff' -l ignore-objective-name -d 'The name of the objective does not count'
+complete -c mpslp-tools -n '__mpslp_tools_at diff report' -l digits -x -d 'Numbers are equal if they agree to so many digits'
+complete -c mpslp-tools -n '__mpslp_tools_at diff report' -l by-position -d 'Names do not count, but the order of rows and columns'
+complete -c mpslp-tools -n '__mpslp_tools_at explain' -a '(mpslp-tools explain 2> /dev/null)'

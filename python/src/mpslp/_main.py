@@ -1,0 +1,513 @@
+"""The command mpslp-tools, which is also ``python3 -m mpslp``."""
+
+from __future__ import annotations
+
+import argparse
+import io
+import os
+import signal
+import sys
+from collections.abc import Callable, Iterable, Iterator, Sequence
+from concurrent.futures import Future, ThreadPoolExecutor
+from enum import IntEnum
+from functools import partial
+from importlib import import_module
+from importlib.util import find_spec
+from typing import Any, NamedTuple, NoReturn
+
+from mpslp import _mpslp
+from mpslp._compression import pack
+from mpslp._differences import diff
+from mpslp._explanations import explain, kinds
+from mpslp._faults import ModelFileError
+from mpslp._files import model_files, replace_file
+from mpslp._models import model_of
+from mpslp._numbers import MOST_DIGITS
+from mpslp._places import about
+from mpslp._shown import shown
+from mpslp._sources import Format, Text, format_number, format_of_name, naming, read
+
+STANDARD_INPUT = "-"
+_MOST_JOBS = 1000
+
+
+class Status(IntEnum):
+    """Exit statuses: those of the program mpslp. Of several files the greatest is that of the command."""
+
+    DONE = 0
+    DIFFERS = 1
+    REJECTED = 2
+    USAGE = 3
+    FAILED = 4
+    NO_MEMORY = 5
+
+
+class Outcome(NamedTuple):
+    """What came of a file, and what is printed of it: a line on each stream, or a text."""
+
+    status: Status = Status.DONE
+    output: str = ""
+    error: str = ""
+    text: Iterable[bytes] = ()
+
+
+class Parser(argparse.ArgumentParser):
+    """A parser whose errors end with the status of mpslp for wrong usage."""
+
+    def error(self, message: str) -> NoReturn:
+        self.print_usage(sys.stderr)
+        self.exit(Status.USAGE, f"{self.prog}: error: {message}\n")
+
+
+class UsageError(Exception):
+    """Arguments that do not fit each other."""
+
+
+# ---- reading, and what is said of a file that is rejected or does not open
+
+
+def text_of(path: str, options: argparse.Namespace) -> Text:
+    """The text of a path, by its format or else the one of the option."""
+    format: Format | None = format_of_name(path) or options.format
+    if format is None:
+        if path != STANDARD_INPUT:
+            os.stat(path)  # what is wrong with a path that is missing is not its name
+        raise UsageError(f"{path}: its name ends neither in .mps nor in .lp: say -f mps or -f lp")
+    if path == STANDARD_INPUT:
+        return Text(sys.stdin.buffer.read(), format_number(format), path)
+    return read(path, format)
+
+
+def failure(path: str, error: Exception, text: Text | None = None) -> Outcome:
+    """What is said of an error that ends the work on a file."""
+    if isinstance(error, ModelFileError):
+        where = path if error.line is None else f"{path}:{error.line}"
+        words = about(text, error) if text is not None else error.name
+        return Outcome(Status.REJECTED, error=f"{where}: {error.kind}" + (f": {words}" if words else ""))
+    if isinstance(error, UsageError):
+        return Outcome(Status.USAGE, error=str(error))
+    if isinstance(error, MemoryError):
+        return Outcome(Status.NO_MEMORY, error=f"{path}: out of memory")
+    if isinstance(error, OSError) and error.strerror:
+        return Outcome(Status.FAILED, error=f"{error.filename or path}: {error.strerror}")
+    return Outcome(Status.FAILED, error=f"{path}: {error}".replace(f"{path}: {path!r} ", f"{path}: "))
+
+
+def attempt(path: str, options: argparse.Namespace, work: Callable[[Text], Outcome]) -> Outcome:
+    """Does something with the text of a file, or says why not."""
+    text = None
+    try:
+        text = text_of(path, options)
+        with naming(text):
+            return work(text)
+    except (ModelFileError, UsageError, MemoryError, OSError, ImportError) as error:
+        return failure(path, error, text)
+
+
+# ---- many files
+
+
+class Progress:
+    """How many files are done, in one line of a terminal."""
+
+    def __init__(self, total: int) -> None:
+        self._is_shown = total > 1 and sys.stderr.isatty()
+        self._total = total
+
+    def show(self, done: int) -> None:
+        if self._is_shown:
+            print(f"\r{done} of {self._total}", end="", file=sys.stderr, flush=True)
+
+    def clear(self) -> None:
+        if self._is_shown:
+            print("\r\x1b[K", end="", file=sys.stderr, flush=True)
+
+
+def for_each(paths: Iterable[str], options: argparse.Namespace, work: Callable[[Text], Outcome]) -> Status:
+    """Does something with each file, and prints what came of them in order. Returns the greatest status."""
+    worst = Status.DONE
+
+    def report_directory(error: OSError) -> None:
+        nonlocal worst
+        worst = Status.FAILED
+        _print(failure(str(error.filename), error))
+
+    files = list(model_files(paths, report_directory))
+    progress = Progress(len(files))
+    for done, outcome in enumerate(_outcomes(files, options, work), 1):
+        if outcome.output or outcome.error:
+            progress.clear()
+            _print(outcome)
+        progress.show(done)
+        worst = max(worst, outcome.status)
+    progress.clear()
+    return worst
+
+
+def _outcomes(files: list[str], options: argparse.Namespace, work: Callable[[Text], Outcome]) -> Iterator[Outcome]:
+    """What comes of each file, in order. If the command is interrupted, the files that are begun are done first."""
+    workers = min(options.jobs, len(files))
+    if workers < 2:
+        yield from (attempt(path, options, work) for path in files)
+        return
+    pool = ThreadPoolExecutor(workers)
+    try:
+        futures: list[Future[Outcome]] = [pool.submit(attempt, path, options, work) for path in files]
+        yield from (future.result() for future in futures)
+    finally:
+        pool.shutdown(cancel_futures=True)
+
+
+def _print(outcome: Outcome) -> None:
+    sys.stdout.buffer.writelines(outcome.text)
+    if outcome.output:
+        print(outcome.output, flush=True)
+    if outcome.error:
+        print(outcome.error, file=sys.stderr, flush=True)
+
+
+# ---- the commands
+
+
+def canon(options: argparse.Namespace) -> Status:
+    if options.in_place:
+        if options.to or STANDARD_INPUT in options.files:
+            raise UsageError("-i rewrites files in their own formats: it goes neither with -t nor with standard input")
+        return for_each(options.files, options, lambda text: _rewrite(text))
+    if len(options.files) > 1 or os.path.isdir(options.files[0]):
+        raise UsageError("without -i, canon writes the text of one file")
+    outcome = attempt(options.files[0], options, lambda text: _write(text, options))
+    _print(outcome)
+    return outcome.status
+
+
+def _rewrite(text: Text) -> Outcome:
+    """Makes a file canonical, which stays as it is if it is so already."""
+    path = str(text.filename)
+    content = _mpslp.canonical(text.content, text.format, text.format)
+    if content == text.content:
+        return Outcome()
+    replace_file(path, pack(path, content))
+    return Outcome(output=path)
+
+
+def _write(text: Text, options: argparse.Namespace) -> Outcome:
+    """Writes the canonical text of a file to another one, or prints it."""
+    path = options.output or STANDARD_INPUT
+    to: Format | None = options.to or format_of_name(path)
+    content = _mpslp.canonical(text.content, text.format, text.format if to is None else format_number(to))
+    if path == STANDARD_INPUT:
+        return Outcome(text=[content])
+    replace_file(path, pack(path, content))
+    return Outcome()
+
+
+def check(options: argparse.Namespace) -> Status:
+    def work(text: Text) -> Outcome:
+        is_canonical = _mpslp.is_canonical(text.content, text.format)
+        return Outcome() if is_canonical else Outcome(Status.DIFFERS, str(text.filename))
+
+    return for_each(options.files, options, work)
+
+
+def digest(options: argparse.Namespace) -> Status:
+    from hashlib import sha256  # it breaks further interpreters of CPython 3.12.1, and is wanted here only
+
+    def work(text: Text) -> Outcome:
+        return Outcome(output=f"{sha256(_mpslp.canonical(text.content, text.format, _mpslp.MPS)).hexdigest()}  {text.filename}")
+
+    return for_each(options.files, options, work)
+
+
+def show(options: argparse.Namespace) -> Status:
+    def work(text: Text) -> Outcome:
+        return Outcome(text=(f"{line}\n".encode("ascii") for line in shown(model_of(_mpslp.load(text.content, text.format)))))
+
+    outcome = attempt(options.file, options, work)
+    _print(outcome)
+    return outcome.status
+
+
+def _texts(options: argparse.Namespace) -> tuple[Text, Text] | Outcome:
+    """The texts of two files that are compared, or what is said of one that does not open."""
+    if options.first == options.second == STANDARD_INPUT:
+        raise UsageError("at most one file is standard input")
+    texts = []
+    for path in (options.first, options.second):
+        try:
+            texts.append(text_of(path, options))
+        except (OSError, ImportError, MemoryError) as error:
+            return failure(path, error)
+    return texts[0], texts[1]
+
+
+def _compare(options: argparse.Namespace, work: Callable[[Text, Text], Status]) -> Status:
+    texts = _texts(options)
+    if isinstance(texts, Outcome):
+        _print(texts)
+        return texts.status
+    try:
+        return work(*texts)
+    except ModelFileError as error:
+        text = texts[1] if error.which == "second" else texts[0]
+        outcome = failure(str(text.filename), error, text)
+        _print(outcome)
+        return outcome.status
+
+
+def same(options: argparse.Namespace) -> Status:
+    def work(first: Text, second: Text) -> Status:
+        is_same = _mpslp.same(first.content, first.format, second.content, second.format)
+        print("same" if is_same else "not the same")
+        return Status.DONE if is_same else Status.DIFFERS
+
+    return _compare(options, work)
+
+
+def difference(options: argparse.Namespace) -> Status:
+    if os.devnull in (options.first, options.second):
+        return _print_whole_model(options)
+
+    def work(first: Text, second: Text) -> Status:
+        differences = diff(
+            first.content,
+            second.content,
+            _format_of(first),
+            _format_of(second),
+            ignore_objective_name=options.ignore_objective_name,
+            digits=options.digits,
+            by_position=options.by_position,
+        )
+        differs = False
+        for each in differences:
+            differs = True
+            print(each)
+        if not differs:
+            print(differences.verdict)
+        return Status.DIFFERS if differs else Status.DONE
+
+    return _compare(options, work)
+
+
+def _print_whole_model(options: argparse.Namespace) -> Status:
+    """The model that is there, of two of which one is /dev/null: git says so of a file that is new or deleted."""
+    path, sign = (options.first, "-") if options.second == os.devnull else (options.second, "+")
+
+    def work(text: Text) -> Outcome:
+        rows, columns, entries = _mpslp.load(text.content, text.format).counts()
+        return Outcome(Status.DIFFERS, f"{sign} model: {rows} rows, {columns} columns, {entries} entries")
+
+    outcome = attempt(path, options, work)
+    _print(outcome)
+    return outcome.status
+
+
+def _format_of(text: Text) -> Format:
+    return "mps" if text.format == _mpslp.MPS else "lp"
+
+
+def explanation(options: argparse.Namespace) -> Status:
+    try:
+        explained = [explain(kind) for kind in options.kinds]
+    except ValueError as error:
+        raise UsageError(str(error)) from None
+    print("\n\n".join(map(str, explained)) if explained else "\n".join(kinds()))
+    return Status.DONE
+
+
+def report(options: argparse.Namespace) -> Status:
+    paths = [path for path in (options.first, options.second) if path is not None]
+    try:
+        page: str = import_module("mpslp._report").page(paths, digits=options.digits, by_position=options.by_position)
+        if options.output is not None:
+            replace_file(options.output, page.encode("utf-8"))
+    except ModelFileError as error:
+        path = error.filename or paths[0]
+        outcome = failure(path, error, read(path, None))
+    except (MemoryError, OSError, ImportError) as error:
+        outcome = failure(paths[0], error)
+    except ValueError as error:  # a path without a format
+        raise UsageError(str(error)) from None
+    else:
+        outcome = Outcome(text=[page.encode("utf-8")] if options.output is None else ())
+    _print(outcome)
+    return outcome.status
+
+
+# ---- the command line
+
+
+def whole_number(word: str, most: int) -> int:
+    """An argument that is a whole number from 1 on."""
+    if not word.isdecimal() or not 1 <= int(word) <= most:
+        raise argparse.ArgumentTypeError(f"{word!r} is no whole number from 1 to {most}")
+    return int(word)
+
+
+def parser(prog: str | None) -> Parser:
+    made = Parser(prog=prog, description="Rewrite, check, compare and explain model files in MPS and LP.", epilog=_EPILOG, formatter_class=_Plain)
+    made.add_argument("--version", action="version", version=f"mpslp {_mpslp.VERSION}")
+    commands = made.add_subparsers(title="commands", metavar="COMMAND", required=True)
+    _add_canon(commands)
+    _add_check(commands)
+    _add_same(commands)
+    _add_diff(commands)
+    _add_show(commands)
+    _add_digest(commands)
+    _add_explain(commands)
+    if find_spec("mpslp._report") is not None:
+        _add_report(commands)
+    return made
+
+
+class _Plain(argparse.RawDescriptionHelpFormatter):
+    """Help with its lines as they are written here, and 28 columns for options."""
+
+    def __init__(self, prog: str) -> None:
+        super().__init__(prog, max_help_position=28)
+
+
+_EPILOG = """\
+The format of a file is that of its extension: .mps or .lp, also before .gz, .bz2, .xz or .zst.
+A FILE of - is standard input. For a directory, check, digest and canon -i take the model files in it.
+
+exit status: 0 done, or the models are the same; 1 not the same, or not canonical; 2 a file is rejected;
+3 usage error; 4 a file cannot be opened, read or written; 5 out of memory. Of several files, the greatest."""
+
+
+def _add(commands: Any, name: str, run: Callable[[argparse.Namespace], Status], help: str, description: str) -> argparse.ArgumentParser:
+    made: argparse.ArgumentParser = commands.add_parser(name, help=help, description=description, formatter_class=_Plain)
+    made.set_defaults(run=run)
+    return made
+
+
+def _add_format(command: argparse.ArgumentParser) -> None:
+    command.add_argument("-f", "--format", choices=("mps", "lp"), help="the format of a file whose extension does not say it, such as -")
+
+
+def _add_files(command: argparse.ArgumentParser, help: str) -> None:
+    _add_format(command)
+    command.add_argument("-j", "--jobs", type=partial(whole_number, most=_MOST_JOBS), default=_processors(), metavar="N", help="work on N files at a time (default: the number of processors)")
+    command.add_argument("files", nargs="+", metavar="FILE", help=help)
+
+
+def _add_two_files(command: argparse.ArgumentParser) -> None:
+    _add_format(command)
+    command.add_argument("first", metavar="FIRST", help="a model file")
+    command.add_argument("second", metavar="SECOND", help="another one")
+
+
+def _add_canon(commands: Any) -> None:
+    command = _add(commands, "canon", canon, "write the canonical text of a file", "Write the canonical text of a model file.")
+    place = command.add_mutually_exclusive_group()
+    place.add_argument("-o", "--output", metavar="PATH", help="write to this file; its extension says the format")
+    place.add_argument("-i", "--in-place", action="store_true", help="rewrite each file that is not canonical, and print its path")
+    command.add_argument("-t", "--to", choices=("mps", "lp"), help="the format to write (default: that of PATH, else of FILE)")
+    _add_files(command, "a model file; with -i, several files and directories")
+
+
+def _add_check(commands: Any) -> None:
+    command = _add(commands, "check", check, "print which files are not canonical", "Print the paths of the files that are not canonical.")
+    _add_files(command, "a model file or a directory")
+
+
+def _add_same(commands: Any) -> None:
+    command = _add(commands, "same", same, "say whether two files define the same model", "Print same, or not the same.")
+    _add_two_files(command)
+
+
+def _add_diff(commands: Any) -> None:
+    command = _add(
+        commands, "diff", difference, "print in what two models differ",
+        "Print a line for each difference of two models. If there is none, print same; or close if the models are not\n"
+        "the same, but no difference counts because of the options.",
+    )
+    command.add_argument("--ignore-objective-name", action="store_true", help="the name of the objective does not count")
+    _add_nearness(command)
+    _add_two_files(command)
+
+
+def _add_show(commands: Any) -> None:
+    command = _add(commands, "show", show, "print the model of a file", "Print the model of a file with all defaults filled in, as mpslp show does.")
+    _add_format(command)
+    command.add_argument("file", metavar="FILE", help="a model file")
+
+
+def _add_digest(commands: Any) -> None:
+    command = _add(
+        commands, "digest", digest, "print a checksum of the model of each file",
+        "Print the SHA-256 of the canonical MPS text, and the path, of each file. It is the same for all files of one model.",
+    )
+    _add_files(command, "a model file or a directory")
+
+
+def _add_explain(commands: Any) -> None:
+    command = _add(commands, "explain", explanation, "explain a kind of error", "Print the usual causes of a kind of error, and what to do; without KIND, all kinds.")
+    command.add_argument("kinds", nargs="*", metavar="KIND", help="such as DuplicateEntry")
+
+
+def _add_report(commands: Any) -> None:
+    command = _add(commands, "report", report, "make a page about a model", "Write a page in HTML about a model, or about two and in what they differ.")
+    command.add_argument("-o", "--output", metavar="PAGE", help="write the page to this file")
+    _add_nearness(command)
+    command.add_argument("first", metavar="FILE", help="a model file")
+    command.add_argument("second", nargs="?", metavar="SECOND", help="a second one, to compare")
+
+
+def _add_nearness(command: argparse.ArgumentParser) -> None:
+    command.add_argument("--digits", type=partial(whole_number, most=MOST_DIGITS), metavar="N", help="numbers are equal if they agree to N significant digits")
+    command.add_argument("--by-position", action="store_true", help="names do not count, but the order of rows and columns in the files")
+
+
+def _processors() -> int:
+    return len(os.sched_getaffinity(0))
+
+
+def main(arguments: Sequence[str] | None = None, prog: str | None = None) -> int:
+    """Does what the arguments ask for, and returns the exit status."""
+    command = parser(prog)
+    options = command.parse_args(arguments)
+    try:
+        status: Status = options.run(options)
+    except UsageError as error:
+        print(f"{command.prog}: error: {error}", file=sys.stderr)
+        return Status.USAGE
+    if status == Status.REJECTED and sys.stderr.isatty():
+        print(f"{command.prog} explain KIND prints what to do about a kind of error", file=sys.stderr)
+    return status
+
+
+def run(prog: str | None = None) -> int:
+    """The whole of a process: main, with the streams and the signals of a command."""
+    for stream in (sys.stdout, sys.stderr):
+        if isinstance(stream, io.TextIOWrapper):
+            stream.reconfigure(errors="surrogateescape")  # names of files may be any bytes
+    if sys.stderr is None:  # it is closed, and what is printed to None goes to standard output
+        sys.stderr = open(os.devnull, "w")
+    signal.signal(signal.SIGTERM, _terminate)
+    try:
+        if sys.stdout is None:
+            raise OSError("standard output is closed")
+        status = main(prog=prog)
+        sys.stdout.flush()
+        return status
+    except KeyboardInterrupt:
+        return 128 + signal.SIGINT
+    except MemoryError:
+        print("out of memory", file=sys.stderr)
+        return Status.NO_MEMORY
+    except OSError:  # of standard output: errors of files are reported with their paths
+        print("write failed", file=sys.stderr)
+        _drop_output()
+        return Status.FAILED
+
+
+def _terminate(number: int, frame: object) -> NoReturn:
+    """Ends the command as an exception does, so that no temporary file is left."""
+    sys.exit(128 + number)
+
+
+def _drop_output() -> None:
+    """Lets the interpreter end without another error for what is left in standard output."""
+    if sys.stdout is not None:
+        os.dup2(os.open(os.devnull, os.O_WRONLY), sys.stdout.fileno())

@@ -1,0 +1,98 @@
+"""The order in which a text has the names of its rows and columns; a model has them in byte order."""
+
+from __future__ import annotations
+
+import re
+from collections.abc import Iterable, Iterator
+from typing import TYPE_CHECKING, NamedTuple
+
+from mpslp import _mpslp
+from mpslp._sources import Text
+
+if TYPE_CHECKING:
+    from mpslp._models import Model
+
+# A number, which has no name in it, or a word with the colon that makes it a label.
+_LP_TOKEN = re.compile(r"(?:\d+\.?\d*|\.\d+)(?:[eE][+-]?\d+)?|([A-Za-z!\"#$%&()/,;?@_'`{}|~][\w!\"#$%&()/,.;?@'`{}|~]*)(\s*:)?", re.ASCII)
+_LP_COMMENT = re.compile(r"\\.*")
+
+# The second words of keywords, which may also be names.
+_SECOND_WORDS = {"subject": "to", "such": "that", "semi": "continuous"}
+
+
+class Names(NamedTuple):
+    """Names in the order of their positions."""
+
+    rows: list[str]
+    columns: list[str]
+
+
+def names_by_position(text: Text | None, model: Model) -> Names:
+    """The names of a model in the order of its text; in byte order if it has none.
+
+    Rows are in the order of their declarations. Columns are in the order of their first appearance in LP, and in that of
+    COLUMNS in MPS.
+    """
+    if text is None:
+        return Names(list(model.rows), list(model.columns))
+    content = text.content.decode("latin-1")
+    names = _mps_names(content, model) if text.format == _mpslp.MPS else _lp_names(content, model)
+    if sorted(names.rows) != list(model.rows) or sorted(names.columns) != list(model.columns):
+        raise AssertionError("the positions of the names were not found in the text")
+    return names
+
+
+def _mps_names(content: str, model: Model) -> Names:
+    rows: list[str] = []
+    columns: dict[str, None] = {}
+    section = ""
+    for line in _lines(content):
+        fields = line.split()
+        if not fields or line[0] == "*":
+            continue
+        if line[0] not in " \t":
+            section = fields[0]
+        elif section == "ROWS" and fields[1] != model.objective:
+            rows.append(fields[1])
+        elif section == "COLUMNS" and fields[1] != "'MARKER'":
+            columns[fields[0]] = None
+        if section in ("RHS", "RANGES", "BOUNDS", "ENDATA"):
+            break
+    return Names(rows, list(columns))
+
+
+def _lines(content: str) -> Iterator[str]:
+    """The lines of a text one after another, so that the list of all is not in memory."""
+    return (line[0] for line in re.finditer(r".+", content))
+
+
+def _lp_names(content: str, model: Model) -> Names:
+    """A row without a label has its position in its name, as ``c3``; the other positions are those of the labels in turn."""
+    labels: list[str] = []
+    columns: dict[str, None] = {}
+    previous = ""
+    for word, is_label in _lp_words(content):
+        lower = word.lower()
+        if lower == "end":
+            break
+        if is_label:
+            labels.append(word)
+        elif word in model.columns and _SECOND_WORDS.get(previous) != lower:
+            columns[word] = None
+        previous = lower
+    rows = [label for label in labels if label != model.objective]
+    return Names(_with_unlabelled(rows, model.rows), list(columns))
+
+
+def _lp_words(content: str) -> Iterator[tuple[str, bool]]:
+    """Each word of LP text, and whether it is a label."""
+    for match in _LP_TOKEN.finditer(_LP_COMMENT.sub("", content)):
+        if match[1]:
+            yield match[1], match[2] is not None
+
+
+def _with_unlabelled(labelled: list[str], all_rows: Iterable[str]) -> list[str]:
+    """All rows by position, of those that have a label, in order, and of those that are named by their position."""
+    named = {int(name[1:]) - 1: name for name in set(all_rows).difference(labelled)}
+    labels = iter(labelled)
+    return [named[position] if position in named else next(labels) for position in range(len(named) + len(labelled))]
