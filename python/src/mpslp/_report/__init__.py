@@ -1,0 +1,66 @@
+"""A page of HTML about a model, or about two models and their differences.
+
+It has everything within it: no network, no script, and it opens from the disk.
+"""
+
+from __future__ import annotations
+
+from collections.abc import Sequence
+
+import mpslp
+from mpslp._report import _sections
+from mpslp._report._differences import differences
+from mpslp._report._markup import Markup, element, joined, link, section
+from mpslp._report._sections import HEADINGS
+from mpslp._report._style import STYLE
+from mpslp._report._subjects import subjects_of
+from mpslp._sources import Path
+
+__all__ = ["page"]
+
+# Nothing is fetched, whatever a name may contain: images are within the page.
+_POLICY = "default-src 'none'; img-src data:; style-src 'unsafe-inline'"
+
+
+def page(paths: Sequence[Path], *, digits: int | None = None, by_position: bool = False) -> str:
+    """Returns a page of HTML about the model of a file, or about the models of two files and their differences.
+
+    ``digits`` and ``by_position`` are those of :func:`mpslp.diff`. One file always has the same page.
+
+    Raises ModelFileError where a file declares no model, OSError where it does not open or read, and ValueError where a
+    path ends in no format, or where there are not one or two paths.
+    """
+    if len(paths) not in (1, 2):
+        raise ValueError(f"a page is about one file or two, not {len(paths)}")
+    subjects = subjects_of(paths)
+    sections = {
+        "remarks": _sections.remark_list(subjects),
+        "counts": _sections.counts(subjects),
+        "magnitudes": _sections.magnitudes(subjects),
+        "picture": _sections.pictures(subjects),
+        "defaults": _sections.defaults(subjects),
+    }
+    if len(subjects) == 2:
+        sections = {"differences": differences(subjects[0], subjects[1], digits, by_position), **sections}
+    title = " and ".join(subject.label for subject in subjects)
+    head = element(
+        "head",
+        Markup('<meta charset="utf-8">'),
+        Markup(f'<meta http-equiv="Content-Security-Policy" content="{_POLICY}">'),
+        Markup('<meta name="viewport" content="width=device-width, initial-scale=1">'),
+        element("title", title),
+        element("style", Markup(STYLE)),
+    )
+    body = element(
+        "body",
+        joined(
+            (
+                element("header", element("h1", title), *map(_sections.summary, subjects)),
+                element("nav", element("ul", *(element("li", link(name, HEADINGS[name])) for name in sections)), aria_label="Sections"),
+                element("main", joined((section(name, HEADINGS[name], content) for name, content in sections.items()), "\n")),
+                element("footer", element("p", f"mpslp {mpslp.__version__}. Numbers are exact; ratios and shares are rounded.")),
+            ),
+            "\n",
+        ),
+    )
+    return f'<!DOCTYPE html>\n<html lang="en">\n{head}\n{body}\n</html>\n'
