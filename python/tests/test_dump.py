@@ -48,6 +48,8 @@ class Texts(unittest.TestCase):
                     wanted = answer(mpslp.canonical, path, to_format=format)
                     self.assertEqual(answer(mpslp.dumps, model, format), wanted)
                     self.assertEqual(answer(mpslp.dumps, again, format), wanted)
+                    if isinstance(wanted, bytes):
+                        self.assertEqual(mpslp.load(wanted, format), model)
 
     def test_texts_of_random_models(self):
         source = random.Random(7)

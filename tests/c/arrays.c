@@ -106,7 +106,7 @@ static void check_texts(void) {
     TEXT(it.columns[0].upper = it.rows[1].upper = near_e500, mps);
     TEXT(it.columns[0].upper = it.rows[1].upper = loose_plus, mps);
     check_text(MPSLP_LP, &it, "LP",
-               "Minimize\n cost:\n  + 0 x1\n  + 3 x2\nSubject To\n r1:\n  - 2 x1\n  + 1 x2\n  >= 1\n r2:\n  + 3 x1\n  <= 3\n"
+               "Minimize\n cost:\n  + 3 x2\nSubject To\n r1:\n  - 2 x1\n  + 1 x2\n  >= 1\n r2:\n  + 3 x1\n  <= 3\n"
                "Bounds\n -2 <= x1 <= 3\nGenerals\n x1\nEnd\n");
 }
 
