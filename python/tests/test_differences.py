@@ -19,7 +19,7 @@ import independent_reader  # from tests/ of the repository
 import models
 import spellings
 
-RUNS = 60
+RUNS = 40
 NEW = "brand-new"
 
 
