@@ -177,32 +177,29 @@ class InPlace(Directory):
         self.leaves(a_mps=CANONICAL, b_mps=large_text(300))
 
     def test_interrupted_runs(self):
-        """However it ends, each file has its old text or its new one, and nothing else is left."""
-        text = large_text(60)
+        """However it ends, each file has its old text or its new one, nothing else is left, and no file is begun any more."""
+        text, names = large_text(60), {f"{number}.mps" for number in range(150)}
         new = mpslp.canonical(text, "mps")
-        states = set()
-        for number, delay in ((signal.SIGINT, 0.05), (signal.SIGTERM, 0.1), (signal.SIGINT, 0.2), (signal.SIGTERM, 0.3), (signal.SIGKILL, 0.2)):
-            for jobs in ("1", "4"):
-                for each in range(60):
-                    self.file(f"{each}.mps", text)
+        some_are_old = dict.fromkeys(("1", "4"), False)
+        for number, delay in ((signal.SIGINT, 0), (signal.SIGTERM, 0), (signal.SIGINT, 0.01), (signal.SIGKILL, 0.003)):
+            for jobs in some_are_old:
+                for name in names:
+                    self.file(name, text)
                 running = subprocess.Popen([*TOOLS, "canon", "-i", "-j", jobs, "."], cwd=self.folder, stdout=subprocess.PIPE, stderr=subprocess.PIPE)
                 running.stdout.readline()  # it has begun
-                time.sleep(delay / 4)
+                time.sleep(delay)
                 running.send_signal(number)
                 _, error = running.communicate(timeout=60)
                 with self.subTest(number, jobs=jobs):
                     self.assertIn(running.returncode, (0, -signal.SIGKILL, 128 + number))
                     self.assertNotIn(b"Traceback", error)
-                    names = {path.name for path in self.folder.iterdir()}
-                    if number == signal.SIGKILL:
-                        for name in [name for name in names if name.endswith(".tmp")]:
-                            (self.folder / name).unlink()
-                            names.remove(name)
-                    self.assertEqual(names, {f"{each}.mps" for each in range(60)})
+                    for left in self.folder.glob(".*.tmp") if number == signal.SIGKILL else ():
+                        left.unlink()
+                    self.assertEqual({path.name for path in self.folder.iterdir()}, names)
                     found = {path.read_bytes() for path in self.folder.iterdir()}
                     self.assertLessEqual(found, {text, new})
-                    states.add(len(found))
-        self.assertIn(2, states)
+                    some_are_old[jobs] |= text in found
+        self.assertEqual(some_are_old, {"1": True, "4": True})
 
 
 class Check(Directory):
