@@ -282,6 +282,15 @@ class Names(unittest.TestCase):
                     found = list(mpslp.diff(text, mpslp.dumps(changed, "mps"), "mps", "mps", by_position=True))
                     self.assertEqual(found, [EntryDifference(row, name, value, other_number(value))])
 
+    def test_names_that_change_places(self):
+        first, second = b"min x st a: x >= 1 b: 0 x >= 1\nend\n", b"min x st b: 0 x >= 1 a: x >= 1\nend\n"
+        self.assertEqual(mpslp.diff(first, second, "lp", "lp").verdict, "same")
+        moved = b"min x st b: x >= 1 a: 0 x >= 1\nend\n"
+        self.assertEqual(mpslp.diff(first, moved, "lp", "lp", by_position=True).verdict, "close")
+        other = first.replace(b"min x", b"min 2 x")
+        self.assertEqual([str(each) for each in mpslp.diff(other, second, "lp", "lp", by_position=True)],
+                         ["column x: cost 2 -> 1", "entry a x: 1 -> 0", "entry b x: 0 -> 1"])
+
     def test_more_rows_and_columns_by_position(self):
         first = mpslp.Model(rows=[mpslp.Row("a", 1)], columns=[mpslp.Column("x", entries={"a": 1})])
         rows = [mpslp.Row("p", 1), mpslp.Row("q", 2)]

@@ -218,7 +218,7 @@ class Check(Directory):
         for name in ("a.mps", "b.LP", "deep/er/c.mps.gz", "deep/d.MPS.xz", ".git/e.mps", "deep/.hidden/f.lp", "g.txt", "mps", "deep/h.mps.old"):
             self.file(name, b"")
         self.prints(["check", "."], 4, error="".join([
-            "./a.mps: MissingEnd\n", "./b.LP: MissingEnd\n", "./deep/d.MPS.xz: is no whole file of .xz: Compressed data ended before the end-of-stream marker was reached\n",
+            "./a.mps: MissingEnd\n", "./b.LP: MissingEnd\n", "./deep/d.MPS.xz: not a complete .xz file: Compressed data ended before the end-of-stream marker was reached\n",
             "./deep/er/c.mps.gz: MissingEnd\n"]))
         self.prints(["check", "deep/er", "a.mps"], 2, error="deep/er/c.mps.gz: MissingEnd\na.mps: MissingEnd\n")
 
@@ -252,7 +252,7 @@ class Files(Directory):
         for command in ("canon", "show"):
             self.prints([command, "a.mps"], 4, error="a.mps: No such file or directory\n")
             self.prints([command, "none"], 4, error="none: No such file or directory\n")
-            self.prints([command, "broken.mps.gz"], 4, error="broken.mps.gz: is no whole file of .gz: Not a gzipped file (b'no')\n")
+            self.prints([command, "broken.mps.gz"], 4, error="broken.mps.gz: not a complete .gz file: Not a gzipped file (b'no')\n")
         self.prints(["show", "d.mps"], 4, error="d.mps: Is a directory\n")
         for command in ("same", "diff"):
             self.prints([command, "a.mps", "d.mps"], 4, error="a.mps: No such file or directory\n")
@@ -268,6 +268,11 @@ class Files(Directory):
             self.skipTest("another user cannot run this Python")
         done = self.run_process("check", "a.mps", **options)
         self.assertEqual((done.returncode, done.stderr), (4, b"a.mps: Permission denied\n"))
+
+    def test_a_compression_that_is_missing(self):
+        self.file("a.mps.zst", b"\x28\xb5\x2f\xfd")
+        with mock.patch.dict(sys.modules, {"compression": None, "compression.zstd": None, "zstandard": None}):
+            self.prints(["check", "a.mps.zst"], 4, error="a.mps.zst: import of zstandard halted; None in sys.modules; install it, or use Python 3.14\n")
 
     def test_formats_that_are_not_known(self):
         self.file("a.txt")

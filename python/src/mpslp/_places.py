@@ -6,8 +6,8 @@ the text up to the line and a prefix of the line. What is found here is a help f
 
 from __future__ import annotations
 
+import os
 import re
-import uuid
 from bisect import bisect_left
 from contextlib import suppress
 from itertools import islice
@@ -172,7 +172,7 @@ class _Place:
         label = next(iter(reversed(list(_LP_LABEL.finditer(line)))), None)
         if label is None:
             return ""
-        other = line[: label.start(1)] + b"_" + uuid.uuid4().hex.encode() + line[label.end(1) :]
+        other = line[: label.start(1)] + b"_" + os.urandom(16).hex().encode() + line[label.end(1) :]
         return "" if self._has_error(other) else label[1].decode("latin-1")
 
 
