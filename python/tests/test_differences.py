@@ -19,7 +19,7 @@ import independent_reader  # from tests/ of the repository
 import models
 import spellings
 
-RUNS = 60
+RUNS = 40
 NEW = "brand-new"
 
 
@@ -281,6 +281,15 @@ class Names(unittest.TestCase):
                     changed = with_column(numbered, replace(numbered.columns[number], entries=entries))
                     found = list(mpslp.diff(text, mpslp.dumps(changed, "mps"), "mps", "mps", by_position=True))
                     self.assertEqual(found, [EntryDifference(row, name, value, other_number(value))])
+
+    def test_names_that_change_places(self):
+        first, second = b"min x st a: x >= 1 b: 0 x >= 1\nend\n", b"min x st b: 0 x >= 1 a: x >= 1\nend\n"
+        self.assertEqual(mpslp.diff(first, second, "lp", "lp").verdict, "same")
+        moved = b"min x st b: x >= 1 a: 0 x >= 1\nend\n"
+        self.assertEqual(mpslp.diff(first, moved, "lp", "lp", by_position=True).verdict, "close")
+        other = first.replace(b"min x", b"min 2 x")
+        self.assertEqual([str(each) for each in mpslp.diff(other, second, "lp", "lp", by_position=True)],
+                         ["column x: cost 2 -> 1", "entry a x: 1 -> 0", "entry b x: 0 -> 1"])
 
     def test_more_rows_and_columns_by_position(self):
         first = mpslp.Model(rows=[mpslp.Row("a", 1)], columns=[mpslp.Column("x", entries={"a": 1})])

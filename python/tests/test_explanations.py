@@ -112,6 +112,7 @@ class Places(unittest.TestCase):
             ("min x\nst\nx + 3 <= 5\nend\n", "ConstantInRow", "3"), ("min x + 2 + 4 st\nend\n", "DuplicateRhs", "4"), ("min x\nst x[1] <= 2\nend\n", "Quadratic", "["),
             ("min x\nst\na: x <= 1\na: x <= 2\nend\n", "DuplicateRow", "a"), ("min x\nst\nc2: x <= 1\ny <= 1\nend\n", "DuplicateRow", ""),
             ("min x\nst\na: x <= 1 c1: y <= 2 a: x <= 1 z <= 1\nend\n", "DuplicateRow", "a"), ("min x\nst\nc2: x <= 1 y <= 1\nend\n", "DuplicateRow", "c2"),
+            ("min x\nst\nc3: x <= 1\na: x <= 2 y <= 1\nend\n", "DuplicateRow", ""),
             ("min x\nst\nx <= 1\nbounds\nx <= 4 y <= 3 x <= 5\nend\n", "DuplicateBound", "x"), ("min x\nbounds x <= 4 x free\nend\n", "DuplicateBound", "x"),
             ("min x\nst\n1 <= x >= 0\nend\n", "MixedSenses", ">="), ("min x\nst\nx <= 1\nst\nend\n", "SectionRepeated", "st"),
             ("min x\nbounds\nx <= 1\nst\ny >= 1\nend\n", "SectionOrder", "st"), ("min x\nst\nx >= inf\nend\n", "InfiniteValue", "inf"),

@@ -177,32 +177,29 @@ class InPlace(Directory):
         self.leaves(a_mps=CANONICAL, b_mps=large_text(300))
 
     def test_interrupted_runs(self):
-        """However it ends, each file has its old text or its new one, and nothing else is left."""
-        text = large_text(60)
+        """However it ends, each file has its old text or its new one, nothing else is left, and no file is begun any more."""
+        text, names = large_text(60), {f"{number}.mps" for number in range(150)}
         new = mpslp.canonical(text, "mps")
-        states = set()
-        for number, delay in ((signal.SIGINT, 0.05), (signal.SIGTERM, 0.1), (signal.SIGINT, 0.2), (signal.SIGTERM, 0.3), (signal.SIGKILL, 0.2)):
-            for jobs in ("1", "4"):
-                for each in range(60):
-                    self.file(f"{each}.mps", text)
+        some_are_old = dict.fromkeys(("1", "4"), False)
+        for number, delay in ((signal.SIGINT, 0), (signal.SIGTERM, 0), (signal.SIGINT, 0.01), (signal.SIGKILL, 0.003)):
+            for jobs in some_are_old:
+                for name in names:
+                    self.file(name, text)
                 running = subprocess.Popen([*TOOLS, "canon", "-i", "-j", jobs, "."], cwd=self.folder, stdout=subprocess.PIPE, stderr=subprocess.PIPE)
                 running.stdout.readline()  # it has begun
-                time.sleep(delay / 4)
+                time.sleep(delay)
                 running.send_signal(number)
                 _, error = running.communicate(timeout=60)
                 with self.subTest(number, jobs=jobs):
                     self.assertIn(running.returncode, (0, -signal.SIGKILL, 128 + number))
                     self.assertNotIn(b"Traceback", error)
-                    names = {path.name for path in self.folder.iterdir()}
-                    if number == signal.SIGKILL:
-                        for name in [name for name in names if name.endswith(".tmp")]:
-                            (self.folder / name).unlink()
-                            names.remove(name)
-                    self.assertEqual(names, {f"{each}.mps" for each in range(60)})
+                    for left in self.folder.glob(".*.tmp") if number == signal.SIGKILL else ():
+                        left.unlink()
+                    self.assertEqual({path.name for path in self.folder.iterdir()}, names)
                     found = {path.read_bytes() for path in self.folder.iterdir()}
                     self.assertLessEqual(found, {text, new})
-                    states.add(len(found))
-        self.assertIn(2, states)
+                    some_are_old[jobs] |= text in found
+        self.assertEqual(some_are_old, {"1": True, "4": True})
 
 
 class Check(Directory):
@@ -221,7 +218,7 @@ class Check(Directory):
         for name in ("a.mps", "b.LP", "deep/er/c.mps.gz", "deep/d.MPS.xz", ".git/e.mps", "deep/.hidden/f.lp", "g.txt", "mps", "deep/h.mps.old"):
             self.file(name, b"")
         self.prints(["check", "."], 4, error="".join([
-            "./a.mps: MissingEnd\n", "./b.LP: MissingEnd\n", "./deep/d.MPS.xz: is no whole file of .xz: Compressed data ended before the end-of-stream marker was reached\n",
+            "./a.mps: MissingEnd\n", "./b.LP: MissingEnd\n", "./deep/d.MPS.xz: not a complete .xz file: Compressed data ended before the end-of-stream marker was reached\n",
             "./deep/er/c.mps.gz: MissingEnd\n"]))
         self.prints(["check", "deep/er", "a.mps"], 2, error="deep/er/c.mps.gz: MissingEnd\na.mps: MissingEnd\n")
 
@@ -255,7 +252,7 @@ class Files(Directory):
         for command in ("canon", "show"):
             self.prints([command, "a.mps"], 4, error="a.mps: No such file or directory\n")
             self.prints([command, "none"], 4, error="none: No such file or directory\n")
-            self.prints([command, "broken.mps.gz"], 4, error="broken.mps.gz: is no whole file of .gz: Not a gzipped file (b'no')\n")
+            self.prints([command, "broken.mps.gz"], 4, error="broken.mps.gz: not a complete .gz file: Not a gzipped file (b'no')\n")
         self.prints(["show", "d.mps"], 4, error="d.mps: Is a directory\n")
         for command in ("same", "diff"):
             self.prints([command, "a.mps", "d.mps"], 4, error="a.mps: No such file or directory\n")
@@ -271,6 +268,11 @@ class Files(Directory):
             self.skipTest("another user cannot run this Python")
         done = self.run_process("check", "a.mps", **options)
         self.assertEqual((done.returncode, done.stderr), (4, b"a.mps: Permission denied\n"))
+
+    def test_a_compression_that_is_missing(self):
+        self.file("a.mps.zst", b"\x28\xb5\x2f\xfd")
+        with mock.patch.dict(sys.modules, {"compression": None, "compression.zstd": None, "zstandard": None}):
+            self.prints(["check", "a.mps.zst"], 4, error="a.mps.zst: import of zstandard halted; None in sys.modules; install it, or use Python 3.14\n")
 
     def test_formats_that_are_not_known(self):
         self.file("a.txt")

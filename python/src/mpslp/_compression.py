@@ -38,7 +38,7 @@ def unpack(name: str, content: bytes) -> bytes:
     except (ImportError, MemoryError):
         raise
     except Exception as error:  # each module has exceptions of its own
-        raise OSError(f"{name!r} is no whole file of {ending}: {error}") from error
+        raise OSError(f"{name!r} is not a complete {ending} file: {error}") from error
 
 
 def _gzip(content: bytes) -> bytes:

@@ -16,7 +16,7 @@ from mpslp._faults import ModelFileError
 from mpslp._models import Column, Kind, Model, Row, Sense, model_of
 from mpslp._numbers import MOST_DIGITS, is_near, number_text
 from mpslp._positions import Names, names_by_position
-from mpslp._sources import Format, Source, Text, naming, read
+from mpslp._sources import Format, Source, naming, read
 
 __unittest = True  # unittest shows no lines of this module where a test fails
 
@@ -202,7 +202,7 @@ class Differences(Iterable[Difference]):
     def _of_columns(self) -> Iterator[Difference]:
         for j, k in self._column_numbers():
             if j is not None and k is not None:
-                if self._first.column(j)[1:] != self._second.column(k)[1:]:
+                if not self._is_same_column(j, k):
                     name, other = self._first.column_name(j), self._second.column_name(k)
                     yield from self._of_column(self.first.columns[name], self.second.columns[other])
             elif j is not None:
@@ -226,7 +226,7 @@ class Differences(Iterable[Difference]):
         renamed = None if names is None else dict(zip(names[1].rows, names[0].rows))
         is_in_both = self._is_row_of_both if renamed is None else frozenset(renamed.values()).__contains__
         for j, k in self._column_numbers():
-            if j is None or k is None:
+            if j is None or k is None or self._is_same_column(j, k):
                 continue
             entries, others = self._first.column_entries(j), self._second.column_entries(k)
             if renamed is not None:
@@ -241,6 +241,10 @@ class Differences(Iterable[Difference]):
             value, other = entries.get(row, _ZERO), others.get(row, _ZERO)
             if not self._rules.is_equal(value, other) and is_in_both(row):
                 yield EntryDifference(row, column, value, other)
+
+    def _is_same_column(self, j: int, k: int) -> bool:
+        """Whether two columns have no difference; it may also say no of such two if rows are compared by position."""
+        return self._rules.names is None and self._first.is_same_column(j, self._second, k)
 
     def _is_row_of_both(self, row: object) -> bool:
         return row in self.first.rows and row in self.second.rows
@@ -288,9 +292,9 @@ def diff(
     column y: cost 2 -> 3
     """
     is_equal = _equality(digits)
-    one, one_text = _loaded(first, first_format, "first")
-    other, other_text = _loaded(second, second_format, "second")
-    names = (names_by_position(one_text, one), names_by_position(other_text, other)) if by_position else None
+    one, one_names = _loaded(first, first_format, "first", by_position)
+    other, other_names = _loaded(second, second_format, "second", by_position)
+    names = None if one_names is None or other_names is None else (one_names, other_names)
     return Differences(one, other, _Rules(is_equal, ignore_objective_name or by_position, names))
 
 
@@ -332,17 +336,18 @@ def _equality(digits: int | None) -> Callable[[Decimal, Decimal], bool]:
     return partial(is_near, digits=digits)
 
 
-def _loaded(source: Union[Model, Source], format: Format | None, which: Which) -> tuple[Model, Text | None]:
-    """A model, and its text if it is given as one."""
+def _loaded(source: Union[Model, Source], format: Format | None, which: Which, by_position: bool) -> tuple[Model, Names | None]:
+    """A model, and its names by position if these are wanted. The text is not kept."""
     if isinstance(source, Model):
-        return source, None
+        return source, names_by_position(None, source) if by_position else None
     text = read(source, format)
     try:
         with naming(text):
-            return model_of(_mpslp.load(text.content, text.format)), text
+            model = model_of(_mpslp.load(text.content, text.format))
     except ModelFileError as error:
         error.which = which
         raise
+    return model, names_by_position(text, model) if by_position else None
 
 
 def _merged(firsts: Iterator[str], seconds: Iterator[str]) -> Iterator[_Numbers]:

@@ -2,12 +2,9 @@
 
 # Annotations are evaluated here: the classes say that they are of the package, whose names are fewer.
 
-import csv
-import difflib
 import re
 from dataclasses import dataclass
 from functools import lru_cache
-from importlib.resources import files
 
 _LINK = re.compile(r"\[[^\]]*\]\(([^)#]*)[^)]*\)")
 
@@ -69,6 +66,8 @@ def explain(kind: str) -> Explanation:
     found = {each.lower(): each for each in kinds()}
     known = found.get(kind.lower())
     if known is None:
+        import difflib
+
         near = difflib.get_close_matches(kind.lower(), found, 1)
         raise ValueError(f"no such kind of error: {kind!r}" + (f"; is it {found[near[0]]}?" if near else ""))
     return Explanation(known, _causes()[known])
@@ -81,6 +80,9 @@ def kinds() -> list[str]:
 
 @lru_cache(maxsize=None)
 def _causes() -> dict[str, tuple[Cause, ...]]:
+    import csv  # it and what follows take longer than all else of the package to be imported
+    from importlib.resources import files
+
     text = files("mpslp").joinpath("errors.tsv").read_text(encoding="utf-8")
     found: dict[str, tuple[Cause, ...]] = {}
     for row in csv.DictReader(text.splitlines(), delimiter="\t", quoting=csv.QUOTE_NONE):

@@ -4,7 +4,6 @@ from __future__ import annotations
 
 import os
 import stat
-import uuid
 from collections.abc import Callable, Iterable, Iterator
 from contextlib import suppress
 
@@ -45,7 +44,7 @@ def replace_file(path: str, content: bytes) -> None:
 
 def _replace(path: str, content: bytes, old: os.stat_result | None) -> None:
     directory = os.path.dirname(path)
-    temporary = os.path.join(directory, f".mpslp-{uuid.uuid4().hex}.tmp")
+    temporary = os.path.join(directory, f".mpslp-{os.urandom(8).hex()}.tmp")
     try:
         with open(temporary, "xb") as file:
             file.write(content)

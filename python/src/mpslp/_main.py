@@ -90,7 +90,9 @@ def failure(path: str, error: Exception, text: Text | None = None) -> Outcome:
         return Outcome(Status.NO_MEMORY, error=f"{path}: out of memory")
     if isinstance(error, OSError) and error.strerror:
         return Outcome(Status.FAILED, error=f"{error.filename or path}: {error.strerror}")
-    return Outcome(Status.FAILED, error=f"{path}: {error}".replace(f"{path}: {path!r} ", f"{path}: "))
+    if isinstance(error, ImportError):
+        return Outcome(Status.FAILED, error=f"{path}: {error}; install it, or use Python 3.14")
+    return Outcome(Status.FAILED, error=f"{path}: {error}".replace(f"{path}: {path!r} is ", f"{path}: "))  # of a compression
 
 
 def attempt(path: str, options: argparse.Namespace, work: Callable[[Text], Outcome]) -> Outcome:

@@ -372,6 +372,35 @@ static PyObject *arrays_column_entries(PyObject *self, PyObject *number) {
     return filled(made, is_filled);
 }
 
+static int is_same_name(const mpslp_model *one, mpslp_name name, const mpslp_model *other, mpslp_name other_name) {
+    return mpslp_compare_name(one, name, (const char *)other->names.bytes + other_name.at, other_name.len) == 0;
+}
+
+enum { NUMBERS_OF_COLUMN = offsetof(mpslp_column, first) - offsetof(mpslp_column, lower) }; /* its bounds and its cost */
+
+/* Whether two columns are one but for their names; rows are the same if their names are. */
+static int has_same_content(const mpslp_model *one, size_t j, const mpslp_model *other, size_t k) {
+    const mpslp_column *column = &one->columns[j], *other_column = &other->columns[k];
+    const mpslp_element *at = &one->elements[column->first], *other_at = &other->elements[other_column->first];
+    const mpslp_element *end = &one->elements[column_end(one, j)];
+    if (column->kind != other_column->kind || memcmp(&column->lower, &other_column->lower, NUMBERS_OF_COLUMN) != 0 ||
+        end - at != (ptrdiff_t)(column_end(other, k) - other_column->first))
+        return 0;
+    for (; at < end; at++, other_at++)
+        if (memcmp(&at->value, &other_at->value, sizeof at->value) != 0 ||
+            !is_same_name(one, one->rows[at->row].name, other, other->rows[other_at->row].name))
+            return 0;
+    return 1;
+}
+
+static PyObject *arrays_is_same_column(PyObject *self, PyObject *arguments) {
+    PyObject *number, *other, *other_number;
+    size_t j, k;
+    if (!PyArg_ParseTuple(arguments, "OO!O:is_same_column", &number, Py_TYPE(self), &other, &other_number)) return NULL;
+    if (!find_number(number, model_of(self)->num_columns, &j) || !find_number(other_number, model_of(other)->num_columns, &k)) return NULL;
+    return PyBool_FromLong(has_same_content(model_of(self), j, model_of(other), k));
+}
+
 /* Sorts the nonzeros by row: counts those of each row, computes where each row begins, then puts each into its place. */
 static void sort_by_rows(const mpslp_model *model, size_t *starts, size_t *elements) {
     size_t i, k, place = 0;
@@ -514,6 +543,8 @@ static PyMethodDef arrays_methods[] = {
     { "find_row", arrays_find_row, METH_O, "find_row($self, name, /)\n--\n\nThe number of the row that has a name, or None." },
     { "find_column", arrays_find_column, METH_O, "find_column($self, name, /)\n--\n\nThe number of the column that has a name, or None." },
     { "entry", arrays_entry, METH_VARARGS, "entry($self, row, column, /)\n--\n\nA coefficient, or None where it is 0." },
+    { "is_same_column", arrays_is_same_column, METH_VARARGS,
+      "is_same_column($self, number, other, other_number, /)\n--\n\nWhether columns of two models are the same but for their names." },
     { "row_len", arrays_row_len, METH_O, "row_len($self, number, /)\n--\n\nHow many coefficients of a row are not 0." },
     { "column_len", arrays_column_len, METH_O, "column_len($self, number, /)\n--\n\nHow many coefficients of a column are not 0." },
     { "row_entries", arrays_row_entries, METH_O, "row_entries($self, number, /)\n--\n\nThe columns of a row, and their coefficients." },

@@ -6,8 +6,8 @@ the text up to the line and a prefix of the line. What is found here is a help f
 
 from __future__ import annotations
 
+import os
 import re
-import uuid
 from bisect import bisect_left
 from contextlib import suppress
 from itertools import islice
@@ -49,7 +49,7 @@ def about(text: Text, error: ModelFileError) -> str:
     if error.kind == "LineTooLong":
         return f"{len(line):,} bytes"
     if error.kind == "BadByte":
-        return _bad_byte(text, start, line)
+        return _bad_byte(start, line)
     place = _Place(text, start, line, error)
     with suppress(IndexError, _TooLarge):  # the first is of a line that has too few fields for its kind of error
         found = place.of_mps() if text.format == _mpslp.MPS else place.of_lp()
@@ -70,14 +70,13 @@ def _start_of_line(content: bytes, line: int) -> int:
     return 0 if line == 1 else next(islice(re.finditer(rb"\n", content), line - 2, None)).end()
 
 
-def _bad_byte(text: Text, start: int, line: bytes) -> str:
+def _bad_byte(start: int, line: bytes) -> str:
     if start == 0:
         for magic, words in _PACKED.items():
             if line.startswith(magic):
                 return words
-    looked_at = line.partition(b"\\")[0] if text.format == _mpslp.LP else line
-    at = next((at for at, byte in enumerate(looked_at) if byte != 9 and not 32 <= byte <= 126), len(line))
-    return f"byte 0x{(line + b'?')[at]:02X} at column {at + 1}"
+    at = next(at for at, byte in enumerate(line) if byte != 9 and not 32 <= byte <= 126)  # comments come after it
+    return f"byte 0x{line[at]:02X} at column {at + 1}"
 
 
 class _TooLarge(Exception):
@@ -173,7 +172,7 @@ class _Place:
         label = next(iter(reversed(list(_LP_LABEL.finditer(line)))), None)
         if label is None:
             return ""
-        other = line[: label.start(1)] + b"_" + uuid.uuid4().hex.encode() + line[label.end(1) :]
+        other = line[: label.start(1)] + b"_" + os.urandom(16).hex().encode() + line[label.end(1) :]
         return "" if self._has_error(other) else label[1].decode("latin-1")
 
 
