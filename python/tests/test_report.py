@@ -385,6 +385,12 @@ class Magnitudes(unittest.TestCase):
         text = "ROWS\n N  c\n E  r\n L  s\nCOLUMNS\n    x  c  1e-470  r  1\n    y  s  1\nRHS\n    r  -3e-450\nBOUNDS\n UP  x  2e-400\nENDATA\n"
         self.check(mpslp.load(text.encode(), "mps"), read_page(text))
 
+    def test_ratios(self):
+        for second, shown in (("4.6", "4.6"), ("1", "1"), ("998.4", "998"), ("999.6", "1e3"), ("1049", "1e3"), ("1051", "1.1e3"), ("1e400", "1e400")):
+            with self.subTest(second):
+                reader = read_page(f"ROWS\n N  c\n L  r\nCOLUMNS\n    x  r  1\n    y  r  -{second}\nENDATA\n")
+                self.assertEqual(reader.table("Smallest and largest numbers")["coefficients"][5], shown)
+
     def test_remarks_on_ranges(self):
         for first, second, words in (("1", "1000000", None), ("1", "1000001", "wide"), ("0.001", "1e6", "wide"), ("0.001", "1000001", "very wide")):
             with self.subTest(first=first, second=second):
@@ -398,7 +404,7 @@ class Magnitudes(unittest.TestCase):
         for words in ("magnitude below 1e-9: 1.", "magnitude 1e15 or more: 2.", "Row limits (RHS) of magnitude 1e10 or more: 1.",
                       "Column bounds of magnitude 1e10 or more: 1.", "Coefficients of a magnitude that no double has: 1."):
             self.assertIn(words, remarks)
-        self.assertIn("There are none.", read_page(EXAMPLES / "small.mps").text["p"])
+        self.assertIn("There are no remarks.", read_page(EXAMPLES / "small.mps").text["p"])
 
 
 class Pictures(unittest.TestCase):
@@ -417,12 +423,12 @@ class Pictures(unittest.TestCase):
 
     def test_places_of_a_small_model(self):
         """Rows and columns are in the order of the file."""
-        reader = read_page("ROWS\n N  c\n L  second\n L  first\nCOLUMNS\n    y  second  1\n    x  first  -1  second  2\nENDATA\n")
+        reader = read_page("ROWS\n N  c\n L  second\n L  first\nCOLUMNS\n    y  second  1\n    x  first  -1e-400  second  2.00000000000000001\nENDATA\n")
         places = [(attributes["class"], float(attributes["x"]), float(attributes["y"])) for attributes in reader.found("rect")]
         frame, *squares = places
         steps = [(sign, round((x - frame[1]) // 18), round((y - frame[2]) // 18)) for sign, x, y in squares]
         self.assertEqual(sorted(steps), [("negative", 1, 1), ("positive", 0, 0), ("positive", 1, 0)])
-        for title in ("second, y: 1\n", "first, x: -1\n", "second, x: 2\n"):
+        for title in ("second, y: 1\n", "first, x: -1e-400\n", "second, x: 2.00000000000000001\n"):
             self.assertIn(title, reader.text["title"])
 
     def png(self, reader):
@@ -574,6 +580,7 @@ class Defaults(unittest.TestCase):
             "zeros in RANGES on E rows": ["1", "the row stays an equation"],
             "bounds of type BV, LI or UI": ["3", "the column is integer"],
         })
+        self.assertIn("No other rule of the format changes what the file says.", read_page(EXAMPLES / "production.lp").text["p"])
         text = "NAME\nROWS\n L  r\nCOLUMNS\n    x  r  1\nENDATA\n"
         self.assertEqual(read_page(text).table("Rules that apply to the file")["no N row"], ["", "an empty objective called obj"])
 
@@ -668,7 +675,8 @@ class Differences(unittest.TestCase):
         first = large_text(1500).decode()
         reader = read_page(first, first.replace("  1e1\n", "  11\n"))
         self.assertEqual(reader.table("Differences of a.mps and b.mps"), {"coefficients in rows": ["1,500"]})
-        self.assertIn("These are the first 200; mpslp-tools diff prints all.", reader.text["p"])
+        self.assertEqual(reader.text["summary"], "The first 100 differences; mpslp-tools diff prints all\n")
+        self.assertEqual(len(reader.found("li")) - len(read_page(first).found("li")), 100 + 1)  # and a link to the section
 
 
 if __name__ == "__main__":

@@ -5,9 +5,8 @@ from __future__ import annotations
 from collections.abc import Iterator, Sequence
 from decimal import Context, Decimal
 
-from mpslp._numbers import number_text
 from mpslp._report._contents import Extreme, Magnitudes
-from mpslp._report._markup import Markup, code, element, joined, markup, table
+from mpslp._report._markup import Markup, code, digits, element, joined, markup, table
 
 # What guides of solvers advise at most for the ratio of the largest to the smallest coefficient.
 _WIDE, _VERY_WIDE = Decimal("1e6"), Decimal("1e9")
@@ -69,12 +68,12 @@ def extremes(caption: str, all_magnitudes: Sequence[Magnitudes]) -> Markup:
 
 
 def _cells(extreme: Extreme) -> tuple[Markup, Markup]:
-    return code(number_text(extreme.number)), joined(map(code, extreme.where), ", ")
+    return digits(extreme.number), joined(map(code, extreme.where), ", ")
 
 
 def _rounded(number: Decimal) -> str:
-    """A positive number with two digits or three."""
-    return f"{number:.3g}" if Decimal("0.01") <= number < 1000 else f"{number:.1e}".replace(".0e", "e").replace("e+", "e")
+    """A positive number with two digits or three, and without zeros at its end."""
+    return f"{float(number):.3g}" if Decimal("0.01") <= number < 999 else f"{number:.1e}".replace(".0e", "e").replace("e+", "e")
 
 
 def _ratio(smallest: Extreme, largest: Extreme) -> Decimal:

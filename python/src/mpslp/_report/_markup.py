@@ -5,7 +5,10 @@ from __future__ import annotations
 import html
 import os
 from collections.abc import Iterable, Sequence
+from decimal import Decimal
 from typing import Union
+
+from mpslp._numbers import number_text
 
 MOST_NAMES = 8
 """So many names are listed; of the others only the number."""
@@ -46,6 +49,11 @@ def code(name: str) -> Markup:
     return element("code", name)
 
 
+def digits(number: Decimal) -> Markup:
+    """A number of a model, exactly."""
+    return element("code", number_text(number), class_="digits")
+
+
 def link(section: str, *contents: Content) -> Markup:
     """A link to a section of the page."""
     return element("a", *contents, href=f"#{section}")
@@ -56,11 +64,11 @@ def path_text(path: str | bytes | os.PathLike[str] | os.PathLike[bytes]) -> str:
     return os.fsencode(path).decode("utf-8", "backslashreplace")
 
 
-def names(found: Sequence[str], count: int | None = None) -> Markup:
+def names(found: Sequence[str]) -> Markup:
     """The first names of a list, and how many others there are."""
     shown = joined(map(code, found[:MOST_NAMES]), ", ")
-    others = (len(found) if count is None else count) - min(len(found), MOST_NAMES)
-    return joined((shown, f" and {others:,} more")) if others else shown
+    others = len(found) - MOST_NAMES
+    return joined((shown, f" and {others:,} more")) if others > 0 else shown
 
 
 def table(

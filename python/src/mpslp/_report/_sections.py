@@ -6,12 +6,11 @@ from collections.abc import Callable, Iterator, Sequence
 from typing import NamedTuple
 
 from mpslp import _mpslp
-from mpslp._numbers import number_text
 from mpslp._positions import names_by_position
 from mpslp._report._contents import COLUMN_BOUNDS, COLUMN_KINDS, ROW_KINDS, Lengths
 from mpslp._report._magnitudes import extremes, histogram
 from mpslp._report._magnitudes import remarks as remarks_on_magnitudes
-from mpslp._report._markup import Content, Markup, code, element, joined, link, markup, names, table
+from mpslp._report._markup import Content, Markup, code, digits, element, joined, link, markup, names, table
 from mpslp._report._picture import matrix_of, picture
 from mpslp._report._rules import given_bounds, rules_of
 from mpslp._report._subjects import Subject
@@ -64,7 +63,7 @@ def remark_list(subjects: Sequence[Subject]) -> Markup:
         for remark in remarks(subject):
             labels.setdefault(remark, []).append(subject.label)
     if not labels:
-        return element("p", "There are none.")
+        return element("p", "There are no remarks.")
     lines = []
     for remark, of in labels.items():
         which = "both files" if len(of) > 1 else of[0]
@@ -75,10 +74,10 @@ def remark_list(subjects: Sequence[Subject]) -> Markup:
 
 def counts(subjects: Sequence[Subject]) -> Markup:
     """How many rows, columns and nonzeros there are, and of which kinds."""
-    rows = _compared("Rows by kind", "rows", subjects, _row_kinds, has_total=True)
+    rows = _compared("Rows by kind", ["rows", "count"], subjects, _row_kinds, has_total=True)
     groups = [[_column_kinds(subjects, subject), _lengths(subjects, subject)] for subject in subjects]
     groups[:1] = [[rows, *groups[0]]] if len(subjects) == 1 else [[rows], groups[0]]
-    facts = _compared("The model", "property", subjects, _facts, is_words=True)
+    facts = _compared("The model", ["property", "value"], subjects, _facts, is_words=True)
     return joined((facts, *(element("div", *group, class_="flow") for group in groups)), "\n")
 
 
@@ -125,7 +124,7 @@ def _facts(subject: Subject) -> Lines:
     places = len(model.rows) * len(model.columns)
     return (
         ("objective", joined((f"{model.sense} ", code(model.objective)))),
-        ("constant of the objective", code(number_text(model.constant))),
+        ("constant of the objective", digits(model.constant)),
         ("rows", len(model.rows)),
         ("columns", len(model.columns)),
         ("nonzeros", counted),
@@ -173,7 +172,7 @@ def _picture(subject: Subject, number: int) -> Markup:
     if not rows:
         return element("p", f"{subject.label} has no rows, so there is no picture.")
     title = f"Nonzeros of {subject.label}: {rows:,} rows, {columns:,} columns, {counted:,} nonzeros"
-    return picture(matrix_of(subject.arrays, names_by_position(subject.text, subject.model)), title, number)
+    return picture(matrix_of(subject.model, subject.arrays, names_by_position(subject.text, subject.model)), title, number)
 
 
 def _given_bounds(subjects: Sequence[Subject], subject: Subject) -> Markup:
@@ -184,25 +183,28 @@ def _given_bounds(subjects: Sequence[Subject], subject: Subject) -> Markup:
 
 def _rules(subjects: Sequence[Subject], subject: Subject) -> Markup:
     rules = rules_of(subject.declared, subject.model, subject.contents)
+    if not rules:
+        return element("p", _caption("No other rule of the format changes what the file says", subjects, subject), ".")
     lines: list[list[Content]] = [[rule.what, Markup() if rule.number is None else rule.number, rule.effect] for rule in rules]
     return table(_caption("Rules that apply to the file", subjects, subject), ["in the file", "count", "in the model"], lines, words=(2,))
 
 
 def _compared(
     caption: str,
-    what: str,
+    head: Sequence[str],
     subjects: Sequence[Subject],
     lines_of: Callable[[Subject], Lines],
     is_words: bool = False,
     has_total: bool = False,
 ) -> Markup:
-    """A table with a column for each file, and of two files one that says where they differ. The last line may be a total."""
+    """A table of one file, whose head is given; or of two, with a column that says where they differ. The last line may be a total."""
     lines: list[list[Content]] = []
     for cells in zip(*map(lines_of, subjects)):
         values = [value for _, value in cells]
         differs = [element("b", "differs") if len(set(values)) > 1 else Markup()] if len(subjects) > 1 else []
         lines.append([cells[0][0], *values, *differs])
-    head = [what, *(subject.label for subject in subjects), *(["comparison"] if len(subjects) > 1 else [])]
+    if len(subjects) > 1:
+        head = [head[0], *(subject.label for subject in subjects), "comparison"]
     last = len(subjects) + 1
     total = lines.pop() if has_total else ()
     return table(caption, head, lines, total, words=range(1, last + 1) if is_words else (last,))
