@@ -22,7 +22,7 @@ from typing import NamedTuple
 ROOT = Path(__file__).resolve().parent.parent
 ALLOWED = ROOT / "tests" / "prose_allowed.tsv"
 DOCUMENTS = ("README.md", "CONTRIBUTING.md", "CHANGELOG.md", "docs/*.md", "docs/*/*.md", "docs/*.1", "docs/errors.tsv",
-             "examples/README.md", "vectors/README.md", "release/*.md", "completions/*")
+             "examples/README.md", "vectors/README.md", "python/README.md", "release/*.md", "completions/*")
 CODE = ("crates/*/src/**/*.rt", "crates/*/specs/**/*.antt", "crates/*/proofs/**/*.antt", "tests/**/*.py", "tests/**/*.sh",
         "bench/*.py", "bench/*.sh", "scripts/*.py", "release/*.sh", "lib/*.sh", "python/src/**/*.py")
 HELP = "crates/mpslp_command/src/usage.rt"
