@@ -44,6 +44,7 @@ _NOT_SUPPORTED = {
 _INFINITIES = ("inf", "infinity")
 _OTHER_INFINITIES = ("infty", "infin")
 _FLIPPED = {"<": ">", ">": "<", "=": "="}
+_CONSTANT_OF_GLPSOL = re.compile(r"\\\* constant term = (-?)([0-9.]+(?:e[+-]?[0-9]+)?) \*\\")
 _NO_BOUND = "no bound of the profile: a column and a number, or a column between two numbers"
 _LONGEST_ROW_LINE = 200
 
@@ -110,6 +111,8 @@ class Reader:
         self.bounds: dict[str, list[Bound]] = {}
         self.words_with_digits: set[str] = set()
         self.products_with_digits: dict[str, int] = {}
+        self.constants: list[Token] = []
+        self.has_label = False
         self.empty_rows: list[Row] = []
         self.first_column: Optional[str] = None
 
@@ -233,10 +236,20 @@ class Reader:
         return None
 
     def is_label(self, at: int) -> bool:
+        """Whether a label starts here. In a row that has one, a colon between two words on a line is part of a name."""
+        if self.has_label and self.has_inner_colon(at):
+            return False
         kept, self.at = self.at, at
         found = self.label() is not None
         self.at = kept
         return found
+
+    def has_inner_colon(self, at: int) -> bool:
+        tokens = self.tokens.all[max(at - 2, 0) : at + 3]
+        if len(tokens) < 5 or tokens[3].kind != "colon" or tokens[4].kind not in ("word", "number") or tokens[1].line != tokens[2].line:
+            return False
+        is_term = tokens[1].kind in ("sign", "colon") or (tokens[1].kind == "number" and tokens[0].kind != "relation")
+        return is_term and tokens[2].end == tokens[3].start and tokens[3].end == tokens[4].start
 
     def as_word(self, first: Token, last: Token) -> Token:
         return Token("word", self.text[first.start : last.end], first.start, last.end, first.line)
@@ -315,6 +328,8 @@ class Reader:
             self.name_item(item)
         elif item.has_star:
             raise self.error("a factor without a name")
+        else:
+            self.constants.append(item.numbers[0])
 
     def starts_name_with_digit(self, item: Item) -> bool:
         """Whether a word comes directly after a second number, which is not the start of the next row."""
@@ -341,12 +356,17 @@ class Reader:
     def objective(self) -> None:
         start = self.token
         label = self.label()
+        self.has_label = label is not None
         items = self.items()
+        self.has_label = False
         if self.token.kind not in ("end",) and self.section_at(self.at) is None:
             raise self.error("between the terms of the objective is no sign, or no row section follows")
         self.column_of(items)
+        items += self.constant_of_glpsol(items)
         constants = [item for item in items if item.name is None]
         kinds = self.kinds_of_terms(items)
+        if constants and not constants[-1].tokens:
+            kinds.append("glpsol-constant")
         if len(constants) > 1:
             kinds.append("added-constants")
         if not kinds:
@@ -356,6 +376,17 @@ class Reader:
         constant = f" {signed(self.number_text(self.sum_of(constants), start))}" if constants else ""
         text = (f"{self.name_of(label)}: " if label else "") + self.terms_text(items, start) + constant
         self.replace(start.start, self.tokens.all[self.at - 1].end, start.line, kinds, text)
+
+    def constant_of_glpsol(self, items: Sequence[Item]) -> list[Item]:
+        """glpsol writes the constant of the objective into a comment."""
+        place = self.token.start
+        comment = next((each for each in self.tokens.comments if _CONSTANT_OF_GLPSOL.match(each.text)), None)
+        if self.dialect != "glpsol" or comment is None or comment.start > place or any(item.name is None for item in items):
+            return []
+        found = _CONSTANT_OF_GLPSOL.match(comment.text)
+        assert found is not None
+        number = Token("number", found[2], comment.start, comment.end, comment.line)
+        return [Item([], 1, -1 if found[1] else 1, [number])]
 
     # ---- rows
 
@@ -368,7 +399,9 @@ class Reader:
 
     def row(self) -> Row:
         first = self.token
+        self.has_label = False
         row = Row(first, self.label(), [], [])
+        self.has_label = row.label is not None
         row.sides.append(self.items())
         while self.token.kind == "relation" and len(row.relations) < 2:
             row.relations.append(self.token)
@@ -380,6 +413,7 @@ class Reader:
             raise self.error("a further relation in this row")
         last = self.tokens.all[self.at - 1]
         row.end = last.end
+        self.has_label = False
         if not self.ends_row(last, row):
             raise self.error("no sign between terms, or rows that cannot be taken apart: start each row on a new line")
         return row
@@ -725,7 +759,11 @@ class Reader:
         return re.sub(r"\\[^\n]*", "", self.text[start:end])
 
     def settle_digits(self) -> None:
-        """A name that starts with a digit is not also a number and a name."""
+        """A name that starts with a digit is not also a number and a name, and one such as E11 not also an exponent."""
+        for literal in self.constants:
+            exponent = re.search(r"[eE][0-9]+$", literal.text)
+            if exponent is not None and exponent[0] in self.names.written:
+                raise self.error(f"{exponent[0]} is a name in another place, and may be one here", literal)
         for word in self.words_with_digits & set(self.products_with_digits):
             raise AdaptError(self.products_with_digits[word], f"{word} is a name in one place, and may be a number and a name here")
 

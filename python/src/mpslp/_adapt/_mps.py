@@ -36,6 +36,7 @@ _NOT_SUPPORTED = {
     "PWLOBJ": "a piecewise linear objective: write it with a column and a row for each piece",
     **dict.fromkeys(("LAZYCONS", "USERCUTS"), "rows of their own kind: move them to ROWS, or remove the section"),
 }
+_NEGATED = "* the number on the objective is negated: it was that of another dialect"
 _SIGN_OF_OBJECTIVE_RHS = ("glpsol", "lp_solve")
 _INTEGERS_WITHOUT_LIMIT = ("lp_solve",)
 _NEGATIVE_UPPER_IS_FREE_BELOW = ("coinutils",)
@@ -80,6 +81,7 @@ class Reader:
         self.bounded: dict[str, list[tuple[str, str]]] = {}  # the types and numbers of each column
         self.wants_word = ""
         self.pulp_sense: Optional[Line] = None
+        self.is_negated = False
 
     # ---- lines and sections
 
@@ -108,6 +110,7 @@ class Reader:
         return next((each for each in self.sections if each.name == name), None)
 
     def comment(self, line: Line) -> None:
+        self.is_negated |= line.text == _NEGATED
         if self.dialect == "pulp" and line.text.upper().startswith("*SENSE:") and self.pulp_sense is None:
             self.pulp_sense = line
 
@@ -148,7 +151,7 @@ class Reader:
 
     def name_line(self, line: Line) -> None:
         if not all("\t" == each or " " <= each <= "~" for each in line.text):
-            self.rewrite(line, "names", [self.names.of(each) for each in line.fields()])
+            self.rewrite(line, "name", [self.names.of(each) for each in line.fields()])
 
     def word_in_header(self, line: Line, keyword: str, fields: Sequence[str]) -> None:
         self.wants_word = ""
@@ -189,7 +192,7 @@ class Reader:
     def data(self, line: Line) -> None:
         """Makes a data line one of the profile."""
         if not line.text.isascii() or len(line.text) > 255:
-            self.rewrite(line, "names", [each if LITERAL.fullmatch(each) else self.names.of(each) for each in line.fields()])
+            self.rewrite(line, "name", [each if LITERAL.fullmatch(each) else self.names.of(each) for each in line.fields()])
         if self.wants_word:
             self.word_line(line)
             return
@@ -211,8 +214,11 @@ class Reader:
         if len(fields) > 1 and fields[0].upper() in ("N", "L", "G", "E"):
             self.apply(line, (upper_type, row_trailing))
             fields = line.fields()
+            if fields[1] in self.rows:
+                raise AdaptError(line.number, f"a second row {fields[1]}: fixed columns cut names to 8 characters; write free MPS, "
+                                 "with lp_solve -wfmps or glpsol --wfreemps")  # fmt: skip
             if len(fields) == 2:
-                self.rows.setdefault(fields[1], fields[0])
+                self.rows[fields[1]] = fields[0]
                 return
         raise no_rule(line, "a type N, L, G or E and a name")
 
@@ -239,8 +245,11 @@ class Reader:
         self.is_marked = fields[2] == _MARKERS[0]
 
     def sides(self, line: Line) -> None:
-        if self.pairs(line):
+        if self.pairs(line) and not self.is_negated:
+            before = line.text
             self.apply(line, (objective_rhs,))
+            if line.text != before:
+                self.section.lines.append(Line(line.number, _NEGATED, line.end))
 
     def ranges(self, line: Line) -> None:
         if self.pairs(line):
@@ -465,9 +474,12 @@ def number_of(line: Line, field: str, is_limit: bool) -> str:
     raise AdaptError(line.number, f"{field} has over 36 digits, or an exponent over 500: round it, or scale the row")
 
 
+_EXPONENTS = {ord("d"): "e", ord("D"): "E"}
+
+
 def _with_e(field: str) -> str:
     """A Fortran exponent with the letter E."""
-    changed = field.replace("d", "e").replace("D", "E")
+    changed = field.translate(_EXPONENTS)
     return changed if LITERAL.fullmatch(changed) else field
 
 

@@ -93,9 +93,9 @@ def with_line_feeds(content: bytes, log: Log) -> bytes:
 
 
 def without_end_of_file_byte(content: bytes, log: Log) -> bytes:
-    """The byte 26, which old programs write at the end of a file."""
+    """The byte 26, which old programs write at the end of a file; on a line of its own it comes after the end."""
     kept = content.rstrip(b"\r\n \t")
-    if not kept.endswith(b"\x1a"):
+    if not kept.endswith(b"\x1a") or not kept.rpartition(b"\n")[2].strip(b"\x1a \t\r"):
         return content
     log.add(kept.count(b"\n") + 1, "end-of-file-byte", "byte 26", "")
     return kept.rstrip(b"\x1a")
