@@ -21,6 +21,7 @@ meanwhile.
 
 from mpslp._mpslp import VERSION as __version__
 
+from mpslp._adapt import AdaptError, Adapted, Change, adapt
 from mpslp._arrays import Arrays
 from mpslp._calls import canonical, is_canonical, same
 from mpslp._faults import ModelFileError
@@ -30,7 +31,10 @@ from mpslp._sources import Format, Source
 
 __all__ = [
     "__version__",
+    "AdaptError",
+    "Adapted",
     "Arrays",
+    "Change",
     "Column",
     "Format",
     "Kind",
@@ -40,6 +44,7 @@ __all__ = [
     "Row",
     "Sense",
     "Source",
+    "adapt",
     "canonical",
     "dump",
     "dumps",
@@ -51,6 +56,9 @@ __all__ = [
 ]
 
 # Whatever module has them: they are shown, and pickled, by the names under which they are found.
-for _each in (Arrays, Column, Model, ModelFileError, Row, canonical, dump, dumps, fraction, from_arrays, is_canonical, load, same):
+for _each in (
+    AdaptError, Adapted, Arrays, Change, Column, Model, ModelFileError, Row,
+    adapt, canonical, dump, dumps, fraction, from_arrays, is_canonical, load, same,
+):  # fmt: skip
     _each.__module__ = __name__
 del _each

@@ -374,7 +374,8 @@ class Reader:
             self.settle_items(items, False)
             return
         constant = f" {signed(self.number_text(self.sum_of(constants), start))}" if constants else ""
-        text = (f"{self.name_of(label)}: " if label else "") + self.terms_text(items, start) + constant
+        body = (self.terms_text(items, start) + constant).strip().removeprefix("+ ")
+        text = (f"{self.name_of(label)}: " if label else "") + body
         self.replace(start.start, self.tokens.all[self.at - 1].end, start.line, kinds, text)
 
     def constant_of_glpsol(self, items: Sequence[Item]) -> list[Item]:
@@ -589,7 +590,8 @@ class Reader:
     def bound(self) -> None:
         start = self.at
         first = self.token
-        items, relations = [self.bound_side(True)], []
+        items = [self.bound_side(True)]
+        relations: list[Token] = []
         if items[0].name is not None and self.token.text.lower() == "free":
             self.at += 1
             self.give_bound(start, items[0].name, "free", "free")
