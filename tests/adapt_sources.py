@@ -41,9 +41,9 @@ WRITERS = (
     Writer("glpsol LP", "glpsol", "lp", "glpsol", "--max", f"{GLPSOL} --wlp OUT"),
     Writer("glpsol free MPS", "glpsol", "mps", "glpsol", "--max", f"{GLPSOL} --wfreemps OUT"),
     Writer("glpsol fixed MPS", "glpsol", "mps", "glpsol", "--max", f"{GLPSOL} --wmps OUT"),
-    Writer("CoinUtils LP", "coinutils", "lp", "cbc", "-max", "cbc BASE MAX -export OUT -quit"),
+    Writer("CoinUtils LP", "coinutils", "lp", "cbc", "-max", "cbc BASE MAX -presolve off -export OUT -quit"),
     Writer("CoinUtils MPS", "coinutils", "mps", "clp", "-maximize", "clp BASE MAX -presolve off -outputFormat 4 -export OUT -quit"),
-    Writer("cbc MPS", "coinutils", "mps", "cbc", "-max", "cbc BASE MAX -export OUT -quit"),
+    Writer("cbc MPS", "coinutils", "mps", "cbc", "-max", "cbc BASE MAX -presolve off -export OUT -quit"),
     Writer("lp_solve free MPS", "lp_solve", "mps", "lp_solve", "-max", f"{LP_SOLVE_COMMAND} -wfmps OUT"),
     Writer("lp_solve fixed MPS", "lp_solve", "mps", "lp_solve", "-max", f"{LP_SOLVE_COMMAND} -wmps OUT"),
     Writer("PuLP LP", "pulp", "lp", "pulp", "max", "PULP LP BASE OUT MAX"),
@@ -68,6 +68,10 @@ def run(command, cwd):
 
 
 PYTHON = python_with_pulp()
+
+
+def is_installed(writer):
+    return PYTHON is not None if writer.tool == "pulp" else shutil.which(writer.tool) is not None
 
 
 def is_written(path):
@@ -129,9 +133,9 @@ def written(writer, base, folder):
     """The file that a writer makes of a base, or None."""
     folder.mkdir(parents=True, exist_ok=True)
     out = folder / f"{base.stem}.{writer.format}"
-    if out.exists():
-        return out if is_written(out) else None
-    is_max = base.read_bytes().startswith(b"* MAX")
-    replaced = {"BASE": [base], "OUT": [out], "PULP": [PYTHON, "-c", PULP], "MAX": [writer.maximise] if is_max else []}
-    run([part for word in writer.command.split() for part in replaced.get(word, [word])], folder)
-    return out if is_written(out) else None
+    packed = out.with_name(f"{out.name}.gz")  # cbc compresses what it writes
+    if not out.exists() and not packed.exists():
+        is_max = base.read_bytes().startswith(b"* MAX")
+        replaced = {"BASE": [base], "OUT": [out], "PULP": [PYTHON, "-c", PULP], "MAX": [writer.maximise] if is_max else []}
+        run([part for word in writer.command.split() for part in replaced.get(word, [word])], folder)
+    return next((path for path in (out, packed) if is_written(path)), None)

@@ -226,7 +226,10 @@ class Reader:
         if first.kind == "word" and second.kind == "colon" and (first.text.lower() not in RESERVED or self.is_used_as_name(start)):
             self.at += 2
             return first
-        # A label may start with a digit.
+        # A label may start with a digit, but what comes after a relation is a number.
+        before = self.tokens.all[start - 1]
+        if before.kind == "relation" or (before.kind == "sign" and self.tokens.all[start - 2].kind == "relation"):
+            return None
         if first.kind == "number" and second.kind == "colon":
             self.at += 2
             return self.as_word(first, first)
