@@ -23,6 +23,17 @@ class Change:
         return f"{self.line}: {self.kind}: {self.before or '(nothing)'} -> {self.after or '(nothing)'}"
 
 
+@dataclass(frozen=True)
+class Note:
+    """What another dialect would mean by a line that stays: the line, from 1, and how to say so."""
+
+    line: int
+    text: str
+
+    def __str__(self) -> str:
+        return f"{self.line}: note: {self.text}"
+
+
 class AdaptError(ValueError):
     """A text that is left, since its meaning would have to be guessed, or since the profile does not have it.
 
@@ -45,6 +56,7 @@ class Log:
 
     def __init__(self, strict: Collection[str] = ()) -> None:
         self.changes: list[Change] = []
+        self.notes: list[Note] = []
         self.kinds_not_wanted = frozenset(strict)
         self.fixed_names: dict[str, str] = {}
 
@@ -52,6 +64,9 @@ class Log:
         if kind in self.kinds_not_wanted:
             raise AdaptError(line, f"a change of the kind {kind} is needed: {shown(before)}")
         self.changes.append(Change(line, kind, shown(before), shown(after)))
+
+    def note(self, line: int, text: str) -> None:
+        self.notes.append(Note(line, text))
 
 
 def shown(text: str) -> str:

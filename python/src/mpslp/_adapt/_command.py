@@ -103,6 +103,8 @@ def _adapted(options: argparse.Namespace) -> int:
         return USAGE
     for change in done.changes:
         print(f"{options.file}:{change}", file=sys.stderr)
+    for note in done.notes:
+        print(f"{options.file}:{note}", file=sys.stderr)
     if options.map is not None:
         with open(options.map, "w", encoding="utf-8", errors="surrogateescape") as file:
             json.dump(done.names, file, indent=1, ensure_ascii=False)

@@ -385,7 +385,11 @@ class Reader:
         """glpsol writes the constant of the objective into a comment."""
         place = self.token.start
         comment = next((each for each in self.tokens.comments if _CONSTANT_OF_GLPSOL.match(each.text)), None)
-        if self.dialect != "glpsol" or comment is None or comment.start > place or any(item.name is None for item in items):
+        if comment is None or comment.start > place or any(item.name is None for item in items):
+            return []
+        if self.dialect is None:
+            self.log.note(comment.line, "glpsol has the constant of the objective in this comment, which is ignored: --from glpsol adds it")
+        if self.dialect != "glpsol":
             return []
         found = _CONSTANT_OF_GLPSOL.match(comment.text)
         assert found is not None

@@ -44,6 +44,7 @@ _NEGATIVE_UPPER_IS_FREE_BELOW = ("coinutils",)
 
 def adapt_mps(text: str, dialect: Optional[str], log: Log) -> tuple[str, dict[str, str]]:
     """The text of the profile, and the names written instead of names given."""
+    before = list(log.changes)
     reader = Reader(lines_of(text), dialect, log)
     try:
         return reader.read(), reader.names.written
@@ -58,7 +59,7 @@ def adapt_mps(text: str, dialect: Optional[str], log: Log) -> tuple[str, dict[st
             adapted = reader.read()
         except AdaptError:
             raise error from None
-        log.changes[:] = sorted(again.changes, key=lambda change: change.line)
+        log.changes[:], log.notes[:] = before + again.changes, again.notes
         return adapted, {**fixed.names_of(again), **reader.names.written}
 
 
@@ -111,7 +112,7 @@ class Reader:
 
     def comment(self, line: Line) -> None:
         self.is_negated |= line.text == _NEGATED
-        if self.dialect == "pulp" and line.text.upper().startswith("*SENSE:") and self.pulp_sense is None:
+        if line.text.upper().startswith("*SENSE:") and self.pulp_sense is None:
             self.pulp_sense = line
 
     def header(self, line: Line) -> str:
@@ -329,8 +330,12 @@ class Reader:
         line, rows = self.pulp_sense, self.found("ROWS")
         if line is None or rows is None or self.found("OBJSENSE") is not None:
             return
-        word = line.text.partition(":")[2].strip()
-        if self.sense(line, word).startswith("MAX"):
+        word = line.text.partition(":")[2].strip().upper()
+        if not word.startswith("MAX"):
+            return
+        if self.dialect is None:
+            self.log.note(line.number, "PuLP has the sense in this comment, which is ignored: --from pulp maximises")
+        elif self.dialect == "pulp":
             self.log.add(line.number, "pulp-sense", line.text, "OBJSENSE MAX")
             header = [Line(line.number, "OBJSENSE", line.end), Line(line.number, "    MAX", line.end)]
             self.sections.insert(self.sections.index(rows), Section("OBJSENSE", header))
@@ -518,6 +523,8 @@ def _without_trailing(reader: Reader, line: Line, fields: list[str], end: Option
 def objective_rhs(reader: Reader, line: Line) -> Optional[list[str]]:
     """glpsol and lp_solve take the number on the objective as the constant, the profile as its negative."""
     fields = line.fields()
+    if reader.dialect is None and reader.objective in fields:
+        reader.log.note(line.number, "glpsol and lp_solve mean the constant itself, not its negative: --from glpsol, --from lp_solve")
     if reader.dialect not in _SIGN_OF_OBJECTIVE_RHS:
         return None
     start = len(fields) % 2

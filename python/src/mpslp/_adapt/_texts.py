@@ -10,7 +10,7 @@ from collections.abc import Callable, Collection, Mapping
 from dataclasses import dataclass
 from typing import Optional
 
-from mpslp._adapt._changes import DIALECTS, AdaptError, Change, Log
+from mpslp._adapt._changes import DIALECTS, AdaptError, Change, Log, Note
 from mpslp._adapt._lp import adapt_lp
 from mpslp._adapt._mps import adapt_mps
 from mpslp._sources import Format
@@ -27,12 +27,16 @@ _MARKS = ((b"\xef\xbb\xbf", "utf-8"), (b"\xff\xfe", "utf-16-le"), (b"\xfe\xff", 
 
 @dataclass(frozen=True)
 class Adapted:
-    """A text of the profile, its format, what was changed, in the order of lines, and the names written for names given."""
+    """A text of the profile, its format, what was changed, in the order of lines, and the names written for names given.
+
+    ``notes`` has the lines that stay, and that another dialect means in another way.
+    """
 
     text: bytes
     format: Format
     changes: tuple[Change, ...]
     names: Mapping[str, str]
+    notes: tuple[Note, ...] = ()
 
 
 def adapt_text(content: bytes, format: Format, dialect: Optional[str] = None, strict: Collection[str] = ()) -> Adapted:
@@ -46,7 +50,8 @@ def adapt_text(content: bytes, format: Format, dialect: Optional[str] = None, st
     text, names = rewrite(content.decode("latin-1"), dialect, log)
     text = with_short_lines(text, "\\" if format == "lp" else "*", log)
     changes = tuple(sorted(log.changes, key=lambda change: change.line))
-    return Adapted(text.encode("latin-1"), format, changes, {as_read(given): name for given, name in names.items()})
+    written = {as_read(given): name for given, name in names.items()}
+    return Adapted(text.encode("latin-1"), format, changes, written, tuple(log.notes))
 
 
 def as_read(text: str) -> str:
