@@ -61,6 +61,15 @@ def models(source: mpslp.Source) -> None:
     assert_type(replace(made, constant=1), mpslp.Model)
 
 
+def adapted(source: mpslp.Source) -> None:
+    done = mpslp.adapt(source, "mps", "pulp", strict={"number"})
+    assert_type(done, mpslp.Adapted)
+    assert_type(done.text, bytes)
+    assert_type(done.format, mpslp.Format)
+    assert_type(done.changes, tuple[mpslp.Change, ...])
+    assert_type(done.names, Mapping[str, str])
+
+
 def wrong(text: bytes) -> None:
     mpslp.canonical(7, "mps")  # type: ignore[arg-type]
     mpslp.canonical(text, "qps")  # type: ignore[arg-type]

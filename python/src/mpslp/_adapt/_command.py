@@ -8,7 +8,7 @@ import os
 import re
 import sys
 from collections.abc import Collection, Mapping, Sequence
-from typing import NoReturn, Optional
+from typing import Any, NoReturn, Optional
 
 from mpslp import _mpslp
 from mpslp._adapt._changes import DIALECTS, AdaptError
@@ -54,28 +54,47 @@ class _Parser(argparse.ArgumentParser):
         self.exit(USAGE, f"{self.prog}: {message}\n")
 
 
+_DESCRIPTION = "Rewrite a file of another dialect as one that mpslp reads, without guessing, and report each change on standard error."
+
+
 def parser() -> argparse.ArgumentParser:
-    made = _Parser(
-        prog="python3 -m mpslp adapt",
-        description="Rewrite a file of another dialect as one that mpslp reads, without guessing, and report each change on "
-        "standard error.",
+    """The parser of the command on its own."""
+    made = _Parser(prog="python3 -m mpslp adapt", description=_DESCRIPTION, epilog=_EPILOG, formatter_class=argparse.RawDescriptionHelpFormatter)
+    _add_arguments(made)
+    return made
+
+
+def add_to(commands: Any) -> None:
+    """Adds the command to the subparsers of another parser; its default ``run`` takes the options and returns a status."""
+    made = commands.add_parser(
+        "adapt",
+        help="rewrite a file of another dialect",
+        description=_DESCRIPTION,
         epilog=_EPILOG,
         formatter_class=argparse.RawDescriptionHelpFormatter,
     )
+    _add_arguments(made)
+    made.set_defaults(run=run)
+
+
+def _add_arguments(made: argparse.ArgumentParser) -> None:
     made.add_argument("file", metavar="FILE", help="the file; - is standard input")
     made.add_argument("-o", "--output", metavar="FILE", help="where to write; standard output if it is left out")
     made.add_argument("--from", dest="dialect", choices=DIALECTS, help="the program that wrote the file")
-    made.add_argument("--format", choices=("mps", "lp"), help="the format, if the name of the file does not say it")
+    made.add_argument("-f", "--format", choices=("mps", "lp"), help="the format, if the name of the file does not say it")
     made.add_argument("--dry-run", action="store_true", help="only report the changes")
     made.add_argument("--strict", metavar="KIND", action="append", default=[], help="leave the file if it needs a change of this kind")
     made.add_argument("--map", metavar="FILE", help="write the names given and the names written to this file")
     made.add_argument("--names-back", metavar="MAP", help="write FILE, a solution, with the names given, which MAP has")
-    return made
 
 
 def command(arguments: Sequence[str]) -> int:
     """Runs the command with its arguments, and returns its exit status."""
-    options = parser().parse_args(arguments)
+    return run(parser().parse_args(arguments))
+
+
+def run(options: argparse.Namespace) -> int:
+    """Runs the command with its options, and returns its exit status."""
     try:
         if options.names_back is not None:
             with open(options.names_back, encoding="utf-8", errors="surrogateescape") as file:
@@ -88,7 +107,7 @@ def command(arguments: Sequence[str]) -> int:
         print(error, file=sys.stderr)
         return STOPPED
     except OSError as error:
-        print(f"{options.file}: {error.strerror or error}", file=sys.stderr)
+        print(f"{error.filename or options.file}: {error.strerror or error}", file=sys.stderr)
         return NO_FILE
 
 
