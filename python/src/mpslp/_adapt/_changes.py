@@ -1,7 +1,5 @@
 """What is changed in a text, and why a text is left."""
 
-from __future__ import annotations
-
 from collections.abc import Collection
 from dataclasses import dataclass
 from typing import Optional

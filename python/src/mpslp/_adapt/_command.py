@@ -1,20 +1,16 @@
-"""The call, and the command line: python3 -m mpslp adapt."""
-
-from __future__ import annotations
+"""The command line: python3 -m mpslp adapt."""
 
 import argparse
 import json
 import os
 import re
 import sys
-from collections.abc import Collection, Mapping, Sequence
+from collections.abc import Mapping, Sequence
 from typing import Any, NoReturn, Optional
 
-from mpslp import _mpslp
+from mpslp._adapt._call import adapt
 from mpslp._adapt._changes import DIALECTS, AdaptError
-from mpslp._adapt._texts import Adapted, adapt_text
 from mpslp._compression import pack
-from mpslp._sources import Format, Source, read
 
 UNCHANGED, CHANGED, STOPPED, USAGE, NO_FILE = range(5)
 """Exit statuses; the last two are those of the program mpslp."""
@@ -23,29 +19,6 @@ _EPILOG = """\
 exit status: 0 if nothing was changed, 1 if something was, 2 if the file is left,
 3 for a usage error, 4 if a file does not open, or a read or a write failed.
 """
-
-
-def adapt(source: Source, format: Optional[Format] = None, dialect: Optional[str] = None, *, strict: Collection[str] = ()) -> Adapted:
-    """Returns the text of a file as it comes, rewritten so that the calls of this package take it.
-
-    ``dialect`` names the program that wrote the file, one of ``"coinutils"``, ``"glpsol"``, ``"lp_solve"``, ``"pulp"`` and
-    ``"qsopt"``; then what that program means by its text is written out. ``strict`` has the kinds of changes that are not
-    wanted. A text that needs no change is returned unchanged.
-
-    Raises AdaptError, which is a ValueError, if the meaning would have to be guessed, or for a change of a kind in ``strict``.
-
-    >>> adapted = mpslp.adapt(b"min x\\nst\\nx + 3 >= 5\\nend\\n", "lp")
-    >>> adapted.text
-    b'min x\\nst\\nx >= 2\\nend\\n'
-    >>> print(*adapted.changes)
-    3: constant-in-row: x + 3 >= 5 -> x >= 2
-    """
-    text = read(source, format)
-    try:
-        return adapt_text(text.content, "lp" if text.format == _mpslp.LP else "mps", dialect, strict)
-    except AdaptError as error:
-        error.filename = text.filename
-        raise
 
 
 class _Parser(argparse.ArgumentParser):

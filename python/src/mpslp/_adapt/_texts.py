@@ -1,27 +1,21 @@
 """Files as they come: compressed, in another encoding, or with lines that the profile does not have."""
 
-from __future__ import annotations
+# Annotations are evaluated here: the classes say that they are of the package, whose names are fewer.
 
-import bz2
-import gzip
-import lzma
 import re
-from collections.abc import Callable, Collection, Mapping
+from collections.abc import Collection, Mapping
 from dataclasses import dataclass
 from typing import Optional
 
 from mpslp._adapt._changes import DIALECTS, AdaptError, Change, Log, Note
 from mpslp._adapt._lp import adapt_lp
 from mpslp._adapt._mps import adapt_mps
+from mpslp._compression import unpack
 from mpslp._sources import Format
 
 LONGEST_LINE = 1_048_576
 _PART_OF_LINE = 1_000_000
-_COMPRESSED: tuple[tuple[bytes, str, Callable[[bytes], bytes]], ...] = (
-    (b"\x1f\x8b", "gzip", gzip.decompress),
-    (b"BZh", "bzip2", bz2.decompress),
-    (b"\xfd7zXZ\x00", "xz", lzma.decompress),
-)
+_COMPRESSED = ((b"\x1f\x8b", ".gz"), (b"BZh", ".bz2"), (b"\xfd7zXZ\x00", ".xz"), (b"\x28\xb5\x2f\xfd", ".zst"))
 _MARKS = ((b"\xef\xbb\xbf", "utf-8"), (b"\xff\xfe", "utf-16-le"), (b"\xfe\xff", "utf-16-be"))
 
 
@@ -63,14 +57,14 @@ def as_read(text: str) -> str:
 
 
 def decompressed(content: bytes, log: Log) -> bytes:
-    """A file that is compressed, whatever its name."""
-    for magic, name, unpack in _COMPRESSED:
+    """A file that is compressed although its name does not say so."""
+    for magic, ending in _COMPRESSED:
         if content.startswith(magic):
             try:
-                unpacked = unpack(content)
-            except Exception as error:  # each module has exceptions of its own
-                raise AdaptError(1, f"no whole file of {name}: {error}") from error
-            log.add(1, "compressed", name, "")
+                unpacked = unpack(ending, content)
+            except (ImportError, OSError) as error:
+                raise AdaptError(1, f"no whole file of {ending}: {error}") from error
+            log.add(1, "compressed", ending, "")
             return unpacked
     return content
 
