@@ -525,7 +525,6 @@ class Reader:
             number = self.text[row.sides[1][0].tokens[0].start : row.end]
             label = f"{self.name_of(row.label)}: " if row.label else ""
             text = f"{label}0 {self.first_column} {spelled(sense_of(row.relations[0]))} {number}"
-            self.edits = [edit for edit in self.edits if not row.first.start <= edit[0] < row.end]
             self.replace(row.first.start, row.end, row.first.line, ["row-without-terms"], text)
 
     # ---- terms
@@ -761,7 +760,6 @@ class Reader:
         for kind in kinds:
             self.log.add(line, kind, self.without_comments(start, end), text)
         comments = self.tokens.comments_in(start, end)
-        self.edits = [edit for edit in self.edits if not start <= edit[0] < end]
         self.edits.append((start, end, "".join(f"{comment}\n" for comment in comments) + text))
 
     def without_comments(self, start: int, end: int) -> str:
@@ -779,6 +777,7 @@ class Reader:
     def written(self) -> str:
         """The text with all changes, and each section once."""
         starts = [start for _, start, _ in self.sections]
+        self.edits = outermost(self.edits)
         parts = []
         for begin, end in zip([0, *starts], [*starts, len(self.text)]):
             parts.append(self.edited(begin, end))
@@ -797,11 +796,20 @@ class Reader:
 
     def edited(self, begin: int, end: int) -> str:
         pieces, at = [], begin
-        for start, stop, text in sorted(self.edits):
+        for start, stop, text in self.edits:
             if begin <= start < end:
                 pieces += [self.text[at:start], text]
                 at = stop
         return "".join([*pieces, self.text[at:end]])
+
+
+def outermost(edits: Iterable[tuple[int, int, str]]) -> list[tuple[int, int, str]]:
+    """Edits in order, without those of tokens in a statement that is written again."""
+    kept: list[tuple[int, int, str]] = []
+    for edit in sorted(edits, key=lambda each: (each[0], -each[1])):
+        if not kept or edit[0] >= kept[-1][1]:
+            kept.append(edit)
+    return kept
 
 
 def has_terms(items: Sequence[Item]) -> bool:

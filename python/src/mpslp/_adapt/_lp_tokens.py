@@ -3,7 +3,7 @@
 from __future__ import annotations
 
 import re
-from bisect import bisect_right
+from bisect import bisect_left
 from typing import NamedTuple, Optional
 
 from mpslp._adapt._changes import AdaptError
@@ -21,7 +21,7 @@ _FREE = re.compile(
 _FRACTIONS = re.compile(_FREE.pattern.replace("(?P<number>", "(?P<number>[0-9]+/[0-9]+(?![0-9.])|"))
 # PuLP puts spaces around each token, and has nearly every byte in its names; a label ends with a colon.
 _SPACED = re.compile(
-    rf"{_COMMON}(?=[ \n])|(?P<sign>[+-](?=\s|[0-9.]|inf\b))|(?P<number>{_NUMBER})(?=\s)"
+    rf"{_COMMON}(?=\s|\Z)|(?P<sign>[+-](?=\s|[0-9.]|inf\b))|(?P<number>{_NUMBER})(?=\s|\Z)"
     r"|(?P<word>[^\s:]+(?::[^\s:]+)*)|(?P<colon>:)|(?P<star>\*)|(?P<space>\s+)|(?P<bad>.)"
 )
 
@@ -41,26 +41,31 @@ class Tokens:
         self.text = text
         self.comments: list[Token] = []
         self.all: list[Token] = []
-        self._ends = [at for at, each in enumerate(text) if each == "\n"]
         pattern = {"pulp": _SPACED, "qsopt": _FRACTIONS}.get(dialect or "", _FREE)
+        line = 1
         for found in pattern.finditer(text):
-            kind = "sign" if found.lastgroup == "minus" else found.lastgroup or ""
-            if kind != "space":
-                token = Token(kind, found[0], *found.span(), self.line_of(found.start()))
-                (self.comments if kind == "comment" else self.all).append(token)
-            if kind == "word" and found[0].lower() == "end" and self._is_last_of_line(found.end()):
+            kind = found.lastgroup or ""
+            if kind == "space":
+                line += found[0].count("\n")
+                continue
+            token = Token("sign" if kind == "minus" else kind, found[0], found.start(), found.end(), line)
+            (self.comments if kind == "comment" else self.all).append(token)
+            if kind == "word" and token.text.lower() == "end" and self._is_last_of_line(token.end):
                 break  # whatever comes after it is ignored
-        self.all.append(Token("end", "", len(text), len(text), self.line_of(len(text))))
+        self.all.append(Token("end", "", len(text), len(text), line))
+        self._places_of_comments = [each.start for each in self.comments]
 
     def line_of(self, place: int) -> int:
-        return bisect_right(self._ends, place - 1) + 1
+        return self.text.count("\n", 0, place) + 1
 
     def _is_last_of_line(self, place: int) -> bool:
         rest = self.text[place:].split("\n", 1)[0].strip(" \t\r")
         return not rest or rest.startswith("\\")
 
     def comments_in(self, start: int, end: int) -> list[str]:
-        return [each.text.rstrip("\r") for each in self.comments if start <= each.start < end]
+        first = bisect_left(self._places_of_comments, start)
+        last = bisect_left(self._places_of_comments, end)
+        return [each.text.rstrip("\r") for each in self.comments[first:last]]
 
 
 def quadratic(token: Token) -> AdaptError:

@@ -20,6 +20,7 @@ _SENSES = {"MAX": "MAX", "MAXIMIZE": "MAX", "MAXIMISE": "MAX", "MAXIMUM": "MAX",
            "MIN": "MIN", "MINIMIZE": "MIN", "MINIMISE": "MIN", "MINIMUM": "MIN"}  # fmt: skip
 _PROFILE_SENSES = ("MAX", "MAXIMIZE", "MIN", "MINIMIZE")
 _KEYWORDS = ("NAME", "OBJSENSE", "OBJNAME", "ROWS", "COLUMNS", "RHS", "RANGES", "BOUNDS", "ENDATA")
+_NEEDS = {"COLUMNS": ("ROWS",), **dict.fromkeys(("RHS", "RANGES", "BOUNDS", "ENDATA"), ("ROWS", "COLUMNS"))}
 _ONE_WORD = ("OBJSENSE", "OBJNAME")
 _MAY_COME_AGAIN = ("RHS", "RANGES", "BOUNDS")
 _VALUED = ("LO", "UP", "FX", "LI", "UI", "SC")
@@ -97,6 +98,8 @@ class Reader:
             elif self.header(line) == "ENDATA":
                 self.sections.append(Section("", self.lines[at + 1 :]))
                 break
+        if self.wants_word:
+            raise AdaptError(self.lines[-1].number, f"{self.wants_word} without its word: write the word on the next line")
         self.say_the_sense_of_pulp()
         self.give_bounds_of_the_dialect()
         return joined([line for section in self.sections for line in section.lines])
@@ -128,6 +131,8 @@ class Reader:
             raise AdaptError(line.number, _NOT_SUPPORTED[keyword])
         if keyword not in _KEYWORDS:
             raise AdaptError(line.number, f"{fields[0]} is no section of the profile")
+        if self.wants_word:
+            raise AdaptError(line.number, f"{self.wants_word} without its word: write the word on the next line")
         if fields[0] != keyword:
             self.rewrite(line, "letter-case", [keyword, *fields[1:]])
             fields = line.fields()
@@ -173,6 +178,9 @@ class Reader:
     def open(self, line: Line, keyword: str) -> None:
         """Opens a section: a part of one that came before goes on there, and the sense goes before ROWS."""
         before = self.found(keyword)
+        missing = next((each for each in _NEEDS.get(keyword, ()) if self.found(each) is None), None)
+        if missing is not None:
+            raise AdaptError(line.number, f"{keyword} before {missing}: move it after that section")
         if before is not None and keyword in _MAY_COME_AGAIN:
             self.log.add(line.number, "section-again", line.text, f"in the first {keyword}")
             self._section = before
@@ -517,6 +525,8 @@ def _without_trailing(reader: Reader, line: Line, fields: list[str], end: Option
         return None
     if fields[end] in reader.rows:
         raise AdaptError(line.number, f"after the row {fields[end]} is no number")
+    if len(fields) == end + 2 and LITERAL.fullmatch(fields[end + 1]):
+        raise AdaptError(line.number, f"{fields[end]} is no row: correct the name, or remove the text")
     return fields[:end]
 
 

@@ -65,4 +65,5 @@ def lines_of(text: str) -> list[Line]:
 
 
 def joined(lines: Sequence[Line]) -> str:
-    return "".join(line.text + line.end for line in lines)
+    """The text of lines, of which only the last may have no end."""
+    return "".join(line.text + (line.end or "\n") for line in lines[:-1]) + "".join(line.text + line.end for line in lines[-1:])

@@ -35,15 +35,19 @@ class Names:
 
     def __init__(self, is_legal: Callable[[str], bool], used: Callable[[], set[str]]) -> None:
         self.written: dict[str, str] = {}
+        self._legal: set[str] = set()
         self._is_legal = is_legal
         self._find_used = used
         self._used: set[str] | None = None
 
     def of(self, given: str) -> str:
         """The name to write: the given one, if it is legal."""
+        if given in self._legal:
+            return given
         if given in self.written:
             return self.written[given]
         if self._is_legal(given):
+            self._legal.add(given)
             return given
         if self._used is None:
             self._used = self._find_used()
