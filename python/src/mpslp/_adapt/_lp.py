@@ -9,12 +9,26 @@ from __future__ import annotations
 
 import re
 from collections.abc import Iterable, Sequence
-from dataclasses import dataclass, field
 from fractions import Fraction
 from typing import Optional
 
 from mpslp._adapt import _numbers
 from mpslp._adapt._changes import AdaptError, Log
+from mpslp._adapt._lp_parts import (
+    FLIPPED,
+    Bound,
+    Item,
+    Row,
+    ended,
+    has_terms,
+    negated,
+    outermost,
+    sense_of,
+    signed,
+    spelled,
+    starts_with_side,
+    wrapped,
+)
 from mpslp._adapt._lp_tokens import Token, Tokens, quadratic
 from mpslp._adapt._names import RESERVED, Names, is_lp_name
 
@@ -43,49 +57,8 @@ _NOT_SUPPORTED = {
 }
 _INFINITIES = ("inf", "infinity")
 _OTHER_INFINITIES = ("infty", "infin")
-_FLIPPED = {"<": ">", ">": "<", "=": "="}
 _CONSTANT_OF_GLPSOL = re.compile(r"\\\* constant term = (-?)([0-9.]+(?:e[+-]?[0-9]+)?) \*\\")
 _NO_BOUND = "no bound of the profile: a column and a number, or a column between two numbers"
-_LONGEST_ROW_LINE = 200
-
-
-@dataclass
-class Item:
-    """A term or a constant: its sign, its number, its name; and the tokens that it has."""
-
-    tokens: list[Token]
-    signs: int
-    sign: int
-    numbers: list[Token] = field(default_factory=list)
-    name: Optional[Token] = None
-    is_infinite: bool = False
-    has_star: bool = False
-
-
-@dataclass
-class Row:
-    """A row as it is read: what is on each side of its relations."""
-
-    first: Token
-    label: Optional[Token]
-    sides: list[list[Item]]
-    relations: list[Token]
-    end: int = 0
-
-
-@dataclass
-class Bound:
-    """What the bounds of a column are given by: its lower and its upper side, or that it is free."""
-
-    lower: Optional[str]
-    upper: Optional[str]
-    start: int
-    end: int
-    line: int
-
-    @property
-    def is_free(self) -> bool:
-        return self.lower == self.upper == "free"
 
 
 def adapt_lp(text: str, dialect: Optional[str], log: Log) -> tuple[str, dict[str, str]]:
@@ -432,7 +405,7 @@ class Reader:
         items = self.items()
         is_middle = len(row.relations) == 1 and not has_terms(row.sides[0]) and has_terms(items)
         if self.token.kind == "relation" and not is_middle and items:
-            if is_number(items[0], self.text):
+            if starts_with_side(items[0]):
                 # What follows the number is a row of its own.
                 self.at = start + items[0].signs + 1
                 items = [Item(items[0].tokens, items[0].signs, items[0].sign, items[0].numbers, None, items[0].is_infinite)]
@@ -496,7 +469,7 @@ class Reader:
         relations = [sense_of(each) for each in row.relations]
         if len(relations) == 2:
             return f"{label}{numbers[0]} {spelled(relations[0])} {body} {spelled(relations[1])} {numbers[1]}"
-        relation = _FLIPPED[relations[0]] if is_flipped else relations[0]
+        relation = FLIPPED[relations[0]] if is_flipped else relations[0]
         return f"{label}{body} {spelled(relation)} {numbers[0]}"
 
     def limit_text(self, side: Sequence[Item], constant: Fraction, first: Token) -> str:
@@ -613,7 +586,7 @@ class Reader:
         for relation, before, after in zip(relations, items, items[1:]):
             sense = sense_of(relation)
             if after.name is not None:
-                sense = _FLIPPED[sense]
+                sense = FLIPPED[sense]
             number = before if after.name is not None else after
             value = ("-" if number.sign < 0 else "") + number.numbers[0].text
             sides.update({"lower": value, "upper": value} if sense == "=" else {"upper" if sense == "<" else "lower": value})
@@ -663,8 +636,7 @@ class Reader:
         """A column that is free and has an upper or a lower bound, and bounds that are given again."""
         for name, bounds in self.bounds.items():
             if len(bounds) > 1:
-                self.settle_free(name, bounds)
-                self.settle_again(bounds)
+                self.settle_free(name, self.settle_again(bounds))
 
     def settle_free(self, name: str, bounds: list[Bound]) -> None:
         free = [bound for bound in bounds if bound.is_free]
@@ -678,12 +650,16 @@ class Reader:
         if bound.upper is not None and bound.lower is None:
             self.replace(bound.start, bound.end, bound.line, ["free-and-bound"], f"-inf <= {self.names.of(name)} <= {bound.upper}")
         self.replace(free[0].start, free[0].end, free[0].line, ["free-and-bound"], "")
-        bounds.remove(free[0])
 
-    def settle_again(self, bounds: list[Bound]) -> None:
-        for at, bound in enumerate(bounds):
-            if any((bound.lower, bound.upper) == (each.lower, each.upper) for each in bounds[:at]):
+    def settle_again(self, bounds: list[Bound]) -> list[Bound]:
+        """The bounds without those that are given again, which are removed."""
+        kept: list[Bound] = []
+        for bound in bounds:
+            if any((bound.lower, bound.upper) == (each.lower, each.upper) for each in kept):
                 self.replace(bound.start, bound.end, bound.line, ["bound-again"], "")
+            else:
+                kept.append(bound)
+        return kept
 
     # ---- lists of names
 
@@ -801,55 +777,3 @@ class Reader:
                 pieces += [self.text[at:start], text]
                 at = stop
         return "".join([*pieces, self.text[at:end]])
-
-
-def outermost(edits: Iterable[tuple[int, int, str]]) -> list[tuple[int, int, str]]:
-    """Edits in order, without those of tokens in a statement that is written again."""
-    kept: list[tuple[int, int, str]] = []
-    for edit in sorted(edits, key=lambda each: (each[0], -each[1])):
-        if not kept or edit[0] >= kept[-1][1]:
-            kept.append(edit)
-    return kept
-
-
-def has_terms(items: Sequence[Item]) -> bool:
-    return any(item.name is not None for item in items)
-
-
-def is_number(item: Item, text: str) -> bool:
-    """Whether an item is, or starts with, a number that may be a side of the profile."""
-    return bool(item.numbers) and item.signs <= 1 and not item.has_star and text.find(item.numbers[0].text, item.tokens[0].start) >= 0
-
-
-def negated(item: Item) -> Item:
-    return Item(item.tokens, 1, -item.sign, item.numbers, item.name, item.is_infinite)
-
-
-def sense_of(token: Token) -> str:
-    if token.text in ("=", "=="):
-        return "="
-    return "<" if "<" in token.text or token.text.endswith("\xa4") else ">"
-
-
-def spelled(sense: str) -> str:
-    return sense if sense == "=" else f"{sense}="
-
-
-def signed(number: str) -> str:
-    return f"- {number[1:]}" if number.startswith("-") else f"+ {number}"
-
-
-def ended(text: str) -> str:
-    return text if not text or text.endswith("\n") else f"{text}\n"
-
-
-def wrapped(parts: Sequence[str]) -> str:
-    """Terms on lines that are not long; the first has no plus."""
-    lines, line = [], ""
-    for part in parts:
-        if line and len(line) + len(part) >= _LONGEST_ROW_LINE:
-            lines.append(line)
-            line = ""
-        line = f"{line} {part}" if line else part
-    text = "\n  ".join([*lines, line])
-    return text[2:] if text.startswith("+ ") else text

@@ -50,13 +50,16 @@ class Tokens:
                 continue
             token = Token("sign" if kind == "minus" else kind, found[0], found.start(), found.end(), line)
             (self.comments if kind == "comment" else self.all).append(token)
-            if kind == "word" and token.text.lower() == "end" and self._is_last_of_line(token.end):
+            if kind == "word" and token.text.lower() == "end" and self._is_last_of_line(token.end) and not self._is_after_sign():
                 break  # whatever comes after it is ignored
         self.all.append(Token("end", "", len(text), len(text), line))
         self._places_of_comments = [each.start for each in self.comments]
 
     def line_of(self, place: int) -> int:
         return self.text.count("\n", 0, place) + 1
+
+    def _is_after_sign(self) -> bool:
+        return len(self.all) > 1 and self.all[-2].kind == "sign"
 
     def _is_last_of_line(self, place: int) -> bool:
         rest = self.text[place:].split("\n", 1)[0].strip(" \t\r")

@@ -20,7 +20,8 @@ _SENSES = {"MAX": "MAX", "MAXIMIZE": "MAX", "MAXIMISE": "MAX", "MAXIMUM": "MAX",
            "MIN": "MIN", "MINIMIZE": "MIN", "MINIMISE": "MIN", "MINIMUM": "MIN"}  # fmt: skip
 _PROFILE_SENSES = ("MAX", "MAXIMIZE", "MIN", "MINIMIZE")
 _KEYWORDS = ("NAME", "OBJSENSE", "OBJNAME", "ROWS", "COLUMNS", "RHS", "RANGES", "BOUNDS", "ENDATA")
-_NEEDS = {"COLUMNS": ("ROWS",), **dict.fromkeys(("RHS", "RANGES", "BOUNDS", "ENDATA"), ("ROWS", "COLUMNS"))}
+_NEEDS: dict[str, tuple[str, ...]] = {"COLUMNS": ("ROWS",)}
+_NEEDS.update(dict.fromkeys(("RHS", "RANGES", "BOUNDS", "ENDATA"), ("ROWS", "COLUMNS")))
 _ONE_WORD = ("OBJSENSE", "OBJNAME")
 _MAY_COME_AGAIN = ("RHS", "RANGES", "BOUNDS")
 _VALUED = ("LO", "UP", "FX", "LI", "UI", "SC")
