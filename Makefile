@@ -1,6 +1,6 @@
 # The commands of the README. They need the Rattle kit, whose command is rt.
 
-.PHONY: program run test wrong-bodies lib lib-check python python-check bench refused random vectors docs-check solvers
+.PHONY: program run test wrong-bodies lib lib-check python python-check bench refused random vectors docs-check solvers dialects
 
 # Proves and builds the program: about 20 minutes the first time, and later what changed.
 program:
@@ -66,6 +66,12 @@ docs-check: program
 # Feeds canonical texts to the solvers that are installed, as docs/SOLVERS.md says, and compares the optima.
 solvers: program
 	python3 tests/solvers.py
+
+# Tests adapt: its rules, random models in other dialects, and what the installed solvers write of real models.
+dialects: program
+	python3 tests/adapt_rules.py --wrong
+	python3 tests/adapt_random.py
+	python3 tests/adapt_writers.py
 
 # install, install-lib, uninstall; dist, dist-check, install-check.
 include release/install.mk release/release.mk

@@ -43,6 +43,8 @@ TESTS = (
     Test("make and make run", ("python3", "tests/commands_check.py")),
     Test("a large file", ("python3", "tests/large_file.py")),
     Test("documents", ("python3", "tests/docs_check.py")),
+    Test("random models in other dialects", ("python3", "tests/adapt_random.py", "--models", "300")),
+    Test("rules for other dialects", ("python3", "tests/adapt_rules.py", "--wrong")),
     Test("digests of canonical texts", ("python3", "tests/digests.py")),
     Test("version", ("sh", "release/version.sh", "crates/mpslp/out/mpslp")),
 )

@@ -87,6 +87,15 @@ def differences(first: mpslp.Model, second: Path) -> None:
     assert_type(mpslp.digest(second), str)
 
 
+def adapted(source: mpslp.Source) -> None:
+    done = mpslp.adapt(source, "mps", "pulp", strict={"number"})
+    assert_type(done, mpslp.Adapted)
+    assert_type(done.text, bytes)
+    assert_type(done.format, mpslp.Format)
+    assert_type(done.changes, tuple[mpslp.Change, ...])
+    assert_type(done.names, Mapping[str, str])
+
+
 def wrong(text: bytes) -> None:
     mpslp.canonical(7, "mps")  # type: ignore[arg-type]
     mpslp.canonical(text, "qps")  # type: ignore[arg-type]

@@ -21,6 +21,7 @@ others.
 
 from mpslp._mpslp import VERSION as __version__
 
+from mpslp._adapt import AdaptError, Adapted, Change, adapt
 from mpslp._arrays import Arrays
 from mpslp._calls import canonical, digest, is_canonical, same
 from mpslp._differences import (
@@ -43,8 +44,11 @@ from mpslp._sources import Format, Source
 
 __all__ = [
     "__version__",
+    "AdaptError",
+    "Adapted",
     "Arrays",
     "Cause",
+    "Change",
     "Column",
     "ColumnDifference",
     "ColumnOnly",
@@ -64,6 +68,7 @@ __all__ = [
     "Sense",
     "Source",
     "assert_same_model",
+    "adapt",
     "canonical",
     "diff",
     "digest",

@@ -1,0 +1,129 @@
+"""The command line: python3 -m mpslp adapt."""
+
+import argparse
+import json
+import os
+import re
+import sys
+from collections.abc import Mapping, Sequence
+from typing import Any, NoReturn, Optional
+
+from mpslp._adapt._call import adapt
+from mpslp._adapt._changes import DIALECTS, AdaptError
+from mpslp._compression import pack
+
+UNCHANGED, CHANGED, STOPPED, USAGE, NO_FILE = range(5)
+"""Exit statuses; the last two are those of the program mpslp."""
+
+_EPILOG = """\
+exit status: 0 if nothing was changed, 1 if something was, 2 if the file is left,
+3 for a usage error, 4 if a file does not open, or a read or a write failed.
+"""
+
+
+class _Parser(argparse.ArgumentParser):
+    def error(self, message: str) -> NoReturn:
+        self.print_usage(sys.stderr)
+        self.exit(USAGE, f"{self.prog}: {message}\n")
+
+
+_DESCRIPTION = "Rewrite a file of another dialect as one that mpslp reads, without guessing, and report each change on standard error."
+
+
+def parser() -> argparse.ArgumentParser:
+    """The parser of the command on its own."""
+    made = _Parser(prog="python3 -m mpslp adapt", description=_DESCRIPTION, epilog=_EPILOG, formatter_class=argparse.RawDescriptionHelpFormatter)
+    _add_arguments(made)
+    return made
+
+
+def add_to(commands: Any) -> None:
+    """Adds the command to the subparsers of another parser; its default ``run`` takes the options and returns a status."""
+    made = commands.add_parser(
+        "adapt",
+        help="rewrite a file of another dialect",
+        description=_DESCRIPTION,
+        epilog=_EPILOG,
+        formatter_class=argparse.RawDescriptionHelpFormatter,
+    )
+    _add_arguments(made)
+    made.set_defaults(run=run)
+
+
+def _add_arguments(made: argparse.ArgumentParser) -> None:
+    made.add_argument("file", metavar="FILE", help="the file; - is standard input")
+    made.add_argument("-o", "--output", metavar="FILE", help="where to write; standard output if it is left out")
+    made.add_argument("--from", dest="dialect", choices=DIALECTS, help="the program that wrote the file")
+    made.add_argument("-f", "--format", choices=("mps", "lp"), help="the format, if the name of the file does not say it")
+    made.add_argument("--dry-run", action="store_true", help="only report the changes")
+    made.add_argument("--strict", metavar="KIND", action="append", default=[], help="leave the file if it needs a change of this kind")
+    made.add_argument("--map", metavar="FILE", help="write the names given and the names written to this file")
+    made.add_argument("--names-back", metavar="MAP", help="write FILE, a solution, with the names given, which MAP has")
+
+
+def command(arguments: Sequence[str]) -> int:
+    """Runs the command with its arguments, and returns its exit status."""
+    return run(parser().parse_args(arguments))
+
+
+def run(options: argparse.Namespace) -> int:
+    """Runs the command with its options, and returns its exit status."""
+    try:
+        if options.names_back is not None:
+            with open(options.names_back, encoding="utf-8", errors="surrogateescape") as file:
+                given = {written: name for name, written in json.load(file).items()}
+            _put(options.output, with_names(_bytes_of(options.file), given))
+            return UNCHANGED
+        return _adapted(options)
+    except AdaptError as error:
+        error.filename = options.file
+        print(error, file=sys.stderr)
+        return STOPPED
+    except OSError as error:
+        print(f"{error.filename or options.file}: {error.strerror or error}", file=sys.stderr)
+        return NO_FILE
+
+
+def _adapted(options: argparse.Namespace) -> int:
+    source = sys.stdin.buffer if options.file == "-" else options.file
+    try:
+        done = adapt(source, options.format, options.dialect, strict=options.strict)
+    except AdaptError:
+        raise
+    except ValueError as error:
+        print(error, file=sys.stderr)
+        return USAGE
+    for change in done.changes:
+        print(f"{options.file}:{change}", file=sys.stderr)
+    for note in done.notes:
+        print(f"{options.file}:{note}", file=sys.stderr)
+    if options.map is not None:
+        with open(options.map, "w", encoding="utf-8", errors="surrogateescape") as file:
+            json.dump(done.names, file, indent=1, ensure_ascii=False)
+            file.write("\n")
+    if not options.dry_run:
+        _put(options.output, done.text)
+    return CHANGED if done.changes else UNCHANGED
+
+
+def with_names(solution: bytes, given: Mapping[str, str]) -> bytes:
+    """A solution in which each word that is a name written is the name given."""
+    text = solution.decode("utf-8", "surrogateescape")
+    return re.sub(r"[^\s]+", lambda word: given.get(word[0], word[0]), text).encode("utf-8", "surrogateescape")
+
+
+def _bytes_of(path: str) -> bytes:
+    if path == "-":
+        return sys.stdin.buffer.read()
+    with open(path, "rb") as file:
+        return file.read()
+
+
+def _put(path: Optional[str], text: bytes) -> None:
+    if path is None:
+        sys.stdout.buffer.write(text)
+        sys.stdout.buffer.flush()
+        return
+    content = pack(os.fsdecode(path), text)
+    with open(path, "wb") as file:
+        file.write(content)

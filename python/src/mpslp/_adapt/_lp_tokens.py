@@ -1,0 +1,75 @@
+"""The tokens of an LP file, with their places and lines; more words are names than in the profile."""
+
+from __future__ import annotations
+
+import re
+from bisect import bisect_left
+from typing import NamedTuple, Optional
+
+from mpslp._adapt._changes import AdaptError
+
+_FIRST = r"A-Za-z!\"#$%&()/,;?@_'`{}|~\x80-\xff"
+_INDEX = r"\[[^\[\]\n^*]*\]"
+_NUMBER = r"(?:[0-9]+\.?[0-9]*|\.[0-9]+)(?:[eE][+-]?[0-9]+)?"
+_RELATION = r"<=|=<|<|>=|=>|>|==|=|\xe2\x89[\xa4\xa5]"
+_COMMON = rf"(?P<comment>\\[^\n]*)|(?P<relation>{_RELATION})|(?P<other>::|->)|(?P<minus>\xe2\x88\x92)"
+_FREE = re.compile(
+    rf"{_COMMON}|(?P<number>{_NUMBER})|(?P<word>\.?[{_FIRST}](?:[{_FIRST}0-9.]|{_INDEX})*)"
+    r"|(?P<sign>[+-])|(?P<colon>:)|(?P<star>\*)|(?P<space>[ \t\r\n]+)|(?P<bad>.)"
+)
+# Fractions are numbers for QSopt_ex.
+_FRACTIONS = re.compile(_FREE.pattern.replace("(?P<number>", "(?P<number>[0-9]+/[0-9]+(?![0-9.])|"))
+# PuLP puts spaces around each token, and has nearly every byte in its names; a label ends with a colon.
+_SPACED = re.compile(
+    rf"{_COMMON}(?=\s|\Z)|(?P<sign>[+-](?=\s|[0-9.]|inf\b))|(?P<number>{_NUMBER})(?=\s|\Z)"
+    r"|(?P<word>[^\s:]+(?::[^\s:]+)*)|(?P<colon>:)|(?P<star>\*)|(?P<space>\s+)|(?P<bad>.)"
+)
+
+
+class Token(NamedTuple):
+    kind: str
+    text: str
+    start: int
+    end: int
+    line: int
+
+
+class Tokens:
+    """The tokens of a text in latin-1; the last one is the end of the file."""
+
+    def __init__(self, text: str, dialect: Optional[str]) -> None:
+        self.text = text
+        self.comments: list[Token] = []
+        self.all: list[Token] = []
+        pattern = {"pulp": _SPACED, "qsopt": _FRACTIONS}.get(dialect or "", _FREE)
+        line = 1
+        for found in pattern.finditer(text):
+            kind = found.lastgroup or ""
+            if kind == "space":
+                line += found[0].count("\n")
+                continue
+            token = Token("sign" if kind == "minus" else kind, found[0], found.start(), found.end(), line)
+            (self.comments if kind == "comment" else self.all).append(token)
+            if kind == "word" and token.text.lower() == "end" and self._is_last_of_line(token.end) and not self._is_after_sign():
+                break  # whatever comes after it is ignored
+        self.all.append(Token("end", "", len(text), len(text), line))
+        self._places_of_comments = [each.start for each in self.comments]
+
+    def line_of(self, place: int) -> int:
+        return self.text.count("\n", 0, place) + 1
+
+    def _is_after_sign(self) -> bool:
+        return len(self.all) > 1 and self.all[-2].kind == "sign"
+
+    def _is_last_of_line(self, place: int) -> bool:
+        rest = self.text[place:].split("\n", 1)[0].strip(" \t\r")
+        return not rest or rest.startswith("\\")
+
+    def comments_in(self, start: int, end: int) -> list[str]:
+        first = bisect_left(self._places_of_comments, start)
+        last = bisect_left(self._places_of_comments, end)
+        return [each.text.rstrip("\r") for each in self.comments[first:last]]
+
+
+def quadratic(token: Token) -> AdaptError:
+    return AdaptError(token.line, "a quadratic term: the profile has linear ones; remove it, or linearise it")

@@ -1,0 +1,74 @@
+"""Names that the profile has, for names that it has not."""
+
+from __future__ import annotations
+
+import re
+import unicodedata
+from collections.abc import Callable
+
+RESERVED = frozenset(
+    "min minimize minimum max maximize maximum subject such st s.t. st. bound bounds general generals gen integer integers int "
+    "binary binaries bin end inf infinity free semi semis sos sos1 sos2".split()
+)
+MOST_BYTES = 255
+_LP_NAME = re.compile(r"[A-Za-z!\"#$%&()/,;?@_'`{}|~][A-Za-z0-9!\"#$%&()/,.;?@_'`{}|~]*")
+_EXPONENT = re.compile(r"[eE](?:[0-9].*)?")
+
+
+def is_lp_name(name: str) -> bool:
+    """Whether a word is a legal name of LP."""
+    return (
+        _LP_NAME.fullmatch(name) is not None
+        and len(name) <= MOST_BYTES
+        and _EXPONENT.fullmatch(name) is None
+        and name != "'MARKER'"
+        and name.lower() not in RESERVED
+    )
+
+
+def is_mps_name(name: str) -> bool:
+    return 0 < len(name) <= MOST_BYTES and all("!" <= each <= "~" for each in name) and name != "'MARKER'"
+
+
+class Names:
+    """The names that are written instead of names given. Each is another than all names of the file, and stays the same."""
+
+    def __init__(self, is_legal: Callable[[str], bool], used: Callable[[], set[str]]) -> None:
+        self.written: dict[str, str] = {}
+        self._legal: set[str] = set()
+        self._is_legal = is_legal
+        self._find_used = used
+        self._used: set[str] | None = None
+
+    def of(self, given: str) -> str:
+        """The name to write: the given one, if it is legal."""
+        if given in self._legal:
+            return given
+        if given in self.written:
+            return self.written[given]
+        if self._is_legal(given):
+            self._legal.add(given)
+            return given
+        if self._used is None:
+            self._used = self._find_used()
+        name = _proposed(given)
+        if not self._is_legal(name):
+            name = f"_{name}"
+        plain, number = name[: MOST_BYTES - 8], 1
+        while not self._is_legal(name) or name in self._used:
+            number += 1
+            name = f"{plain}_{number}"
+        self._used.add(name)
+        self.written[given] = name
+        return name
+
+
+def _proposed(given: str) -> str:
+    """The name with each letter of another alphabet and each byte that is not legal replaced."""
+    text = given.encode("latin-1").decode("utf-8", "surrogateescape")
+    plain = unicodedata.normalize("NFKD", text.replace("ß", "ss"))
+    kept = (each for each in plain.translate(_REPLACED) if not unicodedata.combining(each))
+    return "".join(each if "!" <= each <= "~" else f"u{ord(each):04x}" for each in kept)
+
+
+_REPLACED = {ord("["): "(", ord("]"): ")", **{ord(each): "_" for each in " \t:*^<>=+-\\"}}

@@ -1,0 +1,124 @@
+"""Files as they come: compressed, in another encoding, or with lines that the profile does not have."""
+
+# Annotations are evaluated here: the classes say that they are of the package, whose names are fewer.
+
+import re
+from collections.abc import Collection, Mapping
+from dataclasses import dataclass
+from typing import Optional
+
+from mpslp._adapt._changes import DIALECTS, AdaptError, Change, Log, Note
+from mpslp._adapt._lp import adapt_lp
+from mpslp._adapt._mps import adapt_mps
+from mpslp._compression import unpack
+from mpslp._sources import Format
+
+LONGEST_LINE = 1_048_576
+_PART_OF_LINE = 1_000_000
+_COMPRESSED = ((b"\x1f\x8b", ".gz"), (b"BZh", ".bz2"), (b"\xfd7zXZ\x00", ".xz"), (b"\x28\xb5\x2f\xfd", ".zst"))
+_MARKS = ((b"\xef\xbb\xbf", "utf-8"), (b"\xff\xfe", "utf-16-le"), (b"\xfe\xff", "utf-16-be"))
+
+
+@dataclass(frozen=True)
+class Adapted:
+    """A text of the profile, its format, what was changed, in the order of lines, and the names written for names given.
+
+    ``notes`` has the lines that stay, and that another dialect means in another way.
+    """
+
+    text: bytes
+    format: Format
+    changes: tuple[Change, ...]
+    names: Mapping[str, str]
+    notes: tuple[Note, ...] = ()
+
+
+def adapt_text(content: bytes, format: Format, dialect: Optional[str] = None, strict: Collection[str] = ()) -> Adapted:
+    """The text of the profile for bytes in a format; raises AdaptError if its meaning would have to be guessed."""
+    if dialect is not None and dialect not in DIALECTS:
+        raise ValueError(f"unknown dialect: {dialect!r} is none of {', '.join(DIALECTS)}")
+    log = Log(strict)
+    for rule in (decompressed, decoded, with_line_feeds, without_end_of_file_byte):
+        content = rule(content, log)
+    rewrite = adapt_lp if format == "lp" else adapt_mps
+    text, names = rewrite(content.decode("latin-1"), dialect, log)
+    text = with_short_lines(text, "\\" if format == "lp" else "*", log)
+    changes = tuple(sorted(log.changes, key=lambda change: change.line))
+    written = {as_read(given): name for given, name in names.items()}
+    return Adapted(text.encode("latin-1"), format, changes, written, tuple(log.notes))
+
+
+def as_read(text: str) -> str:
+    """A name in latin-1, a character for each byte, as UTF-8."""
+    return text.encode("latin-1").decode("utf-8", "surrogateescape")
+
+
+# ---- rules of whole files
+
+
+def decompressed(content: bytes, log: Log) -> bytes:
+    """A file that is compressed although its name does not say so."""
+    for magic, ending in _COMPRESSED:
+        if content.startswith(magic):
+            try:
+                unpacked = unpack(ending, content)
+            except (ImportError, OSError) as error:
+                raise AdaptError(1, f"no whole file of {ending}: {error}") from error
+            log.add(1, "compressed", ending, "")
+            return unpacked
+    return content
+
+
+def decoded(content: bytes, log: Log) -> bytes:
+    """A byte order mark says that a text is UTF-8 or UTF-16."""
+    for mark, encoding in _MARKS:
+        if content.startswith(mark):
+            log.add(1, "byte-order-mark", encoding, "")
+            try:
+                return content[len(mark) :].decode(encoding).encode("utf-8")
+            except UnicodeDecodeError as error:
+                raise AdaptError(1, f"a byte order mark of {encoding}, and other bytes: {error}") from error
+    return content
+
+
+def with_line_feeds(content: bytes, log: Log) -> bytes:
+    """Lines that end with a carriage return only."""
+    if b"\r" in content and b"\n" not in content.rstrip(b"\r\n"):
+        changed = content.replace(b"\r\n", b"\n").replace(b"\r", b"\n")
+        if changed.rstrip(b"\n") != content.rstrip(b"\r\n"):
+            log.add(1, "line-ends", "CR", "LF")
+            return changed
+    return content
+
+
+def without_end_of_file_byte(content: bytes, log: Log) -> bytes:
+    """The byte 26, which old programs write at the end of a file; on a line of its own it comes after the end."""
+    kept = content.rstrip(b"\r\n \t")
+    if not kept.endswith(b"\x1a") or not kept.rpartition(b"\n")[2].strip(b"\x1a \t\r"):
+        return content
+    log.add(kept.count(b"\n") + 1, "end-of-file-byte", "byte 26", "")
+    return kept.rstrip(b"\x1a")
+
+
+def with_short_lines(text: str, comment: str, log: Log) -> str:
+    """Lines over the limit are broken, within comments too; in MPS spaces at their ends go."""
+    if len(text) <= LONGEST_LINE or max(map(len, text.split("\n"))) <= LONGEST_LINE:
+        return text
+    lines = []
+    for number, line in enumerate(text.split("\n"), 1):
+        if len(line) > LONGEST_LINE:
+            log.add(number, "long-line", f"{len(line)} bytes", "")
+            line = _broken(line, comment, number)
+        lines.append(line)
+    return "\n".join(lines)
+
+
+def _broken(line: str, comment: str, number: int) -> str:
+    code, mark, remark = ("", comment, line[1:]) if comment == "*" and line.startswith("*") else (line, "", "")
+    if comment == "\\":
+        code, mark, remark = line.partition(comment)
+    pieces = re.findall(rf"[^ ].{{0,{_PART_OF_LINE}}}(?=[ ]|$)", code) if comment == "\\" else [code.rstrip(" \t\r")]
+    if any(len(piece) > LONGEST_LINE for piece in pieces):
+        raise AdaptError(number, "a line over the limit that has no space to break it")
+    comments = [mark + remark[at : at + _PART_OF_LINE] for at in range(0, len(remark), _PART_OF_LINE)]
+    return "\n".join([piece for piece in [*pieces, *comments] if piece])

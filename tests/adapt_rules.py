@@ -1,0 +1,211 @@
+#!/usr/bin/env python3
+"""Check each rule of adapt on its examples in docs/adapt.tsv.
+
+A row of the table has a format, the part of a file that the example is, a dialect,
+the kind of the change, the part before and after, and what the rule does. The part
+is put into a small file, which is adapted. The text has to be the one with the part
+after, all changes have to be of the kind, and adapting it again has to change
+nothing. Rows of the kind "stop" are left with an error that contains the text.
+
+With the program, what is before has to be rejected, unless a dialect is given, and
+what is after has to be accepted. Each row of the table has to be in docs/DIALECTS.md.
+
+With --wrong the rules are made wrong one by one, as adapt_wrong.tsv says: the
+examples have to find each.
+"""
+
+import argparse
+import csv
+import os
+import subprocess
+import sys
+import tempfile
+from pathlib import Path
+
+from adapt_package import AdaptError, adapt_text
+
+ROOT = Path(__file__).resolve().parent.parent
+PROGRAM = ROOT / "crates" / "mpslp" / "out" / "mpslp"
+TABLE = ROOT / "docs" / "adapt.tsv"
+PAGE = ROOT / "docs" / "DIALECTS.md"
+WRONG = ROOT / "tests" / "adapt_wrong.tsv"
+MPS = """NAME  FRAME
+{head}ROWS
+ N  COST
+ L  LIM
+ G  LESS
+{ROWS}COLUMNS
+    X  COST  1  LIM  1
+    Y  COST  2
+{COLUMNS}    Z  LIM  1
+RHS
+    RHS  LIM  4
+{RHS}{RANGES}BOUNDS
+{first}{BOUNDS}{end}ENDATA
+"""
+LP = """minimize
+ cost: {objective}
+subject to
+ c: x + y + z <= 10
+ {rows}
+bounds
+ z <= 4
+ {bounds}
+{tail}end
+"""
+
+
+def rows():
+    with open(TABLE, newline="", encoding="utf-8") as table:
+        return list(csv.DictReader(table, delimiter="\t", quoting=csv.QUOTE_NONE))
+
+
+def unescaped(cell):
+    """A cell as bytes: it has UTF-8, and \\n, \\r, \\\\ and \\xNN for bytes."""
+    latin = cell.encode("utf-8").decode("latin-1")
+    for escape, byte in (("\\\\", "\0"), ("\\n", "\n"), ("\\r", "\r"), ("\\x20", " "), ("\\x1a", "\x1a"),
+                         ("\\xef\\xbb\\xbf", "\xef\xbb\xbf"), ("\0", "\\")):
+        latin = latin.replace(escape, byte)
+    return latin
+
+
+def framed(row, cell):
+    """The file that has the part."""
+    part, text = row["part"], unescaped(cell)
+    if part == "file":
+        return text.encode("latin-1")
+    if row["format"] == "lp":
+        values = {"objective": "x + 2 y", "rows": "", "bounds": "", "tail": "", part: text + ("\n" if part == "tail" else "")}
+        return LP.format(**values).encode("latin-1")
+    values = dict.fromkeys(("head", "ROWS", "COLUMNS", "RHS", "RANGES", "BOUNDS", "end"), "")
+    values["first"] = "" if part == "BOUNDS only" else " LO  BND  X  1\n"
+    values["BOUNDS" if part == "BOUNDS only" else part] = ("RANGES\n" if part == "RANGES" else "") + text + "\n"
+    if part == "COLUMNS" and "Z  " in text:
+        # The example has the last column, which the frame then has not.
+        return MPS.replace("    Z  LIM  1\n", "").format(**values).encode("latin-1")
+    return MPS.format(**values).encode("latin-1")
+
+
+def differences(row, program):
+    """What is wrong with the adapted text of an example."""
+    before = framed(row, row["before"])
+    try:
+        done = adapt_text(before, row["format"], row["dialect"] or None)
+    except AdaptError as error:
+        if row["kind"] != "stop":
+            yield f"left: {error}"
+        elif unescaped(row["after"]).strip() not in error.reason:
+            yield f"left for another reason: {error}"
+        return
+    if row["kind"] == "stop":
+        yield f"adapted, with {len(done.changes)} changes"
+        return
+    if done.text != framed(row, row["after"]):
+        yield f"adapted to {done.text!r}"
+    kinds = {change.kind for change in done.changes}
+    if kinds != {row["kind"]}:
+        yield f"changes of the kinds {sorted(kinds)}"
+    try:
+        again = adapt_text(done.text, row["format"], row["dialect"] or None)
+        if again.changes or again.text != done.text:
+            yield f"adapted again to {again.text!r}"
+    except AdaptError as error:
+        yield f"left when it is adapted again: {error}"
+    try:
+        adapt_text(before, row["format"], row["dialect"] or None, strict=[row["kind"]])
+        yield "no error although changes of its kind are not wanted"
+    except AdaptError:
+        pass
+    if program is not None:
+        if not is_read(program, row["format"], done.text):
+            yield "the program rejects the adapted text"
+        if not row["dialect"] and is_read(program, row["format"], before):
+            yield "the program accepts the text as it is"
+
+
+def is_read(program, format, text):
+    done = subprocess.run([program, "canon", format, "mps", "-"], input=text, capture_output=True)
+    return done.returncode == 0
+
+
+def check(program):
+    found, tried = [], rows()
+    for number, row in enumerate(tried, 2):
+        try:
+            told = list(differences(row, program))
+        except Exception as error:  # a rule that is wrong may fail in any way
+            told = [f"{type(error).__name__}: {error}"]
+        found += [f"docs/adapt.tsv:{number}: {row['kind']}: {each}" for each in told]
+    return found, len(tried)
+
+
+def missing_in_page():
+    page = PAGE.read_text(encoding="utf-8")
+    for number, row in enumerate(rows(), 2):
+        if table_line(row) not in page:
+            yield f"docs/DIALECTS.md: the row of docs/adapt.tsv:{number} is missing: {table_line(row)}"
+
+
+def table_line(row):
+    """The row of the page's tables for an example."""
+    before, after = (shown(row[name]) for name in ("before", "after"))
+    if row["kind"] == "stop":
+        return f"| {before} | {row['what']} |"
+    dialect = f"`--from {row['dialect']}`" if row["dialect"] else ""
+    return f"| `{row['kind']}` | {dialect} | {before} | {after or '(nothing)'} | {row['what']} |"
+
+
+def shown(cell):
+    """A part as code, with a line break between its lines."""
+    lines = cell.replace("\\\\", "\\").replace("|", "\\|").split("\\n")
+    return "<br>".join(f"`{line}`" for line in lines if line)
+
+
+def wrong_rules():
+    """Whether the examples find each of the wrong rules: lines for those that they do not find."""
+    with open(WRONG, newline="", encoding="utf-8") as table:
+        wrong = list(csv.DictReader(table, delimiter="\t", quoting=csv.QUOTE_NONE))
+    sources = ROOT / "python" / "src"
+    for number, row in enumerate(wrong, 2):
+        with tempfile.TemporaryDirectory() as folder:
+            subprocess.run(["cp", "-r", sources, folder], check=True)
+            module = Path(folder) / "src" / "mpslp" / "_adapt" / row["module"]
+            text = module.read_text(encoding="utf-8")
+            if text.count(row["right"]) != 1:
+                yield f"tests/adapt_wrong.tsv:{number}: {row['right']!r} is not in {row['module']} once"
+                continue
+            module.write_text(text.replace(row["right"], row["wrong"]), encoding="utf-8")
+            environment = {**os.environ, "MPSLP_SOURCES": str(Path(folder) / "src" / "mpslp")}
+            if subprocess.run([sys.executable, "-B", __file__], env=environment, capture_output=True).returncode == 0:
+                yield f"tests/adapt_wrong.tsv:{number}: no example finds {row['wrong']!r} instead of {row['right']!r}"
+
+
+def arguments():
+    parser = argparse.ArgumentParser(description=__doc__, formatter_class=argparse.RawDescriptionHelpFormatter)
+    parser.add_argument("--program", type=Path, default=PROGRAM, help="the path of mpslp")
+    parser.add_argument("--wrong", action="store_true", help="make the rules wrong one by one")
+    parser.add_argument("--table", action="store_true", help="print the tables of docs/DIALECTS.md")
+    return parser.parse_args()
+
+
+def main():
+    options = arguments()
+    if options.table:
+        for kind in ("mps", "lp"):
+            for is_stop in (False, True):
+                print(*[table_line(row) for row in rows() if row["format"] == kind and (row["kind"] == "stop") == is_stop], "", sep="\n")
+        return 0
+    program = options.program.resolve() if options.program.exists() else None
+    if program is None:
+        print("skipped: the program is missing")
+    found, tried = check(program)
+    found += missing_in_page()
+    if options.wrong:
+        found += wrong_rules()
+    print(*found, sep="\n", end="\n" if found else "")
+    print(f"{tried} examples, {len(found)} differ")
+    return 1 if found else 0
+
+
+if __name__ == "__main__":
+    sys.exit(main())
