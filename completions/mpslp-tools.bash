@@ -1,7 +1,7 @@
 # Completion of mpslp-tools for bash.
 _mpslp_tools() {
     local word=${COMP_WORDS[COMP_CWORD]} previous=${COMP_WORDS[COMP_CWORD - 1]} command=${COMP_WORDS[1]}
-    local commands='canon check same diff show digest explain report' options='--help --format'
+    local commands='canon check same diff show digest explain adapt report' options='--help --format'
     COMPREPLY=()
     if ((COMP_CWORD == 1)); then
         mapfile -t COMPREPLY < <(compgen -W "$commands --help --version" -- "$word")
@@ -12,7 +12,11 @@ _mpslp_tools() {
             mapfile -t COMPREPLY < <(compgen -W 'mps lp' -- "$word")
             return
             ;;
-        -j | --jobs | --digits)
+        -j | --jobs | --digits | --strict)
+            return
+            ;;
+        --from)
+            mapfile -t COMPREPLY < <(compgen -W 'coinutils glpsol lp_solve pulp qsopt' -- "$word")
             return
             ;;
     esac
@@ -21,6 +25,7 @@ _mpslp_tools() {
         check | digest) options+=' --jobs' ;;
         diff) options+=' --ignore-objective-name --digits --by-position' ;;
         explain) options=--help ;;
+        adapt) options+=' --output --from --dry-run --strict --map --names-back' ;;
         report) options='--help --output --digits --by-position' ;;
     esac
     case $command:$word in

@@ -407,7 +407,7 @@ class Command(Directory):
 
 class Completions(Directory):
     WANTED = {
-        "": "canon check same diff show digest explain report --help --version", "d": "diff digest", "canon -t ": "mps lp", "check -f l": "lp",
+        "": "canon check same diff show digest explain adapt report --help --version", "d": "diff digest", "canon -t ": "mps lp", "check -f l": "lp",
         "diff --": "--help --format --ignore-objective-name --digits --by-position", "canon -i sm": "small.lp small.mps", "explain DuplicateR": "DuplicateRange DuplicateRhs DuplicateRow",
         "diff --digits ": "",
     }

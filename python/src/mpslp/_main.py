@@ -15,7 +15,7 @@ from importlib import import_module
 from importlib.util import find_spec
 from typing import Any, NamedTuple, NoReturn
 
-from mpslp import _mpslp
+from mpslp import _adapt, _mpslp
 from mpslp._compression import pack
 from mpslp._differences import diff
 from mpslp._explanations import explain, kinds
@@ -357,6 +357,7 @@ def parser(prog: str | None) -> Parser:
     _add_show(commands)
     _add_digest(commands)
     _add_explain(commands)
+    _adapt.add_to(commands)
     if find_spec("mpslp._report") is not None:
         _add_report(commands)
     return made

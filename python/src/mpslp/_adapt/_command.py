@@ -2,7 +2,6 @@
 
 import argparse
 import json
-import os
 import re
 import sys
 from collections.abc import Mapping, Sequence
@@ -11,6 +10,7 @@ from typing import Any, NoReturn, Optional
 from mpslp._adapt._call import adapt
 from mpslp._adapt._changes import DIALECTS, AdaptError
 from mpslp._compression import pack
+from mpslp._files import replace_file
 
 UNCHANGED, CHANGED, STOPPED, USAGE, NO_FILE = range(5)
 """Exit statuses; the last two are those of the program mpslp."""
@@ -124,6 +124,4 @@ def _put(path: Optional[str], text: bytes) -> None:
         sys.stdout.buffer.write(text)
         sys.stdout.buffer.flush()
         return
-    content = pack(os.fsdecode(path), text)
-    with open(path, "wb") as file:
-        file.write(content)
+    replace_file(path, pack(path, text))
