@@ -35,7 +35,8 @@ class Directory(unittest.TestCase):
     """Tests that have a directory of their own."""
 
     def setUp(self):
-        folder = tempfile.TemporaryDirectory()
+        # In memory if that is possible: on a busy disk it may take minutes until a file is written.
+        folder = tempfile.TemporaryDirectory(dir="/dev/shm" if os.access("/dev/shm", os.W_OK) else None)
         self.addCleanup(folder.cleanup)
         self.folder = Path(folder.name)
         self.addCleanup(os.chdir, os.getcwd())
@@ -198,7 +199,7 @@ class InPlace(Directory):
                     self.assertEqual({path.name for path in self.folder.iterdir()}, names)
                     found = {path.read_bytes() for path in self.folder.iterdir()}
                     self.assertLessEqual(found, {text, new})
-                    some_are_old[jobs] |= text in found
+                    some_are_old[jobs] |= text in found and number != signal.SIGKILL
         self.assertEqual(some_are_old, {"1": True, "4": True})
 
 
