@@ -175,7 +175,7 @@ def canon(options: argparse.Namespace) -> Status:
     if options.in_place:
         if options.to or STANDARD_INPUT in options.files:
             raise UsageError("-i rewrites files in their own formats: it goes neither with -t nor with standard input")
-        return for_each(options.files, options, lambda text: _rewrite(text))
+        return for_each(options.files, options, _rewrite)
     if len(options.files) > 1 or os.path.isdir(options.files[0]):
         raise UsageError("without -i, canon writes the text of one file")
     outcome = attempt(options.files[0], options, lambda text: _write(text, options))
