@@ -10,7 +10,7 @@ from mpslp._positions import names_by_position
 from mpslp._report._contents import COLUMN_BOUNDS, COLUMN_KINDS, ROW_KINDS, Lengths
 from mpslp._report._magnitudes import extremes, histogram
 from mpslp._report._magnitudes import remarks as remarks_on_magnitudes
-from mpslp._report._markup import Content, Markup, code, digits, element, joined, link, markup, names, table
+from mpslp._report._markup import Content, Markup, code, digits, element, joined, link, many, markup, names, table
 from mpslp._report._picture import matrix_of, picture
 from mpslp._report._rules import given_bounds, rules_of
 from mpslp._report._subjects import Subject
@@ -110,10 +110,7 @@ def summary(subject: Subject) -> Markup:
     """A sentence about a file."""
     model, contents = subject.model, subject.contents
     whole = sum(count for (_, kind), count in contents.columns.items() if kind == "integer")
-    rows, columns, nonzeros = (
-        f"{count:,} {word if count == 1 else word + 's'}"
-        for count, word in ((len(model.rows), "row"), (len(model.columns), "column"), (contents.coefficients.count, "nonzero"))
-    )
+    rows, columns, nonzeros = many(len(model.rows), "row"), many(len(model.columns), "column"), many(contents.coefficients.count, "nonzero")
     columns += f", {whole:,} of them integer," if whole else ""
     text = f" ({_FORMATS[subject.text.format]}, {len(subject.text.content):,} bytes): {model.sense} "
     return element("p", code(subject.path), text, code(model.objective), f" over {columns} in {rows} with {nonzeros}.", class_="soft")
@@ -171,7 +168,7 @@ def _picture(subject: Subject, number: int) -> Markup:
     rows, columns, counted = len(subject.model.rows), len(subject.model.columns), subject.contents.coefficients.count
     if not rows:
         return element("p", f"{subject.label} has no rows, so there is no picture.")
-    title = f"Nonzeros of {subject.label}: {rows:,} rows, {columns:,} columns, {counted:,} nonzeros"
+    title = f"Nonzeros of {subject.label}: {many(rows, 'row')}, {many(columns, 'column')}, {many(counted, 'nonzero')}"
     return picture(matrix_of(subject.model, subject.arrays, names_by_position(subject.text, subject.model)), title, number)
 
 
@@ -191,7 +188,7 @@ def _rules(subjects: Sequence[Subject], subject: Subject) -> Markup:
 
 def _compared(
     caption: str,
-    head: Sequence[str],
+    head: Sequence[Content],
     subjects: Sequence[Subject],
     lines_of: Callable[[Subject], Lines],
     is_words: bool = False,
@@ -204,7 +201,7 @@ def _compared(
         differs = [element("b", "differs") if len(set(values)) > 1 else Markup()] if len(subjects) > 1 else []
         lines.append([cells[0][0], *values, *differs])
     if len(subjects) > 1:
-        head = [head[0], *(subject.label for subject in subjects), "comparison"]
+        head = [head[0], *(element("span", subject.label, class_="label") for subject in subjects), "comparison"]
     last = len(subjects) + 1
     total = lines.pop() if has_total else ()
     return table(caption, head, lines, total, words=range(1, last + 1) if is_words else (last,))
