@@ -55,6 +55,10 @@ _NOT_SUPPORTED = {
     "pwlobj": "a piecewise linear objective: write it with a column and a row for each piece",
     "multi-objectives": "several objectives: the profile has one",
 }
+_OTHER_TOKENS = {
+    "->": "an indicator constraint: write it with a large coefficient",
+    "::": "special ordered sets: write them as rows with binary columns",
+}
 _INFINITIES = ("inf", "infinity")
 _OTHER_INFINITIES = ("infty", "infin")
 _CONSTANT_OF_GLPSOL = re.compile(r"\\\* constant term = (-?)([0-9.]+(?:e[+-]?[0-9]+)?) \*\\")
@@ -103,6 +107,8 @@ class Reader:
 
     def error(self, reason: str, token: Optional[Token] = None) -> AdaptError:
         token = token or self.token
+        if self.token.text in _OTHER_TOKENS:
+            return AdaptError(self.token.line, _OTHER_TOKENS[self.token.text])
         return AdaptError(token.line, f"{reason}: {token.text}" if token.text else reason)
 
     # ---- the file
