@@ -12,6 +12,7 @@ from typing import Optional
 
 from mpslp._adapt import _mps_fixed as fixed
 from mpslp._adapt._changes import AdaptError, Log
+from mpslp._adapt._long_lines import with_short_lines
 from mpslp._adapt._mps_lines import Line, Section, joined, lines_of
 from mpslp._adapt._names import Names, is_mps_name
 from mpslp._adapt._numbers import INFINITE, LITERAL, fraction, infinity, is_decimal, is_infinite, parts
@@ -103,7 +104,11 @@ class Reader:
             raise AdaptError(self.lines[-1].number, f"{self.wants_word} without its word: write the word on the next line")
         self.say_the_sense_of_pulp()
         self.give_bounds_of_the_dialect()
-        return joined([line for section in self.sections for line in section.lines])
+        end = next((at for at, section in enumerate(self.sections) if section.name == "ENDATA"), len(self.sections))
+        before, after = ([line for section in part for line in section.lines] for part in (self.sections[:end], self.sections[end:]))
+        if after:
+            before.append(Line(0, "", ""))  # so that the last line gets an end
+        return with_short_lines(joined(before), "*", self.log) + joined(after)
 
     @property
     def section(self) -> Section:
