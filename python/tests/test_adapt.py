@@ -83,6 +83,26 @@ class Calls(unittest.TestCase):
         with self.assertRaisesRegex(ValueError, "unknown dialect"):
             mpslp.adapt(text, "mps", "cplex")
 
+    def test_long_lines(self):
+        columns = "".join(f"+ {number} x{number} " for number in range(150_000))
+        for text, format in ((f"min {columns}\\ {'a' * 1_100_000}\nend\n\\{'a' * 1_100_000}\n", "lp"),
+                             (f"*{'a' * 1_100_000}\nROWS\n N  C\nCOLUMNS\n    X  C  1{' ' * 1_100_000}\nENDATA\n", "mps")):
+            with self.subTest(format):
+                with self.assertRaisesRegex(mpslp.ModelFileError, "LineTooLong"):
+                    mpslp.load(text.encode(), format)
+                done = mpslp.adapt(text.encode(), format)
+                self.assertEqual({change.kind for change in done.changes}, {"long-line"})
+                self.assertEqual(len(mpslp.load(done.text, format).columns), 150_000 if format == "lp" else 1)
+
+    def test_other_encodings(self):
+        text = "\\ größe\nmin größe\nend\n"
+        for encoding in ("utf-8-sig", "utf-16", "utf-16-be"):
+            mark = b"\xfe\xff" if encoding == "utf-16-be" else b""
+            with self.subTest(encoding):
+                done = mpslp.adapt(mark + text.encode(encoding), "lp")
+                self.assertEqual(done.text.decode(), "\\ größe\nmin grosse\nend\n")
+                self.assertEqual(done.names, {"größe": "grosse"})
+
     def test_compressed_bytes(self):
         done = mpslp.adapt(gzip.compress((EXAMPLES / "small.mps").read_bytes()), "mps")
         self.assertEqual(done.text, (EXAMPLES / "small.mps").read_bytes())

@@ -14,6 +14,7 @@ from typing import Optional
 
 from mpslp._adapt import _numbers
 from mpslp._adapt._changes import AdaptError, Log
+from mpslp._adapt._long_lines import with_short_lines
 from mpslp._adapt._lp_parts import (
     FLIPPED,
     Bound,
@@ -54,6 +55,10 @@ _NOT_SUPPORTED = {
     "user cuts": "user cuts: move them under Subject To, or remove the section",
     "pwlobj": "a piecewise linear objective: write it with a column and a row for each piece",
     "multi-objectives": "several objectives: the profile has one",
+}
+_OTHER_TOKENS = {
+    "->": "an indicator constraint: write it with a large coefficient",
+    "::": "special ordered sets: write them as rows with binary columns",
 }
 _INFINITIES = ("inf", "infinity")
 _OTHER_INFINITIES = ("infty", "infin")
@@ -103,6 +108,8 @@ class Reader:
 
     def error(self, reason: str, token: Optional[Token] = None) -> AdaptError:
         token = token or self.token
+        if self.token.text in _OTHER_TOKENS:
+            return AdaptError(self.token.line, _OTHER_TOKENS[self.token.text])
         return AdaptError(token.line, f"{reason}: {token.text}" if token.text else reason)
 
     # ---- the file
@@ -221,11 +228,21 @@ class Reader:
         return found
 
     def has_inner_colon(self, at: int) -> bool:
-        tokens = self.tokens.all[max(at - 2, 0) : at + 3]
-        if len(tokens) < 5 or tokens[3].kind != "colon" or tokens[4].kind not in ("word", "number") or tokens[1].line != tokens[2].line:
+        """Whether a word, a colon and a word are one after the other, after a sign or after the number of a term."""
+        tokens = self.tokens.all
+        if at < 2 or at + 2 >= len(tokens) or tokens[at + 1].kind != "colon" or tokens[at + 2].kind not in ("word", "number"):
             return False
-        is_term = tokens[1].kind in ("sign", "colon") or (tokens[1].kind == "number" and tokens[0].kind != "relation")
-        return is_term and tokens[2].end == tokens[3].start and tokens[3].end == tokens[4].start
+        before = at - 1
+        if tokens[before].kind == "number":
+            before -= 1
+            while tokens[before].kind == "sign":
+                before -= 1
+            if tokens[before].kind == "relation":
+                return False  # a side, after which the next row starts
+        elif tokens[before].kind not in ("sign", "colon"):
+            return False
+        is_joined = tokens[at].end == tokens[at + 1].start and tokens[at + 1].end == tokens[at + 2].start
+        return is_joined and tokens[at - 1].line == tokens[at].line
 
     def as_word(self, first: Token, last: Token) -> Token:
         return Token("word", self.text[first.start : last.end], first.start, last.end, first.line)
@@ -768,7 +785,8 @@ class Reader:
             again = self.edited(end, starts[number] if number < len(starts) else len(self.text))
             parts[first] = ended(parts[first]) + ended(again.lstrip(" \t\r\n") and again.lstrip("\r\n"))
             parts[number] = ""
-        return "".join(parts)
+        rest = parts.pop() if self.sections and self.sections[-1][0] == "end" else ""
+        return with_short_lines("".join(parts), "\\", self.log) + rest
 
     def edited(self, begin: int, end: int) -> str:
         pieces, at = [], begin

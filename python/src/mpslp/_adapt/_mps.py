@@ -12,6 +12,7 @@ from typing import Optional
 
 from mpslp._adapt import _mps_fixed as fixed
 from mpslp._adapt._changes import AdaptError, Log
+from mpslp._adapt._long_lines import with_short_lines
 from mpslp._adapt._mps_lines import Line, Section, joined, lines_of
 from mpslp._adapt._names import Names, is_mps_name
 from mpslp._adapt._numbers import INFINITE, LITERAL, fraction, infinity, is_decimal, is_infinite, parts
@@ -41,7 +42,7 @@ _NOT_SUPPORTED = {
 _NEGATED = "* the number on the objective is negated: it was that of another dialect"
 _SIGN_OF_OBJECTIVE_RHS = ("glpsol", "lp_solve")
 _INTEGERS_WITHOUT_LIMIT = ("lp_solve",)
-_NEGATIVE_UPPER_IS_FREE_BELOW = ("coinutils",)
+_NEGATIVE_UPPER_IS_FREE_BELOW = ("coinutils", "qsopt")
 
 
 def adapt_mps(text: str, dialect: Optional[str], log: Log) -> tuple[str, dict[str, str]]:
@@ -81,7 +82,7 @@ class Reader:
         self.is_marked = False
         self.column = ""
         self.sets: dict[str, str] = {}
-        self.bounded: dict[str, list[tuple[str, str]]] = {}  # the types and numbers of each column
+        self.bounded: dict[str, list[tuple[str, str, int]]] = {}  # the types, numbers and lines of each column
         self.wants_word = ""
         self.pulp_sense: Optional[Line] = None
         self.is_negated = False
@@ -103,7 +104,11 @@ class Reader:
             raise AdaptError(self.lines[-1].number, f"{self.wants_word} without its word: write the word on the next line")
         self.say_the_sense_of_pulp()
         self.give_bounds_of_the_dialect()
-        return joined([line for section in self.sections for line in section.lines])
+        end = next((at for at, section in enumerate(self.sections) if section.name == "ENDATA"), len(self.sections))
+        before, after = ([line for section in part for line in section.lines] for part in (self.sections[:end], self.sections[end:]))
+        if after:
+            before.append(Line(0, "", ""))  # so that the last line gets an end
+        return with_short_lines(joined(before), "*", self.log) + joined(after)
 
     @property
     def section(self) -> Section:
@@ -284,7 +289,7 @@ class Reader:
         has_set = len(fields) == 4 or (len(fields) == 3 and fields[0] in _UNVALUED)
         if self.in_the_set(line, fields[1] if has_set else "", 1):
             column = fields[2] if has_set else fields[1]
-            self.bounded.setdefault(column, []).append((fields[0], fields[-1]))
+            self.bounded.setdefault(column, []).append((fields[0], fields[-1], line.number))
 
     def is_plain(self, fields: Sequence[str], start: int, counts: Sequence[int]) -> bool:
         """Whether a line is one or two pairs of a row and a number, after its first fields."""
@@ -352,12 +357,19 @@ class Reader:
     def give_bounds_of_the_dialect(self) -> None:
         """Bounds that other readers take from what is left out."""
         for name, is_marked in self.columns.items():
-            types = {kind for kind, _ in self.bounded.get(name, ())}
+            types = {kind for kind, _, _ in self.bounded.get(name, ())}
             if is_marked and not types and self.dialect in _INTEGERS_WITHOUT_LIMIT:
                 self.add_bound("integer-bound", "PL", name)
-            if not types & {"LO", "LI", "MI", "FX", "FR", "BV"} and self.dialect in _NEGATIVE_UPPER_IS_FREE_BELOW:
-                if any(parts(number)[0] < 0 for kind, number in self.bounded.get(name, ()) if kind in ("UP", "UI")):
-                    self.add_bound("negative-upper", "MI", name)
+            below = [line for kind, number, line in self.bounded.get(name, ()) if kind in ("UP", "UI") and parts(number)[0] < 0]
+            if below and not types & {"LO", "LI", "MI", "FX", "FR", "BV"}:
+                self.negative_upper(name, below[0])
+
+    def negative_upper(self, name: str, line: int) -> None:
+        """A column with a negative upper bound and no lower bound: the lower bound 0 would be above it."""
+        if self.dialect in _NEGATIVE_UPPER_IS_FREE_BELOW:
+            self.add_bound("negative-upper", "MI", name)
+        elif self.dialect is None:
+            self.log.note(line, f"CoinUtils and QSopt_ex have no lower bound for {name}: --from coinutils, --from qsopt")
 
     def add_bound(self, kind: str, letters: str, column: str) -> None:
         bounds, end = self.found("BOUNDS"), self.found("ENDATA")

@@ -13,6 +13,8 @@ FIELD = re.compile(r"[^ \t]+")
 class Line:
     """A line with its number in the source, from 1, and what ends it."""
 
+    __slots__ = ("number", "text", "end")
+
     number: int
     text: str
     end: str

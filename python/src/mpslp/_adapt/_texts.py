@@ -2,7 +2,6 @@
 
 # Annotations are evaluated here: the classes say that they are of the package, whose names are fewer.
 
-import re
 from collections.abc import Collection, Mapping
 from dataclasses import dataclass
 from typing import Optional
@@ -13,8 +12,6 @@ from mpslp._adapt._mps import adapt_mps
 from mpslp._compression import unpack
 from mpslp._sources import Format
 
-LONGEST_LINE = 1_048_576
-_PART_OF_LINE = 1_000_000
 _COMPRESSED = ((b"\x1f\x8b", ".gz"), (b"BZh", ".bz2"), (b"\xfd7zXZ\x00", ".xz"), (b"\x28\xb5\x2f\xfd", ".zst"))
 _MARKS = ((b"\xef\xbb\xbf", "utf-8"), (b"\xff\xfe", "utf-16-le"), (b"\xfe\xff", "utf-16-be"))
 
@@ -42,7 +39,6 @@ def adapt_text(content: bytes, format: Format, dialect: Optional[str] = None, st
         content = rule(content, log)
     rewrite = adapt_lp if format == "lp" else adapt_mps
     text, names = rewrite(content.decode("latin-1"), dialect, log)
-    text = with_short_lines(text, "\\" if format == "lp" else "*", log)
     changes = tuple(sorted(log.changes, key=lambda change: change.line))
     written = {as_read(given): name for given, name in names.items()}
     return Adapted(text.encode("latin-1"), format, changes, written, tuple(log.notes))
@@ -98,27 +94,3 @@ def without_end_of_file_byte(content: bytes, log: Log) -> bytes:
         return content
     log.add(kept.count(b"\n") + 1, "end-of-file-byte", "byte 26", "")
     return kept.rstrip(b"\x1a")
-
-
-def with_short_lines(text: str, comment: str, log: Log) -> str:
-    """Lines over the limit are broken, within comments too; in MPS spaces at their ends go."""
-    if len(text) <= LONGEST_LINE or max(map(len, text.split("\n"))) <= LONGEST_LINE:
-        return text
-    lines = []
-    for number, line in enumerate(text.split("\n"), 1):
-        if len(line) > LONGEST_LINE:
-            log.add(number, "long-line", f"{len(line)} bytes", "")
-            line = _broken(line, comment, number)
-        lines.append(line)
-    return "\n".join(lines)
-
-
-def _broken(line: str, comment: str, number: int) -> str:
-    code, mark, remark = ("", comment, line[1:]) if comment == "*" and line.startswith("*") else (line, "", "")
-    if comment == "\\":
-        code, mark, remark = line.partition(comment)
-    pieces = re.findall(rf"[^ ].{{0,{_PART_OF_LINE}}}(?=[ ]|$)", code) if comment == "\\" else [code.rstrip(" \t\r")]
-    if any(len(piece) > LONGEST_LINE for piece in pieces):
-        raise AdaptError(number, "a line over the limit that has no space to break it")
-    comments = [mark + remark[at : at + _PART_OF_LINE] for at in range(0, len(remark), _PART_OF_LINE)]
-    return "\n".join([piece for piece in [*pieces, *comments] if piece])
