@@ -625,7 +625,7 @@ static int read_number(const char *at, mpslp_number *number) {
     const mpslp_number none = { 0, 0, 0, 0 };
     const int is_negative = *at == '-';
     magnitude mantissa = 0;
-    long exponent = 0;
+    long exponent = 0, zeros = 0;
     int is_fraction = 0;
     *number = none;
     at += is_negative;
@@ -633,13 +633,19 @@ static int read_number(const char *at, mpslp_number *number) {
         number->infinity = is_negative ? -1 : 1;
         return 1;
     }
+    /* Zeros at the end stay out of the mantissa, which has room for the digits of a number and not for all that are written. */
     for (; *at == '.' || (*at >= '0' && *at <= '9'); at++) {
-        if (*at == '.') is_fraction = 1;
-        else {
-            mantissa = mantissa * 10 + (unsigned)(*at - '0');
-            exponent -= is_fraction;
+        if (*at == '.') {
+            is_fraction = 1;
+            continue;
         }
+        exponent -= is_fraction;
+        zeros++;
+        if (*at == '0') continue;
+        for (; zeros != 0; zeros--) mantissa *= 10;
+        mantissa += (unsigned)(*at - '0');
     }
+    exponent += zeros;
     /* The letter depends on the context of the thread. */
     if (*at == 'E' || *at == 'e') exponent += strtol(at + 1, (char **)&at, 10);
     if (is_negative) mantissa = -mantissa;
