@@ -184,7 +184,7 @@ def canon(options: argparse.Namespace) -> Status:
 
 
 def _rewrite(text: Text) -> Outcome:
-    """Makes a file canonical, which stays as it is if it is so already."""
+    """Makes a file canonical. One that is canonical already is not written."""
     path = str(text.filename)
     content = _mpslp.canonical(text.content, text.format, text.format)
     if content == text.content:
@@ -364,7 +364,7 @@ def parser(prog: str | None) -> Parser:
 
 
 class _Plain(argparse.RawDescriptionHelpFormatter):
-    """Help with its lines as they are written here, and 28 columns for options."""
+    """Help with the line ends of its texts, and with 28 columns for options."""
 
     def __init__(self, prog: str) -> None:
         super().__init__(prog, max_help_position=28)
