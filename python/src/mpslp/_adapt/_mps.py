@@ -42,6 +42,7 @@ _NOT_SUPPORTED = {
 _NEGATED = "* the number on the objective is negated: it was that of another dialect"
 _SIGN_OF_OBJECTIVE_RHS = ("glpsol", "lp_solve")
 _INTEGERS_WITHOUT_LIMIT = ("lp_solve",)
+_SETS_ARE_ONE = ("coinutils", "lp_solve")
 _NEGATIVE_UPPER_IS_FREE_BELOW = ("coinutils", "qsopt")
 
 
@@ -207,7 +208,7 @@ class Reader:
     def data(self, line: Line) -> None:
         """Makes a data line one of the profile."""
         if not line.text.isascii() or len(line.text) > 255:
-            self.rewrite(line, "name", [each if LITERAL.fullmatch(each) else self.names.of(each) for each in line.fields()])
+            self.rewrite(line, "name", [each if is_no_name(each) else self.names.of(each) for each in line.fields()])
         if self.wants_word:
             self.word_line(line)
             return
@@ -314,6 +315,8 @@ class Reader:
             return True
         if not first:
             raise AdaptError(line.number, f"the set {name} after lines without a set: give all lines of {self.section.name} one name")
+        if self.dialect in _SETS_ARE_ONE:
+            raise AdaptError(line.number, f"the set {name}: {self.dialect} reads all sets as one; keep the lines that you mean")
         self.change(line, "second-set", lambda: setattr(line, "text", f"*{line.text}"))
         return False
 
@@ -404,6 +407,10 @@ _KINDS = {
     "numbers": "number",
     "bound_number": "number",
 }
+
+
+def is_no_name(field: str) -> bool:
+    return LITERAL.fullmatch(field) is not None or field == "'MARKER'"
 
 
 def no_rule(line: Line, expected: str) -> AdaptError:
