@@ -287,9 +287,9 @@ class Names(unittest.TestCase):
         self.assertEqual(mpslp.diff(first, second, "lp", "lp").verdict, "same")
         moved = b"min x st b: x >= 1 a: 0 x >= 1\nend\n"
         self.assertEqual(mpslp.diff(first, moved, "lp", "lp", by_position=True).verdict, "close")
-        other = first.replace(b"min x", b"min 2 x")
+        other = first.replace(b"min x", b"min x + 5")
         self.assertEqual([str(each) for each in mpslp.diff(other, second, "lp", "lp", by_position=True)],
-                         ["column x: cost 2 -> 1", "entry a x: 1 -> 0", "entry b x: 0 -> 1"])
+                         ["constant: 5 -> 0", "entry a x: 1 -> 0", "entry b x: 0 -> 1"])
 
     def test_more_rows_and_columns_by_position(self):
         first = mpslp.Model(rows=[mpslp.Row("a", 1)], columns=[mpslp.Column("x", entries={"a": 1})])
