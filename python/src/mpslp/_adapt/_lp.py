@@ -179,8 +179,8 @@ class Reader:
         word = token.text.lower()
         if word in _INFINITIES:
             return False
-        if at and before.kind == "sign":
-            return True
+        if at and (before.kind == "sign" or (self.dialect == "pulp" and not self.starts_line(at) and before.kind != "relation")):
+            return word != "free" or before.kind == "sign" or after.kind in ("sign", "relation")
         is_section = word in _SECTIONS and _SECTIONS[word] not in _LISTS
         if after.kind == "colon":
             return after.line == self.tokens.all[min(at + 2, len(self.tokens.all) - 1)].line
