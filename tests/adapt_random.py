@@ -186,7 +186,7 @@ def lp_name(source):
     """A name of another dialect."""
     stem = "".join(source.choices("abcdfghxyz", k=source.randint(1, 4))) + str(source.randint(1, 99))
     return source.choice((stem, stem, f"{stem}[{source.randint(1, 9)}]", f"{stem}[{source.randint(1, 9)},{stem}]",
-                          f"e{source.randint(1, 99)}", f".{stem}", f"größe{stem}"))
+                          f"e{source.randint(1, 99)}q", f".{stem}", f"größe{stem}"))
 
 
 # ---- MPS

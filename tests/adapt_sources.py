@@ -24,6 +24,20 @@ getattr(model, "write" + format)(out)
 """
 
 
+ODD_NAMES = """import sys, pulp
+names = ["2x", "e1", "free", "a:b", "x^2", "x*y", ".5z", "end", "größe", "x<y", "bin", "obj", "#a", "x,1"]
+model = pulp.LpProblem("odd", pulp.LpMaximize)
+columns = [pulp.LpVariable(name, 0, 4 + at, "Integer" if at % 3 == 0 else "Continuous") for at, name in enumerate(names)]
+low, free, binary = pulp.LpVariable("low", None, -2), pulp.LpVariable("any"), pulp.LpVariable("b1", cat="Binary")
+model += pulp.lpSum((at + 1) * column for at, column in enumerate(columns)) + low + free - binary
+model += pulp.lpSum(columns) + free >= -10, "c1"
+model += columns[0] - columns[1] <= 3
+model += low + free <= 3 + columns[2], "2c"
+model.writeLP(sys.argv[1])
+model.writeMPS(sys.argv[2])
+"""
+
+
 class Writer(NamedTuple):
     """A program that writes a model. Its command reads BASE, free MPS, and writes OUT; MAX is its word for maximise."""
 

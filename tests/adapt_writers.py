@@ -143,6 +143,20 @@ class Checker:
             text = subprocess.run(recipe, input=canonical, capture_output=True).stdout
         return text, self.options_of(found, found.after, False)
 
+    def check_odd_names(self):
+        """PuLP writes a model with names of all sorts as LP and as MPS, which have to be the same model when adapted."""
+        lp, mps = self.folder / "odd.lp", self.folder / "odd.mps"
+        subprocess.run([adapt_sources.PYTHON, "-c", adapt_sources.ODD_NAMES, lp, mps], capture_output=True, check=True)
+        first, second = adapt_text(lp.read_bytes(), "lp", "pulp"), adapt_text(mps.read_bytes(), "mps", "pulp")
+        canonical = self.says("canon", "lp", "mps", "-", text=first.text)[1]
+        given = {written: name for name, written in second.names.items()}
+        fields = {written: first.names.get(name, name) for written, name in given.items()}
+        fields.update({name: written for name, written in first.names.items() if name not in second.names})
+        lp.write_bytes(canonical)
+        mps.write_text(re.sub(r"[^ \n]+", lambda field: fields.get(field[0], field[0]), second.text.decode()))
+        if not canonical or self.says("same", "mps", lp, "mps", mps)[0] != 0:
+            self.wrong.append("PuLP with odd names: its LP and its MPS are not the same model")
+
     def through_glpsol(self, text, options):
         """What glpsol writes of what it reads, or None."""
         source, out = self.folder / "source", self.folder / "written"
@@ -268,6 +282,8 @@ def main():
                     checker.check_meaning(found)
             else:
                 print("skipped: the meaning: glpsol is missing")
+        if adapt_sources.PYTHON is not None:
+            checker.check_odd_names()
     print(*checker.wrong, sep="\n", end="\n" if checker.wrong else "")
     print(", ".join(f"{count} {what}" for what, count in sorted(checker.counts.items())))
     print(f"{len(checker.wrong)} differ")

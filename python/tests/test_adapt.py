@@ -103,6 +103,17 @@ class Calls(unittest.TestCase):
                 self.assertEqual(done.text.decode(), "\\ größe\nmin grosse\nend\n")
                 self.assertEqual(done.names, {"größe": "grosse"})
 
+    def test_notes(self):
+        for text, format, line in (
+            (b"min x\nst\nx >= 2 + y <= 5\nend\n", "lp", 3),
+            (b"min c: x\n\\* constant term = 5 *\\\nst\nx >= 2\nend\n", "lp", 2),
+            (b"ROWS\n N  C\nCOLUMNS\n    X  C  1\nRHS\n    RHS  C  5\nENDATA\n", "mps", 6),
+            (b"ROWS\n N  C\nCOLUMNS\n    X  C  1\nBOUNDS\n UP  BND  X  -5\nENDATA\n", "mps", 6),
+        ):
+            with self.subTest(text):
+                done = mpslp.adapt(text, format)
+                self.assertEqual((done.text, done.changes, [note.line for note in done.notes]), (text, (), [line]))
+
     def test_compressed_bytes(self):
         done = mpslp.adapt(gzip.compress((EXAMPLES / "small.mps").read_bytes()), "mps")
         self.assertEqual(done.text, (EXAMPLES / "small.mps").read_bytes())

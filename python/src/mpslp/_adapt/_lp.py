@@ -91,6 +91,7 @@ class Reader:
         self.products_with_digits: dict[str, int] = {}
         self.constants: list[Token] = []
         self.has_label = False
+        self.is_after_terms = False
         self.empty_rows: list[Row] = []
         self.first_column: Optional[str] = None
 
@@ -179,8 +180,8 @@ class Reader:
         word = token.text.lower()
         if word in _INFINITIES:
             return False
-        if at and before.kind == "sign":
-            return True
+        if at and (before.kind == "sign" or (self.dialect == "pulp" and not self.starts_line(at) and before.kind != "relation")):
+            return word != "free" or before.kind == "sign" or after.kind in ("sign", "relation")
         is_section = word in _SECTIONS and _SECTIONS[word] not in _LISTS
         if after.kind == "colon":
             return after.line == self.tokens.all[min(at + 2, len(self.tokens.all) - 1)].line
@@ -317,12 +318,17 @@ class Reader:
             item.name = self.as_word(self.token, self.ahead())
             self.words_with_digits.add(item.name.text)
             self.at += 2
-        elif self.is_name(self.at) and (item.has_star or not self.is_label(self.at)):
+        elif self.is_name(self.at) and (item.has_star or not self.is_label(self.at)) and not self.starts_next_row(item):
             self.name_item(item)
         elif item.has_star:
             raise self.error("a factor without a name")
         else:
             self.constants.append(item.numbers[0])
+
+    def starts_next_row(self, item: Item) -> bool:
+        """Whether a name comes on another line than the number that is the right-hand side."""
+        is_side = self.tokens.all[self.at - 2 - item.signs].kind == "relation"
+        return self.is_after_terms and is_side and self.token.line != item.numbers[0].line
 
     def starts_name_with_digit(self, item: Item) -> bool:
         """Whether a word comes directly after a second number, which is not the start of the next row."""
@@ -419,12 +425,16 @@ class Reader:
     def side(self, row: Row) -> None:
         """What comes after a relation: in the profile a number ends the row, and what follows it starts the next one."""
         start = self.at
+        self.is_after_terms = has_terms(row.sides[-1])
         items = self.items()
+        self.is_after_terms = False
         is_middle = len(row.relations) == 1 and not has_terms(row.sides[0]) and has_terms(items)
         if self.token.kind == "relation" and not is_middle and items:
             if starts_with_side(items[0]):
                 # What follows the number is a row of its own.
                 self.at = start + items[0].signs + 1
+                if self.token.kind == "sign" and self.token.line == items[0].numbers[0].line:
+                    self.log.note(self.token.line, "after the number a new row starts here: x >= 2 + y <= 5 is two rows")
                 items = [Item(items[0].tokens, items[0].signs, items[0].sign, items[0].numbers, None, items[0].is_infinite)]
             else:
                 raise self.error("terms on both sides and a further relation")

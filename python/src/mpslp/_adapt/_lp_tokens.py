@@ -50,7 +50,7 @@ class Tokens:
                 continue
             token = Token("sign" if kind == "minus" else kind, found[0], found.start(), found.end(), line)
             (self.comments if kind == "comment" else self.all).append(token)
-            if kind == "word" and token.text.lower() == "end" and self._is_last_of_line(token.end) and not self._is_after_sign():
+            if kind == "word" and token.text.lower() == "end" and self._ends_file(token, dialect):
                 break  # whatever comes after it is ignored
         self.all.append(Token("end", "", len(text), len(text), line))
         self._places_of_comments = [each.start for each in self.comments]
@@ -58,11 +58,13 @@ class Tokens:
     def line_of(self, place: int) -> int:
         return self.text.count("\n", 0, place) + 1
 
-    def _is_after_sign(self) -> bool:
-        return len(self.all) > 1 and self.all[-2].kind == "sign"
-
-    def _is_last_of_line(self, place: int) -> bool:
-        rest = self.text[place:].split("\n", 1)[0].strip(" \t\r")
+    def _ends_file(self, token: Token, dialect: Optional[str]) -> bool:
+        """Whether the word end is the last one of the file: on its line, and for PuLP the only one; after a sign it is a name."""
+        before = self.all[-2] if len(self.all) > 1 else None
+        if before is not None and (before.kind == "sign" or (dialect == "pulp" and before.line == token.line)):
+            return False
+        line_end = self.text.find("\n", token.end)
+        rest = self.text[token.end : line_end if line_end >= 0 else None].strip(" \t\r")
         return not rest or rest.startswith("\\")
 
     def comments_in(self, start: int, end: int) -> list[str]:
