@@ -178,17 +178,15 @@ class InPlace(Directory):
         self.leaves(a_mps=CANONICAL, b_mps=large_text(300))
 
     def test_interrupted_runs(self):
-        """However it ends, each file has its old text or its new one, nothing else is left, and no file is begun any more."""
-        text, names = large_text(60), {f"{number}.mps" for number in range(150)}
+        """Whenever it ends, each file has its old text or its new one, and nothing else is left."""
+        text, names = large_text(60), {f"{number}.mps" for number in range(60)}
         new = mpslp.canonical(text, "mps")
-        some_are_old = dict.fromkeys(("1", "4"), False)
-        for number, delay in ((signal.SIGINT, 0), (signal.SIGTERM, 0), (signal.SIGKILL, 0.003)):
-            for jobs in some_are_old:
+        for number in (signal.SIGINT, signal.SIGTERM, signal.SIGKILL):
+            for jobs in ("1", "4"):
                 for name in names:
                     self.file(name, text)
-                running = subprocess.Popen([*TOOLS, "canon", "-i", "-j", jobs, "."], cwd=self.folder, stdout=subprocess.PIPE, stderr=subprocess.PIPE)
-                running.stdout.readline()  # it has begun
-                time.sleep(delay)
+                running = self.begun("canon", "-i", "-j", jobs, ".")
+                running.stdout.readline()  # a file is done
                 running.send_signal(number)
                 _, error = running.communicate(timeout=60)
                 with self.subTest(number, jobs=jobs):
@@ -197,10 +195,41 @@ class InPlace(Directory):
                     for left in self.folder.glob(".*.tmp") if number == signal.SIGKILL else ():
                         left.unlink()
                     self.assertEqual({path.name for path in self.folder.iterdir()}, names)
-                    found = {path.read_bytes() for path in self.folder.iterdir()}
-                    self.assertLessEqual(found, {text, new})
-                    some_are_old[jobs] |= text in found and number != signal.SIGKILL
-        self.assertEqual(some_are_old, {"1": True, "4": True})
+                    self.assertLessEqual({path.read_bytes() for path in self.folder.iterdir()}, {text, new})
+
+    def test_interrupted_runs_begin_no_further_file(self):
+        """They are interrupted while they read pipes, which give no end of file before that."""
+        for number in (signal.SIGINT, signal.SIGTERM):
+            for jobs, pipes in (("1", ["3.mps"]), ("2", ["0.mps", "1.mps"])):
+                done, left = [f"{each}.mps" for each in range(3) if jobs == "1"], [f"{each}.mps" for each in range(4, 9)]
+                for name in done + left:
+                    self.file(name)
+                for name in pipes:
+                    os.mkfifo(name)
+                running = self.begun("canon", "-i", "-j", jobs, *sorted(done + left + pipes))
+                writers = [self.opened_as_reader_is_there(name) for name in pipes]
+                running.send_signal(number)
+                time.sleep(1)  # the signal is handled while the pipes are read
+                for writer in writers:
+                    os.close(writer)
+                _, error = running.communicate(timeout=60)
+                with self.subTest(number, jobs=jobs):
+                    self.assertEqual((running.returncode, error), (128 + number, b""))
+                    self.assertEqual({name: Path(name).read_bytes() for name in done + left}, {**dict.fromkeys(done, CANONICAL), **dict.fromkeys(left, SMALL)})
+                for name in os.listdir():
+                    os.unlink(name)
+
+    def begun(self, *words):
+        return subprocess.Popen([*TOOLS, *words], cwd=self.folder, stdout=subprocess.PIPE, stderr=subprocess.PIPE)
+
+    def opened_as_reader_is_there(self, name):
+        """The end of a pipe that is written to, once its other end is open."""
+        for _ in range(600):
+            try:
+                return os.open(name, os.O_WRONLY | os.O_NONBLOCK)
+            except OSError:
+                time.sleep(0.1)
+        raise AssertionError(f"nobody reads {name}")
 
 
 class Check(Directory):
