@@ -1,0 +1,82 @@
+"""A page of HTML about a model, or about two models and their differences.
+
+It has everything within it: no network, no script, and it opens from the disk.
+"""
+
+from __future__ import annotations
+
+from collections.abc import Sequence
+
+import mpslp
+from mpslp._report import _sections
+from mpslp._report._differences import differences
+from mpslp._report._markup import Markup, element, joined, link, section
+from mpslp._report._style import STYLE
+from mpslp._report._subjects import Subject, subjects_of
+from mpslp._sources import Path
+
+__all__ = ["page"]
+
+# Nothing is fetched, whatever a name may contain: images are within the page.
+_POLICY = "default-src 'none'; img-src data:; style-src 'unsafe-inline'"
+
+
+def page(paths: Sequence[Path], *, digits: int | None = None, by_position: bool = False) -> str:
+    """Returns a page of HTML about the model of a file, or about the models of two files and their differences.
+
+    ``digits`` and ``by_position`` are those of :func:`mpslp.diff`. One file always has the same page.
+
+    Raises ModelFileError where a file declares no model, OSError where it does not open or read, and ValueError where a
+    path ends in no format, or where there are not one or two paths.
+    """
+    if len(paths) not in (1, 2):
+        raise ValueError(f"a page is about one file or two, not {len(paths)}")
+    subjects = subjects_of(paths)
+    sections = {
+        "counts": ("Counts", _sections.counts(subjects)),
+        "magnitudes": ("Magnitudes", _sections.magnitudes(subjects)),
+        "picture": ("Picture of the nonzeros", _sections.pictures(subjects)),
+        "defaults": ("Defaults and rules of the format", _sections.defaults(subjects)),
+    }
+    if len(subjects) == 2:
+        sections = {"differences": ("Differences", differences(*subjects, digits, by_position)), **sections}
+    title = " and ".join(subject.label for subject in subjects)
+    head = element(
+        "head",
+        Markup('<meta charset="utf-8">'),
+        Markup(f'<meta http-equiv="Content-Security-Policy" content="{_POLICY}">'),
+        Markup('<meta name="viewport" content="width=device-width, initial-scale=1">'),
+        element("title", title),
+        element("style", Markup(STYLE)),
+    )
+    body = element(
+        "body",
+        joined(
+            (
+                element("header", element("h1", title), element("p", *_summary(subjects), class_="soft"), _sections.remark_list(subjects)),
+                element("nav", element("ul", *(element("li", link(name, heading)) for name, (heading, _) in sections.items())), aria_label="Sections"),
+                element("main", joined((section(name, heading, content) for name, (heading, content) in sections.items()), "\n")),
+                element("footer", element("p", f"mpslp {mpslp.__version__}. All numbers are exactly those of the files.")),
+            ),
+            "\n",
+        ),
+    )
+    return f'<!DOCTYPE html>\n<html lang="en">\n{head}\n{body}\n</html>\n'
+
+
+def _summary(subjects: Sequence[Subject]) -> list[str]:
+    """A sentence for each file."""
+    sentences = []
+    for subject in subjects:
+        model, contents = subject.model, subject.contents
+        whole = sum(count for (_, kind), count in contents.columns.items() if kind == "integer")
+        integer = f", {whole:,} of them integer" if whole else ""
+        start = f"{subject.label}: " if len(subjects) > 1 else ""
+        rows, columns, nonzeros = (_many(count, word) for count, word in (
+            (len(model.rows), "row"), (len(model.columns), "column"), (contents.coefficients.count, "nonzero")))
+        sentences.append(f"{start}{model.sense} {model.objective} over {columns}{integer}, in {rows} with {nonzeros}. ")
+    return sentences
+
+
+def _many(count: int, word: str) -> str:
+    return f"{count:,} {word if count == 1 else word + 's'}"

@@ -1,0 +1,201 @@
+"""What is counted of a model.
+
+Rows and columns are looked at one by one, exactly. Coefficients are many, so they are counted as doubles; only those near
+the ends of the range of doubles are looked at exactly too.
+"""
+
+from __future__ import annotations
+
+from bisect import bisect_right
+from collections import Counter
+from collections.abc import Iterable
+from dataclasses import dataclass, field
+from decimal import Decimal
+from functools import partial
+from typing import NamedTuple
+
+from mpslp._arrays import Arrays
+from mpslp._models import Column, Model, Row
+from mpslp._numbers import INFINITY
+
+# Doubles between these powers of ten have the power of ten of the number that they are nearest to; a number that is
+# nearer to a power of ten than its neighbours among the doubles counts as that power.
+_LEAST_POWER, _MOST_POWER = -300, 300
+_POWERS = [float(f"1e{power}") for power in range(_LEAST_POWER, _MOST_POWER + 1)]
+
+
+class Extreme(NamedTuple):
+    """A number of the least or greatest magnitude, and the names of the row or column, or of both, that have it."""
+
+    number: Decimal
+    where: tuple[str, ...]
+
+
+@dataclass
+class Magnitudes:
+    """The magnitudes of the finite numbers of one sort."""
+
+    what: str
+    powers: Counter[int] = field(default_factory=Counter)
+    """How many nonzero numbers there are by their power of ten."""
+    zeros: int = 0
+    smallest: Extreme | None = None
+    largest: Extreme | None = None
+
+    @property
+    def count(self) -> int:
+        """How many nonzero numbers there are."""
+        return sum(self.powers.values())
+
+    def add(self, number: Decimal, *where: str) -> None:
+        """Counts a number; one that is infinite is left out."""
+        if not number.is_finite():
+            return
+        if not number:
+            self.zeros += 1
+            return
+        self.powers[number.adjusted()] += 1
+        self.note(number, *where)
+
+    def note(self, number: Decimal, *where: str) -> None:
+        """Keeps a nonzero number if it is the smallest or the largest so far."""
+        if self.smallest is None or number.copy_abs() < self.smallest.number.copy_abs():
+            self.smallest = Extreme(number, where)
+        if self.largest is None or number.copy_abs() > self.largest.number.copy_abs():
+            self.largest = Extreme(number, where)
+
+
+class Lengths(NamedTuple):
+    """How many nonzeros the rows, or the columns, have."""
+
+    least: int
+    median: int
+    most: int
+    longest: str
+    """The first row or column with the most nonzeros."""
+    empty: list[str]
+    singles: int
+    """How many have one nonzero."""
+
+
+@dataclass
+class Contents:
+    """What is counted of a model."""
+
+    row_kinds: Counter[str] = field(default_factory=Counter)
+    columns: Counter[tuple[str, str]] = field(default_factory=Counter)
+    """How many columns there are by their bounds and their type."""
+    fixed_at_0: list[str] = field(default_factory=list)
+    negative_upper: list[str] = field(default_factory=list)
+    unused: list[str] = field(default_factory=list)
+    """The columns without any coefficient."""
+    coefficients: Magnitudes = field(default_factory=lambda: Magnitudes("coefficients"))
+    costs: Magnitudes = field(default_factory=lambda: Magnitudes("objective coefficients"))
+    limits: Magnitudes = field(default_factory=lambda: Magnitudes("row limits (RHS)"))
+    bounds: Magnitudes = field(default_factory=lambda: Magnitudes("column bounds"))
+    row_lengths: Lengths | None = None
+    """None if there are no rows."""
+    column_lengths: Lengths | None = None
+
+    @property
+    def magnitudes(self) -> tuple[Magnitudes, ...]:
+        return self.coefficients, self.costs, self.limits, self.bounds
+
+
+ROW_KINDS = ("equation", "at most", "at least", "ranged", "free")
+COLUMN_KINDS = ("continuous", "integer", "semi-continuous")
+COLUMN_BOUNDS = ("0 to infinity", "0 to 1", "lower and upper bound", "lower bound only", "upper bound only", "fixed", "free")
+
+
+def row_kind(row: Row) -> str:
+    """Which of ROW_KINDS a row is."""
+    if row.lower == row.upper:
+        return "equation"
+    if row.lower.is_finite():
+        return "ranged" if row.upper.is_finite() else "at least"
+    return "at most" if row.upper.is_finite() else "free"
+
+
+def column_bounds(column: Column) -> str:
+    """Which of COLUMN_BOUNDS a column has."""
+    lower, upper = column.lower, column.upper
+    if lower == upper:
+        return "fixed"
+    if not lower.is_finite():
+        return "upper bound only" if upper.is_finite() else "free"
+    if upper == INFINITY:
+        return "lower bound only" if lower else "0 to infinity"
+    return "0 to 1" if (lower, upper) == (0, 1) else "lower and upper bound"
+
+
+def contents_of(model: Model, arrays: Arrays) -> Contents:
+    """Counts a model, whose arrays are given too."""
+    contents = Contents()
+    for row in model.rows.values():
+        _count_row(contents, row)
+    starts = memoryview(arrays.indptr)
+    lengths = [after - start for start, after in zip(starts, starts[1:])]
+    for column, length in zip(model.columns.values(), lengths):
+        _count_column(contents, column, length)
+    _count_coefficients(contents.coefficients, model, arrays)
+    by_row = Counter(memoryview(arrays.indices))
+    if model.rows:
+        contents.row_lengths = _lengths(arrays.row_names or (), [by_row[number] for number in range(len(model.rows))])
+    contents.column_lengths = _lengths(arrays.column_names or (), lengths)
+    return contents
+
+
+def _count_row(contents: Contents, row: Row) -> None:
+    kind = row_kind(row)
+    contents.row_kinds[kind] += 1
+    contents.limits.add(row.upper, row.name)
+    if kind != "equation":
+        contents.limits.add(row.lower, row.name)
+
+
+def _count_column(contents: Contents, column: Column, length: int) -> None:
+    bounds = column_bounds(column)
+    contents.columns[bounds, column.kind] += 1
+    contents.bounds.add(column.upper, column.name)
+    if bounds != "fixed":
+        contents.bounds.add(column.lower, column.name)
+    elif not column.upper:
+        contents.fixed_at_0.append(column.name)
+    if column.upper < 0:
+        contents.negative_upper.append(column.name)
+    contents.costs.add(column.cost, column.name)
+    if not length and not column.cost:
+        contents.unused.append(column.name)
+
+
+def _count_coefficients(magnitudes: Magnitudes, model: Model, arrays: Arrays) -> None:
+    values = memoryview(arrays.data)
+    places = Counter(map(partial(bisect_right, _POWERS), map(abs, values)))
+    beyond = places.pop(0, 0) + places.pop(len(_POWERS), 0)
+    for place, count in places.items():
+        magnitudes.powers[_LEAST_POWER + place - 1] += count
+    if beyond:
+        for k, value in enumerate(values):
+            if not _POWERS[0] <= abs(value) < _POWERS[-1]:
+                magnitudes.add(*_coefficient(model, arrays, k))
+    if places:
+        inside = [value for value in map(abs, values) if _POWERS[0] <= value < _POWERS[-1]] if beyond else list(map(abs, values))
+        for extreme in (min(inside), max(inside)):
+            k = next(k for k, value in enumerate(values) if abs(value) == extreme)
+            magnitudes.note(*_coefficient(model, arrays, k))
+
+
+def _coefficient(model: Model, arrays: Arrays, k: int) -> tuple[Decimal, str, str]:
+    """The exact coefficient at a place of the arrays, with the names of its row and its column."""
+    assert arrays.row_names is not None and arrays.column_names is not None
+    row = arrays.row_names[arrays.indices[k]]
+    column = arrays.column_names[bisect_right(arrays.indptr, k) - 1]
+    return model.columns[column].entries[row], row, column
+
+
+def _lengths(names: Iterable[str], lengths: list[int]) -> Lengths:
+    in_order = sorted(lengths)
+    most = in_order[-1]
+    longest = next(name for name, length in zip(names, lengths) if length == most)
+    empty = [name for name, length in zip(names, lengths) if not length]
+    return Lengths(in_order[0], in_order[len(in_order) // 2], most, longest, empty, lengths.count(1))

@@ -1,0 +1,307 @@
+"""What a file says itself. The rest of its model is defaults of the format, which the model does not show.
+
+The file has been accepted, so nothing of it is tested here: docs/FORMATS.md says what it can have.
+"""
+
+from __future__ import annotations
+
+import io
+import re
+from collections import Counter
+from collections.abc import Callable, Iterator
+from dataclasses import dataclass, field
+from decimal import Decimal, InvalidOperation
+
+from mpslp import _mpslp
+from mpslp._numbers import LARGE
+from mpslp._sources import Text
+
+LOWER, UPPER = 1, 2
+BOTH = LOWER | UPPER
+"""Which bounds of a column are given."""
+
+
+@dataclass
+class Declared:
+    """What a file says, as far as the report has a rule about it."""
+
+    is_mps: bool
+    problem: str = ""
+    """The rest of the line of NAME."""
+    has_sense: bool = False
+    sense_in_comment: str = ""
+    """The word after ``*SENSE:``, a comment of PuLP, which is ignored."""
+    has_objname: bool = False
+    has_objective: bool = False
+    """In MPS, whether there is an N row for the objective; in LP, whether the objective has a label."""
+    has_constant: bool = False
+    """In MPS, whether RHS has an entry on the objective."""
+    coefficients: int = 0
+    """How many coefficients are written, those that are 0 among them."""
+    row_types: dict[str, str] = field(default_factory=dict)
+    """In MPS, the types of the rows without the objective."""
+    with_rhs: set[str] = field(default_factory=set)
+    """In MPS, the rows of which RHS has an entry."""
+    infinite_sides: int = 0
+    """How many right-hand sides are infinite; in LP, sides of rows."""
+    ranges: Counter[tuple[str, int]] = field(default_factory=Counter)
+    """How many ranges there are, by the type of the row and the sign of the number."""
+    labels: int = 0
+    """How many rows have a label in LP."""
+    bounds: dict[str, int] = field(default_factory=dict)
+    """Which bounds are given, of the columns of which any is."""
+    bound_types: Counter[str] = field(default_factory=Counter)
+    """How many lines of BOUNDS there are of each type."""
+    infinite_bounds: int = 0
+    """How many bounds are given as infinite numbers, or as ``inf``."""
+    marked: dict[str, None] = field(default_factory=dict)
+    """The columns between markers in MPS, in their order."""
+    binaries: dict[str, None] = field(default_factory=dict)
+    """The columns under Binaries in LP, in their order."""
+    goes_on: bool = False
+    """Whether there is more after the end."""
+
+    def give(self, column: str, bounds: int) -> None:
+        self.bounds[column] = self.bounds.get(column, 0) | bounds
+
+    def upper_is_1(self, column: str) -> bool:
+        """Whether the default upper bound of a column is 1, and no other is given."""
+        given = self.bounds.get(column, 0)
+        return (column in self.binaries and not given & UPPER) or (column in self.marked and not given)
+
+
+def declared_by(text: Text, objective: str) -> Declared:
+    """What a text says; ``objective`` is the name of the objective of its model."""
+    reader = _Mps(objective) if text.format == _mpslp.MPS else _Lp()
+    reader.read(text.content)
+    return reader.declared
+
+
+def _is_infinite(literal: bytes) -> bool:
+    return _number(literal).copy_abs() >= LARGE
+
+
+def _number(literal: bytes) -> Decimal:
+    try:
+        return Decimal(literal.decode("ascii"))
+    except InvalidOperation:  # the exponent is too long for a Decimal, which only that of a 0 can be
+        return Decimal(0)
+
+
+def _sign(number: Decimal) -> int:
+    return (number > 0) - (number < 0)
+
+
+Fields = list[bytes]
+
+
+class _Mps:
+    """Reads the lines of an MPS file."""
+
+    _BOUNDS = {"LO": LOWER, "MI": LOWER, "LI": LOWER, "UP": UPPER, "PL": UPPER, "UI": UPPER, "SC": UPPER, "FX": BOTH, "FR": BOTH, "BV": BOTH}
+    _WITHOUT_NUMBER = ("FR", "MI", "PL", "BV")
+    _SENSE = re.compile(rb"\*\s*SENSE\s*:\s*(\w+)", re.IGNORECASE)
+
+    def __init__(self, objective: str) -> None:
+        self.declared = Declared(is_mps=True)
+        self._objective = objective
+        self._in_integers = False
+        self._take: Callable[[Fields], None] = self._name
+        self._sections = {
+            b"NAME": self._name,
+            b"OBJSENSE": self._sense,
+            b"OBJNAME": self._objname,
+            b"ROWS": self._row,
+            b"COLUMNS": self._column,
+            b"RHS": self._rhs,
+            b"RANGES": self._range,
+            b"BOUNDS": self._bound,
+        }
+
+    def read(self, content: bytes) -> None:
+        lines = io.BytesIO(content)
+        for line in lines:
+            if line[:1] == b"*":
+                self._comment(line)
+                continue
+            fields = line.split()
+            if not fields:
+                continue
+            if line[:1] in b" \t":
+                self._take(fields)
+            elif fields[0] == b"ENDATA":
+                break
+            else:
+                self._header(fields)
+        self.declared.goes_on = bool(lines.read().strip())
+
+    def _header(self, fields: Fields) -> None:
+        self._take = self._sections[fields[0]]
+        if len(fields) > 1:
+            self._take(fields[1:])
+
+    def _comment(self, line: bytes) -> None:
+        found = self._SENSE.match(line)
+        if found:
+            self.declared.sense_in_comment = found[1].decode("ascii")
+
+    def _name(self, fields: Fields) -> None:
+        self.declared.problem = " ".join(each.decode("ascii") for each in fields)
+
+    def _sense(self, fields: Fields) -> None:
+        self.declared.has_sense = True
+
+    def _objname(self, fields: Fields) -> None:
+        self.declared.has_objname = True
+
+    def _row(self, fields: Fields) -> None:
+        kind, name = (each.decode("ascii") for each in fields)
+        if name == self._objective:
+            self.declared.has_objective = True
+        else:
+            self.declared.row_types[name] = kind
+
+    def _column(self, fields: Fields) -> None:
+        if fields[1] == b"'MARKER'":
+            self._in_integers = fields[2] == b"'INTORG'"
+            return
+        self.declared.coefficients += len(fields) // 2
+        if self._in_integers:
+            self.declared.marked[fields[0].decode("ascii")] = None
+
+    def _rhs(self, fields: Fields) -> None:
+        for row, number in _pairs(fields):
+            if row == self._objective:
+                self.declared.has_constant = True
+                continue
+            self.declared.with_rhs.add(row)
+            self.declared.infinite_sides += self.declared.row_types[row] != "N" and _is_infinite(number)
+
+    def _range(self, fields: Fields) -> None:
+        for row, number in _pairs(fields):
+            self.declared.ranges[self.declared.row_types[row], _sign(_number(number))] += 1
+
+    def _bound(self, fields: Fields) -> None:
+        kind = fields[0].decode("ascii")
+        self.declared.bound_types[kind] += 1
+        if kind in self._WITHOUT_NUMBER:
+            column = fields[1] if len(fields) == 2 else fields[2]
+        else:
+            column = fields[-2]
+            self.declared.infinite_bounds += _is_infinite(fields[-1])
+        self.declared.give(column.decode("ascii"), self._BOUNDS[kind])
+
+
+def _pairs(fields: Fields) -> Iterator[tuple[str, bytes]]:
+    """The rows and numbers of a line of RHS or RANGES, whose set name is optional."""
+    first = len(fields) % 2
+    return ((row.decode("ascii"), number) for row, number in zip(fields[first::2], fields[first + 1 :: 2]))
+
+
+class _Lp:
+    """Reads the tokens of an LP file, line by line: no token goes over the end of a line."""
+
+    _SYMBOLS = r"!\"#$%&(),/;?@_'`{}|~"
+    _TOKEN = re.compile(
+        rf"\\.*|(?P<word>[A-Za-z{_SYMBOLS}][A-Za-z0-9.{_SYMBOLS}]*)"
+        r"|(?P<number>(?:\d+\.?\d*|\.\d+)(?:[eE][+-]?\d+)?)|(?P<relation>[<>]=?|=[<>]?)|(?P<sign>[+-])|(?P<colon>:)"
+    )
+    _INFINITIES = frozenset(("inf", "infinity"))
+
+    def __init__(self) -> None:
+        self.declared = Declared(is_mps=False, has_sense=True)
+        self._take: Callable[[str, str], None] = self._nothing
+        self._side = ""
+        self._is_side = False
+        self._bound_so_far: list[str] = []
+        self._bounded = ""
+        sections: dict[Callable[[str, str], None], str] = {
+            self._objective: "min minimize minimum max maximize maximum",
+            self._row: "st s.t. st.",
+            self._second_word: "subject such",
+            self._bound: "bound bounds",
+            self._binary: "binary binaries bin",
+            self._nothing: "general generals gen integer integers int semi semis",
+        }
+        self._sections = {word: take for take, words in sections.items() for word in words.split()}
+
+    def read(self, content: bytes) -> None:
+        lines = io.BytesIO(content)
+        for line in lines:
+            if self._ends_in(line.decode("latin-1")):
+                break
+        self.declared.goes_on = bool(lines.read().strip())
+
+    def _ends_in(self, line: str) -> bool:
+        for token in self._TOKEN.finditer(line):
+            sort, text = token.lastgroup, token[0]
+            if sort == "word":
+                word = text.lower()
+                if word == "end":
+                    return True
+                if word in self._sections:
+                    self._take = self._sections[word]
+                    continue
+            if sort is not None:
+                self._take(sort, text)
+        return False
+
+    def _nothing(self, sort: str, text: str) -> None:
+        """Of general and semi-continuous columns the model has all."""
+
+    def _objective(self, sort: str, text: str) -> None:
+        if sort == "word":
+            self.declared.coefficients += 1
+        elif sort == "colon":
+            self.declared.coefficients -= 1
+            self.declared.has_objective = True
+
+    def _second_word(self, sort: str, text: str) -> None:
+        """``to`` after ``subject``, or ``that`` after ``such``: the rows follow."""
+        self._take = self._row
+
+    def _row(self, sort: str, text: str) -> None:
+        if sort == "word" and text.lower() not in self._INFINITIES:
+            self.declared.coefficients += 1
+        elif sort == "colon":
+            self.declared.coefficients -= 1
+            self.declared.labels += 1
+        elif sort == "word" or (sort == "number" and self._is_side):
+            self.declared.infinite_sides += sort == "word" or _is_infinite(text.encode())
+        elif sort == "relation" and self._side:
+            self.declared.infinite_sides += _is_infinite(self._side.encode())
+        # A number is a side if it is next to a relation, apart from signs.
+        self._side = text if sort == "number" and not self._is_side else ""
+        self._is_side = sort == "relation" or (sort == "sign" and self._is_side)
+
+    def _bound(self, sort: str, text: str) -> None:
+        so_far = self._bound_so_far
+        if sort == "sign":
+            return
+        if sort == "relation":
+            # Without anything before it, it is the second one of a bound: side, relation, name, relation, side.
+            so_far[:] = [*(so_far or [self._bounded]), text]
+            return
+        is_infinity = sort == "word" and text.lower() in self._INFINITIES
+        is_side = sort == "number" or is_infinity
+        if is_side:
+            self.declared.infinite_bounds += is_infinity or _is_infinite(text.encode())
+        if not so_far:
+            so_far.append("" if is_side else text)
+            return
+        if len(so_far) == 1:
+            self.declared.give(so_far[0], BOTH)  # the word is `free`
+        elif is_side:
+            self.declared.give(so_far[0], _given_by(so_far[1], UPPER, LOWER))
+        else:
+            self._bounded = text
+            self.declared.give(text, _given_by(so_far[1], LOWER, UPPER))
+        so_far.clear()
+
+    def _binary(self, sort: str, text: str) -> None:
+        self.declared.binaries[text] = None
+
+
+def _given_by(relation: str, at_most: int, at_least: int) -> int:
+    """The bounds that a relation gives: those of ``<`` or ``>`` in any spelling, or both for ``=``."""
+    return at_most if "<" in relation else at_least if ">" in relation else BOTH

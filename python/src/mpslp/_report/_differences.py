@@ -1,0 +1,81 @@
+"""The section on the differences of two models."""
+
+from __future__ import annotations
+
+from collections import Counter
+from collections.abc import Iterable
+
+import mpslp
+from mpslp import _mpslp
+from mpslp._report._markup import Markup, code, element, joined, table
+from mpslp._report._subjects import Subject
+from mpslp._sources import Format, Text
+
+_MOST_SHOWN = 200
+_FORMATS: dict[int, Format] = {_mpslp.MPS: "mps", _mpslp.LP: "lp"}
+
+# What the classes of differences are about.
+_SORTS = {
+    "ModelDifference": "sense, name and constant of the objective",
+    "RowOnly": "rows that only one model has",
+    "RowDifference": "limits of rows",
+    "ColumnOnly": "columns that only one model has",
+    "ColumnDifference": "types, bounds and objective coefficients of columns",
+    "EntryDifference": "coefficients in rows",
+}
+
+
+def differences(first: Subject, second: Subject, digits: int | None, by_position: bool) -> Markup:
+    """Whether two files define the same model, and if not, the differences."""
+    if first.model == second.model:
+        return element("p", "The files define the same model.")
+    sorts: Counter[str] = Counter()
+    shown: list[Markup] = []
+    for each in _found(first, second, digits, by_position):
+        sorts[type(each).__name__] += 1
+        if len(shown) < _MOST_SHOWN:
+            shown.append(element("li", code(str(each))))
+    count = sum(sorts.values())
+    compared = _compared(digits, by_position)
+    if not count:
+        return element("p", f"The files define different models, but there is no difference{compared}.")
+    lines = [(_SORTS.get(sort, sort), number) for sort, number in sorts.items()]
+    return joined(
+        (
+            element("p", f"The files define different models: {count:,} {'difference' if count == 1 else 'differences'}{compared}."),
+            table(f"Differences of {first.label} and {second.label}", ["what", "differences"], lines),
+            element("p", _reading(count, len(shown)), class_="soft"),
+            element("ol", joined(shown, "\n"), class_="differences"),
+        ),
+        "\n",
+    )
+
+
+def _found(first: Subject, second: Subject, digits: int | None, by_position: bool) -> Iterable[object]:
+    if not by_position:
+        return mpslp.diff(first.model, second.model, digits=digits)
+    # Positions are those of the texts.
+    return mpslp.diff(*map(_source, (first.text, second.text)), *map(_format, (first.text, second.text)), digits=digits, by_position=True)
+
+
+def _source(text: Text) -> bytes:
+    return text.content
+
+
+def _format(text: Text) -> Format:
+    return _FORMATS[text.format]
+
+
+def _compared(digits: int | None, by_position: bool) -> str:
+    """How the models are compared, if it is not exactly and by names."""
+    ways = []
+    if digits is not None:
+        ways.append(f"to {digits} {'digit' if digits == 1 else 'digits'}")
+    if by_position:
+        ways.append("by position")
+    return f" if they are compared {' and '.join(ways)}" if ways else ""
+
+
+def _reading(count: int, shown: int) -> str:
+    meaning = "Numbers are those of the first and of the second file; - is what only the first has, + what only the second has."
+    return meaning if count == shown else f"{meaning} These are the first {shown:,}; python3 -m mpslp diff prints all."

@@ -1,0 +1,124 @@
+"""The magnitudes of the numbers of a model: a histogram of powers of ten, the extremes, and remarks on wide ranges."""
+
+from __future__ import annotations
+
+from collections.abc import Iterator, Sequence
+from decimal import Context, Decimal
+
+from mpslp._numbers import number_text
+from mpslp._report._contents import Extreme, Magnitudes
+from mpslp._report._markup import Markup, code, element, joined, markup, table
+
+# What guides of solvers advise at most for the ratio of the largest to the smallest coefficient.
+_WIDE, _VERY_WIDE = Decimal("1e6"), Decimal("1e9")
+# Coefficients that HiGHS treats as 0, and those that it rejects, if its options are not changed.
+_TREATED_AS_0, _REJECTED = -9, 15
+# From this power of ten on, neighbouring doubles differ by more than 1e-6, the usual tolerance for limits and bounds.
+_COARSE = 10
+# Doubles have no larger and no smaller power of ten.
+_MOST_OF_DOUBLES, _LEAST_OF_DOUBLES = 308, -324
+# A longer run of powers of ten without numbers is one line.
+_MOST_EMPTY = 3
+# The user's own context may round in another way, or not at all.
+_ROUNDED = Context(prec=6)
+
+
+def histogram(caption: str, all_magnitudes: Sequence[Magnitudes]) -> Markup:
+    """The table of the powers of ten, with bars."""
+    powers = sorted({power for magnitudes in all_magnitudes for power in magnitudes.powers}, reverse=True)
+    most = [max(magnitudes.powers.values(), default=1) for magnitudes in all_magnitudes]
+    rows = []
+    for power in _with_gaps(powers):
+        if power is None:
+            rows.append([markup("…"), *(Markup() for _ in all_magnitudes)])
+        else:
+            rows.append([markup(f"1e{power}"), *(_bar(magnitudes.powers[power], top) for magnitudes, top in zip(all_magnitudes, most))])
+    rows.append([markup("zero"), *(_bar(magnitudes.zeros, 0) for magnitudes in all_magnitudes)])
+    return table(caption, ["power of ten", *(magnitudes.what for magnitudes in all_magnitudes)], rows, class_="histogram")
+
+
+def _with_gaps(powers: Sequence[int]) -> Iterator[int | None]:
+    """The powers of ten from the largest to the smallest, and None for each long run without numbers."""
+    before: int | None = None
+    for power in powers:
+        if before is not None:
+            missing = range(before - 1, power, -1)
+            yield from missing if len(missing) <= _MOST_EMPTY else [None]
+        yield power
+        before = power
+
+
+def _bar(count: int, most: int) -> Markup:
+    """A count, and a bar for its share of the greatest count; nothing for 0."""
+    if not count:
+        return Markup()
+    return joined((count, element("span", class_="bar", style=f"width:{max(1, round(100 * count / most))}%"))) if most else markup(count)
+
+
+def extremes(caption: str, all_magnitudes: Sequence[Magnitudes]) -> Markup:
+    """The table of the smallest and the largest numbers, with the rows and columns that have them."""
+    rows = []
+    for magnitudes in all_magnitudes:
+        cells = [Markup()] * 5
+        if magnitudes.smallest is not None and magnitudes.largest is not None:
+            ratio = f"{_ratio(magnitudes.smallest, magnitudes.largest):.1e}".replace("e+", "e")
+            cells = [*_cells(magnitudes.smallest), *_cells(magnitudes.largest), markup(ratio)]
+        rows.append([markup(magnitudes.what), markup(magnitudes.count), *cells])
+    return table(caption, ["numbers", "nonzero", "smallest", "where", "largest", "where", "ratio"], rows, words=(3, 5))
+
+
+def _cells(extreme: Extreme) -> tuple[Markup, Markup]:
+    return code(number_text(extreme.number)), joined(map(code, extreme.where), ", ")
+
+
+def _ratio(smallest: Extreme, largest: Extreme) -> Decimal:
+    return _ROUNDED.divide(largest.number.copy_abs(), smallest.number.copy_abs())
+
+
+def remarks(coefficients: Magnitudes, costs: Magnitudes, limits: Magnitudes, bounds: Magnitudes) -> Iterator[Markup]:
+    """What guides of solvers advise against, if the numbers of a model have it."""
+    yield from _of_range(coefficients)
+    yield from _of_range(costs)
+    tiny = _count(coefficients, most=_TREATED_AS_0 - 1)
+    if tiny:
+        yield markup(f"Coefficients of magnitude below 1e{_TREATED_AS_0}: {tiny:,}. Some solvers, such as HiGHS, treat them as 0.")
+    huge = _count(coefficients, least=_REJECTED)
+    if huge:
+        yield markup(f"Coefficients of magnitude 1e{_REJECTED} or more: {huge:,}. Some solvers, such as HiGHS, reject them.")
+    for magnitudes in (limits, bounds):
+        coarse = _count(magnitudes, least=_COARSE)
+        if coarse:
+            yield markup(
+                f"{_title(magnitudes)} of magnitude 1e{_COARSE} or more: {coarse:,}. Neighbouring doubles differ by more than 1e-6 there,"
+                " the usual tolerance of solvers. Leave out what is not meant as a limit, and use a larger unit for the rest."
+            )
+    for magnitudes in (coefficients, costs, limits, bounds):
+        beyond = _count(magnitudes, most=_LEAST_OF_DOUBLES - 1) + _count(magnitudes, least=_MOST_OF_DOUBLES + 1)
+        if beyond:
+            yield markup(f"{_title(magnitudes)} of a magnitude that no double has: {beyond:,}. Solvers read them as 0 or as infinity.")
+
+
+def _of_range(magnitudes: Magnitudes) -> Iterator[Markup]:
+    if magnitudes.smallest is None or magnitudes.largest is None:
+        return
+    ratio = _ratio(magnitudes.smallest, magnitudes.largest)
+    if ratio > _WIDE:
+        smallest, largest = (code(number_text(each.number.copy_abs())) for each in (magnitudes.smallest, magnitudes.largest))
+        yield joined(
+            (
+                f"{_title(magnitudes)}: the range is {'very wide' if ratio > _VERY_WIDE else 'wide'}, from ",
+                smallest,
+                " to ",
+                largest,
+                ". Guides of solvers advise a ratio of at most 1e6, or 1e9 at the utmost. Other units for rows or columns reduce it.",
+            )
+        )
+
+
+def _title(magnitudes: Magnitudes) -> str:
+    return magnitudes.what[0].upper() + magnitudes.what[1:]
+
+
+def _count(magnitudes: Magnitudes, least: int = -1000, most: int = 1000) -> int:
+    """How many numbers have a power of ten between these."""
+    return sum(count for power, count in magnitudes.powers.items() if least <= power <= most)

@@ -1,0 +1,103 @@
+"""Pieces of HTML. Whatever is no piece is text, and is escaped."""
+
+from __future__ import annotations
+
+import html
+import os
+from collections.abc import Iterable, Sequence
+from typing import Union
+
+MOST_NAMES = 8
+"""So many names are listed; of the others only the number."""
+
+
+class Markup(str):
+    """A piece of HTML, which is used as it is."""
+
+    __slots__ = ()
+
+
+Content = Union[str, int]
+"""A piece of HTML, or text, or a count."""
+
+
+def markup(content: Content) -> Markup:
+    """Content as HTML: text is escaped, and a count has its thousands grouped."""
+    if isinstance(content, Markup):
+        return content
+    if isinstance(content, int):
+        return Markup(f"{content:,}")
+    return Markup(html.escape(_printable(content)))
+
+
+def joined(contents: Iterable[Content], between: str = "") -> Markup:
+    """Contents one after the other."""
+    return Markup(Markup(between).join(map(markup, contents)))
+
+
+def element(tag: str, *contents: Content, **attributes: Content) -> Markup:
+    """An element with its contents; an attribute whose word Python keeps for itself is given as ``class_``."""
+    given = "".join(f' {name.rstrip("_").replace("_", "-")}="{markup(str(value))}"' for name, value in attributes.items())
+    return Markup(f"<{tag}{given}>{joined(contents)}</{tag}>")
+
+
+def code(name: str) -> Markup:
+    """A name of a model."""
+    return element("code", name)
+
+
+def link(section: str, *contents: Content) -> Markup:
+    """A link to a section of the page."""
+    return element("a", *contents, href=f"#{section}")
+
+
+def path_text(path: str | bytes | os.PathLike[str] | os.PathLike[bytes]) -> str:
+    """A path as text that can be shown: bytes that are no UTF-8 are written as ``\\xff``."""
+    return os.fsencode(path).decode("utf-8", "backslashreplace")
+
+
+def names(found: Sequence[str], count: int | None = None) -> Markup:
+    """The first names of a list, and how many others there are."""
+    shown = joined(map(code, found[:MOST_NAMES]), ", ")
+    others = (len(found) if count is None else count) - min(len(found), MOST_NAMES)
+    return joined((shown, f" and {others:,} more")) if others else shown
+
+
+def table(
+    caption: Content, head: Sequence[Content], rows: Iterable[Sequence[Content]], words: Sequence[int] = (), class_: str = "plain"
+) -> Markup:
+    """A table whose first column heads its rows. Numbers are on the right; ``words`` are the columns that have words."""
+    left = {0, *words}
+
+    def cell(place: int, content: Content) -> Markup:
+        if place == 0:
+            return element("th", content, scope="row")
+        return element("td", content) if place in left else element("td", content, class_="number")
+
+    def heading(place: int, content: Content) -> Markup:
+        return element("th", content, scope="col") if place in left else element("th", content, scope="col", class_="number")
+
+    lines = [element("tr", *(cell(place, content) for place, content in enumerate(row))) for row in rows]
+    return element(
+        "div",
+        element(
+            "table",
+            element("caption", caption),
+            element("thead", element("tr", *(heading(place, content) for place, content in enumerate(head)))),
+            element("tbody", joined(lines, "\n")),
+            class_=class_,
+        ),
+        class_="wide",
+    )
+
+
+def section(name: str, heading: Content, *contents: Content) -> Markup:
+    """A section of the page, with its heading."""
+    return element("section", element("h2", heading, id=name), joined(contents, "\n"), aria_labelledby=name)
+
+
+def _printable(text: str) -> str:
+    """Text in which what has no picture, as a control character or a change of direction, is written as an escape."""
+    if text.isprintable():
+        return text
+    return "".join(each if each.isprintable() or each == "\n" else each.encode("unicode_escape").decode() for each in text)

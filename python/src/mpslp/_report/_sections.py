@@ -1,0 +1,185 @@
+"""The sections of the page."""
+
+from __future__ import annotations
+
+from collections.abc import Callable, Iterator, Sequence
+from typing import NamedTuple
+
+from mpslp import _mpslp
+from mpslp._numbers import number_text
+from mpslp._report._contents import COLUMN_BOUNDS, COLUMN_KINDS, ROW_KINDS
+from mpslp._report._magnitudes import extremes, histogram
+from mpslp._report._magnitudes import remarks as remarks_on_magnitudes
+from mpslp._report._markup import Content, Markup, code, element, joined, link, markup, names, table
+from mpslp._report._picture import picture
+from mpslp._report._rules import given_bounds, rules_of
+from mpslp._report._subjects import Subject
+
+_FORMATS = {_mpslp.MPS: "MPS", _mpslp.LP: "LP"}
+
+Lines = Sequence[tuple[str, Content]]
+
+
+class Remark(NamedTuple):
+    """What a reader of the page may want to look at, and the section that has more of it."""
+
+    section: str
+    what: Markup
+
+
+def remarks(subject: Subject) -> Iterator[Remark]:
+    """The remarks on a file, in the order of the sections."""
+    contents = subject.contents
+    if not subject.model.rows:
+        yield Remark("counts", markup("The model has no rows."))
+    for what, lengths in (("Rows", contents.row_lengths), ("Columns", contents.column_lengths)):
+        if lengths is not None and lengths.empty and subject.model.rows:
+            yield Remark("counts", joined((f"{what} without a nonzero ({len(lengths.empty):,}): ", names(lengths.empty), ".")))
+    for remark in remarks_on_magnitudes(*contents.magnitudes):
+        yield Remark("magnitudes", remark)
+    for rule in rules_of(subject.declared, subject.model, contents):
+        if rule.is_remark:
+            count = "" if rule.count is None else f" ({rule.count:,})"
+            yield Remark("defaults", joined((_capital(rule.what), count, ": ", rule.effect, ".")))
+
+
+def remark_list(subjects: Sequence[Subject]) -> Markup:
+    """The remarks on all files as a list, or nothing if there are none."""
+    lines = []
+    for subject in subjects:
+        prefix = joined((element("b", subject.label), ": ")) if len(subjects) > 1 else Markup()
+        lines += [element("li", prefix, remark.what, " ", link(remark.section, "more")) for remark in remarks(subject)]
+    return element("ul", *lines, class_="remarks") if lines else Markup()
+
+
+def counts(subjects: Sequence[Subject]) -> Markup:
+    """How many rows, columns and nonzeros there are, and of which kinds."""
+    return joined(
+        (
+            _compared("The model", "property", subjects, _facts, is_words=True),
+            _compared("Rows by kind", "rows", subjects, _row_kinds),
+            _each(subjects, _column_kinds),
+            _each(subjects, _lengths),
+        ),
+        "\n",
+    )
+
+
+def magnitudes(subjects: Sequence[Subject]) -> Markup:
+    """The magnitudes of all numbers."""
+    note = (
+        "The line 1e3 counts the numbers from 1000 to below 10000, by their absolute value. A row limit or a column bound that is infinite is left out."
+    )
+    return joined(
+        (
+            element("p", note, class_="soft"),
+            *(extremes(_caption("Smallest and largest numbers", subjects, subject), subject.contents.magnitudes) for subject in subjects),
+            *(histogram(_caption("How many numbers have each power of ten", subjects, subject), subject.contents.magnitudes) for subject in subjects),
+        ),
+        "\n",
+    )
+
+
+def pictures(subjects: Sequence[Subject]) -> Markup:
+    """Where the nonzeros are."""
+    return element("div", *(_picture(subject, number) for number, subject in enumerate(subjects, 1)), class_="pair")
+
+
+def defaults(subjects: Sequence[Subject]) -> Markup:
+    """What the files leave to defaults."""
+    return joined((each for subject in subjects for each in (_given_bounds(subjects, subject), _rules(subjects, subject))), "\n")
+
+
+def _facts(subject: Subject) -> Lines:
+    model, counted = subject.model, subject.contents.coefficients.count
+    places = len(model.rows) * len(model.columns)
+    return (
+        ("file", joined((code(subject.path), f", {_FORMATS[subject.text.format]}, {len(subject.text.content):,} bytes of text"))),
+        ("objective", joined((f"{model.sense} ", code(model.objective)))),
+        ("constant of the objective", code(number_text(model.constant))),
+        ("rows", len(model.rows)),
+        ("columns", len(model.columns)),
+        ("nonzeros", joined((counted, f" ({100 * counted / places:.3g} % of all places)" if places else ""))),
+        ("digest", joined((code(subject.digest), element("span", " (SHA-256 of the canonical MPS text)", class_="soft")))),
+    )
+
+
+def _row_kinds(subject: Subject) -> Lines:
+    kinds = subject.contents.row_kinds
+    return (*((kind, kinds[kind]) for kind in ROW_KINDS), ("all rows", sum(kinds.values())))
+
+
+def _column_kinds(subjects: Sequence[Subject], subject: Subject) -> Markup:
+    columns = subject.contents.columns
+    lines: list[list[Content]] = []
+    for bounds in COLUMN_BOUNDS:
+        found = [columns[bounds, kind] for kind in COLUMN_KINDS]
+        if any(found):
+            lines.append([bounds, *found, sum(found)])
+    totals = [sum(count for (_, each), count in columns.items() if each == kind) for kind in COLUMN_KINDS]
+    lines.append(["all columns", *totals, sum(totals)])
+    return table(_caption("Columns by bounds and type", subjects, subject), ["bounds", *COLUMN_KINDS, "all"], lines)
+
+
+def _lengths(subjects: Sequence[Subject], subject: Subject) -> Markup:
+    both = (subject.contents.row_lengths, subject.contents.column_lengths)
+
+    def line(what: str, number: Callable[..., Content]) -> list[Content]:
+        return [what, *(Markup() if lengths is None else number(lengths) for lengths in both)]
+
+    lines = (
+        line("fewest", lambda lengths: lengths.least),
+        line("median", lambda lengths: lengths.median),
+        line("most", lambda lengths: lengths.most),
+        line("most in", lambda lengths: code(lengths.longest)),
+        line("with no nonzero", lambda lengths: len(lengths.empty)),
+        line("with one nonzero", lambda lengths: lengths.singles),
+    )
+    return table(_caption("Nonzeros of rows and columns", subjects, subject), ["nonzeros", "of a row", "of a column"], lines)
+
+
+def _picture(subject: Subject, number: int) -> Markup:
+    rows, columns, counted = len(subject.model.rows), len(subject.model.columns), subject.contents.coefficients.count
+    if not rows:
+        return element("p", f"{subject.label} has no rows, so there is no picture.")
+    title = f"Nonzeros of {subject.label}: {rows:,} rows, {columns:,} columns, {counted:,} nonzeros"
+    return picture(subject.arrays, title, number)
+
+
+def _given_bounds(subjects: Sequence[Subject], subject: Subject) -> Markup:
+    lines = [(each.given, each.bounds, len(each.columns), names(each.columns)) for each in given_bounds(subject.declared, subject.model)]
+    caption = _caption("Column bounds that the file gives", subjects, subject)
+    return table(caption, ["given in the file", "bounds of the model", "columns", "which"], lines, words=(1, 3))
+
+
+def _rules(subjects: Sequence[Subject], subject: Subject) -> Markup:
+    rules = rules_of(subject.declared, subject.model, subject.contents)
+    lines = [(rule.what, Markup() if rule.count is None else rule.count, rule.effect) for rule in rules]
+    return table(_caption("Rules that apply to the file", subjects, subject), ["in the file", "count", "in the model"], lines, words=(2,))
+
+
+def _each(subjects: Sequence[Subject], made: Callable[[Sequence[Subject], Subject], Markup]) -> Markup:
+    """A table for each file, side by side if there is room."""
+    return element("div", *(made(subjects, subject) for subject in subjects), class_="pair")
+
+
+def _compared(caption: str, what: str, subjects: Sequence[Subject], lines_of: Callable[[Subject], Lines], is_words: bool = False) -> Markup:
+    """A table with a column for each file, and of two files one that says where they differ."""
+    lines: list[list[Content]] = []
+    for cells in zip(*map(lines_of, subjects)):
+        values = [value for _, value in cells]
+        differs = [element("b", "differs") if len(set(values)) > 1 else Markup()] if len(subjects) > 1 else []
+        lines.append([cells[0][0], *values, *differs])
+    head = [what, *(subject.label for subject in subjects), *(["comparison"] if len(subjects) > 1 else [])]
+    last = len(subjects) + 1
+    return table(caption, head, lines, words=range(1, last + 1) if is_words else (last,))
+
+
+def _caption(words: str, subjects: Sequence[Subject], subject: Subject) -> str:
+    return words if len(subjects) == 1 else f"{words}: {subject.label}"
+
+
+def _capital(content: Content) -> Markup:
+    """Content with a capital letter, unless it starts with an element."""
+    text = markup(content)
+    return text if text.startswith("<") else Markup(text[:1].upper() + text[1:])

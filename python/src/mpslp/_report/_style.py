@@ -1,0 +1,49 @@
+"""How the page looks: on light and dark screens, on narrow ones, and on paper."""
+
+STYLE = """
+:root { color-scheme: light dark; --ink: #1b232c; --soft: #56626f; --line: #d3d9df; --paper: #fff; --band: #f4f6f8; --mark: #2f6fab; --note: #8a5a00; }
+@media screen and (prefers-color-scheme: dark) {
+  :root { --ink: #e3e7eb; --soft: #a3aeb9; --line: #3a434d; --paper: #15191e; --band: #1e242b; --mark: #6ea8dc; --note: #e0b25a; }
+  image { filter: brightness(1.7); }
+}
+* { box-sizing: border-box; }
+body { margin: 0 auto; padding: 1.5rem 1.25rem 4rem; max-width: 68rem; background: var(--paper); color: var(--ink);
+  font: 1rem/1.5 system-ui, -apple-system, "Segoe UI", "Liberation Sans", Arial, sans-serif; }
+h1, h2 { line-height: 1.25; font-weight: 650; overflow-wrap: anywhere; }
+h1 { margin: 0 0 .25rem; font-size: 1.6rem; }
+h2 { margin: 2.25rem 0 .75rem; padding-top: .75rem; border-top: 1px solid var(--line); font-size: 1.2rem; }
+p, ul { margin: .5rem 0; max-width: 44rem; }
+a { color: var(--mark); }
+.soft, figcaption, footer { color: var(--soft); font-size: .875rem; }
+code { font: .9em ui-monospace, "Liberation Mono", Menlo, Consolas, monospace; overflow-wrap: anywhere; }
+nav ul { display: flex; flex-wrap: wrap; gap: .25rem 1.25rem; padding: 0; list-style: none; }
+.wide { overflow-x: auto; margin: 1rem 0; }
+table { border-collapse: collapse; font-size: .9375rem; }
+caption { padding: 0 0 .4rem; text-align: left; font-weight: 600; overflow-wrap: anywhere; }
+th, td { padding: .25rem .75rem; border-bottom: 1px solid var(--line); text-align: left; vertical-align: top; font-weight: 400; }
+thead th { color: var(--soft); font-size: .8125rem; vertical-align: bottom; border-bottom-color: var(--soft); }
+th:first-child, td:first-child { padding-left: 0; }
+.number { text-align: right; font-variant-numeric: tabular-nums; white-space: nowrap; }
+.histogram td { min-width: 8.5rem; }
+.bar { display: block; height: .3rem; margin: .1rem 0 .1rem auto; min-width: 2px; background: var(--mark);
+  -webkit-print-color-adjust: exact; print-color-adjust: exact; }
+.differs { font-weight: 650; }
+.remarks { padding: .75rem 1rem .75rem 2rem; border-left: .25rem solid var(--note); background: var(--band); }
+.pair { display: grid; grid-template-columns: repeat(auto-fit, minmax(min(30rem, 100%), 1fr)); gap: 0 2.5rem; align-items: start; }
+figure { margin: 1rem 0; }
+svg { display: block; max-width: 100%; height: auto; }
+svg text { fill: var(--soft); font: 11px ui-monospace, "Liberation Mono", Menlo, Consolas, monospace; }
+.frame { fill: none; stroke: var(--line); }
+.positive { fill: var(--mark); stroke: var(--mark); }
+.negative { fill: none; stroke: var(--mark); stroke-width: 1.5; }
+.sharp { image-rendering: pixelated; }
+ol.differences { padding-left: 3.5rem; font-variant-numeric: tabular-nums; }
+@media print {
+  body { max-width: none; padding: 0; font-size: 10pt; }
+  nav { display: none; }
+  .wide { overflow: visible; }
+  tr, figure, .remarks { break-inside: avoid; }
+  h2, caption { break-after: avoid; }
+  a { color: inherit; text-decoration: none; }
+}
+"""

@@ -1,0 +1,56 @@
+"""The files that a page is about."""
+
+from __future__ import annotations
+
+import os
+from collections.abc import Sequence
+from typing import NamedTuple
+
+from mpslp import _mpslp
+from mpslp._arrays import Arrays
+from mpslp._models import Model, model_of
+from mpslp._report._contents import Contents, contents_of
+from mpslp._report._declared import Declared, declared_by
+from mpslp._report._markup import path_text
+from mpslp._sources import Path, Text, naming, read
+
+
+class Subject(NamedTuple):
+    """A file, and what is known of it."""
+
+    label: str
+    """What the file is called on the page."""
+    path: str
+    """The whole path as text."""
+    text: Text
+    model: Model
+    digest: str
+    arrays: Arrays
+    contents: Contents
+    declared: Declared
+
+
+def subjects_of(paths: Sequence[Path]) -> list[Subject]:
+    """Reads files; raises ModelFileError, ValueError or OSError as ``mpslp.load`` does."""
+    return [_subject(path, label) for path, label in zip(paths, _labels(paths))]
+
+
+def _subject(path: Path, label: str) -> Subject:
+    import hashlib  # as in mpslp._models
+
+    text = read(path, None)
+    with naming(text):
+        model = model_of(_mpslp.load(text.content, text.format))
+        digest = hashlib.sha256(_mpslp.canonical(text.content, text.format, _mpslp.MPS)).hexdigest()
+    arrays = model.arrays()
+    return Subject(label, path_text(path), text, model, digest, arrays, contents_of(model, arrays), declared_by(text, model.objective))
+
+
+def _labels(paths: Sequence[Path]) -> Sequence[str]:
+    """The last parts of the paths if they differ, else the paths, and if these are equal too, which file it is."""
+    whole = [path_text(path) for path in paths]
+    last = [os.path.basename(path) for path in whole]
+    for labels in (last, whole):
+        if len(set(labels)) == len(labels):
+            return labels
+    return ("the first file", "the second file")
