@@ -11,6 +11,7 @@ import mpslp
 from mpslp._report import _sections
 from mpslp._report._differences import differences
 from mpslp._report._markup import Markup, element, joined, link, section
+from mpslp._report._sections import HEADINGS
 from mpslp._report._style import STYLE
 from mpslp._report._subjects import Subject, subjects_of
 from mpslp._sources import Path
@@ -33,13 +34,13 @@ def page(paths: Sequence[Path], *, digits: int | None = None, by_position: bool 
         raise ValueError(f"a page is about one file or two, not {len(paths)}")
     subjects = subjects_of(paths)
     sections = {
-        "counts": ("Counts", _sections.counts(subjects)),
-        "magnitudes": ("Magnitudes", _sections.magnitudes(subjects)),
-        "picture": ("Picture of the nonzeros", _sections.pictures(subjects)),
-        "defaults": ("Defaults and rules of the format", _sections.defaults(subjects)),
+        "counts": _sections.counts(subjects),
+        "magnitudes": _sections.magnitudes(subjects),
+        "picture": _sections.pictures(subjects),
+        "defaults": _sections.defaults(subjects),
     }
     if len(subjects) == 2:
-        sections = {"differences": ("Differences", differences(*subjects, digits, by_position)), **sections}
+        sections = {"differences": differences(*subjects, digits, by_position), **sections}
     title = " and ".join(subject.label for subject in subjects)
     head = element(
         "head",
@@ -54,9 +55,9 @@ def page(paths: Sequence[Path], *, digits: int | None = None, by_position: bool 
         joined(
             (
                 element("header", element("h1", title), element("p", *_summary(subjects), class_="soft"), _sections.remark_list(subjects)),
-                element("nav", element("ul", *(element("li", link(name, heading)) for name, (heading, _) in sections.items())), aria_label="Sections"),
-                element("main", joined((section(name, heading, content) for name, (heading, content) in sections.items()), "\n")),
-                element("footer", element("p", f"mpslp {mpslp.__version__}. All numbers are exactly those of the files.")),
+                element("nav", element("ul", *(element("li", link(name, HEADINGS[name])) for name in sections)), aria_label="Sections"),
+                element("main", joined((section(name, HEADINGS[name], content) for name, content in sections.items()), "\n")),
+                element("footer", element("p", f"mpslp {mpslp.__version__}. Numbers are exact; ratios and shares are rounded.")),
             ),
             "\n",
         ),
@@ -74,7 +75,8 @@ def _summary(subjects: Sequence[Subject]) -> list[str]:
         start = f"{subject.label}: " if len(subjects) > 1 else ""
         rows, columns, nonzeros = (_many(count, word) for count, word in (
             (len(model.rows), "row"), (len(model.columns), "column"), (contents.coefficients.count, "nonzero")))
-        sentences.append(f"{start}{model.sense} {model.objective} over {columns}{integer}, in {rows} with {nonzeros}. ")
+        verb = model.sense if start else model.sense.capitalize()
+        sentences.append(f"{start}{verb} {model.objective} over {columns}{integer}, in {rows} with {nonzeros}. ")
     return sentences
 
 

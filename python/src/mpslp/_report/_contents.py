@@ -89,6 +89,8 @@ class Contents:
     negative_upper: list[str] = field(default_factory=list)
     unused: list[str] = field(default_factory=list)
     """The columns without any coefficient."""
+    only_costs: list[str] = field(default_factory=list)
+    """The columns that have a coefficient in the objective, and in no row."""
     coefficients: Magnitudes = field(default_factory=lambda: Magnitudes("coefficients"))
     costs: Magnitudes = field(default_factory=lambda: Magnitudes("objective coefficients"))
     limits: Magnitudes = field(default_factory=lambda: Magnitudes("row limits (RHS)"))
@@ -164,8 +166,8 @@ def _count_column(contents: Contents, column: Column, length: int) -> None:
     if column.upper < 0:
         contents.negative_upper.append(column.name)
     contents.costs.add(column.cost, column.name)
-    if not length and not column.cost:
-        contents.unused.append(column.name)
+    if not length:
+        (contents.only_costs if column.cost else contents.unused).append(column.name)
 
 
 def _count_coefficients(magnitudes: Magnitudes, model: Model, arrays: Arrays) -> None:

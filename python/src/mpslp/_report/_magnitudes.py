@@ -28,31 +28,32 @@ def histogram(caption: str, all_magnitudes: Sequence[Magnitudes]) -> Markup:
     powers = sorted({power for magnitudes in all_magnitudes for power in magnitudes.powers}, reverse=True)
     most = [max(magnitudes.powers.values(), default=1) for magnitudes in all_magnitudes]
     rows = []
-    for power in _with_gaps(powers):
-        if power is None:
-            rows.append([markup("…"), *(Markup() for _ in all_magnitudes)])
-        else:
-            rows.append([markup(f"1e{power}"), *(_bar(magnitudes.powers[power], top) for magnitudes, top in zip(all_magnitudes, most))])
-    rows.append([markup("zero"), *(_bar(magnitudes.zeros, 0) for magnitudes in all_magnitudes)])
-    return table(caption, ["power of ten", *(magnitudes.what for magnitudes in all_magnitudes)], rows, class_="histogram")
+    for first, last in _lines(powers):
+        what = f"1e{first}" if first == last else f"1e{first} to 1e{last}"
+        rows.append([markup(what), *(_bar(magnitudes.powers[first], top) for magnitudes, top in zip(all_magnitudes, most))])
+    zeros = [markup("zero"), *(_bar(magnitudes.zeros, 0) for magnitudes in all_magnitudes)]
+    return table(caption, ["power of ten", *(magnitudes.what for magnitudes in all_magnitudes)], rows, zeros, class_="histogram")
 
 
-def _with_gaps(powers: Sequence[int]) -> Iterator[int | None]:
-    """The powers of ten from the largest to the smallest, and None for each long run without numbers."""
+def _lines(powers: Sequence[int]) -> Iterator[tuple[int, int]]:
+    """The powers of ten from the largest to the smallest, each once, but a long run of those without numbers in one line."""
     before: int | None = None
     for power in powers:
-        if before is not None:
-            missing = range(before - 1, power, -1)
-            yield from missing if len(missing) <= _MOST_EMPTY else [None]
-        yield power
+        missing = range(power if before is None else before - 1, power, -1)
+        if len(missing) > _MOST_EMPTY:
+            yield missing[0], missing[-1]
+        else:
+            yield from zip(missing, missing)
+        yield power, power
         before = power
 
 
 def _bar(count: int, most: int) -> Markup:
-    """A count, and a bar for its share of the greatest count; nothing for 0."""
+    """A count, and a bar for its share of the greatest count, if that is not 0."""
     if not count:
         return Markup()
-    return joined((count, element("span", class_="bar", style=f"width:{max(1, round(100 * count / most))}%"))) if most else markup(count)
+    bar = element("span", class_="bar", style=f"width:{max(1, round(100 * count / most))}%") if most else Markup()
+    return joined((count, element("span", bar, class_="track")))
 
 
 def extremes(caption: str, all_magnitudes: Sequence[Magnitudes]) -> Markup:

@@ -64,27 +64,40 @@ def names(found: Sequence[str], count: int | None = None) -> Markup:
 
 
 def table(
-    caption: Content, head: Sequence[Content], rows: Iterable[Sequence[Content]], words: Sequence[int] = (), class_: str = "plain"
+    caption: Content,
+    head: Sequence[Content],
+    rows: Iterable[Sequence[Content]],
+    total: Sequence[Content] = (),
+    words: Sequence[int] = (),
+    class_: str = "plain",
 ) -> Markup:
-    """A table whose first column heads its rows. Numbers are on the right; ``words`` are the columns that have words."""
+    """A table whose first column heads its rows, with a row of totals if there is one.
+
+    Numbers are on the right; ``words`` are the columns that have words.
+    """
     left = {0, *words}
 
     def cell(place: int, content: Content) -> Markup:
         if place == 0:
             return element("th", content, scope="row")
-        return element("td", content) if place in left else element("td", content, class_="number")
+        if place in left:
+            return element("td", content)
+        return element("td", content, class_="number" if content != 0 else "number zero")
 
     def heading(place: int, content: Content) -> Markup:
         return element("th", content, scope="col") if place in left else element("th", content, scope="col", class_="number")
 
-    lines = [element("tr", *(cell(place, content) for place, content in enumerate(row))) for row in rows]
+    def line(row: Sequence[Content]) -> Markup:
+        return element("tr", *(cell(place, content) for place, content in enumerate(row)))
+
     return element(
         "div",
         element(
             "table",
             element("caption", caption),
             element("thead", element("tr", *(heading(place, content) for place, content in enumerate(head)))),
-            element("tbody", joined(lines, "\n")),
+            element("tbody", joined(map(line, rows), "\n")),
+            element("tfoot", line(total)) if total else Markup(),
             class_=class_,
         ),
         class_="wide",

@@ -11,6 +11,7 @@ from math import ceil, log
 from typing import NamedTuple
 
 from mpslp._arrays import Arrays
+from mpslp._positions import Names
 from mpslp._report._markup import Markup, element, joined
 
 MOST_LABELLED = 40
@@ -30,6 +31,31 @@ _SHADES = 16
 _PALEST, _DARKEST = 96, 255
 
 
+class Matrix(NamedTuple):
+    """The nonzeros of a model, with rows and columns in the order of its file."""
+
+    arrays: Arrays
+    rows: Sequence[str]
+    columns: Sequence[str]
+    row_places: list[int]
+    """The place in that order of each row, by its number in the arrays."""
+    column_numbers: list[int]
+    """The number in the arrays of each column in that order."""
+
+    def nonzeros(self, place: int) -> slice:
+        """Where the arrays have the nonzeros of the column at a place."""
+        number = self.column_numbers[place]
+        return slice(self.arrays.indptr[number], self.arrays.indptr[number + 1])
+
+
+def matrix_of(arrays: Arrays, order: Names) -> Matrix:
+    """The matrix of a model, whose names are given in the order of its file."""
+    places = {name: place for place, name in enumerate(order.rows)}
+    numbers = {name: number for number, name in enumerate(arrays.column_names or ())}
+    row_places = [places[name] for name in arrays.row_names or ()]
+    return Matrix(arrays, order.rows, order.columns, row_places, [numbers[name] for name in order.columns])
+
+
 class Cells(NamedTuple):
     """The places of a matrix as a grid of cells, each with the number of its nonzeros."""
 
@@ -43,13 +69,11 @@ class Cells(NamedTuple):
         return max((count for counts in self.counts for count in counts.values()), default=0)
 
 
-def picture(arrays: Arrays, title: str, number: int) -> Markup:
-    """The figure of a model with rows; ``number`` tells the figures of a page apart."""
-    rows, columns = arrays.row_names or (), arrays.column_names or ()
-    if max(len(rows), len(columns)) <= MOST_LABELLED:
-        drawing, caption = _labelled(arrays, rows, columns)
-    else:
-        drawing, caption = _sampled(arrays, len(rows), len(columns))
+def picture(matrix: Matrix, title: str, number: int) -> Markup:
+    """The figure of a matrix with rows; no other figure of a page has the same number."""
+    is_small = max(len(matrix.rows), len(matrix.columns)) <= MOST_LABELLED
+    drawing, meaning = _labelled(matrix) if is_small else _sampled(matrix)
+    caption = f"{meaning} Rows and columns are in the order of the file."
     name = f"picture-{number}"
     head = joined((element("title", title, id=f"{name}-title"), element("desc", caption, id=f"{name}-text")))
     svg = element(
@@ -71,7 +95,8 @@ class _Drawing(NamedTuple):
     content: Markup
 
 
-def _labelled(arrays: Arrays, rows: Sequence[str], columns: Sequence[str]) -> tuple[_Drawing, str]:
+def _labelled(matrix: Matrix) -> tuple[_Drawing, str]:
+    rows, columns = matrix.rows, matrix.columns
     left, top = (8 + _FONT_WIDTH * max(len(_short(name)) for name in names) for names in (rows, columns))
     width, height = left + _CELL * len(columns), top + _CELL * len(rows)
     content = joined(
@@ -79,20 +104,21 @@ def _labelled(arrays: Arrays, rows: Sequence[str], columns: Sequence[str]) -> tu
             *(_text(_short(name), left - 5, top + _CELL * i + 13, text_anchor="end") for i, name in enumerate(rows)),
             *(_upright(_short(name), left + _CELL * j + 13, top - 5) for j, name in enumerate(columns)),
             _frame(left, top, _CELL * len(columns), _CELL * len(rows)),
-            *_squares(arrays, rows, columns, left, top),
+            *_squares(matrix, left, top),
         ),
         "\n",
     )
-    return _Drawing(width + 1, height + 1, content), "Each square is a nonzero; a hollow one is negative. Rows and columns are in byte order of their names."
+    return _Drawing(width + 1, height + 1, content), "Each square is a nonzero; a hollow one is negative."
 
 
-def _squares(arrays: Arrays, rows: Sequence[str], columns: Sequence[str], left: float, top: float) -> Iterator[Markup]:
-    for j, column in enumerate(columns):
-        for k in range(arrays.indptr[j], arrays.indptr[j + 1]):
-            i, value = arrays.indices[k], float(arrays.data[k])
+def _squares(matrix: Matrix, left: float, top: float) -> Iterator[Markup]:
+    for j, column in enumerate(matrix.columns):
+        nonzeros = matrix.nonzeros(j)
+        for row, value in zip(matrix.arrays.indices[nonzeros], matrix.arrays.data[nonzeros]):
+            i = matrix.row_places[row]
             yield element(
                 "rect",
-                element("title", f"{rows[i]}, {column}: {value:g}"),
+                element("title", f"{matrix.rows[i]}, {column}: {value:g}"),
                 x=f"{left + _CELL * j + 3.5:.1f}",
                 y=f"{top + _CELL * i + 3.5:.1f}",
                 width=f"{_CELL - 7}",
@@ -101,10 +127,11 @@ def _squares(arrays: Arrays, rows: Sequence[str], columns: Sequence[str], left: 
             )
 
 
-def _sampled(arrays: Arrays, rows: int, columns: int) -> tuple[_Drawing, str]:
+def _sampled(matrix: Matrix) -> tuple[_Drawing, str]:
+    rows, columns = len(matrix.rows), len(matrix.columns)
     ratio = min(max(columns / rows, 1 / _MOST_HIGH), _MOST_WIDE)
     width, height = (_LONGEST_SIDE, round(_LONGEST_SIDE / ratio)) if ratio >= 1 else (round(_LONGEST_SIDE * ratio), _LONGEST_SIDE)
-    cells = cells_of(arrays, rows, columns, min(columns, width), min(rows, height))
+    cells = cells_of(matrix, min(columns, width), min(rows, height))
     image = element(
         "image",
         href=f"data:image/png;base64,{b64encode(png(cells)).decode()}",
@@ -128,20 +155,21 @@ def _sampled(arrays: Arrays, rows: int, columns: int) -> tuple[_Drawing, str]:
 
 
 def _sampled_caption(cells: Cells, rows: int, columns: int) -> str:
-    order = "Rows and columns are in byte order of their names."
     if (cells.width, cells.height) == (columns, rows):
-        return f"Each point is a nonzero. {order}"
+        return "Each point is a nonzero."
     across, down = ceil(columns / cells.width), ceil(rows / cells.height)
     sizes = f"up to {down:,} {'row' if down == 1 else 'rows'} and {across:,} {'column' if across == 1 else 'columns'}"
-    return f"Each point is the nonzeros of {sizes}: the palest is of 1 nonzero, the darkest of {cells.most:,}. {order}"
+    return f"Each point is the nonzeros of {sizes}: the palest has 1 nonzero, the darkest {cells.most:,}."
 
 
-def cells_of(arrays: Arrays, rows: int, columns: int, width: int, height: int) -> Cells:
-    """Counts the nonzeros in a grid of so many cells; these hold as many rows and columns each as can be."""
-    cell_of_row = [i * height // rows for i in range(rows)]
-    indices, starts = memoryview(arrays.indices), memoryview(arrays.indptr)
-    firsts = [-(-x * columns // width) for x in range(width + 1)]
-    counts = [Counter(map(cell_of_row.__getitem__, indices[starts[first] : starts[after]])) for first, after in zip(firsts, firsts[1:])]
+def cells_of(matrix: Matrix, width: int, height: int) -> Cells:
+    """Counts the nonzeros in a grid of so many cells, all of which hold the same part of the rows and columns."""
+    rows, columns = len(matrix.rows), len(matrix.columns)
+    cell_of_row = [place * height // rows for place in matrix.row_places]
+    indices = memoryview(matrix.arrays.indices)
+    counts: list[Counter[int]] = [Counter() for _ in range(width)]
+    for place in range(columns):
+        counts[place * width // columns].update(map(cell_of_row.__getitem__, indices[matrix.nonzeros(place)]))
     return Cells(width, height, counts)
 
 

@@ -58,7 +58,7 @@ def rules_of(declared: Declared, model: Model, contents: Contents) -> list[Rule]
 
 def _of_mps(declared: Declared, model: Model) -> Iterator[Rule]:
     if declared.sense_in_comment:
-        effect = f"ignored, as every comment: the model is to {model.sense}"
+        effect = f"ignored, as every comment; the sense is {model.sense}"
         yield Rule(f"the comment *SENSE:{declared.sense_in_comment}", None, effect, is_remark=not declared.has_sense)
     if not declared.has_sense:
         yield Rule("no OBJSENSE", None, "minimize")

@@ -7,13 +7,23 @@ from typing import NamedTuple
 
 from mpslp import _mpslp
 from mpslp._numbers import number_text
+from mpslp._positions import names_by_position
 from mpslp._report._contents import COLUMN_BOUNDS, COLUMN_KINDS, ROW_KINDS
 from mpslp._report._magnitudes import extremes, histogram
 from mpslp._report._magnitudes import remarks as remarks_on_magnitudes
 from mpslp._report._markup import Content, Markup, code, element, joined, link, markup, names, table
-from mpslp._report._picture import picture
+from mpslp._report._picture import matrix_of, picture
 from mpslp._report._rules import given_bounds, rules_of
 from mpslp._report._subjects import Subject
+
+HEADINGS = {
+    "differences": "Differences",
+    "counts": "Counts",
+    "magnitudes": "Magnitudes",
+    "picture": "Picture of the nonzeros",
+    "defaults": "Defaults and rules of the format",
+}
+"""The headings of the sections by their names."""
 
 _FORMATS = {_mpslp.MPS: "MPS", _mpslp.LP: "LP"}
 
@@ -32,9 +42,12 @@ def remarks(subject: Subject) -> Iterator[Remark]:
     contents = subject.contents
     if not subject.model.rows:
         yield Remark("counts", markup("The model has no rows."))
-    for what, lengths in (("Rows", contents.row_lengths), ("Columns", contents.column_lengths)):
-        if lengths is not None and lengths.empty and subject.model.rows:
-            yield Remark("counts", joined((f"{what} without a nonzero ({len(lengths.empty):,}): ", names(lengths.empty), ".")))
+    elif contents.row_lengths is not None and contents.row_lengths.empty:
+        empty = contents.row_lengths.empty
+        yield Remark("counts", joined((f"Rows without a nonzero ({len(empty):,}): ", names(empty), ".")))
+    if subject.model.rows and contents.only_costs:
+        found = contents.only_costs
+        yield Remark("counts", joined((f"Columns that are only in the objective ({len(found):,}): ", names(found), ".")))
     for remark in remarks_on_magnitudes(*contents.magnitudes):
         yield Remark("magnitudes", remark)
     for rule in rules_of(subject.declared, subject.model, contents):
@@ -48,7 +61,7 @@ def remark_list(subjects: Sequence[Subject]) -> Markup:
     lines = []
     for subject in subjects:
         prefix = joined((element("b", subject.label), ": ")) if len(subjects) > 1 else Markup()
-        lines += [element("li", prefix, remark.what, " ", link(remark.section, "more")) for remark in remarks(subject)]
+        lines += [element("li", prefix, remark.what, " ", link(remark.section, HEADINGS[remark.section]), ".") for remark in remarks(subject)]
     return element("ul", *lines, class_="remarks") if lines else Markup()
 
 
@@ -57,9 +70,13 @@ def counts(subjects: Sequence[Subject]) -> Markup:
     return joined(
         (
             _compared("The model", "property", subjects, _facts, is_words=True),
-            _compared("Rows by kind", "rows", subjects, _row_kinds),
-            _each(subjects, _column_kinds),
-            _each(subjects, _lengths),
+            element(
+                "div",
+                _compared("Rows by kind", "rows", subjects, _row_kinds, has_total=True),
+                *(_column_kinds(subjects, subject) for subject in subjects),
+                *(_lengths(subjects, subject) for subject in subjects),
+                class_="flow",
+            ),
         ),
         "\n",
     )
@@ -82,7 +99,7 @@ def magnitudes(subjects: Sequence[Subject]) -> Markup:
 
 def pictures(subjects: Sequence[Subject]) -> Markup:
     """Where the nonzeros are."""
-    return element("div", *(_picture(subject, number) for number, subject in enumerate(subjects, 1)), class_="pair")
+    return element("div", *(_picture(subject, number) for number, subject in enumerate(subjects, 1)), class_="flow")
 
 
 def defaults(subjects: Sequence[Subject]) -> Markup:
@@ -117,8 +134,8 @@ def _column_kinds(subjects: Sequence[Subject], subject: Subject) -> Markup:
         if any(found):
             lines.append([bounds, *found, sum(found)])
     totals = [sum(count for (_, each), count in columns.items() if each == kind) for kind in COLUMN_KINDS]
-    lines.append(["all columns", *totals, sum(totals)])
-    return table(_caption("Columns by bounds and type", subjects, subject), ["bounds", *COLUMN_KINDS, "all"], lines)
+    total = ["all columns", *totals, sum(totals)]
+    return table(_caption("Columns by bounds and type", subjects, subject), ["bounds", *COLUMN_KINDS, "all"], lines, total)
 
 
 def _lengths(subjects: Sequence[Subject], subject: Subject) -> Markup:
@@ -143,7 +160,7 @@ def _picture(subject: Subject, number: int) -> Markup:
     if not rows:
         return element("p", f"{subject.label} has no rows, so there is no picture.")
     title = f"Nonzeros of {subject.label}: {rows:,} rows, {columns:,} columns, {counted:,} nonzeros"
-    return picture(subject.arrays, title, number)
+    return picture(matrix_of(subject.arrays, names_by_position(subject.text, subject.model)), title, number)
 
 
 def _given_bounds(subjects: Sequence[Subject], subject: Subject) -> Markup:
@@ -158,13 +175,15 @@ def _rules(subjects: Sequence[Subject], subject: Subject) -> Markup:
     return table(_caption("Rules that apply to the file", subjects, subject), ["in the file", "count", "in the model"], lines, words=(2,))
 
 
-def _each(subjects: Sequence[Subject], made: Callable[[Sequence[Subject], Subject], Markup]) -> Markup:
-    """A table for each file, side by side if there is room."""
-    return element("div", *(made(subjects, subject) for subject in subjects), class_="pair")
-
-
-def _compared(caption: str, what: str, subjects: Sequence[Subject], lines_of: Callable[[Subject], Lines], is_words: bool = False) -> Markup:
-    """A table with a column for each file, and of two files one that says where they differ."""
+def _compared(
+    caption: str,
+    what: str,
+    subjects: Sequence[Subject],
+    lines_of: Callable[[Subject], Lines],
+    is_words: bool = False,
+    has_total: bool = False,
+) -> Markup:
+    """A table with a column for each file, and of two files one that says where they differ. The last line may be a total."""
     lines: list[list[Content]] = []
     for cells in zip(*map(lines_of, subjects)):
         values = [value for _, value in cells]
@@ -172,7 +191,8 @@ def _compared(caption: str, what: str, subjects: Sequence[Subject], lines_of: Ca
         lines.append([cells[0][0], *values, *differs])
     head = [what, *(subject.label for subject in subjects), *(["comparison"] if len(subjects) > 1 else [])]
     last = len(subjects) + 1
-    return table(caption, head, lines, words=range(1, last + 1) if is_words else (last,))
+    total = lines.pop() if has_total else ()
+    return table(caption, head, lines, total, words=range(1, last + 1) if is_words else (last,))
 
 
 def _caption(words: str, subjects: Sequence[Subject], subject: Subject) -> str:

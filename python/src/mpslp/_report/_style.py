@@ -24,12 +24,14 @@ th, td { padding: .25rem .75rem; border-bottom: 1px solid var(--line); text-alig
 thead th { color: var(--soft); font-size: .8125rem; vertical-align: bottom; border-bottom-color: var(--soft); }
 th:first-child, td:first-child { padding-left: 0; }
 .number { text-align: right; font-variant-numeric: tabular-nums; white-space: nowrap; }
-.histogram td { min-width: 8.5rem; }
-.bar { display: block; height: .3rem; margin: .1rem 0 .1rem auto; min-width: 2px; background: var(--mark);
-  -webkit-print-color-adjust: exact; print-color-adjust: exact; }
-.differs { font-weight: 650; }
+.zero { color: var(--soft); }
+tfoot th, tfoot td { border-top: 1px solid var(--soft); border-bottom: 0; font-weight: 600; }
+.histogram th.number { padding-right: 7.25rem; white-space: normal; }
+.track { display: inline-block; width: 6rem; margin-left: .5rem; text-align: left; }
+.bar { display: inline-block; height: .65rem; min-width: 2px; background: var(--mark); -webkit-print-color-adjust: exact; print-color-adjust: exact; }
 .remarks { padding: .75rem 1rem .75rem 2rem; border-left: .25rem solid var(--note); background: var(--band); }
-.pair { display: grid; grid-template-columns: repeat(auto-fit, minmax(min(30rem, 100%), 1fr)); gap: 0 2.5rem; align-items: start; }
+.flow { display: flex; flex-wrap: wrap; gap: 0 2.5rem; align-items: flex-start; }
+.flow > * { max-width: 100%; }
 figure { margin: 1rem 0; }
 svg { display: block; max-width: 100%; height: auto; }
 svg text { fill: var(--soft); font: 11px ui-monospace, "Liberation Mono", Menlo, Consolas, monospace; }
