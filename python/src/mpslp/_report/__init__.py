@@ -13,7 +13,7 @@ from mpslp._report._differences import differences
 from mpslp._report._markup import Markup, element, joined, link, section
 from mpslp._report._sections import HEADINGS
 from mpslp._report._style import STYLE
-from mpslp._report._subjects import Subject, subjects_of
+from mpslp._report._subjects import subjects_of
 from mpslp._sources import Path
 
 __all__ = ["page"]
@@ -34,13 +34,14 @@ def page(paths: Sequence[Path], *, digits: int | None = None, by_position: bool 
         raise ValueError(f"a page is about one file or two, not {len(paths)}")
     subjects = subjects_of(paths)
     sections = {
+        "remarks": _sections.remark_list(subjects),
         "counts": _sections.counts(subjects),
         "magnitudes": _sections.magnitudes(subjects),
         "picture": _sections.pictures(subjects),
         "defaults": _sections.defaults(subjects),
     }
     if len(subjects) == 2:
-        sections = {"differences": differences(*subjects, digits, by_position), **sections}
+        sections = {"differences": differences(subjects[0], subjects[1], digits, by_position), **sections}
     title = " and ".join(subject.label for subject in subjects)
     head = element(
         "head",
@@ -54,7 +55,7 @@ def page(paths: Sequence[Path], *, digits: int | None = None, by_position: bool 
         "body",
         joined(
             (
-                element("header", element("h1", title), element("p", *_summary(subjects), class_="soft"), _sections.remark_list(subjects)),
+                element("header", element("h1", title), *map(_sections.summary, subjects)),
                 element("nav", element("ul", *(element("li", link(name, HEADINGS[name])) for name in sections)), aria_label="Sections"),
                 element("main", joined((section(name, HEADINGS[name], content) for name, content in sections.items()), "\n")),
                 element("footer", element("p", f"mpslp {mpslp.__version__}. Numbers are exact; ratios and shares are rounded.")),
@@ -63,22 +64,3 @@ def page(paths: Sequence[Path], *, digits: int | None = None, by_position: bool 
         ),
     )
     return f'<!DOCTYPE html>\n<html lang="en">\n{head}\n{body}\n</html>\n'
-
-
-def _summary(subjects: Sequence[Subject]) -> list[str]:
-    """A sentence for each file."""
-    sentences = []
-    for subject in subjects:
-        model, contents = subject.model, subject.contents
-        whole = sum(count for (_, kind), count in contents.columns.items() if kind == "integer")
-        integer = f", {whole:,} of them integer" if whole else ""
-        start = f"{subject.label}: " if len(subjects) > 1 else ""
-        rows, columns, nonzeros = (_many(count, word) for count, word in (
-            (len(model.rows), "row"), (len(model.columns), "column"), (contents.coefficients.count, "nonzero")))
-        verb = model.sense if start else model.sense.capitalize()
-        sentences.append(f"{start}{verb} {model.objective} over {columns}{integer}, in {rows} with {nonzeros}. ")
-    return sentences
-
-
-def _many(count: int, word: str) -> str:
-    return f"{count:,} {word if count == 1 else word + 's'}"

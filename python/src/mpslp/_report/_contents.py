@@ -6,6 +6,7 @@ the ends of the range of doubles are looked at exactly too.
 
 from __future__ import annotations
 
+from array import array
 from bisect import bisect_right
 from collections import Counter
 from collections.abc import Iterable
@@ -127,7 +128,7 @@ def column_bounds(column: Column) -> str:
         return "upper bound only" if upper.is_finite() else "free"
     if upper == INFINITY:
         return "lower bound only" if lower else "0 to infinity"
-    return "0 to 1" if (lower, upper) == (0, 1) else "lower and upper bound"
+    return "0 to 1" if lower == 0 and upper == 1 else "lower and upper bound"
 
 
 def contents_of(model: Model, arrays: Arrays) -> Contents:
@@ -171,20 +172,23 @@ def _count_column(contents: Contents, column: Column, length: int) -> None:
 
 
 def _count_coefficients(magnitudes: Magnitudes, model: Model, arrays: Arrays) -> None:
-    values = memoryview(arrays.data)
-    places = Counter(map(partial(bisect_right, _POWERS), map(abs, values)))
+    sizes = array("d", map(float.__abs__, memoryview(arrays.data)))
+    places = Counter(map(partial(bisect_right, _POWERS), sizes))
     beyond = places.pop(0, 0) + places.pop(len(_POWERS), 0)
     for place, count in places.items():
         magnitudes.powers[_LEAST_POWER + place - 1] += count
     if beyond:
-        for k, value in enumerate(values):
-            if not _POWERS[0] <= abs(value) < _POWERS[-1]:
+        for k, size in enumerate(sizes):
+            if not _is_inside(size):
                 magnitudes.add(*_coefficient(model, arrays, k))
     if places:
-        inside = [value for value in map(abs, values) if _POWERS[0] <= value < _POWERS[-1]] if beyond else list(map(abs, values))
+        inside = array("d", filter(_is_inside, sizes)) if beyond else sizes
         for extreme in (min(inside), max(inside)):
-            k = next(k for k, value in enumerate(values) if abs(value) == extreme)
-            magnitudes.note(*_coefficient(model, arrays, k))
+            magnitudes.note(*_coefficient(model, arrays, sizes.index(extreme)))
+
+
+def _is_inside(size: float) -> bool:
+    return _POWERS[0] <= size < _POWERS[-1]
 
 
 def _coefficient(model: Model, arrays: Arrays, k: int) -> tuple[Decimal, str, str]:

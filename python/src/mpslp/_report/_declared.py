@@ -72,7 +72,7 @@ class Declared:
 
 def declared_by(text: Text, objective: str) -> Declared:
     """What a text says; ``objective`` is the name of the objective of its model."""
-    reader = _Mps(objective) if text.format == _mpslp.MPS else _Lp()
+    reader: _Mps | _Lp = _Mps(objective) if text.format == _mpslp.MPS else _Lp()
     reader.read(text.content)
     return reader.declared
 

@@ -9,7 +9,7 @@ import mpslp
 from mpslp import _mpslp
 from mpslp._report._markup import Markup, code, element, joined, table
 from mpslp._report._subjects import Subject
-from mpslp._sources import Format, Text
+from mpslp._sources import Format
 
 _MOST_SHOWN = 200
 _FORMATS: dict[int, Format] = {_mpslp.MPS: "mps", _mpslp.LP: "lp"}
@@ -55,15 +55,9 @@ def _found(first: Subject, second: Subject, digits: int | None, by_position: boo
     if not by_position:
         return mpslp.diff(first.model, second.model, digits=digits)
     # Positions are those of the texts.
-    return mpslp.diff(*map(_source, (first.text, second.text)), *map(_format, (first.text, second.text)), digits=digits, by_position=True)
-
-
-def _source(text: Text) -> bytes:
-    return text.content
-
-
-def _format(text: Text) -> Format:
-    return _FORMATS[text.format]
+    texts = first.text, second.text
+    formats = [_FORMATS[text.format] for text in texts]
+    return mpslp.diff(texts[0].content, texts[1].content, formats[0], formats[1], digits=digits, by_position=True)
 
 
 def _compared(digits: int | None, by_position: bool) -> str:

@@ -62,14 +62,19 @@ def extremes(caption: str, all_magnitudes: Sequence[Magnitudes]) -> Markup:
     for magnitudes in all_magnitudes:
         cells = [Markup()] * 5
         if magnitudes.smallest is not None and magnitudes.largest is not None:
-            ratio = f"{_ratio(magnitudes.smallest, magnitudes.largest):.1e}".replace("e+", "e")
-            cells = [*_cells(magnitudes.smallest), *_cells(magnitudes.largest), markup(ratio)]
+            ratio = _ratio(magnitudes.smallest, magnitudes.largest)
+            cells = [*_cells(magnitudes.smallest), *_cells(magnitudes.largest), markup(_rounded(ratio))]
         rows.append([markup(magnitudes.what), markup(magnitudes.count), *cells])
     return table(caption, ["numbers", "nonzero", "smallest", "where", "largest", "where", "ratio"], rows, words=(3, 5))
 
 
 def _cells(extreme: Extreme) -> tuple[Markup, Markup]:
     return code(number_text(extreme.number)), joined(map(code, extreme.where), ", ")
+
+
+def _rounded(number: Decimal) -> str:
+    """A positive number with two digits or three."""
+    return f"{number:.3g}" if Decimal("0.01") <= number < 1000 else f"{number:.1e}".replace(".0e", "e").replace("e+", "e")
 
 
 def _ratio(smallest: Extreme, largest: Extreme) -> Decimal:
@@ -104,15 +109,10 @@ def _of_range(magnitudes: Magnitudes) -> Iterator[Markup]:
         return
     ratio = _ratio(magnitudes.smallest, magnitudes.largest)
     if ratio > _WIDE:
-        smallest, largest = (code(number_text(each.number.copy_abs())) for each in (magnitudes.smallest, magnitudes.largest))
-        yield joined(
-            (
-                f"{_title(magnitudes)}: the range is {'very wide' if ratio > _VERY_WIDE else 'wide'}, from ",
-                smallest,
-                " to ",
-                largest,
-                ". Guides of solvers advise a ratio of at most 1e6, or 1e9 at the utmost. Other units for rows or columns reduce it.",
-            )
+        smallest, largest = (_rounded(each.number.copy_abs()) for each in (magnitudes.smallest, magnitudes.largest))
+        yield markup(
+            f"{_title(magnitudes)}: the range is {'very wide' if ratio > _VERY_WIDE else 'wide'}, from {smallest} to {largest}."
+            " Guides of solvers advise a ratio of at most 1e6, or 1e9 at the utmost. Other units for rows or columns reduce it."
         )
 
 

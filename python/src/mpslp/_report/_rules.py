@@ -18,7 +18,8 @@ class Rule(NamedTuple):
 
     what: Content
     """What is in the file, or not in it."""
-    count: int | None
+    number: int | None
+    """How often it is there, if that may be more than once."""
     effect: Content
     """What the model is by this rule."""
     is_remark: bool = False

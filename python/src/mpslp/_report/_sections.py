@@ -8,7 +8,7 @@ from typing import NamedTuple
 from mpslp import _mpslp
 from mpslp._numbers import number_text
 from mpslp._positions import names_by_position
-from mpslp._report._contents import COLUMN_BOUNDS, COLUMN_KINDS, ROW_KINDS
+from mpslp._report._contents import COLUMN_BOUNDS, COLUMN_KINDS, ROW_KINDS, Lengths
 from mpslp._report._magnitudes import extremes, histogram
 from mpslp._report._magnitudes import remarks as remarks_on_magnitudes
 from mpslp._report._markup import Content, Markup, code, element, joined, link, markup, names, table
@@ -18,10 +18,11 @@ from mpslp._report._subjects import Subject
 
 HEADINGS = {
     "differences": "Differences",
+    "remarks": "Remarks",
     "counts": "Counts",
     "magnitudes": "Magnitudes",
     "picture": "Picture of the nonzeros",
-    "defaults": "Defaults and rules of the format",
+    "defaults": "Defaults and rules",
 }
 """The headings of the sections by their names."""
 
@@ -52,34 +53,33 @@ def remarks(subject: Subject) -> Iterator[Remark]:
         yield Remark("magnitudes", remark)
     for rule in rules_of(subject.declared, subject.model, contents):
         if rule.is_remark:
-            count = "" if rule.count is None else f" ({rule.count:,})"
+            count = "" if rule.number is None else f" ({rule.number:,})"
             yield Remark("defaults", joined((_capital(rule.what), count, ": ", rule.effect, ".")))
 
 
 def remark_list(subjects: Sequence[Subject]) -> Markup:
-    """The remarks on all files as a list, or nothing if there are none."""
-    lines = []
+    """The remarks on all files as a list; those on both of two files once."""
+    labels: dict[Remark, list[str]] = {}
     for subject in subjects:
-        prefix = joined((element("b", subject.label), ": ")) if len(subjects) > 1 else Markup()
-        lines += [element("li", prefix, remark.what, " ", link(remark.section, HEADINGS[remark.section]), ".") for remark in remarks(subject)]
-    return element("ul", *lines, class_="remarks") if lines else Markup()
+        for remark in remarks(subject):
+            labels.setdefault(remark, []).append(subject.label)
+    if not labels:
+        return element("p", "There are none.")
+    lines = []
+    for remark, of in labels.items():
+        which = "both files" if len(of) > 1 else of[0]
+        prefix = joined((element("b", which), ": ")) if len(subjects) > 1 else Markup()
+        lines.append(element("li", prefix, remark.what, " ", link(remark.section, HEADINGS[remark.section]), "."))
+    return element("ul", *lines, class_="remarks")
 
 
 def counts(subjects: Sequence[Subject]) -> Markup:
     """How many rows, columns and nonzeros there are, and of which kinds."""
-    return joined(
-        (
-            _compared("The model", "property", subjects, _facts, is_words=True),
-            element(
-                "div",
-                _compared("Rows by kind", "rows", subjects, _row_kinds, has_total=True),
-                *(_column_kinds(subjects, subject) for subject in subjects),
-                *(_lengths(subjects, subject) for subject in subjects),
-                class_="flow",
-            ),
-        ),
-        "\n",
-    )
+    rows = _compared("Rows by kind", "rows", subjects, _row_kinds, has_total=True)
+    groups = [[_column_kinds(subjects, subject), _lengths(subjects, subject)] for subject in subjects]
+    groups[:1] = [[rows, *groups[0]]] if len(subjects) == 1 else [[rows], groups[0]]
+    facts = _compared("The model", "property", subjects, _facts, is_words=True)
+    return joined((facts, *(element("div", *group, class_="flow") for group in groups)), "\n")
 
 
 def magnitudes(subjects: Sequence[Subject]) -> Markup:
@@ -99,7 +99,7 @@ def magnitudes(subjects: Sequence[Subject]) -> Markup:
 
 def pictures(subjects: Sequence[Subject]) -> Markup:
     """Where the nonzeros are."""
-    return element("div", *(_picture(subject, number) for number, subject in enumerate(subjects, 1)), class_="flow")
+    return element("div", *(_picture(subject, number) for number, subject in enumerate(subjects, 1)), class_="flow pictures")
 
 
 def defaults(subjects: Sequence[Subject]) -> Markup:
@@ -107,17 +107,30 @@ def defaults(subjects: Sequence[Subject]) -> Markup:
     return joined((each for subject in subjects for each in (_given_bounds(subjects, subject), _rules(subjects, subject))), "\n")
 
 
+def summary(subject: Subject) -> Markup:
+    """A sentence about a file."""
+    model, contents = subject.model, subject.contents
+    whole = sum(count for (_, kind), count in contents.columns.items() if kind == "integer")
+    rows, columns, nonzeros = (
+        f"{count:,} {word if count == 1 else word + 's'}"
+        for count, word in ((len(model.rows), "row"), (len(model.columns), "column"), (contents.coefficients.count, "nonzero"))
+    )
+    columns += f", {whole:,} of them integer," if whole else ""
+    text = f" ({_FORMATS[subject.text.format]}, {len(subject.text.content):,} bytes): {model.sense} "
+    return element("p", code(subject.path), text, code(model.objective), f" over {columns} in {rows} with {nonzeros}.", class_="soft")
+
+
 def _facts(subject: Subject) -> Lines:
     model, counted = subject.model, subject.contents.coefficients.count
     places = len(model.rows) * len(model.columns)
     return (
-        ("file", joined((code(subject.path), f", {_FORMATS[subject.text.format]}, {len(subject.text.content):,} bytes of text"))),
         ("objective", joined((f"{model.sense} ", code(model.objective)))),
         ("constant of the objective", code(number_text(model.constant))),
         ("rows", len(model.rows)),
         ("columns", len(model.columns)),
-        ("nonzeros", joined((counted, f" ({100 * counted / places:.3g} % of all places)" if places else ""))),
-        ("digest", joined((code(subject.digest), element("span", " (SHA-256 of the canonical MPS text)", class_="soft")))),
+        ("nonzeros", counted),
+        ("share of all places", f"{100 * counted / places:.3g} %" if places else "no places"),
+        ("SHA-256 of the canonical MPS text", code(subject.digest)),
     )
 
 
@@ -134,14 +147,14 @@ def _column_kinds(subjects: Sequence[Subject], subject: Subject) -> Markup:
         if any(found):
             lines.append([bounds, *found, sum(found)])
     totals = [sum(count for (_, each), count in columns.items() if each == kind) for kind in COLUMN_KINDS]
-    total = ["all columns", *totals, sum(totals)]
+    total: list[Content] = ["all columns", *totals, sum(totals)]
     return table(_caption("Columns by bounds and type", subjects, subject), ["bounds", *COLUMN_KINDS, "all"], lines, total)
 
 
 def _lengths(subjects: Sequence[Subject], subject: Subject) -> Markup:
     both = (subject.contents.row_lengths, subject.contents.column_lengths)
 
-    def line(what: str, number: Callable[..., Content]) -> list[Content]:
+    def line(what: str, number: Callable[[Lengths], Content]) -> list[Content]:
         return [what, *(Markup() if lengths is None else number(lengths) for lengths in both)]
 
     lines = (
@@ -171,7 +184,7 @@ def _given_bounds(subjects: Sequence[Subject], subject: Subject) -> Markup:
 
 def _rules(subjects: Sequence[Subject], subject: Subject) -> Markup:
     rules = rules_of(subject.declared, subject.model, subject.contents)
-    lines = [(rule.what, Markup() if rule.count is None else rule.count, rule.effect) for rule in rules]
+    lines: list[list[Content]] = [[rule.what, Markup() if rule.number is None else rule.number, rule.effect] for rule in rules]
     return table(_caption("Rules that apply to the file", subjects, subject), ["in the file", "count", "in the model"], lines, words=(2,))
 
 

@@ -4,7 +4,7 @@ STYLE = """
 :root { color-scheme: light dark; --ink: #1b232c; --soft: #56626f; --line: #d3d9df; --paper: #fff; --band: #f4f6f8; --mark: #2f6fab; --note: #8a5a00; }
 @media screen and (prefers-color-scheme: dark) {
   :root { --ink: #e3e7eb; --soft: #a3aeb9; --line: #3a434d; --paper: #15191e; --band: #1e242b; --mark: #6ea8dc; --note: #e0b25a; }
-  image { filter: brightness(1.7); }
+  image { filter: brightness(1.5); }
 }
 * { box-sizing: border-box; }
 body { margin: 0 auto; padding: 1.5rem 1.25rem 4rem; max-width: 68rem; background: var(--paper); color: var(--ink);
@@ -22,14 +22,16 @@ table { border-collapse: collapse; font-size: .9375rem; }
 caption { padding: 0 0 .4rem; text-align: left; font-weight: 600; overflow-wrap: anywhere; }
 th, td { padding: .25rem .75rem; border-bottom: 1px solid var(--line); text-align: left; vertical-align: top; font-weight: 400; }
 thead th { color: var(--soft); font-size: .8125rem; vertical-align: bottom; border-bottom-color: var(--soft); }
-th:first-child, td:first-child { padding-left: 0; }
+th:first-child { padding-left: 0; min-width: 8rem; }
+td:not(.number) { min-width: 7rem; }
 .number { text-align: right; font-variant-numeric: tabular-nums; white-space: nowrap; }
 .zero { color: var(--soft); }
 tfoot th, tfoot td { border-top: 1px solid var(--soft); border-bottom: 0; font-weight: 600; }
+.histogram tfoot * { font-weight: 400; }
 .histogram th.number { padding-right: 7.25rem; white-space: normal; }
 .track { display: inline-block; width: 6rem; margin-left: .5rem; text-align: left; }
 .bar { display: inline-block; height: .65rem; min-width: 2px; background: var(--mark); -webkit-print-color-adjust: exact; print-color-adjust: exact; }
-.remarks { padding: .75rem 1rem .75rem 2rem; border-left: .25rem solid var(--note); background: var(--band); }
+.remarks { padding: .75rem 1rem .75rem 2rem; border-left: .25rem solid var(--note); background: var(--band); max-width: 52rem; }
 .flow { display: flex; flex-wrap: wrap; gap: 0 2.5rem; align-items: flex-start; }
 .flow > * { max-width: 100%; }
 figure { margin: 1rem 0; }
@@ -41,9 +43,11 @@ svg text { fill: var(--soft); font: 11px ui-monospace, "Liberation Mono", Menlo,
 .sharp { image-rendering: pixelated; }
 ol.differences { padding-left: 3.5rem; font-variant-numeric: tabular-nums; }
 @media print {
-  body { max-width: none; padding: 0; font-size: 10pt; }
+  html { font-size: 9pt; }
+  body { max-width: none; padding: 0; }
   nav { display: none; }
   .wide { overflow: visible; }
+  .pictures { display: block; }
   tr, figure, .remarks { break-inside: avoid; }
   h2, caption { break-after: avoid; }
   a { color: inherit; text-decoration: none; }
