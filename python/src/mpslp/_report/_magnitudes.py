@@ -19,8 +19,8 @@ _COARSE = 10
 _MOST_OF_DOUBLES, _LEAST_OF_DOUBLES = 308, -324
 # A longer run of powers of ten without numbers is one line.
 _MOST_EMPTY = 3
-# The user's own context may round in another way, or not at all.
-_ROUNDED = Context(prec=6)
+# Ratios of numbers of 36 digits: those that are not 1e6 stay so. The user's own context may round more, or reject it.
+_RATIO = Context(prec=50)
 
 
 def histogram(caption: str, all_magnitudes: Sequence[Magnitudes]) -> Markup:
@@ -78,7 +78,7 @@ def _rounded(number: Decimal) -> str:
 
 
 def _ratio(smallest: Extreme, largest: Extreme) -> Decimal:
-    return _ROUNDED.divide(largest.number.copy_abs(), smallest.number.copy_abs())
+    return _RATIO.divide(largest.number.copy_abs(), smallest.number.copy_abs())
 
 
 def remarks(coefficients: Magnitudes, costs: Magnitudes, limits: Magnitudes, bounds: Magnitudes) -> Iterator[Markup]:
