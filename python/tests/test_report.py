@@ -16,6 +16,7 @@ from mpslp import _main
 from mpslp._numbers import number_text
 from mpslp._report import page
 from mpslp._report._declared import LOWER, UPPER, declared_by
+from mpslp._report._markup import element
 from mpslp._sources import read
 from repository import EXAMPLES, VECTORS, large_text, model_files
 from test_load import entries
@@ -193,6 +194,10 @@ class Pages(unittest.TestCase):
         lines = [f" L  {each}" for each in byte] + ["COLUMNS"] + [f"    {each}  {each}  1" for each in byte]
         self.check(read_page("\n".join(["ROWS", " N  <objective>", *lines, "ENDATA", ""])))
         self.check(read_page("\n".join(["ROWS", ' N  "onload="', " E  r", "COLUMNS", *(f"    {each * 255}  r  1" for each in byte), "ENDATA", ""])))
+
+    def test_attributes_are_escaped(self):
+        made = Reader(element("a", "<&>\"'", title="\"><b>'&amp;"))
+        self.assertEqual((made.elements, made.text), ([("a", {"title": "\"><b>'&amp;"}, [])], {"a": "<&>\"'\n"}))
 
     def test_names_of_files(self):
         text = (EXAMPLES / "small.mps").read_bytes()
@@ -508,6 +513,17 @@ class Defaults(unittest.TestCase):
             "upper": ["0 to the given one", "3", "EIGHT, FIRST, THREE"],
             "lower and upper": ["the given ones", "2", "<b>FOUR</b>, FIVE"],
         })
+
+    def test_bounds_of_each_type(self):
+        for kinds, given in (
+            (("LO", "MI", "LI"), "lower"), (("UP", "PL", "UI", "SC"), "upper"), (("FX", "FR", "BV"), "lower and upper"),
+        ):
+            for kind in kinds:
+                for line in (f" {kind}  x", f" {kind}  B  x", f" {kind}  B  x  ignored") if kind in ("MI", "PL", "FR", "BV") else (f" {kind}  x  3", f" {kind}  B  x  3"):
+                    with self.subTest(line):
+                        reader = read_page(f"ROWS\n N  c\nCOLUMNS\n    x  c  1\n    y  c  1\nBOUNDS\n{line}\nENDATA\n")
+                        lines = {given: cells[2] for given, cells in reader.table("Column bounds that the file gives").items()}
+                        self.assertEqual(lines, {"none": "y", given: "x"})
 
     def test_rules_of_a_sample(self):
         reader = read_page(SAMPLE)
