@@ -628,7 +628,7 @@ class Differences(unittest.TestCase):
         first = large_text(1500).decode()
         reader = read_page(first, first.replace("  1e1\n", "  11\n"))
         self.assertEqual(reader.table("Differences of a.mps and b.mps"), {"coefficients in rows": ["1,500"]})
-        self.assertIn("These are the first 200; python3 -m mpslp diff prints all.", reader.text["p"])
+        self.assertIn("These are the first 200; mpslp-tools diff prints all.", reader.text["p"])
 
 
 if __name__ == "__main__":

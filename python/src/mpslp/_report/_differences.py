@@ -72,4 +72,4 @@ def _compared(digits: int | None, by_position: bool) -> str:
 
 def _reading(count: int, shown: int) -> str:
     meaning = "Numbers are those of the first and of the second file; - is what only the first has, + what only the second has."
-    return meaning if count == shown else f"{meaning} These are the first {shown:,}; python3 -m mpslp diff prints all."
+    return meaning if count == shown else f"{meaning} These are the first {shown:,}; mpslp-tools diff prints all."
