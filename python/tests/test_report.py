@@ -1,6 +1,7 @@
 """The page of a report: what it counts, what it shows, and that names cannot break it."""
 
 import os
+import random
 import struct
 import tempfile
 import unittest
@@ -10,16 +11,20 @@ from collections import Counter
 from decimal import Decimal
 from html.parser import HTMLParser
 from pathlib import Path
+from unittest import mock
 
 import mpslp
 from mpslp import _main
 from mpslp._numbers import number_text
 from mpslp._report import page
-from mpslp._report._declared import LOWER, UPPER, declared_by
+from mpslp._report._declared import LOWER, UPPER, _Lp, declared_by
 from mpslp._report._markup import element
 from mpslp._sources import read
 from repository import EXAMPLES, VECTORS, large_text, model_files
 from test_load import entries
+
+import models as random_models  # from tests/ of the repository
+import spellings
 
 INFINITY = Decimal("Infinity")
 VOID = {"meta", "br"}
@@ -494,16 +499,18 @@ class Defaults(unittest.TestCase):
     def test_bounds_of_every_model(self):
         """A bound that a file does not give is its default."""
         for path in models():
-            model = mpslp.load(path)
-            declared = declared_by(read(path, None), model.objective)
             with self.subTest(path.name):
-                for column in model.columns.values():
-                    given = declared.bounds.get(column.name, 0)
-                    if not given & LOWER:
-                        self.assertEqual(column.lower, 0)
-                    if not given & UPPER:
-                        self.assertEqual(column.upper, 1 if declared.upper_is_1(column.name) else INFINITY)
-                self.assertLessEqual(declared.bounds.keys() | declared.marked.keys() | declared.binaries.keys(), model.columns.keys())
+                self.check(path, mpslp.load(path))
+
+    def check(self, path, model):
+        declared = declared_by(read(path, None), model.objective)
+        for column in model.columns.values():
+            given = declared.bounds.get(column.name, 0)
+            if not given & LOWER:
+                self.assertEqual(column.lower, 0)
+            if not given & UPPER:
+                self.assertEqual(column.upper, 1 if declared.upper_is_1(column.name) else INFINITY)
+        self.assertLessEqual(declared.bounds.keys() | declared.marked.keys() | declared.binaries.keys(), model.columns.keys())
 
     def test_bounds_of_a_sample(self):
         self.assertEqual(read_page(SAMPLE).table("Column bounds that the file gives"), {
@@ -596,6 +603,39 @@ class Defaults(unittest.TestCase):
             "upper": ["0 to the given one", "2", "b, x"],
             "lower and upper": ["the given ones", "4", "u, v, y, z"],
         })
+
+
+class DrawnModels(unittest.TestCase):
+    """Random models, each spelled in a random way in both formats."""
+
+    def texts(self, count):
+        for seed in range(count):
+            source = random.Random(seed)
+            drawn = random_models.drawn_model(source)
+            yield seed, "mps", spellings.mps_text(source, drawn)
+            if not random_models.canonical_lp(drawn).endswith(": NotLp\n"):
+                yield seed, "lp", spellings.lp_text(source, drawn)
+
+    def test_pages(self):
+        with tempfile.TemporaryDirectory() as directory:
+            for seed, form, text in self.texts(150):
+                path = Path(directory, f"a.{form}")
+                path.write_bytes(text)
+                model, reader = mpslp.load(path), read_page(path)
+                with self.subTest(seed, form=form):
+                    Pages().check(reader)
+                    Counts().check(path, model, reader)
+                    Magnitudes().check(model, reader)
+                    Defaults().check(path, model)
+
+    def test_terms_of_lp(self):
+        """The tokens of the objective and of rows are taken in groups, with the same result as one by one."""
+        for seed, form, text in self.texts(400):
+            if form == "lp":
+                with self.subTest(seed):
+                    found = declared_by(read(text, "lp"), "")
+                    with mock.patch.object(_Lp, "_TERM", _Lp._TOKEN):
+                        self.assertEqual(declared_by(read(text, "lp"), ""), found)
 
 
 class Differences(unittest.TestCase):

@@ -69,6 +69,7 @@ def _lines(content: str) -> Iterator[str]:
 def _lp_names(content: str, model: Model) -> Names:
     """A row without a label has its position in its name, as ``c3``; the other positions are those of the labels in turn."""
     labels: list[str] = []
+    known = set(model.columns)  # a look at the mapping makes a column each time
     columns: dict[str, None] = {}
     previous = ""
     for word, is_label in _lp_words(content):
@@ -77,7 +78,7 @@ def _lp_names(content: str, model: Model) -> Names:
             break
         if is_label:
             labels.append(word)
-        elif word in model.columns and _SECOND_WORDS.get(previous) != lower:
+        elif word in known and _SECOND_WORDS.get(previous) != lower:
             columns[word] = None
         previous = lower
     rows = [label for label in labels if label != model.objective]
