@@ -574,6 +574,7 @@ class Defaults(unittest.TestCase):
             "zeros in RANGES on E rows": ["1", "the row stays an equation"],
             "bounds of type BV, LI or UI": ["3", "the column is integer"],
         })
+        self.assertIn("No other rule of the format changes what the file says.", read_page(EXAMPLES / "production.lp").text["p"])
         text = "NAME\nROWS\n L  r\nCOLUMNS\n    x  r  1\nENDATA\n"
         self.assertEqual(read_page(text).table("Rules that apply to the file")["no N row"], ["", "an empty objective called obj"])
 
@@ -668,7 +669,8 @@ class Differences(unittest.TestCase):
         first = large_text(1500).decode()
         reader = read_page(first, first.replace("  1e1\n", "  11\n"))
         self.assertEqual(reader.table("Differences of a.mps and b.mps"), {"coefficients in rows": ["1,500"]})
-        self.assertIn("These are the first 200; mpslp-tools diff prints all.", reader.text["p"])
+        self.assertEqual(reader.text["summary"], "The first 100 differences; mpslp-tools diff prints all\n")
+        self.assertEqual(len(reader.found("li")) - len(read_page(first).found("li")), 100 + 1)  # and a link to the section
 
 
 if __name__ == "__main__":

@@ -11,8 +11,10 @@ from mpslp._report._markup import Markup, code, element, joined, table
 from mpslp._report._subjects import Subject
 from mpslp._sources import Format
 
-_MOST_SHOWN = 200
+_MOST_SHOWN = 100
 _FORMATS: dict[int, Format] = {_mpslp.MPS: "mps", _mpslp.LP: "lp"}
+
+_READING = "A number of the first file -> that of the second one; - is what only the first has, + what only the second has."
 
 # What the classes of differences are about.
 _SORTS = {
@@ -44,8 +46,7 @@ def differences(first: Subject, second: Subject, digits: int | None, by_position
         (
             element("p", f"The files define different models: {count:,} {'difference' if count == 1 else 'differences'}{compared}."),
             table(f"Differences of {first.label} and {second.label}", ["what", "differences"], lines),
-            element("p", _reading(count, len(shown)), class_="soft"),
-            element("ol", joined(shown, "\n"), class_="differences"),
+            element("details", element("summary", _shown(count, len(shown))), element("p", _READING, class_="soft"), element("ol", joined(shown, "\n")), open=""),
         ),
         "\n",
     )
@@ -70,6 +71,5 @@ def _compared(digits: int | None, by_position: bool) -> str:
     return f" if they are compared {' and '.join(ways)}" if ways else ""
 
 
-def _reading(count: int, shown: int) -> str:
-    meaning = "Numbers are those of the first and of the second file; - is what only the first has, + what only the second has."
-    return meaning if count == shown else f"{meaning} These are the first {shown:,}; mpslp-tools diff prints all."
+def _shown(count: int, shown: int) -> str:
+    return "The differences" if count == shown else f"The first {shown:,} differences; mpslp-tools diff prints all"

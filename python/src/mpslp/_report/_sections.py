@@ -75,10 +75,10 @@ def remark_list(subjects: Sequence[Subject]) -> Markup:
 
 def counts(subjects: Sequence[Subject]) -> Markup:
     """How many rows, columns and nonzeros there are, and of which kinds."""
-    rows = _compared("Rows by kind", "rows", subjects, _row_kinds, has_total=True)
+    rows = _compared("Rows by kind", ["rows", "count"], subjects, _row_kinds, has_total=True)
     groups = [[_column_kinds(subjects, subject), _lengths(subjects, subject)] for subject in subjects]
     groups[:1] = [[rows, *groups[0]]] if len(subjects) == 1 else [[rows], groups[0]]
-    facts = _compared("The model", "property", subjects, _facts, is_words=True)
+    facts = _compared("The model", ["property", "value"], subjects, _facts, is_words=True)
     return joined((facts, *(element("div", *group, class_="flow") for group in groups)), "\n")
 
 
@@ -184,25 +184,28 @@ def _given_bounds(subjects: Sequence[Subject], subject: Subject) -> Markup:
 
 def _rules(subjects: Sequence[Subject], subject: Subject) -> Markup:
     rules = rules_of(subject.declared, subject.model, subject.contents)
+    if not rules:
+        return element("p", _caption("No other rule of the format changes what the file says", subjects, subject), ".")
     lines: list[list[Content]] = [[rule.what, Markup() if rule.number is None else rule.number, rule.effect] for rule in rules]
     return table(_caption("Rules that apply to the file", subjects, subject), ["in the file", "count", "in the model"], lines, words=(2,))
 
 
 def _compared(
     caption: str,
-    what: str,
+    head: Sequence[str],
     subjects: Sequence[Subject],
     lines_of: Callable[[Subject], Lines],
     is_words: bool = False,
     has_total: bool = False,
 ) -> Markup:
-    """A table with a column for each file, and of two files one that says where they differ. The last line may be a total."""
+    """A table of one file, whose head is given; or of two, with a column that says where they differ. The last line may be a total."""
     lines: list[list[Content]] = []
     for cells in zip(*map(lines_of, subjects)):
         values = [value for _, value in cells]
         differs = [element("b", "differs") if len(set(values)) > 1 else Markup()] if len(subjects) > 1 else []
         lines.append([cells[0][0], *values, *differs])
-    head = [what, *(subject.label for subject in subjects), *(["comparison"] if len(subjects) > 1 else [])]
+    if len(subjects) > 1:
+        head = [head[0], *(subject.label for subject in subjects), "comparison"]
     last = len(subjects) + 1
     total = lines.pop() if has_total else ()
     return table(caption, head, lines, total, words=range(1, last + 1) if is_words else (last,))

@@ -7,7 +7,7 @@ STYLE = """
   image { filter: brightness(1.5); }
 }
 * { box-sizing: border-box; }
-body { margin: 0 auto; padding: 1.5rem 1.25rem 4rem; max-width: 68rem; background: var(--paper); color: var(--ink);
+body { margin: 0 auto; padding: 1.5rem 1.25rem 4rem; max-width: 75rem; background: var(--paper); color: var(--ink);
   font: 1rem/1.5 system-ui, -apple-system, "Segoe UI", "Liberation Sans", Arial, sans-serif; }
 h1, h2 { line-height: 1.25; font-weight: 650; overflow-wrap: anywhere; }
 h1 { margin: 0 0 .25rem; font-size: 1.6rem; }
@@ -21,7 +21,7 @@ nav ul { display: flex; flex-wrap: wrap; gap: .25rem 1.25rem; padding: 0; list-s
 table { border-collapse: collapse; font-size: .9375rem; }
 caption { padding: 0 0 .4rem; text-align: left; font-weight: 600; overflow-wrap: anywhere; }
 th, td { padding: .25rem .75rem; border-bottom: 1px solid var(--line); text-align: left; vertical-align: top; font-weight: 400; }
-thead th { color: var(--soft); font-size: .8125rem; vertical-align: bottom; border-bottom-color: var(--soft); }
+thead th { max-width: 18rem; overflow-wrap: anywhere; color: var(--soft); font-size: .8125rem; vertical-align: bottom; border-bottom-color: var(--soft); }
 th:first-child { padding-left: 0; min-width: 8rem; }
 td:not(.number) { min-width: 7rem; }
 .number { text-align: right; font-variant-numeric: tabular-nums; white-space: nowrap; }
@@ -32,7 +32,7 @@ tfoot th, tfoot td { border-top: 1px solid var(--soft); border-bottom: 0; font-w
 .track { display: inline-block; width: 6rem; margin-left: .5rem; text-align: left; }
 .bar { display: inline-block; height: .65rem; min-width: 2px; background: var(--mark); -webkit-print-color-adjust: exact; print-color-adjust: exact; }
 .remarks { padding: .75rem 1rem .75rem 2rem; border-left: .25rem solid var(--note); background: var(--band); max-width: 52rem; }
-.flow { display: flex; flex-wrap: wrap; gap: 0 2.5rem; align-items: flex-start; }
+.flow { display: flex; flex-wrap: wrap; gap: 0 2rem; align-items: flex-start; }
 .flow > * { max-width: 100%; }
 figure { margin: 1rem 0; }
 svg { display: block; max-width: 100%; height: auto; }
@@ -41,7 +41,8 @@ svg text { fill: var(--soft); font: 11px ui-monospace, "Liberation Mono", Menlo,
 .positive { fill: var(--mark); stroke: var(--mark); }
 .negative { fill: none; stroke: var(--mark); stroke-width: 1.5; }
 .sharp { image-rendering: pixelated; }
-ol.differences { padding-left: 3.5rem; font-variant-numeric: tabular-nums; }
+summary { color: var(--mark); cursor: pointer; }
+ol { padding-left: 3.5rem; font-variant-numeric: tabular-nums; }
 @media print {
   html { font-size: 9pt; }
   body { max-width: none; padding: 0; }
