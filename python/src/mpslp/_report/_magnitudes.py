@@ -5,9 +5,8 @@ from __future__ import annotations
 from collections.abc import Iterator, Sequence
 from decimal import Context, Decimal
 
-from mpslp._numbers import number_text
 from mpslp._report._contents import Extreme, Magnitudes
-from mpslp._report._markup import Markup, code, element, joined, markup, table
+from mpslp._report._markup import Markup, code, digits, element, joined, markup, table
 
 # What guides of solvers advise at most for the ratio of the largest to the smallest coefficient.
 _WIDE, _VERY_WIDE = Decimal("1e6"), Decimal("1e9")
@@ -69,7 +68,7 @@ def extremes(caption: str, all_magnitudes: Sequence[Magnitudes]) -> Markup:
 
 
 def _cells(extreme: Extreme) -> tuple[Markup, Markup]:
-    return code(number_text(extreme.number)), joined(map(code, extreme.where), ", ")
+    return digits(extreme.number), joined(map(code, extreme.where), ", ")
 
 
 def _rounded(number: Decimal) -> str:

@@ -5,7 +5,10 @@ from __future__ import annotations
 import html
 import os
 from collections.abc import Iterable, Sequence
+from decimal import Decimal
 from typing import Union
+
+from mpslp._numbers import number_text
 
 MOST_NAMES = 8
 """So many names are listed; of the others only the number."""
@@ -44,6 +47,11 @@ def element(tag: str, *contents: Content, **attributes: Content) -> Markup:
 def code(name: str) -> Markup:
     """A name of a model."""
     return element("code", name)
+
+
+def digits(number: Decimal) -> Markup:
+    """A number of a model, exactly."""
+    return element("code", number_text(number), class_="digits")
 
 
 def link(section: str, *contents: Content) -> Markup:

@@ -7,10 +7,9 @@ from collections.abc import Iterator
 from typing import NamedTuple
 
 from mpslp._models import Model
-from mpslp._numbers import number_text
 from mpslp._report._contents import Contents
 from mpslp._report._declared import BOTH, LOWER, UPPER, Declared
-from mpslp._report._markup import Content, code, joined, names
+from mpslp._report._markup import Content, code, digits, joined, names
 
 
 class Rule(NamedTuple):
@@ -65,7 +64,7 @@ def _of_mps(declared: Declared, model: Model) -> Iterator[Rule]:
         yield Rule("no OBJSENSE", None, "minimize")
     yield _objective(declared, model)
     if declared.has_constant:
-        effect = joined(("the objective has the negative as its constant: ", code(number_text(model.constant))))
+        effect = joined(("the objective has the negative as its constant: ", digits(model.constant)))
         yield Rule("a number on the objective in RHS", None, effect)
     free = [row for row, kind in declared.row_types.items() if kind == "N"]
     if free:

@@ -6,12 +6,11 @@ from collections.abc import Callable, Iterator, Sequence
 from typing import NamedTuple
 
 from mpslp import _mpslp
-from mpslp._numbers import number_text
 from mpslp._positions import names_by_position
 from mpslp._report._contents import COLUMN_BOUNDS, COLUMN_KINDS, ROW_KINDS, Lengths
 from mpslp._report._magnitudes import extremes, histogram
 from mpslp._report._magnitudes import remarks as remarks_on_magnitudes
-from mpslp._report._markup import Content, Markup, code, element, joined, link, markup, names, table
+from mpslp._report._markup import Content, Markup, code, digits, element, joined, link, markup, names, table
 from mpslp._report._picture import matrix_of, picture
 from mpslp._report._rules import given_bounds, rules_of
 from mpslp._report._subjects import Subject
@@ -125,7 +124,7 @@ def _facts(subject: Subject) -> Lines:
     places = len(model.rows) * len(model.columns)
     return (
         ("objective", joined((f"{model.sense} ", code(model.objective)))),
-        ("constant of the objective", code(number_text(model.constant))),
+        ("constant of the objective", digits(model.constant)),
         ("rows", len(model.rows)),
         ("columns", len(model.columns)),
         ("nonzeros", counted),

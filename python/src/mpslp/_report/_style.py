@@ -25,6 +25,9 @@ thead th { max-width: 18rem; overflow-wrap: anywhere; color: var(--soft); font-s
 th:first-child { padding-left: 0; min-width: 8rem; }
 td:not(.number) { min-width: 7rem; }
 .number { text-align: right; font-variant-numeric: tabular-nums; white-space: nowrap; }
+thead .number { white-space: normal; }
+.number code:not(.digits) { white-space: normal; }
+.digits { overflow-wrap: normal; }
 .zero { color: var(--soft); }
 tfoot th, tfoot td { border-top: 1px solid var(--soft); border-bottom: 0; font-weight: 600; }
 .histogram tfoot * { font-weight: 400; }
