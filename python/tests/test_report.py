@@ -385,6 +385,12 @@ class Magnitudes(unittest.TestCase):
         text = "ROWS\n N  c\n E  r\n L  s\nCOLUMNS\n    x  c  1e-470  r  1\n    y  s  1\nRHS\n    r  -3e-450\nBOUNDS\n UP  x  2e-400\nENDATA\n"
         self.check(mpslp.load(text.encode(), "mps"), read_page(text))
 
+    def test_ratios(self):
+        for second, shown in (("4.6", "4.6"), ("1", "1"), ("998.4", "998"), ("999.6", "1e3"), ("1049", "1e3"), ("1051", "1.1e3"), ("1e400", "1e400")):
+            with self.subTest(second):
+                reader = read_page(f"ROWS\n N  c\n L  r\nCOLUMNS\n    x  r  1\n    y  r  -{second}\nENDATA\n")
+                self.assertEqual(reader.table("Smallest and largest numbers")["coefficients"][5], shown)
+
     def test_remarks_on_ranges(self):
         for first, second, words in (("1", "1000000", None), ("1", "1000001", "wide"), ("0.001", "1e6", "wide"), ("0.001", "1000001", "very wide")):
             with self.subTest(first=first, second=second):

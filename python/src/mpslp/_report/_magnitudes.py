@@ -72,8 +72,8 @@ def _cells(extreme: Extreme) -> tuple[Markup, Markup]:
 
 
 def _rounded(number: Decimal) -> str:
-    """A positive number with two digits or three."""
-    return f"{number:.3g}" if Decimal("0.01") <= number < 1000 else f"{number:.1e}".replace(".0e", "e").replace("e+", "e")
+    """A positive number with two digits or three, and without zeros at its end."""
+    return f"{float(number):.3g}" if Decimal("0.01") <= number < 999 else f"{number:.1e}".replace(".0e", "e").replace("e+", "e")
 
 
 def _ratio(smallest: Extreme, largest: Extreme) -> Decimal:
