@@ -423,12 +423,12 @@ class Pictures(unittest.TestCase):
 
     def test_places_of_a_small_model(self):
         """Rows and columns are in the order of the file."""
-        reader = read_page("ROWS\n N  c\n L  second\n L  first\nCOLUMNS\n    y  second  1\n    x  first  -1  second  2\nENDATA\n")
+        reader = read_page("ROWS\n N  c\n L  second\n L  first\nCOLUMNS\n    y  second  1\n    x  first  -1e-400  second  2.00000000000000001\nENDATA\n")
         places = [(attributes["class"], float(attributes["x"]), float(attributes["y"])) for attributes in reader.found("rect")]
         frame, *squares = places
         steps = [(sign, round((x - frame[1]) // 18), round((y - frame[2]) // 18)) for sign, x, y in squares]
         self.assertEqual(sorted(steps), [("negative", 1, 1), ("positive", 0, 0), ("positive", 1, 0)])
-        for title in ("second, y: 1\n", "first, x: -1\n", "second, x: 2\n"):
+        for title in ("second, y: 1\n", "first, x: -1e-400\n", "second, x: 2.00000000000000001\n"):
             self.assertIn(title, reader.text["title"])
 
     def png(self, reader):

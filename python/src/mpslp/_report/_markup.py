@@ -64,11 +64,11 @@ def path_text(path: str | bytes | os.PathLike[str] | os.PathLike[bytes]) -> str:
     return os.fsencode(path).decode("utf-8", "backslashreplace")
 
 
-def names(found: Sequence[str], count: int | None = None) -> Markup:
+def names(found: Sequence[str]) -> Markup:
     """The first names of a list, and how many others there are."""
     shown = joined(map(code, found[:MOST_NAMES]), ", ")
-    others = (len(found) if count is None else count) - min(len(found), MOST_NAMES)
-    return joined((shown, f" and {others:,} more")) if others else shown
+    others = len(found) - MOST_NAMES
+    return joined((shown, f" and {others:,} more")) if others > 0 else shown
 
 
 def table(

@@ -11,6 +11,8 @@ from math import ceil, log
 from typing import NamedTuple
 
 from mpslp._arrays import Arrays
+from mpslp._models import Model
+from mpslp._numbers import number_text
 from mpslp._positions import Names
 from mpslp._report._markup import Markup, element, joined
 
@@ -34,6 +36,7 @@ _PALEST, _DARKEST = 96, 255
 class Matrix(NamedTuple):
     """The nonzeros of a model, with rows and columns in the order of its file."""
 
+    model: Model
     arrays: Arrays
     rows: Sequence[str]
     columns: Sequence[str]
@@ -48,12 +51,12 @@ class Matrix(NamedTuple):
         return slice(self.arrays.indptr[number], self.arrays.indptr[number + 1])
 
 
-def matrix_of(arrays: Arrays, order: Names) -> Matrix:
-    """The matrix of a model, whose names are given in the order of its file."""
+def matrix_of(model: Model, arrays: Arrays, order: Names) -> Matrix:
+    """The matrix of a model, with its arrays, and with its names in the order of its file."""
     places = {name: place for place, name in enumerate(order.rows)}
     numbers = {name: number for number, name in enumerate(arrays.column_names or ())}
     row_places = [places[name] for name in arrays.row_names or ()]
-    return Matrix(arrays, order.rows, order.columns, row_places, [numbers[name] for name in order.columns])
+    return Matrix(model, arrays, order.rows, order.columns, row_places, [numbers[name] for name in order.columns])
 
 
 class Cells(NamedTuple):
@@ -112,13 +115,13 @@ def _labelled(matrix: Matrix) -> tuple[_Drawing, str]:
 
 
 def _squares(matrix: Matrix, left: float, top: float) -> Iterator[Markup]:
+    places = {name: place for place, name in enumerate(matrix.rows)}
     for j, column in enumerate(matrix.columns):
-        nonzeros = matrix.nonzeros(j)
-        for row, value in zip(matrix.arrays.indices[nonzeros], matrix.arrays.data[nonzeros]):
-            i = matrix.row_places[row]
+        for row, value in matrix.model.columns[column].entries.items():
+            i = places[row]
             yield element(
                 "rect",
-                element("title", f"{matrix.rows[i]}, {column}: {value:g}"),
+                element("title", f"{row}, {column}: {number_text(value)}"),
                 x=f"{left + _CELL * j + 3.5:.1f}",
                 y=f"{top + _CELL * i + 3.5:.1f}",
                 width=f"{_CELL - 7}",
@@ -159,7 +162,7 @@ def _sampled_caption(cells: Cells, rows: int, columns: int) -> str:
         return "Each point is a nonzero."
     across, down = ceil(columns / cells.width), ceil(rows / cells.height)
     sizes = f"up to {down:,} {'row' if down == 1 else 'rows'} and {across:,} {'column' if across == 1 else 'columns'}"
-    return f"Each point is the nonzeros of {sizes}: the palest has 1 nonzero, the darkest {cells.most:,}."
+    return f"Each point stands for {sizes}: the palest has 1 nonzero, the darkest {cells.most:,}."
 
 
 def cells_of(matrix: Matrix, width: int, height: int) -> Cells:

@@ -172,7 +172,7 @@ def _picture(subject: Subject, number: int) -> Markup:
     if not rows:
         return element("p", f"{subject.label} has no rows, so there is no picture.")
     title = f"Nonzeros of {subject.label}: {rows:,} rows, {columns:,} columns, {counted:,} nonzeros"
-    return picture(matrix_of(subject.arrays, names_by_position(subject.text, subject.model)), title, number)
+    return picture(matrix_of(subject.model, subject.arrays, names_by_position(subject.text, subject.model)), title, number)
 
 
 def _given_bounds(subjects: Sequence[Subject], subject: Subject) -> Markup:
