@@ -25,7 +25,7 @@ _POLICY = "default-src 'none'; img-src data:; style-src 'unsafe-inline'"
 def page(paths: Sequence[Path], *, digits: int | None = None, by_position: bool = False) -> str:
     """Returns a page of HTML about the model of a file, or about the models of two files and their differences.
 
-    ``digits`` and ``by_position`` are those of :func:`mpslp.diff`. One file always has the same page.
+    ``digits`` and ``by_position`` are those of :func:`mpslp.diff`. The page depends only on the files, their paths and the version.
 
     Raises ModelFileError where a file declares no model, OSError where it does not open or read, and ValueError where a
     path ends in no format, or where there are not one or two paths.
