@@ -404,7 +404,7 @@ class Magnitudes(unittest.TestCase):
         for words in ("magnitude below 1e-9: 1.", "magnitude 1e15 or more: 2.", "Row limits (RHS) of magnitude 1e10 or more: 1.",
                       "Column bounds of magnitude 1e10 or more: 1.", "Coefficients of a magnitude that no double has: 1."):
             self.assertIn(words, remarks)
-        self.assertIn("There are none.", read_page(EXAMPLES / "small.mps").text["p"])
+        self.assertIn("There are no remarks.", read_page(EXAMPLES / "small.mps").text["p"])
 
 
 class Pictures(unittest.TestCase):

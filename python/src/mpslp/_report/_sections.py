@@ -63,7 +63,7 @@ def remark_list(subjects: Sequence[Subject]) -> Markup:
         for remark in remarks(subject):
             labels.setdefault(remark, []).append(subject.label)
     if not labels:
-        return element("p", "There are none.")
+        return element("p", "There are no remarks.")
     lines = []
     for remark, of in labels.items():
         which = "both files" if len(of) > 1 else of[0]
