@@ -7,7 +7,7 @@ from collections.abc import Iterable
 
 import mpslp
 from mpslp import _mpslp
-from mpslp._report._markup import Markup, code, element, joined, table
+from mpslp._report._markup import Markup, code, element, joined, many, table
 from mpslp._report._subjects import Subject
 from mpslp._sources import Format
 
@@ -44,7 +44,7 @@ def differences(first: Subject, second: Subject, digits: int | None, by_position
     lines = [(_SORTS.get(sort, sort), number) for sort, number in sorts.items()]
     return joined(
         (
-            element("p", f"The files define different models: {count:,} {'difference' if count == 1 else 'differences'}{compared}."),
+            element("p", f"The files define different models: {many(count, 'difference')}{compared}."),
             table(f"Differences of {first.label} and {second.label}", ["what", "differences"], lines),
             element("details", element("summary", _shown(count, len(shown))), element("p", _READING, class_="soft"), element("ol", joined(shown, "\n")), open=""),
         ),
@@ -65,7 +65,7 @@ def _compared(digits: int | None, by_position: bool) -> str:
     """How the models are compared, if it is not exactly and by names."""
     ways = []
     if digits is not None:
-        ways.append(f"to {digits} {'digit' if digits == 1 else 'digits'}")
+        ways.append(f"to {many(digits, 'digit')}")
     if by_position:
         ways.append("by position")
     return f" if they are compared {' and '.join(ways)}" if ways else ""

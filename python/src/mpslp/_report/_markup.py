@@ -54,6 +54,11 @@ def digits(number: Decimal) -> Markup:
     return element("code", number_text(number), class_="digits")
 
 
+def many(count: int, word: str) -> str:
+    """A count and its word, as ``1 row`` or ``2,000 rows``."""
+    return f"{count:,} {word if count == 1 else word + 's'}"
+
+
 def link(section: str, *contents: Content) -> Markup:
     """A link to a section of the page."""
     return element("a", *contents, href=f"#{section}")

@@ -14,7 +14,7 @@ from mpslp._arrays import Arrays
 from mpslp._models import Model
 from mpslp._numbers import number_text
 from mpslp._positions import Names
-from mpslp._report._markup import Markup, element, joined
+from mpslp._report._markup import Markup, element, joined, many
 
 MOST_LABELLED = 40
 """With so many rows and columns at most, each place is drawn and has its names."""
@@ -147,8 +147,8 @@ def _sampled(matrix: Matrix) -> tuple[_Drawing, str]:
     )
     content = joined(
         (
-            _text(f"{columns:,} columns", _MARGIN, _MARGIN - 7),
-            _upright(f"{rows:,} rows", _MARGIN - 7, _MARGIN + height),
+            _text(many(columns, "column"), _MARGIN, _MARGIN - 7),
+            _upright(many(rows, "row"), _MARGIN - 7, _MARGIN + height),
             image,
             _frame(_MARGIN, _MARGIN, width, height),
         ),
@@ -160,9 +160,8 @@ def _sampled(matrix: Matrix) -> tuple[_Drawing, str]:
 def _sampled_caption(cells: Cells, rows: int, columns: int) -> str:
     if (cells.width, cells.height) == (columns, rows):
         return "Each point is a nonzero."
-    across, down = ceil(columns / cells.width), ceil(rows / cells.height)
-    sizes = f"up to {down:,} {'row' if down == 1 else 'rows'} and {across:,} {'column' if across == 1 else 'columns'}"
-    return f"Each point stands for {sizes}: the palest has 1 nonzero, the darkest {cells.most:,}."
+    down, across = many(ceil(rows / cells.height), "row"), many(ceil(columns / cells.width), "column")
+    return f"Each point stands for up to {down} and {across}: the palest has 1 nonzero, the darkest {cells.most:,}."
 
 
 def cells_of(matrix: Matrix, width: int, height: int) -> Cells:

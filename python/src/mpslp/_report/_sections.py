@@ -10,7 +10,7 @@ from mpslp._positions import names_by_position
 from mpslp._report._contents import COLUMN_BOUNDS, COLUMN_KINDS, ROW_KINDS, Lengths
 from mpslp._report._magnitudes import extremes, histogram
 from mpslp._report._magnitudes import remarks as remarks_on_magnitudes
-from mpslp._report._markup import Content, Markup, code, digits, element, joined, link, markup, names, table
+from mpslp._report._markup import Content, Markup, code, digits, element, joined, link, many, markup, names, table
 from mpslp._report._picture import matrix_of, picture
 from mpslp._report._rules import given_bounds, rules_of
 from mpslp._report._subjects import Subject
@@ -110,10 +110,7 @@ def summary(subject: Subject) -> Markup:
     """A sentence about a file."""
     model, contents = subject.model, subject.contents
     whole = sum(count for (_, kind), count in contents.columns.items() if kind == "integer")
-    rows, columns, nonzeros = (
-        f"{count:,} {word if count == 1 else word + 's'}"
-        for count, word in ((len(model.rows), "row"), (len(model.columns), "column"), (contents.coefficients.count, "nonzero"))
-    )
+    rows, columns, nonzeros = many(len(model.rows), "row"), many(len(model.columns), "column"), many(contents.coefficients.count, "nonzero")
     columns += f", {whole:,} of them integer," if whole else ""
     text = f" ({_FORMATS[subject.text.format]}, {len(subject.text.content):,} bytes): {model.sense} "
     return element("p", code(subject.path), text, code(model.objective), f" over {columns} in {rows} with {nonzeros}.", class_="soft")
@@ -171,7 +168,7 @@ def _picture(subject: Subject, number: int) -> Markup:
     rows, columns, counted = len(subject.model.rows), len(subject.model.columns), subject.contents.coefficients.count
     if not rows:
         return element("p", f"{subject.label} has no rows, so there is no picture.")
-    title = f"Nonzeros of {subject.label}: {rows:,} rows, {columns:,} columns, {counted:,} nonzeros"
+    title = f"Nonzeros of {subject.label}: {many(rows, 'row')}, {many(columns, 'column')}, {many(counted, 'nonzero')}"
     return picture(matrix_of(subject.model, subject.arrays, names_by_position(subject.text, subject.model)), title, number)
 
 
