@@ -188,7 +188,7 @@ def _rules(subjects: Sequence[Subject], subject: Subject) -> Markup:
 
 def _compared(
     caption: str,
-    head: Sequence[str],
+    head: Sequence[Content],
     subjects: Sequence[Subject],
     lines_of: Callable[[Subject], Lines],
     is_words: bool = False,
@@ -201,7 +201,7 @@ def _compared(
         differs = [element("b", "differs") if len(set(values)) > 1 else Markup()] if len(subjects) > 1 else []
         lines.append([cells[0][0], *values, *differs])
     if len(subjects) > 1:
-        head = [head[0], *(subject.label for subject in subjects), "comparison"]
+        head = [head[0], *(element("span", subject.label, class_="label") for subject in subjects), "comparison"]
     last = len(subjects) + 1
     total = lines.pop() if has_total else ()
     return table(caption, head, lines, total, words=range(1, last + 1) if is_words else (last,))

@@ -21,11 +21,12 @@ nav ul { display: flex; flex-wrap: wrap; gap: .25rem 1.25rem; padding: 0; list-s
 table { border-collapse: collapse; font-size: .9375rem; }
 caption { padding: 0 0 .4rem; text-align: left; font-weight: 600; overflow-wrap: anywhere; }
 th, td { padding: .25rem .75rem; border-bottom: 1px solid var(--line); text-align: left; vertical-align: top; font-weight: 400; }
-thead th { max-width: 18rem; overflow-wrap: anywhere; color: var(--soft); font-size: .8125rem; vertical-align: bottom; border-bottom-color: var(--soft); }
+thead th { color: var(--soft); font-size: .8125rem; vertical-align: bottom; border-bottom-color: var(--soft); }
 th:first-child { padding-left: 0; min-width: 8rem; }
 td:not(.number) { min-width: 7rem; }
 .number { text-align: right; font-variant-numeric: tabular-nums; white-space: nowrap; }
 thead .number { white-space: normal; }
+.label { display: inline-block; min-width: 6rem; max-width: 18rem; overflow-wrap: anywhere; }
 .number code:not(.digits) { white-space: normal; }
 .digits { overflow-wrap: normal; }
 .zero { color: var(--soft); }
