@@ -662,6 +662,7 @@ class Differences(unittest.TestCase):
         self.assertEqual(reader.table("The model")["rows"], ["8", "7", "differs"])
         self.assertEqual(reader.table("The model")["columns"], ["9", "9", ""])
         self.assertEqual(len(reader.found("figure")), 2)
+        self.assertLessEqual({"both files", "a.mps", "b.mps", "differs"}, set(reader.text["b"].splitlines()))
 
     def test_what_is_compared(self):
         first = "ROWS\n N  c\n L  r\nCOLUMNS\n    x  r  1  c  2\nENDATA\n"
