@@ -14,6 +14,7 @@ import sys
 import tempfile
 import time
 import unittest
+from contextlib import suppress
 from pathlib import Path
 from unittest import mock
 
@@ -29,6 +30,16 @@ SMALL = (EXAMPLES / "small.mps").read_bytes()
 CANONICAL = (EXAMPLES / "small.canonical.mps").read_bytes()
 CANONICAL_LP = (EXAMPLES / "small.canonical.lp").read_bytes()
 BROKEN = b"min x y\nend\n"
+
+
+def read_to_the_end(terminal):
+    """What was written to a terminal whose other end is closed. The kernel hands it on in pieces, and then reports an error."""
+    pieces = []
+    with suppress(OSError):
+        while piece := os.read(terminal, 10000):
+            pieces.append(piece)
+    os.close(terminal)
+    return b"".join(pieces)
 
 
 class Directory(unittest.TestCase):
@@ -265,8 +276,7 @@ class Check(Directory):
         main, terminal = pty.openpty()
         done = subprocess.run([*TOOLS, "check", "."], cwd=self.folder, stdout=subprocess.PIPE, stderr=terminal, timeout=60)
         os.close(terminal)
-        told = os.read(main, 10000).decode().replace("\r\n", "\n")
-        os.close(main)
+        told = read_to_the_end(main).decode().replace("\r\n", "\n")
         self.assertEqual((done.returncode, done.stdout), (2, b""))
         self.assertEqual(re.sub(r"\r\d of 3|\r\x1b\[K", "", told), "./1.lp:1: BadToken: y\npython3 -m mpslp explain KIND prints what to do about a kind of error\n")
         self.assertEqual(re.findall(r"\d of 3", told), ["1 of 3", "2 of 3", "3 of 3"])
