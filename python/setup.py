@@ -1,6 +1,6 @@
 """Builds the extension module, and reads the version from VERSION of the repository; all else is in pyproject.toml.
 
-MPSLP_INCLUDE is the folder of mpslp.h and MPSLP_LIBRARY is libmpslp.a, where these are not those of the repository.
+MPSLP_INCLUDE is the directory of mpslp.h and MPSLP_LIBRARY is libmpslp.a, if these are not those of the repository.
 """
 
 import os
@@ -8,10 +8,13 @@ import sys
 from pathlib import Path
 
 from setuptools import Extension, setup
+from setuptools.command.build_py import build_py
 
 ROOT = Path(__file__).resolve().parent.parent
 INCLUDE = Path(os.environ.get("MPSLP_INCLUDE", ROOT / "include"))
 LIBRARY = Path(os.environ.get("MPSLP_LIBRARY", ROOT / "build" / "libmpslp.a"))
+
+ERRORS = ROOT / "docs" / "errors.tsv"
 
 VERSION = (ROOT / "VERSION").read_text().strip()
 
@@ -19,8 +22,19 @@ for part in (INCLUDE / "mpslp.h", LIBRARY):
     if not part.is_file():
         sys.exit(f"{part} is missing: make lib builds the library")
 
+
+
+class BuildModules(build_py):
+    """Adds the list of errors, which is one of the documents."""
+
+    def run(self) -> None:
+        super().run()
+        self.copy_file(str(ERRORS), str(Path(self.build_lib) / "mpslp" / ERRORS.name), preserve_mode=False)
+
+
 setup(
     version=VERSION,
+    cmdclass={"build_py": BuildModules},
     ext_modules=[
         Extension(
             "mpslp._mpslp",
