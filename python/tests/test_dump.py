@@ -114,7 +114,7 @@ class Files(unittest.TestCase):
         self.assertEqual(path.read_bytes(), b"text")
 
     def test_paths(self):
-        with self.assertRaisesRegex(ValueError, "has to be told"):
+        with self.assertRaisesRegex(ValueError, "has to be given"):
             mpslp.dump(sample(), self.folder / "a.txt")
         for path in (None, 3, b"a.mps"):
             with self.assertRaisesRegex(TypeError, "^a path is a str or an os.PathLike, not "):

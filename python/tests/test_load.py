@@ -188,7 +188,7 @@ class Models(unittest.TestCase):
         for model in (mpslp.load(text, "mps"), mpslp.load(bytearray(text), "mps"), mpslp.load(str(EXAMPLES / "small.lp")),
                       mpslp.load(source=EXAMPLES / "small.lp", format="lp")):
             self.assertEqual(model, wanted)
-        with self.assertRaisesRegex(ValueError, "has to be told"):
+        with self.assertRaisesRegex(ValueError, "has to be given"):
             mpslp.load(text)
         with self.assertRaisesRegex(ValueError, "^unknown format: "):
             mpslp.load(text, "qps")

@@ -107,7 +107,7 @@ class Paths(unittest.TestCase):
             path = self.file(name)
             with self.subTest(name):
                 self.assertEqual(mpslp.canonical(path, "mps"), CANONICAL)
-                with self.assertRaisesRegex(ValueError, "has to be told"):
+                with self.assertRaisesRegex(ValueError, "has to be given"):
                     mpslp.canonical(path)
 
     def test_a_fault_has_the_path(self):
@@ -174,7 +174,7 @@ class CompressedFiles(unittest.TestCase):
                     self.assertIs(mpslp.is_canonical(path), False)
             path = self.file(f"a{ending}", pack(TEXT))
             self.assertEqual(mpslp.canonical(path, "mps"), CANONICAL)
-            with self.assertRaisesRegex(ValueError, "has to be told"):
+            with self.assertRaisesRegex(ValueError, "has to be given"):
                 mpslp.canonical(path)
 
     def test_files_of_several_parts(self):
@@ -226,10 +226,10 @@ class OpenFiles(unittest.TestCase):
 
     def test_files_without_a_path(self):
         self.assertEqual(mpslp.canonical(io.BytesIO(TEXT), "mps"), CANONICAL)
-        with self.assertRaisesRegex(ValueError, "has to be told"):
+        with self.assertRaisesRegex(ValueError, "has to be given"):
             mpslp.canonical(io.BytesIO(TEXT))
         with open(os.open(EXAMPLES / "small.mps", os.O_RDONLY), "rb") as file:
-            with self.assertRaisesRegex(ValueError, "has to be told"):
+            with self.assertRaisesRegex(ValueError, "has to be given"):
                 mpslp.load(file)
             self.assertEqual(mpslp.canonical(file, "mps"), CANONICAL)
 
@@ -263,7 +263,7 @@ class Formats(unittest.TestCase):
             lambda: mpslp.same(TEXT, TEXT, "mps"),
             lambda: mpslp.same(TEXT, TEXT, second_format="mps"),
         ):
-            with self.assertRaisesRegex(ValueError, "has to be told") as caught:
+            with self.assertRaisesRegex(ValueError, "has to be given") as caught:
                 call()
             self.assertNotIsInstance(caught.exception, mpslp.ModelFileError)
 

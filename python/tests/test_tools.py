@@ -156,9 +156,9 @@ class InPlace(Directory):
         self.assertEqual((done.returncode, done.stdout.decode()), (2, "".join(f"./{name}\n" for name in changed)))
         done = self.run_tools("canon", "-i", "-j", "3", ".")
         self.assertEqual((done.returncode, done.stdout.decode()), (2, "".join(f"./{name}\n" for name in changed)))
-        told = done.stderr.decode().splitlines()
-        self.assertEqual(len(told), len(errors))
-        for line, error in zip(told, errors):
+        printed = done.stderr.decode().splitlines()
+        self.assertEqual(len(printed), len(errors))
+        for line, error in zip(printed, errors):
             where = "" if error.line is None else f":{error.line}"
             self.assertRegex(line, rf"^\./[^:]+{where}: {error.kind}(: .+)?$")
         after = {path.name: path.read_bytes() for path in self.folder.iterdir()}
@@ -276,10 +276,10 @@ class Check(Directory):
         main, terminal = pty.openpty()
         done = subprocess.run([*TOOLS, "check", "."], cwd=self.folder, stdout=subprocess.PIPE, stderr=terminal, timeout=60)
         os.close(terminal)
-        told = read_to_the_end(main).decode().replace("\r\n", "\n")
+        printed = read_to_the_end(main).decode().replace("\r\n", "\n")
         self.assertEqual((done.returncode, done.stdout), (2, b""))
-        self.assertEqual(re.sub(r"\r\d of 3|\r\x1b\[K", "", told), "./1.lp:1: BadToken: y\npython3 -m mpslp explain KIND prints what to do about a kind of error\n")
-        self.assertEqual(re.findall(r"\d of 3", told), ["1 of 3", "2 of 3", "3 of 3"])
+        self.assertEqual(re.sub(r"\r\d of 3|\r\x1b\[K", "", printed), "./1.lp:1: BadToken: y\npython3 -m mpslp explain KIND prints what to do about a kind of error\n")
+        self.assertEqual(re.findall(r"\d of 3", printed), ["1 of 3", "2 of 3", "3 of 3"])
         self.assertEqual(self.run_tools("check", ".").stderr, b"./1.lp:1: BadToken: y\n", "no progress where there is no terminal")
 
 

@@ -61,7 +61,7 @@ def read(source: Source, format: Format | None) -> Text:
     if view is None:
         return _read_file(source, format)
     if format is None:
-        raise ValueError("the format of bytes has to be told: 'mps' or 'lp'")
+        raise ValueError("the format of bytes has to be given: 'mps' or 'lp'")
     return Text(_frozen(view), format_number(format), None)
 
 
@@ -73,7 +73,7 @@ def _read_file(source: object, format: Format | None) -> Text:
     path = getattr(source, "name", None)
     filename = os.fsdecode(path) if isinstance(path, (str, bytes, os.PathLike)) else None
     if format is None and filename is None:
-        raise ValueError("the format of an open file without a path has to be told: 'mps' or 'lp'")
+        raise ValueError("the format of an open file without a path has to be given: 'mps' or 'lp'")
     number = format_number(_format_of_path(filename) if format is None and filename is not None else format)
     content = read_all()
     if not isinstance(content, bytes):
@@ -111,7 +111,7 @@ def format_of_name(path: str) -> Format | None:
 def _format_of_path(path: str | bytes) -> Format:
     format = format_of_name(os.fsdecode(path))
     if format is None:
-        raise ValueError(f"the format of {os.fsdecode(path)!r} has to be told, 'mps' or 'lp': it ends neither in .mps nor in .lp")
+        raise ValueError(f"the format of {os.fsdecode(path)!r} has to be given, 'mps' or 'lp': it ends neither in .mps nor in .lp")
     return format
 
 
