@@ -155,8 +155,8 @@ def minutes(seconds: float) -> str:
 class Lane:
     """A copy of all sources, in which one crate is proved at a time."""
 
-    def __init__(self, number: int, crates: dict[str, Crate]):
-        self.folder = LANES / str(number)
+    def __init__(self, name: str, crates: dict[str, Crate]):
+        self.folder = LANES / name
         self.folder.mkdir(parents=True, exist_ok=True)
         for name in ("crates.txt", "HANDLES"):
             shutil.copyfile(ROOT / name, self.folder / name)
@@ -222,7 +222,7 @@ class Proof:
         self.sums = sums_of(crates)
         self.estimate = Estimate(crates)
         self.processors = len(os.sched_getaffinity(0))
-        self.lanes = [Lane(number, every) for number in range(1, lanes + 1)]
+        self.lanes = [Lane(str(number), every) for number in range(1, lanes + 1)]
         self.runner = Runner()
         is_current = is_proved_and_built(crates)
         self.done = {it.name for it in crates if is_current or it is not self.top and is_marked(it, self.sums[it.name])}

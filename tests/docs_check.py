@@ -23,8 +23,9 @@ is a command, and the lines up to the next one are what it prints.
 
 Links within the repository must lead to a file, and to a heading of it. Each pair of
 examples must have the same canonical text, which is the stated one if there is one,
-and canonical texts must be fixed points. prose_lint.py must find nothing in the
-documents, the C header and the comments of the code.
+and canonical texts must be fixed points. docs/TRUST.md must list what trust_page.py
+derives from the imports of specs/. prose_lint.py must find nothing in the documents,
+the C header and the comments of the code.
 
 It needs git, make and gzip. Each difference is reported on one line; then they are
 counted. Exits with 1 if there is one.
@@ -41,6 +42,7 @@ from pathlib import Path
 
 import docs_tables
 import prose_lint
+import trust_page
 
 ROOT = Path(__file__).resolve().parent.parent
 PROGRAM = ROOT / "crates" / "mpslp" / "out" / "mpslp"
@@ -291,7 +293,7 @@ def main():
             told += document.wrong
     with tempfile.TemporaryDirectory() as folder:
         tried += check_examples(Scratch(folder, program), told)
-    told += prose_lint.check(code=True)
+    told += trust_page.check() + prose_lint.check(code=True)
     for line in told:
         print(line)
     print(f"{tried} tried, {len(told)} differ")
