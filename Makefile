@@ -63,9 +63,11 @@ vectors: program
 docs-check: program
 	python3 tests/docs_check.py
 
-# Feeds canonical texts to the solvers that are installed, as docs/SOLVERS.md says, and compares the optima.
+# Feeds canonical texts to the solvers that are installed, as docs/SOLVERS.md says, and compares the optima. Compares what glpsol
+# and CoinUtils read from each accepted file with what mpslp reads.
 solvers: program
 	python3 tests/solvers.py
+	python3 tests/compare_readers.py
 
 # Tests adapt: its rules, random models in other dialects, and what the installed solvers write of real models.
 dialects: program

@@ -1,0 +1,315 @@
+#!/usr/bin/env python3
+"""Compare what glpsol and CoinUtils read from a file with what mpslp reads, in full.
+
+Each accepted file of examples/ and vectors/ is read by the model of independent_reader.py,
+which make random compares with the program; so no built program is needed. glpsol and
+CoinUtils read the same file, and every row limit, bound, type, name and coefficient is
+compared, as doubles. A line that a reader requires and that means nothing is added to MPS
+before: for glpsol NAME, and for CoinUtils, the reader of clp and cbc, `NAME ANY FREE` and
+RHS, as the recipe of docs/SOLVERS.md has it.
+
+tests/reader_differences.tsv lists what differs: the reader, the format, what differs, the
+files, and the reason. A difference that is not listed is reported, and one that is listed
+and not found. --list prints the differences as they are found.
+
+It needs glpk-utils, and for CoinUtils g++ and coinor-libcoinutils-dev. What is missing is
+reported and skipped. Exits with 1 if something differs from the table.
+"""
+
+import argparse
+import csv
+import math
+import re
+import shutil
+import subprocess
+import sys
+import tempfile
+from collections import defaultdict
+from collections.abc import Callable, Iterator
+from concurrent.futures import ThreadPoolExecutor
+from dataclasses import dataclass, field
+from fractions import Fraction
+from pathlib import Path
+
+import independent_reader as reader
+
+ROOT = Path(__file__).resolve().parent.parent
+TABLE = ROOT / "tests" / "reader_differences.tsv"
+COIN_SOURCE = ROOT / "tests" / "c" / "coin_reader.cpp"
+COIN_HEADERS = Path("/usr/include/coin")
+HEAD = ["reader", "format", "difference", "files", "reason"]
+SECONDS = 20
+# glpsol prints 15 digits.
+CLOSE = 1e-14
+
+
+@dataclass
+class Read:
+    """A model as a reader sees it: numbers are doubles, and the objective is minimised or maximised."""
+
+    sense: str = "minimize"
+    objective: str = ""
+    constant: float = 0.0
+    rows: dict[str, tuple[float, float]] = field(default_factory=dict)
+    kinds: dict[str, str] = field(default_factory=dict)
+    bounds: dict[str, tuple[float, float]] = field(default_factory=dict)
+    costs: dict[str, float] = field(default_factory=dict)
+    entries: dict[tuple[str, str], float] = field(default_factory=dict)
+
+
+class Rejected(Exception):
+    """Why a reader rejects a file."""
+
+
+# ---- mpslp
+
+def double(number: reader.Number | reader.Infinity) -> float:
+    if isinstance(number, reader.Infinity):
+        return math.copysign(math.inf, number.sign)
+    try:
+        return float(Fraction(number.mantissa) * Fraction(10) ** number.exponent)
+    except OverflowError:
+        return math.copysign(math.inf, number.mantissa)
+
+
+def own(model: reader.Model) -> Read:
+    """The model of mpslp, with numbers as doubles."""
+    found = Read(model.sense, model.objective, double(model.constant))
+    found.rows = {name: (double(lower), double(upper)) for name, (lower, upper) in model.rows.items()}
+    found.kinds = {name: column.kind for name, column in model.columns.items()}
+    found.bounds = {name: (double(column.lower), double(column.upper)) for name, column in model.columns.items()}
+    for (column, row), number in model.coefficients.items():
+        if row == model.objective:
+            found.costs[column] = double(number)
+        else:
+            found.entries[column, row] = double(number)
+    return found
+
+
+# ---- glpsol
+
+def limits_of(words: list[str]) -> tuple[float, float]:
+    """The limits after a letter of the format of GLPK: free, lower, upper, double or fixed."""
+    letter, *numbers = words
+    values = list(map(float, numbers))
+    return {"f": (-math.inf, math.inf), "l": (*values, math.inf)[:2], "u": (-math.inf, *values)[:2], "d": tuple(values[:2]),
+            "s": (*values, *values)[:2]}[letter]
+
+
+def by_glpsol(form: str, file: Path) -> Read:
+    out = file.with_suffix(".glp")
+    if form == "mps" and not re.search(rb"^NAME\b", file.read_bytes(), re.M):
+        file.write_bytes(b"NAME\n" + file.read_bytes())
+    run = subprocess.run(["glpsol", {"mps": "--freemps", "lp": "--lp"}[form], file, "--check", "--wglp", out], capture_output=True, timeout=SECONDS)
+    if run.returncode or not out.exists():
+        raise Rejected(message_of(run.stdout, r"^.*?model\.\w+:\d+: (?!warning)(.*)$"))
+    return read_glp(out.read_text(encoding="latin-1"))
+
+
+def read_glp(text: str) -> Read:
+    """The format that glpsol writes with --wglp: problem, names, rows, columns and coefficients by number."""
+    lines = [line.split() for line in text.splitlines()]
+    header = next(line for line in lines if line[0] == "p")
+    found = Read({"min": "minimize", "max": "maximize"}[header[2]])
+    rows = {str(number): f"row {number}" for number in range(1, int(header[3]) + 1)}
+    columns = {str(number): f"column {number}" for number in range(1, int(header[4]) + 1)}
+    for line in lines:
+        if line[:2] == ["n", "z"]:
+            found.objective = line[2]
+        elif line[0] == "n" and line[1] in "ij":
+            {"i": rows, "j": columns}[line[1]][line[2]] = line[3]
+    # what has no line of its own: an equation with 0; a column from 0 to 1 if there are integer columns, otherwise from 0 to infinity
+    is_mip = header[1] == "mip"
+    found.rows = dict.fromkeys(rows.values(), (0.0, 0.0))
+    found.kinds = dict.fromkeys(columns.values(), "integer" if is_mip else "continuous")
+    found.bounds = dict.fromkeys(columns.values(), (0.0, 1.0 if is_mip else math.inf))
+    for line in lines:
+        if line[0] == "i":
+            found.rows[rows[line[1]]] = limits_of(line[2:])
+        elif line[0] == "j":
+            kind, *words = line[2:] if is_mip else ["c", *line[2:]]
+            found.kinds[columns[line[1]]] = "integer" if kind == "i" else "continuous"
+            found.bounds[columns[line[1]]] = limits_of(words)
+        elif line[0] == "a" and line[1] == "0" and line[2] == "0":
+            found.constant = float(line[3])
+        elif line[0] == "a" and line[1] == "0":
+            found.costs[columns[line[2]]] = float(line[3])
+        elif line[0] == "a":
+            found.entries[columns[line[2]], rows[line[1]]] = float(line[3])
+    return found
+
+
+# ---- CoinUtils
+
+def by_coin(program: Path, form: str, file: Path) -> Read:
+    if form == "mps":
+        file.write_bytes(prepared_for_coin(file.read_bytes()))
+    run = subprocess.run([program, form, file], capture_output=True, timeout=SECONDS)
+    complaint = re.search(rb"^(?:Coin\d+[EW]|### ERROR:?) (.*)$", run.stdout + run.stderr, re.M)
+    if run.returncode or complaint:
+        raise Rejected(message_of(run.stdout + run.stderr, r"^(?:Coin\d+[A-Z]|### ERROR:?) *(.*)$"))
+    return read_coin(run.stdout.decode("latin-1"))
+
+
+def prepared_for_coin(text: bytes) -> bytes:
+    """The text with the line NAME that makes CoinUtils read fields by spaces, and with an RHS section, which it requires."""
+    if not re.search(rb"^RHS\b", text, re.M):
+        text = re.sub(rb"^(?=(?:RANGES|BOUNDS|ENDATA)\b)", b"RHS\n", text, count=1, flags=re.M)
+    if re.search(rb"^NAME\b.*$", text, re.M):
+        return re.sub(rb"^NAME\b[^\r\n]*", b"NAME  ANY  FREE", text, count=1, flags=re.M)
+    return b"NAME  ANY  FREE\n" + text
+
+
+def read_coin(text: str) -> Read:
+    found = Read()
+    for line in text.splitlines():
+        sort, *words = line.split(" ")
+        if sort == "objective":
+            found.objective, found.constant = words[0], float(words[1])
+        elif sort == "row":
+            found.rows[words[0]] = float(words[1]), float(words[2])
+        elif sort == "column":
+            found.kinds[words[0]] = words[1]
+            found.bounds[words[0]] = float(words[2]), float(words[3])
+            found.costs[words[0]] = float(words[4])
+        elif sort == "entry":
+            found.entries[words[0], words[1]] = float(words[2])
+    return found
+
+
+def minimised(model: Read) -> Read:
+    """The model with the objective of CoinUtils, which reads `max` as the negated objective to be minimised."""
+    if model.sense == "minimize":
+        return model
+    costs = {name: -value for name, value in model.costs.items()}
+    return Read("minimize", model.objective, -model.constant, model.rows, model.kinds, model.bounds, costs, model.entries)
+
+
+# ---- comparing
+
+def message_of(output: bytes, pattern: str) -> str:
+    """The first message of a reader without the places and the names in it."""
+    found = re.search(pattern, output.decode("latin-1"), re.M)
+    text = re.sub(r"'[^']*'|<[^>]*>|\b\d+\b", "..", found[1]) if found else "no message"
+    return f"rejects: {' '.join(text.split())[:60]}"
+
+
+def same(one: float, other: float) -> bool:
+    return one == other or math.isclose(one, other, rel_tol=CLOSE)
+
+
+def same_pair(one: tuple[float, float], other: tuple[float, float]) -> bool:
+    return same(one[0], other[0]) and same(one[1], other[1])
+
+
+def nonzeros(values: dict) -> dict:
+    return {key: value for key, value in values.items() if value}
+
+
+def differ(have: dict, want: dict, equal: Callable = same) -> bool:
+    """Whether values of the same keys differ."""
+    return any(not equal(have[key], want[key]) for key in have.keys() & want.keys())
+
+
+def differences(have: Read, want: Read) -> Iterator[str]:
+    """What a reader sees otherwise than mpslp."""
+    costs, entries = (nonzeros(have.costs), nonzeros(want.costs)), (nonzeros(have.entries), nonzeros(want.entries))
+    tests = (
+        ("sense", have.sense != want.sense),
+        ("name of the objective", have.objective != want.objective),
+        ("constant", not same(have.constant, want.constant)),
+        ("rows dropped", want.rows.keys() - have.rows.keys()),
+        ("rows added", have.rows.keys() - want.rows.keys()),
+        ("limits", differ(have.rows, want.rows, same_pair)),
+        ("columns dropped", want.bounds.keys() - have.bounds.keys()),
+        ("columns added", have.bounds.keys() - want.bounds.keys()),
+        ("types", differ(have.kinds, want.kinds, str.__eq__)),
+        ("bounds", differ(have.bounds, want.bounds, same_pair)),
+        ("objective", costs[0].keys() != costs[1].keys() or differ(*costs)),
+        ("coefficients", entries[0].keys() != entries[1].keys() or differ(*entries)),
+    )
+    return (what for what, is_other in tests if is_other)
+
+
+def compared(name: str, read: Callable[[str, Path], Read], form: str, text: bytes, want: Read) -> str:
+    """What differs for a file, or an empty text."""
+    with tempfile.TemporaryDirectory() as folder:
+        file = Path(folder) / f"model.{form}"
+        file.write_bytes(text)
+        try:
+            have = read(form, file)
+        except Rejected as rejected:
+            return str(rejected)
+        except subprocess.TimeoutExpired:
+            return "does not end"
+    return ", ".join(differences(have, minimised(want) if name == "CoinUtils" and form == "lp" else want))
+
+
+def accepted_files() -> Iterator[tuple[str, str, bytes, Read]]:
+    for folder in ("examples", "vectors"):
+        for path in sorted((ROOT / folder).iterdir()):
+            form = path.suffix[1:]
+            if form in ("mps", "lp"):
+                model = reader.read(path.read_bytes(), form)
+                if not isinstance(model, reader.Fault):
+                    yield f"{folder}/{path.name}", form, path.read_bytes(), own(model)
+
+
+def readers(folder: Path) -> dict[str, Callable[[str, Path], Read]]:
+    """The readers that are installed."""
+    found: dict[str, Callable[[str, Path], Read]] = {}
+    if shutil.which("glpsol"):
+        found["glpsol"] = by_glpsol
+    else:
+        print("skipped: glpsol: apt-get install glpk-utils")
+    if shutil.which("g++") and COIN_HEADERS.exists():
+        program = folder / "coin_reader"
+        subprocess.run(["g++", "-o", program, COIN_SOURCE, f"-I{COIN_HEADERS}", "-lCoinUtils"], check=True)
+        found["CoinUtils"] = lambda form, file: by_coin(program, form, file)
+    else:
+        print("skipped: CoinUtils: apt-get install g++ coinor-libcoinutils-dev")
+    return found
+
+
+def found_differences(installed: dict) -> tuple[int, dict[tuple[str, str, str], list[str]]]:
+    """The number of comparisons, and the files by reader, format and difference."""
+    tasks = [(name, read, path, form, text, want) for path, form, text, want in accepted_files() for name, read in installed.items()]
+    with ThreadPoolExecutor() as pool:
+        results = list(pool.map(lambda task: compared(task[0], task[1], task[3], task[4], task[5]), tasks))
+    found = defaultdict(list)
+    for (name, _, path, form, _, _), difference in zip(tasks, results):
+        if difference:
+            found[name, form, difference].append(path)
+    return len(tasks), dict(found)
+
+
+def known_differences() -> dict[tuple[str, str, str], list[str]]:
+    known = defaultdict(list)
+    with TABLE.open(newline="") as file:
+        for row in list(csv.reader(file, delimiter="\t", quoting=csv.QUOTE_NONE))[1:]:
+            known[tuple(row[:3])] += row[3].split()
+    return dict(known)
+
+
+def main() -> int:
+    parser = argparse.ArgumentParser(description=__doc__, formatter_class=argparse.RawDescriptionHelpFormatter)
+    parser.add_argument("--list", action="store_true", help="print the differences as they are found")
+    options = parser.parse_args()
+    with tempfile.TemporaryDirectory() as folder:
+        installed = readers(Path(folder))
+        number, found = found_differences(installed)
+    if options.list:
+        for key, files in sorted(found.items()):
+            print("\t".join([*key, " ".join(files)]))
+        return 0
+    known, told = known_differences(), []
+    for key in sorted(found.keys() | {key for key in known if key[0] in installed}):
+        have, want = set(found.get(key, ())), set(known.get(key, ()))
+        told += [f"{key[0]}, {file}: {key[2]}" for file in sorted(have - want)]
+        told += [f"{key[0]}, {file}: not found: {key[2]}" for file in sorted(want - have)]
+    print("\n".join([*told, f"{number} compared, {sum(map(len, found.values()))} known differences, {len(told)} not as the table has them"]))
+    return 1 if told else 0
+
+
+if __name__ == "__main__":
+    sys.exit(main())
