@@ -43,7 +43,7 @@ MARKS = r"(?:(?:abbrev|unfoldable|pub|record|data) )+"
 SIGNATURE = re.compile(rf"(?:{MARKS}| {{2}}(?=abbrev|unfoldable){MARKS})([^\s:({{]+)")
 IS_DATA = re.compile(r"(?:pub )?data ")
 CONSTRUCTOR = re.compile(r"  (\S+) :")
-WORD = re.compile(r"(\w+)\.([^\s(){},;.\[\]]+)|[^\s(){},;.\[\]]+")
+WORD = re.compile(r"(\w+)\.([^\s(){},;.\[\]]+)|\[\]|[^\s(){},;.\[\]]+")
 BLOCK = re.compile(r"^<!-- trust: (.+) -->\n((?:[^\n]+\n)*)", re.M)
 
 
