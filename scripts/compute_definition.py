@@ -22,10 +22,14 @@ from prove import Lane, below, crates_of_repository
 
 READER = ROOT / "tests" / "independent_reader.py"
 CRATE = "own_file"
+# The status of `rt check` if it is the claim that is not proved.
+NOT_PROVED = 1
 # The crates whose definitions and lemmas the claim cites.
 USES = (
     "mpslp_decimal mpslp_types mpslp_model_core mpslp_builder mpslp_lines mpslp_mps mpslp_lp_tokens mpslp_lp_grammar mpslp_lp mpslp_canonical_mps"
 )
+# The lines in which the checker says what it rejects: where one value is expected, it found the other.
+OF_AN_ERROR = re.compile(r": error: |^  ")
 FAULT = re.compile(r"(?:line (\d+)|file): (\w+)(?: (\S+))?\n?")
 
 CODE = """\
@@ -54,7 +58,7 @@ abbrev pub lines : List (List ℕ)
 lines = {lines}
 
 abbrev pub bytes : List ℕ
-bytes = flat_map (λ line. line ++ 10 ∷ []) lines ++ {rest}
+bytes = flat_map (λ line. line ++ 10 ∷ []) lines{rest}
 """
 
 TEXT_FILE = """\
@@ -70,7 +74,7 @@ abbrev pub claimed_lines : List (List ℕ)
 claimed_lines = {claimed}
 
 abbrev pub claimed_text : List ℕ
-claimed_text = flat_map (λ line. line ++ 10 ∷ []) claimed_lines ++ {claimed_rest}
+claimed_text = flat_map (λ line. line ++ 10 ∷ []) claimed_lines{claimed_rest}
 
 -- the bytes declare a model, and this is its canonical text
 abbrev pub Claim : Type 0
@@ -142,9 +146,9 @@ def literal(line: bytes) -> str:
 
 
 def listed(text: bytes) -> tuple[str, str]:
-    """The lines of a text that end with a line feed, and its rest, as lists of bytes."""
+    """The lines of a text that end with a line feed, as a list of lists of bytes, and what is appended to them."""
     *lines, rest = text.split(b"\n")
-    return "\n    ∷ ".join([*map(literal, lines), "[]"]), literal(rest)
+    return "\n    ∷ ".join([*map(literal, lines), "[]"]), f" ++ {literal(rest)}" if rest else ""
 
 
 def claim_of_reader(form: str, file: Path) -> bytes:
@@ -182,8 +186,7 @@ def crate_with(files: dict[str, str]) -> Path:
     every = crates_of_repository()
     used = {crate.name: crate for use in USES.split() for crate in below(every, use)}
     lane = Lane("own", used)
-    listing = lane.folder / "crates.txt"
-    listing.write_text(f"{listing.read_text()}{CRATE}: {USES}\n")
+    (lane.folder / "crates.txt").write_text("".join(f"{line}\n" for line in (*(crate.line for crate in used.values()), f"{CRATE}: {USES}")))
     folder = lane.folder / "crates" / CRATE
     shutil.rmtree(folder, ignore_errors=True)
     for name, text in files.items():
@@ -205,11 +208,15 @@ def main() -> int:
     folder = crate_with(sources(form, options.file.read_bytes(), claim))
     print(f"the claim is {(folder / 'specs' / 'File.antt').relative_to(ROOT)}; the checker computes the definitions", flush=True)
     check = subprocess.run(["rt", "check"], cwd=folder, stdin=subprocess.DEVNULL, stdout=subprocess.PIPE, stderr=subprocess.STDOUT, check=False)
-    printed = check.stdout.decode("latin-1")
-    if check.returncode:
-        print("\n".join(printed.splitlines()[-15:]), file=sys.stderr)
+    printed = check.stdout.decode(errors="replace").splitlines()
+    if check.returncode == NOT_PROVED:
+        print("\n".join(line for line in printed if OF_AN_ERROR.search(line)), file=sys.stderr)
         print("not proved: by the definitions this is not the result of the file", file=sys.stderr)
-        return 1
+    elif check.returncode:
+        print("\n".join(printed[-15:]), file=sys.stderr)
+        print("the checker gave no verdict", file=sys.stderr)
+    if check.returncode:
+        return check.returncode
     sys.stdout.write(f"proved: the result of {options.file} is\n{claim.decode('latin-1')}")
     return 0
 
