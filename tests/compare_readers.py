@@ -35,7 +35,7 @@ import independent_reader as reader
 
 ROOT = Path(__file__).resolve().parent.parent
 TABLE = ROOT / "tests" / "reader_differences.tsv"
-COIN_SOURCE = ROOT / "tests" / "c" / "coin_reader.cpp"
+COIN_SOURCE = ROOT / "tests" / "coin_reader.cpp"
 COIN_HEADERS = Path("/usr/include/coin")
 HEAD = ["reader", "format", "difference", "files", "reason"]
 SECONDS = 20
