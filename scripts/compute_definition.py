@@ -6,7 +6,7 @@ text or the line of an error, such as `line 4: BadNumber`; otherwise by tests/in
 this claim is written to build/lanes/own/crates/own_file: the bytes of the file and the claim, in the definitions that
 docs/TRUST.md lists. The checker proves it by computing the definitions on the bytes, or rejects it. No code of mpslp runs.
 
-The first call on a machine proves the crates with the definitions, if `make` has not: some 15 minutes. Large files take long; a
+The first call on a machine proves the crates with the definitions, if `make` has not: some 20 minutes. Large files take long; a
 hundred lines are no problem.
 """
 
