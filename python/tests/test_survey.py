@@ -189,11 +189,12 @@ class Command(Collection):
 
     def test_interrupted_runs_begin_no_further_file(self):
         """The processes are interrupted, as at a terminal, while they read pipes, which give no end of file before that."""
-        for jobs, pipes in (("1", ["0.mps"]), ("2", ["0.mps", "1.mps"])):
+        for jobs, pipes in (("1", ["0.mps"]), ("2", ["0.mps", "1.mps"]), ("3", ["0.mps", "1.mps"])):  # the third is idle
             for name in pipes:
                 os.mkfifo(name)
             running = subprocess.Popen([*TOOLS, "survey", "-j", jobs, *pipes, "a.mps", "b.lp"], stdout=subprocess.PIPE, stderr=subprocess.PIPE, start_new_session=True)
             writers = [self.opened_as_reader_is_there(name) for name in pipes]
+            time.sleep(1)  # a further process is done with the other files
             os.killpg(running.pid, signal.SIGINT)
             time.sleep(1)  # the signal is handled while the pipes are read
             for writer in writers:

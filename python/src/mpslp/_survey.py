@@ -85,7 +85,7 @@ class Survey:
     @cached_property
     def changes(self) -> Mapping[str, int]:
         """How many files are adapted by a change of each kind, the most frequent first."""
-        return _by_number(kind for file in self.files if file.result == "adapted" for kind in file.changes)
+        return _by_number(kind for file in self.files for kind in file.changes)
 
     @cached_property
     def groups(self) -> tuple[tuple[str, ...], ...]:
@@ -270,7 +270,7 @@ def _table(files: Iterable[SurveyedFile]) -> Iterator[str]:
 def _cell(value: object) -> object:
     if isinstance(value, Mapping):
         return " ".join(f"{kind}:{number}" for kind, number in value.items())
-    return "" if value is None else value
+    return value
 
 
 def _value(value: object) -> object:
