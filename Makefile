@@ -69,9 +69,12 @@ solvers: program
 	python3 tests/solvers.py
 	python3 tests/compare_readers.py
 
-# Tests adapt: its rules, random models in other dialects, and what the installed solvers write of real models.
+# Tests adapt and check --portable: their rules, random models in other dialects, and what the installed solvers write of real
+# models.
 dialects: program
 	python3 tests/adapt_rules.py --wrong
+	python3 tests/portable_rules.py --wrong
+	python3 tests/portable_programs.py
 	python3 tests/adapt_random.py
 	python3 tests/adapt_writers.py
 

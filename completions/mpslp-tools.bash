@@ -1,7 +1,7 @@
 # Completion of mpslp-tools for bash.
 _mpslp_tools() {
     local word=${COMP_WORDS[COMP_CWORD]} previous=${COMP_WORDS[COMP_CWORD - 1]} command=${COMP_WORDS[1]}
-    local commands='canon check same diff show digest explain adapt report' options='--help --format'
+    local commands='canon check same diff show digest explain adapt survey report' options='--help --format'
     COMPREPLY=()
     if ((COMP_CWORD == 1)); then
         mapfile -t COMPREPLY < <(compgen -W "$commands --help --version" -- "$word")
@@ -12,7 +12,7 @@ _mpslp_tools() {
             mapfile -t COMPREPLY < <(compgen -W 'mps lp' -- "$word")
             return
             ;;
-        -j | --jobs | --digits | --strict)
+        -j | --jobs | --digits | --strict | --ignore)
             return
             ;;
         --from)
@@ -22,10 +22,12 @@ _mpslp_tools() {
     esac
     case $command in
         canon) options+=' --output --in-place --to --jobs' ;;
-        check | digest) options+=' --jobs' ;;
+        check) options+=' --jobs --portable --ignore' ;;
+        digest) options+=' --jobs' ;;
         diff) options+=' --ignore-objective-name --digits --by-position' ;;
         explain) options=--help ;;
         adapt) options+=' --output --from --dry-run --strict --map --names-back' ;;
+        survey) options='--help --jobs --csv --json' ;;
         report) options='--help --output --digits --by-position' ;;
     esac
     case $command:$word in

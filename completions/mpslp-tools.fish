@@ -18,12 +18,13 @@ complete -c mpslp-tools -n __mpslp_tools_first -a show -d 'Print the model of a 
 complete -c mpslp-tools -n __mpslp_tools_first -a digest -d 'Print a checksum of the model of each file'
 complete -c mpslp-tools -n __mpslp_tools_first -a explain -d 'Explain a kind of error'
 complete -c mpslp-tools -n __mpslp_tools_first -a adapt -d 'Rewrite a file of another dialect'
+complete -c mpslp-tools -n __mpslp_tools_first -a survey -d 'Make a table of a collection of models'
 complete -c mpslp-tools -n __mpslp_tools_first -a report -d 'Make a page about a model'
 complete -c mpslp-tools -n __mpslp_tools_first -l version -d 'Print the version'
 complete -c mpslp-tools -s h -l help -d 'Print help'
-complete -c mpslp-tools -n '__mpslp_tools_at canon check same diff show digest adapt report' -F
+complete -c mpslp-tools -n '__mpslp_tools_at canon check same diff show digest adapt survey report' -F
 complete -c mpslp-tools -n '__mpslp_tools_at canon check same diff show digest adapt' -s f -l format -xa 'mps lp' -d 'The format of a file whose extension does not say it'
-complete -c mpslp-tools -n '__mpslp_tools_at canon check digest' -s j -l jobs -x -d 'Work on so many files at a time'
+complete -c mpslp-tools -n '__mpslp_tools_at canon check digest survey' -s j -l jobs -x -d 'Work on so many files at a time'
 complete -c mpslp-tools -n '__mpslp_tools_at canon' -s t -l to -xa 'mps lp' -d 'The format to write'
 complete -c mpslp-tools -n '__mpslp_tools_at canon' -s i -l in-place -d 'Rewrite each file that is not canonical'
 complete -c mpslp-tools -n '__mpslp_tools_at canon adapt report' -s o -l output -rF -d 'Write to this file'
@@ -36,3 +37,7 @@ complete -c mpslp-tools -n '__mpslp_tools_at adapt' -l dry-run -d 'Only report t
 complete -c mpslp-tools -n '__mpslp_tools_at adapt' -l strict -x -d 'Leave the file if it needs a change of this kind'
 complete -c mpslp-tools -n '__mpslp_tools_at adapt' -l map -rF -d 'Write the names given and the names written'
 complete -c mpslp-tools -n '__mpslp_tools_at adapt' -l names-back -rF -d 'Write a solution with the names given'
+complete -c mpslp-tools -n '__mpslp_tools_at check' -l portable -d 'Print what other programs may read otherwise'
+complete -c mpslp-tools -n '__mpslp_tools_at check' -l ignore -x -d 'Leave out remarks of this kind'
+complete -c mpslp-tools -n '__mpslp_tools_at survey' -l csv -d 'Print comma-separated values'
+complete -c mpslp-tools -n '__mpslp_tools_at survey' -l json -d 'Print JSON'

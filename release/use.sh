@@ -74,6 +74,8 @@ for tools in mpslp-tools planning/bin/mpslp-tools; do
     test "$($tools diff examples/small.mps examples/small.lp)" = same || die "$tools diff finds a difference"
     ! $tools check examples/small.canonical.lp examples/small.lp > said || die "$tools check finds no file"
     test "$(cat said)" = examples/small.lp || die "$tools check finds other files: $(cat said)"
+    $tools survey -j 2 examples > said
+    grep -q ' accepted$' said || die "$tools survey accepts no file: $(cat said)"
     $tools explain DuplicateEntry > said
     grep -q 'Add the coefficients' said || die "$tools explain has no causes"
 done

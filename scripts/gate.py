@@ -45,6 +45,7 @@ TESTS = (
     Test("documents", ("python3", "tests/docs_check.py")),
     Test("random models in other dialects", ("python3", "tests/adapt_random.py", "--models", "300")),
     Test("rules for other dialects", ("python3", "tests/adapt_rules.py", "--wrong")),
+    Test("what other programs read otherwise", ("python3", "tests/portable_rules.py", "--wrong")),
     Test("digests of canonical texts", ("python3", "tests/digests.py")),
     Test("version", ("sh", "release/version.sh", "crates/mpslp/out/mpslp")),
 )

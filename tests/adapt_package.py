@@ -28,5 +28,6 @@ if GIVEN or importlib.util.find_spec("mpslp") is None or importlib.util.find_spe
     _stand_in()
 
 from mpslp._adapt import AdaptError, adapt_text, command  # noqa: E402
+from mpslp._portable import KINDS, remarks_of  # noqa: E402
 
-__all__ = ["AdaptError", "adapt_text", "command"]
+__all__ = ["AdaptError", "KINDS", "adapt_text", "command", "remarks_of"]

@@ -55,8 +55,8 @@ bounds
 """
 
 
-def rows():
-    with open(TABLE, newline="", encoding="utf-8") as table:
+def rows(path=TABLE):
+    with open(path, newline="", encoding="utf-8") as table:
         return list(csv.DictReader(table, delimiter="\t", quoting=csv.QUOTE_NONE))
 
 
@@ -139,11 +139,12 @@ def check(program):
     return found, len(tried)
 
 
-def missing_in_page():
+def missing_in_page(table, line_of):
+    """The rows of a table whose lines, as a function makes them, are not in the page."""
     page = PAGE.read_text(encoding="utf-8")
-    for number, row in enumerate(rows(), 2):
-        if table_line(row) not in page:
-            yield f"docs/DIALECTS.md: the row of docs/adapt.tsv:{number} is missing: {table_line(row)}"
+    for number, row in enumerate(rows(table), 2):
+        if line_of(row) not in page:
+            yield f"docs/DIALECTS.md: the row of docs/{table.name}:{number} is missing: {line_of(row)}"
 
 
 def table_line(row):
@@ -161,27 +162,25 @@ def shown(cell):
     return "<br>".join(f"`{line}`" for line in lines if line)
 
 
-def wrong_rules():
-    """Whether the examples find each of the wrong rules: lines for those that they do not find."""
-    with open(WRONG, newline="", encoding="utf-8") as table:
-        wrong = list(csv.DictReader(table, delimiter="\t", quoting=csv.QUOTE_NONE))
+def wrong_rules(script, wrong=WRONG, package="_adapt"):
+    """Whether the examples of a script find each of the wrong rules: lines for those that they do not find."""
     sources = ROOT / "python" / "src"
-    for number, row in enumerate(wrong, 2):
+    for number, row in enumerate(rows(wrong), 2):
         with tempfile.TemporaryDirectory() as folder:
             subprocess.run(["cp", "-r", sources, folder], check=True)
-            module = Path(folder) / "src" / "mpslp" / "_adapt" / row["module"]
+            module = Path(folder) / "src" / "mpslp" / package / row["module"]
             text = module.read_text(encoding="utf-8")
             if text.count(row["right"]) != 1:
-                yield f"tests/adapt_wrong.tsv:{number}: {row['right']!r} is not in {row['module']} once"
+                yield f"tests/{wrong.name}:{number}: {row['right']!r} is not in {row['module']} once"
                 continue
             module.write_text(text.replace(row["right"], row["wrong"]), encoding="utf-8")
             environment = {**os.environ, "MPSLP_SOURCES": str(Path(folder) / "src" / "mpslp")}
-            if subprocess.run([sys.executable, "-B", __file__], env=environment, capture_output=True).returncode == 0:
-                yield f"tests/adapt_wrong.tsv:{number}: no example finds {row['wrong']!r} instead of {row['right']!r}"
+            if subprocess.run([sys.executable, "-B", script], env=environment, capture_output=True).returncode == 0:
+                yield f"tests/{wrong.name}:{number}: no example finds {row['wrong']!r} instead of {row['right']!r}"
 
 
-def arguments():
-    parser = argparse.ArgumentParser(description=__doc__, formatter_class=argparse.RawDescriptionHelpFormatter)
+def arguments(description):
+    parser = argparse.ArgumentParser(description=description, formatter_class=argparse.RawDescriptionHelpFormatter)
     parser.add_argument("--program", type=Path, default=PROGRAM, help="the path of mpslp")
     parser.add_argument("--wrong", action="store_true", help="make the rules wrong one by one")
     parser.add_argument("--table", action="store_true", help="print the tables of docs/DIALECTS.md")
@@ -189,7 +188,7 @@ def arguments():
 
 
 def main():
-    options = arguments()
+    options = arguments(__doc__)
     if options.table:
         for kind in ("mps", "lp"):
             for is_stop in (False, True):
@@ -199,9 +198,13 @@ def main():
     if program is None:
         print("skipped: the program is missing")
     found, tried = check(program)
-    found += missing_in_page()
+    found += missing_in_page(TABLE, table_line)
     if options.wrong:
-        found += wrong_rules()
+        found += wrong_rules(__file__)
+    return closing(found, tried)
+
+
+def closing(found, tried):
     print(*found, sep="\n", end="\n" if found else "")
     print(f"{tried} examples, {len(found)} differ")
     return 1 if found else 0

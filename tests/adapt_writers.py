@@ -260,7 +260,7 @@ def main():
         print("skipped: the program is missing: make run builds it")
         return 0
     with tempfile.TemporaryDirectory() as scratch:
-        folder = options.folder or Path(scratch) / "written"
+        folder = options.folder or Path(scratch) / "files"
         folder.mkdir(parents=True, exist_ok=True)
         checker = Checker(options.program.resolve(), Path(scratch))
         print("| files | accepted | adapted | left | kinds of changes, and why files are left |\n|---|---|---|---|---|")

@@ -15,6 +15,7 @@ from unittest import mock
 
 import mpslp
 from mpslp import _main
+from mpslp._lp_words import TOKEN
 from mpslp._numbers import number_text
 from mpslp._report import page
 from mpslp._report._declared import LOWER, UPPER, _Lp, declared_by
@@ -641,7 +642,7 @@ class DrawnModels(unittest.TestCase):
             if form == "lp":
                 with self.subTest(seed):
                     found = declared_by(read(text, "lp"), "")
-                    with mock.patch.object(_Lp, "_TERM", _Lp._TOKEN):
+                    with mock.patch.object(_Lp, "_TERM", TOKEN):
                         self.assertEqual(declared_by(read(text, "lp"), ""), found)
 
 

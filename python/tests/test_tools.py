@@ -73,6 +73,15 @@ class Directory(unittest.TestCase):
         """The same in a process of its own."""
         return subprocess.run([*TOOLS, *map(str, words)], capture_output=True, cwd=self.folder, timeout=60, **options)
 
+    def opened_as_reader_is_there(self, name):
+        """The end of a pipe that is written to, once its other end is open."""
+        for _ in range(600):
+            try:
+                return os.open(name, os.O_WRONLY | os.O_NONBLOCK)
+            except OSError:
+                time.sleep(0.1)
+        raise AssertionError(f"nobody reads {name}")
+
     def prints(self, words, status, output="", error="", content=b""):
         done = self.run_tools(*words, content=content)
         found = done.returncode, os.fsdecode(done.stdout), os.fsdecode(done.stderr)
@@ -232,15 +241,6 @@ class InPlace(Directory):
 
     def begun(self, *words):
         return subprocess.Popen([*TOOLS, *words], cwd=self.folder, stdout=subprocess.PIPE, stderr=subprocess.PIPE)
-
-    def opened_as_reader_is_there(self, name):
-        """The end of a pipe that is written to, once its other end is open."""
-        for _ in range(600):
-            try:
-                return os.open(name, os.O_WRONLY | os.O_NONBLOCK)
-            except OSError:
-                time.sleep(0.1)
-        raise AssertionError(f"nobody reads {name}")
 
 
 class Check(Directory):
@@ -446,7 +446,7 @@ class Command(Directory):
 
 class Completions(Directory):
     WANTED = {
-        "": "canon check same diff show digest explain adapt report --help --version", "d": "diff digest", "canon -t ": "mps lp", "check -f l": "lp",
+        "": "canon check same diff show digest explain adapt survey report --help --version", "d": "diff digest", "s": "same show survey", "check --p": "--portable", "survey --": "--help --jobs --csv --json", "canon -t ": "mps lp", "check -f l": "lp",
         "diff --": "--help --format --ignore-objective-name --digits --by-position", "canon -i sm": "small.lp small.mps", "explain DuplicateR": "DuplicateRange DuplicateRhs DuplicateRow",
         "diff --digits ": "",
     }

@@ -96,6 +96,21 @@ def adapted(source: mpslp.Source) -> None:
     assert_type(done.names, Mapping[str, str])
 
 
+def surveyed(source: mpslp.Source, path: Path, name: str) -> None:
+    for remark in mpslp.portability(source, "lp"):
+        assert_type(remark, mpslp.Remark)
+        assert_type((remark.line, remark.kind, remark.text), tuple[int, str, str])
+    found = mpslp.survey(path, name, jobs=2)
+    assert_type(found, mpslp.Survey)
+    assert_type(found.files[0], mpslp.SurveyedFile)
+    assert_type(found.files[0].result, Literal["accepted", "adapted", "rejected", "unreadable"])
+    assert_type(found.files[0].rows, Union[int, None])
+    assert_type(found.groups, tuple[tuple[str, ...], ...])
+    assert_type(found.errors, Mapping[str, int])
+    assert_type(found.csv(), str)
+    assert_type(found.json(), str)
+
+
 def wrong(text: bytes) -> None:
     mpslp.canonical(7, "mps")  # type: ignore[arg-type]
     mpslp.canonical(text, "qps")  # type: ignore[arg-type]

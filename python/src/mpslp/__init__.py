@@ -40,7 +40,9 @@ from mpslp._explanations import Cause, Explanation, explain
 from mpslp._faults import ModelFileError
 from mpslp._models import Column, Kind, Model, Row, Sense, dump, dumps, from_arrays, load
 from mpslp._numbers import Number, fraction
+from mpslp._portable import Remark, portability
 from mpslp._sources import Format, Source
+from mpslp._survey import Survey, SurveyedFile, survey
 
 __all__ = [
     "__version__",
@@ -62,11 +64,14 @@ __all__ = [
     "ModelDifference",
     "ModelFileError",
     "Number",
+    "Remark",
     "Row",
     "RowDifference",
     "RowOnly",
     "Sense",
     "Source",
+    "Survey",
+    "SurveyedFile",
     "assert_same_model",
     "adapt",
     "canonical",
@@ -79,7 +84,9 @@ __all__ = [
     "from_arrays",
     "is_canonical",
     "load",
+    "portability",
     "same",
+    "survey",
 ]
 
 # In whatever module they are defined, they are shown and pickled by the names under which they are found.

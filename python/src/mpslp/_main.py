@@ -24,8 +24,10 @@ from mpslp._files import model_files, replace_file
 from mpslp._models import model_of
 from mpslp._numbers import MOST_DIGITS
 from mpslp._places import about
+from mpslp._portable import KINDS, portability
 from mpslp._shown import shown
 from mpslp._sources import Format, Text, format_number, format_of_name, naming, read
+from mpslp._survey import survey_of
 
 STANDARD_INPUT = "-"
 _MOST_JOBS = 1000
@@ -112,13 +114,14 @@ def attempt(path: str, options: argparse.Namespace, work: Callable[[Text], Outco
 class Progress:
     """How many files are done, in one line of a terminal."""
 
-    def __init__(self, total: int) -> None:
-        self._is_shown = total > 1 and sys.stderr.isatty()
-        self._total = total
+    def __init__(self) -> None:
+        self._is_terminal = sys.stderr.isatty()
+        self._is_shown = False
 
-    def show(self, done: int) -> None:
-        if self._is_shown:
-            print(f"\r{done} of {self._total}", end="", file=sys.stderr, flush=True)
+    def show(self, done: int, total: int) -> None:
+        if self._is_terminal and total > 1:
+            print(f"\r{done} of {total}", end="", file=sys.stderr, flush=True)
+            self._is_shown = True
 
     def clear(self) -> None:
         if self._is_shown:
@@ -135,12 +138,12 @@ def for_each(paths: Iterable[str], options: argparse.Namespace, work: Callable[[
         _print(failure(str(error.filename), error))
 
     files = list(model_files(paths, report_directory))
-    progress = Progress(len(files))
+    progress = Progress()
     for done, outcome in enumerate(_outcomes(files, options, work), 1):
         if outcome.output or outcome.error:
             progress.clear()
             _print(outcome)
-        progress.show(done)
+        progress.show(done, len(files))
         worst = max(worst, outcome.status)
     progress.clear()
     return worst
@@ -205,11 +208,36 @@ def _write(text: Text, options: argparse.Namespace) -> Outcome:
 
 
 def check(options: argparse.Namespace) -> Status:
+    if options.portable:
+        return for_each(options.files, options, lambda text: _portable(text, options.ignore))
+    if options.ignore:
+        raise UsageError("--ignore leaves out remarks of --portable")
+
     def work(text: Text) -> Outcome:
         is_canonical = _mpslp.is_canonical(text.content, text.format)
         return Outcome() if is_canonical else Outcome(Status.DIFFERS, str(text.filename))
 
     return for_each(options.files, options, work)
+
+
+def _portable(text: Text, ignored: Sequence[str]) -> Outcome:
+    """What other programs may read otherwise in a file."""
+    remarks = [remark for remark in portability(text.content, _format_of(text)) if remark.kind not in ignored]
+    lines = "\n".join(f"{text.filename}:{remark}" for remark in remarks)
+    return Outcome(Status.DIFFERS if remarks else Status.DONE, lines)
+
+
+def survey(options: argparse.Namespace) -> Status:
+    progress = Progress()
+    try:
+        found = survey_of(options.paths, options.jobs, progress.show)
+    except ChildProcessError as error:
+        progress.clear()
+        print(error, file=sys.stderr)
+        return Status.FAILED
+    progress.clear()
+    print(found.csv() if options.csv else found.json() if options.json else f"{found}\n", end="")
+    return Status.FAILED if found.results["unreadable"] else Status.DONE
 
 
 def digest(options: argparse.Namespace) -> Status:
@@ -358,6 +386,7 @@ def parser(prog: str | None) -> Parser:
     _add_digest(commands)
     _add_explain(commands)
     _adapt.add_to(commands)
+    _add_survey(commands)
     if find_spec("mpslp._report") is not None:
         _add_report(commands)
     return made
@@ -372,9 +401,9 @@ class _Plain(argparse.RawDescriptionHelpFormatter):
 
 _EPILOG = """\
 The format of a file is that of its extension: .mps or .lp, also before .gz, .bz2, .xz or .zst.
-A FILE of - is standard input. For a directory, check, digest and canon -i take the model files in it.
+A FILE of - is standard input. For a directory, check, digest, survey and canon -i take the model files in it.
 
-exit status: 0 done, or the models are the same; 1 not the same, or not canonical; 2 a file is rejected;
+exit status: 0 done, or the models are the same; 1 not the same, not canonical or not portable; 2 a file is rejected;
 3 usage error; 4 a file cannot be opened, read or written; 5 out of memory. Of several files, the greatest."""
 
 
@@ -390,8 +419,12 @@ def _add_format(command: argparse.ArgumentParser) -> None:
 
 def _add_files(command: argparse.ArgumentParser, help: str) -> None:
     _add_format(command)
-    command.add_argument("-j", "--jobs", type=partial(whole_number, most=_MOST_JOBS), default=_processors(), metavar="N", help="work on N files at a time (default: the number of processors)")
+    _add_jobs(command)
     command.add_argument("files", nargs="+", metavar="FILE", help=help)
+
+
+def _add_jobs(command: argparse.ArgumentParser) -> None:
+    command.add_argument("-j", "--jobs", type=partial(whole_number, most=_MOST_JOBS), default=_processors(), metavar="N", help="work on N files at a time (default: the number of processors)")
 
 
 def _add_two_files(command: argparse.ArgumentParser) -> None:
@@ -410,7 +443,13 @@ def _add_canon(commands: Any) -> None:
 
 
 def _add_check(commands: Any) -> None:
-    command = _add(commands, "check", check, "print which files are not canonical", "Print the paths of the files that are not canonical.")
+    command = _add(
+        commands, "check", check, "print which files are not canonical",
+        "Print the paths of the files that are not canonical; with --portable, the lines that other programs may read\n"
+        "otherwise, as PATH:LINE: KIND: what is read.",
+    )
+    command.add_argument("--portable", action="store_true", help="print what other programs may read otherwise instead")
+    command.add_argument("--ignore", action="append", default=[], choices=KINDS, metavar="KIND", help="with --portable, leave out remarks of this kind; may be given more than once")
     _add_files(command, "a model file or a directory")
 
 
@@ -447,6 +486,19 @@ def _add_digest(commands: Any) -> None:
 def _add_explain(commands: Any) -> None:
     command = _add(commands, "explain", explanation, "explain a kind of error", "Print the usual causes of a kind of error, and what to do; without KIND, all kinds.")
     command.add_argument("kinds", nargs="*", metavar="KIND", help="such as DuplicateEntry")
+
+
+def _add_survey(commands: Any) -> None:
+    command = _add(
+        commands, "survey", survey, "make a table of a collection of models",
+        "Print a table of the model files in directories: which are accepted, adapted or rejected, how large they are, and\n"
+        "which define one model. The exit status is 0 also if files are rejected.",
+    )
+    _add_jobs(command)
+    form = command.add_mutually_exclusive_group()
+    form.add_argument("--csv", action="store_true", help="print comma-separated values, a line for each file")
+    form.add_argument("--json", action="store_true", help="print JSON")
+    command.add_argument("paths", nargs="+", metavar="DIRECTORY", help="a directory or a model file")
 
 
 def _add_report(commands: Any) -> None:

@@ -10,6 +10,7 @@ from __future__ import annotations
 import re
 from collections.abc import Iterable, Sequence
 from fractions import Fraction
+from itertools import pairwise, starmap
 from typing import Optional
 
 from mpslp._adapt import _numbers
@@ -30,7 +31,7 @@ from mpslp._adapt._lp_parts import (
     starts_with_side,
     wrapped,
 )
-from mpslp._adapt._lp_tokens import Token, Tokens, quadratic
+from mpslp._adapt._lp_tokens import Token, Tokens, no_column, other_comment, punctuation_after, quadratic
 from mpslp._adapt._names import RESERVED, Names, is_lp_name
 
 _SENSES = {
@@ -63,12 +64,15 @@ _OTHER_TOKENS = {
 _INFINITIES = ("inf", "infinity")
 _OTHER_INFINITIES = ("infty", "infin")
 _CONSTANT_OF_GLPSOL = re.compile(r"\\\* constant term = (-?)([0-9.]+(?:e[+-]?[0-9]+)?) \*\\")
+_OBJECTIVE_OF_LP_SOLVE = re.compile(r"^\s*(?:max|min)(?:imi[sz]e)?\s*:", re.IGNORECASE | re.MULTILINE)
+_WORDS_BEFORE_ERROR = 3
 _NO_BOUND = "no bound of the profile: a column and a number, or a column between two numbers"
 
 
 def adapt_lp(text: str, dialect: Optional[str], log: Log) -> tuple[str, dict[str, str]]:
     """The text of the profile, and the names written instead of names given."""
-    if re.match(r"\s*(?:/\*|//)", text) or re.match(r"\s*(?:max|min)(?:imi[sz]e)?\s*:", text, re.IGNORECASE):
+    is_commented = re.match(r"\s*(?:/\*|//)", text) is not None
+    if _OBJECTIVE_OF_LP_SOLVE.match(text) or (is_commented and _OBJECTIVE_OF_LP_SOLVE.search(text)):
         raise AdaptError(1, "the LP language of lp_solve: convert it with lp_solve -S1 -parse_only -wfmps model.mps model.lp")
     reader = Reader(text, dialect, log)
     return reader.read(), reader.names.written
@@ -111,6 +115,10 @@ class Reader:
         token = token or self.token
         if self.token.text in _OTHER_TOKENS:
             return AdaptError(self.token.line, _OTHER_TOKENS[self.token.text])
+        near = self.tokens.all[max(self.at - _WORDS_BEFORE_ERROR, 0) : self.at + 1]
+        known = (*starmap(punctuation_after, pairwise(near)), *map(other_comment, near))
+        for found in filter(None, known):
+            return found
         return AdaptError(token.line, f"{reason}: {token.text}" if token.text else reason)
 
     # ---- the file
@@ -127,6 +135,9 @@ class Reader:
             self.at += count
             if name == "end":
                 break
+            if self.token.kind == "colon":  # some write it after the keyword
+                self.edit(self.token, "keyword", "")
+                self.at += 1
             if name == "rows":
                 self.rows()
             elif name == "bounds":
@@ -372,6 +383,7 @@ class Reader:
             self.settle_label(label)
             self.settle_items(items, False)
             return
+        self.reject_punctuation(items)
         constant = f" {signed(self.number_text(self.sum_of(constants), start))}" if constants else ""
         body = (self.terms_text(items, start) + constant).strip().removeprefix("+ ")
         text = (f"{self.name_of(label)}: " if label else "") + body
@@ -482,6 +494,8 @@ class Reader:
             for side in outer:
                 self.settle_items(side, True)
             return
+        for side in row.sides:
+            self.reject_punctuation(side)
         self.replace(row.first.start, row.end, row.first.line, kinds, self.row_text(row, terms, outer, "number-first" in kinds))
 
     def row_text(self, row: Row, terms: list[Item], outer: list[list[Item]], is_flipped: bool) -> str:
@@ -528,6 +542,14 @@ class Reader:
             self.replace(row.first.start, row.end, row.first.line, ["row-without-terms"], text)
 
     # ---- terms
+
+    def reject_punctuation(self, items: Iterable[Item]) -> None:
+        """In a statement that is written again, neither 10,5 nor 10; is 10 times a column, and (10) is none."""
+        for item in items:
+            if item.name is not None:
+                found = (punctuation_after(item.numbers[0], item.name) if item.numbers else None) or no_column(item.name)
+                if found is not None:
+                    raise found
 
     def column_of(self, items: Iterable[Item]) -> None:
         if self.first_column is None:

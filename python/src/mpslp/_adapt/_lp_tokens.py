@@ -75,3 +75,29 @@ class Tokens:
 
 def quadratic(token: Token) -> AdaptError:
     return AdaptError(token.line, "a quadratic term: the profile has linear ones; remove it, or linearise it")
+
+
+def punctuation_after(number: Token, word: Token) -> Optional[AdaptError]:
+    """The error of a number with a comma or a semicolon after it, which is no column that the number is the coefficient of; or None."""
+    if number.kind != "number" or word.kind != "word" or word.text[0] not in ",;":
+        return None
+    is_joined = number.end == word.start
+    if is_joined and re.match(r",[0-9]", word.text):
+        return AdaptError(number.line, f"a comma in a number: write a decimal point: {number.text}{word.text}")
+    if is_joined or word.text in (",", ";"):
+        return AdaptError(number.line, f"after the number is a {word.text[0]}, which is a letter of names in LP: remove it")
+    return None
+
+
+def no_column(word: Token) -> Optional[AdaptError]:
+    """The error of a name without a letter, such as (10) or %, which nobody means as a column; or None."""
+    if re.fullmatch(r"[0-9(),;.%$'\"!?]+", word.text) is None:
+        return None
+    return AdaptError(word.line, f"{word.text} is a name in LP: write the number without marks")
+
+
+def other_comment(word: Token) -> Optional[AdaptError]:
+    """The error of a word that starts a comment of another language; or None."""
+    if word.kind == "word" and (word.text.startswith(("//", "/*")) or word.text in ("#", "%")):
+        return AdaptError(word.line, f"a comment starts with \\ in LP, not with {word.text[:2]}")
+    return None

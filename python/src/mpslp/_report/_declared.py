@@ -13,6 +13,7 @@ from dataclasses import dataclass, field
 from decimal import Decimal, InvalidOperation
 
 from mpslp import _mpslp
+from mpslp._lp_words import OTHERS, TOKEN, WORD
 from mpslp._numbers import LARGE
 from mpslp._sources import Text
 
@@ -201,19 +202,15 @@ def _pairs(fields: Fields) -> Iterator[tuple[str, bytes]]:
 class _Lp:
     """Reads the tokens of an LP file, line by line: no token goes over the end of a line."""
 
-    _SYMBOLS = r"!\"#$%&(),/;?@_'`{}|~"
-    _WORD = rf"(?P<word>[A-Za-z{_SYMBOLS}][A-Za-z0-9.{_SYMBOLS}]*)"
-    _OTHERS = r"\\.*|(?P<number>(?:\d+\.?\d*|\.\d+)(?:[eE][+-]?\d+)?)|(?P<relation>[<>]=?|=[<>]?)|(?P<sign>[+-])|(?P<colon>:)"
-    _TOKEN = re.compile(f"{_WORD}|{_OTHERS}")
     # A word with the sign and the number before it, which is three times as fast. The number is short, so it is not infinite
     # and may be left out, be it a coefficient or the side of the row before.
-    _TERM = re.compile(rf"(?:[+-] *)?(?:(?:\d{{1,15}}(?:\.\d{{0,15}})?|\.\d{{1,15}})(?![\d.]|[eE][+-]?\d) *)?{_WORD}|{_OTHERS}")
+    _TERM = re.compile(rf"(?:[+-] *)?(?:(?:\d{{1,15}}(?:\.\d{{0,15}})?|\.\d{{1,15}})(?![\d.]|[eE][+-]?\d) *)?{WORD}|{OTHERS}")
     _INFINITIES = frozenset(("inf", "infinity"))
 
     def __init__(self) -> None:
         self.declared = Declared(is_mps=False, has_sense=True)
         self._take: Callable[[str, str], None] = self._nothing
-        self._pattern = self._TOKEN
+        self._pattern = TOKEN
         self._side = ""
         self._is_side = False
         self._bound_so_far: list[str] = []
@@ -222,9 +219,9 @@ class _Lp:
             (self._objective, self._TERM, "min minimize minimum max maximize maximum"),
             (self._row, self._TERM, "st s.t. st."),
             (self._second_word, self._TERM, "subject such"),
-            (self._bound, self._TOKEN, "bound bounds"),
-            (self._binary, self._TOKEN, "binary binaries bin"),
-            (self._nothing, self._TOKEN, "general generals gen integer integers int semi semis"),
+            (self._bound, TOKEN, "bound bounds"),
+            (self._binary, TOKEN, "binary binaries bin"),
+            (self._nothing, TOKEN, "general generals gen integer integers int semi semis"),
         )
         self._sections = {word: (take, pattern) for take, pattern, words in sections for word in words.split()}
 

@@ -1,0 +1,120 @@
+"""What other programs may read otherwise in an MPS file: a function for each kind."""
+
+from __future__ import annotations
+
+from collections.abc import Callable
+
+from mpslp._adapt._numbers import parts
+from mpslp._portable._mps import Bound, MpsFile
+from mpslp._portable._numbers import is_large
+from mpslp._portable._remarks import Found
+from mpslp._portable._words import Word, of_names, of_numbers, of_rest
+
+_UPPER = ("UP", "UI", "PL", "FX", "FR", "BV", "SC")
+
+
+_LOWER = ("LO", "LI", "MI", "FX", "FR", "BV")
+
+
+def sense_in_comment(file: MpsFile) -> Found:
+    is_maximised = _is_maximised(file)
+    for line, text in file.comments:
+        word = text[1:].replace(" ", "").upper()
+        if word.startswith("SENSE:M") and word.startswith("SENSE:MAX") != is_maximised:
+            yield line, f"the comment is ignored, and the model {'maximised' if is_maximised else 'minimised'}; PuLP writes the sense there"
+
+
+def objsense(file: MpsFile) -> Found:
+    if file.sense is not None and _is_maximised(file):
+        others = "lp_solve ignores the word on the line of OBJSENSE" if file.is_sense_in_header else "clp and cbc ignore OBJSENSE"
+        yield file.sense.line, f"the model is maximised; {others} and minimise{'s' if file.is_sense_in_header else ''}"
+
+
+def further_n_row(file: MpsFile) -> Found:
+    objective = file.objective
+    for name, (line, kind) in file.types.items():
+        if kind == "N" and name != objective:
+            yield line, f"{name} is a free row; glpsol, clp, cbc and lp_solve drop it"
+
+
+def marked_without_bound(file: MpsFile) -> Found:
+    for name, column in file.columns.items():
+        if column.is_marked and name not in file.bounds:
+            yield column.line, f"{name} is an integer column from 0 to 1; for lp_solve it has no upper bound"
+
+
+def marked_with_lower_bound(file: MpsFile) -> Found:
+    for name, column in file.columns.items():
+        bounds = file.bounds.get(name, [])
+        if column.is_marked and bounds and not _given(bounds, _UPPER):
+            yield bounds[0].line, f"{name} is an integer column without an upper bound; for glpsol it has the upper bound 1"
+
+
+def objective_rhs(file: MpsFile) -> Found:
+    objective = file.objective
+    for line, row, number in file.sides:
+        if row == objective and parts(number)[0]:
+            yield line, f"the constant of the objective is minus {number}; for glpsol and lp_solve it is {number}"
+
+
+def range_on_equation(file: MpsFile) -> Found:
+    for line, row, number in file.ranges:
+        if file.types[row].text == "E" and parts(number)[0] < 0:
+            yield line, f"the range of the E row {row} is below its right-hand side, by the sign of {number}"
+
+
+def upper_zero(file: MpsFile) -> Found:
+    for name, bounds in file.bounds.items():
+        upper = [bound for bound in bounds if bound.type in ("UP", "UI")]
+        if upper and not parts(upper[0].number)[0] and not _given(bounds, _LOWER):
+            yield upper[0].line, f"{name} is fixed at 0, as its lower bound stays 0"
+
+
+def large_limit(file: MpsFile) -> Found:
+    for line, row, number in file.sides:
+        if row != file.objective and file.types[row].text != "N" and is_large(number):
+            yield line, f"{number} is infinite; for glpsol and lp_solve it is a number"
+    for bounds in file.bounds.values():
+        for bound in bounds:
+            if bound.number and is_large(bound.number):
+                yield bound.line, f"{bound.number} is infinite; for glpsol, clp, cbc and lp_solve it is a number"
+
+
+def text_after_end(file: MpsFile) -> Found:
+    return of_rest(file.rest, "ENDATA")
+
+
+def name_like_arithmetic(file: MpsFile) -> Found:
+    yield from of_names(Word(word.line, name) for name, word in file.types.items())
+    yield from of_names(Word(column.line, name) for name, column in file.columns.items())
+
+
+def number_not_held(file: MpsFile) -> Found:
+    return of_numbers(file.numbers)
+
+
+def _is_maximised(file: MpsFile) -> bool:
+    return file.sense is not None and file.sense.text.startswith("MAX")
+
+
+def _given(bounds: list[Bound], types: tuple[str, ...]) -> bool:
+    return any(bound.type in types for bound in bounds)
+
+
+RULES: dict[str, Callable[[MpsFile], Found]] = {
+    rule.__name__.replace("_", "-"): rule
+    for rule in (
+        sense_in_comment,
+        objsense,
+        further_n_row,
+        marked_without_bound,
+        marked_with_lower_bound,
+        objective_rhs,
+        range_on_equation,
+        upper_zero,
+        large_limit,
+        text_after_end,
+        name_like_arithmetic,
+        number_not_held,
+    )
+}

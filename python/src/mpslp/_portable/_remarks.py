@@ -1,0 +1,28 @@
+"""What is said of a line."""
+
+# Annotations are evaluated here: the class appears as one of the package, whose names are fewer.
+
+from collections.abc import Iterator
+from dataclasses import dataclass
+
+
+@dataclass(frozen=True, order=True)
+class Remark:
+    """A line of an accepted file that other programs may read otherwise.
+
+    As text it is what ``mpslp-tools check --portable`` prints after the path.
+    """
+
+    line: int
+    """The line, from 1."""
+    kind: str
+    """The name of the rule, as ``upper-zero``; docs/PORTABLE.md lists all."""
+    text: str
+    """What is read here, and what other programs read."""
+
+    def __str__(self) -> str:
+        return f"{self.line}: {self.kind}: {self.text}"
+
+
+Found = Iterator[tuple[int, str]]
+"""The lines that a rule finds, and what it says of each."""

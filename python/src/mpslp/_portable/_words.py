@@ -1,0 +1,45 @@
+"""What both formats have: words with their lines, and what is said of names, numbers and the text after the end."""
+
+from __future__ import annotations
+
+from collections.abc import Iterable, Sequence
+from typing import NamedTuple, Optional
+
+from mpslp._portable._names import arithmetic
+from mpslp._portable._numbers import nearest_if_lost
+from mpslp._portable._remarks import Found
+
+
+class Word(NamedTuple):
+    """A word of a line, or a line."""
+
+    line: int
+    text: str
+
+
+def first_text(lines: Sequence[str], at: int, comment: str) -> Optional[Word]:
+    """The first line after the end that is neither empty nor a comment; byte 26 is what old programs end a file with."""
+    for number, line in enumerate(lines[at:], at + 1):
+        text = line.strip(" \t\r\x1a")
+        if text and not text.startswith(comment):
+            return Word(number, text)
+    return None
+
+
+def of_rest(rest: Optional[Word], keyword: str) -> Found:
+    if rest is not None:
+        yield rest.line, f"the text after {keyword} is ignored"
+
+
+def of_names(names: Iterable[Word]) -> Found:
+    for line, name in names:
+        why = arithmetic(name)
+        if why is not None:
+            yield line, f"{name} is one name; {why}"
+
+
+def of_numbers(numbers: Iterable[Word]) -> Found:
+    for line, number in numbers:
+        nearest = nearest_if_lost(number)
+        if nearest is not None:
+            yield line, f"{number} is exact; as a double it is {nearest}"

@@ -1,0 +1,277 @@
+"""A collection of model files: which are accepted, what adapt makes of the others, and which define one model."""
+
+# Annotations are evaluated here: the classes appear as those of the package, whose names are fewer.
+
+import os
+import time
+from collections import Counter
+from collections.abc import Callable, Iterable, Iterator, Mapping, Sequence
+from dataclasses import dataclass, field, replace
+from functools import cached_property
+from typing import Any, Literal, Optional, TypeAlias
+
+from mpslp import _mpslp
+from mpslp._adapt import AdaptError, adapt_text
+from mpslp._faults import ModelFileError
+from mpslp._files import model_files
+from mpslp._sources import Format, Path, Text, format_of_name, read
+
+Result: TypeAlias = Literal["accepted", "adapted", "rejected", "unreadable"]
+"""What came of a file."""
+
+RESULTS: tuple[Result, ...] = ("accepted", "adapted", "rejected", "unreadable")
+
+
+@dataclass(frozen=True)
+class SurveyedFile:
+    """What a survey found of a file."""
+
+    path: str
+    """The path, as found below the path that was given."""
+    result: Result
+    """``"accepted"`` unchanged; ``"adapted"``, accepted after :func:`adapt`; ``"rejected"``; or ``"unreadable"``."""
+    format: Optional[Format] = None
+    """The format that the extension says; or None."""
+    bytes: int = 0
+    """The size of the file, compressed if it is so."""
+    seconds: float = 0.0
+    """How long it took."""
+    rows: Optional[int] = None
+    """How many rows the model has; None, as the next three, if the file has no model."""
+    columns: Optional[int] = None
+    """How many columns it has."""
+    entries: Optional[int] = None
+    """How many nonzero coefficients it has in rows."""
+    digest: Optional[str] = None
+    """The SHA-256 of its canonical MPS text: one for all files of a model."""
+    error: str = ""
+    """The kind of the error of the file as found, such as ``"DuplicateEntry"``; empty if it is accepted or unreadable."""
+    line: Optional[int] = None
+    """The line of that error, from 1; None for an error of the whole text."""
+    reason: str = ""
+    """Why adapt leaves the file, or why it cannot be read."""
+    changes: Mapping[str, int] = field(default_factory=dict)
+    """The kinds of changes that adapt makes, and how many there are of each."""
+
+    @property
+    def note(self) -> str:
+        """What is said of the file in a few words; empty if it is accepted."""
+        if self.result == "adapted":
+            return ", ".join(f"{kind} {number}" for kind, number in self.changes.items())
+        where = f"line {self.line}: " if self.line is not None else ""
+        return "; ".join(filter(None, (f"{where}{self.error}" if self.error else "", self.reason)))
+
+
+@dataclass(frozen=True)
+class Survey:
+    """What a survey found of a collection. As text it is a table of the files and a summary."""
+
+    files: tuple[SurveyedFile, ...]
+    """The files, in the order of their paths."""
+    seconds: float = 0.0
+    """How long it took."""
+
+    @cached_property
+    def results(self) -> Mapping[str, int]:
+        """How many files there are of each result."""
+        found = Counter(file.result for file in self.files)
+        return {result: found[result] for result in RESULTS}
+
+    @cached_property
+    def errors(self) -> Mapping[str, int]:
+        """How many files have an error of each kind as found, the most frequent first; adapted files are counted too."""
+        return _by_number(file.error for file in self.files if file.error)
+
+    @cached_property
+    def changes(self) -> Mapping[str, int]:
+        """How many files are adapted by a change of each kind, the most frequent first."""
+        return _by_number(kind for file in self.files for kind in file.changes)
+
+    @cached_property
+    def groups(self) -> tuple[tuple[str, ...], ...]:
+        """The paths of files that define one model, for each model of which there are several."""
+        found: dict[str, list[str]] = {}
+        for file in self.files:
+            if file.digest is not None:
+                found.setdefault(file.digest, []).append(file.path)
+        return tuple(tuple(paths) for paths in found.values() if len(paths) > 1)
+
+    def __str__(self) -> str:
+        return "\n".join([*_table(self.files), "", *self.summary()])
+
+    def summary(self) -> Iterator[str]:
+        """The lines of the summary, which come after the table."""
+        counted = ", ".join(f"{number} {result}" for result, number in self.results.items() if number)
+        size = sum(file.bytes for file in self.files)
+        yield f"{len(self.files)} {'file' if len(self.files) == 1 else 'files'}, {size:,} bytes, {self.seconds:.1f} seconds: {counted or 'none'}"
+        for title, numbers in (("errors of the files as found:", self.errors), ("files adapted, by change:", self.changes)):
+            if numbers:
+                yield from ("", title, *(f"{number:6}  {kind}" for kind, number in numbers.items()))
+        if self.groups:
+            yield from ("", "equal models:", *(f"  {' '.join(paths)}" for paths in self.groups))
+
+    def csv(self) -> str:
+        """The files as comma-separated values, with a line of titles. Files of one model have the same number as their group."""
+        import csv
+        import io
+
+        groups = {path: number for number, paths in enumerate(self.groups, 1) for path in paths}
+        text = io.StringIO()
+        writer = csv.writer(text, lineterminator="\n")
+        writer.writerow((*_FIELDS, "group"))
+        for file in self.files:
+            values = (_cell(getattr(file, name)) for name in _FIELDS)
+            writer.writerow((*values, groups.get(file.path, "")))
+        return text.getvalue()
+
+    def json(self) -> str:
+        """The files and the summary as JSON."""
+        import json
+
+        content: dict[str, Any] = {
+            "files": [{name: _value(getattr(file, name)) for name in _FIELDS} for file in self.files],
+            "results": self.results,
+            "errors": self.errors,
+            "changes": self.changes,
+            "groups": self.groups,
+            "bytes": sum(file.bytes for file in self.files),
+            "seconds": round(self.seconds, 3),
+        }
+        return json.dumps(content, indent=1) + "\n"
+
+
+_FIELDS = ("path", "result", "format", "bytes", "seconds", "rows", "columns", "entries", "digest", "error", "line", "reason", "changes")
+
+
+def survey(*paths: Path, jobs: int = 1) -> Survey:
+    """Returns what there is in collections of model files: directories, with all below them, and files.
+
+    Each file is read; one that is rejected is adapted, as :func:`adapt` does without a dialect, and read again. Nothing is
+    written. ``jobs`` is the number of processes that work on files. As with ``multiprocessing``, a script that asks for more
+    than one has to guard what it runs by ``if __name__ == "__main__":``.
+
+    Files and directories that do not open are in the result, as ``"unreadable"``.
+    """
+    return survey_of(map(os.fsdecode, paths), jobs)
+
+
+def survey_of(paths: Iterable[str], jobs: int, watch: Callable[[int, int], None] = lambda done, total: None) -> Survey:
+    """The survey of paths. After each file ``watch`` gets the number of those that are done, and of all."""
+    start = time.perf_counter()
+    below, found = files_below(paths)
+    for done, file in enumerate(each_file(below, jobs), 1):
+        found.append(file)
+        watch(done, len(below))
+    return Survey(tuple(sorted(found, key=lambda file: file.path)), time.perf_counter() - start)
+
+
+def files_below(paths: Iterable[str]) -> tuple[list[str], list[SurveyedFile]]:
+    """The model files of directories, and the directories that do not open."""
+    failed: list[SurveyedFile] = []
+    found = list(dict.fromkeys(model_files(paths, lambda error: failed.append(_unreadable(str(error.filename), error)))))
+    return found, failed
+
+
+def each_file(paths: Sequence[str], jobs: int) -> Iterator[SurveyedFile]:
+    """What there is of each file, in order."""
+    workers = min(jobs, len(paths))
+    if workers < 2:
+        yield from map(surveyed_file, paths)
+        return
+    from concurrent.futures import ProcessPoolExecutor
+    from concurrent.futures.process import BrokenProcessPool
+    from multiprocessing import get_context
+
+    # New processes: a forked one may not call the library if its parent has threads.
+    pool = ProcessPoolExecutor(workers, get_context("spawn"), _leave_interrupts)
+    try:
+        yield from pool.map(surveyed_file, paths)
+    except BrokenProcessPool:
+        raise ChildProcessError("a process of the survey ended before its file was done") from None
+    finally:
+        pool.shutdown(cancel_futures=True)
+
+
+def _leave_interrupts() -> None:
+    """An interrupt ends the process that waits for this one, which then gets no further file."""
+    import signal
+
+    signal.signal(signal.SIGINT, signal.SIG_IGN)
+
+
+def surveyed_file(path: str) -> SurveyedFile:
+    """What there is of a file."""
+    start, size = time.perf_counter(), 0
+    try:
+        size = os.stat(path).st_size
+        found = _of_text(path, read(path, None))
+    except (OSError, ImportError, MemoryError, ValueError) as error:
+        found = _unreadable(path, error)
+    return replace(found, format=format_of_name(path), bytes=size, seconds=round(time.perf_counter() - start, 6))
+
+
+def _unreadable(path: str, error: Exception) -> SurveyedFile:
+    if isinstance(error, OSError) and error.strerror:
+        reason = error.strerror
+    elif isinstance(error, MemoryError):
+        reason = "out of memory"
+    else:
+        reason = str(error).replace(f"{path!r} is ", "")  # of a compression
+    return SurveyedFile(path, "unreadable", reason=reason)
+
+
+def _of_text(path: str, text: Text) -> SurveyedFile:
+    try:
+        return SurveyedFile(path, "accepted", **_model(text.content, text.format))
+    except ModelFileError as error:
+        return _adapted(path, text, error)
+
+
+def _adapted(path: str, text: Text, error: ModelFileError) -> SurveyedFile:
+    """What there is of a file that is rejected: the model that adapt makes of it, or why there is none."""
+    try:
+        done = adapt_text(text.content, "lp" if text.format == _mpslp.LP else "mps")
+        model = _model(done.text, text.format)
+    except AdaptError as left:
+        return SurveyedFile(path, "rejected", error=error.kind, line=error.line, reason=f"line {left.line}: {left.reason}")
+    except ModelFileError as again:
+        is_same = (again.kind, again.line, again.name) == (error.kind, error.line, error.name)
+        return SurveyedFile(path, "rejected", error=error.kind, line=error.line, reason="" if is_same else f"adapted: {again}")
+    changes = Counter(change.kind for change in done.changes)
+    return SurveyedFile(path, "adapted", error=error.kind, line=error.line, changes=dict(changes), **model)
+
+
+def _model(content: bytes, format: int) -> dict[str, Any]:
+    """The counts and the digest of the model that a text defines."""
+    from hashlib import sha256  # it breaks further interpreters of CPython 3.12.1, and is wanted here only
+
+    arrays = _mpslp.load(content, format)
+    rows, columns, entries = arrays.counts()
+    digest = sha256(_mpslp.store(arrays, _mpslp.MPS)).hexdigest()
+    return {"rows": rows, "columns": columns, "entries": entries, "digest": digest}
+
+
+def _by_number(kinds: Iterable[str]) -> dict[str, int]:
+    return dict(sorted(Counter(kinds).items(), key=lambda each: (-each[1], each[0])))
+
+
+# ---- how it is written
+
+
+def _table(files: Iterable[SurveyedFile]) -> Iterator[str]:
+    yield f"{'result':<10} {'rows':>9} {'columns':>9} {'entries':>11} {'bytes':>13} {'seconds':>8}  path"
+    for file in files:
+        counts = ("-" if number is None else f"{number:,}" for number in (file.rows, file.columns, file.entries))
+        rows, columns, entries = counts
+        line = f"{file.result:<10} {rows:>9} {columns:>9} {entries:>11} {file.bytes:>13,} {file.seconds:>8.2f}  {file.path}"
+        yield f"{line}  ({file.note})" if file.note else line
+
+
+def _cell(value: object) -> object:
+    if isinstance(value, Mapping):
+        return " ".join(f"{kind}:{number}" for kind, number in value.items())
+    return value
+
+
+def _value(value: object) -> object:
+    return dict(value) if isinstance(value, Mapping) else value

@@ -1,0 +1,133 @@
+"""What other programs may read otherwise: the call and the command; the rules are tested by tests/portable_rules.py, too."""
+
+import gzip
+import io
+import pickle
+import random
+import unittest
+from dataclasses import FrozenInstanceError
+
+import mpslp
+from mpslp import _mpslp
+from mpslp._portable import KINDS, remarks_of
+from mpslp._portable._lp import LpFile
+from mpslp._portable._mps import MpsFile
+from repository import EXAMPLES, VECTORS, model_files
+from test_tools import BROKEN, CANONICAL_LP, Directory
+
+import models  # from tests/ of the repository
+import portable_rules
+import spellings
+
+MAX = b"NAME\nOBJSENSE\n    MAX\nROWS\n N  C\nCOLUMNS\n    x/2  C  1\nBOUNDS\n UP  BND  x/2  0\nENDATA\nmore\n"
+LINES = ("3: objsense: ", "7: name-like-arithmetic: ", "9: upper-zero: ", "11: text-after-end: ")
+
+
+class Calls(unittest.TestCase):
+    def test_the_examples_of_the_rules(self):
+        found, tried = portable_rules.check(None)
+        self.assertEqual(found, [])
+        self.assertGreaterEqual(tried, len(KINDS))
+
+    def test_remarks_are_in_the_order_of_lines(self):
+        found = mpslp.portability(MAX, "mps")
+        self.assertEqual([str(each)[: len(line)] for each, line in zip(found, LINES)], list(LINES))
+        self.assertEqual(len(found), len(LINES))
+        self.assertEqual(found[2], mpslp.Remark(9, "upper-zero", found[2].text))
+        self.assertEqual(str(found[2]), f"9: upper-zero: {found[2].text}")
+
+    def test_remarks_are_records(self):
+        remark = mpslp.portability(MAX, "mps")[0]
+        with self.assertRaises(FrozenInstanceError):
+            remark.line = 1
+        self.assertEqual(pickle.loads(pickle.dumps(remark)), remark)
+
+    def test_sources(self):
+        wanted = mpslp.portability(MAX, "mps")
+        self.assertEqual(mpslp.portability(io.BytesIO(MAX), "mps"), wanted)
+        self.assertEqual(mpslp.portability(MAX.replace(b"\n", b"\r\n"), "mps"), wanted)
+        self.assertEqual(mpslp.portability(EXAMPLES / "small.canonical.lp"), ())
+        with self.assertRaisesRegex(ValueError, "format"):
+            mpslp.portability(MAX)
+
+    def test_a_text_that_is_rejected(self):
+        with self.assertRaisesRegex(mpslp.ModelFileError, "line 1: BadToken"):
+            mpslp.portability(BROKEN, "lp")
+
+    def test_every_accepted_file(self):
+        """Each remark has a line of the file, and its kind is one of the list."""
+        found = set()
+        for path in [*model_files(EXAMPLES), *model_files(VECTORS)]:
+            text = path.read_bytes()
+            try:
+                remarks = mpslp.portability(path)
+            except mpslp.ModelFileError:
+                continue
+            with self.subTest(path.name):
+                self.assertEqual(list(remarks), sorted(remarks))
+                self.assertTrue(all(1 <= each.line <= text.count(b"\n") + 1 for each in remarks))
+                found.update(each.kind for each in remarks)
+        self.assertLessEqual(found, set(KINDS))
+        self.assertGreater(len(found), 5)
+
+    def test_what_is_read_of_random_models(self):
+        """However a model is spelled, it is read to its end: all rows, columns and numbers are found, and lines have what is said of them."""
+        source = random.Random(4)
+        for _ in range(300):
+            model = models.drawn_model(source)
+            for form, number in (("mps", _mpslp.MPS), ("lp", _mpslp.LP)):
+                text = {"mps": spellings.mps_text, "lp": spellings.lp_text}[form](source, model)
+                if form == "lp" and not all(map(models.is_lp_name, (model.objective, *model.rows, *model.columns))):
+                    continue
+                with self.subTest(text):
+                    self.check_rows_and_columns(text, form, model)
+                    lines = text.decode("latin-1").split("\n")
+                    for remark in remarks_of(text, number):
+                        if remark.kind in ("name-like-arithmetic", "number-not-held"):
+                            self.assertIn(remark.text.split()[0], lines[remark.line - 1])
+
+    def check_rows_and_columns(self, text, form, model):
+        if form == "mps":
+            file = MpsFile(text)
+            self.assertEqual(set(file.columns), set(model.columns))
+            self.assertEqual(set(file.types) | {model.objective}, {*model.rows, model.objective})
+            self.assertEqual(file.sense is not None and file.sense.text.startswith("MAX"), model.maximise)
+            return
+        file = LpFile(text)
+        self.assertEqual(len(file.rows), len(model.rows))
+        self.assertEqual({row.label for row in file.rows if row.label} - set(model.rows), set())
+        self.assertLessEqual(set(model.columns), set(file.names))
+        self.assertLessEqual(set(file.names), {*model.columns, *model.rows, model.objective})
+        two_limits = sum(row.lower is not None and row.upper is not None and not models.same(row.lower, row.upper) for row in model.rows.values())
+        self.assertGreaterEqual(sum(len(row.sides) == 2 for row in file.rows), two_limits)
+
+
+class Command(Directory):
+    def test_statuses(self):
+        self.file("a.lp", CANONICAL_LP)
+        self.prints(["check", "--portable", "a.lp"], 0)
+        self.file("b.mps", MAX)
+        lines = "".join(f"b.mps:{each}\n" for each in mpslp.portability(MAX, "mps"))
+        self.prints(["check", "--portable", "a.lp", "b.mps"], 1, lines)
+        self.file("c.lp", BROKEN)
+        self.prints(["check", "--portable", "c.lp", "b.mps"], 2, lines, "c.lp:1: BadToken: y\n")
+        self.prints(["check", "--portable", "d.mps"], 4, error="d.mps: No such file or directory\n")
+
+    def test_sources(self):
+        self.file("deep/b.mps.gz", gzip.compress(MAX))
+        remarks = mpslp.portability(MAX, "mps")
+        self.prints(["check", "--portable", "."], 1, "".join(f"./deep/b.mps.gz:{each}\n" for each in remarks))
+        self.prints(["check", "--portable", "-f", "mps", "-"], 1, "".join(f"-:{each}\n" for each in remarks), content=MAX)
+
+    def test_kinds_that_are_left_out(self):
+        self.file("b.mps", MAX)
+        found = mpslp.portability(MAX, "mps")
+        words = [word for each in found[1:] for word in ("--ignore", each.kind)]
+        self.prints(["check", "--portable", "b.mps", *words], 1, f"b.mps:{found[0]}\n")
+        self.prints(["check", "--portable", "b.mps", *words, "--ignore", found[0].kind], 0)
+        self.assertEqual(self.run_tools("check", "--portable", "--ignore", "sense", "b.mps").returncode, 3)
+        self.prints(["check", "--ignore", "objsense", "b.mps"], 3, error="python3 -m mpslp: error: --ignore leaves out remarks of --portable\n")
+
+
+if __name__ == "__main__":
+    unittest.main()

@@ -1,0 +1,82 @@
+#!/usr/bin/env python3
+"""Check each rule of check --portable on its examples in docs/portable.tsv.
+
+A row of the table has a format, the part of a file that the example is, the kind of
+the remark, the part that has it, a part that other programs read as mpslp does, what
+mpslp and others read, and what to do. The part is put into the small file of adapt_rules.py: all
+remarks on it have to be of the kind, and on lines of the part. On the other part there
+must be none. Every kind has an example in each format that it is for.
+
+With the program, both have to be accepted. Each row of the table has to be in
+docs/DIALECTS.md.
+
+With --wrong the rules are made wrong one by one, as portable_wrong.tsv says: the
+examples have to find each.
+"""
+
+import sys
+
+from adapt_package import KINDS, remarks_of
+from adapt_rules import ROOT, arguments, closing, framed, is_read, missing_in_page, rows, shown, unescaped, wrong_rules
+
+TABLE = ROOT / "docs" / "portable.tsv"
+WRONG = ROOT / "tests" / "portable_wrong.tsv"
+FORMATS = {"mps": 0, "lp": 1}  # the numbers of the library
+
+
+def remarks(row, cell):
+    text = framed(row, cell)
+    return text.decode("latin-1").split("\n"), remarks_of(text, FORMATS[row["format"]])
+
+
+def differences(row, program):
+    """What is wrong with the remarks on an example."""
+    lines, found = remarks(row, row["text"])
+    if not found:
+        yield "no remark"
+    if {each.kind for each in found} - {row["kind"]}:
+        yield f"other remarks: {'; '.join(map(str, found))}"
+    part = [line.strip() for line in unescaped(row["text"]).split("\n") if line.strip()]
+    yield from (f"on another line: {each}" for each in found if not any(line in lines[each.line - 1] for line in part))
+    _, found = remarks(row, row["plain"])
+    yield from (f"a remark on the other part: {each}" for each in found)
+    for name in ("text", "plain") if program is not None else ():
+        if not is_read(program, row["format"], framed(row, row[name])):
+            yield f"the program rejects the {name}"
+
+
+def check(program):
+    found, tried = [], rows(TABLE)
+    for number, row in enumerate(tried, 2):
+        try:
+            told = list(differences(row, program))
+        except Exception as error:  # a rule that is wrong may fail in any way
+            told = [f"{type(error).__name__}: {error}"]
+        found += [f"docs/portable.tsv:{number}: {row['kind']}: {each}" for each in told]
+    missing = set(KINDS) ^ {row["kind"] for row in tried}
+    return found + [f"docs/portable.tsv: {kind} has no example, or no rule" for kind in sorted(missing)], len(tried)
+
+
+def table_line(row):
+    """The row of the page's tables for an example."""
+    return f"| `{row['kind']}` | {shown(row['text'])} | {row['here']} | {row['others']} | {row['fix']} |"
+
+
+def main():
+    options = arguments(__doc__)
+    if options.table:
+        for form in FORMATS:
+            print(*[table_line(row) for row in rows(TABLE) if row["format"] == form], "", sep="\n")
+        return 0
+    program = options.program.resolve() if options.program.exists() else None
+    if program is None:
+        print("skipped: the program is missing")
+    found, tried = check(program)
+    found += missing_in_page(TABLE, table_line)
+    if options.wrong:
+        found += wrong_rules(__file__, WRONG, "_portable")
+    return closing(found, tried)
+
+
+if __name__ == "__main__":
+    sys.exit(main())
