@@ -1,4 +1,4 @@
-\ the same model
+\ the model of small.mps
 MIN
 COST: 2Y + X
 s.t.
