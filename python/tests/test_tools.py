@@ -210,7 +210,8 @@ class InPlace(Directory):
                 running.send_signal(number)
                 _, error = running.communicate(timeout=60)
                 with self.subTest(number, jobs=jobs):
-                    self.assertIn(running.returncode, (0, -signal.SIGKILL, 128 + number))
+                    # At its end it no longer takes signals.
+                    self.assertIn(running.returncode, (0, -number, 128 + number))
                     self.assertNotIn(b"Traceback", error)
                     for left in self.folder.glob(".*.tmp") if number == signal.SIGKILL else ():
                         left.unlink()
