@@ -194,17 +194,18 @@ def main():
             for is_stop in (False, True):
                 print(*[table_line(row) for row in rows() if row["format"] == kind and (row["kind"] == "stop") == is_stop], "", sep="\n")
         return 0
+    return conclude(options, check, TABLE, table_line, lambda: wrong_rules(__file__))
+
+
+def conclude(options, check, table, line, try_wrong):
+    """Checks the examples of a table, that the page has its lines and, if asked, that an example finds each wrong rule."""
     program = options.program.resolve() if options.program.exists() else None
     if program is None:
         print("skipped: the program is missing")
     found, tried = check(program)
-    found += missing_in_page(TABLE, table_line)
+    found += missing_in_page(table, line)
     if options.wrong:
-        found += wrong_rules(__file__)
-    return closing(found, tried)
-
-
-def closing(found, tried):
+        found += try_wrong()
     print(*found, sep="\n", end="\n" if found else "")
     print(f"{tried} examples, {len(found)} differ")
     return 1 if found else 0

@@ -295,13 +295,13 @@ def main() -> int:
         for key, files in sorted(found.items()):
             print("\t".join([*key, " ".join(files)]))
         return 0
-    known, told = known_differences(), []
+    known, differing = known_differences(), []
     for key in sorted(found.keys() | {key for key in known if key[0] in installed}):
         have, want = set(found.get(key, ())), set(known.get(key, ()))
-        told += [f"{key[0]}, {file}: {key[2]}" for file in sorted(have - want)]
-        told += [f"{key[0]}, {file}: not found: {key[2]}" for file in sorted(want - have)]
-    print("\n".join([*told, f"{number} compared, {sum(map(len, found.values()))} known differences, {len(told)} not as the table has them"]))
-    return 1 if told else 0
+        differing += [f"{key[0]}, {file}: {key[2]}" for file in sorted(have - want)]
+        differing += [f"{key[0]}, {file}: not found: {key[2]}" for file in sorted(want - have)]
+    print("\n".join([*differing, f"{number} compared, {sum(map(len, found.values()))} known differences, {len(differing)} not as the table has them"]))
+    return 1 if differing else 0
 
 
 if __name__ == "__main__":

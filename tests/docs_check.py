@@ -207,11 +207,11 @@ class Document:
             words = form.split()
             check = docs_tables.FORMS[words[0]](self.scratch, *words[1:])
             for line, cells in rows:
-                for told in answers_of(check, cells):
+                for answer in answers_of(check, cells):
                     self.tried += 1
-                    if told:
-                        self.wrong.append(f"{self.name}:{line}: {told}")
-            self.wrong += [f"{self.name}:{number}: {told}" for told in check.at_end()]
+                    if answer:
+                        self.wrong.append(f"{self.name}:{line}: {answer}")
+            self.wrong += [f"{self.name}:{number}: {answer}" for answer in check.at_end()]
 
     def check_links(self, number, line):
         for target, heading in LINK.findall(re.sub(r"`[^`]*`", "", line)):
@@ -249,7 +249,7 @@ def headings(path):
     return {re.sub(r"[^\w\- ]", "", title.lower()).replace(" ", "-") for title in titles}
 
 
-def check_examples(scratch, told):
+def check_examples(scratch, wrong):
     """Each pair has one canonical text, which is the stated one. Returns the number of comparisons."""
     folder = ROOT / "examples"
     files = sorted(path for path in folder.iterdir() if path.suffix in (".mps", ".lp"))
@@ -267,9 +267,9 @@ def check_examples(scratch, told):
             for name, answer in texts.items():
                 if answer != expected:
                     against = stated.name if stated.exists() else f"that of {first}"
-                    told.append(f"examples/{name}: its canonical {to.upper()} text is not {against}")
+                    wrong.append(f"examples/{name}: its canonical {to.upper()} text is not {against}")
             if scratch.mpslp(f"canon {to} {to}", expected[1].encode()) != expected:
-                told.append(f"examples/{stem}: its canonical {to.upper()} text is no fixed point")
+                wrong.append(f"examples/{stem}: its canonical {to.upper()} text is no fixed point")
     return tried
 
 
@@ -284,20 +284,20 @@ def main():
     if not program.exists():
         print(f"{program} is not there: make run builds it", file=sys.stderr)
         return 1
-    tried, told = 0, []
+    tried, wrong = 0, []
     for path in sorted(path for pattern in DOCUMENTS for path in ROOT.glob(pattern)):
         with tempfile.TemporaryDirectory() as folder:
             document = Document(path, Scratch(folder, program))
             document.check()
             tried += document.tried
-            told += document.wrong
+            wrong += document.wrong
     with tempfile.TemporaryDirectory() as folder:
-        tried += check_examples(Scratch(folder, program), told)
-    told += trust_page.check() + prose_lint.check(code=True)
-    for line in told:
+        tried += check_examples(Scratch(folder, program), wrong)
+    wrong += trust_page.check() + prose_lint.check(code=True)
+    for line in wrong:
         print(line)
-    print(f"{tried} tried, {len(told)} differ")
-    return 1 if told else 0
+    print(f"{tried} tried, {len(wrong)} differ")
+    return 1 if wrong else 0
 
 
 if __name__ == "__main__":

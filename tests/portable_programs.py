@@ -72,18 +72,18 @@ def main():
     for name in SOLVERS:
         if name not in names:
             print(f"skipped: {name} is missing ({SOLVERS[name].package})")
-    told, measured = [], []
+    differing, measured = [], []
     for row, wrong in differences(names):
-        told += [wrong] if wrong else []
+        differing += [wrong] if wrong else []
         measured += [] if wrong else [row]
     if options.table:
         print(*measured[0], sep="\t")
         print(*("\t".join(row.values()) for row in measured), sep="\n")
         return 0
-    told += [f"tests/portable_programs.tsv: {kind} has no row" for kind in sorted(set(KINDS) - {row["kind"] for row in measured})]
-    print(*told, sep="\n", end="\n" if told else "")
-    print(f"{len(measured)} files, {len(told)} differ")
-    return 1 if told else 0
+    differing += [f"tests/portable_programs.tsv: {kind} has no row" for kind in sorted(set(KINDS) - {row["kind"] for row in measured})]
+    print(*differing, sep="\n", end="\n" if differing else "")
+    print(f"{len(measured)} files, {len(differing)} differ")
+    return 1 if differing else 0
 
 
 if __name__ == "__main__":

@@ -17,7 +17,7 @@ examples have to find each.
 import sys
 
 from adapt_package import KINDS, remarks_of
-from adapt_rules import ROOT, arguments, closing, framed, is_read, missing_in_page, rows, shown, unescaped, wrong_rules
+from adapt_rules import ROOT, arguments, conclude, framed, is_read, rows, shown, unescaped, wrong_rules
 
 TABLE = ROOT / "docs" / "portable.tsv"
 WRONG = ROOT / "tests" / "portable_wrong.tsv"
@@ -49,10 +49,10 @@ def check(program):
     found, tried = [], rows(TABLE)
     for number, row in enumerate(tried, 2):
         try:
-            told = list(differences(row, program))
+            differing = list(differences(row, program))
         except Exception as error:  # a rule that is wrong may fail in any way
-            told = [f"{type(error).__name__}: {error}"]
-        found += [f"docs/portable.tsv:{number}: {row['kind']}: {each}" for each in told]
+            differing = [f"{type(error).__name__}: {error}"]
+        found += [f"docs/portable.tsv:{number}: {row['kind']}: {each}" for each in differing]
     missing = set(KINDS) ^ {row["kind"] for row in tried}
     return found + [f"docs/portable.tsv: {kind} has no example, or no rule" for kind in sorted(missing)], len(tried)
 
@@ -68,14 +68,7 @@ def main():
         for form in FORMATS:
             print(*[table_line(row) for row in rows(TABLE) if row["format"] == form], "", sep="\n")
         return 0
-    program = options.program.resolve() if options.program.exists() else None
-    if program is None:
-        print("skipped: the program is missing")
-    found, tried = check(program)
-    found += missing_in_page(TABLE, table_line)
-    if options.wrong:
-        found += wrong_rules(__file__, WRONG, "_portable")
-    return closing(found, tried)
+    return conclude(options, check, TABLE, table_line, lambda: wrong_rules(__file__, WRONG, "_portable"))
 
 
 if __name__ == "__main__":

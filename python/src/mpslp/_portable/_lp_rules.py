@@ -3,12 +3,11 @@
 from __future__ import annotations
 
 import re
-from collections.abc import Callable
 
 from mpslp._adapt._numbers import parts
 from mpslp._portable._lp import LpFile
 from mpslp._portable._numbers import is_large
-from mpslp._portable._remarks import Found
+from mpslp._portable._remarks import Found, by_kind
 from mpslp._portable._words import Word, of_names, of_numbers, of_rest
 
 _CONSTANT_OF_GLPSOL = re.compile(r"\\\* constant term = ")
@@ -87,21 +86,18 @@ def number_not_held(file: LpFile) -> Found:
     return of_numbers(file.numbers)
 
 
-RULES: dict[str, Callable[[LpFile], Found]] = {
-    rule.__name__.replace("_", "-"): rule
-    for rule in (
-        constant_in_comment,
-        objective_constant,
-        ranged_row,
-        row_after_side,
-        upper_zero,
-        large_limit,
-        joined_tokens,
-        spaced_side,
-        integer_section,
-        several_signs,
-        text_after_end,
-        name_like_arithmetic,
-        number_not_held,
-    )
-}
+RULES = by_kind(
+    constant_in_comment,
+    objective_constant,
+    ranged_row,
+    row_after_side,
+    upper_zero,
+    large_limit,
+    joined_tokens,
+    spaced_side,
+    integer_section,
+    several_signs,
+    text_after_end,
+    name_like_arithmetic,
+    number_not_held,
+)

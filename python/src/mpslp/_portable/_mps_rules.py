@@ -2,12 +2,11 @@
 
 from __future__ import annotations
 
-from collections.abc import Callable
 
 from mpslp._adapt._numbers import parts
 from mpslp._portable._mps import Bound, MpsFile
 from mpslp._portable._numbers import is_large
-from mpslp._portable._remarks import Found
+from mpslp._portable._remarks import Found, by_kind
 from mpslp._portable._words import Word, of_names, of_numbers, of_rest
 
 _UPPER = ("UP", "UI", "PL", "FX", "FR", "BV", "SC")
@@ -101,20 +100,17 @@ def _given(bounds: list[Bound], types: tuple[str, ...]) -> bool:
     return any(bound.type in types for bound in bounds)
 
 
-RULES: dict[str, Callable[[MpsFile], Found]] = {
-    rule.__name__.replace("_", "-"): rule
-    for rule in (
-        sense_in_comment,
-        objsense,
-        further_n_row,
-        marked_without_bound,
-        marked_with_lower_bound,
-        objective_rhs,
-        range_on_equation,
-        upper_zero,
-        large_limit,
-        text_after_end,
-        name_like_arithmetic,
-        number_not_held,
-    )
-}
+RULES = by_kind(
+    sense_in_comment,
+    objsense,
+    further_n_row,
+    marked_without_bound,
+    marked_with_lower_bound,
+    objective_rhs,
+    range_on_equation,
+    upper_zero,
+    large_limit,
+    text_after_end,
+    name_like_arithmetic,
+    number_not_held,
+)

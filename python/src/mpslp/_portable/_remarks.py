@@ -2,8 +2,9 @@
 
 # Annotations are evaluated here: the class appears as one of the package, whose names are fewer.
 
-from collections.abc import Iterator
+from collections.abc import Callable, Iterator
 from dataclasses import dataclass
+from typing import TypeVar
 
 
 @dataclass(frozen=True, order=True)
@@ -16,7 +17,7 @@ class Remark:
     line: int
     """The line, from 1."""
     kind: str
-    """The name of the rule, as ``upper-zero``; docs/PORTABLE.md lists all."""
+    """The name of the rule, as ``upper-zero``; docs/DIALECTS.md lists all."""
     text: str
     """What is read here, and what other programs read."""
 
@@ -26,3 +27,10 @@ class Remark:
 
 Found = Iterator[tuple[int, str]]
 """The lines that a rule finds, and what it says of each."""
+
+File = TypeVar("File")
+
+
+def by_kind(*rules: Callable[[File], Found]) -> dict[str, Callable[[File], Found]]:
+    """The rules by the kinds of their remarks, which are their names."""
+    return {rule.__name__.replace("_", "-"): rule for rule in rules}
