@@ -77,7 +77,7 @@ typedef MPSLP_ENUM(mpslp_status) {
     MPSLP_UNKNOWN_FORMAT = 6  /* a format is neither MPSLP_MPS nor MPSLP_LP */
 } mpslp_status;
 
-/* Places in a model. Only mpslp_store reports an element. */
+/* Places in a model. Only mpslp_store and mpslp_normalize report an element. */
 typedef MPSLP_ENUM(mpslp_place) {
     MPSLP_NOWHERE = 0,
     MPSLP_AT_OBJECTIVE = 1,
@@ -101,7 +101,7 @@ typedef struct mpslp_text {
 typedef struct mpslp_fault {
     mpslp_text kind;   /* the name of the kind of error, as DuplicateEntry; docs/FORMATS.md lists them. NotLp for MPSLP_NOT_LP */
     uint64_t line;     /* counted from 1; 0 for an error of the whole text or of arrays, and for MPSLP_NOT_LP */
-    mpslp_place place; /* for MPSLP_NOT_LP what has the name; of mpslp_store also what has the error; else MPSLP_NOWHERE */
+    mpslp_place place; /* for MPSLP_NOT_LP what has the name; for an error of arrays what has it; else MPSLP_NOWHERE */
     size_t number;     /* the index of that row, column or element: for MPSLP_NOT_LP in byte order of names, else in the arrays */
     size_t name_len;   /* the length of the name of the row or column that has an error of the whole model; or 0 */
     char name[256];    /* that name, padded with zeros */
@@ -232,7 +232,7 @@ typedef struct mpslp_element {
 } mpslp_element;
 
 /*
- * A model. In a model that mpslp_load returned, rows and columns are in byte order of their names; the objective is no row; and
+ * A model. In a model that mpslp_load or mpslp_normalize returned, rows and columns are in byte order of their names; the objective is no row; and
  * the elements are those of the first column, then those of the second, and so on, each column's in the order of rows. Release
  * such a model with mpslp_free_model. No pointer is null.
  */
@@ -299,6 +299,16 @@ MPSLP_MUST_USE mpslp_status mpslp_load(mpslp_format format, const uint8_t *bytes
  * Any number in the arrays is allowed: nothing outside of them is read. They are not changed.
  */
 MPSLP_MUST_USE mpslp_status mpslp_store(mpslp_format to, const mpslp_model *model, mpslp_text *out, mpslp_fault *fault);
+
+/*
+ * Makes the arrays of the model that arrays define, in the form that mpslp_load returns: sorted by name, numbers in normal form,
+ * and no element of 0. The arrays that are given are those of mpslp_store, and are rejected with the same errors.
+ *
+ * MPSLP_OK: `*out` is the model. MPSLP_REFUSED: the arrays define no model, and `*fault` is their first error. Or
+ * MPSLP_OUT_OF_MEMORY. Other outputs are left unchanged; a previous model in `*out` is not freed. The arrays that are given are
+ * not changed; `model` and `out` must be two models.
+ */
+MPSLP_MUST_USE mpslp_status mpslp_normalize(const mpslp_model *model, mpslp_model *out, mpslp_fault *fault);
 
 /*
  * Accessors. Row and column indices must be in range, and so must the index of an entry in its column: nothing checks them.

@@ -109,6 +109,33 @@ class FromArrays(unittest.TestCase):
                 self.assertEqual(mpslp.from_arrays(model.arrays()), model)
                 self.assertEqual(mpslp.from_arrays(plain(model.arrays())), model)
 
+    def test_each_double_is_its_shortest_text(self):
+        source = random.Random(5)
+        numbers = [source.choice([-1, 1]) * source.random() * 10.0 ** source.randrange(-20, 20) for _ in range(3000)]
+        numbers += [source.randrange(-10**9, 10**9) / 10 ** source.randrange(12) for _ in range(3000)]
+        numbers += [0.0, -0.0, 5e-324, 0.1 + 0.2, 2.0**53, 2.0**53 + 2, 1e15, 1e15 - 1, 999999999999999.9, 1e22, 123456789012345.6, 1e-9, 1e-10, 1.7976931348623157e308]
+        count = len(numbers)
+        model = mpslp.from_arrays(mpslp.Arrays(numbers, [0] * (count + 1), [], [], [], [], [-abs(number) for number in numbers]))
+        for column, number in zip(model.columns.values(), numbers):
+            self.assertEqual(column.cost, Decimal(repr(number)))
+            self.assertEqual(column.lower, -abs(Decimal(repr(number))) if abs(number) < 1e20 else -math.inf, number)
+
+    def test_numbers_that_are_no_doubles_stay_exact(self):
+        numbers = [Decimal("0.1"), 2**53 + 1, Decimal("0.1000000000000000000001")]
+        model = mpslp.from_arrays(mpslp.Arrays(numbers, [0, 0, 0, 0], [], [], [], [], constant=Decimal("0.3000000000000000000000001")))
+        self.assertEqual([column.cost for column in model.columns.values()], numbers)
+        self.assertEqual(model.constant, Decimal("0.3000000000000000000000001"))
+
+    def test_buffers_of_each_type(self):
+        wanted = mpslp.from_arrays(mpslp.Arrays([1, 2], [0, 1, 2], [1, 0], [5, 7], [0, 1], [9, 9], integrality=[0, 1]))
+        for code in "ilqIL":
+            found = mpslp.Arrays(array("d", [1, 2]), array(code, [0, 1, 2]), array(code, [1, 0]), array("f", [5, 7]), array("i", [0, 1]), (9, 9), integrality=array(code, [0, 1]))
+            self.assertEqual(mpslp.from_arrays(found), wanted, code)
+
+    def test_zeros_are_no_entries(self):
+        model = mpslp.from_arrays(mpslp.Arrays([0.0], [0, 2], [1, 0], [-0.0, 7.0], [0.0, 1.0], [9.0, 9.0]))
+        self.assertEqual(model.columns["x0"].entries, {"r0": 7})
+
     def test_another_order(self):
         model = mpslp.from_arrays(mpslp.Arrays([1, 2], [0, 1, 3], [1, 1, 0], [5, 7, 6], [0, 1], [9, 9], row_names=["b", "a"], column_names=["y", "x"]))
         self.assertEqual(list(model.rows), ["a", "b"])

@@ -1,6 +1,6 @@
 /*
- * Models that are made in C: the text of mpslp_store, and each kind of error, with its place in the arrays. Compiles as C99
- * and as C++. Prints what differs, and returns 1 if anything does.
+ * Models that are made in C: the text of mpslp_store, the same of what mpslp_normalize makes of them, and each kind of error,
+ * with its place in the arrays. Compiles as C99 and as C++. Prints what differs, and returns 1 if anything does.
  */
 #include "mpslp.h"
 
@@ -54,23 +54,41 @@ static void check(bool is_so, const char *what) {
     differences = 1;
 }
 
+/* Normalized arrays have the text of those that they were made from. */
+static void check_normalized(mpslp_format to, const arrays *it, const char *what, mpslp_text wanted) {
+    mpslp_text text = MPSLP_NO_TEXT;
+    mpslp_model model = MPSLP_NO_MODEL;
+    mpslp_fault fault = MPSLP_NO_FAULT;
+    check(mpslp_normalize(&it->model, &model, &fault) == MPSLP_OK && fault.kind.len == 0, what);
+    check(mpslp_store(to, &model, &text, &fault) == MPSLP_OK && text.len == wanted.len && memcmp(text.bytes, wanted.bytes, text.len) == 0, what);
+    check(model.num_rows == 2 && memcmp(model.names.bytes + model.rows[0].name.at, "r1", 2) == 0, what);
+    mpslp_free(&text);
+    mpslp_free_model(&model);
+}
+
 /* A model has this text, and nothing else is set. */
 static void check_text(mpslp_format to, arrays *it, const char *what, const char *wanted) {
     mpslp_text text = MPSLP_NO_TEXT;
     mpslp_fault fault = MPSLP_NO_FAULT;
     const mpslp_status status = store(to, it, &text, &fault);
     check(status == MPSLP_OK && text.len == strlen(wanted) && memcmp(text.bytes, wanted, text.len) == 0 && fault.kind.len == 0, what);
+    check_normalized(to, it, what, text);
     mpslp_free(&text);
 }
 
-/* A model has this error, and no text. */
+/* A model has this error, and no text. If the arrays define no model, they have no normal form either. */
 static void check_error(mpslp_format to, mpslp_status status, arrays *it, const char *what, const char *line) {
     char found[MPSLP_LINE_ROOM];
     mpslp_text text = MPSLP_NO_TEXT;
-    mpslp_fault fault = MPSLP_NO_FAULT;
+    mpslp_model model = MPSLP_NO_MODEL;
+    mpslp_fault fault = MPSLP_NO_FAULT, other = MPSLP_NO_FAULT;
     check(store(to, it, &text, &fault) == status && text.len == 0 && fault.line == 0, what);
     mpslp_fault_line(&fault, found, sizeof found);
     if (strcmp(found, line) != 0) printf("%s: ", found);
+    check(strcmp(found, line) == 0, what);
+    if (status != MPSLP_REFUSED) return;
+    check(mpslp_normalize(&it->model, &model, &other) == status && model.num_columns == 0, what);
+    mpslp_fault_line(&other, found, sizeof found);
     check(strcmp(found, line) == 0, what);
 }
 

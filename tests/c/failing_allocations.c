@@ -18,9 +18,10 @@ static int fails(void) { return left >= 0 && left-- == 0; }
 void *__wrap_malloc(size_t size) { return fails() ? NULL : __real_malloc(size); }
 void *__wrap_realloc(void *at, size_t size) { return fails() ? NULL : __real_realloc(at, size); }
 
-enum { CANONICAL_MPS, CANONICAL_LP, SAME, IS_CANONICAL, LOAD, STORE_MPS, STORE_LP, CALLS };
+enum { CANONICAL_MPS, CANONICAL_LP, SAME, IS_CANONICAL, LOAD, STORE_MPS, STORE_LP, NORMALIZE, CALLS };
 static const char *const names[CALLS] = {
     "mpslp_canonical to MPS", "mpslp_canonical to LP", "mpslp_same", "mpslp_is_canonical", "mpslp_load", "mpslp_store to MPS", "mpslp_store to LP",
+    "mpslp_normalize",
 };
 
 static uint8_t bytes[1 << 20];
@@ -43,6 +44,7 @@ static uint32_t call(int which, uint32_t format, answer *to) {
     case SAME: return mpslp_same(format, bytes, len, format, bytes, len, &to->fault);
     case IS_CANONICAL: return mpslp_is_canonical(format, bytes, len, &to->fault);
     case STORE_MPS: return mpslp_store(MPSLP_MPS, &stored, &to->text, &to->fault);
+    case NORMALIZE: return mpslp_normalize(&stored, &to->model, &to->fault);
     case STORE_LP: return mpslp_store(MPSLP_LP, &stored, &to->text, &to->fault);
     default: return mpslp_load(format, bytes, len, &to->model, &to->fault);
     }

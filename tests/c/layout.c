@@ -74,10 +74,11 @@ int main(void) {
     mpslp_status (*const is_canonical)(mpslp_format, const uint8_t *, size_t, mpslp_fault *) = mpslp_is_canonical;
     mpslp_status (*const load)(mpslp_format, const uint8_t *, size_t, mpslp_model *, mpslp_fault *) = mpslp_load;
     mpslp_status (*const store)(mpslp_format, const mpslp_model *, mpslp_text *, mpslp_fault *) = mpslp_store;
+    mpslp_status (*const normalize)(const mpslp_model *, mpslp_model *, mpslp_fault *) = mpslp_normalize;
     const mpslp_format unknown = MPSLP_CAST(mpslp_format, 2), largest = MPSLP_CAST(mpslp_format, 4294967295u);
     const uint8_t none = 0;
     mpslp_text text = MPSLP_NO_TEXT;
-    mpslp_model model = MPSLP_NO_MODEL;
+    mpslp_model model = MPSLP_NO_MODEL, normal = MPSLP_NO_MODEL;
     mpslp_fault fault = MPSLP_NO_FAULT;
     if (canonical(MPSLP_MPS, MPSLP_LP, &none, 0, &text, &fault) != MPSLP_REFUSED) return 1;
     if (fault.line != 0 || fault.kind.len != 10 || fault.kind.bytes[0] != 'M' || fault.name_len != 0) return 2;
@@ -90,7 +91,8 @@ int main(void) {
     if (load(unknown, &none, 0, &model, &fault) != MPSLP_UNKNOWN_FORMAT) return 9;
     if (store(MPSLP_LP, &model, &text, &fault) != MPSLP_REFUSED || fault.place != MPSLP_AT_OBJECTIVE) return 10;
     if (store(largest, &model, &text, &fault) != MPSLP_UNKNOWN_FORMAT) return 11;
+    if (normalize(&model, &normal, &fault) != MPSLP_REFUSED || fault.place != MPSLP_AT_OBJECTIVE) return 12;
     mpslp_free_model(&model);
     mpslp_free(&text);
-    return text.len != 0 || model.num_columns != 0;
+    return text.len != 0 || model.num_columns != 0 || normal.num_columns != 0;
 }

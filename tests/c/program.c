@@ -1,7 +1,8 @@
 /*
  * The commands of the program mpslp, done by the calls of the library: canon, same and show, so that what tests the program
  * tests the library. Also `is FORMAT PATH`, which says whether a text is canonical; `double FORMAT PATH`, which prints each
- * number of a model in hexadecimal; and `store FORMAT FORMAT PATH`, which is canon by mpslp_load and mpslp_store.
+ * number of a model in hexadecimal; and `store FORMAT FORMAT PATH`, which is canon by mpslp_load and mpslp_store
+ * and also tries mpslp_normalize.
  */
 #include "mpslp.h"
 
@@ -332,13 +333,35 @@ static mpslp_model shuffled(const mpslp_model *model, uint64_t seed) {
 
 static bool is_same_text(mpslp_text one, mpslp_text other) { return one.len == other.len && memcmp(one.bytes, other.bytes, one.len) == 0; }
 
-/* Whether a model has the same text, or the same error, in a random order. */
+/* Whether two models have the same arrays. Padding follows the kind of a column. */
+static bool has_same_arrays(const mpslp_model *one, const mpslp_model *other) {
+    bool are_same = is_same_text(one->names, other->names) && one->num_rows == other->num_rows && one->num_columns == other->num_columns &&
+                    one->num_elements == other->num_elements && one->sense == other->sense &&
+                    memcmp(&one->constant, &other->constant, sizeof one->constant) == 0 &&
+                    memcmp(&one->objective, &other->objective, sizeof one->objective) == 0;
+    if (!are_same) return false;
+    for (size_t j = 0; j < one->num_columns; j++)
+        are_same &= memcmp(&one->columns[j], &other->columns[j], offsetof(mpslp_column, kind) + sizeof one->columns[j].kind) == 0;
+    return are_same && memcmp(one->rows, other->rows, one->num_rows * sizeof *one->rows) == 0 &&
+           memcmp(one->elements, other->elements, one->num_elements * sizeof *one->elements) == 0;
+}
+
+/* Whether a model that was loaded is made again of arrays that define it. */
+static bool is_made_again(const mpslp_model *model, const mpslp_model *arrays) {
+    mpslp_model normal = MPSLP_NO_MODEL;
+    mpslp_fault fault = MPSLP_NO_FAULT;
+    const bool is_same = mpslp_normalize(arrays, &normal, &fault) == MPSLP_OK && has_same_arrays(model, &normal);
+    mpslp_free_model(&normal);
+    return is_same;
+}
+
+/* Whether a model has the same text, or the same error, and the same normal form in a random order. */
 static bool is_stored_alike(uint32_t to, const mpslp_model *model, uint64_t seed, uint32_t status, mpslp_text text, const mpslp_fault *fault) {
     mpslp_model other = shuffled(model, seed);
     mpslp_text other_text = MPSLP_NO_TEXT;
     mpslp_fault other_fault = MPSLP_NO_FAULT;
     bool is_alike = mpslp_store(to, &other, &other_text, &other_fault) == status && is_same_text(text, other_text) &&
-                    is_same_text(fault->kind, other_fault.kind) && fault->place == other_fault.place && fault->number == other_fault.number;
+                    is_same_text(fault->kind, other_fault.kind) && fault->place == other_fault.place && fault->number == other_fault.number && is_made_again(model, &other);
     mpslp_free(&other_text);
     free((void *)(uintptr_t)other.rows);
     free((void *)(uintptr_t)other.columns);

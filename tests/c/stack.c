@@ -12,7 +12,7 @@ static mpslp_format format;
 
 static void *call(void *unused) {
     mpslp_text text = MPSLP_NO_TEXT;
-    mpslp_model model = MPSLP_NO_MODEL;
+    mpslp_model model = MPSLP_NO_MODEL, normal = MPSLP_NO_MODEL;
     mpslp_fault fault = MPSLP_NO_FAULT;
     (void)unused;
     for (int to = MPSLP_MPS; to <= MPSLP_LP; to++) {
@@ -26,6 +26,8 @@ static void *call(void *unused) {
         if (mpslp_store((mpslp_format)to, &model, &text, &fault) != MPSLP_OK) exit(1);
         mpslp_free(&text);
     }
+    if (mpslp_normalize(&model, &normal, &fault) != MPSLP_OK) exit(1);
+    mpslp_free_model(&normal);
     mpslp_free_model(&model);
     return NULL;
 }

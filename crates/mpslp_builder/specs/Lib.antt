@@ -12,3 +12,4 @@ pub mod Laws
 pub mod Tables
 pub mod Calls
 pub mod FaultFound
+pub mod NameHash

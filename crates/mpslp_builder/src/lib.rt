@@ -3,6 +3,7 @@
 
 mod builder;
 pub mod laws;
+mod name_map;
 mod refusals;
 mod tables;
 

@@ -13,7 +13,7 @@ ghost use Rattle.mpslp_builder.specs.Consistency.{has_objective_rhs};
 ghost use Rattle.mpslp_builder.specs.Tables.{draft, IsNumbered};
 ghost use Rattle.mpslp_builder.specs.Calls.{row_key_of, row_name, column_name, row_tells, column_tells, cells_at, new_column, with_cell, with_bounds, IsOnceEach, IsEmptyTables, IsSameTables, HasObjective, HasRowAdded, HasRowChanged, HasColumnAdded, HasColumnChanged, HasRhsPut};
 
-use indexmap::IndexMap;
+use crate::name_map::{NameMap, new_map};
 use mpslp_builder_parts::{ColumnParts, ObjectiveParts, RowParts};
 use mpslp_decimal::{Decimal, PackedDecimal};
 use mpslp_model_core::PackedRowDefinition;
@@ -27,8 +27,8 @@ const MOST_ROWS: usize = 4_294_967_294;
 #[derive(Debug, Drop)]
 pub(crate) struct Tables {
     pub(crate) objective: Option<ObjectiveParts>,
-    pub(crate) rows: IndexMap<Vec<u8>, RowParts>,
-    pub(crate) columns: IndexMap<Vec<u8>, ColumnParts>,
+    pub(crate) rows: NameMap<RowParts>,
+    pub(crate) columns: NameMap<ColumnParts>,
     /// The number of the column that was used last. It only speeds up look-ups, so any number is correct.
     pub(crate) recent: usize,
 }
@@ -62,8 +62,8 @@ impl Tables {
     {
         Tables {
             objective: None,
-            rows: IndexMap::new(alloc),
-            columns: IndexMap::new(alloc),
+            rows: new_map(alloc),
+            columns: new_map(alloc),
             recent: 0,
         }
     }

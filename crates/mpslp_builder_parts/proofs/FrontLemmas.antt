@@ -21,12 +21,12 @@ pub front-below : (n : ℕ) (name : List ℕ) → AreBytes name → front_value 
 front-below zero name bytes = omega arith
 front-below (suc n) name bytes = omega (arith, front-below n name bytes, bytes n)
 
-worth-below : (k n : ℕ) → k + n ≡ 7 → worth n ≤ 2 ^ 56
-worth-below zero n e = let is : n ≡ 7 = omega (arith, e) in subst (λ (n : ℕ). worth n ≤ 2 ^ 56) (sym is) (omega arith)
+worth-below : (k n : ℕ) → k + n ≡ 15 → worth n ≤ 2 ^ 120
+worth-below zero n e = let is : n ≡ 15 = omega (arith, e) in subst (λ (n : ℕ). worth n ≤ 2 ^ 120) (sym is) (omega arith)
 worth-below (suc k) n e = omega (arith, worth-below k (suc n) (omega (arith, e)))
 
-pub front-fits : (n : ℕ) (name : List ℕ) → AreBytes name → n < 8 → front_value n name < 2 ^ 56
-front-fits n name bytes h = let left : (7 - n) + n ≡ 7 = omega (arith, h) in omega (arith, front-below n name bytes, worth-below (7 - n) n left)
+pub front-fits : (n : ℕ) (name : List ℕ) → AreBytes name → n < 16 → front_value n name < 2 ^ 120
+front-fits n name bytes h = let left : (15 - n) + n ≡ 15 = omega (arith, h) in omega (arith, front-below n name bytes, worth-below (15 - n) n left)
 
 -- ---- the key, from the first byte on
 

@@ -29,7 +29,7 @@ front_total entries = then_total (on_total (λ (f : Front). f.bytes) nat_cmp_tot
 
 -- a key has the first bytes of the name
 abbrev pub IsFrontOf : {V : Type 0} → List (Vec ℕ × V) → Front → Type 0
-IsFrontOf entries f = f.bytes ≡ front_value 8 (name_at entries f.number)
+IsFrontOf entries f = f.bytes ≡ front_value 16 (name_at entries f.number)
 
 abbrev pub HaveBytes : {V : Type 0} → List (Vec ℕ × V) → Type 0
 HaveBytes entries = (n : ℕ) → AreBytes (name_at entries n)
@@ -38,7 +38,7 @@ as_names : {V : Type 0} (entries : List (Vec ℕ × V)) → HaveBytes entries �
     → front_cmp entries a b ≡ bytes_cmp (name_at entries a.number) (name_at entries b.number)
 as_names entries bytes a b p q =
     (λ i. ordering_then (nat_cmp (p i) (q i)) (bytes_cmp (name_at entries a.number) (name_at entries b.number)))
-    ∙ front-then 8 (name_at entries a.number) (name_at entries b.number) (bytes a.number) (bytes b.number)
+    ∙ front-then 16 (name_at entries a.number) (name_at entries b.number) (bytes a.number) (bytes b.number)
 
 pub sorted_numbers : {V : Type 0} (entries : List (Vec ℕ × V)) → HaveBytes entries → (fronts : List Front) → All (IsFrontOf entries) fronts → IsSortedBy (λ a b. is_lt (front_cmp entries a b)) fronts
     → IsSortedBy (λ n m. is_lt (bytes_cmp (name_at entries n) (name_at entries m))) (map (λ f. f.number) fronts)

@@ -21,7 +21,7 @@ front_value zero name = 0
 front_value (suc n) name = front_value n name * 256 + slice_index name n
 
 abbrev pub front_at : {V : Type 0} → List (Vec ℕ × V) → ℕ → Front
-front_at entries number = record { bytes = front_value 8 (name_at entries number); number = number }
+front_at entries number = record { bytes = front_value 16 (name_at entries number); number = number }
 
 -- by the first bytes, and then by the whole name
 abbrev pub front_cmp : {V : Type 0} → List (Vec ℕ × V) → Front → Front → Ordering

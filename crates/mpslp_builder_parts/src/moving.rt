@@ -10,13 +10,16 @@ use mpslp_decimal::PackedDecimal;
 use std::alloc::AllocError;
 use std::collections::BTreeMap;
 
-/// All coefficients in one vector.
+/// All coefficients in one vector. Few columns have any in their tree.
 pub(crate) fn joined(
     near: Vec<(u32, PackedDecimal)>,
     far: BTreeMap<u32, PackedDecimal>,
 ) -> Result<Vec<(u32, PackedDecimal)>, AllocError>
     ensures { IfOk result (λ cells. cells.items ≡ near.items ++ far.entries) }
 {
+    if far.is_empty() {
+        return Ok(near);
+    }
     let mut cells = near;
     cells.reserve(far.len())?;
     for cell in far {

@@ -1,9 +1,8 @@
 //! Entries in the byte order of their names.
 
-ghost use Rattle.std.specs.Prelude.{◌≡◌, ◌≢◌, ◌<◌, ◌+◌, ◌*◌, ◌^◌, ◌++◌, ℕ, Some, IfOk, OnOk, length, map, slice_index};
+ghost use Rattle.std.specs.Prelude.{◌≡◌, ◌≢◌, ◌<◌, ◌+◌, ◌*◌, ◌^◌, ℕ, IfOk, length, map, slice_index};
 ghost use Rattle.std.specs.List.{range_with_len};
 ghost use Rattle.std.specs.List.Sorted.{IsPermutation, IsSortedBy, IsSortedByKey};
-ghost use Rattle.std.specs.Option.{option_to_list};
 ghost use Rattle.std.specs.Ordering.{is_lt};
 ghost use Rattle.mpslp_types.specs.Name.{bytes_cmp};
 ghost use Rattle.mpslp_builder_parts.specs.Ordered.{name_at, front_value, front_at, front_cmp, entries_at};
@@ -11,22 +10,22 @@ ghost use Rattle.mpslp_builder_parts.specs.Ordered.{name_at, front_value, front_
 use std::alloc::{AllocError, Global};
 use std::cmp::Ordering;
 
-/// How many bytes of a name are compared as one number.
-const FRONT: usize = 8;
+/// How many bytes of a name are compared as one number. Names of many models are longer than 8 bytes, but few are longer than 16.
+const FRONT: usize = 16;
 
 /// The number of an entry, with the first bytes of its name as one number. Names are compared only if these are equal.
 #[derive(Clone, Copy, Drop)]
 struct Front {
-    bytes: u64,
+    bytes: u128,
     number: usize,
 }
 
 /// The number with one more byte at its end.
-fn with_byte(bytes: u64, byte: u8) -> u64
-    requires { bytes < 2 ^ 56 }
+fn with_byte(bytes: u128, byte: u8) -> u128
+    requires { bytes < 2 ^ 120 }
     ensures { result ≡ bytes * 256 + byte }
 {
-    bytes * 256 + byte as u64
+    bytes * 256 + byte as u128
 }
 
 /// The byte at this place, or 0 after the end.
@@ -40,8 +39,8 @@ fn byte_at(name: &[u8], at: usize) -> u8
 }
 
 /// The first bytes of a name as one number.
-fn front_value(name: &[u8]) -> u64
-    ensures value { result ≡ front_value 8 name.now }
+fn front_value(name: &[u8]) -> u128
+    ensures value { result ≡ front_value 16 name.now }
     ensures bytes { (i : ℕ) → slice_index name.now i < 256 }
 {
     let mut bytes = 0;
@@ -103,7 +102,7 @@ fn numbers_of(alloc: Global, fronts: &[Front]) -> Result<Vec<usize>, AllocError>
 
 /// Returns the numbers of the entries in byte order of their names.
 ///
-/// Each name becomes a small key, its first eight bytes as one number; names are compared only if these are equal. The order
+/// Each name becomes a small key, its first 16 bytes as one number; names are compared only if these are equal. The order
 /// of entries with the same name is unspecified.
 ///
 /// # Errors
@@ -117,29 +116,22 @@ pub fn order_of<V>(alloc: Global, entries: &[(Vec<u8>, V)]) -> Result<Vec<usize>
     numbers_of(alloc, &fronts)
 }
 
-/// The items as options, so that each can be taken out.
-fn given<T: Drop>(alloc: Global, items: Vec<T>) -> Result<Vec<Option<T>>, AllocError>
-    ensures { IfOk result (λ given. given.items ≡ map Some items.items) }
+/// The numbers from 0 on.
+fn numbers_below(alloc: Global, count: usize) -> Result<Vec<usize>, AllocError>
+    ensures { IfOk result (λ numbers. numbers.items ≡ range_with_len 0 count) }
 {
-    items.into_iter().map(|item| Some(item)).collect(alloc)
-}
-
-/// Appends the item, if there is one.
-fn push_given<T: Drop>(items: &mut Vec<T>, item: Option<T>) -> Result<(), AllocError>
-    ensures { OnOk result (items.new.items ≡ items.old.items ++ option_to_list item) }
-{
-    if let Some(item) = item {
-        items.push(item)?;
-    }
-    Ok(())
+    (0..count).collect(alloc)
 }
 
 /// Returns the items of these numbers, in this order; the others are dropped. No item is copied, and each number may occur at
 /// most once.
 ///
+/// Items are swapped in place, because a second vector of all items would be the peak of memory. An item that is already at its
+/// place is not touched.
+///
 /// # Errors
 ///
-/// [`AllocError`] if there is no memory for as many items. The items are then dropped.
+/// [`AllocError`] if there is no memory for two numbers for each item. The items are then dropped.
 pub fn in_order<T: Drop>(
     alloc: Global,
     items: Vec<T>,
@@ -149,11 +141,17 @@ pub fn in_order<T: Drop>(
     requires apart { (p q : ℕ) → p < q → q < length order.now → slice_index order.now p ≢ slice_index order.now q }
     ensures { IfOk result (λ ordered. ordered.items ≡ entries_at items.items order.now) }
 {
-    let mut left = given(alloc, items)?;
-    let mut ordered = Vec::with_capacity(alloc, order.len())?;
-    for number in order {
-        let item = left[*number].take();
-        push_given(&mut ordered, item)?;
+    let mut items = items;
+    // The number of the item at each place, and the place of the item of each number.
+    let mut numbers = numbers_below(alloc, items.len())?;
+    let mut places = numbers_below(alloc, items.len())?;
+    for place in 0..order.len() {
+        let from = places[order[place]];
+        let moved = numbers[place];
+        items.swap(place, from);
+        numbers[from] = moved;
+        places[moved] = from;
     }
-    Ok(ordered)
+    items.truncate(order.len());
+    Ok(items)
 }

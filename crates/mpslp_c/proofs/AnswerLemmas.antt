@@ -8,7 +8,7 @@ use Rattle.mpslp_types.specs.declared.faults.NameAt.{NameAt}
 use Rattle.mpslp_convert.specs.Conversions.{Declares, HasFirstFault, Unfit, TextOf, IsConversion, IsComparison, IsTestOfText, IsErrUnless}
 use Rattle.mpslp_convert.specs.declared.faults.ConvertFault.{ConvertFault}
 use Rattle.mpslp_convert.specs.declared.faults.ConvertFault.TheVariants.{First, Second, NotLp, OutOfMemory}
-use Rattle.mpslp_c.specs.Answers.{IsLoading, IsTextTold, IsTruthTold, IsModelTold, IsUnless, IsTruthUnless, IsConverted, IsCompared, IsTested, IsLoaded, fault_status, HasFault, IsStoring, IsStoreTold, IsStored, store_status}
+use Rattle.mpslp_c.specs.Answers.{IsLoading, IsTextTold, IsTruthTold, IsModelTold, IsUnless, IsTruthUnless, IsConverted, IsCompared, IsTested, IsLoaded, fault_status, HasFault, IsStoring, IsStoreTold, IsStored, store_status, IsNormalizing, AreArraysGiven, IsNormalized}
 use Rattle.mpslp_c.specs.Stored.{Defines}
 use Rattle.mpslp_c.specs.declared.answers.TheConstants.{OK, REFUSED}
 use Rattle.mpslp_c.specs.declared.arrays.MpslpModel.{MpslpModel}
@@ -155,4 +155,31 @@ stored_so unfit text told answer status out out' fault fault' is accepts refuses
   accepts = λ m defines fits. stored_accepted answer status out out' fault fault' (accepts m defines fits) given;
   refuses = λ why has. refused_as told why status has (stored_refused answer why status out out' fault fault' (refuses why has) given);
   cannot_tell = λ m place defines found. stored_refused answer (stored.NotLp place) status out out' fault fault' (cannot_tell m place defines found) given;
+}
+
+-- ---- arrays that are normalized
+
+arrays_accepted : (answer : Result MpslpModel StoreFault) (status : ℕ) (out out' : MpslpModel) (fault fault' : MpslpFault)
+    → IsOkUnless answer stored.OutOfMemory → AreArraysGiven answer status out out' fault fault' → IsUnless OK status
+arrays_accepted (Ok model) status out out' fault fault' accepted given = inl given.0
+arrays_accepted (Err why) status out out' fault fault' accepted given = inr (given.0 ∙ ap store_status accepted)
+
+arrays_refused : (answer : Result MpslpModel StoreFault) (why : StoreFault) (status : ℕ) (out out' : MpslpModel) (fault fault' : MpslpFault)
+    → IsErrUnless answer why stored.OutOfMemory → AreArraysGiven answer status out out' fault fault' → IsUnless (store_status why) status
+arrays_refused (Ok model) why status out out' fault fault' refused given = absurd refused
+arrays_refused (Err found) why status out out' fault fault' (inl same) given = inl (given.0 ∙ ap store_status same)
+arrays_refused (Err found) why status out out' fault fault' (inr memory) given = inr (given.0 ∙ ap store_status memory)
+
+pub normalized_so : (told : MpslpModel) (answer : Result MpslpModel StoreFault) (status : ℕ) (out out' : MpslpModel) (fault fault' : MpslpFault)
+    → IsNormalizing told answer
+    → ((m : LinearModel) → Defines told m → IsOkUnless answer stored.OutOfMemory)
+    → ((why : StoreFault) → HasFault told why → IsErrUnless answer why stored.OutOfMemory)
+    → AreArraysGiven answer status out out' fault fault'
+    → IsNormalized told status out out' fault fault'
+normalized_so told answer status out out' fault fault' is accepts refuses given = record {
+  answer = answer;
+  is = is;
+  given = given;
+  accepts = λ m defines. arrays_accepted answer status out out' fault fault' (accepts m defines) given;
+  refuses = λ why has. refused_as told why status has (arrays_refused answer why status out out' fault fault' (refuses why has) given);
 }

@@ -194,3 +194,27 @@ pub record IsStored (unfit : Unfit) (text : TextOf) (told : MpslpModel) (status 
 abbrev pub IsStoreAnswer : Option Form → MpslpModel → ℕ → MpslpText → MpslpText → MpslpFault → MpslpFault → Type 0
 IsStoreAnswer (Some to) told status out out' fault fault' = IsStored (unfit_in to) (text_in to) told status out out' fault fault'
 IsStoreAnswer None told status out out' fault fault' = (status ≡ UNKNOWN_FORMAT) × (out' ≡ out) × (fault' ≡ fault)
+
+-- ---- the call that normalizes arrays
+
+-- The arrays of the model that arrays define, or their first error.
+abbrev pub IsNormalizing : MpslpModel → Result MpslpModel StoreFault → Type 0
+IsNormalizing told (Ok out) = (m : LinearModel) × Defines told m × TellsModel m out
+IsNormalizing told (Err (stored.Item fault)) = HasFault told (stored.Item fault)
+IsNormalizing told (Err (stored.Whole fault)) = HasFault told (stored.Whole fault)
+IsNormalizing told (Err (stored.NotLp place)) = ⊥
+IsNormalizing told (Err stored.OutOfMemory) = Unit {0}
+
+-- The arrays are set, or the error. The other one is unchanged.
+abbrev pub AreArraysGiven : Result MpslpModel StoreFault → ℕ → MpslpModel → MpslpModel → MpslpFault → MpslpFault → Type 0
+AreArraysGiven (Ok model) status out out' fault fault' = (status ≡ OK) × (out' ≡ model) × (fault' ≡ fault)
+AreArraysGiven (Err why) status out out' fault fault' = (status ≡ store_status why) × (out' ≡ out) × IsStoreFaultTold why fault fault'
+
+-- The arrays were normalized, and the result returned. Arrays that define a model are never rejected, and those with an error
+-- always are.
+pub record IsNormalized (told : MpslpModel) (status : ℕ) (out out' : MpslpModel) (fault fault' : MpslpFault) : Type 0 where
+  pub answer : Result MpslpModel StoreFault
+  pub is : IsNormalizing told answer
+  pub given : AreArraysGiven answer status out out' fault fault'
+  pub accepts : (m : LinearModel) → Defines told m → IsUnless OK status
+  pub refuses : (why : StoreFault) → HasFault told why → IsUnless REFUSED status

@@ -9,6 +9,7 @@ mod arrays;
 mod calls;
 mod faults;
 mod loading;
+mod normalizing;
 mod numbers;
 mod stored_items;
 mod storing;

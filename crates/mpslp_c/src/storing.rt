@@ -173,7 +173,7 @@ fn declare_items(alloc: Global, model: &MpslpModel, builder: &mut Builder) -> Re
 }
 
 /// The model that arrays define.
-fn stored_model(alloc: Global, model: &MpslpModel) -> Result<Model, StoreFault>
+pub(crate) fn stored_model(alloc: Global, model: &MpslpModel) -> Result<Model, StoreFault>
     ensures answer { IsStoredModel model.now result }
     ensures accepts { (m : LinearModel) → Defines model.now m → IsOkUnless result StoreFault.OutOfMemory }
     ensures refuses { (why : StoreFault) → HasFault model.now why → IsErrUnless result why StoreFault.OutOfMemory }
@@ -220,7 +220,7 @@ fn stored_text_in(alloc: Global, to: Form, model: &MpslpModel) -> Result<Vec<u8>
 }
 
 /// The status of an error of arrays.
-fn store_status(fault: &StoreFault) -> u32
+pub(crate) fn store_status(fault: &StoreFault) -> u32
     ensures { result ≡ store_status fault.now }
 {
     match fault {

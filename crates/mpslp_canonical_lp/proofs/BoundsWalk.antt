@@ -12,6 +12,8 @@ use Rattle.mpslp_types.specs.declared.kinds.Limit.{Limit}
 use Rattle.mpslp_types.specs.declared.kinds.Limit.TheVariants.{MinusInf, Finite, PlusInf}
 use Rattle.mpslp_decimal.proofs.CutLemmas.{Each}
 use Rattle.mpslp_lp_tokens.specs.Words.{class_of}
+use Rattle.mpslp_lp_grammar.specs.declared.signs.Sign.{Sign as SignOf}
+use Rattle.mpslp_lp_grammar.specs.declared.signs.Sign.TheVariants.{Minus}
 use Rattle.mpslp_lp_grammar.specs.Terminal.{Terminal, TerminalAt, word_terminal}
 use Rattle.mpslp_lp_grammar.specs.Terminal.Terminal.{Name, Number, Sign, Compares, Infinity, Free}
 use Rattle.mpslp_lp_grammar.specs.Point.{Point}
@@ -25,19 +27,19 @@ use Rattle.mpslp_canonical_lp.specs.Printed.{Lexeme, word, number, sense, minus_
 use Rattle.mpslp_canonical_lp.specs.CanonicalLp.{bound_lexemes, line_of_some, bound_lines}
 use Rattle.mpslp_canonical_lp.proofs.LexemeLemmas.{IsGoodName}
 use Rattle.mpslp_canonical_lp.proofs.PrintableLemmas.{IsFitColumn}
-use Rattle.mpslp_canonical_lp.proofs.TerminalLemmas.{at, terminals_in, all_terminals, mapped-append, signed-value}
+use Rattle.mpslp_canonical_lp.proofs.TerminalLemmas.{at, terminals_in, all_terminals, mapped-append, signed-value, sign_of}
 use Rattle.mpslp_canonical_lp.proofs.PhraseLemmas.{Walks, walks-none, point_at, column_and, AreTaken, bound-walks, signed-bound-walks, free-walks, left-bound-walks, signed-left-bound-walks, infinite-left-walks, upper-walks, signed-upper-walks}
 use Rattle.mpslp_canonical_lp.proofs.ObjectiveWalk.{number_after, terminals-append, parts-taken, parts-walk}
 use Rattle.mpslp_canonical_lp.proofs.TailWalk.{sides-taken}
 
 -- ---- a number is read by its sign and its absolute value
 
-pub number-either : (P : Decimal → List Terminal → Type 0) (value : Decimal) → ((v : Decimal) → P v (Number v ∷ [])) → ((below : Bool) (v : Decimal) → P (apply_sign below v) (Sign below ∷ Number v ∷ []))
+pub number-either : (P : Decimal → List Terminal → Type 0) (value : Decimal) → ((v : Decimal) → P v (Number v ∷ [])) → ((below : SignOf) (v : Decimal) → P (apply_sign below v) (Sign below ∷ Number v ∷ []))
     → P value (terminals_in (number value))
 number-either P value plain with_sign = by (is_negative value) refl
   where
-    by : (b : Bool) → is_negative value ≡ b → P value (if b then Sign true ∷ Number (size_of value) ∷ [] else Number value ∷ [])
-    by true e = subst (λ (v : Decimal). P v (Sign true ∷ Number (size_of value) ∷ [])) (ap (λ (b : Bool). apply_sign b (size_of value)) (sym e) ∙ signed-value value) (with_sign true (size_of value))
+    by : (b : Bool) → is_negative value ≡ b → P value (if b then Sign Minus ∷ Number (size_of value) ∷ [] else Number value ∷ [])
+    by true e = subst (λ (v : Decimal). P v (Sign Minus ∷ Number (size_of value) ∷ [])) (ap (λ (b : Bool). apply_sign (sign_of b) (size_of value)) (sym e) ∙ signed-value value) (with_sign Minus (size_of value))
     by false e = plain value
 
 -- ---- what is declared
@@ -146,9 +148,9 @@ infinite-line sections_seen all n column upper good h =
     let parts = parts-taken all first second h in
     let right = terminals_in (number upper) in
     subst (λ (tokens : List TerminalAt). Walks (bounds_point sections_seen all) tokens (first ++ second) (bounds_point sections_seen (with_declarations all (first ++ second))))
-    (λ i. at n (Sign true) ∷ at n Infinity ∷ at n (Compares AtMost) ∷ at n (word_terminal column (sym good.word_class i)) ∷ at n (Compares AtMost) ∷ map (at n) (sym (append-nil right) i))
+    (λ i. at n (Sign Minus) ∷ at n Infinity ∷ at n (Compares AtMost) ∷ at n (word_terminal column (sym good.word_class i)) ∷ at n (Compares AtMost) ∷ map (at n) (sym (append-nil right) i))
     (parts-walk (InBounds None) (InBounds (Some (column, AtMost))) (InBounds None) sections_seen sections_seen sections_seen all
-    (at n (Sign true) ∷ at n Infinity ∷ at n (Compares AtMost) ∷ at n (Name column) ∷ []) (at n (Compares AtMost) ∷ map (at n) right) first second
+    (at n (Sign Minus) ∷ at n Infinity ∷ at n (Compares AtMost) ∷ at n (Name column) ∷ []) (at n (Compares AtMost) ∷ map (at n) right) first second
     (infinite-left-walks sections_seen all n AtMost column (taken-from all column (limits_by AtLeast MinusInf) refl parts.0)) (upper-walk sections_seen (with_declarations all first) n column upper parts.1))
 
 -- a column and `free`

@@ -26,7 +26,7 @@ use Rattle.mpslp_model_core.specs.Listing.{Listing}
 use Rattle.mpslp_canonical_lp.specs.CanonicalLp.{Lines, Term, heading, long_line, signed_lexemes, label_line, sense_word, term_line, objective_terms, constant_lines, objective_section}
 pub use Rattle.mpslp_canonical_lp.specs.PrintedDeclarations.{constant_declared}
 use Rattle.mpslp_canonical_lp.proofs.PrintableLemmas.{IsTerm, IsFit, objective-fits}
-use Rattle.mpslp_canonical_lp.proofs.TerminalLemmas.{at, line_terminals_in, all_terminals, signed-value}
+use Rattle.mpslp_canonical_lp.proofs.TerminalLemmas.{at, line_terminals_in, all_terminals, signed-value, sign_of}
 use Rattle.mpslp_canonical_lp.proofs.PhraseLemmas.{Walks, walks-none, walks-then, point_at, sense_opens, start-walks, first-term-walks, term-walks, subject-walks, constant-walks}
 
 -- ---- lists of lines
@@ -67,8 +67,8 @@ abbrev pub terms_declared : List ℕ → List Term → Declarations
 terms_declared row terms = flat_map (term_declared row) terms
 
 pub term-terminals : (n : ℕ) (term : Term) → IsTerm term
-    → line_terminals_in n (term_line term) ≡ at n (Sign (is_negative term.1)) ∷ at n (Number (size_of term.1)) ∷ at n (Name term.0) ∷ []
-term-terminals n term h = λ i. at n (Sign (is_negative term.1)) ∷ at n (Number (size_of term.1)) ∷ at n (word_terminal term.0 (h.0.word_class i)) ∷ []
+    → line_terminals_in n (term_line term) ≡ at n (Sign (sign_of (is_negative term.1))) ∷ at n (Number (size_of term.1)) ∷ at n (Name term.0) ∷ []
+term-terminals n term h = λ i. at n (Sign (sign_of (is_negative term.1))) ∷ at n (Number (size_of term.1)) ∷ at n (word_terminal term.0 (h.0.word_class i)) ∷ []
 
 -- before the first item, or after one
 abbrev pub items_at : List ℕ → Bool → Place
@@ -82,12 +82,12 @@ one-term started sections_seen all name n term good h =
     (subst (λ (value : Decimal). refusals_in_turn all (term_declared name (term.0, value)) ≡ [] → From started value) (signed-value term.1) (by started) h)
   where
     From : Bool → Decimal → Type 0
-    From b value = Walks (point_at (items_at name b) sections_seen all) (at n (Sign (is_negative term.1)) ∷ at n (Number (size_of term.1)) ∷ at n (Name term.0) ∷ []) (term_declared name (term.0, value))
+    From b value = Walks (point_at (items_at name b) sections_seen all) (at n (Sign (sign_of (is_negative term.1))) ∷ at n (Number (size_of term.1)) ∷ at n (Name term.0) ∷ []) (term_declared name (term.0, value))
         (point_at (InObjective name) sections_seen (with_declarations all (term_declared name (term.0, value))))
 
-    by : (b : Bool) → refusals_in_turn all (term_declared name (term.0, apply_sign (is_negative term.1) (size_of term.1))) ≡ [] → From b (apply_sign (is_negative term.1) (size_of term.1))
-    by true k = term-walks sections_seen all name n (is_negative term.1) (size_of term.1) term.0 k
-    by false k = first-term-walks sections_seen all name n (is_negative term.1) (size_of term.1) term.0 k
+    by : (b : Bool) → refusals_in_turn all (term_declared name (term.0, apply_sign (sign_of (is_negative term.1)) (size_of term.1))) ≡ [] → From b (apply_sign (sign_of (is_negative term.1)) (size_of term.1))
+    by true k = term-walks sections_seen all name n (sign_of (is_negative term.1)) (size_of term.1) term.0 k
+    by false k = first-term-walks sections_seen all name n (sign_of (is_negative term.1)) (size_of term.1) term.0 k
 
 abbrev pub after_terms : Bool → List Term → Bool
 after_terms started [] = started
@@ -112,18 +112,18 @@ subject_heading = heading (codes "Subject" ∷ codes "To" ∷ [])
 
 some-constant : (started : Bool) (sections_seen : SectionsSeen) (all : Draft) (name : List ℕ) (n : ℕ) (value : Decimal) → refusals_in_turn all (declare_constant value ∷ []) ≡ [] → section_fault sections_seen sections.Rows ≡ None
     → Walks (point_at (items_at name started) sections_seen all)
-    (at n (Sign (is_negative value)) ∷ at n (Number (size_of value)) ∷ at (n + 1) (Opens section_words.Subject) ∷ at (n + 1) (Name (codes "To")) ∷ [])
+    (at n (Sign (sign_of (is_negative value))) ∷ at n (Number (size_of value)) ∷ at (n + 1) (Opens section_words.Subject) ∷ at (n + 1) (Name (codes "To")) ∷ [])
     (declare_constant value ∷ []) (point_at BetweenRows (with_section sections_seen sections.Rows) (with_declarations all (declare_constant value ∷ [])))
 some-constant started sections_seen all name n value h fault =
     subst (λ (v : Decimal). refusals_in_turn all (declare_constant v ∷ []) ≡ [] → From started v) (signed-value value) (by started) h
   where
     From : Bool → Decimal → Type 0
     From b v = Walks (point_at (items_at name b) sections_seen all)
-        (at n (Sign (is_negative value)) ∷ at n (Number (size_of value)) ∷ at (n + 1) (Opens section_words.Subject) ∷ at (n + 1) (Name (codes "To")) ∷ [])
+        (at n (Sign (sign_of (is_negative value))) ∷ at n (Number (size_of value)) ∷ at (n + 1) (Opens section_words.Subject) ∷ at (n + 1) (Name (codes "To")) ∷ [])
         (declare_constant v ∷ []) (point_at BetweenRows (with_section sections_seen sections.Rows) (with_declarations all (declare_constant v ∷ [])))
 
-    by : (b : Bool) → refusals_in_turn all (declare_constant (apply_sign (is_negative value) (size_of value)) ∷ []) ≡ [] → From b (apply_sign (is_negative value) (size_of value))
-    by b k = constant-walks b sections_seen all name n (n + 1) (is_negative value) (size_of value) k fault
+    by : (b : Bool) → refusals_in_turn all (declare_constant (apply_sign (sign_of (is_negative value)) (size_of value)) ∷ []) ≡ [] → From b (apply_sign (sign_of (is_negative value)) (size_of value))
+    by b k = constant-walks b sections_seen all name n (n + 1) (sign_of (is_negative value)) (size_of value) k fault
 
 may-begin : (name : List ℕ) (started : Bool) → may_begin_section (items_at name started) ≡ true
 may-begin name true = refl

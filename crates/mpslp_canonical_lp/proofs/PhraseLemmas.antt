@@ -15,6 +15,8 @@ use Rattle.mpslp_types.specs.declared.kinds.Sense.{Sense}
 use Rattle.mpslp_types.specs.declared.kinds.Sense.TheVariants.{Minimize, Maximize}
 use Rattle.mpslp_types.specs.declared.kinds.Limit.{Limit}
 use Rattle.mpslp_types.specs.declared.kinds.Limit.TheVariants.{MinusInf}
+use Rattle.mpslp_lp_grammar.specs.declared.signs.Sign.{Sign as SignOf}
+use Rattle.mpslp_lp_grammar.specs.declared.signs.Sign.TheVariants.{Minus}
 use Rattle.mpslp_lp_grammar.specs.Terminal.{TerminalAt}
 use Rattle.mpslp_lp_grammar.specs.Terminal.Terminal.{Opens, Name, Number, Sign, Compares, Colon, Infinity, Free}
 use Rattle.mpslp_lp_tokens.specs.Words.{section_of}
@@ -137,59 +139,59 @@ start-walks n k Minimize name = walks-one start (at n (Opens section_words.Minim
 start-walks n k Maximize name = walks-one start (at n (Opens section_words.Maximize)) (at k (Name name) ∷ at k Colon ∷ []) _ _ (λ rest. refl)
 
 -- the first term, and each further one
-pub first-term-walks : (sections_seen : SectionsSeen) (all : Draft) (name : List ℕ) (n : ℕ) (minus : Bool) (size : Decimal) (column : List ℕ)
-    → refusals_in_turn all (term_declared name (column, apply_sign minus size)) ≡ []
-    → Walks (point_at (BeforeItems name) sections_seen all) (at n (Sign minus) ∷ at n (Number size) ∷ at n (Name column) ∷ []) (term_declared name (column, apply_sign minus size))
-    (point_at (InObjective name) sections_seen (with_declarations all (term_declared name (column, apply_sign minus size))))
-first-term-walks sections_seen all name n minus size column h =
-    walks-one (point_at (BeforeItems name) sections_seen all) (at n (Sign minus)) (at n (Number size) ∷ at n (Name column) ∷ []) _ _
-    (λ rest. ap (λ (refused : List BuildFault). after_taking 2 (unless_refused (record { sections_seen = sections_seen; earlier = all }) (at n (Name column)) refused (InObjective name) (term_declared name (column, apply_sign minus size)) rest)) h)
+pub first-term-walks : (sections_seen : SectionsSeen) (all : Draft) (name : List ℕ) (n : ℕ) (sign : SignOf) (size : Decimal) (column : List ℕ)
+    → refusals_in_turn all (term_declared name (column, apply_sign sign size)) ≡ []
+    → Walks (point_at (BeforeItems name) sections_seen all) (at n (Sign sign) ∷ at n (Number size) ∷ at n (Name column) ∷ []) (term_declared name (column, apply_sign sign size))
+    (point_at (InObjective name) sections_seen (with_declarations all (term_declared name (column, apply_sign sign size))))
+first-term-walks sections_seen all name n sign size column h =
+    walks-one (point_at (BeforeItems name) sections_seen all) (at n (Sign sign)) (at n (Number size) ∷ at n (Name column) ∷ []) _ _
+    (λ rest. ap (λ (refused : List BuildFault). after_taking 2 (unless_refused (record { sections_seen = sections_seen; earlier = all }) (at n (Name column)) refused (InObjective name) (term_declared name (column, apply_sign sign size)) rest)) h)
 
-pub term-walks : (sections_seen : SectionsSeen) (all : Draft) (name : List ℕ) (n : ℕ) (minus : Bool) (size : Decimal) (column : List ℕ)
-    → refusals_in_turn all (term_declared name (column, apply_sign minus size)) ≡ []
-    → Walks (point_at (InObjective name) sections_seen all) (at n (Sign minus) ∷ at n (Number size) ∷ at n (Name column) ∷ []) (term_declared name (column, apply_sign minus size))
-    (point_at (InObjective name) sections_seen (with_declarations all (term_declared name (column, apply_sign minus size))))
-term-walks sections_seen all name n minus size column h =
-    walks-one (point_at (InObjective name) sections_seen all) (at n (Sign minus)) (at n (Number size) ∷ at n (Name column) ∷ []) _ _
-    (λ rest. ap (λ (refused : List BuildFault). after_taking 2 (unless_refused (record { sections_seen = sections_seen; earlier = all }) (at n (Name column)) refused (InObjective name) (term_declared name (column, apply_sign minus size)) rest)) h)
+pub term-walks : (sections_seen : SectionsSeen) (all : Draft) (name : List ℕ) (n : ℕ) (sign : SignOf) (size : Decimal) (column : List ℕ)
+    → refusals_in_turn all (term_declared name (column, apply_sign sign size)) ≡ []
+    → Walks (point_at (InObjective name) sections_seen all) (at n (Sign sign) ∷ at n (Number size) ∷ at n (Name column) ∷ []) (term_declared name (column, apply_sign sign size))
+    (point_at (InObjective name) sections_seen (with_declarations all (term_declared name (column, apply_sign sign size))))
+term-walks sections_seen all name n sign size column h =
+    walks-one (point_at (InObjective name) sections_seen all) (at n (Sign sign)) (at n (Number size) ∷ at n (Name column) ∷ []) _ _
+    (λ rest. ap (λ (refused : List BuildFault). after_taking 2 (unless_refused (record { sections_seen = sections_seen; earlier = all }) (at n (Name column)) refused (InObjective name) (term_declared name (column, apply_sign sign size)) rest)) h)
 
 -- ---- rows
 
 -- a label and the first term
-pub row-walks : (sections_seen : SectionsSeen) (all : Draft) (name : List ℕ) (k n : ℕ) (minus : Bool) (size : Decimal) (column : List ℕ)
-    → Walks (point_at BetweenRows sections_seen all) (at k (Name name) ∷ at k Colon ∷ at n (Sign minus) ∷ at n (Number size) ∷ at n (Name column) ∷ []) []
-    (point_at (InRow (record { name = name; left = None; terms = (column, apply_sign minus size) ∷ [] })) sections_seen all)
-row-walks sections_seen all name k n minus size column =
-    walks-one (point_at BetweenRows sections_seen all) (at k (Name name)) (at k Colon ∷ at n (Sign minus) ∷ at n (Number size) ∷ at n (Name column) ∷ []) _ _ (λ rest. refl)
+pub row-walks : (sections_seen : SectionsSeen) (all : Draft) (name : List ℕ) (k n : ℕ) (sign : SignOf) (size : Decimal) (column : List ℕ)
+    → Walks (point_at BetweenRows sections_seen all) (at k (Name name) ∷ at k Colon ∷ at n (Sign sign) ∷ at n (Number size) ∷ at n (Name column) ∷ []) []
+    (point_at (InRow (record { name = name; left = None; terms = (column, apply_sign sign size) ∷ [] })) sections_seen all)
+row-walks sections_seen all name k n sign size column =
+    walks-one (point_at BetweenRows sections_seen all) (at k (Name name)) (at k Colon ∷ at n (Sign sign) ∷ at n (Number size) ∷ at n (Name column) ∷ []) _ _ (λ rest. refl)
 
 -- a label, a limit before the terms, and the first term
-pub left-row-walks : (sections_seen : SectionsSeen) (all : Draft) (name : List ℕ) (k j n : ℕ) (value : Decimal) (relation : Relation) (minus : Bool) (size : Decimal) (column : List ℕ)
+pub left-row-walks : (sections_seen : SectionsSeen) (all : Draft) (name : List ℕ) (k j n : ℕ) (value : Decimal) (relation : Relation) (sign : SignOf) (size : Decimal) (column : List ℕ)
     → Walks (point_at BetweenRows sections_seen all)
-    (at k (Name name) ∷ at k Colon ∷ at j (Number value) ∷ at j (Compares relation) ∷ at n (Sign minus) ∷ at n (Number size) ∷ at n (Name column) ∷ []) []
-    (point_at (InRow (record { name = name; left = Some (limit_of value, relation); terms = (column, apply_sign minus size) ∷ [] })) sections_seen all)
-left-row-walks sections_seen all name k j n value relation minus size column =
+    (at k (Name name) ∷ at k Colon ∷ at j (Number value) ∷ at j (Compares relation) ∷ at n (Sign sign) ∷ at n (Number size) ∷ at n (Name column) ∷ []) []
+    (point_at (InRow (record { name = name; left = Some (limit_of value, relation); terms = (column, apply_sign sign size) ∷ [] })) sections_seen all)
+left-row-walks sections_seen all name k j n value relation sign size column =
     walks-one (point_at BetweenRows sections_seen all) (at k (Name name))
-    (at k Colon ∷ at j (Number value) ∷ at j (Compares relation) ∷ at n (Sign minus) ∷ at n (Number size) ∷ at n (Name column) ∷ []) _ _ (λ rest. refl)
+    (at k Colon ∷ at j (Number value) ∷ at j (Compares relation) ∷ at n (Sign sign) ∷ at n (Number size) ∷ at n (Name column) ∷ []) _ _ (λ rest. refl)
 
 -- the same with a sign before the limit
-pub signed-row-walks : (sections_seen : SectionsSeen) (all : Draft) (name : List ℕ) (k j n : ℕ) (below : Bool) (value : Decimal) (relation : Relation) (minus : Bool) (size : Decimal) (column : List ℕ)
+pub signed-row-walks : (sections_seen : SectionsSeen) (all : Draft) (name : List ℕ) (k j n : ℕ) (below : SignOf) (value : Decimal) (relation : Relation) (sign : SignOf) (size : Decimal) (column : List ℕ)
     → Walks (point_at BetweenRows sections_seen all)
-    (at k (Name name) ∷ at k Colon ∷ at j (Sign below) ∷ at j (Number value) ∷ at j (Compares relation) ∷ at n (Sign minus) ∷ at n (Number size) ∷ at n (Name column) ∷ []) []
-    (point_at (InRow (record { name = name; left = Some (limit_of (apply_sign below value), relation); terms = (column, apply_sign minus size) ∷ [] })) sections_seen all)
-signed-row-walks sections_seen all name k j n below value relation minus size column =
+    (at k (Name name) ∷ at k Colon ∷ at j (Sign below) ∷ at j (Number value) ∷ at j (Compares relation) ∷ at n (Sign sign) ∷ at n (Number size) ∷ at n (Name column) ∷ []) []
+    (point_at (InRow (record { name = name; left = Some (limit_of (apply_sign below value), relation); terms = (column, apply_sign sign size) ∷ [] })) sections_seen all)
+signed-row-walks sections_seen all name k j n below value relation sign size column =
     walks-one (point_at BetweenRows sections_seen all) (at k (Name name))
-    (at k Colon ∷ at j (Sign below) ∷ at j (Number value) ∷ at j (Compares relation) ∷ at n (Sign minus) ∷ at n (Number size) ∷ at n (Name column) ∷ []) _ _ (λ rest. refl)
+    (at k Colon ∷ at j (Sign below) ∷ at j (Number value) ∷ at j (Compares relation) ∷ at n (Sign sign) ∷ at n (Number size) ∷ at n (Name column) ∷ []) _ _ (λ rest. refl)
 
 -- a further term, whose column is new in the row
-pub row-term-walks : (sections_seen : SectionsSeen) (all : Draft) (row : PartialRow) (n : ℕ) (minus : Bool) (size : Decimal) (column : List ℕ)
+pub row-term-walks : (sections_seen : SectionsSeen) (all : Draft) (row : PartialRow) (n : ℕ) (sign : SignOf) (size : Decimal) (column : List ℕ)
     → list_any (λ (term : List ℕ × Decimal). same_bytes column term.0) row.terms ≡ false
-    → Walks (point_at (InRow row) sections_seen all) (at n (Sign minus) ∷ at n (Number size) ∷ at n (Name column) ∷ []) []
-    (point_at (InRow (record row { terms = row.terms ++ (column, apply_sign minus size) ∷ [] })) sections_seen all)
-row-term-walks sections_seen all row n minus size column h =
+    → Walks (point_at (InRow row) sections_seen all) (at n (Sign sign) ∷ at n (Number size) ∷ at n (Name column) ∷ []) []
+    (point_at (InRow (record row { terms = row.terms ++ (column, apply_sign sign size) ∷ [] })) sections_seen all)
+row-term-walks sections_seen all row n sign size column h =
     let context : Context = record { sections_seen = sections_seen; earlier = all } in
-    walks-one (point_at (InRow row) sections_seen all) (at n (Sign minus)) (at n (Number size) ∷ at n (Name column) ∷ []) _ _
+    walks-one (point_at (InRow row) sections_seen all) (at n (Sign sign)) (at n (Number size) ∷ at n (Name column) ∷ []) _ _
     (λ rest. ap (λ (twice : Bool). after_taking 2 ((if twice then refuses context (at n (Name column)) DuplicateEntry
-    else goes_to context (InRow (record row { terms = row.terms ++ (column, apply_sign minus size) ∷ [] })) []) rest)) h)
+    else goes_to context (InRow (record row { terms = row.terms ++ (column, apply_sign sign size) ∷ [] })) []) rest)) h)
 
 -- what a row declares that ends with this relation and this limit
 abbrev pub ended_by : PartialRow → Relation → Limit → Declarations
@@ -207,7 +209,7 @@ row-end-walks sections_seen all row n relation value fits h =
     ∙ ap (λ (refused : List BuildFault). after_taking 1 (unless_refused context (at n (Number value)) refused BetweenRows (ended_by row relation (limit_of value)) rest)) h)
 
 -- the same with a sign before the limit
-pub signed-end-walks : (sections_seen : SectionsSeen) (all : Draft) (row : PartialRow) (n : ℕ) (relation : Relation) (below : Bool) (value : Decimal)
+pub signed-end-walks : (sections_seen : SectionsSeen) (all : Draft) (row : PartialRow) (n : ℕ) (relation : Relation) (below : SignOf) (value : Decimal)
     → fits_left row.left relation ≡ true → refusals_in_turn all (ended_by row relation (limit_of (apply_sign below value))) ≡ []
     → Walks (point_at (InRow row) sections_seen all) (at n (Compares relation) ∷ at n (Sign below) ∷ at n (Number value) ∷ []) (ended_by row relation (limit_of (apply_sign below value)))
     (point_at BetweenRows sections_seen (with_declarations all (ended_by row relation (limit_of (apply_sign below value)))))
@@ -250,27 +252,27 @@ generals-section-walks place sections_seen all n may fault =
 
 -- `Semi-Continuous`
 pub semis-section-walks : (place : Place) (sections_seen : SectionsSeen) (all : Draft) (n : ℕ) → may_begin_section place ≡ true → section_fault sections_seen sections.SemiContinuous ≡ None
-    → Walks (point_at place sections_seen all) (at n (Opens section_words.Semi) ∷ at n (Sign true) ∷ at n (Name (codes "Continuous")) ∷ []) [] (point_at InSemis (with_section sections_seen sections.SemiContinuous) all)
+    → Walks (point_at place sections_seen all) (at n (Opens section_words.Semi) ∷ at n (Sign Minus) ∷ at n (Name (codes "Continuous")) ∷ []) [] (point_at InSemis (with_section sections_seen sections.SemiContinuous) all)
 semis-section-walks place sections_seen all n may fault =
-    walks-one (point_at place sections_seen all) (at n (Opens section_words.Semi)) (at n (Sign true) ∷ at n (Name (codes "Continuous")) ∷ []) _ _
-    (λ rest. opens-section place sections_seen all n section_words.Semi (at n (Sign true) ∷ at n (Name (codes "Continuous")) ∷ rest) may fault)
+    walks-one (point_at place sections_seen all) (at n (Opens section_words.Semi)) (at n (Sign Minus) ∷ at n (Name (codes "Continuous")) ∷ []) _ _
+    (λ rest. opens-section place sections_seen all n section_words.Semi (at n (Sign Minus) ∷ at n (Name (codes "Continuous")) ∷ rest) may fault)
 
 -- a constant, which `Subject To` after it completes
-pub constant-walks : (started : Bool) (sections_seen : SectionsSeen) (all : Draft) (name : List ℕ) (k n : ℕ) (minus : Bool) (size : Decimal)
-    → refusals_in_turn all (declare_constant (apply_sign minus size) ∷ []) ≡ [] → section_fault sections_seen sections.Rows ≡ None
-    → Walks (point_at (if started then InObjective name else BeforeItems name) sections_seen all) (at k (Sign minus) ∷ at k (Number size) ∷ at n (Opens section_words.Subject) ∷ at n (Name (codes "To")) ∷ [])
-    (declare_constant (apply_sign minus size) ∷ [])
-    (point_at BetweenRows (with_section sections_seen sections.Rows) (with_declarations all (declare_constant (apply_sign minus size) ∷ [])))
-constant-walks true sections_seen all name k n minus size h fault =
-    walks-context (point_at (InObjective name) sections_seen all) _ _ (at k (Sign minus)) (at k (Number size) ∷ []) (at n (Opens section_words.Subject) ∷ at n (Name (codes "To")) ∷ []) _ []
-    (λ rest. ap (λ (refused : List BuildFault). after_taking 1 (unless_refused (record { sections_seen = sections_seen; earlier = all }) (at n (Opens section_words.Subject)) refused (InObjective name) (declare_constant (apply_sign minus size) ∷ [])
+pub constant-walks : (started : Bool) (sections_seen : SectionsSeen) (all : Draft) (name : List ℕ) (k n : ℕ) (sign : SignOf) (size : Decimal)
+    → refusals_in_turn all (declare_constant (apply_sign sign size) ∷ []) ≡ [] → section_fault sections_seen sections.Rows ≡ None
+    → Walks (point_at (if started then InObjective name else BeforeItems name) sections_seen all) (at k (Sign sign) ∷ at k (Number size) ∷ at n (Opens section_words.Subject) ∷ at n (Name (codes "To")) ∷ [])
+    (declare_constant (apply_sign sign size) ∷ [])
+    (point_at BetweenRows (with_section sections_seen sections.Rows) (with_declarations all (declare_constant (apply_sign sign size) ∷ [])))
+constant-walks true sections_seen all name k n sign size h fault =
+    walks-context (point_at (InObjective name) sections_seen all) _ _ (at k (Sign sign)) (at k (Number size) ∷ []) (at n (Opens section_words.Subject) ∷ at n (Name (codes "To")) ∷ []) _ []
+    (λ rest. ap (λ (refused : List BuildFault). after_taking 1 (unless_refused (record { sections_seen = sections_seen; earlier = all }) (at n (Opens section_words.Subject)) refused (InObjective name) (declare_constant (apply_sign sign size) ∷ [])
     (at n (Opens section_words.Subject) ∷ at n (Name (codes "To")) ∷ rest))) h)
-    (subject-walks (InObjective name) sections_seen (with_declarations all (declare_constant (apply_sign minus size) ∷ [])) n refl fault)
-constant-walks false sections_seen all name k n minus size h fault =
-    walks-context (point_at (BeforeItems name) sections_seen all) _ _ (at k (Sign minus)) (at k (Number size) ∷ []) (at n (Opens section_words.Subject) ∷ at n (Name (codes "To")) ∷ []) _ []
-    (λ rest. ap (λ (refused : List BuildFault). after_taking 1 (unless_refused (record { sections_seen = sections_seen; earlier = all }) (at n (Opens section_words.Subject)) refused (InObjective name) (declare_constant (apply_sign minus size) ∷ [])
+    (subject-walks (InObjective name) sections_seen (with_declarations all (declare_constant (apply_sign sign size) ∷ [])) n refl fault)
+constant-walks false sections_seen all name k n sign size h fault =
+    walks-context (point_at (BeforeItems name) sections_seen all) _ _ (at k (Sign sign)) (at k (Number size) ∷ []) (at n (Opens section_words.Subject) ∷ at n (Name (codes "To")) ∷ []) _ []
+    (λ rest. ap (λ (refused : List BuildFault). after_taking 1 (unless_refused (record { sections_seen = sections_seen; earlier = all }) (at n (Opens section_words.Subject)) refused (InObjective name) (declare_constant (apply_sign sign size) ∷ [])
     (at n (Opens section_words.Subject) ∷ at n (Name (codes "To")) ∷ rest))) h)
-    (subject-walks (InObjective name) sections_seen (with_declarations all (declare_constant (apply_sign minus size) ∷ [])) n refl fault)
+    (subject-walks (InObjective name) sections_seen (with_declarations all (declare_constant (apply_sign sign size) ∷ [])) n refl fault)
 
 -- the text is complete at its last word
 pub end-says : (place : Place) (sections_seen : SectionsSeen) (all : Draft) (n : ℕ) → may_begin_section place ≡ true → section_fault sections_seen sections.End ≡ None
@@ -315,7 +317,7 @@ bound-walks sections_seen all n column relation value h =
     walks-one (point_at (InBounds None) sections_seen all) (at n (Name column)) (at n (Compares relation) ∷ at n (Number value) ∷ []) _ _
     (λ rest. ap (λ (refused : List BuildFault). after_taking 1 (after_taking 1 (unless_refused (record { sections_seen = sections_seen; earlier = all }) (at n (Number value)) refused (InBounds None) (column_and column (limits_by relation (limit_of value))) rest))) h)
 
-pub signed-bound-walks : (sections_seen : SectionsSeen) (all : Draft) (n : ℕ) (column : List ℕ) (relation : Relation) (below : Bool) (value : Decimal) → AreTaken all column (limits_by relation (limit_of (apply_sign below value)))
+pub signed-bound-walks : (sections_seen : SectionsSeen) (all : Draft) (n : ℕ) (column : List ℕ) (relation : Relation) (below : SignOf) (value : Decimal) → AreTaken all column (limits_by relation (limit_of (apply_sign below value)))
     → Walks (point_at (InBounds None) sections_seen all) (at n (Name column) ∷ at n (Compares relation) ∷ at n (Sign below) ∷ at n (Number value) ∷ []) (column_and column (limits_by relation (limit_of (apply_sign below value))))
     (point_at (InBounds None) sections_seen (with_declarations all (column_and column (limits_by relation (limit_of (apply_sign below value))))))
 signed-bound-walks sections_seen all n column relation below value h =
@@ -337,7 +339,7 @@ left-bound-walks sections_seen all n value relation column h =
     walks-one (point_at (InBounds None) sections_seen all) (at n (Number value)) (at n (Compares relation) ∷ at n (Name column) ∷ []) _ _
     (λ rest. ap (λ (refused : List BuildFault). after_taking 0 (after_taking 1 (after_taking 1 (unless_refused (record { sections_seen = sections_seen; earlier = all }) (at n (Name column)) refused (InBounds (Some (column, relation))) (column_and column (limits_by (flip relation) (limit_of value))) rest)))) h)
 
-pub signed-left-bound-walks : (sections_seen : SectionsSeen) (all : Draft) (n : ℕ) (below : Bool) (value : Decimal) (relation : Relation) (column : List ℕ)
+pub signed-left-bound-walks : (sections_seen : SectionsSeen) (all : Draft) (n : ℕ) (below : SignOf) (value : Decimal) (relation : Relation) (column : List ℕ)
     → AreTaken all column (limits_by (flip relation) (limit_of (apply_sign below value)))
     → Walks (point_at (InBounds None) sections_seen all) (at n (Sign below) ∷ at n (Number value) ∷ at n (Compares relation) ∷ at n (Name column) ∷ []) (column_and column (limits_by (flip relation) (limit_of (apply_sign below value))))
     (point_at (InBounds (Some (column, relation))) sections_seen (with_declarations all (column_and column (limits_by (flip relation) (limit_of (apply_sign below value))))))
@@ -347,10 +349,10 @@ signed-left-bound-walks sections_seen all n below value relation column h =
 
 -- `-infinity` before a column
 pub infinite-left-walks : (sections_seen : SectionsSeen) (all : Draft) (n : ℕ) (relation : Relation) (column : List ℕ) → AreTaken all column (limits_by (flip relation) MinusInf)
-    → Walks (point_at (InBounds None) sections_seen all) (at n (Sign true) ∷ at n Infinity ∷ at n (Compares relation) ∷ at n (Name column) ∷ []) (column_and column (limits_by (flip relation) MinusInf))
+    → Walks (point_at (InBounds None) sections_seen all) (at n (Sign Minus) ∷ at n Infinity ∷ at n (Compares relation) ∷ at n (Name column) ∷ []) (column_and column (limits_by (flip relation) MinusInf))
     (point_at (InBounds (Some (column, relation))) sections_seen (with_declarations all (column_and column (limits_by (flip relation) MinusInf))))
 infinite-left-walks sections_seen all n relation column h =
-    walks-one (point_at (InBounds None) sections_seen all) (at n (Sign true)) (at n Infinity ∷ at n (Compares relation) ∷ at n (Name column) ∷ []) _ _
+    walks-one (point_at (InBounds None) sections_seen all) (at n (Sign Minus)) (at n Infinity ∷ at n (Compares relation) ∷ at n (Name column) ∷ []) _ _
     (λ rest. ap (λ (refused : List BuildFault). after_taking 1 (after_taking 1 (after_taking 1 (unless_refused (record { sections_seen = sections_seen; earlier = all }) (at n (Name column)) refused (InBounds (Some (column, relation))) (column_and column (limits_by (flip relation) MinusInf)) rest)))) h)
 
 -- the upper limit of a column with a limit before it
@@ -361,7 +363,7 @@ upper-walks sections_seen all n column value h =
     walks-one (point_at (InBounds (Some (column, AtMost))) sections_seen all) (at n (Compares AtMost)) (at n (Number value) ∷ []) _ _
     (λ rest. ap (λ (refused : List BuildFault). after_taking 1 (unless_refused (record { sections_seen = sections_seen; earlier = all }) (at n (Number value)) refused (InBounds None) (bounds_declared column None (Some (limit_of value))) rest)) h)
 
-pub signed-upper-walks : (sections_seen : SectionsSeen) (all : Draft) (n : ℕ) (column : List ℕ) (below : Bool) (value : Decimal) → bounds_refusals all column None (Some (limit_of (apply_sign below value))) ≡ []
+pub signed-upper-walks : (sections_seen : SectionsSeen) (all : Draft) (n : ℕ) (column : List ℕ) (below : SignOf) (value : Decimal) → bounds_refusals all column None (Some (limit_of (apply_sign below value))) ≡ []
     → Walks (point_at (InBounds (Some (column, AtMost))) sections_seen all) (at n (Compares AtMost) ∷ at n (Sign below) ∷ at n (Number value) ∷ []) (bounds_declared column None (Some (limit_of (apply_sign below value))))
     (point_at (InBounds None) sections_seen (with_declarations all (bounds_declared column None (Some (limit_of (apply_sign below value))))))
 signed-upper-walks sections_seen all n column below value h =

@@ -25,7 +25,7 @@ use Rattle.mpslp_canonical_lp.specs.Printed.{number, sense}
 use Rattle.mpslp_canonical_lp.specs.CanonicalLp.{Lines, Term, long_line, label_line, term_line, right_line}
 pub use Rattle.mpslp_canonical_lp.specs.PrintedDeclarations.{AreNew}
 use Rattle.mpslp_canonical_lp.proofs.PrintableLemmas.{IsTerm}
-use Rattle.mpslp_canonical_lp.proofs.TerminalLemmas.{at, terminals_in, line_terminals_in, all_terminals, mapped-append, signed-value}
+use Rattle.mpslp_canonical_lp.proofs.TerminalLemmas.{at, terminals_in, line_terminals_in, all_terminals, mapped-append, signed-value, sign_of}
 use Rattle.mpslp_canonical_lp.proofs.PhraseLemmas.{Walks, walks-none, walks-then, point_at, row-walks, left-row-walks, signed-row-walks, row-term-walks, ended_by, row-end-walks, signed-end-walks}
 use Rattle.mpslp_canonical_lp.proofs.ObjectiveWalk.{term-terminals}
 use Rattle.mpslp_canonical_lp.proofs.BoundsWalk.{number-either}
@@ -47,13 +47,13 @@ in_row sections_seen all row = point_at (InRow row) sections_seen all
 -- ---- its beginning
 
 abbrev term_tokens : ℕ → Term → List TerminalAt
-term_tokens n term = at n (Sign (is_negative term.1)) ∷ at n (Number (size_of term.1)) ∷ at n (Name term.0) ∷ []
+term_tokens n term = at n (Sign (sign_of (is_negative term.1))) ∷ at n (Number (size_of term.1)) ∷ at n (Name term.0) ∷ []
 
 begin-plain : (sections_seen : SectionsSeen) (all : Draft) (name : List ℕ) (k n : ℕ) (term : Term)
     → Walks (point_at BetweenRows sections_seen all) (at k (Name name) ∷ at k Colon ∷ term_tokens n term) [] (in_row sections_seen all (partial name None (term ∷ [])))
 begin-plain sections_seen all name k n term =
     subst (λ (value : Decimal). Walks (point_at BetweenRows sections_seen all) (at k (Name name) ∷ at k Colon ∷ term_tokens n term) [] (in_row sections_seen all (partial name None ((term.0, value) ∷ []))))
-    (signed-value term.1) (row-walks sections_seen all name k n (is_negative term.1) (size_of term.1) term.0)
+    (signed-value term.1) (row-walks sections_seen all name k n (sign_of (is_negative term.1)) (size_of term.1) term.0)
 
 begin-left : (sections_seen : SectionsSeen) (all : Draft) (name : List ℕ) (k j n : ℕ) (left : Decimal) (term : Term)
     → Walks (point_at BetweenRows sections_seen all) (at k (Name name) ∷ at k Colon ∷ (map (at j) (terminals_in (number left)) ++ at j (Compares AtMost) ∷ term_tokens n term)) []
@@ -62,9 +62,9 @@ begin-left sections_seen all name k j n left term =
     subst (λ (value : Decimal). Walks (point_at BetweenRows sections_seen all) (at k (Name name) ∷ at k Colon ∷ (map (at j) (terminals_in (number left)) ++ at j (Compares AtMost) ∷ term_tokens n term)) []
     (in_row sections_seen all (partial name (Some left) ((term.0, value) ∷ [])))) (signed-value term.1)
     (number-either (λ v terminals. Walks (point_at BetweenRows sections_seen all) (at k (Name name) ∷ at k Colon ∷ (map (at j) terminals ++ at j (Compares AtMost) ∷ term_tokens n term)) []
-    (in_row sections_seen all (partial name (Some v) ((term.0, apply_sign (is_negative term.1) (size_of term.1)) ∷ [])))) left
-    (λ v. left-row-walks sections_seen all name k j n v AtMost (is_negative term.1) (size_of term.1) term.0)
-    (λ below v. signed-row-walks sections_seen all name k j n below v AtMost (is_negative term.1) (size_of term.1) term.0))
+    (in_row sections_seen all (partial name (Some v) ((term.0, apply_sign (sign_of (is_negative term.1)) (size_of term.1)) ∷ [])))) left
+    (λ v. left-row-walks sections_seen all name k j n v AtMost (sign_of (is_negative term.1)) (size_of term.1) term.0)
+    (λ below v. signed-row-walks sections_seen all name k j n below v AtMost (sign_of (is_negative term.1)) (size_of term.1) term.0))
 
 -- the label, the limit before the terms if there is one, and the first term
 pub begin-walk : (sections_seen : SectionsSeen) (all : Draft) (name : List ℕ) (n : ℕ) (left : Option Decimal) (term : Term) → IsTerm term
@@ -88,7 +88,7 @@ more-term : (sections_seen : SectionsSeen) (all : Draft) (row : PartialRow) (n :
 more-term sections_seen all row n term good new =
     subst (λ (tokens : List TerminalAt). Walks (in_row sections_seen all row) tokens [] (in_row sections_seen all (record row { terms = row.terms ++ term ∷ [] }))) (sym (term-terminals n term good))
     (subst (λ (value : Decimal). Walks (in_row sections_seen all row) (term_tokens n term) [] (in_row sections_seen all (record row { terms = row.terms ++ (term.0, value) ∷ [] }))) (signed-value term.1)
-    (row-term-walks sections_seen all row n (is_negative term.1) (size_of term.1) term.0 new))
+    (row-term-walks sections_seen all row n (sign_of (is_negative term.1)) (size_of term.1) term.0 new))
 
 pub row-terms-walk : (sections_seen : SectionsSeen) (all : Draft) (name : List ℕ) (left : Option Decimal) (n : ℕ) (seen terms : List Term) → Each IsTerm terms → AreNew seen terms
     → Walks (in_row sections_seen all (partial name left seen)) (all_terminals n (map term_line terms)) [] (in_row sections_seen all (partial name left (seen ++ terms)))

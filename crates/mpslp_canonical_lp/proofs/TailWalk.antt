@@ -12,6 +12,7 @@ use Rattle.mpslp_types.specs.declared.faults.BuildFault.TheVariants.{UnknownColu
 use Rattle.mpslp_types.specs.declared.kinds.Limit.{Limit}
 use Rattle.mpslp_builder.proofs.MadeDrafts.{with_declarations-append}
 use Rattle.mpslp_decimal.proofs.CutLemmas.{Each}
+use Rattle.mpslp_lp_grammar.specs.declared.signs.Sign.TheVariants.{Minus}
 use Rattle.mpslp_lp_grammar.specs.Terminal.{TerminalAt, word_terminal}
 use Rattle.mpslp_lp_grammar.specs.Terminal.Terminal.{Opens, Name, Sign}
 use Rattle.mpslp_lp_grammar.specs.Rules.{phrases, made_by}
@@ -109,7 +110,7 @@ semis-end place sections_seen all n (column ∷ columns) fit may ends h =
     let lines : Lines = map name_line (column ∷ columns) in
     let made = flat_map semi_made (column ∷ columns) in
     let inside = with_section sections_seen sections.SemiContinuous in
-    let opening : List TerminalAt = at n (Opens section_words.Semi) ∷ at n (Sign true) ∷ at n (Name (codes "Continuous")) ∷ [] in
+    let opening : List TerminalAt = at n (Opens section_words.Semi) ∷ at n (Sign Minus) ∷ at n (Name (codes "Continuous")) ∷ [] in
     subst (λ (tokens : List TerminalAt). EndsWith (point_at place sections_seen all) tokens made)
     (ap (λ (more : List TerminalAt). opening ++ more) (sym (terminals-append (n + 1) lines ending)))
     (walk-ends place InSemis sections_seen inside all opening (all_terminals (n + 1) lines ++ all_terminals (number_after (n + 1) lines) ending) [] made

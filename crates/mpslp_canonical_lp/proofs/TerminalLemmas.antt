@@ -10,6 +10,8 @@ use Rattle.mpslp_decimal.specs.Literal.{to_signed as literal_sign}
 use Rattle.mpslp_decimal.proofs.NumberTextLemmas.{number-text, signed-size}
 use Rattle.mpslp_decimal.proofs.CutLemmas.{Each}
 use Rattle.mpslp_lp_tokens.specs.Words.{class_of}
+use Rattle.mpslp_lp_grammar.specs.declared.signs.Sign.{Sign as SignOf}
+use Rattle.mpslp_lp_grammar.specs.declared.signs.Sign.TheVariants.{Plus, Minus}
 use Rattle.mpslp_lp_grammar.specs.Terminal.{Terminal, TerminalAt, word_terminal}
 use Rattle.mpslp_lines.specs.Field.{value_of}
 use Rattle.mpslp_lp_grammar.specs.Terminal.Terminal.{Name, Number, Sign, Compares, Colon, Infinity, Opens}
@@ -24,15 +26,20 @@ use Rattle.mpslp_canonical_lp.proofs.TextLemmas.{terminals_from}
 abbrev pub at : ℕ → Terminal → TerminalAt
 at n terminal = record { line = n; terminal = terminal }
 
+-- the sign of a negative number is a minus
+abbrev pub sign_of : (negative : Bool) → SignOf
+sign_of true = Minus
+sign_of false = Plus
+
 -- what is seen of a piece: a word by its meaning, a label as a name, and numbers by their values
 abbrev pub terminals_in : Lexeme → List Terminal
 terminals_in (word text) = word_terminal text (class_of text) ∷ []
 terminals_in (label name) = Name name ∷ Colon ∷ []
-terminals_in (number value) = if is_negative value then Sign true ∷ Number (size_of value) ∷ [] else Number value ∷ []
-terminals_in (sign minus) = Sign minus ∷ []
+terminals_in (number value) = if is_negative value then Sign Minus ∷ Number (size_of value) ∷ [] else Number value ∷ []
+terminals_in (sign minus) = Sign (sign_of minus) ∷ []
 terminals_in (sense relation) = Compares relation ∷ []
-terminals_in minus_infinity = Sign true ∷ Infinity ∷ []
-terminals_in semi_continuous = Opens section_words.Semi ∷ Sign true ∷ Name (codes "Continuous") ∷ []
+terminals_in minus_infinity = Sign Minus ∷ Infinity ∷ []
+terminals_in semi_continuous = Opens section_words.Semi ∷ Sign Minus ∷ Name (codes "Continuous") ∷ []
 
 abbrev pub line_terminals_in : ℕ → PrintedLine → List TerminalAt
 line_terminals_in n line = map (at n) (flat_map terminals_in line.lexemes)
@@ -45,8 +52,8 @@ piece-seen n (word text) h = refl
 piece-seen n (label name) h = λ i. at n (word_terminal name (h.word_class i)) ∷ at n Colon ∷ []
 piece-seen n (number value) h =
     elim (is_negative value) as (λ b. map (seen_at n) (if b then (kinds.Minus, codes "-") ∷ (kinds.Number, number_text (size_of value)) ∷ [] else (kinds.Number, number_text value) ∷ [])
-    ≡ map (at n) (if b then Sign true ∷ Number (size_of value) ∷ [] else Number value ∷ [])) [
-      | true ↦ (λ i. at n (Sign true) ∷ at n (Number (value-read (size_of value) h i)) ∷ [])
+    ≡ map (at n) (if b then Sign Minus ∷ Number (size_of value) ∷ [] else Number value ∷ [])) [
+      | true ↦ (λ i. at n (Sign Minus) ∷ at n (Number (value-read (size_of value) h i)) ∷ [])
       | false ↦ (λ i. at n (Number (value-read value h i)) ∷ [])
     ]
 piece-seen n (sign true) h = refl
@@ -81,10 +88,10 @@ lines-seen n [] h = refl
 lines-seen n (line ∷ lines) h = λ i. line-seen n line h.0.each i ++ lines-seen (n + 1) lines h.1 i
 
 -- a sign and an absolute value give the number
-pub signed-value : (value : Decimal) → apply_sign (is_negative value) (size_of value) ≡ value
+pub signed-value : (value : Decimal) → apply_sign (sign_of (is_negative value)) (size_of value) ≡ value
 signed-value value = by (is_negative value) refl
   where
-    by : (b : Bool) → is_negative value ≡ b → apply_sign b (size_of value) ≡ value
+    by : (b : Bool) → is_negative value ≡ b → apply_sign (sign_of b) (size_of value) ≡ value
     by true e =
         let whole : neg_ℤ (pos (unsigned_abs value.mantissa)) ≡ value.mantissa = ap (λ (b : Bool). literal_sign b (unsigned_abs value.mantissa)) (sym e) ∙ signed-size value.mantissa in
         λ i. record { mantissa = whole i; exponent = value.exponent }

@@ -13,7 +13,7 @@ use Rattle.mpslp_types.specs.declared.kinds.Limit.TheVariants.{MinusInf, Finite,
 use Rattle.mpslp_types.proofs.BoolLemmas.{both_false}
 use Rattle.mpslp_types.proofs.EachLemmas.{Each, Each-weaker, Each-append, Each-all}
 use Rattle.mpslp_builder.proofs.DistinctLemmas.{IsNew, Apart, distinct-flat_map}
-use Rattle.mpslp_mps.specs.declared.bound_types.BoundType.TheVariants as bounds
+use Rattle.mpslp_mps_fields.specs.declared.bound_types.BoundType.TheVariants as bounds
 use Rattle.mpslp_canonical_mps.proofs.BoundsWalk.{BoundForm, fixed, lower, upper, free, no_lower, no_upper, semi_upper, bound_decl, decl_at}
 use Rattle.mpslp_canonical_mps.specs.PrintedValues.{is_fixed, bound_with_value, PrintedBound, printed_lower, printed_upper, printed_bounds}
 use Rattle.mpslp_canonical_mps.proofs.CanonicalContents.{to_bound, bounds_in}

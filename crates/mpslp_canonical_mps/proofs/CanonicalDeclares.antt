@@ -6,7 +6,8 @@ use Rattle.mpslp_builder.specs.Declaration.{Declarations, empty_draft}
 use Rattle.mpslp_builder.specs.Meaning.{Means}
 use Rattle.mpslp_builder.specs.Consistency.{AreConsistent}
 use Rattle.mpslp_types.proofs.BoolLemmas.{both_so}
-use Rattle.mpslp_mps.specs.Line.{is_legal_line, content_of}
+use Rattle.mpslp_mps_fields.specs.Line.{content_of}
+use Rattle.mpslp_mps.specs.LegalLine.{is_legal_line}
 use Rattle.mpslp_mps.specs.MpsText.{read_lines, has_end, declarations_of, DeclaresMps}
 use Rattle.mpslp_mps.proofs.ContextLineLemmas.{declared_items, are_well_formed, lines-declare, lines-good}
 use Rattle.mpslp_canonical_mps.proofs.ContentsWalk.{Walk}

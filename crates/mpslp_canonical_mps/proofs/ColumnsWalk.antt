@@ -16,14 +16,14 @@ use Rattle.mpslp_builder.proofs.LaterDrafts.{itself_named}
 use Rattle.mpslp_builder.proofs.SlotLemmas.{has-put}
 use Rattle.mpslp_builder.proofs.MadeDrafts.{with_declarations-append}
 use Rattle.mpslp_types.proofs.EachLemmas.{Each}
-use Rattle.mpslp_mps.specs.Line.{Fields, LineContent, data_line}
-use Rattle.mpslp_mps.specs.DataLine.{opening_word, closing_word}
+use Rattle.mpslp_mps_fields.specs.Line.{Fields, LineContent, data_line}
+use Rattle.mpslp_mps_fields.specs.DataLine.{opening_word, closing_word}
 use Rattle.mpslp_mps.specs.Context.{Context, context_of, current_section, data_lines, marker_word, in_integer_part, line_column, last_column}
 use Rattle.mpslp_mps.specs.LineDeclarations.{line_declares}
 use Rattle.mpslp_lines.specs.FaultTests.{FaultTests}
 use Rattle.mpslp_lines.specs.Field.{name_tests, number_tests}
 use Rattle.mpslp_mps.proofs.ContextLineLemmas.{form_faults}
-use Rattle.mpslp_mps.specs.declared.sections.Section.TheVariants.{Columns}
+use Rattle.mpslp_mps_fields.specs.declared.sections.Section.TheVariants.{Columns}
 use Rattle.mpslp_mps.proofs.SectionLemmas.{last_or-append}
 use Rattle.mpslp_canonical_mps.proofs.ContentsWalk.{Step}
 use Rattle.mpslp_canonical_mps.proofs.RowsWalk.{name-good, number-good, stays, lines-push}

@@ -9,7 +9,7 @@ use Rattle.mpslp_builder.specs.Declaration.{Declarations, Draft, with_declaratio
 use Rattle.mpslp_model_core.specs.Lists.{is_nonempty}
 use Rattle.mpslp_types.proofs.BoolLemmas.{both_so}
 use Rattle.mpslp_builder.proofs.MadeDrafts.{with_declarations-append}
-use Rattle.mpslp_mps.specs.Line.{LineContent}
+use Rattle.mpslp_mps_fields.specs.Line.{LineContent}
 use Rattle.mpslp_mps.specs.Context.{context_of}
 use Rattle.mpslp_mps.specs.LineDeclarations.{line_declares}
 use Rattle.mpslp_mps.proofs.ContextLineLemmas.{form_faults, declared_items, are_well_formed}

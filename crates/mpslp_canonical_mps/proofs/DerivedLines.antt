@@ -7,7 +7,7 @@ use Rattle.mpslp_decimal.proofs.NumberTextLemmas.{number-text}
 use Rattle.mpslp_types.specs.Name.{same_bytes, is_mps_name, marker}
 use Rattle.mpslp_model_core.specs.Lists.{those_of}
 use Rattle.mpslp_mps.specs.FieldFault.{set_tests}
-use Rattle.mpslp_mps.specs.Line.{data_line}
+use Rattle.mpslp_mps_fields.specs.Line.{data_line}
 use Rattle.mpslp_mps.specs.LineDeclarations.{line_declares}
 use Rattle.mpslp_mps.proofs.ContextLineLemmas.{form_faults}
 use Rattle.mpslp_canonical_mps.specs.PrintedDeclarations.{DeriveHeaders, DeriveSense, DeriveAllRows, DeriveAllColumns, is_set_of, DeriveRhs, DeriveRanges, IsFiniteValue, DeriveAllBounds}

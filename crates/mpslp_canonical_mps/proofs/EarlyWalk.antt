@@ -10,13 +10,13 @@ use Rattle.mpslp_types.specs.declared.kinds.Sense.{Sense}
 use Rattle.mpslp_types.specs.declared.kinds.Sense.TheVariants.{Minimize, Maximize}
 use Rattle.mpslp_types.specs.declared.kinds.RowType.TheVariants.{Free}
 use Rattle.mpslp_types.proofs.EachLemmas.{Each}
-use Rattle.mpslp_mps.specs.Line.{Fields, LineContent, data_line}
-use Rattle.mpslp_mps.specs.DataLine.{letter_of, opening_word}
+use Rattle.mpslp_mps_fields.specs.Line.{Fields, LineContent, data_line}
+use Rattle.mpslp_mps_fields.specs.DataLine.{letter_of, opening_word}
 use Rattle.mpslp_mps.specs.Context.{Context, context_of, current_section, objname, data_lines, marker_word, line_column, in_integer_part, last_column}
 use Rattle.mpslp_mps.specs.LineDeclarations.{line_declares}
 use Rattle.mpslp_mps.proofs.ContextLineLemmas.{form_faults}
 use Rattle.mpslp_mps.proofs.ContextLemmas.{objname-push}
-use Rattle.mpslp_mps.specs.declared.sections.Section.TheVariants.{Name, ObjSense, Rows, Columns}
+use Rattle.mpslp_mps_fields.specs.declared.sections.Section.TheVariants.{Name, ObjSense, Rows, Columns}
 use Rattle.mpslp_canonical_mps.proofs.ContentsWalk.{Walk, walk-nil, walk-cons, walk-append, section-walk}
 use Rattle.mpslp_canonical_mps.proofs.RowsWalk.{RowItem, row_item, row_decl, InRows, row_step, name-good, stays}
 use Rattle.mpslp_canonical_mps.proofs.ColumnsWalk.{Cell, cell_item, cell_decl, GoodCell, InCells, cell_step, Unsplit, marker_fields, marker_part, marker_last, marker_says, marker_good, Group, cells_of, IsGroup, AreApart, AreAbsent, groups_unsplit}

@@ -26,7 +26,7 @@ use Rattle.mpslp_canonical_mps.proofs.ColumnsWalk.{Cell, cell_decl, cells_of}
 use Rattle.mpslp_canonical_mps.proofs.BoundsWalk.{GoodBound}
 use Rattle.mpslp_model_core.specs.Listing.{Listing}
 use Rattle.mpslp_canonical_mps.specs.PrintedValues.{is_fixed, bound_with_value, printed_type, printed_rhs, printed_range, PrintedBound, printed_lower, printed_upper, printed_bounds}
-use Rattle.mpslp_mps.specs.declared.bound_types.BoundType.TheVariants as bounds
+use Rattle.mpslp_mps_fields.specs.declared.bound_types.BoundType.TheVariants as bounds
 use Rattle.mpslp_canonical_mps.proofs.CanonicalContents.{to_row, to_side, side_unless_zero, row_side, sides_in, row_range, to_bound, bounds_in}
 use Rattle.mpslp_canonical_mps.proofs.EarlyWalk.{sense_decl}
 use Rattle.mpslp_canonical_mps.proofs.WholeWalk.{IsGoodWhole, draft_at_columns, draft_at_sides}

@@ -12,11 +12,11 @@ use Rattle.mpslp_types.specs.declared.kinds.Kind.TheVariants.{Continuous, Intege
 use Rattle.mpslp_types.specs.declared.kinds.Limit.{Limit}
 use Rattle.mpslp_types.specs.declared.kinds.Limit.TheVariants.{MinusInf, Finite, PlusInf}
 use Rattle.mpslp_types.proofs.EachLemmas.{Each, Each-append}
-use Rattle.mpslp_mps.specs.Line.{LineContent}
-use Rattle.mpslp_mps.specs.DataLine.{closing_word}
-use Rattle.mpslp_mps.specs.declared.sections.Section.TheVariants.{Name, Rows, Columns, Rhs, Ranges, Bounds, EndData}
-use Rattle.mpslp_mps.specs.declared.bound_types.BoundType.{BoundType}
-use Rattle.mpslp_mps.specs.declared.bound_types.BoundType.TheVariants as bounds
+use Rattle.mpslp_mps_fields.specs.Line.{LineContent}
+use Rattle.mpslp_mps_fields.specs.DataLine.{closing_word}
+use Rattle.mpslp_mps_fields.specs.declared.sections.Section.TheVariants.{Name, Rows, Columns, Rhs, Ranges, Bounds, EndData}
+use Rattle.mpslp_mps_fields.specs.declared.bound_types.BoundType.{BoundType}
+use Rattle.mpslp_mps_fields.specs.declared.bound_types.BoundType.TheVariants as bounds
 use Rattle.mpslp_canonical_mps.proofs.ColumnsWalk.{Cell, cell_item, cells_of}
 use Rattle.mpslp_canonical_mps.proofs.BoundsWalk.{bound_item}
 use Rattle.mpslp_canonical_mps.proofs.HeaderWalk.{header_item}

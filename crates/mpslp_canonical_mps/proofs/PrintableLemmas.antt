@@ -22,13 +22,13 @@ use Rattle.mpslp_types.specs.declared.kinds.Limit.TheVariants.{MinusInf, Finite,
 use Rattle.mpslp_types.specs.declared.kinds.RowType.{RowType}
 use Rattle.mpslp_types.specs.declared.kinds.RowType.TheVariants.{Free, AtMost, AtLeast, Equal}
 use Rattle.mpslp_types.proofs.EachLemmas.{Each, Each-weaker, Each-append, Each-map, Each-flat_map, Each-filter, Each-from_list_all}
-use Rattle.mpslp_mps.specs.Line.{Fields}
-use Rattle.mpslp_mps.specs.DataLine.{letter_of, opening_word, closing_word}
-use Rattle.mpslp_mps.specs.BoundLine.{letters_of}
-use Rattle.mpslp_mps.specs.declared.sections.Section.{Section}
-use Rattle.mpslp_mps.specs.declared.sections.Section.TheVariants.{Name, ObjSense, ObjName, Rows, Columns, Rhs, Ranges, Bounds, EndData}
-use Rattle.mpslp_mps.specs.declared.bound_types.BoundType.{BoundType}
-use Rattle.mpslp_mps.specs.declared.bound_types.BoundType.TheVariants as bounds
+use Rattle.mpslp_mps_fields.specs.Line.{Fields}
+use Rattle.mpslp_mps_fields.specs.DataLine.{letter_of, opening_word, closing_word}
+use Rattle.mpslp_mps_fields.specs.BoundLine.{letters_of}
+use Rattle.mpslp_mps_fields.specs.declared.sections.Section.{Section}
+use Rattle.mpslp_mps_fields.specs.declared.sections.Section.TheVariants.{Name, ObjSense, ObjName, Rows, Columns, Rhs, Ranges, Bounds, EndData}
+use Rattle.mpslp_mps_fields.specs.declared.bound_types.BoundType.{BoundType}
+use Rattle.mpslp_mps_fields.specs.declared.bound_types.BoundType.TheVariants as bounds
 use Rattle.mpslp_model_core.specs.Listing.{Listing, listing_of}
 use Rattle.mpslp_canonical_mps.specs.PrintedValues.{is_fixed, printed_type, printed_rhs, printed_range, PrintedBound, printed_lower, printed_upper, printed_bounds}
 use Rattle.mpslp_canonical_mps.specs.CanonicalMps.{Lines, header_line, under_header, sense_lines, objective_line, row_line, rows_section, coefficient_line, cell_at, column_coefficients, printed_coefficients, column_lines, is_integer_column, is_plain_column, marker_line, integer_part, columns_section, vector_line, rhs_lines, row_rhs_lines, rhs_section, range_lines, ranges_section, bound_line, column_bound_lines, bounds_section, listed_lines, canonical_lines}

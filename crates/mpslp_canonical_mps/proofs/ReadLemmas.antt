@@ -9,11 +9,11 @@ use Rattle.mpslp_model_core.specs.Model.{Row, Column}
 use Rattle.mpslp_types.specs.declared.kinds.Sense.{Sense}
 use Rattle.mpslp_types.specs.declared.kinds.Sense.TheVariants.{Minimize, Maximize}
 use Rattle.mpslp_types.proofs.EachLemmas.{Each, Each-append, Each-map, Each-flat_map, Each-all}
-use Rattle.mpslp_mps.specs.Section.{begins}
-use Rattle.mpslp_mps.specs.DataLine.{closing_word}
+use Rattle.mpslp_mps_fields.specs.Section.{begins}
+use Rattle.mpslp_mps_fields.specs.DataLine.{closing_word}
 use Rattle.mpslp_mps.specs.MpsText.{is_end}
-use Rattle.mpslp_mps.specs.declared.sections.Section.{Section}
-use Rattle.mpslp_mps.specs.declared.sections.Section.TheVariants.{Name, Rhs, Ranges, Bounds, EndData}
+use Rattle.mpslp_mps_fields.specs.declared.sections.Section.{Section}
+use Rattle.mpslp_mps_fields.specs.declared.sections.Section.TheVariants.{Name, Rhs, Ranges, Bounds, EndData}
 use Rattle.mpslp_canonical_mps.specs.Printed.{PrintedLine, line_text, content_in}
 use Rattle.mpslp_model_core.specs.Listing.{Listing, listing_of}
 use Rattle.mpslp_canonical_mps.specs.PrintedValues.{printed_rhs, printed_range, printed_bounds}

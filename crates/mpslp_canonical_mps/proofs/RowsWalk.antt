@@ -11,15 +11,15 @@ use Rattle.mpslp_types.specs.declared.kinds.RowType.{RowType}
 use Rattle.mpslp_types.specs.declared.kinds.RowType.TheVariants.{Free, AtMost, AtLeast, Equal}
 use Rattle.mpslp_types.proofs.EachLemmas.{Each, Each-append}
 use Rattle.mpslp_builder.proofs.LaterDrafts.{itself_named}
-use Rattle.mpslp_mps.specs.Line.{Fields, LineContent, data_line}
-use Rattle.mpslp_mps.specs.DataLine.{letter_of}
+use Rattle.mpslp_mps_fields.specs.Line.{Fields, LineContent, data_line}
+use Rattle.mpslp_mps_fields.specs.DataLine.{letter_of}
 use Rattle.mpslp_mps.specs.Context.{Context, context_of, current_section, data_lines, fields_under, vector_set, first_set}
 use Rattle.mpslp_mps.specs.LineDeclarations.{line_declares}
 use Rattle.mpslp_lines.specs.Field.{name_tests, number_tests}
 use Rattle.mpslp_mps.specs.FieldFault.{set_tests}
 use Rattle.mpslp_mps.proofs.ContextLineLemmas.{form_faults}
-use Rattle.mpslp_mps.specs.declared.sections.Section.{Section}
-use Rattle.mpslp_mps.specs.declared.sections.Section.TheVariants.{Rows, Rhs, Ranges}
+use Rattle.mpslp_mps_fields.specs.declared.sections.Section.{Section}
+use Rattle.mpslp_mps_fields.specs.declared.sections.Section.TheVariants.{Rows, Rhs, Ranges}
 use Rattle.mpslp_mps.proofs.SectionLemmas.{current_section-push, data_lines-push}
 use Rattle.mpslp_canonical_mps.proofs.ContentsWalk.{Step}
 

@@ -9,7 +9,8 @@ use Rattle.std.proofs.lemmas.List.{append-nil}
 use Rattle.mpslp_types.specs.Name.{is_visible}
 use Rattle.mpslp_types.proofs.BoolLemmas.{both_so}
 use Rattle.mpslp_types.proofs.EachLemmas.{Each, Each-weaker, Each-append, list_all-from_Each}
-use Rattle.mpslp_mps.specs.Line.{Fields, skipped, header, data_line, header_of, content_of, fields, is_blank, is_comment, is_skipped, is_data, outside_comment, is_legal_line}
+use Rattle.mpslp_mps_fields.specs.Line.{Fields, skipped, header, data_line, header_of, content_of, fields, is_blank, is_comment, is_skipped, is_data, outside_comment}
+use Rattle.mpslp_mps.specs.LegalLine.{is_legal_line}
 use Rattle.mpslp_lines.specs.LegalLine.{is_legal_byte, has_legal_length}
 use Rattle.mpslp_lines.specs.declared.legal_line.TheConstants.{MAX_LINE_LEN}
 use Rattle.mpslp_lines.proofs.WrittenLineLemmas.{IsPlain, lines-with_line_feeds}

@@ -8,12 +8,12 @@ use Rattle.mpslp_builder.specs.Declaration.{declare_objective, Declarations, Dra
 use Rattle.mpslp_types.specs.declared.kinds.Sense.{Sense}
 use Rattle.mpslp_types.specs.declared.kinds.Sense.TheVariants.{Minimize, Maximize}
 use Rattle.mpslp_types.proofs.EachLemmas.{Each}
-use Rattle.mpslp_mps.specs.Line.{LineContent}
-use Rattle.mpslp_mps.specs.Section.{begins, section_of_header}
+use Rattle.mpslp_mps_fields.specs.Line.{LineContent}
+use Rattle.mpslp_mps_fields.specs.Section.{begins, section_of_header}
 use Rattle.mpslp_mps.specs.Context.{has_section, is_read}
 use Rattle.mpslp_canonical_mps.proofs.HeaderWalk.{is_bare, wants_word, header_item, MayStand, has_section-data, settled-after}
-use Rattle.mpslp_mps.specs.declared.sections.Section.{Section}
-use Rattle.mpslp_mps.specs.declared.sections.Section.TheVariants.{Name, ObjSense, Rows, Columns, Rhs, Ranges, Bounds, EndData}
+use Rattle.mpslp_mps_fields.specs.declared.sections.Section.{Section}
+use Rattle.mpslp_mps_fields.specs.declared.sections.Section.TheVariants.{Name, ObjSense, Rows, Columns, Rhs, Ranges, Bounds, EndData}
 use Rattle.mpslp_mps.proofs.SectionLemmas.{has_section-append, has_section-cons}
 use Rattle.mpslp_canonical_mps.proofs.ContentsWalk.{Walk, walk-append}
 use Rattle.mpslp_lines.proofs.ObjectiveLemmas.{named-after}

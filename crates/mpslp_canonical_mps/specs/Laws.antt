@@ -2,7 +2,8 @@
 use Rattle.std.specs.Prelude.{◌≡◌, ◌↔◌, IsTrue, map}
 use Rattle.std.specs.List.{list_all}
 use Rattle.mpslp_model_core.specs.Model.{LinearModel, IsSound}
-use Rattle.mpslp_mps.specs.Line.{is_legal_line, content_of}
+use Rattle.mpslp_mps_fields.specs.Line.{content_of}
+use Rattle.mpslp_mps.specs.LegalLine.{is_legal_line}
 use Rattle.mpslp_mps.specs.MpsText.{read_lines, has_end, DeclaresMps}
 use Rattle.mpslp_canonical_mps.specs.Printed.{line_text, content_in}
 use Rattle.mpslp_canonical_mps.specs.CanonicalMps.{canonical_lines, canonical_mps}

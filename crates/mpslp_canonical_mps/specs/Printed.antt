@@ -1,7 +1,7 @@
 -- Printed lines: their fields, how they are printed, and what a reader of MPS sees in them.
 use Rattle.std.specs.Prelude.{ℕ, List, [], ◌∷◌, ◌++◌, map, codes}
 use Rattle.std.specs.List.{join_by}
-use Rattle.mpslp_mps.specs.Line.{Fields, LineContent, header, data_line}
+use Rattle.mpslp_mps_fields.specs.Line.{Fields, LineContent, header, data_line}
 use Rattle.mpslp_lines.specs.WrittenLines.{with_line_feeds}
 
 -- a header; a data line after one space; a data line after four spaces

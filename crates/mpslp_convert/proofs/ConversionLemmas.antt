@@ -1,6 +1,6 @@
 -- The result of a conversion from the results of its parts.
 use Rattle.std.proofs.Common.{◌≡◌, ℕ, List, Bool, true, false, refl, sym, ◌∙◌, subst, inl, inr, None, Some, Result, Ok, Err, Vec}
-use Rattle.std.specs.Prelude.{IfOk}
+use Rattle.std.specs.Prelude.{IfOk, IsOkUnless}
 use Rattle.std.specs.Bool.{Decides}
 use Rattle.std.specs.declared.alloc.Global.{Global}
 use Rattle.std.proofs.lemmas.Bool.Decides.{not_from_Decides}
@@ -27,6 +27,15 @@ place_is_told unfit text m name_at (Err (First fault)) e h = absurd h
 place_is_told unfit text m name_at (Err (Second fault)) e h = absurd h
 place_is_told unfit text m name_at (Err (NotLp found)) e h = let same : Some found ≡ Some name_at = sym h ∙ e in inl (cc)
 place_is_told unfit text m name_at (Err OutOfMemory) e h = inr refl
+
+-- a model whose names are legal in the format has a text
+pub text_is_given : (unfit : Unfit) (text : TextOf) (m : LinearModel) (result : Result (Vec ℕ Global) ConvertFault)
+    → unfit m ≡ None → IsText unfit text m result → IsOkUnless result OutOfMemory
+text_is_given unfit text m (Ok out) e h = tt
+text_is_given unfit text m (Err (First fault)) e h = absurd h
+text_is_given unfit text m (Err (Second fault)) e h = absurd h
+text_is_given unfit text m (Err (NotLp found)) e h = let bad : Some found ≡ None = sym h ∙ e in absurd (cc)
+text_is_given unfit text m (Err OutOfMemory) e h = refl
 
 -- a text declares its model
 pub text_keeps : (declares : Declares) (unfit : Unfit) (text : TextOf) (m : LinearModel) (result : Result (Vec ℕ Global) ConvertFault)

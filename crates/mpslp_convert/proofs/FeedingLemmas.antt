@@ -1,12 +1,14 @@
 -- A source whose bytes are fed to a reader, piece by piece.
-use Rattle.std.proofs.Common.{◌≡◌, ℕ, ◌+◌, ◌≤◌, List, [], ◌++◌, Bool, true, false, sym, ap, ◌∙◌, subst, refl, length, take, arith, append-nil, append_assoc, Option, None, Some, Result, Ok, Err}
+use Rattle.std.proofs.Common.{◌≡◌, ℕ, ◌+◌, ◌^◌, ◌<◌, ◌≤◌, List, [], ◌++◌, Bool, true, false, sym, ap, ◌∙◌, subst, refl, length, take, arith, append-nil, append_assoc, le_refl, Option, None, Some, Result, Ok, Err, Vec}
+use denote.RawPtr.{null_ptr}
+use Rattle.std.specs.declared.alloc.Global.{Global}
 use Rattle.std.specs.Prelude.{is_some, is_err, OnOk}
 use Rattle.std.specs.Io.KnownBytes.{Consumes, IsAtEnd}
 use Rattle.mpslp_model_core.specs.Model.{LinearModel}
 use Rattle.mpslp_types.specs.declared.faults.Fault.{Fault}
 use Rattle.mpslp_convert.specs.Conversions.{Declares, HasFirstFault}
 use Rattle.mpslp_convert.specs.Runs.{IsAll, SourceGave}
-use Rattle.mpslp_convert.specs.Feeding.{IsFoundIn, IsFedOn, IsModelOf, IsReading}
+use Rattle.mpslp_convert.specs.Feeding.{IsFoundIn, IsFedOn, IsModelOf, IsReading, IsModelOrFault, IsTextRead}
 use Rattle.mpslp_convert.specs.declared.faults.RunFault.{RunFault}
 use Rattle.mpslp_convert.specs.declared.faults.RunFault.TheVariants.{Read, TooLong, File, NotLp, Write, OutOfMemory}
 
@@ -83,3 +85,27 @@ gave-all left left_then left_now failed room limit n bytes buffer before counted
 pub on-ok : {T E : Type 0} (r : Result T E) (P : Type 0) → is_err r ≡ false → OnOk r P → P
 on-ok (Ok x) P e h = h
 on-ok (Err x) P e h = cc
+
+-- ---- the text of a source
+
+-- a vector with these bytes
+abbrev with_bytes : Global → (bytes : List ℕ) → length bytes < 2 ^ 63 → Vec ℕ Global
+with_bytes alloc bytes small = record {
+  ptr = null_ptr;
+  len = length bytes;
+  cap = length bytes;
+  alloc = alloc;
+  items = bytes;
+  ok = (refl, le_refl (length bytes));
+  small = small;
+}
+
+-- a load would return these bytes as a text, also with a larger limit
+pub text-of : (declares : Declares) (first_fault : HasFirstFault) (left left_now : Option (List ℕ)) (failed : Bool) (limit most : ℕ) (alloc : Global) (bytes : List ℕ)
+    (told : Result LinearModel Fault) → limit ≤ most → limit < 2 ^ 63 → SourceGave left left_now failed limit bytes → IsModelOrFault declares first_fault bytes told
+    → IsTextRead declares first_fault left left_now failed most (Ok told)
+text-of declares first_fault left left_now failed limit most alloc bytes told less small gave is = (
+  with_bytes alloc bytes (omega (arith, gave.within, small)),
+  record { works = gave.works; within = omega (arith, gave.within, less); all = gave.all; end = gave.end },
+  is,
+)

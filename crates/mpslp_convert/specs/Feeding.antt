@@ -1,9 +1,10 @@
 -- Properties of a source whose bytes are fed to a reader.
-use Rattle.std.specs.Prelude.{◌≡◌, ℕ, List, ◌++◌, Bool, false, true, Option, None, Some, Result, Ok, Err}
+use Rattle.std.specs.Prelude.{◌≡◌, ℕ, List, ◌++◌, Bool, false, true, Option, None, Some, Result, Ok, Err, Vec}
+use Rattle.std.specs.declared.alloc.Global.{Global}
 use Rattle.mpslp_model_core.specs.Model.{LinearModel}
 use Rattle.mpslp_types.specs.declared.faults.Fault.{Fault}
 use Rattle.mpslp_convert.specs.Conversions.{Declares, HasFirstFault}
-use Rattle.mpslp_convert.specs.Runs.{IsLonger, SourceGave}
+use Rattle.mpslp_convert.specs.Runs.{IsLoad, IsLonger, SourceGave}
 use Rattle.mpslp_convert.specs.declared.faults.RunFault.{RunFault}
 use Rattle.mpslp_convert.specs.declared.faults.RunFault.TheVariants.{Read, TooLong, File, NotLp, Write, OutOfMemory}
 
@@ -38,3 +39,14 @@ IsReading declares first_fault left left_now failed limit (Err (File fault)) = (
 IsReading declares first_fault left left_now failed limit (Err (NotLp name_at)) = ⊥
 IsReading declares first_fault left left_now failed limit (Err (Write written)) = ⊥
 IsReading declares first_fault left left_now failed limit (Err OutOfMemory) = failed ≡ false
+
+-- The model that the bytes declare, or their first error.
+abbrev pub IsModelOrFault : Declares → HasFirstFault → List ℕ → Result LinearModel Fault → Type 0
+IsModelOrFault declares first_fault bytes (Ok m) = declares bytes m
+IsModelOrFault declares first_fault bytes (Err fault) = first_fault bytes fault
+
+-- What a text declares that a load of the source would return, or its first error; or the error of the load.
+abbrev pub IsTextRead : Declares → HasFirstFault → Option (List ℕ) → Option (List ℕ) → Bool → ℕ → Result (Result LinearModel Fault) RunFault → Type 0
+IsTextRead declares first_fault left left_now failed limit (Ok told) =
+    (text : Vec ℕ Global) × IsLoad left left_now failed limit (Ok text) × IsModelOrFault declares first_fault text.items told
+IsTextRead declares first_fault left left_now failed limit (Err fault) = IsLoad left left_now failed limit (Err fault)

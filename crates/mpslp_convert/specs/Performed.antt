@@ -1,9 +1,7 @@
 -- What is done for a job, what is reported, and the exit status.
 use Rattle.std.specs.Prelude.{◌≡◌, ℕ, ◌+◌, ◌≤◌, List, [], ◌++◌, length, Bool, true, false, Option, None, Result, Ok, Err, Vec, codes, if◌then◌else◌}
 use Rattle.std.specs.declared.alloc.Global.{Global}
-use Rattle.mpslp_types.specs.declared.faults.NameAt.{NameAt}
 use Rattle.mpslp_types.specs.declared.faults.WriteFault.{WriteFault}
-use Rattle.mpslp_model_core.specs.Model.{LinearModel}
 use Rattle.mpslp_model.specs.Formats.{IsTaken}
 use Rattle.mpslp_mps.specs.MpsText.{DeclaresMps}
 use Rattle.mpslp_mps.specs.FirstFault.{IsFirstMpsFault}
@@ -141,6 +139,8 @@ abbrev pub IsSaid : {W : Type 0} → (W → List ℕ → Type 0) → (W → Bool
 IsSaid holds failed count old new (Ok same) do_job =
     (answer : Result (Unit {0}) RunFault) × IsPrinted holds failed count old new (same_line same) answer × (do_job ≡ ended_by (same_status same) answer)
 IsSaid holds failed count old new (Err fault) do_job = (do_job ≡ Err (comparison_failure fault)) × (new ≡ old)
+
+-- What is said of the inputs of a comparison is what a load of each would return. Whether their texts are kept is in no contract.
 
 -- The second input was loaded, and then compared with these bytes of the first.
 abbrev pub IsSecondDone : {W : Type 0} → Declares → HasFirstFault → Declares → HasFirstFault → (W → List ℕ → Type 0) → (W → Bool) → (W → ℕ)

@@ -1,13 +1,16 @@
 //! Reading a model from a source whose bytes are fed to a reader piece by piece.
 
 ghost use Rattle.std.specs.Prelude.{◌≡◌, ◌+◌, ◌≤◌, ◌++◌, ℕ, List, true, OnOk};
-ghost use Rattle.mpslp_convert.specs.Feeding.{IsFedOn, IsModelOf, IsReading};
-ghost use Rattle.mpslp_convert.specs.Runs.{TakesAtMost};
+ghost use Rattle.mpslp_convert.specs.Feeding.{IsFedOn, IsModelOf, IsReading, IsTextRead};
+ghost use Rattle.mpslp_convert.specs.Runs.{ReadsWithin, TakesAtMost};
 
 use crate::faults::RunFault;
 use crate::source_to_sink::PIECE;
 use mpslp_model::{Fault, Format, Model, ModelReader, ReadFault, Source};
 use std::alloc::{AllocError, Global};
+
+/// The largest number of bytes of a text that memory can hold.
+const LONGEST: u64 = 9_223_372_036_854_775_807;
 
 /// Feeds a piece to the reader, unless an error was found before; the first error is kept.
 fn feed_on<P: ModelReader>(
@@ -79,5 +82,24 @@ pub(crate) fn read_model<A: Format, R: Source>(
         if feed_on(&mut reader, &mut fault, &buffer[..taken]).is_err() {
             return Err(RunFault::OutOfMemory);
         }
+    }
+}
+
+/// Reads a source to its end, and returns the model that its bytes declare, or their first error. Fails as
+/// [`load`](crate::load) does, also on a text that no memory can hold, but does not keep the bytes.
+pub(crate) fn read_text<A: Format, R: Source>(
+    alloc: Global,
+    max_bytes: u64,
+    source: &mut R,
+) -> Result<Result<Model, Fault>, RunFault>
+    ensures answer { IsTextRead A.declares A.first_fault (R.left source.old) (R.left source.new) (R.failed source.new) max_bytes result }
+    ensures source { ReadsWithin R.left R.failed R.count max_bytes source.old source.new }
+{
+    let limit = max_bytes.min(LONGEST);
+    match read_model::<A, R>(alloc, limit, source) {
+        Ok(model) => Ok(Ok(model)),
+        Err(RunFault::File(fault)) => Ok(Err(fault)),
+        Err(RunFault::TooLong) if limit < max_bytes => Err(RunFault::OutOfMemory),
+        Err(fault) => Err(fault),
     }
 }

@@ -1,17 +1,19 @@
 //! The jobs of the program, between sources and sinks.
 
-ghost use Rattle.std.specs.Prelude.{◌≡◌, None, true};
+ghost use Rattle.std.specs.Prelude.{◌≡◌, ℕ, List, None, true};
+ghost use Rattle.mpslp_convert.specs.Conversions.{IsComparison};
+ghost use Rattle.mpslp_convert.specs.Feeding.{IsModelOrFault};
 ghost use Rattle.mpslp_convert.specs.Runs.{ReadsWithin};
 ghost use Rattle.mpslp_convert.specs.ShownText.{shown_text};
 ghost use Rattle.mpslp_convert.specs.Performed.{declares_in, first_fault_in, unfit_in, text_in, IsRunDone, IsSaid, IsSecondDone, IsSameDone, IsDone, IsPerformed};
 
-use crate::conversion::same_model;
 use crate::faults::ConvertFault;
+use crate::fed_model::read_text;
 use crate::job_end::{Failure, Input, ended_by, print, refuse, status_of_end};
 use crate::shown_source::show;
-use crate::source_to_sink::{load, run};
+use crate::source_to_sink::run;
 use mpslp_jobs::{Form, Job, JobFault};
-use mpslp_model::{Format, Sink, Source};
+use mpslp_model::{Fault, Format, Model, Sink, Source};
 use mpslp_write::{Lp, Mps};
 use std::alloc::Global;
 
@@ -56,6 +58,23 @@ fn show_in<R: Source, W: Sink>(
     }
 }
 
+/// Whether two texts declare the same model, from what was read of each. An error of the first text is reported first.
+fn same_of<A: Format, B: Format>(
+    one: Result<Model, Fault>,
+    other: Result<Model, Fault>,
+) -> Result<bool, ConvertFault>
+    ensures { (first second : List ℕ) → IsModelOrFault A.declares A.first_fault first one → IsModelOrFault B.declares B.first_fault second other
+        → IsComparison A.declares A.first_fault B.declares B.first_fault first second result }
+{
+    match one {
+        Ok(one) => match other {
+            Ok(other) => Ok(one.same(&other)),
+            Err(fault) => Err(ConvertFault::Second(fault)),
+        },
+        Err(fault) => Err(ConvertFault::First(fault)),
+    }
+}
+
 /// Prints the result of a comparison.
 fn say<W: Sink>(same: Result<bool, ConvertFault>, out: &mut W) -> Result<u8, Failure>
     ensures answer { IsSaid W.holds W.failed W.count out.old out.new same result }
@@ -68,7 +87,7 @@ fn say<W: Sink>(same: Result<bool, ConvertFault>, out: &mut W) -> Result<u8, Fai
     }
 }
 
-/// Prints whether two sources declare the same model.
+/// Prints whether two sources declare the same model. Both are read to their ends before an error in a text is reported.
 fn compare<A: Format, B: Format, R: Source, S: Source, W: Sink>(
     alloc: Global,
     max_bytes: u64,
@@ -82,15 +101,15 @@ fn compare<A: Format, B: Format, R: Source, S: Source, W: Sink>(
     ensures second { ReadsWithin S.left S.failed S.count max_bytes second.old second.new }
     ensures out_stays { W.failed out.old ≡ true → W.failed out.new ≡ true }
 {
-    let one = match load(alloc, max_bytes, first) {
+    let one = match read_text::<A, R>(alloc, max_bytes, first) {
         Ok(one) => one,
         Err(fault) => return Err(Failure::new(Input::First, fault)),
     };
-    let other = match load(alloc, max_bytes, second) {
+    let other = match read_text::<B, S>(alloc, max_bytes, second) {
         Ok(other) => other,
         Err(fault) => return Err(Failure::new(Input::Second, fault)),
     };
-    say(same_model::<A, B>(alloc, &one, &other), out)
+    say(same_of::<A, B>(one, other), out)
 }
 
 /// Prints whether two sources, each in its own format, declare the same model.
@@ -155,10 +174,12 @@ fn do_job<R: Source, S: Source, W: Sink>(
 
 /// Does a job, or reports why the arguments are not a job, and returns the exit status of the program.
 ///
-/// `canon` is [`run`] and `show` is [`show`], from the first source to `out`. `same` loads the first source and then the
-/// second, compares them by [`same_model`], and writes `same` or `not the same` to `out`. A requested text (`--help`) is also
-/// written to `out`. `out` is flushed once after everything is written. An error is reported on `err` in one line, which is
-/// not flushed; without an error nothing is written there. Paths are ignored: the caller opens the inputs.
+/// `canon` is [`run`] and `show` is [`show`], from the first source to `out`. `same` reads the first source to its end and
+/// then the second, keeps both models but neither text, and writes `same` or `not the same` to `out`. Its result is that of
+/// [`load`](crate::load) of each source and then of [`same_model`](crate::same_model), so an error in a text is reported only
+/// after both sources have ended. A requested text (`--help`) is also written to `out`. `out` is flushed once after everything
+/// is written. An error is reported on `err` in one line, which is not flushed; without an error nothing is written there.
+/// Paths are ignored: the caller opens the inputs.
 ///
 /// | status | when | written to `err` |
 /// |---|---|---|

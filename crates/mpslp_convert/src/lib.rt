@@ -2,7 +2,7 @@
 //!
 //! The conversions are generic over the trait [`Format`](mpslp_model::Format), and proved once for all formats that meet its
 //! contract: [`canonical`], [`same_model`] and [`is_canonical`] for bytes in memory; [`load`], [`run`] and [`show`] between a
-//! source and a sink, with [`report`] for errors. [`perform`] uses them to do the program's jobs for MPS and LP.
+//! source and a sink, with [`report`] for errors. [`perform`] does the program's jobs for MPS and LP.
 #![tactic(auto)]
 
 mod collecting_sink;

@@ -118,6 +118,12 @@ front-of (x ∷ xs) = by (is_digit x) refl (front-of xs)
       stops = rw e e;
     }
 
+pub digits-whole : (text : List ℕ) → text ≡ digits_front text ++ after_digits text
+digits-whole text = (front-of text).whole
+
+pub digits-only : (text : List ℕ) → AreDigits (digits_front text)
+digits-only text = (front-of text).digits_only
+
 -- ---- the sign is separate
 
 sign-no_mark : (b : ℕ) → is_sign b ≡ true → is_exponent_mark b ≡ false

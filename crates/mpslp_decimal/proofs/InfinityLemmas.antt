@@ -97,15 +97,9 @@ infinite-between s (negsuc n) z p power is below above =
     total : (k n : ℕ) → pos k ≡ pos 20 -ℤ negsuc n → n < 15 → k + (499 - n) ≡ 520
     total k n h few = omega (arith, ints)
 
--- the power between the two fits in 128 bits
-pub power-fits : (z e : ℤ) → z ≡ pos 20 -ℤ e → e <ℤ pos 20 → negsuc 15 <ℤ e → 10 ^ unsigned_abs z < 2 ^ 128
-power-fits z e is below above =
-    let few : unsigned_abs z ≤ 35 = by z e is below above in
-    let p : 10 ^ unsigned_abs z ≤ 10 ^ 35 = pow-le-pow_right ten_positive few in
-    omega (arith, p)
-  where
-    by : (z e : ℤ) → z ≡ pos 20 -ℤ e → e <ℤ pos 20 → negsuc 15 <ℤ e → unsigned_abs z ≤ 35
-    by (pos k) (pos n) is below above = omega (arith, ints)
-    by (pos k) (negsuc n) is below above = omega (arith, ints)
-    by (negsuc k) (pos n) is below above = absurd (omega (arith, ints))
-    by (negsuc k) (negsuc n) is below above = absurd (omega (arith, ints))
+-- the exponent of the power between the two is that of a mantissa
+pub power-small : (z e : ℤ) → z ≡ pos 20 -ℤ e → e <ℤ pos 20 → negsuc 15 <ℤ e → unsigned_abs z < 36
+power-small (pos k) (pos n) is below above = omega (arith, ints)
+power-small (pos k) (negsuc n) is below above = omega (arith, ints)
+power-small (negsuc k) (pos n) is below above = absurd (omega (arith, ints))
+power-small (negsuc k) (negsuc n) is below above = absurd (omega (arith, ints))

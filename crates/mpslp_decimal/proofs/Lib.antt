@@ -8,7 +8,9 @@ pub mod ScanLemmas
 pub mod GrammarLemmas
 pub mod MantissaLemmas
 pub mod NumberOfLemmas
+pub mod ShortMantissaLemmas
 pub mod PointLemmas
+pub mod TableLemmas
 pub mod InfinityLemmas
 pub mod ValueLemmas
 pub mod SpellsLemmas

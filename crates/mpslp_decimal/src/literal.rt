@@ -179,8 +179,98 @@ struct Mantissa {
     places: usize,
 }
 
+/// Appends the digits at the start of a text to a number, and returns the rest of the text; `None` if the number may not fit
+/// in 64 bits.
+#[inline(always)]
+fn append_digits(text: &[u8], before: u64) -> Option<(u64, &[u8])>
+    ensures rest { IfSome result (λ found. found.1.now ≡ after_digits text.now) }
+    ensures number { let digits = digits_front text.now in IfSome result (λ found. found.0 ≡ before * 10 ^ length digits + digits_sum digits) }
+{
+    let mut number = before;
+    for (at, byte) in text.iter().enumerate() {
+        if !byte.is_ascii_digit() {
+            return Some((number, &text[at..]));
+        }
+        if number >= SHORT_ROOM {
+            return None;
+        }
+        number = number * 10 + u64::from(byte - b'0');
+    }
+    Some((number, &[]))
+}
+
+/// The significand of a number.
+#[inline(always)]
+fn significand_of(number: u64) -> Significand
+    ensures value { IsSignificandOf result number }
+    ensures zeros { 10 ^ zeros_of result ≤ number + 1 }
+{
+    if number == 0 {
+        return Significand::Short(0, 0);
+    }
+    let mut mantissa = number;
+    let mut zeros = 0;
+    while mantissa % 10 == 0 {
+        mantissa /= 10;
+        zeros += 1;
+    }
+    Significand::Short(mantissa, zeros)
+}
+
+/// Reads a mantissa of few digits, and returns the rest of the text; `None` if the number may not fit in 64 bits. Most do, and
+/// such a number needs no care for trailing zeros until all its digits are read.
+#[inline(always)]
+fn scan_short_mantissa(text: &[u8]) -> Option<(Mantissa, &[u8])>
+    ensures rest { IfSome result (λ found. found.1.now ≡ after_mantissa text.now) }
+    ensures significand { IfSome result (λ found. IsSignificandOf found.0.significand (digits_sum (mantissa_front text.now))) }
+    ensures digits { IfSome result (λ found. found.0.digits ≡ length (mantissa_front text.now)) }
+    ensures places { IfSome result (λ found. found.0.places ≡ length (fraction_front text.now)) }
+    ensures zeros_within { IfSome result (λ found. zeros_of found.0.significand ≤ length text.now) }
+    ensures digits_within { IfSome result (λ found. found.0.digits ≤ length text.now) }
+    ensures places_within { IfSome result (λ found. found.0.places ≤ length text.now) }
+{
+    let (whole, after_whole) = append_digits(text, 0)?;
+    let digits = text.len() - after_whole.len();
+    match after_whole {
+        [b'.', fraction @ ..] => {
+            let (number, rest) = append_digits(fraction, whole)?;
+            let places = fraction.len() - rest.len();
+            let mantissa = Mantissa {
+                significand: significand_of(number),
+                digits: digits + places,
+                places,
+            };
+            Some((mantissa, rest))
+        }
+        _ => {
+            let mantissa = Mantissa {
+                significand: significand_of(whole),
+                digits,
+                places: 0,
+            };
+            Some((mantissa, after_whole))
+        }
+    }
+}
+
 /// Reads the digits and the point at the start of a text without a sign, and returns the rest.
 fn scan_mantissa(text: &[u8]) -> (Mantissa, &[u8])
+    ensures rest { result.1.now ≡ after_mantissa text.now }
+    ensures significand { IsSignificandOf result.0.significand (digits_sum (mantissa_front text.now)) }
+    ensures digits { result.0.digits ≡ length (mantissa_front text.now) }
+    ensures places { result.0.places ≡ length (fraction_front text.now) }
+    ensures zeros_within { zeros_of result.0.significand ≤ length text.now }
+    ensures digits_within { result.0.digits ≤ length text.now }
+    ensures places_within { result.0.places ≤ length text.now }
+{
+    match scan_short_mantissa(text) {
+        Some(found) => found,
+        None => scan_long_mantissa(text),
+    }
+}
+
+/// Reads a mantissa of any number of digits, and returns the rest of the text.
+fn scan_long_mantissa(text: &[u8]) -> (Mantissa, &[u8])
     ensures rest { result.1.now ≡ after_mantissa text.now }
     ensures significand { IsSignificandOf result.0.significand (digits_sum (mantissa_front text.now)) }
     ensures digits { result.0.digits ≡ length (mantissa_front text.now) }

@@ -1,6 +1,7 @@
 //! The type of decimals, and its basic properties.
 
 mod order;
+mod powers;
 mod sums;
 
 ghost use Rattle.std.specs.Prelude.{◌≡◌, ◌+◌, ◌*◌, ◌^◌, ◌<◌, nat_le};
@@ -8,6 +9,7 @@ ghost use Rattle.mpslp_decimal.specs.Literal.{number_of};
 ghost use Rattle.mpslp_decimal.specs.Decimal.{Number, zero_number, one_number, is_zero, is_negative, negated, size_of, is_infinite_size, depth, height, IsDecimal};
 
 use crate::literal::{self, NumberFault};
+use crate::number::powers::power_of_ten;
 use std::marker::Model;
 
 /// The most digits of the mantissa of a decimal.
@@ -163,5 +165,5 @@ fn reaches_infinity(units: u128, exponent: i32) -> bool
     if exponent <= INFINITE_EXPONENT - MAX_DIGITS as i32 {
         return false;
     }
-    units >= 10u128.pow((INFINITE_EXPONENT - exponent) as u32)
+    units >= power_of_ten((INFINITE_EXPONENT - exponent) as u32)
 }

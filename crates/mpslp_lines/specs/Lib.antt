@@ -8,3 +8,4 @@ pub mod OpenLine
 pub mod LinesRead
 pub mod Pieces
 pub mod WrittenLines
+pub mod TextReading

@@ -4,10 +4,11 @@
 //! Each format has its own lines, tokens and grammar. The definitions are in `specs/`: tests in the order of the kinds of
 //! errors (`FaultTests`), lines of legal length and bytes (`LegalLine`), names and literals (`Field`), the errors of what is
 //! declared (`Declaring`), the result of reading a line (`LineAnswer`) and further lines (`LinesRead`), what is kept of an
-//! incomplete line (`OpenLine`), and what was read of a text in pieces (`Pieces`).
+//! incomplete line (`OpenLine`), what was read of a text in pieces (`Pieces`), and by a reader that may have failed
+//! (`TextReading`).
 //!
-//! A format implements [`ReadLines`], which reads its lines one after another, and [`PieceReader`] divides pieces into lines
-//! for it.
+//! A format implements [`ReadLines`], which reads its lines one after another. [`PieceReader`] divides pieces into lines for it,
+//! and [`TextReader`] is the reader of the format.
 #![tactic(auto)]
 
 mod errors;
@@ -18,6 +19,7 @@ mod literals;
 mod open_line;
 mod piece_reader;
 mod read_lines;
+mod text_reader;
 
 pub use errors::{LineError, read_fault};
 pub use fault_order::lesser_kind;
@@ -25,3 +27,4 @@ pub use legal_line::{MAX_LINE_LEN, are_legal_bytes, has_legal_length};
 pub use literals::{kind_of_number_fault, lesser_fault, value_of};
 pub use piece_reader::PieceReader;
 pub use read_lines::ReadLines;
+pub use text_reader::TextReader;

@@ -17,7 +17,6 @@ use std::alloc::Global;
 ///
 /// Besides the reader of lines it keeps at most 1,048,577 bytes of an incomplete line, and none after the line that ends the
 /// text was read. Pieces after that are accepted and ignored.
-/// ends the text was read. Then each piece is taken, and not looked at.
 #[derive(Drop)]
 pub struct PieceReader<L> {
     lines: L,

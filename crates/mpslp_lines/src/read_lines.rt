@@ -65,6 +65,9 @@ pub trait ReadLines: Drop {
     /// Lines after the one that ends the text change nothing.
     ghost behind_end: { (reader : Self) (text more : List (List ℕ)) → has_read reader text → at_end reader ≡ true → has_read reader (text ++ more) };
 
+    /// Lines that were read have no error.
+    ghost read_is_clean: { (reader : Self) (text : List (List ℕ)) (fault : Fault) → has_read reader text → lines_fault text fault → ⊥ };
+
     /// The error of some lines is that of more lines.
     ghost fault_stays: { (text more : List (List ℕ)) (fault : Fault) → lines_fault text fault → lines_fault (text ++ more) fault };
 

@@ -1,6 +1,6 @@
 -- What each phrase declares: legal declarations, none of which is rejected after those before it.
-use Rattle.std.proofs.Common.{◌⊎◌, inl, inr, ◌≡◌, ◌≤◌, ◌<◌, refl, sym, ap, subst, ◌∙◌, ℕ, suc, ◌+◌, ◌-◌, ◌^◌, List, [], ◌∷◌, ◌++◌, Bool, true, false, not, length, arith, pos, negsuc, zero}
-use Rattle.std.specs.Prelude.{Option, Some, None, is_some, unwrap_or, ◌&&◌, ◌||◌, ◌==◌, if◌then◌else◌, min}
+use Rattle.std.proofs.Common.{◌⊎◌, inl, inr, ◌≡◌, refl, sym, ap, subst, ◌∙◌, ℕ, suc, ◌+◌, ◌-◌, ◌^◌, List, [], ◌∷◌, ◌++◌, Bool, true, false, length, arith, pos, negsuc, zero}
+use Rattle.std.specs.Prelude.{Option, Some, None, is_some, unwrap_or, ◌&&◌, ◌==◌, if◌then◌else◌, min}
 use Rattle.std.specs.List.{list_all, list_any, flat_map}
 use Rattle.std.specs.Option.{option_map_or}
 use Rattle.std.specs.Cmp.{first_so, second_so}
@@ -26,6 +26,8 @@ use Rattle.mpslp_builder.proofs.MadeDrafts.{refusals_in_turn-append, bounds-in_t
 use Rattle.mpslp_builder.proofs.RefusalLemmas.{join_none}
 use Rattle.mpslp_lines.proofs.FieldLemmas.{limit-given}
 use Rattle.mpslp_lines.proofs.ObjectiveLemmas.{named-after}
+use Rattle.mpslp_lp_grammar.specs.declared.signs.Sign.{Sign as SignOf}
+use Rattle.mpslp_lp_grammar.specs.declared.signs.Sign.TheVariants.{Plus, Minus}
 use Rattle.mpslp_lp_grammar.specs.Rules.{◌>>=◌, next, ahead}
 use Rattle.mpslp_lp_grammar.specs.Rules.Parsed.{Reads}
 use Rattle.mpslp_lp_grammar.specs.Rules.AfterPhrase.{Goes, Ends}
@@ -96,13 +98,13 @@ decimal-negated (pos zero) e h = h
 decimal-negated (pos (suc n)) e h = h
 decimal-negated (negsuc n) e h = h
 
-signed-decimal : (minus : Bool) (value : Decimal) → is_decimal value ≡ true → is_decimal (apply_sign minus value) ≡ true
-signed-decimal true value h = decimal-negated value.mantissa value.exponent h
-signed-decimal false value h = h
+signed-decimal : (sign : SignOf) (value : Decimal) → is_decimal value ≡ true → is_decimal (apply_sign sign value) ≡ true
+signed-decimal Minus value h = decimal-negated value.mantissa value.exponent h
+signed-decimal Plus value h = h
 
-infinity-given : (minus : Bool) → is_given (infinity minus) ≡ true
-infinity-given true = refl
-infinity-given false = refl
+infinity-given : (sign : SignOf) → is_given (infinity sign) ≡ true
+infinity-given Minus = refl
+infinity-given Plus = refl
 
 abbrev IsSoundSide : Side → Type 0
 IsSoundSide side = is_given side.limit ≡ true
@@ -203,36 +205,36 @@ either-fine context false r s h k = k
 
 -- ---- items
 
-number-gives : (minus : Bool) (value : Decimal) → is_decimal value ≡ true → Gives IsSoundItem (number_item minus value)
-number-gives minus value h [] sound = tt
-number-gives minus value h (token ∷ tokens) sound = by token.line token.terminal sound.0
+number-gives : (sign : SignOf) (value : Decimal) → is_decimal value ≡ true → Gives IsSoundItem (number_item sign value)
+number-gives sign value h [] sound = tt
+number-gives sign value h (token ∷ tokens) sound = by token.line token.terminal sound.0
   where
-    by : (line : ℕ) (terminal : Terminal) → IsSoundTerminal terminal → Holds IsSoundItem (number_item minus value (record { line = line; terminal = terminal } ∷ tokens))
-    by line (Name column) name = (signed-decimal minus value h, name)
-    by line (Opens word) s = signed-decimal minus value h
-    by line (Number other) s = signed-decimal minus value h
-    by line (Sign other) s = signed-decimal minus value h
-    by line (Compares relation) s = signed-decimal minus value h
-    by line Colon s = signed-decimal minus value h
-    by line Infinity s = signed-decimal minus value h
-    by line Free s = signed-decimal minus value h
-    by line Other s = signed-decimal minus value h
+    by : (line : ℕ) (terminal : Terminal) → IsSoundTerminal terminal → Holds IsSoundItem (number_item sign value (record { line = line; terminal = terminal } ∷ tokens))
+    by line (Name column) name = (signed-decimal sign value h, name)
+    by line (Opens word) s = signed-decimal sign value h
+    by line (Number other) s = signed-decimal sign value h
+    by line (Sign other) s = signed-decimal sign value h
+    by line (Compares relation) s = signed-decimal sign value h
+    by line Colon s = signed-decimal sign value h
+    by line Infinity s = signed-decimal sign value h
+    by line Free s = signed-decimal sign value h
+    by line Other s = signed-decimal sign value h
 
-signed_item-gives : (context : Context) (tokens : List TerminalAt) (minus : Bool) → AreSound tokens → Holds IsSoundItem (signed_item context minus tokens)
-signed_item-gives context [] minus sound = tt
-signed_item-gives context (token ∷ tokens) minus sound = by token.line token.terminal sound.0 (λ m. signed_item-gives context tokens m sound.1)
+signed_item-gives : (context : Context) (tokens : List TerminalAt) (sign : SignOf) → AreSound tokens → Holds IsSoundItem (signed_item context sign tokens)
+signed_item-gives context [] sign sound = tt
+signed_item-gives context (token ∷ tokens) sign sound = by token.line token.terminal sound.0 (λ m. signed_item-gives context tokens m sound.1)
   where
-    by : (line : ℕ) (terminal : Terminal) → IsSoundTerminal terminal → ((m : Bool) → Holds IsSoundItem (signed_item context m tokens))
-        → Holds IsSoundItem (signed_item context minus (record { line = line; terminal = terminal } ∷ tokens))
-    by line (Sign more) s later = passed IsSoundItem (signed_item context (product minus more) tokens) (later (product minus more))
-    by line (Name column) s later = (signed-decimal minus one refl, s)
-    by line (Number value) s later = passed IsSoundItem (number_item minus value tokens) (number-gives minus value s tokens sound.1)
+    by : (line : ℕ) (terminal : Terminal) → IsSoundTerminal terminal → ((m : SignOf) → Holds IsSoundItem (signed_item context m tokens))
+        → Holds IsSoundItem (signed_item context sign (record { line = line; terminal = terminal } ∷ tokens))
+    by line (Sign more) s later = passed IsSoundItem (signed_item context (product sign more) tokens) (later (product sign more))
+    by line (Name column) s later = (signed-decimal sign one refl, s)
+    by line (Number value) s later = passed IsSoundItem (number_item sign value tokens) (number-gives sign value s tokens sound.1)
     by line _ s later = tt
 
 item-gives : (context : Context) (line : ℕ) (terminal : Terminal) → IsSoundTerminal terminal → Gives IsSoundItem (item_from context (record { line = line; terminal = terminal }))
-item-gives context line (Sign minus) s = λ tokens sound. signed_item-gives context tokens minus sound
+item-gives context line (Sign sign) s = λ tokens sound. signed_item-gives context tokens sign sound
 item-gives context line (Name column) s = λ tokens sound. (refl, s)
-item-gives context line (Number value) s = number-gives false value s
+item-gives context line (Number value) s = number-gives Plus value s
 item-gives context line _ s = λ tokens sound. tt
 
 -- ---- the objective
@@ -248,7 +250,7 @@ objective_item-fine context name (Term value column token) named h =
 objective_item-fine context name (Lone value token) named h = by token.line token.terminal
   where
     by : (line : ℕ) (terminal : Terminal) → Gives (IsFine context.earlier) (objective_item context name (Lone value (record { line = line; terminal = terminal })))
-    by line (Sign minus) = declares-fine context (record { line = line; terminal = Sign minus }) (InObjective name) (declare_constant value ∷ []) named (λ b n. n) (both_so (is_decimal value) true h refl)
+    by line (Sign sign) = declares-fine context (record { line = line; terminal = Sign sign }) (InObjective name) (declare_constant value ∷ []) named (λ b n. n) (both_so (is_decimal value) true h refl)
     by line (Opens word) = declares-fine context (record { line = line; terminal = Opens word }) (InObjective name) (declare_constant value ∷ []) named (λ b n. n) (both_so (is_decimal value) true h refl)
     by line _ = λ tokens sound. tt
 
@@ -275,7 +277,7 @@ row_item-fine context row (Term value column token) named r h =
 row_item-fine context row (Lone value token) named r h = by token.line token.terminal
   where
     by : (line : ℕ) (terminal : Terminal) → Gives (IsFine context.earlier) (row_item context row (Lone value (record { line = line; terminal = terminal })))
-    by line (Sign minus) = λ tokens sound. tt
+    by line (Sign sign) = λ tokens sound. tt
     by line (Compares relation) = λ tokens sound. tt
     by line _ = λ tokens sound. tt
 
@@ -306,25 +308,25 @@ row_number-fine context name (Lone value token) named h s = by token.line token.
   where
     by : (line : ℕ) (terminal : Terminal) → Gives (IsFine context.earlier) (row_number context name (Lone value (record { line = line; terminal = terminal })))
     by line (Compares relation) = row_left-fine context name (limit_of value) named h (limit-given value s)
-    by line (Sign minus) = λ tokens sound. tt
+    by line (Sign sign) = λ tokens sound. tt
     by line _ = λ tokens sound. tt
 
 default_row-name : (context : Context) → is_lp_name (default_row context) ≡ true
 default_row-name context =
     numbered-name (min (length context.earlier.rows + 1) (2 ^ 64 - 1)) (omega (arith, min-le_right (length context.earlier.rows + 1) (2 ^ 64 - 1)))
 
-row_signed-fine : (context : Context) (name : List ℕ) (minus : Bool) (second : TerminalAt) → IsNamed context → is_lp_name name ≡ true → IsSoundToken second → Gives (IsFine context.earlier) (row_signed context name minus second)
-row_signed-fine context name minus second named h s = by second.line second.terminal s
+row_signed-fine : (context : Context) (name : List ℕ) (sign : SignOf) (second : TerminalAt) → IsNamed context → is_lp_name name ≡ true → IsSoundToken second → Gives (IsFine context.earlier) (row_signed context name sign second)
+row_signed-fine context name sign second named h s = by second.line second.terminal s
   where
-    items : Gives (IsFine context.earlier) (signed_item context minus >>= row_item context (without_terms name None))
-    items = then-gives IsSoundItem (IsFine context.earlier) (signed_item context minus) (row_item context (without_terms name None)) (λ tokens sound. signed_item-gives context tokens minus sound)
+    items : Gives (IsFine context.earlier) (signed_item context sign >>= row_item context (without_terms name None))
+    items = then-gives IsSoundItem (IsFine context.earlier) (signed_item context sign) (row_item context (without_terms name None)) (λ tokens sound. signed_item-gives context tokens sign sound)
         (λ item i. row_item-fine context (without_terms name None) item named (without-sound name None h refl) i)
 
-    by : (line : ℕ) (terminal : Terminal) → IsSoundTerminal terminal → Gives (IsFine context.earlier) (row_signed context name minus (record { line = line; terminal = terminal }))
-    by line Infinity s = then-gives IsSoundToken (IsFine context.earlier) next (λ word. row_after_left context name (infinity minus)) next-gives (λ word w. row_left-fine context name (infinity minus) named h (infinity-given minus))
+    by : (line : ℕ) (terminal : Terminal) → IsSoundTerminal terminal → Gives (IsFine context.earlier) (row_signed context name sign (record { line = line; terminal = terminal }))
+    by line Infinity s = then-gives IsSoundToken (IsFine context.earlier) next (λ word. row_after_left context name (infinity sign)) next-gives (λ word w. row_left-fine context name (infinity sign) named h (infinity-given sign))
     by line (Number value) s =
-        then-gives IsSoundToken (IsFine context.earlier) next (λ number. number_item minus value >>= row_number context name) next-gives
-        (λ number w. then-gives IsSoundItem (IsFine context.earlier) (number_item minus value) (row_number context name) (number-gives minus value s) (λ item i. row_number-fine context name item named h i))
+        then-gives IsSoundToken (IsFine context.earlier) next (λ number. number_item sign value >>= row_number context name) next-gives
+        (λ number w. then-gives IsSoundItem (IsFine context.earlier) (number_item sign value) (row_number context name) (number-gives sign value s) (λ item i. row_number-fine context name item named h i))
     by line (Opens word) s = items
     by line (Name column) s = items
     by line (Sign more) s = items
@@ -337,11 +339,11 @@ row_from-fine : (context : Context) (name : List ℕ) (line : ℕ) (terminal : T
     → Gives (IsFine context.earlier) (row_from context name (record { line = line; terminal = terminal }))
 row_from-fine context name line Infinity named h s = row_left-fine context name PlusInf named h refl
 row_from-fine context name line (Number value) named h s =
-    then-gives IsSoundItem (IsFine context.earlier) (number_item false value) (row_number context name) (number-gives false value s) (λ item i. row_number-fine context name item named h i)
+    then-gives IsSoundItem (IsFine context.earlier) (number_item Plus value) (row_number context name) (number-gives Plus value s) (λ item i. row_number-fine context name item named h i)
 row_from-fine context name line (Name column) named h s =
     row_item-fine context (without_terms name None) (Term one column (record { line = line; terminal = Name column })) named (without-sound name None h refl) (refl, s)
-row_from-fine context name line (Sign minus) named h s =
-    then-gives IsSoundToken (IsFine context.earlier) ahead (row_signed context name minus) ahead-gives (λ second t. row_signed-fine context name minus second named h t)
+row_from-fine context name line (Sign sign) named h s =
+    then-gives IsSoundToken (IsFine context.earlier) ahead (row_signed context name sign) ahead-gives (λ second t. row_signed-fine context name sign second named h t)
 row_from-fine context name line _ named h s = λ tokens sound. tt
 
 colon-gives : Gives (λ (labelled : Bool). Unit {0}) colon
@@ -363,7 +365,7 @@ row-fine : (context : Context) (line : ℕ) (terminal : Terminal) → IsNamed co
 row-fine context line (Name name) named s = then-gives (λ (labelled : Bool). Unit {0}) (IsFine context.earlier) colon (row_named context name) colon-gives (λ labelled u. row_named-fine context name labelled named s)
 row-fine context line (Opens word) named s = row_from-fine context (default_row context) line (Opens word) named (default_row-name context) s
 row-fine context line (Number value) named s = row_from-fine context (default_row context) line (Number value) named (default_row-name context) s
-row-fine context line (Sign minus) named s = row_from-fine context (default_row context) line (Sign minus) named (default_row-name context) s
+row-fine context line (Sign sign) named s = row_from-fine context (default_row context) line (Sign sign) named (default_row-name context) s
 row-fine context line (Compares relation) named s = row_from-fine context (default_row context) line (Compares relation) named (default_row-name context) s
 row-fine context line Colon named s = row_from-fine context (default_row context) line Colon named (default_row-name context) s
 row-fine context line Infinity named s = row_from-fine context (default_row context) line Infinity named (default_row-name context) s
@@ -372,21 +374,21 @@ row-fine context line Other named s = row_from-fine context (default_row context
 
 -- ---- sides
 
-unsigned_side-gives : (context : Context) (minus : Bool) (token : TerminalAt) → IsSoundToken token → Gives IsSoundSide (unsigned_side context minus token)
-unsigned_side-gives context minus token s = by token.line token.terminal s
+unsigned_side-gives : (context : Context) (sign : SignOf) (token : TerminalAt) → IsSoundToken token → Gives IsSoundSide (unsigned_side context sign token)
+unsigned_side-gives context sign token s = by token.line token.terminal s
   where
-    by : (line : ℕ) (terminal : Terminal) → IsSoundTerminal terminal → Gives IsSoundSide (unsigned_side context minus (record { line = line; terminal = terminal }))
-    by line (Number value) s = λ tokens sound. limit-given (apply_sign minus value) (signed-decimal minus value s)
-    by line Infinity s = λ tokens sound. infinity-given minus
+    by : (line : ℕ) (terminal : Terminal) → IsSoundTerminal terminal → Gives IsSoundSide (unsigned_side context sign (record { line = line; terminal = terminal }))
+    by line (Number value) s = λ tokens sound. limit-given (apply_sign sign value) (signed-decimal sign value s)
+    by line Infinity s = λ tokens sound. infinity-given sign
     by line _ s = λ tokens sound. tt
 
 side_from-gives : (context : Context) (token : TerminalAt) → IsSoundToken token → Gives IsSoundSide (side_from context token)
 side_from-gives context token s = by token.line token.terminal s
   where
     by : (line : ℕ) (terminal : Terminal) → IsSoundTerminal terminal → Gives IsSoundSide (side_from context (record { line = line; terminal = terminal }))
-    by line (Sign minus) s = then-gives IsSoundToken IsSoundSide next (λ second. unsigned_side context minus second) next-gives (λ second t. unsigned_side-gives context minus second t)
-    by line (Number value) s = unsigned_side-gives context false (record { line = line; terminal = Number value }) s
-    by line Infinity s = unsigned_side-gives context false (record { line = line; terminal = Infinity }) s
+    by line (Sign sign) s = then-gives IsSoundToken IsSoundSide next (λ second. unsigned_side context sign second) next-gives (λ second t. unsigned_side-gives context sign second t)
+    by line (Number value) s = unsigned_side-gives context Plus (record { line = line; terminal = Number value }) s
+    by line Infinity s = unsigned_side-gives context Plus (record { line = line; terminal = Infinity }) s
     by line _ s = λ tokens sound. tt
 
 side-gives : (context : Context) → Gives IsSoundSide (side context)
@@ -480,7 +482,7 @@ bound-fine context line terminal named s = by terminal s
     by (Name column) s = then-gives IsSoundToken (IsFine context.earlier) next (bound_after context column) next-gives (λ token h. bound_after-fine context column token named s)
     by (Opens word) s = sided (Opens word) s
     by (Number value) s = sided (Number value) s
-    by (Sign minus) s = sided (Sign minus) s
+    by (Sign sign) s = sided (Sign sign) s
     by (Compares relation) s = sided (Compares relation) s
     by Colon s = sided Colon s
     by Infinity s = sided Infinity s
@@ -509,19 +511,19 @@ phrase-fine : (place : Place) (context : Context) (line : ℕ) (terminal : Termi
 phrase-fine AtStart context line terminal point s = λ tokens sound. tt
 phrase-fine (BeforeItems name) context line terminal named s =
     then-gives IsSoundItem (IsFine context.earlier) (item_from context (record { line = line; terminal = terminal })) (objective_item context name) (item-gives context line terminal s) (λ item i. objective_item-fine context name item named i)
-phrase-fine (InObjective name) context line (Sign minus) named s =
-    then-gives IsSoundItem (IsFine context.earlier) (signed_item context minus) (objective_item context name) (λ tokens sound. signed_item-gives context tokens minus sound) (λ item i. objective_item-fine context name item named i)
+phrase-fine (InObjective name) context line (Sign sign) named s =
+    then-gives IsSoundItem (IsFine context.earlier) (signed_item context sign) (objective_item context name) (λ tokens sound. signed_item-gives context tokens sign sound) (λ item i. objective_item-fine context name item named i)
 phrase-fine (InObjective name) context line _ named s = λ tokens sound. tt
 phrase-fine BetweenRows context line terminal named s = row-fine context line terminal named s
-phrase-fine (InRow row) context line (Sign minus) point s =
-    then-gives IsSoundItem (IsFine context.earlier) (signed_item context minus) (row_item context row) (λ tokens sound. signed_item-gives context tokens minus sound) (λ item i. row_item-fine context row item point.0 point.1 i)
+phrase-fine (InRow row) context line (Sign sign) point s =
+    then-gives IsSoundItem (IsFine context.earlier) (signed_item context sign) (row_item context row) (λ tokens sound. signed_item-gives context tokens sign sound) (λ item i. row_item-fine context row item point.0 point.1 i)
 phrase-fine (InRow row) context line (Compares relation) point s = row_end-fine context row relation (record { line = line; terminal = Compares relation }) point.0 point.1
 phrase-fine (InRow row) context line _ point s = λ tokens sound. tt
 phrase-fine (InBounds left) context line (Compares relation) named s = second_side-fine context left relation (record { line = line; terminal = Compares relation }) named
 phrase-fine (InBounds left) context line (Name name) named s = bound-fine context line (Name name) named s
 phrase-fine (InBounds left) context line (Opens word) named s = bound-fine context line (Opens word) named s
 phrase-fine (InBounds left) context line (Number value) named s = bound-fine context line (Number value) named s
-phrase-fine (InBounds left) context line (Sign minus) named s = bound-fine context line (Sign minus) named s
+phrase-fine (InBounds left) context line (Sign sign) named s = bound-fine context line (Sign sign) named s
 phrase-fine (InBounds left) context line Colon named s = bound-fine context line Colon named s
 phrase-fine (InBounds left) context line Infinity named s = bound-fine context line Infinity named s
 phrase-fine (InBounds left) context line Free named s = bound-fine context line Free named s
@@ -559,7 +561,7 @@ semi-fine : (context : Context) (token : TerminalAt) → IsNamed context → Giv
 semi-fine context token named = by token.line token.terminal
   where
     by : (line : ℕ) (terminal : Terminal) → Gives (IsFine context.earlier) (semi_from context (record { line = line; terminal = terminal }))
-    by line (Sign true) =
+    by line (Sign Minus) =
         then-gives IsSoundToken (IsFine context.earlier) next (λ dash. next >>= last_word context Continuous) next-gives
         (λ dash d. next_word-fine context Continuous named)
     by line _ = nothing-fine context InSemis named (λ b n. n)
@@ -678,7 +680,7 @@ pub phrase_at-fine : (point : Point) (line : ℕ) (terminal : Terminal) → IsSo
 phrase_at-fine point line (Opens word) h s = opens-fine point.place point.context (record { line = line; terminal = Opens word }) word (may_begin_section point.place) refl h
 phrase_at-fine point line (Name name) h s = phrase-fine point.place point.context line (Name name) h s
 phrase_at-fine point line (Number value) h s = phrase-fine point.place point.context line (Number value) h s
-phrase_at-fine point line (Sign minus) h s = phrase-fine point.place point.context line (Sign minus) h s
+phrase_at-fine point line (Sign sign) h s = phrase-fine point.place point.context line (Sign sign) h s
 phrase_at-fine point line (Compares relation) h s = phrase-fine point.place point.context line (Compares relation) h s
 phrase_at-fine point line Colon h s = phrase-fine point.place point.context line Colon h s
 phrase_at-fine point line Infinity h s = phrase-fine point.place point.context line Infinity h s

@@ -11,6 +11,7 @@ use Rattle.mpslp_lines.specs.declared.errors.LineError.{LineError}
 use Rattle.mpslp_lines.specs.declared.errors.LineError.TheVariants.{Fault, OutOfMemory}
 use Rattle.mpslp_decimal.specs.Decimal.{Number as Decimal, zero_number, trailing_zeros}
 use Rattle.mpslp_decimal.specs.declared.literal.NumberFault.{NumberFault}
+use Rattle.mpslp_lp_grammar.specs.declared.signs.Sign.{Sign as SignOf}
 use Rattle.mpslp_lp_grammar.specs.Items.{one}
 use Rattle.mpslp_lp_grammar.specs.PartialRow.{PartialRow}
 use Rattle.mpslp_lp_tokens.specs.Token.{Token}
@@ -54,40 +55,40 @@ unfolding trailing_zeros
 one-sound = refl
 
 -- the state before the name of a term, which takes the name as the state after the number does
-record BeforeName (context : Context) (row : PartialRow) (found behind : List Token) (minus : Bool) (literal column : List ℕ) : Type 0 where
+record BeforeName (context : Context) (row : PartialRow) (found behind : List Token) (sign : SignOf) (literal column : List ℕ) : Type 0 where
   state : State
   comes : take_tokens context (Between (InRow row)) found ≡ take_tokens context state behind
-  takes : take context state (Name column) ≡ take context (ItemNumber (OfRow row) minus (value_of literal)) (Name column)
+  takes : take context state (Name column) ≡ take context (ItemNumber (OfRow row) sign (value_of literal)) (Name column)
 
-module _ (context : Context) (row : PartialRow) (found more : List Token) (minus : Bool) (literal column : List ℕ) (p : IsPlainTerm found minus literal column more) where
+module _ (context : Context) (row : PartialRow) (found more : List Token) (sign : SignOf) (literal column : List ℕ) (p : IsPlainTerm found sign literal column more) where
   abbrev signs : State
-  signs = Signs (OfRow row) minus
+  signs = Signs (OfRow row) sign
 
   -- up to the number, and up to the name
   behind-sign : take_tokens context (Between (InRow row)) found ≡ take_tokens context signs p.behind_sign
-  behind-sign = step context context (Between (InRow row)) signs found p.behind_sign (Sign minus) p.sign refl
+  behind-sign = step context context (Between (InRow row)) signs found p.behind_sign (Sign sign) p.sign refl
 
-  context-name : number_fault literal ≡ None → BeforeName context row found p.term.behind_number minus literal column
+  context-name : number_fault literal ≡ None → BeforeName context row found p.term.behind_number sign literal column
   context-name none = elim p.term.number [
     | inl number ↦ record {
-      state = ItemNumber (OfRow row) minus (value_of literal);
+      state = ItemNumber (OfRow row) sign (value_of literal);
       comes = behind-sign
-          ∙ step context context signs (ItemNumber (OfRow row) minus (value_of literal)) p.behind_sign p.term.behind_number (Number (value_of literal))
+          ∙ step context context signs (ItemNumber (OfRow row) sign (value_of literal)) p.behind_sign p.term.behind_number (Number (value_of literal))
           (as-begins p.behind_sign p.term.behind_number literal number none) refl;
       takes = refl;
     }
     | inr alone ↦ record {
       state = signs;
       comes = behind-sign ∙ ap (take_tokens context signs) (sym alone.1);
-      takes = ap (λ (value : Decimal). take context (ItemNumber (OfRow row) minus value) (Name column)) (one-value ∙ ap value_of (sym alone.0));
+      takes = ap (λ (value : Decimal). take context (ItemNumber (OfRow row) sign value) (Name column)) (one-value ∙ ap value_of (sym alone.0));
     }
   ]
 
   -- a column that is new in the row
-  pub plain-goes : (longer : PartialRow) → number_fault literal ≡ None → AddsTerm row column (apply_sign minus (value_of literal)) (Ok longer)
+  pub plain-goes : (longer : PartialRow) → number_fault literal ≡ None → AddsTerm row column (apply_sign sign (value_of literal)) (Ok longer)
       → take_tokens context (Between (InRow longer)) more ≡ take_tokens context (Between (InRow row)) found
   plain-goes longer none adds =
-      let value = apply_sign minus (value_of literal) in
+      let value = apply_sign sign (value_of literal) in
       let next : State = Between (InRow (record row { terms = row.terms ++ (column, value) ∷ [] })) in
       let named = context-name none in
       ap (λ (r : PartialRow). take_tokens context (Between (InRow r)) more) adds.1
@@ -96,11 +97,11 @@ module _ (context : Context) (row : PartialRow) (found more : List Token) (minus
       (named.takes ∙ ap (λ (b : Bool). if b then refuse context (Name column) DuplicateEntry else Goes (with_made context []) next) adds.0))
 
   -- a column that already has a term in the row
-  pub plain-refused : (error : LineError) → number_fault literal ≡ None → AddsTerm row column (apply_sign minus (value_of literal)) (Err error)
+  pub plain-refused : (error : LineError) → number_fault literal ≡ None → AddsTerm row column (apply_sign sign (value_of literal)) (Err error)
       → TakesToken (take_tokens context (Between (InRow row)) found) (Err (error_before (token_faults more) error)) context
   plain-refused OutOfMemory none adds = tt
   plain-refused (Fault kind) none adds =
-      let next : State = Between (InRow (record row { terms = row.terms ++ (column, apply_sign minus (value_of literal)) ∷ [] })) in
+      let next : State = Between (InRow (record row { terms = row.terms ++ (column, apply_sign sign (value_of literal)) ∷ [] })) in
       let named = context-name none in
       let name = p.term.name in
       let told : take context named.state (as_terminal name.token) ≡ Refuses kind =

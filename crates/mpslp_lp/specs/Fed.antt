@@ -1,11 +1,8 @@
 -- What is known of LP text that is read in pieces.
-use Rattle.std.specs.Prelude.{◌≡◌, ℕ, ◌-◌, ◌^◌, ◌≤◌, Bool, List, ◌++◌, Option, None, Some}
+use Rattle.std.specs.Prelude.{◌≡◌, ℕ, ◌-◌, ◌^◌, ◌≤◌, Bool, List, ◌++◌}
 use Rattle.std.specs.List.{enumerate_from}
 use Rattle.mpslp_builder.specs.Declaration.{Draft}
 use Rattle.mpslp_types.specs.declared.faults.Fault.{Fault}
-use Rattle.mpslp_model.specs.CompleteLines.{complete_lines}
-use Rattle.mpslp_lines.specs.Pieces.{IsFed}
-use Rattle.mpslp_lines.specs.declared.piece_reader.PieceReader.{PieceReader}
 use Rattle.mpslp_lp_grammar.specs.Rules.{Outcome}
 use Rattle.mpslp_lp_grammar.specs.Rules.Outcome.{Refused}
 use Rattle.mpslp_lp.specs.LpText.{lines_say}
@@ -23,10 +20,6 @@ lines_outcome text = lines_say (enumerate_from 1 text)
 abbrev pub IsFaultOfLines : List (List ℕ) → Fault → Type 0
 IsFaultOfLines text fault = (more : List (List ℕ)) → lines_outcome (text ++ more) ≡ Refused fault
 
--- This is the error of the first complete line that has one.
-abbrev pub IsFaultOfComplete : List ℕ → Fault → Type 0
-IsFaultOfComplete bytes fault = IsFaultOfLines (complete_lines bytes) fault
-
 -- The lines of the text were read and have no error. Whatever lines follow, their outcome depends only on this context, this
 -- state and the number of the next line.
 pub record LedTo (text : List (List ℕ)) (context : Context) (state : State) (number : ℕ) : Type 0 where
@@ -39,8 +32,3 @@ HasRead reader text = LedTo text reader.context reader.state reader.number
 -- the line of `end` was read
 abbrev pub is_ended : LineReader → Bool
 is_ended reader = is_at_end reader.state
-
--- These bytes were read, and none was rejected.
-abbrev pub IsFedAll : Option (PieceReader LineReader) → List ℕ → Type 0
-IsFedAll None bytes = ⊥
-IsFedAll (Some reader) bytes = IsFed HasRead is_ended reader bytes

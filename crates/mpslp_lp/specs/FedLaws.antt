@@ -1,17 +1,13 @@
 -- Laws of a reader of LP text in pieces. They are in `specs/` because its `impl` cites them.
-use Rattle.std.proofs.Common.{◌≡◌, sym, refl, ap, ◌∙◌, ℕ, List, [], ◌∷◌, ◌++◌, true, false, append-nil, append_assoc}
-use Rattle.std.specs.Prelude.{not, is_some, Option, Some, None}
+use Rattle.std.proofs.Common.{◌≡◌, sym, refl, ap, ◌∙◌, ℕ, List, [], ◌∷◌, ◌++◌, true, append-nil, append_assoc}
 use Rattle.std.specs.List.{enumerate_from}
 use Rattle.std.specs.Str.Lines.{lines}
 use Rattle.mpslp_types.specs.declared.faults.Fault.{Fault}
-use Rattle.mpslp_model.specs.CompleteLines.{open_tail}
-use Rattle.mpslp_model.proofs.CompleteLineLemmas.{lines-more}
-use Rattle.mpslp_lines.specs.declared.piece_reader.PieceReader.{PieceReader}
 use Rattle.mpslp_lp_grammar.specs.Rules.Outcome.{Finished, Refused}
 use Rattle.mpslp_lp.specs.FirstFault.{fault_of, IsFirstLpFault}
 use Rattle.mpslp_lp_grammar.specs.TokenStep.{at_end, is_at_end}
 use Rattle.mpslp_lp.specs.LineByLine.{read_from}
-use Rattle.mpslp_lp.specs.Fed.{lines_outcome, IsFaultOfLines, IsFaultOfComplete, HasRead, is_ended, IsFedAll}
+use Rattle.mpslp_lp.specs.Fed.{lines_outcome, IsFaultOfLines, HasRead, is_ended}
 use Rattle.mpslp_lp_grammar.specs.declared.context.Context.{Context}
 use Rattle.mpslp_lp.specs.declared.line_reader.LineReader.{LineReader}
 use Rattle.mpslp_lp_grammar.specs.declared.states.State.{State}
@@ -44,24 +40,13 @@ lines_fault-stays text more fault h = λ rest. ap lines_outcome (append_assoc te
 pub lines_fault-is_first : (bytes : List ℕ) (fault : Fault) → IsFaultOfLines (lines bytes) fault → IsFirstLpFault bytes fault
 lines_fault-is_first bytes fault h = ap fault_of (ap lines_outcome (sym (append-nil (lines bytes))) ∙ h [])
 
--- The first error of the complete lines is that of the whole text, whatever follows.
-pub complete-is_first : (bytes more : List ℕ) (fault : Fault) → IsFaultOfComplete bytes fault → IsFirstLpFault (bytes ++ more) fault
-complete-is_first bytes more fault h = ap fault_of (ap lines_outcome (lines-more bytes more) ∙ h (lines (open_tail bytes ++ more)))
-
 -- ---- a reader
-
--- A reader that has read bytes still reads.
-pub fed-works : (reader : Option (PieceReader LineReader)) (bytes : List ℕ) → IsFedAll reader bytes → not (is_some reader) ≡ false
-fed-works None bytes h = absurd h
-fed-works (Some reader) bytes h = refl
 
 -- lines that were read have no error
 pub never_refused : (context : Context) (state : State) (fault : Fault) → at_end context state ≡ Refused fault → ⊥
 never_refused context AfterEnd fault h = cc
 never_refused context _ fault h = cc
 
--- No complete line of the bytes that were read has an error.
-pub fed-is_clean : (reader : Option (PieceReader LineReader)) (bytes : List ℕ) (fault : Fault) → IsFedAll reader bytes → IsFaultOfComplete bytes fault → ⊥
-fed-is_clean None bytes fault h found = h
-fed-is_clean (Some reader) bytes fault h found =
-    never_refused reader.lines.context reader.lines.state fault (sym (h.complete.decides []) ∙ found [])
+-- No line that was read has an error.
+pub read-is_clean : (reader : LineReader) (text : List (List ℕ)) (fault : Fault) → HasRead reader text → IsFaultOfLines text fault → ⊥
+read-is_clean reader text fault led found = never_refused reader.context reader.state fault (sym (led.decides []) ∙ found [])

@@ -1,7 +1,8 @@
 -- Terms of rows that are taken as a whole: one sign, an optional number and a name.
-use Rattle.std.specs.Prelude.{◌≡◌, ◌⊎◌, ℕ, Bool, List, ◌∷◌, None, Result, Ok, Err, codes}
+use Rattle.std.specs.Prelude.{◌≡◌, ◌⊎◌, ℕ, List, ◌∷◌, None, Result, Ok, Err, codes}
 use Rattle.mpslp_types.specs.Name.{IsMpsName}
 use Rattle.mpslp_lines.specs.declared.errors.LineError.{LineError}
+use Rattle.mpslp_lp_grammar.specs.declared.signs.Sign.{Sign as SignOf}
 use Rattle.mpslp_lp_grammar.specs.PartialRow.{PartialRow}
 use Rattle.mpslp_lp_tokens.specs.Token.{Token}
 use Rattle.mpslp_lp_grammar.specs.Terminal.{Terminal, as_terminal}
@@ -36,9 +37,9 @@ pub record IsUnsignedTerm (found : List Token) (literal column : List ℕ) (more
   pub legal : IsMpsName column
 
 -- The tokens begin with a sign and such a term, and the others follow.
-pub record IsPlainTerm (found : List Token) (minus : Bool) (literal column : List ℕ) (more : List Token) : Type 0 where
+pub record IsPlainTerm (found : List Token) (first : SignOf) (literal column : List ℕ) (more : List Token) : Type 0 where
   pub behind_sign : List Token
-  pub sign : Begins found (Sign minus) behind_sign
+  pub sign : Begins found (Sign first) behind_sign
   pub term : IsUnsignedTerm behind_sign literal column more
 
 -- Taking some tokens of a row at once has the same effect as taking them one after another.

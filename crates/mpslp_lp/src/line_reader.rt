@@ -9,7 +9,7 @@ use std::mem::replace;
 
 /// Reads the lines of LP text one after another.
 #[derive(Drop)]
-pub(crate) struct LineReader {
+pub struct LineReader {
     context: Context,
     state: State,
     /// The number of the next line, up to 2^64 - 1.
@@ -20,7 +20,7 @@ impl ReadLines for LineReader {
     ghost use Rattle.mpslp_lp.specs.LpText.{DeclaresLp};
     ghost use Rattle.mpslp_lp.specs.FirstFault.{IsFirstLpFault};
     ghost use Rattle.mpslp_lp.specs.Fed.{HasRead, is_ended, IsFaultOfLines};
-    ghost use Rattle.mpslp_lp.specs.FedLaws.{read-behind_end, lines_fault-stays, lines_fault-is_first};
+    ghost use Rattle.mpslp_lp.specs.FedLaws.{read-behind_end, read-is_clean, lines_fault-stays, lines_fault-is_first};
 
     ghost has_read = { HasRead };
 
@@ -70,6 +70,8 @@ impl ReadLines for LineReader {
     }
 
     ghost behind_end = { read-behind_end };
+
+    ghost read_is_clean = { read-is_clean };
 
     ghost fault_stays = { lines_fault-stays };
 

@@ -13,25 +13,25 @@ ghost use Rattle.mpslp_lp_grammar.specs.declared.states.State.{State};
 
 use crate::read_line::{error_before, least_error};
 use mpslp_lines::{LineError, value_of};
-use mpslp_lp_grammar::{Context, PartialRow, Place, State, TerminalKind, apply_sign, classify};
+use mpslp_lp_grammar::{Context, PartialRow, Place, Sign, State, TerminalKind, classify};
 use mpslp_lp_tokens::{TokenKind, Tokens};
 
 /// A sign, the text of a number (`1` if the term has none), and the name of a column.
 #[derive(Clone, Copy)]
 pub(crate) struct PlainTerm<'a> {
-    minus: bool,
+    sign: Sign,
     literal: &'a [u8],
     column: &'a [u8],
 }
 
 /// The next token, if it is a sign.
 #[inline(always)]
-fn next_sign(tokens: &mut Tokens<'_>) -> Option<bool>
-    ensures { IfSome result (λ minus. Begins tokens.old (Terminal.Sign minus) tokens.new) }
+fn next_sign(tokens: &mut Tokens<'_>) -> Option<Sign>
+    ensures { IfSome result (λ sign. Begins tokens.old (Terminal.Sign sign) tokens.new) }
 {
     let token = tokens.next()?;
     match classify(token.kind, token.text) {
-        Ok(TerminalKind::Sign(minus)) => Some(minus),
+        Ok(TerminalKind::Sign(sign)) => Some(sign),
         _ => None,
     }
 }
@@ -70,12 +70,12 @@ fn unsigned_term<'a>(tokens: &mut Tokens<'a>) -> Option<(&'a [u8], &'a [u8])>
 /// The sign, the optional number and the name that come next.
 #[inline(always)]
 fn plain_term<'a>(tokens: &mut Tokens<'a>) -> Option<PlainTerm<'a>>
-    ensures { IfSome result (λ term. IsPlainTerm tokens.old term.minus term.literal.now term.column.now tokens.new) }
+    ensures { IfSome result (λ term. IsPlainTerm tokens.old term.sign term.literal.now term.column.now tokens.new) }
 {
-    let minus = next_sign(tokens)?;
+    let sign = next_sign(tokens)?;
     let (literal, column) = unsigned_term(tokens)?;
     Some(PlainTerm {
-        minus,
+        sign,
         literal,
         column,
     })
@@ -90,10 +90,10 @@ fn take_plain_term(
     left: Tokens<'_>,
 ) -> Result<PartialRow, LineError>
     requires { IsMpsName term.column.now }
-    ensures { (found : List Token) → IsPlainTerm found term.entry.minus term.entry.literal.now term.entry.column.now left.entry → TakesInRow context.now row found result left.entry }
+    ensures { (found : List Token) → IsPlainTerm found term.entry.sign term.entry.literal.now term.entry.column.now left.entry → TakesInRow context.now row found result left.entry }
 {
     let value = match value_of(term.literal) {
-        Ok(value) => apply_sign(term.minus, value),
+        Ok(value) => term.sign.of(value),
         Err(kind) => return Err(least_error(kind, left)),
     };
     match row.with_term(context, term.column, value) {

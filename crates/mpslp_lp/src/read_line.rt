@@ -1,12 +1,13 @@
 //! Reads a line.
 
-ghost use Rattle.std.specs.Prelude.{◌≡◌, ◌≤◌, ◌∷◌, length, not};
+ghost use Rattle.std.specs.Prelude.{◌≡◌, ◌≤◌, ◌∷◌, length, not, if◌then◌else◌};
 ghost use Rattle.std.specs.List.{prefix_len};
 ghost use Rattle.mpslp_types.specs.FaultOrder.{least_kind};
 ghost use Rattle.mpslp_lp_tokens.specs.Line.{begins_comment, outside_comment};
 ghost use Rattle.mpslp_lp_tokens.specs.Token.{tokens};
 ghost use Rattle.mpslp_lp_grammar.specs.Declares.{error_before, lesser_of, IsLeastError, TakesToken};
 ghost use Rattle.mpslp_lp.specs.LineByLine.{token_faults, take_tokens, take_line};
+ghost use Rattle.mpslp_lp.specs.Laws.{has_legal_bytes};
 
 use crate::plain_terms::take_terms;
 use bstr::ByteSlice;
@@ -61,7 +62,7 @@ pub(crate) fn least_error(kind: FaultKind, tokens: Tokens<'_>) -> LineError
     }
 }
 
-/// Takes the tokens of a line of legal length and bytes. Each token is classified once, except where a plain term could
+/// Takes the tokens of a line. Each token is classified once, except where a plain term could
 /// begin but does not. After a token with an error, only the lexical errors of the others matter.
 fn take_tokens(context: &mut Context, state: State, line: &[u8]) -> Result<State, LineError>
     ensures { TakesToken (take_tokens context.old state (tokens line.now)) result context.new }
@@ -105,7 +106,21 @@ fn outside_comment(line: &[u8]) -> &[u8]
     &line[..outside_len(line)]
 }
 
+/// The error of a line, given the error of its tokens: an illegal byte is reported instead.
+fn error_of_line(line: &[u8], error: LineError) -> LineError
+    ensures { result ≡ (if has_legal_bytes line.now then error else LineError.Fault FaultKind.BadByte) }
+{
+    if are_legal_bytes(outside_comment(line)) {
+        error
+    } else {
+        LineError::Fault(FaultKind::BadByte)
+    }
+}
+
 /// Reads a line. Returns the state after it, or its error.
+///
+/// A line with an illegal byte has a token that no rule accepts. So the bytes are tested only after an error of the tokens, and
+/// most lines are gone over only once.
 pub(crate) fn read_line(
     context: &mut Context,
     state: State,
@@ -116,8 +131,9 @@ pub(crate) fn read_line(
     if !has_legal_length(line) {
         return Err(LineError::Fault(FaultKind::LineTooLong));
     }
-    if !are_legal_bytes(outside_comment(line)) {
-        return Err(LineError::Fault(FaultKind::BadByte));
+    match take_tokens(context, state, line) {
+        Ok(next) => Ok(next),
+        Err(LineError::OutOfMemory) => Err(LineError::OutOfMemory),
+        Err(error) => Err(error_of_line(line, error)),
     }
-    take_tokens(context, state, line)
 }

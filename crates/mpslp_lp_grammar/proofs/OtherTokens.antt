@@ -3,6 +3,8 @@ use Rattle.std.proofs.Common.{◌≡◌, refl, ℕ, List, Bool, true, false}
 use Rattle.std.specs.Prelude.{None}
 use Rattle.mpslp_decimal.specs.Decimal.{Number as Decimal}
 use Rattle.mpslp_types.specs.declared.kinds.Sense.{Sense}
+use Rattle.mpslp_lp_grammar.specs.declared.signs.Sign.{Sign as SignOf}
+use Rattle.mpslp_lp_grammar.specs.declared.signs.Sign.TheVariants.{Plus, Minus}
 use Rattle.mpslp_lp_grammar.specs.TerminalToken.{terminal_with_text}
 use Rattle.mpslp_lp_grammar.specs.Sides.{apply_sign}
 use Rattle.mpslp_lp_grammar.specs.Objective.{objective_declared, first_item_declared, default_objective}
@@ -40,24 +42,24 @@ pub objective_name-other : (context : Context) (goal : Sense) (name : List ℕ) 
 objective_name-other context goal name Colon text h = absurd (h refl)
 objective_name-other context goal name _ text h = refl
 
-pub semi-other : (context : Context) (kind : TerminalKind) (text : List ℕ) → (kind ≡ Sign true → ⊥) → take context AtSemi (terminal_with_text kind text) ≡ begin InSemis context (terminal_with_text kind text)
-semi-other context (Sign true) text h = absurd (h refl)
-semi-other context (Sign false) text h = refl
+pub semi-other : (context : Context) (kind : TerminalKind) (text : List ℕ) → (kind ≡ Sign Minus → ⊥) → take context AtSemi (terminal_with_text kind text) ≡ begin InSemis context (terminal_with_text kind text)
+semi-other context (Sign Minus) text h = absurd (h refl)
+semi-other context (Sign Plus) text h = refl
 semi-other context _ text h = refl
 
-pub item-other : (context : Context) (owner : ItemOwner) (minus : Bool) (value : Decimal) (kind : TerminalKind) (text : List ℕ) → (kind ≡ Name → ⊥)
-    → take context (ItemNumber owner minus value) (terminal_with_text kind text) ≡ take_lone context owner (apply_sign minus value) (terminal_with_text kind text)
-item-other context owner minus value Name text h = absurd (h refl)
-item-other context owner minus value _ text h = refl
+pub item-other : (context : Context) (owner : ItemOwner) (sign : SignOf) (value : Decimal) (kind : TerminalKind) (text : List ℕ) → (kind ≡ Name → ⊥)
+    → take context (ItemNumber owner sign value) (terminal_with_text kind text) ≡ take_lone context owner (apply_sign sign value) (terminal_with_text kind text)
+item-other context owner sign value Name text h = absurd (h refl)
+item-other context owner sign value _ text h = refl
 
-pub row_sign-other : (context : Context) (name : List ℕ) (minus : Bool) (kind : TerminalKind) (text : List ℕ) → (kind ≡ Infinity → ⊥) → ((value : Decimal) → kind ≡ Number value → ⊥)
-    → take context (RowSign name minus) (terminal_with_text kind text) ≡ take_after_signs context (OfRow (without_terms name None)) minus (terminal_with_text kind text)
-row_sign-other context name minus Infinity text h k = absurd (h refl)
-row_sign-other context name minus (Number value) text h k = absurd (k value refl)
-row_sign-other context name minus _ text h k = refl
+pub row_sign-other : (context : Context) (name : List ℕ) (sign : SignOf) (kind : TerminalKind) (text : List ℕ) → (kind ≡ Infinity → ⊥) → ((value : Decimal) → kind ≡ Number value → ⊥)
+    → take context (RowSign name sign) (terminal_with_text kind text) ≡ take_after_signs context (OfRow (without_terms name None)) sign (terminal_with_text kind text)
+row_sign-other context name sign Infinity text h k = absurd (h refl)
+row_sign-other context name sign (Number value) text h k = absurd (k value refl)
+row_sign-other context name sign _ text h k = refl
 
-pub side-other : (context : Context) (sided : SideOwner) (kind : TerminalKind) (text : List ℕ) → ((minus : Bool) → kind ≡ Sign minus → ⊥)
+pub side-other : (context : Context) (sided : SideOwner) (kind : TerminalKind) (text : List ℕ) → ((sign : SignOf) → kind ≡ Sign sign → ⊥)
     → take context (AtSide sided) (terminal_with_text kind text)
-    ≡ take_limit (λ limit. take_side context sided limit (terminal_with_text kind text)) context false (terminal_with_text kind text)
-side-other context sided (Sign minus) text h = absurd (h minus refl)
+    ≡ take_limit (λ limit. take_side context sided limit (terminal_with_text kind text)) context Plus (terminal_with_text kind text)
+side-other context sided (Sign sign) text h = absurd (h sign refl)
 side-other context sided _ text h = refl

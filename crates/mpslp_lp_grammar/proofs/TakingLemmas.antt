@@ -13,6 +13,8 @@ use Rattle.mpslp_types.specs.declared.kinds.Sense.{Sense}
 use Rattle.mpslp_types.specs.declared.faults.BuildFault.{BuildFault}
 use Rattle.mpslp_types.specs.declared.faults.FaultKind.{FaultKind}
 use Rattle.mpslp_types.specs.declared.faults.FaultKind.TheVariants.{BadToken}
+use Rattle.mpslp_lp_grammar.specs.declared.signs.Sign.{Sign as SignOf}
+use Rattle.mpslp_lp_grammar.specs.declared.signs.Sign.TheVariants.{Plus, Minus}
 use Rattle.mpslp_lp_grammar.specs.Rules.{◌>>=◌, next, ahead, gives, follow, resume}
 use Rattle.mpslp_lp_grammar.specs.Rules.Parsed.{Reads}
 use Rattle.mpslp_lp_grammar.specs.Rules.AfterPhrase.{Ends}
@@ -77,18 +79,18 @@ term-says context (OfRow row) column value line terminal tokens = branch line (l
 
 -- ---- items
 
-signs-say : (context : Context) (owner : ItemOwner) (minus : Bool) (line : ℕ) (terminal : Terminal) (tokens : Tokens)
-    → resume phrase_at (signed_item context minus >>= item_read context owner) (at line terminal ∷ tokens) ≡ says_after line (take_after_signs context owner minus terminal) tokens
-signs-say context owner minus line (Sign more) tokens = follow-one_more phrase_at (signed_item context (product minus more) tokens) (item_read context owner) (at line (Sign more)) tokens
-signs-say context owner minus line (Name column) tokens =
+signs-say : (context : Context) (owner : ItemOwner) (sign : SignOf) (line : ℕ) (terminal : Terminal) (tokens : Tokens)
+    → resume phrase_at (signed_item context sign >>= item_read context owner) (at line terminal ∷ tokens) ≡ says_after line (take_after_signs context owner sign terminal) tokens
+signs-say context owner sign line (Sign more) tokens = follow-one_more phrase_at (signed_item context (product sign more) tokens) (item_read context owner) (at line (Sign more)) tokens
+signs-say context owner sign line (Name column) tokens =
     follow-passing_one phrase_at (item_read context owner (Term _ column (at line (Name column))) tokens) (at line (Name column)) tokens
     ∙ term-says context owner column _ line (Name column) tokens
-signs-say context owner minus line (Number value) tokens = follow-one_more phrase_at (number_item minus value tokens) (item_read context owner) (at line (Number value)) tokens
-signs-say context owner minus line _ tokens = refl
+signs-say context owner sign line (Number value) tokens = follow-one_more phrase_at (number_item sign value tokens) (item_read context owner) (at line (Number value)) tokens
+signs-say context owner sign line _ tokens = refl
 
 begun_item-says : (context : Context) (owner : ItemOwner) (line : ℕ) (terminal : Terminal) (tokens : Tokens)
     → resume phrase_at (item_from context (at line terminal) >>= item_read context owner) tokens ≡ says_after line (begin_item context owner terminal) tokens
-begun_item-says context owner line (Sign minus) tokens = refl
+begun_item-says context owner line (Sign sign) tokens = refl
 begun_item-says context owner line (Name column) tokens =
     resume-gives phrase_at (Term _ column (at line (Name column))) (item_read context owner) tokens ∙ term-says context owner column _ line (Name column) tokens
 begun_item-says context owner line (Number value) tokens = refl
@@ -131,13 +133,13 @@ begun_row-says : (context : Context) (name : List ℕ) (line : ℕ) (terminal : 
 begun_row-says context name line Infinity tokens = refl
 begun_row-says context name line (Number value) tokens = refl
 begun_row-says context name line (Name column) tokens = term-says context (OfRow (without_terms name None)) column _ line (Name column) tokens
-begun_row-says context name line (Sign minus) tokens = refl
+begun_row-says context name line (Sign sign) tokens = refl
 begun_row-says context name line _ tokens = refl
 
 begun_bound-says : (context : Context) (line : ℕ) (terminal : Terminal) (tokens : Tokens)
     → resume phrase_at (bound context (at line terminal)) tokens ≡ says_after line (begin_bound context terminal) tokens
 begun_bound-says context line (Name column) tokens = refl
-begun_bound-says context line (Sign minus) tokens = refl
+begun_bound-says context line (Sign sign) tokens = refl
 begun_bound-says context line (Number value) tokens = resume-gives phrase_at (record { limit = limit_of value; last = at line (Number value) }) (bound_left context) tokens
 begun_bound-says context line Infinity tokens = resume-gives phrase_at (record { limit = PlusInf; last = at line Infinity }) (bound_left context) tokens
 begun_bound-says context line _ tokens = refl
@@ -151,18 +153,18 @@ begun_phrase-says : (place : Place) (context : Context) (line : ℕ) (terminal :
     → resume phrase_at (phrase place context (at line terminal)) tokens ≡ says_after line (begin_phrase place context terminal) tokens
 begun_phrase-says AtStart context line terminal tokens = refl
 begun_phrase-says (BeforeItems name) context line terminal tokens = begun_item-says context (OfObjective name) line terminal tokens
-begun_phrase-says (InObjective name) context line (Sign minus) tokens = refl
+begun_phrase-says (InObjective name) context line (Sign sign) tokens = refl
 begun_phrase-says (InObjective name) context line _ tokens = refl
 begun_phrase-says BetweenRows context line (Name name) tokens = refl
 begun_phrase-says BetweenRows context line (Opens word) tokens = begun_row-says context (default_row context) line (Opens word) tokens
 begun_phrase-says BetweenRows context line (Number value) tokens = begun_row-says context (default_row context) line (Number value) tokens
-begun_phrase-says BetweenRows context line (Sign minus) tokens = begun_row-says context (default_row context) line (Sign minus) tokens
+begun_phrase-says BetweenRows context line (Sign sign) tokens = begun_row-says context (default_row context) line (Sign sign) tokens
 begun_phrase-says BetweenRows context line (Compares relation) tokens = begun_row-says context (default_row context) line (Compares relation) tokens
 begun_phrase-says BetweenRows context line Colon tokens = begun_row-says context (default_row context) line Colon tokens
 begun_phrase-says BetweenRows context line Infinity tokens = begun_row-says context (default_row context) line Infinity tokens
 begun_phrase-says BetweenRows context line Free tokens = begun_row-says context (default_row context) line Free tokens
 begun_phrase-says BetweenRows context line Other tokens = begun_row-says context (default_row context) line Other tokens
-begun_phrase-says (InRow row) context line (Sign minus) tokens = refl
+begun_phrase-says (InRow row) context line (Sign sign) tokens = refl
 begun_phrase-says (InRow row) context line (Compares relation) tokens = branch line (fits_left row.left relation) _ _ _ _ tokens refl refl
 begun_phrase-says (InRow row) context line _ tokens = refl
 begun_phrase-says (InBounds None) context line (Compares relation) tokens = refl
@@ -170,7 +172,7 @@ begun_phrase-says (InBounds (Some left)) context line (Compares relation) tokens
 begun_phrase-says (InBounds left) context line (Name column) tokens = begun_bound-says context line (Name column) tokens
 begun_phrase-says (InBounds left) context line (Opens word) tokens = begun_bound-says context line (Opens word) tokens
 begun_phrase-says (InBounds left) context line (Number value) tokens = begun_bound-says context line (Number value) tokens
-begun_phrase-says (InBounds left) context line (Sign minus) tokens = begun_bound-says context line (Sign minus) tokens
+begun_phrase-says (InBounds left) context line (Sign sign) tokens = begun_bound-says context line (Sign sign) tokens
 begun_phrase-says (InBounds left) context line Colon tokens = begun_bound-says context line Colon tokens
 begun_phrase-says (InBounds left) context line Infinity tokens = begun_bound-says context line Infinity tokens
 begun_phrase-says (InBounds left) context line Free tokens = begun_bound-says context line Free tokens
@@ -187,7 +189,7 @@ begun-says place context line terminal tokens = phrases-more phrase_at (record {
     by (Opens word) = branch line (may_begin_section place) _ _ _ _ tokens (section_word-says context line word tokens) refl
     by (Name name) = begun_phrase-says place context line (Name name) tokens
     by (Number value) = begun_phrase-says place context line (Number value) tokens
-    by (Sign minus) = begun_phrase-says place context line (Sign minus) tokens
+    by (Sign sign) = begun_phrase-says place context line (Sign sign) tokens
     by (Compares relation) = begun_phrase-says place context line (Compares relation) tokens
     by Colon = begun_phrase-says place context line Colon tokens
     by Infinity = begun_phrase-says place context line Infinity tokens
@@ -208,24 +210,24 @@ begun_after-says context made place line terminal tokens = by (refusals_in_turn 
 
 lone-says : (context : Context) (owner : ItemOwner) (value : Decimal) (line : ℕ) (terminal : Terminal) (tokens : Tokens)
     → resume phrase_at (item_read context owner (Lone value (at line terminal))) (at line terminal ∷ tokens) ≡ says_after line (take_lone context owner value terminal) tokens
-lone-says context (OfObjective name) value line (Sign minus) tokens = begun_after-says context (declare_constant value ∷ []) (InObjective name) line (Sign minus) tokens
+lone-says context (OfObjective name) value line (Sign sign) tokens = begun_after-says context (declare_constant value ∷ []) (InObjective name) line (Sign sign) tokens
 lone-says context (OfObjective name) value line (Opens word) tokens = begun_after-says context (declare_constant value ∷ []) (InObjective name) line (Opens word) tokens
 lone-says context (OfObjective name) value line _ tokens = refl
-lone-says context (OfRow row) value line (Sign minus) tokens = refl
+lone-says context (OfRow row) value line (Sign sign) tokens = refl
 lone-says context (OfRow row) value line (Compares relation) tokens = refl
 lone-says context (OfRow row) value line _ tokens = refl
 
 -- ---- sides
 
 -- a limit that is read is the side of what follows
-limit-says : (context : Context) (following : Side → PhraseRule Follows) (goes : Limit → AfterToken) (minus : Bool) (line : ℕ) (terminal : Terminal) (tokens : Tokens)
+limit-says : (context : Context) (following : Side → PhraseRule Follows) (goes : Limit → AfterToken) (sign : SignOf) (line : ℕ) (terminal : Terminal) (tokens : Tokens)
     → ((limit : Limit) → resume phrase_at (following (record { limit = limit; last = at line terminal })) tokens ≡ says_after line (goes limit) tokens)
-    → resume phrase_at (unsigned_side context minus (at line terminal) >>= following) tokens ≡ says_after line (take_limit goes context minus terminal) tokens
-limit-says context following goes minus line (Number value) tokens h =
-    resume-gives phrase_at (record { limit = limit_of (apply_sign minus value); last = at line (Number value) }) following tokens ∙ h (limit_of (apply_sign minus value))
-limit-says context following goes minus line Infinity tokens h =
-    resume-gives phrase_at (record { limit = infinity minus; last = at line Infinity }) following tokens ∙ h (infinity minus)
-limit-says context following goes minus line _ tokens h = refl
+    → resume phrase_at (unsigned_side context sign (at line terminal) >>= following) tokens ≡ says_after line (take_limit goes context sign terminal) tokens
+limit-says context following goes sign line (Number value) tokens h =
+    resume-gives phrase_at (record { limit = limit_of (apply_sign sign value); last = at line (Number value) }) following tokens ∙ h (limit_of (apply_sign sign value))
+limit-says context following goes sign line Infinity tokens h =
+    resume-gives phrase_at (record { limit = infinity sign; last = at line Infinity }) following tokens ∙ h (infinity sign)
+limit-says context following goes sign line _ tokens h = refl
 
 -- what follows a right-hand side of a row or a column
 abbrev sided_read : Context → SideOwner → Side → PhraseRule Follows
@@ -236,9 +238,9 @@ side_read-is : (context : Context) (sided : SideOwner) → side_read context sid
 side_read-is context (SideOfRow row relation) = refl
 side_read-is context (SideOfBound is_new column relation) = refl
 
-signed_side_read-is : (context : Context) (sided : SideOwner) (minus : Bool) → signed_side_read context sided minus ≡ ((next >>= unsigned_side context minus) >>= sided_read context sided)
-signed_side_read-is context (SideOfRow row relation) minus = refl
-signed_side_read-is context (SideOfBound is_new column relation) minus = refl
+signed_side_read-is : (context : Context) (sided : SideOwner) (sign : SignOf) → signed_side_read context sided sign ≡ ((next >>= unsigned_side context sign) >>= sided_read context sided)
+signed_side_read-is context (SideOfRow row relation) sign = refl
+signed_side_read-is context (SideOfBound is_new column relation) sign = refl
 
 sided-says : (context : Context) (sided : SideOwner) (limit : Limit) (line : ℕ) (terminal : Terminal) (tokens : Tokens)
     → resume phrase_at (sided_read context sided (record { limit = limit; last = at line terminal })) tokens ≡ says_after line (take_side context sided limit terminal) tokens
@@ -248,12 +250,12 @@ sided-says context (SideOfBound is_new column relation) limit line terminal toke
 -- a side that begins with this token
 begun_side-says : (context : Context) (sided : SideOwner) (line : ℕ) (terminal : Terminal) (tokens : Tokens)
     → resume phrase_at (side_from context (at line terminal) >>= sided_read context sided) tokens ≡ says_after line (take context (AtSide sided) terminal) tokens
-begun_side-says context sided line (Sign minus) tokens = ap (λ (rule : PhraseRule Follows). resume phrase_at rule tokens) (sym (signed_side_read-is context sided minus))
+begun_side-says context sided line (Sign sign) tokens = ap (λ (rule : PhraseRule Follows). resume phrase_at rule tokens) (sym (signed_side_read-is context sided sign))
 begun_side-says context sided line (Number value) tokens =
-    limit-says context (sided_read context sided) (λ limit. take_side context sided limit (Number value)) false line (Number value) tokens
+    limit-says context (sided_read context sided) (λ limit. take_side context sided limit (Number value)) Plus line (Number value) tokens
     (λ limit. sided-says context sided limit line (Number value) tokens)
 begun_side-says context sided line Infinity tokens =
-    limit-says context (sided_read context sided) (λ limit. take_side context sided limit Infinity) false line Infinity tokens
+    limit-says context (sided_read context sided) (λ limit. take_side context sided limit Infinity) Plus line Infinity tokens
     (λ limit. sided-says context sided limit line Infinity tokens)
 begun_side-says context sided line _ tokens = refl
 
@@ -276,7 +278,7 @@ objective-says : (context : Context) (goal : Sense) (line : ℕ) (terminal : Ter
 objective-says context goal line (Name name) tokens = resume-next phrase_at (λ first. ahead >>= objective_named context goal name) (at line (Name name)) tokens
 objective-says context goal line (Opens word) tokens = begun_after-says context (objective_declared goal default_objective) (BeforeItems default_objective) line (Opens word) tokens
 objective-says context goal line (Number value) tokens = begun_after-says context (objective_declared goal default_objective) (BeforeItems default_objective) line (Number value) tokens
-objective-says context goal line (Sign minus) tokens = begun_after-says context (objective_declared goal default_objective) (BeforeItems default_objective) line (Sign minus) tokens
+objective-says context goal line (Sign sign) tokens = begun_after-says context (objective_declared goal default_objective) (BeforeItems default_objective) line (Sign sign) tokens
 objective-says context goal line (Compares relation) tokens = begun_after-says context (objective_declared goal default_objective) (BeforeItems default_objective) line (Compares relation) tokens
 objective-says context goal line Colon tokens = begun_after-says context (objective_declared goal default_objective) (BeforeItems default_objective) line Colon tokens
 objective-says context goal line Infinity tokens = begun_after-says context (objective_declared goal default_objective) (BeforeItems default_objective) line Infinity tokens
@@ -292,7 +294,7 @@ objective_name-says context goal name line Colon tokens =
 objective_name-says context goal name line (Name other) tokens = begun_after-says context (first_item_declared goal name) (InObjective default_objective) line (Name other) tokens
 objective_name-says context goal name line (Opens word) tokens = begun_after-says context (first_item_declared goal name) (InObjective default_objective) line (Opens word) tokens
 objective_name-says context goal name line (Number value) tokens = begun_after-says context (first_item_declared goal name) (InObjective default_objective) line (Number value) tokens
-objective_name-says context goal name line (Sign minus) tokens = begun_after-says context (first_item_declared goal name) (InObjective default_objective) line (Sign minus) tokens
+objective_name-says context goal name line (Sign sign) tokens = begun_after-says context (first_item_declared goal name) (InObjective default_objective) line (Sign sign) tokens
 objective_name-says context goal name line (Compares relation) tokens = begun_after-says context (first_item_declared goal name) (InObjective default_objective) line (Compares relation) tokens
 objective_name-says context goal name line Infinity tokens = begun_after-says context (first_item_declared goal name) (InObjective default_objective) line Infinity tokens
 objective_name-says context goal name line Free tokens = begun_after-says context (first_item_declared goal name) (InObjective default_objective) line Free tokens
@@ -307,7 +309,7 @@ colon-says following labelled unlabelled line Colon tokens h k = follow-passing_
 colon-says following labelled unlabelled line (Opens word) tokens h k = follow-passing_none phrase_at (following false (at line (Opens word) ∷ tokens)) (at line (Opens word) ∷ tokens) ∙ k
 colon-says following labelled unlabelled line (Name name) tokens h k = follow-passing_none phrase_at (following false (at line (Name name) ∷ tokens)) (at line (Name name) ∷ tokens) ∙ k
 colon-says following labelled unlabelled line (Number value) tokens h k = follow-passing_none phrase_at (following false (at line (Number value) ∷ tokens)) (at line (Number value) ∷ tokens) ∙ k
-colon-says following labelled unlabelled line (Sign minus) tokens h k = follow-passing_none phrase_at (following false (at line (Sign minus) ∷ tokens)) (at line (Sign minus) ∷ tokens) ∙ k
+colon-says following labelled unlabelled line (Sign sign) tokens h k = follow-passing_none phrase_at (following false (at line (Sign sign) ∷ tokens)) (at line (Sign sign) ∷ tokens) ∙ k
 colon-says following labelled unlabelled line (Compares relation) tokens h k = follow-passing_none phrase_at (following false (at line (Compares relation) ∷ tokens)) (at line (Compares relation) ∷ tokens) ∙ k
 colon-says following labelled unlabelled line Infinity tokens h k = follow-passing_none phrase_at (following false (at line Infinity ∷ tokens)) (at line Infinity ∷ tokens) ∙ k
 colon-says following labelled unlabelled line Free tokens h k = follow-passing_none phrase_at (following false (at line Free ∷ tokens)) (at line Free ∷ tokens) ∙ k
@@ -320,8 +322,8 @@ last_word-says context wanted line _ tokens = refl
 
 semi-says : (context : Context) (line : ℕ) (terminal : Terminal) (tokens : Tokens)
     → resume phrase_at (semi_from context (at line terminal)) (at line terminal ∷ tokens) ≡ says_after line (take context AtSemi terminal) tokens
-semi-says context line (Sign true) tokens = resume-next phrase_at (λ dash. next >>= last_word context Continuous) (at line (Sign true)) tokens
-semi-says context line (Sign false) tokens = begun-says InSemis (with_made context []) line (Sign false) tokens
+semi-says context line (Sign Minus) tokens = resume-next phrase_at (λ dash. next >>= last_word context Continuous) (at line (Sign Minus)) tokens
+semi-says context line (Sign Plus) tokens = begun-says InSemis (with_made context []) line (Sign Plus) tokens
 semi-says context line (Name name) tokens = begun-says InSemis (with_made context []) line (Name name) tokens
 semi-says context line (Opens word) tokens = begun-says InSemis (with_made context []) line (Opens word) tokens
 semi-says context line (Number value) tokens = begun-says InSemis (with_made context []) line (Number value) tokens
@@ -332,50 +334,50 @@ semi-says context line Free tokens = begun-says InSemis (with_made context []) l
 semi-says context line Other tokens = begun-says InSemis (with_made context []) line Other tokens
 
 -- after a number: a name, or the token after a number without a name
-number-says : (context : Context) (following : Item → PhraseRule Follows) (minus : Bool) (value : Decimal) (named : List ℕ → AfterToken) (lone : AfterToken) (line : ℕ) (terminal : Terminal) (tokens : Tokens)
-    → ((column : List ℕ) → terminal ≡ Name column → resume phrase_at (following (Term (apply_sign minus value) column (at line (Name column)))) tokens ≡ says_after line (named column) tokens)
-    → resume phrase_at (following (Lone (apply_sign minus value) (at line terminal))) (at line terminal ∷ tokens) ≡ says_after line lone tokens
-    → resume phrase_at (number_item minus value >>= following) (at line terminal ∷ tokens) ≡ says_after line (elim terminal as (λ _. AfterToken) [ Name column ↦ named column | _ ↦ lone ]) tokens
-number-says context following minus value named lone line (Name column) tokens h k =
-    follow-passing_one phrase_at (following (Term (apply_sign minus value) column (at line (Name column))) tokens) (at line (Name column)) tokens ∙ h column refl
-number-says context following minus value named lone line (Opens word) tokens h k = follow-passing_none phrase_at (following (Lone _ (at line (Opens word))) (at line (Opens word) ∷ tokens)) (at line (Opens word) ∷ tokens) ∙ k
-number-says context following minus value named lone line (Number other) tokens h k = follow-passing_none phrase_at (following (Lone _ (at line (Number other))) (at line (Number other) ∷ tokens)) (at line (Number other) ∷ tokens) ∙ k
-number-says context following minus value named lone line (Sign other) tokens h k = follow-passing_none phrase_at (following (Lone _ (at line (Sign other))) (at line (Sign other) ∷ tokens)) (at line (Sign other) ∷ tokens) ∙ k
-number-says context following minus value named lone line (Compares relation) tokens h k = follow-passing_none phrase_at (following (Lone _ (at line (Compares relation))) (at line (Compares relation) ∷ tokens)) (at line (Compares relation) ∷ tokens) ∙ k
-number-says context following minus value named lone line Colon tokens h k = follow-passing_none phrase_at (following (Lone _ (at line Colon)) (at line Colon ∷ tokens)) (at line Colon ∷ tokens) ∙ k
-number-says context following minus value named lone line Infinity tokens h k = follow-passing_none phrase_at (following (Lone _ (at line Infinity)) (at line Infinity ∷ tokens)) (at line Infinity ∷ tokens) ∙ k
-number-says context following minus value named lone line Free tokens h k = follow-passing_none phrase_at (following (Lone _ (at line Free)) (at line Free ∷ tokens)) (at line Free ∷ tokens) ∙ k
-number-says context following minus value named lone line Other tokens h k = follow-passing_none phrase_at (following (Lone _ (at line Other)) (at line Other ∷ tokens)) (at line Other ∷ tokens) ∙ k
+number-says : (context : Context) (following : Item → PhraseRule Follows) (sign : SignOf) (value : Decimal) (named : List ℕ → AfterToken) (lone : AfterToken) (line : ℕ) (terminal : Terminal) (tokens : Tokens)
+    → ((column : List ℕ) → terminal ≡ Name column → resume phrase_at (following (Term (apply_sign sign value) column (at line (Name column)))) tokens ≡ says_after line (named column) tokens)
+    → resume phrase_at (following (Lone (apply_sign sign value) (at line terminal))) (at line terminal ∷ tokens) ≡ says_after line lone tokens
+    → resume phrase_at (number_item sign value >>= following) (at line terminal ∷ tokens) ≡ says_after line (elim terminal as (λ _. AfterToken) [ Name column ↦ named column | _ ↦ lone ]) tokens
+number-says context following sign value named lone line (Name column) tokens h k =
+    follow-passing_one phrase_at (following (Term (apply_sign sign value) column (at line (Name column))) tokens) (at line (Name column)) tokens ∙ h column refl
+number-says context following sign value named lone line (Opens word) tokens h k = follow-passing_none phrase_at (following (Lone _ (at line (Opens word))) (at line (Opens word) ∷ tokens)) (at line (Opens word) ∷ tokens) ∙ k
+number-says context following sign value named lone line (Number other) tokens h k = follow-passing_none phrase_at (following (Lone _ (at line (Number other))) (at line (Number other) ∷ tokens)) (at line (Number other) ∷ tokens) ∙ k
+number-says context following sign value named lone line (Sign other) tokens h k = follow-passing_none phrase_at (following (Lone _ (at line (Sign other))) (at line (Sign other) ∷ tokens)) (at line (Sign other) ∷ tokens) ∙ k
+number-says context following sign value named lone line (Compares relation) tokens h k = follow-passing_none phrase_at (following (Lone _ (at line (Compares relation))) (at line (Compares relation) ∷ tokens)) (at line (Compares relation) ∷ tokens) ∙ k
+number-says context following sign value named lone line Colon tokens h k = follow-passing_none phrase_at (following (Lone _ (at line Colon)) (at line Colon ∷ tokens)) (at line Colon ∷ tokens) ∙ k
+number-says context following sign value named lone line Infinity tokens h k = follow-passing_none phrase_at (following (Lone _ (at line Infinity)) (at line Infinity ∷ tokens)) (at line Infinity ∷ tokens) ∙ k
+number-says context following sign value named lone line Free tokens h k = follow-passing_none phrase_at (following (Lone _ (at line Free)) (at line Free ∷ tokens)) (at line Free ∷ tokens) ∙ k
+number-says context following sign value named lone line Other tokens h k = follow-passing_none phrase_at (following (Lone _ (at line Other)) (at line Other ∷ tokens)) (at line Other ∷ tokens) ∙ k
 
 -- a number of an item
-item_number-says : (context : Context) (owner : ItemOwner) (minus : Bool) (value : Decimal) (line : ℕ) (terminal : Terminal) (tokens : Tokens)
-    → resume phrase_at (number_item minus value >>= item_read context owner) (at line terminal ∷ tokens) ≡ says_after line (take context (ItemNumber owner minus value) terminal) tokens
-item_number-says context owner minus value line terminal tokens =
-    number-says context (item_read context owner) minus value (λ column. take_term context owner column (apply_sign minus value) terminal) (take_lone context owner (apply_sign minus value) terminal) line terminal tokens
-    (λ column is. term-says context owner column (apply_sign minus value) line (Name column) tokens
-    ∙ ap (λ (t : Terminal). says_after line (take_term context owner column (apply_sign minus value) t) tokens) (sym is))
-    (lone-says context owner (apply_sign minus value) line terminal tokens)
+item_number-says : (context : Context) (owner : ItemOwner) (sign : SignOf) (value : Decimal) (line : ℕ) (terminal : Terminal) (tokens : Tokens)
+    → resume phrase_at (number_item sign value >>= item_read context owner) (at line terminal ∷ tokens) ≡ says_after line (take context (ItemNumber owner sign value) terminal) tokens
+item_number-says context owner sign value line terminal tokens =
+    number-says context (item_read context owner) sign value (λ column. take_term context owner column (apply_sign sign value) terminal) (take_lone context owner (apply_sign sign value) terminal) line terminal tokens
+    (λ column is. term-says context owner column (apply_sign sign value) line (Name column) tokens
+    ∙ ap (λ (t : Terminal). says_after line (take_term context owner column (apply_sign sign value) t) tokens) (sym is))
+    (lone-says context owner (apply_sign sign value) line terminal tokens)
 
 -- the first number of a row
-row_number-says : (context : Context) (name : List ℕ) (minus : Bool) (value : Decimal) (line : ℕ) (terminal : Terminal) (tokens : Tokens)
-    → resume phrase_at (number_item minus value >>= row_number context name) (at line terminal ∷ tokens) ≡ says_after line (take context (RowNumber name minus value) terminal) tokens
-row_number-says context name minus value line (Name column) tokens =
-    follow-passing_one phrase_at (row_number context name (Term (apply_sign minus value) column (at line (Name column))) tokens) (at line (Name column)) tokens
-    ∙ term-says context (OfRow (without_terms name None)) column (apply_sign minus value) line (Name column) tokens
-row_number-says context name minus value line (Compares relation) tokens =
-    follow-passing_none phrase_at (row_number context name (Lone (apply_sign minus value) (at line (Compares relation))) (at line (Compares relation) ∷ tokens)) (at line (Compares relation) ∷ tokens)
-    ∙ sense-says context (λ r. next >>= row_first context (without_terms name (Some (limit_of (apply_sign minus value), r))))
-    (λ r. Goes context (RowLeftRelation (without_terms name (Some (limit_of (apply_sign minus value), r))))) line (Compares relation) tokens (λ r. refl)
-row_number-says context name minus value line _ tokens = refl
+row_number-says : (context : Context) (name : List ℕ) (sign : SignOf) (value : Decimal) (line : ℕ) (terminal : Terminal) (tokens : Tokens)
+    → resume phrase_at (number_item sign value >>= row_number context name) (at line terminal ∷ tokens) ≡ says_after line (take context (RowNumber name sign value) terminal) tokens
+row_number-says context name sign value line (Name column) tokens =
+    follow-passing_one phrase_at (row_number context name (Term (apply_sign sign value) column (at line (Name column))) tokens) (at line (Name column)) tokens
+    ∙ term-says context (OfRow (without_terms name None)) column (apply_sign sign value) line (Name column) tokens
+row_number-says context name sign value line (Compares relation) tokens =
+    follow-passing_none phrase_at (row_number context name (Lone (apply_sign sign value) (at line (Compares relation))) (at line (Compares relation) ∷ tokens)) (at line (Compares relation) ∷ tokens)
+    ∙ sense-says context (λ r. next >>= row_first context (without_terms name (Some (limit_of (apply_sign sign value), r))))
+    (λ r. Goes context (RowLeftRelation (without_terms name (Some (limit_of (apply_sign sign value), r))))) line (Compares relation) tokens (λ r. refl)
+row_number-says context name sign value line _ tokens = refl
 
 -- the token after the first sign of a row
-row_sign-says : (context : Context) (name : List ℕ) (minus : Bool) (line : ℕ) (terminal : Terminal) (tokens : Tokens)
-    → resume phrase_at (row_signed context name minus (at line terminal)) (at line terminal ∷ tokens) ≡ says_after line (take context (RowSign name minus) terminal) tokens
-row_sign-says context name minus line Infinity tokens = resume-next phrase_at (λ word. row_after_left context name (infinity minus)) (at line Infinity) tokens
-row_sign-says context name minus line (Number value) tokens = resume-next phrase_at (λ number. number_item minus value >>= row_number context name) (at line (Number value)) tokens
-row_sign-says context name minus line (Name column) tokens = signs-say context (OfRow (without_terms name None)) minus line (Name column) tokens
-row_sign-says context name minus line (Sign more) tokens = signs-say context (OfRow (without_terms name None)) minus line (Sign more) tokens
-row_sign-says context name minus line _ tokens = refl
+row_sign-says : (context : Context) (name : List ℕ) (sign : SignOf) (line : ℕ) (terminal : Terminal) (tokens : Tokens)
+    → resume phrase_at (row_signed context name sign (at line terminal)) (at line terminal ∷ tokens) ≡ says_after line (take context (RowSign name sign) terminal) tokens
+row_sign-says context name sign line Infinity tokens = resume-next phrase_at (λ word. row_after_left context name (infinity sign)) (at line Infinity) tokens
+row_sign-says context name sign line (Number value) tokens = resume-next phrase_at (λ number. number_item sign value >>= row_number context name) (at line (Number value)) tokens
+row_sign-says context name sign line (Name column) tokens = signs-say context (OfRow (without_terms name None)) sign line (Name column) tokens
+row_sign-says context name sign line (Sign more) tokens = signs-say context (OfRow (without_terms name None)) sign line (Sign more) tokens
+row_sign-says context name sign line _ tokens = refl
 
 bound_name-says : (context : Context) (column : List ℕ) (line : ℕ) (terminal : Terminal) (tokens : Tokens)
     → resume phrase_at (bound_after context column (at line terminal)) tokens ≡ says_after line (take context (BoundName column) terminal) tokens
@@ -408,22 +410,22 @@ take-says context (ObjectiveName goal name) line terminal tokens =
     resume-ahead phrase_at (objective_named context goal name) (at line terminal) tokens ∙ objective_name-says context goal name line terminal tokens
 take-says context (AtLastWord wanted) line terminal tokens = resume-next phrase_at (last_word context wanted) (at line terminal) tokens ∙ last_word-says context wanted line terminal tokens
 take-says context AtSemi line terminal tokens = resume-ahead phrase_at (semi_from context) (at line terminal) tokens ∙ semi-says context line terminal tokens
-take-says context (Signs owner minus) line terminal tokens = signs-say context owner minus line terminal tokens
-take-says context (ItemNumber owner minus value) line terminal tokens = item_number-says context owner minus value line terminal tokens
+take-says context (Signs owner sign) line terminal tokens = signs-say context owner sign line terminal tokens
+take-says context (ItemNumber owner sign value) line terminal tokens = item_number-says context owner sign value line terminal tokens
 take-says context (RowName name) line terminal tokens =
     let row : PartialRow = record { name = default_row context; left = None; terms = (name, one) ∷ [] } in
     colon-says (row_named context name) (Goes context (RowLabel name)) (begin (InRow row) (with_made context []) terminal) line terminal tokens refl
     (begun-says (InRow row) (with_made context []) line terminal tokens)
 take-says context (RowLabel name) line terminal tokens = resume-next phrase_at (row_from context name) (at line terminal) tokens ∙ begun_row-says context name line terminal tokens
-take-says context (RowSign name minus) line terminal tokens = resume-ahead phrase_at (row_signed context name minus) (at line terminal) tokens ∙ row_sign-says context name minus line terminal tokens
-take-says context (RowNumber name minus value) line terminal tokens = row_number-says context name minus value line terminal tokens
+take-says context (RowSign name sign) line terminal tokens = resume-ahead phrase_at (row_signed context name sign) (at line terminal) tokens ∙ row_sign-says context name sign line terminal tokens
+take-says context (RowNumber name sign value) line terminal tokens = row_number-says context name sign value line terminal tokens
 take-says context (RowLeft name limit) line terminal tokens =
     sense-says context (λ r. next >>= row_first context (without_terms name (Some (limit, r)))) (λ r. Goes context (RowLeftRelation (without_terms name (Some (limit, r))))) line terminal tokens (λ r. refl)
 take-says context (RowLeftRelation row) line terminal tokens = resume-next phrase_at (row_first context row) (at line terminal) tokens ∙ begun_item-says context (OfRow row) line terminal tokens
 take-says context (BoundName column) line terminal tokens = resume-next phrase_at (bound_after context column) (at line terminal) tokens ∙ bound_name-says context column line terminal tokens
-take-says context (BoundSign minus) line terminal tokens =
-    follow-one_more phrase_at (unsigned_side context minus (at line terminal) tokens) (bound_left context) (at line terminal) tokens
-    ∙ limit-says context (bound_left context) (λ limit. Goes context (BoundLeft limit)) minus line terminal tokens (λ limit. refl)
+take-says context (BoundSign sign) line terminal tokens =
+    follow-one_more phrase_at (unsigned_side context sign (at line terminal) tokens) (bound_left context) (at line terminal) tokens
+    ∙ limit-says context (bound_left context) (λ limit. Goes context (BoundLeft limit)) sign line terminal tokens (λ limit. refl)
 take-says context (BoundLeft limit) line terminal tokens =
     sense-says context (λ r. next >>= bound_column context limit r) (λ r. Goes context (BoundLeftRelation limit r)) line terminal tokens (λ r. refl)
 take-says context (BoundLeftRelation limit relation) line terminal tokens =
@@ -432,10 +434,10 @@ take-says context (AtSide sided) line terminal tokens =
     ap (λ (rule : PhraseRule Follows). resume phrase_at rule (at line terminal ∷ tokens)) (side_read-is context sided)
     ∙ follow-one_more phrase_at (side_from context (at line terminal) tokens) (sided_read context sided) (at line terminal) tokens
     ∙ begun_side-says context sided line terminal tokens
-take-says context (SideSign sided minus) line terminal tokens =
-    ap (λ (rule : PhraseRule Follows). resume phrase_at rule (at line terminal ∷ tokens)) (signed_side_read-is context sided minus)
-    ∙ follow-one_more phrase_at (unsigned_side context minus (at line terminal) tokens) (sided_read context sided) (at line terminal) tokens
-    ∙ limit-says context (sided_read context sided) (λ limit. take_side context sided limit terminal) minus line terminal tokens
+take-says context (SideSign sided sign) line terminal tokens =
+    ap (λ (rule : PhraseRule Follows). resume phrase_at rule (at line terminal ∷ tokens)) (signed_side_read-is context sided sign)
+    ∙ follow-one_more phrase_at (unsigned_side context sign (at line terminal) tokens) (sided_read context sided) (at line terminal) tokens
+    ∙ limit-says context (sided_read context sided) (λ limit. take_side context sided limit terminal) sign line terminal tokens
     (λ limit. sided-says context sided limit line terminal tokens)
 take-says context AfterEnd line terminal tokens = end-says context line terminal tokens
 
@@ -446,21 +448,21 @@ nothing-says line context (AtObjective goal) = refl
 nothing-says line context (ObjectiveName goal name) = refl
 nothing-says line context (AtLastWord wanted) = refl
 nothing-says line context AtSemi = refl
-nothing-says line context (Signs (OfObjective name) minus) = refl
-nothing-says line context (Signs (OfRow row) minus) = refl
-nothing-says line context (ItemNumber owner minus value) = refl
+nothing-says line context (Signs (OfObjective name) sign) = refl
+nothing-says line context (Signs (OfRow row) sign) = refl
+nothing-says line context (ItemNumber owner sign value) = refl
 nothing-says line context (RowName name) = refl
 nothing-says line context (RowLabel name) = refl
-nothing-says line context (RowSign name minus) = refl
-nothing-says line context (RowNumber name minus value) = refl
+nothing-says line context (RowSign name sign) = refl
+nothing-says line context (RowNumber name sign value) = refl
 nothing-says line context (RowLeft name limit) = refl
 nothing-says line context (RowLeftRelation row) = refl
 nothing-says line context (BoundName column) = refl
-nothing-says line context (BoundSign minus) = refl
+nothing-says line context (BoundSign sign) = refl
 nothing-says line context (BoundLeft limit) = refl
 nothing-says line context (BoundLeftRelation limit relation) = refl
 nothing-says line context (AtSide (SideOfRow row relation)) = refl
 nothing-says line context (AtSide (SideOfBound is_new column relation)) = refl
-nothing-says line context (SideSign (SideOfRow row relation) minus) = refl
-nothing-says line context (SideSign (SideOfBound is_new column relation) minus) = refl
+nothing-says line context (SideSign (SideOfRow row relation) sign) = refl
+nothing-says line context (SideSign (SideOfBound is_new column relation) sign) = refl
 nothing-says line context AfterEnd = refl

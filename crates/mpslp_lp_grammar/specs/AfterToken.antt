@@ -1,5 +1,5 @@
 -- What one token does: the declarations that it completes, and the tokens of items and sides.
-use Rattle.std.specs.Prelude.{ℕ, Bool, false, if◌then◌else◌, List, [], ◌∷◌, ◌++◌, None, unwrap_or}
+use Rattle.std.specs.Prelude.{ℕ, if◌then◌else◌, List, [], ◌∷◌, ◌++◌, None, unwrap_or}
 use Rattle.std.specs.List.{list_any}
 use Rattle.mpslp_decimal.specs.Decimal.{Number as Decimal}
 use Rattle.mpslp_types.specs.Name.{same_bytes}
@@ -10,6 +10,8 @@ use Rattle.mpslp_types.specs.declared.kinds.Limit.{Limit}
 use Rattle.mpslp_types.specs.declared.faults.BuildFault.{BuildFault}
 use Rattle.mpslp_types.specs.declared.faults.FaultKind.{FaultKind}
 use Rattle.mpslp_types.specs.declared.faults.FaultKind.TheVariants.{BadToken, DuplicateEntry}
+use Rattle.mpslp_lp_grammar.specs.declared.signs.Sign.{Sign as SignOf}
+use Rattle.mpslp_lp_grammar.specs.declared.signs.Sign.TheVariants.{Plus}
 use Rattle.mpslp_lp_grammar.specs.Terminal.{Terminal}
 use Rattle.mpslp_lines.specs.Declaring.{kind_of_build_fault}
 use Rattle.mpslp_lp_grammar.specs.declared.context.Context.{Context}
@@ -63,20 +65,20 @@ take_term context (OfRow row) column value terminal =
     else Goes (with_made context []) (Between (InRow (record row { terms = row.terms ++ (column, value) ∷ [] })))
 
 -- a token of an item after its first sign
-abbrev pub take_after_signs : Context → ItemOwner → Bool → Terminal → AfterToken
-take_after_signs context owner minus terminal = elim terminal as (λ _. AfterToken) [
-  | Terminal.Sign more ↦ Goes context (Signs owner (product minus more))
-  | Terminal.Name column ↦ take_term context owner column (apply_sign minus one) terminal
-  | Terminal.Number value ↦ Goes context (ItemNumber owner minus value)
+abbrev pub take_after_signs : Context → ItemOwner → SignOf → Terminal → AfterToken
+take_after_signs context owner sign terminal = elim terminal as (λ _. AfterToken) [
+  | Terminal.Sign more ↦ Goes context (Signs owner (product sign more))
+  | Terminal.Name column ↦ take_term context owner column (apply_sign sign one) terminal
+  | Terminal.Number value ↦ Goes context (ItemNumber owner sign value)
   | _ ↦ refuse context terminal BadToken
 ]
 
 -- the first token of an item that may have no sign
 abbrev pub begin_item : Context → ItemOwner → Terminal → AfterToken
 begin_item context owner terminal = elim terminal as (λ _. AfterToken) [
-  | Terminal.Sign minus ↦ Goes context (Signs owner minus)
+  | Terminal.Sign sign ↦ Goes context (Signs owner sign)
   | Terminal.Name column ↦ take_term context owner column one terminal
-  | Terminal.Number value ↦ Goes context (ItemNumber owner false value)
+  | Terminal.Number value ↦ Goes context (ItemNumber owner Plus value)
   | _ ↦ refuse context terminal BadToken
 ]
 
@@ -93,9 +95,9 @@ take_side context (SideOfBound is_new column relation) limit terminal =
     take_bound context (new_column is_new column) column (limits_by relation limit) terminal (InBounds None)
 
 -- a number or infinity, after the sign
-abbrev pub take_limit : (Limit → AfterToken) → Context → Bool → Terminal → AfterToken
-take_limit goes context minus terminal = elim terminal as (λ _. AfterToken) [
-  | Terminal.Number value ↦ goes (limit_of (apply_sign minus value))
-  | Terminal.Infinity ↦ goes (infinity minus)
+abbrev pub take_limit : (Limit → AfterToken) → Context → SignOf → Terminal → AfterToken
+take_limit goes context sign terminal = elim terminal as (λ _. AfterToken) [
+  | Terminal.Number value ↦ goes (limit_of (apply_sign sign value))
+  | Terminal.Infinity ↦ goes (infinity sign)
   | _ ↦ refuse context terminal BadToken
 ]

@@ -5,6 +5,7 @@ use Rattle.mpslp_types.specs.declared.kinds.Limit.TheVariants.{PlusInf}
 use Rattle.mpslp_types.specs.declared.kinds.Sense.TheVariants as senses
 use Rattle.mpslp_types.specs.declared.faults.FaultKind.TheVariants.{BadToken, MixedSenses}
 use Rattle.mpslp_lp_tokens.specs.Words.{section_of}
+use Rattle.mpslp_lp_grammar.specs.declared.signs.Sign.TheVariants.{Plus}
 use Rattle.mpslp_lp_grammar.specs.Terminal.{Terminal}
 use Rattle.mpslp_lp_grammar.specs.Point.{section_fault, with_section}
 use Rattle.mpslp_lp_grammar.specs.declared.context.Context.{Context}
@@ -49,17 +50,17 @@ open_section context word = elim (section_fault context.sections_seen (section_o
 abbrev pub begin_row : Context → List ℕ → Terminal → AfterToken
 begin_row context name terminal = elim terminal as (λ _. AfterToken) [
   | Terminal.Infinity ↦ Goes context (RowLeft name PlusInf)
-  | Terminal.Number value ↦ Goes context (RowNumber name false value)
+  | Terminal.Number value ↦ Goes context (RowNumber name Plus value)
   | Terminal.Name column ↦ take_term context (OfRow (without_terms name None)) column one terminal
-  | Terminal.Sign minus ↦ Goes context (RowSign name minus)
+  | Terminal.Sign sign ↦ Goes context (RowSign name sign)
   | _ ↦ refuse context terminal BadToken
 ]
 
 abbrev pub begin_bound : Context → Terminal → AfterToken
 begin_bound context terminal = elim terminal as (λ _. AfterToken) [
   | Terminal.Name column ↦ Goes context (BoundName column)
-  | Terminal.Sign minus ↦ Goes context (BoundSign minus)
-  | _ ↦ take_limit (λ limit. Goes context (BoundLeft limit)) context false terminal
+  | Terminal.Sign sign ↦ Goes context (BoundSign sign)
+  | _ ↦ take_limit (λ limit. Goes context (BoundLeft limit)) context Plus terminal
 ]
 
 abbrev pub take_second_relation : Context → Option (List ℕ × Relation) → Relation → Terminal → AfterToken
@@ -77,7 +78,7 @@ abbrev pub begin_phrase : Place → Context → Terminal → AfterToken
 begin_phrase AtStart context terminal = refuse context terminal BadToken
 begin_phrase (BeforeItems name) context terminal = begin_item context (OfObjective name) terminal
 begin_phrase (InObjective name) context terminal = elim terminal as (λ _. AfterToken) [
-  | Terminal.Sign minus ↦ Goes context (Signs (OfObjective name) minus)
+  | Terminal.Sign sign ↦ Goes context (Signs (OfObjective name) sign)
   | _ ↦ refuse context terminal BadToken
 ]
 begin_phrase BetweenRows context terminal = elim terminal as (λ _. AfterToken) [
@@ -85,7 +86,7 @@ begin_phrase BetweenRows context terminal = elim terminal as (λ _. AfterToken) 
   | _ ↦ begin_row context (default_row context) terminal
 ]
 begin_phrase (InRow row) context terminal = elim terminal as (λ _. AfterToken) [
-  | Terminal.Sign minus ↦ Goes context (Signs (OfRow row) minus)
+  | Terminal.Sign sign ↦ Goes context (Signs (OfRow row) sign)
   | Terminal.Compares relation ↦ if fits_left row.left relation then Goes context (AtSide (SideOfRow row relation)) else refuse context terminal MixedSenses
   | _ ↦ refuse context terminal BadToken
 ]

@@ -5,6 +5,7 @@ use Rattle.mpslp_builder.specs.Declaration.{Declaration, declare_column, declare
 use Rattle.mpslp_types.specs.declared.kinds.Sense.TheVariants as senses
 use Rattle.mpslp_types.specs.declared.faults.Fault.{Fault}
 use Rattle.mpslp_types.specs.declared.faults.FaultKind.TheVariants.{BadToken}
+use Rattle.mpslp_lp_grammar.specs.declared.signs.Sign.TheVariants.{Plus, Minus}
 use Rattle.mpslp_lp_grammar.specs.Rules.{◌>>=◌, next, ahead, Outcome, phrases, made_by}
 use Rattle.mpslp_lp_grammar.specs.Rules.Parsed.{Reads}
 use Rattle.mpslp_lp_grammar.specs.Rules.AfterPhrase.{Ends}
@@ -56,7 +57,8 @@ last_word context wanted token = elim token.terminal [
 -- after `semi`: optionally `- continuous`
 abbrev pub semi_from : Context → TerminalAt → PhraseRule Follows
 semi_from context token = elim token.terminal [
-  | Sign minus ↦ if minus then (next >>= λ dash. next >>= last_word context Continuous) else goes_to context InSemis []
+  | Sign Plus ↦ goes_to context InSemis []
+  | Sign Minus ↦ next >>= λ dash. next >>= last_word context Continuous
   | _ ↦ goes_to context InSemis []
 ]
 
@@ -100,12 +102,12 @@ abbrev pub phrase : Place → Context → TerminalAt → PhraseRule Follows
 phrase AtStart context token = refuses context token BadToken
 phrase (BeforeItems name) context token = item_from context token >>= objective_item context name
 phrase (InObjective name) context token = elim token.terminal [
-  | Sign minus ↦ signed_item context minus >>= objective_item context name
+  | Sign sign ↦ signed_item context sign >>= objective_item context name
   | _ ↦ refuses context token BadToken
 ]
 phrase BetweenRows context token = row context token
 phrase (InRow partial) context token = elim token.terminal [
-  | Sign minus ↦ signed_item context minus >>= row_item context partial
+  | Sign sign ↦ signed_item context sign >>= row_item context partial
   | Compares relation ↦ row_end context partial relation token
   | _ ↦ refuses context token BadToken
 ]

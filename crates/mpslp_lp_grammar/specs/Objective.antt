@@ -21,7 +21,7 @@ term_declared row term = declare_column term.0 ∷ declare_coefficient (record {
 abbrev pub objective_item : Context → List ℕ → Item → PhraseRule Follows
 objective_item context name (Term value column token) = declares context token (InObjective name) (term_declared name (column, value))
 objective_item context name (Lone value token) = elim token.terminal [
-  | Sign minus ↦ constant
+  | Sign sign ↦ constant
   | Opens word ↦ constant
   | _ ↦ refuses context token BadToken
 ]

@@ -8,6 +8,8 @@ use Rattle.mpslp_builder.specs.Declaration.{by_limits, declare_row, Declarations
 use Rattle.mpslp_types.specs.declared.kinds.Limit.{Limit}
 use Rattle.mpslp_types.specs.declared.kinds.Limit.TheVariants.{MinusInf, PlusInf}
 use Rattle.mpslp_types.specs.declared.faults.FaultKind.TheVariants.{BadToken, DuplicateEntry, ConstantInRow, MixedSenses}
+use Rattle.mpslp_lp_grammar.specs.declared.signs.Sign.{Sign as SignOf}
+use Rattle.mpslp_lp_grammar.specs.declared.signs.Sign.TheVariants.{Plus}
 use Rattle.mpslp_lp_grammar.specs.Rules.{◌>>=◌, next, ahead}
 use Rattle.mpslp_lp_grammar.specs.Terminal.{TerminalAt}
 use Rattle.mpslp_lp_grammar.specs.Terminal.Terminal.{Name, Number, Sign, Compares, Infinity}
@@ -40,7 +42,7 @@ row_item context row (Term value column token) =
     if list_any (λ term. same_bytes column term.0) row.terms then refuses context token DuplicateEntry
     else goes_to context (InRow (record row { terms = row.terms ++ (column, value) ∷ [] })) []
 row_item context row (Lone value token) = elim token.terminal [
-  | Sign minus ↦ refuses context token ConstantInRow
+  | Sign sign ↦ refuses context token ConstantInRow
   | Compares relation ↦ refuses context token ConstantInRow
   | _ ↦ refuses context token BadToken
 ]
@@ -64,20 +66,20 @@ row_number context name (Lone value token) = elim token.terminal [
 ]
 
 -- after the first sign of a row; the token after it is this one, which is not taken
-abbrev pub row_signed : Context → List ℕ → (minus : Bool) → TerminalAt → PhraseRule Follows
-row_signed context name minus second = elim second.terminal [
-  | Infinity ↦ next >>= λ word. row_after_left context name (infinity minus)
-  | Number value ↦ next >>= λ number. number_item minus value >>= row_number context name
-  | _ ↦ signed_item context minus >>= row_item context (without_terms name None)
+abbrev pub row_signed : Context → List ℕ → (sign : SignOf) → TerminalAt → PhraseRule Follows
+row_signed context name sign second = elim second.terminal [
+  | Infinity ↦ next >>= λ word. row_after_left context name (infinity sign)
+  | Number value ↦ next >>= λ number. number_item sign value >>= row_number context name
+  | _ ↦ signed_item context sign >>= row_item context (without_terms name None)
 ]
 
 -- after the label, from this token on: a left-hand side, or the first term
 abbrev pub row_from : Context → List ℕ → TerminalAt → PhraseRule Follows
 row_from context name token = elim token.terminal [
   | Infinity ↦ row_after_left context name PlusInf
-  | Number value ↦ number_item false value >>= row_number context name
+  | Number value ↦ number_item Plus value >>= row_number context name
   | Name column ↦ row_item context (without_terms name None) (Term one column token)
-  | Sign minus ↦ ahead >>= row_signed context name minus
+  | Sign sign ↦ ahead >>= row_signed context name sign
   | _ ↦ refuses context token BadToken
 ]
 

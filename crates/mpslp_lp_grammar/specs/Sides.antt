@@ -5,6 +5,8 @@ use Rattle.mpslp_types.specs.Limit.{limit_of}
 use Rattle.mpslp_types.specs.declared.kinds.Limit.{Limit}
 use Rattle.mpslp_types.specs.declared.kinds.Limit.TheVariants.{MinusInf, PlusInf}
 use Rattle.mpslp_types.specs.declared.faults.FaultKind.TheVariants.{BadToken}
+use Rattle.mpslp_lp_grammar.specs.declared.signs.Sign.{Sign as SignOf}
+use Rattle.mpslp_lp_grammar.specs.declared.signs.Sign.TheVariants.{Plus, Minus}
 use Rattle.mpslp_lp_grammar.specs.Rules.{◌>>=◌, gives, next}
 use Rattle.mpslp_lp_grammar.specs.Terminal.{TerminalAt}
 use Rattle.mpslp_lp_grammar.specs.Terminal.Terminal.{Number, Sign, Compares, Infinity}
@@ -18,24 +20,26 @@ pub record Side : Type 0 where
   pub limit : Limit
   pub last : TerminalAt
 
-abbrev pub apply_sign : Bool → Decimal → Decimal
-apply_sign minus value = if minus then negated value else value
+abbrev pub apply_sign : SignOf → Decimal → Decimal
+apply_sign Plus value = value
+apply_sign Minus value = negated value
 
-abbrev pub infinity : Bool → Limit
-infinity minus = if minus then MinusInf else PlusInf
+abbrev pub infinity : SignOf → Limit
+infinity Plus = PlusInf
+infinity Minus = MinusInf
 
-abbrev pub unsigned_side : Context → (minus : Bool) → TerminalAt → PhraseRule Side
-unsigned_side context minus token = elim token.terminal [
-  | Number value ↦ gives (record { limit = limit_of (apply_sign minus value); last = token })
-  | Infinity ↦ gives (record { limit = infinity minus; last = token })
+abbrev pub unsigned_side : Context → (sign : SignOf) → TerminalAt → PhraseRule Side
+unsigned_side context sign token = elim token.terminal [
+  | Number value ↦ gives (record { limit = limit_of (apply_sign sign value); last = token })
+  | Infinity ↦ gives (record { limit = infinity sign; last = token })
   | _ ↦ refuses context token BadToken
 ]
 
 -- a side that begins with this token
 abbrev pub side_from : Context → TerminalAt → PhraseRule Side
 side_from context token = elim token.terminal [
-  | Sign minus ↦ next >>= λ second. unsigned_side context minus second
-  | _ ↦ unsigned_side context false token
+  | Sign sign ↦ next >>= λ second. unsigned_side context sign second
+  | _ ↦ unsigned_side context Plus token
 ]
 
 abbrev pub side : Context → PhraseRule Side

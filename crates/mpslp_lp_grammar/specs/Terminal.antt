@@ -1,9 +1,11 @@
 -- What the grammar of LP text sees of a token.
-use Rattle.std.specs.Prelude.{ℕ, Bool, true, false, List, map}
+use Rattle.std.specs.Prelude.{ℕ, List, map}
 use Rattle.mpslp_decimal.specs.Decimal.{Number as Decimal}
 use Rattle.mpslp_lines.specs.Field.{value_of}
 use Rattle.mpslp_lp_tokens.specs.Token.{Token, tokens}
 use Rattle.mpslp_lp_tokens.specs.Words.{class_of}
+use Rattle.mpslp_lp_grammar.specs.declared.signs.Sign.{Sign as SignOf}
+use Rattle.mpslp_lp_grammar.specs.declared.signs.Sign.TheVariants.{Plus, Minus}
 use Rattle.mpslp_lp_grammar.specs.declared.relations.Relation.{Relation}
 use Rattle.mpslp_lp_grammar.specs.declared.relations.Relation.TheVariants.{AtMost, AtLeast, EqualTo}
 use Rattle.mpslp_lp_tokens.specs.declared.tokens.TokenKind.{TokenKind}
@@ -16,7 +18,7 @@ pub data Terminal : Type 0 where
   Opens : SectionWord → Terminal
   Name : List ℕ → Terminal
   Number : Decimal → Terminal
-  Sign : (minus : Bool) → Terminal
+  Sign : (sign : SignOf) → Terminal
   Compares : Relation → Terminal
   Colon : Terminal
   Infinity : Terminal
@@ -38,8 +40,8 @@ terminal_of kinds.Less text = Compares AtMost
 terminal_of kinds.Greater text = Compares AtLeast
 terminal_of kinds.Equal text = Compares EqualTo
 terminal_of kinds.Colon text = Colon
-terminal_of kinds.Plus text = Sign false
-terminal_of kinds.Minus text = Sign true
+terminal_of kinds.Plus text = Sign Plus
+terminal_of kinds.Minus text = Sign Minus
 terminal_of _ text = Other
 
 abbrev pub as_terminal : Token → Terminal

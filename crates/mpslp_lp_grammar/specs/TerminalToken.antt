@@ -1,8 +1,9 @@
 -- What the code sees of a token: a terminal, or the lexical error of the token.
-use Rattle.std.specs.Prelude.{◌≡◌, ℕ, Bool, List, Option, None, Some, Result, MatchResult}
+use Rattle.std.specs.Prelude.{◌≡◌, ℕ, List, Option, None, Some, Result, MatchResult}
 use Rattle.mpslp_types.specs.Name.{IsMpsName}
 use Rattle.mpslp_types.specs.Limit.{limit_of}
 use Rattle.mpslp_types.specs.declared.kinds.Limit.{Limit}
+use Rattle.mpslp_lp_grammar.specs.declared.signs.Sign.{Sign as SignOf}
 use Rattle.mpslp_lp_grammar.specs.Sides.{apply_sign, infinity}
 use Rattle.mpslp_types.specs.declared.faults.FaultKind.{FaultKind}
 use Rattle.mpslp_lines.specs.Field.{value_of, number_fault}
@@ -19,7 +20,7 @@ abbrev pub terminal_with_text : TerminalKind → List ℕ → Terminal
 terminal_with_text (Opens word) text = Terminal.Opens word
 terminal_with_text Name text = Terminal.Name text
 terminal_with_text (Number value) text = Terminal.Number value
-terminal_with_text (Sign minus) text = Terminal.Sign minus
+terminal_with_text (Sign sign) text = Terminal.Sign sign
 terminal_with_text (Compares relation) text = Terminal.Compares relation
 terminal_with_text Colon text = Terminal.Colon
 terminal_with_text Infinity text = Terminal.Infinity
@@ -38,10 +39,10 @@ abbrev pub HasLegalName : TerminalToken → Type 0
 HasLegalName token = HasLegalNameKind token.kind token.text.now
 
 -- the limit that a number or an infinity gives after the signs
-abbrev pub limit_of_terminal : (minus : Bool) → Terminal → Option Limit
-limit_of_terminal minus (Terminal.Number value) = Some (limit_of (apply_sign minus value))
-limit_of_terminal minus Terminal.Infinity = Some (infinity minus)
-limit_of_terminal minus _ = None
+abbrev pub limit_of_terminal : (sign : SignOf) → Terminal → Option Limit
+limit_of_terminal sign (Terminal.Number value) = Some (limit_of (apply_sign sign value))
+limit_of_terminal sign Terminal.Infinity = Some (infinity sign)
+limit_of_terminal sign _ = None
 
 abbrev pub IsTerminalOfWord : List ℕ → Result TerminalKind FaultKind → Type 0
 IsTerminalOfWord text answer =

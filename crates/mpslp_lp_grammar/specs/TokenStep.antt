@@ -6,6 +6,7 @@ use Rattle.mpslp_builder.specs.Declaration.{declare_column, declare_constant, De
 use Rattle.mpslp_builder.specs.Refusal.{refusals_in_turn}
 use Rattle.mpslp_types.specs.declared.faults.Fault.{Fault}
 use Rattle.mpslp_types.specs.declared.faults.FaultKind.TheVariants.{BadToken, ConstantInRow}
+use Rattle.mpslp_lp_grammar.specs.declared.signs.Sign.TheVariants.{Plus, Minus}
 use Rattle.mpslp_lp_grammar.specs.declared.states.Place.{Place}
 use Rattle.mpslp_lp_grammar.specs.Rules.{Outcome}
 use Rattle.mpslp_lp_grammar.specs.Rules.Outcome.{Finished, Refused, Open}
@@ -40,7 +41,7 @@ begin_after context made place terminal =
 -- a number in a row that no name follows
 abbrev pub refuse_constant : Context → Terminal → AfterToken
 refuse_constant context terminal = elim terminal as (λ _. AfterToken) [
-  | Terminal.Sign minus ↦ refuse context terminal ConstantInRow
+  | Terminal.Sign sign ↦ refuse context terminal ConstantInRow
   | Terminal.Compares relation ↦ refuse context terminal ConstantInRow
   | _ ↦ refuse context terminal BadToken
 ]
@@ -48,7 +49,7 @@ refuse_constant context terminal = elim terminal as (λ _. AfterToken) [
 -- a number that no name follows
 abbrev pub take_lone : Context → ItemOwner → Decimal → Terminal → AfterToken
 take_lone context (OfObjective name) value terminal = elim terminal as (λ _. AfterToken) [
-  | Terminal.Sign minus ↦ begin_after context (declare_constant value ∷ []) (InObjective name) terminal
+  | Terminal.Sign sign ↦ begin_after context (declare_constant value ∷ []) (InObjective name) terminal
   | Terminal.Opens word ↦ begin_after context (declare_constant value ∷ []) (InObjective name) terminal
   | _ ↦ refuse context terminal BadToken
 ]
@@ -69,28 +70,29 @@ take context (AtLastWord wanted) terminal = elim terminal as (λ _. AfterToken) 
   | _ ↦ refuse context terminal BadToken
 ]
 take context AtSemi terminal = elim terminal as (λ _. AfterToken) [
-  | Terminal.Sign minus ↦ if minus then Goes context (AtLastWord Continuous) else begin InSemis (with_made context []) terminal
+  | Terminal.Sign Plus ↦ begin InSemis (with_made context []) terminal
+  | Terminal.Sign Minus ↦ Goes context (AtLastWord Continuous)
   | _ ↦ begin InSemis (with_made context []) terminal
 ]
-take context (Signs owner minus) terminal = take_after_signs context owner minus terminal
-take context (ItemNumber owner minus value) terminal = elim terminal as (λ _. AfterToken) [
-  | Terminal.Name column ↦ take_term context owner column (apply_sign minus value) terminal
-  | _ ↦ take_lone context owner (apply_sign minus value) terminal
+take context (Signs owner sign) terminal = take_after_signs context owner sign terminal
+take context (ItemNumber owner sign value) terminal = elim terminal as (λ _. AfterToken) [
+  | Terminal.Name column ↦ take_term context owner column (apply_sign sign value) terminal
+  | _ ↦ take_lone context owner (apply_sign sign value) terminal
 ]
 take context (RowName name) terminal = elim terminal as (λ _. AfterToken) [
   | Terminal.Colon ↦ Goes context (RowLabel name)
   | _ ↦ begin (InRow (record { name = default_row context; left = None; terms = (name, one) ∷ [] })) (with_made context []) terminal
 ]
 take context (RowLabel name) terminal = begin_row context name terminal
-take context (RowSign name minus) terminal = elim terminal as (λ _. AfterToken) [
-  | Terminal.Infinity ↦ Goes context (RowLeft name (infinity minus))
-  | Terminal.Number value ↦ Goes context (RowNumber name minus value)
-  | _ ↦ take_after_signs context (OfRow (without_terms name None)) minus terminal
+take context (RowSign name sign) terminal = elim terminal as (λ _. AfterToken) [
+  | Terminal.Infinity ↦ Goes context (RowLeft name (infinity sign))
+  | Terminal.Number value ↦ Goes context (RowNumber name sign value)
+  | _ ↦ take_after_signs context (OfRow (without_terms name None)) sign terminal
 ]
-take context (RowNumber name minus value) terminal = elim terminal as (λ _. AfterToken) [
-  | Terminal.Name column ↦ take_term context (OfRow (without_terms name None)) column (apply_sign minus value) terminal
-  | Terminal.Compares relation ↦ Goes context (RowLeftRelation (without_terms name (Some (limit_of (apply_sign minus value), relation))))
-  | _ ↦ take_lone context (OfRow (without_terms name None)) (apply_sign minus value) terminal
+take context (RowNumber name sign value) terminal = elim terminal as (λ _. AfterToken) [
+  | Terminal.Name column ↦ take_term context (OfRow (without_terms name None)) column (apply_sign sign value) terminal
+  | Terminal.Compares relation ↦ Goes context (RowLeftRelation (without_terms name (Some (limit_of (apply_sign sign value), relation))))
+  | _ ↦ take_lone context (OfRow (without_terms name None)) (apply_sign sign value) terminal
 ]
 take context (RowLeft name limit) terminal = elim terminal as (λ _. AfterToken) [
   | Terminal.Compares relation ↦ Goes context (RowLeftRelation (without_terms name (Some (limit, relation))))
@@ -102,7 +104,7 @@ take context (BoundName column) terminal = elim terminal as (λ _. AfterToken) [
   | Terminal.Compares relation ↦ Goes context (AtSide (SideOfBound true column relation))
   | _ ↦ refuse context terminal BadToken
 ]
-take context (BoundSign minus) terminal = take_limit (λ limit. Goes context (BoundLeft limit)) context minus terminal
+take context (BoundSign sign) terminal = take_limit (λ limit. Goes context (BoundLeft limit)) context sign terminal
 take context (BoundLeft limit) terminal = elim terminal as (λ _. AfterToken) [
   | Terminal.Compares relation ↦ Goes context (BoundLeftRelation limit relation)
   | _ ↦ refuse context terminal BadToken
@@ -112,10 +114,10 @@ take context (BoundLeftRelation limit relation) terminal = elim terminal as (λ 
   | _ ↦ refuse context terminal BadToken
 ]
 take context (AtSide sided) terminal = elim terminal as (λ _. AfterToken) [
-  | Terminal.Sign minus ↦ Goes context (SideSign sided minus)
-  | _ ↦ take_limit (λ limit. take_side context sided limit terminal) context false terminal
+  | Terminal.Sign sign ↦ Goes context (SideSign sided sign)
+  | _ ↦ take_limit (λ limit. take_side context sided limit terminal) context Plus terminal
 ]
-take context (SideSign sided minus) terminal = take_limit (λ limit. take_side context sided limit terminal) context minus terminal
+take context (SideSign sided sign) terminal = take_limit (λ limit. take_side context sided limit terminal) context sign terminal
 -- `end` must be the last token of its line
 take context AfterEnd terminal = refuse context terminal BadToken
 

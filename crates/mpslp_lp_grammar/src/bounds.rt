@@ -19,10 +19,10 @@ ghost use Rattle.mpslp_lp_grammar.specs.FirstToken.{begin_bound, take_second_rel
 use crate::answers::{at_place, refuse};
 use crate::context::Context;
 use crate::given_limit::GivenLimit;
-use crate::items::apply_sign;
 use crate::relations::Relation;
 use crate::rows::{end_row, fits_second};
 use crate::sides::{flip, limit_of_terminal};
+use crate::signs::Sign;
 use crate::states::{Place, SideOwner, State};
 use crate::terminals::{TerminalKind, TerminalToken};
 use mpslp_lines::LineError;
@@ -39,8 +39,8 @@ pub(crate) fn begin_bound(
 {
     match token.kind {
         TerminalKind::Name => Ok(State::BoundName(context.earlier.copied(token.text)?)),
-        TerminalKind::Sign(minus) => Ok(State::BoundSign(minus)),
-        _ => match limit_of_terminal(false, token) {
+        TerminalKind::Sign(sign) => Ok(State::BoundSign(sign)),
+        _ => match limit_of_terminal(Sign::Plus, token) {
             Some(limit) => Ok(State::BoundLeft(limit)),
             None => refuse(context, token, FaultKind::BadToken),
         },
@@ -146,21 +146,16 @@ pub(crate) fn take_side(
 pub(crate) fn take_limit(
     context: &mut Context,
     sided: SideOwner,
-    minus: bool,
+    sign: Sign,
     token: &TerminalToken<'_>,
 ) -> Result<State, LineError>
-    ensures { TakesToken (take_limit (λ limit. take_side context.old sided limit (terminal_of_token token.now)) context.old minus (terminal_of_token token.now)) result context.new }
+    ensures { TakesToken (take_limit (λ limit. take_side context.old sided limit (terminal_of_token token.now)) context.old sign (terminal_of_token token.now)) result context.new }
 {
     match token.kind {
         TerminalKind::Number(value) => {
-            take_side(
-                context,
-                sided,
-                &GivenLimit::of(apply_sign(minus, value)),
-                token,
-            )
+            take_side(context, sided, &GivenLimit::of(sign.of(value)), token)
         }
-        TerminalKind::Infinity => take_side(context, sided, &GivenLimit::infinity(minus), token),
+        TerminalKind::Infinity => take_side(context, sided, &GivenLimit::infinity(sign), token),
         _ => refuse(context, token, FaultKind::BadToken),
     }
 }

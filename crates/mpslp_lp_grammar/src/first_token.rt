@@ -77,7 +77,7 @@ fn begin_later_item(
     ensures { TakesToken (begin_phrase (Place.InObjective objective) context.old (terminal_of_token token.now)) result context.new }
 {
     match token.kind {
-        TerminalKind::Sign(minus) => Ok(State::Signs(ItemOwner::OfObjective(objective), minus)),
+        TerminalKind::Sign(sign) => Ok(State::Signs(ItemOwner::OfObjective(objective), sign)),
         _ => refuse(context, token, FaultKind::BadToken),
     }
 }
@@ -106,7 +106,7 @@ fn go_on_in_row(
     ensures { TakesToken (begin_phrase (Place.InRow row) context.old (terminal_of_token token.now)) result context.new }
 {
     match token.kind {
-        TerminalKind::Sign(minus) => Ok(State::Signs(ItemOwner::OfRow(row), minus)),
+        TerminalKind::Sign(sign) => Ok(State::Signs(ItemOwner::OfRow(row), sign)),
         TerminalKind::Compares(relation) => {
             if fits_left(&row, relation) {
                 Ok(State::AtSide(SideOwner::SideOfRow(row, relation)))

@@ -4,6 +4,7 @@ ghost use Rattle.std.specs.Prelude.{◌≡◌, IsTrue};
 ghost use Rattle.mpslp_types.specs.Limit.{is_given, limit_of};
 ghost use Rattle.mpslp_lp_grammar.specs.Sides.{infinity};
 
+use crate::signs::Sign;
 use mpslp_decimal::Decimal;
 use mpslp_model::Limit;
 use std::marker::Model;
@@ -37,14 +38,13 @@ impl GivenLimit {
     }
 
     /// Minus or plus infinity.
-    pub(crate) fn infinity(minus: bool) -> GivenLimit
-        ensures { result ≡ infinity minus }
+    pub(crate) fn infinity(sign: Sign) -> GivenLimit
+        ensures { result ≡ infinity sign }
     {
         GivenLimit {
-            limit: if minus {
-                Limit::MinusInf
-            } else {
-                Limit::PlusInf
+            limit: match sign {
+                Sign::Plus => Limit::PlusInf,
+                Sign::Minus => Limit::MinusInf,
             },
         }
     }

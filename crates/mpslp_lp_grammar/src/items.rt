@@ -3,7 +3,6 @@
 ghost use Rattle.std.specs.Prelude.{◌≡◌};
 ghost use Rattle.mpslp_types.specs.Name.{IsMpsName};
 ghost use Rattle.mpslp_lp_grammar.specs.Items.{one};
-ghost use Rattle.mpslp_lp_grammar.specs.Sides.{apply_sign};
 ghost use Rattle.mpslp_lp_grammar.specs.TerminalToken.{HasLegalName, terminal_of_token};
 ghost use Rattle.mpslp_lp_grammar.specs.Declares.{TakesToken};
 ghost use Rattle.mpslp_lp_grammar.specs.Terminal.{Terminal};
@@ -12,6 +11,7 @@ ghost use Rattle.mpslp_lp_grammar.specs.AfterToken.{take_term, take_after_signs,
 
 use crate::answers::{at_place, refuse};
 use crate::context::Context;
+use crate::signs::Sign;
 use crate::states::{ItemOwner, PartialRow, Place, State};
 use crate::terminals::{TerminalKind, TerminalToken};
 use mpslp_decimal::Decimal;
@@ -26,13 +26,6 @@ pub(crate) fn one() -> Decimal
         Ok(one) => one,
         Err(_) => Decimal::zero(),
     }
-}
-
-/// The value with the sign of a run of signs: its negative after a minus.
-pub fn apply_sign(minus: bool, value: Decimal) -> Decimal
-    ensures { result ≡ apply_sign minus value }
-{
-    if minus { value.negate() } else { value }
 }
 
 /// Takes the name of a term of the objective.
@@ -87,16 +80,16 @@ pub(crate) fn take_term(
 pub(crate) fn take_after_signs(
     context: &mut Context,
     owner: ItemOwner,
-    minus: bool,
+    sign: Sign,
     token: &TerminalToken<'_>,
 ) -> Result<State, LineError>
     requires { HasLegalName token.now }
-    ensures { TakesToken (take_after_signs context.old owner minus (terminal_of_token token.now)) result context.new }
+    ensures { TakesToken (take_after_signs context.old owner sign (terminal_of_token token.now)) result context.new }
 {
     match token.kind {
-        TerminalKind::Sign(more) => Ok(State::Signs(owner, minus != more)),
-        TerminalKind::Name => take_term(context, owner, token.text, apply_sign(minus, one())),
-        TerminalKind::Number(value) => Ok(State::ItemNumber(owner, minus, value)),
+        TerminalKind::Sign(more) => Ok(State::Signs(owner, sign.times(more))),
+        TerminalKind::Name => take_term(context, owner, token.text, sign.of(one())),
+        TerminalKind::Number(value) => Ok(State::ItemNumber(owner, sign, value)),
         _ => refuse(context, token, FaultKind::BadToken),
     }
 }
@@ -111,9 +104,9 @@ pub(crate) fn begin_item(
     ensures { TakesToken (begin_item context.old owner (terminal_of_token token.now)) result context.new }
 {
     match token.kind {
-        TerminalKind::Sign(minus) => Ok(State::Signs(owner, minus)),
+        TerminalKind::Sign(sign) => Ok(State::Signs(owner, sign)),
         TerminalKind::Name => take_term(context, owner, token.text, one()),
-        TerminalKind::Number(value) => Ok(State::ItemNumber(owner, false, value)),
+        TerminalKind::Number(value) => Ok(State::ItemNumber(owner, Sign::Plus, value)),
         _ => refuse(context, token, FaultKind::BadToken),
     }
 }

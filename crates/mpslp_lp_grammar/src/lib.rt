@@ -21,13 +21,14 @@ mod relations;
 mod rows;
 mod sections_seen;
 mod sides;
+mod signs;
 mod states;
 mod term_names;
 mod terminals;
 mod token_step;
 
 pub use context::Context;
-pub use items::apply_sign;
+pub use signs::Sign;
 pub use states::{PartialRow, Place, State};
 pub use terminals::{TerminalKind, TerminalToken, classify};
 pub use token_step::take;

@@ -18,6 +18,7 @@ use crate::context::Context;
 use crate::given_limit::GivenLimit;
 use crate::items::{one, take_term};
 use crate::relations::Relation;
+use crate::signs::Sign;
 use crate::states::{ItemOwner, PartialRow, Place, State};
 use crate::terminals::{TerminalKind, TerminalToken};
 use mpslp_lines::LineError;
@@ -54,13 +55,13 @@ pub(crate) fn begin_row(
     ensures { TakesToken (begin_row context.old name (terminal_of_token token.now)) result context.new }
 {
     match token.kind {
-        TerminalKind::Infinity => Ok(State::RowLeft(name, GivenLimit::infinity(false))),
-        TerminalKind::Number(value) => Ok(State::RowNumber(name, false, value)),
+        TerminalKind::Infinity => Ok(State::RowLeft(name, GivenLimit::infinity(Sign::Plus))),
+        TerminalKind::Number(value) => Ok(State::RowNumber(name, Sign::Plus, value)),
         TerminalKind::Name => {
             let row = context.earlier.row_without_terms(name, None)?;
             take_term(context, ItemOwner::OfRow(row), token.text, one())
         }
-        TerminalKind::Sign(minus) => Ok(State::RowSign(name, minus)),
+        TerminalKind::Sign(sign) => Ok(State::RowSign(name, sign)),
         _ => refuse(context, token, FaultKind::BadToken),
     }
 }

@@ -6,18 +6,18 @@ ghost use Rattle.mpslp_lp_grammar.specs.Bounds.{no_limits};
 ghost use Rattle.mpslp_lp_grammar.specs.TerminalToken.{limit_of_terminal, terminal_of_token};
 
 use crate::given_limit::GivenLimit;
-use crate::items::apply_sign;
 use crate::relations::Relation;
+use crate::signs::Sign;
 use crate::terminals::{TerminalKind, TerminalToken};
 use mpslp_model::Limit;
 
 /// The limit that a number or an infinity gives after the signs before it; `None` for any other token.
-pub(crate) fn limit_of_terminal(minus: bool, token: &TerminalToken<'_>) -> Option<GivenLimit>
-    ensures { result ≡ limit_of_terminal minus (terminal_of_token token.now) }
+pub(crate) fn limit_of_terminal(sign: Sign, token: &TerminalToken<'_>) -> Option<GivenLimit>
+    ensures { result ≡ limit_of_terminal sign (terminal_of_token token.now) }
 {
     match token.kind {
-        TerminalKind::Number(value) => Some(GivenLimit::of(apply_sign(minus, value))),
-        TerminalKind::Infinity => Some(GivenLimit::infinity(minus)),
+        TerminalKind::Number(value) => Some(GivenLimit::of(sign.of(value))),
+        TerminalKind::Infinity => Some(GivenLimit::infinity(sign)),
         _ => None,
     }
 }

@@ -9,6 +9,7 @@ ghost use Rattle.mpslp_lp_grammar.specs.TokenStep.{is_at_end};
 use crate::context::Context;
 use crate::given_limit::GivenLimit;
 use crate::relations::Relation;
+use crate::signs::Sign;
 use crate::term_names::TermName;
 use indexmap::IndexMap;
 use mpslp_decimal::Decimal;
@@ -153,18 +154,18 @@ pub enum State {
     AtLastWord(LastWord),
     /// After `semi`.
     AtSemi,
-    /// After the signs of an item, and whether they multiply to a minus.
-    Signs(ItemOwner, bool),
+    /// After the signs of an item, with their product.
+    Signs(ItemOwner, Sign),
     /// After the number of an item.
-    ItemNumber(ItemOwner, bool, Decimal),
+    ItemNumber(ItemOwner, Sign, Decimal),
     /// After a name at the start of a row, which may be a label.
     RowName(Name),
     /// After the label of a row.
     RowLabel(Name),
     /// After the first sign of a row.
-    RowSign(Name, bool),
-    /// After the first number of a row, and whether a minus is before it. At most one sign is before it.
-    RowNumber(Name, bool, Decimal),
+    RowSign(Name, Sign),
+    /// After the first number of a row, with the sign before it. At most one sign is before it.
+    RowNumber(Name, Sign, Decimal),
     /// After the left-hand side of a row.
     RowLeft(Name, GivenLimit),
     /// After the relation that follows the left-hand side of a row.
@@ -172,7 +173,7 @@ pub enum State {
     /// After the column of a bound.
     BoundName(Name),
     /// After the sign of a bound's left-hand side.
-    BoundSign(bool),
+    BoundSign(Sign),
     /// After the left-hand side of a bound.
     BoundLeft(GivenLimit),
     /// After the relation that follows the left-hand side of a bound.
@@ -180,7 +181,7 @@ pub enum State {
     /// Before a right-hand side.
     AtSide(SideOwner),
     /// After the sign of a right-hand side.
-    SideSign(SideOwner, bool),
+    SideSign(SideOwner, Sign),
     /// After `end`, on the same line.
     AfterEnd,
 }

@@ -7,6 +7,7 @@ ghost use Rattle.mpslp_lp_grammar.specs.LexicalFault.{name_fault};
 ghost use Rattle.mpslp_lp_grammar.specs.TerminalToken.{IsTerminalOf, IsTerminalOfNumber, IsTerminalOfWord};
 
 use crate::relations::Relation;
+use crate::signs::Sign;
 use mpslp_decimal::Decimal;
 use mpslp_lines::value_of;
 use mpslp_lp_tokens::{SectionWord, TokenKind, WordClass, class_of};
@@ -21,8 +22,8 @@ pub enum TerminalKind {
     Name,
     /// A number.
     Number(Decimal),
-    /// A sign, and whether it is a minus.
-    Sign(bool),
+    /// A sign.
+    Sign(Sign),
     /// A relation.
     Compares(Relation),
     /// A colon.
@@ -119,8 +120,8 @@ pub fn classify(kind: TokenKind, text: &[u8]) -> Result<TerminalKind, FaultKind>
         TokenKind::Greater => Ok(TerminalKind::Compares(Relation::AtLeast)),
         TokenKind::Equal => Ok(TerminalKind::Compares(Relation::EqualTo)),
         TokenKind::Colon => Ok(TerminalKind::Colon),
-        TokenKind::Plus => Ok(TerminalKind::Sign(false)),
-        TokenKind::Minus => Ok(TerminalKind::Sign(true)),
+        TokenKind::Plus => Ok(TerminalKind::Sign(Sign::Plus)),
+        TokenKind::Minus => Ok(TerminalKind::Sign(Sign::Minus)),
         TokenKind::DoubleColon => Err(FaultKind::Sos),
         TokenKind::Arrow => Err(FaultKind::Indicator),
         TokenKind::OpenBracket | TokenKind::CloseBracket | TokenKind::Caret | TokenKind::Star =>

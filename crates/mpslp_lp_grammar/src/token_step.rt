@@ -13,10 +13,11 @@ use crate::bounds::{take_bound_column, take_free, take_limit};
 use crate::context::Context;
 use crate::first_token::{begin, begin_after};
 use crate::given_limit::GivenLimit;
-use crate::items::{apply_sign, begin_item, one, take_after_signs, take_term};
+use crate::items::{begin_item, one, take_after_signs, take_term};
 use crate::relations::Relation;
 use crate::rows::begin_row;
 use crate::sides::limit_of_terminal;
+use crate::signs::Sign;
 use crate::states::{ItemOwner, LastWord, PartialRow, Place, SideOwner, State};
 use crate::terminals::{TerminalKind, TerminalToken};
 use mpslp_decimal::Decimal;
@@ -104,7 +105,7 @@ fn take_after_semi(context: &mut Context, token: &TerminalToken<'_>) -> Result<S
     ensures { TakesToken (take context.old State.AtSemi (terminal_of_token token.now)) result context.new }
 {
     match token.kind {
-        TerminalKind::Sign(true) => Ok(State::AtLastWord(LastWord::Continuous)),
+        TerminalKind::Sign(Sign::Minus) => Ok(State::AtLastWord(LastWord::Continuous)),
         _ => begin(context, Place::InSemis, token),
     }
 }
@@ -162,16 +163,16 @@ fn take_lone(
 fn take_after_number(
     context: &mut Context,
     owner: ItemOwner,
-    minus: bool,
+    sign: Sign,
     value: Decimal,
     token: &TerminalToken<'_>,
 ) -> Result<State, LineError>
     requires { HasLegalName token.now }
-    ensures { TakesToken (take context.old (State.ItemNumber owner minus value) (terminal_of_token token.now)) result context.new }
+    ensures { TakesToken (take context.old (State.ItemNumber owner sign value) (terminal_of_token token.now)) result context.new }
 {
     match token.kind {
-        TerminalKind::Name => take_term(context, owner, token.text, apply_sign(minus, value)),
-        _ => take_lone(context, owner, apply_sign(minus, value), token),
+        TerminalKind::Name => take_term(context, owner, token.text, sign.of(value)),
+        _ => take_lone(context, owner, sign.of(value), token),
     }
 }
 
@@ -201,18 +202,18 @@ fn take_after_row_name(
 fn take_after_row_sign(
     context: &mut Context,
     name: Name,
-    minus: bool,
+    sign: Sign,
     token: &TerminalToken<'_>,
 ) -> Result<State, LineError>
     requires { HasLegalName token.now }
-    ensures { TakesToken (take context.old (State.RowSign name minus) (terminal_of_token token.now)) result context.new }
+    ensures { TakesToken (take context.old (State.RowSign name sign) (terminal_of_token token.now)) result context.new }
 {
     match token.kind {
-        TerminalKind::Infinity => Ok(State::RowLeft(name, GivenLimit::infinity(minus))),
-        TerminalKind::Number(value) => Ok(State::RowNumber(name, minus, value)),
+        TerminalKind::Infinity => Ok(State::RowLeft(name, GivenLimit::infinity(sign))),
+        TerminalKind::Number(value) => Ok(State::RowNumber(name, sign, value)),
         TerminalKind::Sign(_) | TerminalKind::Name => {
             let row = context.earlier.row_without_terms(name, None)?;
-            take_after_signs(context, ItemOwner::OfRow(row), minus, token)
+            take_after_signs(context, ItemOwner::OfRow(row), sign, token)
         }
         _ => refuse(context, token, FaultKind::BadToken),
     }
@@ -222,25 +223,20 @@ fn take_after_row_sign(
 fn take_after_row_number(
     context: &mut Context,
     name: Name,
-    minus: bool,
+    sign: Sign,
     value: Decimal,
     token: &TerminalToken<'_>,
 ) -> Result<State, LineError>
     requires { HasLegalName token.now }
-    ensures { TakesToken (take context.old (State.RowNumber name minus value) (terminal_of_token token.now)) result context.new }
+    ensures { TakesToken (take context.old (State.RowNumber name sign value) (terminal_of_token token.now)) result context.new }
 {
     match token.kind {
         TerminalKind::Name => {
             let row = context.earlier.row_without_terms(name, None)?;
-            take_term(
-                context,
-                ItemOwner::OfRow(row),
-                token.text,
-                apply_sign(minus, value),
-            )
+            take_term(context, ItemOwner::OfRow(row), token.text, sign.of(value))
         }
         TerminalKind::Compares(relation) => {
-            let left = Some((GivenLimit::of(apply_sign(minus, value)), relation));
+            let left = Some((GivenLimit::of(sign.of(value)), relation));
             Ok(State::RowLeftRelation(context.earlier.row_without_terms(name, left)?))
         }
         _ => refuse_constant(context, token),
@@ -285,12 +281,12 @@ fn take_after_bound_name(
 /// Takes the token after the sign of a bound's left-hand side.
 fn take_after_bound_sign(
     context: &mut Context,
-    minus: bool,
+    sign: Sign,
     token: &TerminalToken<'_>,
 ) -> Result<State, LineError>
-    ensures { TakesToken (take context.old (State.BoundSign minus) (terminal_of_token token.now)) result context.new }
+    ensures { TakesToken (take context.old (State.BoundSign sign) (terminal_of_token token.now)) result context.new }
 {
-    match limit_of_terminal(minus, token) {
+    match limit_of_terminal(sign, token) {
         Some(limit) => Ok(State::BoundLeft(limit)),
         None => refuse(context, token, FaultKind::BadToken),
     }
@@ -335,8 +331,8 @@ fn take_at_side(
     ensures { TakesToken (take context.old (State.AtSide sided) (terminal_of_token token.now)) result context.new }
 {
     match token.kind {
-        TerminalKind::Sign(minus) => Ok(State::SideSign(sided, minus)),
-        _ => take_limit(context, sided, false, token),
+        TerminalKind::Sign(sign) => Ok(State::SideSign(sided, sign)),
+        _ => take_limit(context, sided, Sign::Plus, token),
     }
 }
 
@@ -361,26 +357,26 @@ pub fn take(
         State::ObjectiveName(sense, name) => take_after_objective_name(context, sense, name, token),
         State::AtLastWord(wanted) => take_last_word(context, wanted, token),
         State::AtSemi => take_after_semi(context, token),
-        State::Signs(owner, minus) => take_after_signs(context, owner, minus, token),
-        State::ItemNumber(owner, minus, value) => {
-            take_after_number(context, owner, minus, value, token)
+        State::Signs(owner, sign) => take_after_signs(context, owner, sign, token),
+        State::ItemNumber(owner, sign, value) => {
+            take_after_number(context, owner, sign, value, token)
         }
         State::RowName(name) => take_after_row_name(context, name, token),
         State::RowLabel(name) => begin_row(context, name, token),
-        State::RowSign(name, minus) => take_after_row_sign(context, name, minus, token),
-        State::RowNumber(name, minus, value) => {
-            take_after_row_number(context, name, minus, value, token)
+        State::RowSign(name, sign) => take_after_row_sign(context, name, sign, token),
+        State::RowNumber(name, sign, value) => {
+            take_after_row_number(context, name, sign, value, token)
         }
         State::RowLeft(name, limit) => take_row_relation(context, name, limit, token),
         State::RowLeftRelation(row) => begin_item(context, ItemOwner::OfRow(row), token),
         State::BoundName(column) => take_after_bound_name(context, column, token),
-        State::BoundSign(minus) => take_after_bound_sign(context, minus, token),
+        State::BoundSign(sign) => take_after_bound_sign(context, sign, token),
         State::BoundLeft(limit) => take_bound_relation(context, limit, token),
         State::BoundLeftRelation(limit, relation) => {
             take_after_bound_relation(context, limit, relation, token)
         }
         State::AtSide(sided) => take_at_side(context, sided, token),
-        State::SideSign(sided, minus) => take_limit(context, sided, minus, token),
+        State::SideSign(sided, sign) => take_limit(context, sided, sign, token),
         State::AfterEnd => refuse(context, token, FaultKind::BadToken),
     }
 }

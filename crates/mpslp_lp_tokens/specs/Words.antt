@@ -1,6 +1,6 @@
 -- Reserved words and their meanings.
-use Rattle.std.specs.Prelude.{ℕ, List, [], ◌∷◌, ◌++◌, ◌&&◌, Bool, false, map, length, codes, nat_eq, nat_le}
-use Rattle.std.specs.List.{find, list_any}
+use Rattle.std.specs.Prelude.{ℕ, List, [], ◌∷◌, ◌++◌, map, codes}
+use Rattle.std.specs.List.{find}
 use Rattle.std.specs.Option.{option_map_or}
 use Rattle.mpslp_types.specs.Name.{same_bytes, lower_byte}
 use Rattle.mpslp_lp_tokens.specs.declared.words.Section.{Section}
@@ -36,21 +36,6 @@ abbrev pub class_of : List ℕ → WordClass
 class_of word =
     let lower = map lower_byte word in
     option_map_or (λ (entry : List ℕ × WordClass). entry.1) (find (λ entry. same_bytes lower entry.0) word_classes) Name
-
--- the first two letters of reserved words, in lower case
-abbrev pub reserved_beginnings : List (List ℕ)
-reserved_beginnings =
-    codes "bi" ∷ codes "bo" ∷ codes "en" ∷ codes "fr" ∷ codes "ge" ∷ codes "in" ∷ codes "ma" ∷ codes "mi"
-    ∷ codes "s." ∷ codes "se" ∷ codes "so" ∷ codes "st" ∷ codes "su" ∷ []
-
--- two letters with which a reserved word begins, ignoring case
-abbrev pub begins_reserved : ℕ → ℕ → Bool
-begins_reserved first second = list_any (same_bytes (lower_byte first ∷ lower_byte second ∷ [])) reserved_beginnings
-
--- a word that is not longer than the longest reserved word, and begins like one of them
-abbrev pub may_be_reserved : List ℕ → Bool
-may_be_reserved (first ∷ second ∷ rest) = nat_le (length (first ∷ second ∷ rest)) 8 && begins_reserved first second
-may_be_reserved _ = false
 
 abbrev pub section_of : SectionWord → Section
 section_of Minimize = sections.Objective

@@ -8,6 +8,7 @@ ghost use Rattle.mpslp_lp_tokens.specs.Token.{is_number, operator_kind, token_at
 ghost use Rattle.mpslp_lp_tokens.specs.Scan.{sign_size, exponent_size, number_size, IsLongestFront, pair_operator};
 
 use crate::tokens::TokenKind;
+use mpslp_types::is_lp_byte;
 
 /// The number of digits with which the text begins.
 fn digits_len(text: &[u8]) -> usize
@@ -77,20 +78,10 @@ pub(crate) fn number_len(text: &[u8]) -> usize
     scan_number(text)
 }
 
-/// Whether a word may begin with the byte.
-fn is_first_of_word(byte: u8) -> bool
-    ensures { result ≡ begins_word byte }
-{
-    matches!(byte,
-        b'a'..=b'z'
-        | b'A'..=b'Z'
-        | b'!' | b'"' | b'#' | b'$' | b'%' | b'&' | b'(' | b')' | b'/' | b',' | b';' | b'?' | b'@' | b'_' | b'\'' | b'{' | b'}' | b'|' | b'~' | b'`')
-}
-
-/// Each byte that may continue a word, at the index of its value; `-` at all other indices.
-static BYTES_OF_WORDS: [u8; 256] = *b"\
+/// Each byte with which a word may begin, at the index of its value; `-` at all other indices.
+static FIRST_BYTES_OF_WORDS: [u8; 256] = *b"\
     --------------------------------\
-    -!\"#$%&'()--,-./0123456789-;---?\
+    -!\"#$%&'()--,--/-----------;---?\
     @ABCDEFGHIJKLMNOPQRSTUVWXYZ----_\
     `abcdefghijklmnopqrstuvwxyz{|}~-\
     --------------------------------\
@@ -98,11 +89,11 @@ static BYTES_OF_WORDS: [u8; 256] = *b"\
     --------------------------------\
     --------------------------------";
 
-/// Whether the byte may continue a word.
-fn is_in_word(byte: u8) -> bool
-    ensures { result ≡ continues_word byte }
+/// Whether a word may begin with the byte.
+fn is_first_of_word(byte: u8) -> bool
+    ensures { result ≡ begins_word byte }
 {
-    BYTES_OF_WORDS[byte as usize] != b'-'
+    FIRST_BYTES_OF_WORDS[byte as usize] != b'-'
 }
 
 /// The length of the word with which the text begins.
@@ -111,7 +102,7 @@ fn word_len(text: &[u8]) -> usize
     ensures within { result ≤ length text.now }
 {
     for (at, byte) in text.iter().enumerate() {
-        if !is_in_word(*byte) {
+        if !is_lp_byte(*byte) {
             return at;
         }
     }

@@ -5,7 +5,9 @@ ghost use Rattle.std.specs.List.{find};
 ghost use Rattle.std.specs.Option.{option_map_or};
 ghost use Rattle.mpslp_types.specs.Name.{lower_byte, same_bytes};
 ghost use Rattle.mpslp_lp_tokens.specs.declared.words.WordClass.{WordClass};
-ghost use Rattle.mpslp_lp_tokens.specs.Words.{begins_reserved, may_be_reserved, class_of, section_of};
+ghost use Rattle.mpslp_lp_tokens.specs.Words.{class_of, section_of};
+
+use mpslp_types::may_be_reserved;
 
 /// A section of an LP file. Sections come in this order, but those from Bounds to SemiContinuous may come in any order.
 #[derive(Clone, Copy, Debug, PartialEq, Eq)]
@@ -161,34 +163,6 @@ fn class_among(words: &[(&'static [u8], WordClass)], text: &[u8]) -> WordClass
     match word_among(words, text) {
         Some((_word, word_class)) => word_class,
         None => WordClass::Name,
-    }
-}
-
-/// The length of the longest reserved word.
-const LONGEST_WORD: usize = 8;
-
-/// Whether a reserved word begins with these two letters, ignoring case.
-fn begins_reserved(first: u8, second: u8) -> bool
-    ensures { result ≡ begins_reserved first second }
-{
-    match lower_byte(first) {
-        b'b' => matches!(lower_byte(second), b'i' | b'o'),
-        b'e' | b'i' => lower_byte(second) == b'n',
-        b'f' => lower_byte(second) == b'r',
-        b'g' => lower_byte(second) == b'e',
-        b'm' => matches!(lower_byte(second), b'a' | b'i'),
-        b's' => matches!(lower_byte(second), b'.' | b'e' | b'o' | b't' | b'u'),
-        _ => false,
-    }
-}
-
-/// Whether the text may be a reserved word, by its length and its first two letters. This excludes most names quickly.
-fn may_be_reserved(text: &[u8]) -> bool
-    ensures { result ≡ may_be_reserved text.now }
-{
-    match text {
-        [first, second, ..] => text.len() <= LONGEST_WORD && begins_reserved(*first, *second),
-        _ => false,
     }
 }
 

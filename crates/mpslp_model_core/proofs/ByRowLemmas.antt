@@ -1,62 +1,24 @@
--- How the lists of columns by rows grow.
-use Rattle.std.proofs.Common.{◌≡◌, refl, sym, ap, subst, ◌∙◌, ℕ, zero, suc, ◌+◌, ◌<◌, ◌≤◌, List, [], ◌∷◌, ◌++◌, length, drop, Bool, true, false, cond, get_or, arith}
-use Rattle.std.specs.Prelude.{Option, Some, None, is_some, filter, slice_get}
+-- The lists of columns by rows, and the model.
+use Rattle.std.proofs.Common.{◌≡◌, refl, sym, ap, subst, ◌∙◌, ℕ, zero, suc, ◌+◌, ◌<◌, ◌≤◌, List, [], ◌∷◌, ◌++◌, length, Bool, true, false, cond, arith}
+use Rattle.std.specs.Prelude.{Option, Some, is_some, filter, slice_get}
 use Rattle.std.specs.List.{All, list_all, range_with_len}
 use Rattle.std.specs.Option.{option_map}
-use Rattle.std.specs.Ordering.{eq_by_cmp, nat_cmp}
-use Rattle.std.specs.Global.{Vec}
-use Rattle.std.specs.FinMap.{find}
-use Rattle.std.proofs.lemmas.List.{map-id, append_assoc, drop_more}
+use Rattle.std.proofs.lemmas.List.{map-id}
 use Rattle.std.proofs.lemmas.List.FromFn.{length-range_with_len, get_or-range_with_len, map-range_with_len_more}
 use Rattle.std.proofs.lemmas.List.Elements.{All-from_get_or, filter-append}
 use Rattle.mpslp_decimal.specs.Decimal.{Number}
 use Rattle.mpslp_model_core.specs.Model.{LinearModel}
 use Rattle.mpslp_model_core.specs.Views.{num_rows, num_columns, row_name, column_name, has_coefficient, row_columns}
 use Rattle.std.specs.Cmp.{first_so, second_so}
-use Rattle.mpslp_model_core.specs.Numbered.{IsOnceBy, name_of}
+use Rattle.mpslp_model_core.specs.Numbered.{name_of}
 use Rattle.mpslp_model_core.specs.ModelParts.{linear_model, AreModelParts, own, cells_in, cells_by_name, name_of_row_key}
-use Rattle.mpslp_model_core.specs.ByRow.{list_at, column_if, has_number, cells_of, columns_with, HasNoted, AreIndexed}
+use Rattle.mpslp_model_core.specs.ByRow.{list_at, column_if, has_number, cells_of, columns_with, AreIndexed}
+use Rattle.mpslp_model_core.specs.declared.by_row.RowLists.{RowLists}
 use Rattle.mpslp_model_core.specs.declared.model.ModelColumn.{ModelColumn}
 use Rattle.mpslp_model_core.specs.declared.model.ModelParts.{ModelParts}
-use Rattle.mpslp_model_core.proofs.CellLemmas.{number_same}
+use Rattle.mpslp_model_core.specs.declared.row_names.RowNames.{RowNames}
 use Rattle.mpslp_model_core.proofs.NumberLemmas.{slice_get-part, all_at}
 use Rattle.mpslp_model_core.proofs.ViewLemmas.{rows_seen, count_seen, count_columns, row_numbered, cells_seen, found_seen}
-
-pub empty_more : (lists : List (Vec ℕ)) (list : Vec ℕ) → list.items ≡ [] → ((i : ℕ) → list_at lists i ≡ []) → (i : ℕ) → list_at (lists ++ list ∷ []) i ≡ []
-empty_more [] list none all zero = none
-empty_more [] list none all (suc i) = refl
-empty_more (l ∷ lists) list none all zero = all zero
-empty_more (l ∷ lists) list none all (suc i) = empty_more lists list none (λ k. all (suc k)) i
-
--- ---- the coefficients of one column
-
--- the first remaining coefficient and those after it: no number occurs again
-first_noted : (n column : ℕ) (cell : ℕ × Number) (rest : List (ℕ × Number)) → IsOnceBy nat_cmp (cell ∷ rest)
-    → column_if (eq_by_cmp nat_cmp n cell.0) column ++ column_if (has_number n rest) column ≡ column_if (has_number n (cell ∷ rest)) column
-first_noted n column cell rest once = by (eq_by_cmp nat_cmp n cell.0) refl
-  where
-    by : (tied : Bool) → eq_by_cmp nat_cmp n cell.0 ≡ tied
-        → column_if tied column ++ column_if (has_number n rest) column ≡ column_if (is_some (cond tied (Some cell.1) (find nat_cmp n rest))) column
-    by true tie =
-        let none : find nat_cmp n rest ≡ None = ap (λ (m : ℕ). find nat_cmp m rest) (number_same n cell.0 tie) ∙ once.0 in
-        ap (λ (o : Option Number). column ∷ column_if (is_some o) column) none
-    by false tie = refl
-
--- noting a coefficient does not change the list together with what is still to come
-pub noted_more : (old new : List (Vec ℕ)) (column : ℕ) (cells : List (ℕ × Number)) (k : ℕ) (d : ℕ × Number) → k < length cells → IsOnceBy nat_cmp (drop k cells)
-    → HasNoted (get_or cells k d).0 column old new
-    → (i : ℕ) → list_at new i ++ column_if (has_number (suc i) (drop (k + 1) cells)) column ≡ list_at old i ++ column_if (has_number (suc i) (drop k cells)) column
-noted_more old new column cells k d below once here i =
-    let cell = get_or cells k d in
-    let rest = drop (k + 1) cells in
-    let left = drop_more cells k d below in
-    ap (λ (l : List ℕ). l ++ column_if (has_number (suc i) rest) column) (here i)
-    ∙ append_assoc (list_at old i) (column_if (eq_by_cmp nat_cmp (suc i) cell.0) column) (column_if (has_number (suc i) rest) column)
-    ∙ ap (λ (l : List ℕ). list_at old i ++ l)
-    (first_noted (suc i) column cell rest (subst (IsOnceBy nat_cmp) left once) ∙ ap (λ (es : List (ℕ × Number)). column_if (has_number (suc i) es) column) (sym left))
-
-pub once_more : (cells : List (ℕ × Number)) (k : ℕ) (d : ℕ × Number) → k < length cells → IsOnceBy nat_cmp (drop k cells) → IsOnceBy nat_cmp (drop (k + 1) cells)
-once_more cells k d below once = (subst (IsOnceBy nat_cmp) (drop_more cells k d below) once).1
 
 -- ---- column by column
 
@@ -117,9 +79,9 @@ listed_below p n k j at = by (range_with_len 0 n) k (all_below (λ (j : ℕ). j 
           | false ↦ λ later. by js k (λ k d below. all (suc k) d (omega arith)) later
         ] at
 
-pub row_seen : {m : ModelParts} {v : LinearModel} (lists : List (Vec ℕ)) → linear_model m ≡ v → AreIndexed m lists → (i : ℕ) → i < num_rows v
+pub row_seen : {m : ModelParts} {v : LinearModel} {names : RowNames} (lists : RowLists) → linear_model m ≡ v → AreIndexed m lists names → (i : ℕ) → i < num_rows v
     → list_at lists i ≡ row_columns v (row_name v i)
-row_seen {m} {v} lists seen are i below =
+row_seen {m} {v} {names} lists seen are i below =
     let columns = m.columns.items in
     let row = row_name v i in
     let n = num_columns v in
@@ -153,8 +115,3 @@ numbers_within m parts k column at l cell there =
     number_at name [] l e named at = absurd cc
     number_at name (d ∷ es) zero e named at = let same : ◌≡◌ {A = ℕ × Number} d e = cc in ap (λ (x : ℕ × Number). is_some (name x.0)) (sym same) ∙ first_so (is_some (name d.0)) (list_all (λ (x : ℕ × Number). is_some (name x.0)) es) named
     number_at name (d ∷ es) (suc l) e named at = number_at name es l e (second_so (is_some (name d.0)) (list_all (λ (x : ℕ × Number). is_some (name x.0)) es) named) at
-
-pub list_there : (lists : List (Vec ℕ)) (i : ℕ) (d : Vec ℕ) → i < length lists → list_at lists i ≡ (get_or lists i d).items
-list_there [] i d below = absurd (omega arith)
-list_there (list ∷ lists) zero d below = refl
-list_there (list ∷ lists) (suc i) d below = list_there lists i d (omega arith)

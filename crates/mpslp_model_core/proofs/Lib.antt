@@ -13,4 +13,7 @@ pub mod NumberLemmas
 pub mod CountLemmas
 pub mod ViewLemmas
 pub mod ByRowLemmas
+pub mod FillLemmas
+pub mod RowNameLemmas
 pub mod SameModels
+pub mod PlainRowLemmas

@@ -21,7 +21,7 @@ use Rattle.mpslp_model_core.proofs.CellLemmas.{swapped, or_else, find-two, first
 use Rattle.mpslp_model_core.proofs.RunLemmas.{lookup_is_find, absent_first}
 use Rattle.mpslp_model_core.proofs.PermutationLemmas.{along_permutation}
 
-passed : {X : Type 0} (b : Bool) (v : X) (o : Option X) → cond b (Some v) o ≡ None → (b ≡ false) × (o ≡ None)
+pub passed : {X : Type 0} (b : Bool) (v : X) (o : Option X) → cond b (Some v) o ≡ None → (b ≡ false) × (o ≡ None)
 passed true v o h = cc
 passed false v o h = (refl, h)
 

@@ -1,26 +1,28 @@
 -- Which columns have a coefficient in each row.
-use Rattle.std.specs.Prelude.{◌≡◌, ◌≤◌, ◌<◌, ℕ, suc, Bool, List, [], ◌∷◌, ◌++◌, length, filter, is_some, slice_get, if◌then◌else◌}
+use Rattle.std.specs.Prelude.{◌≡◌, ◌≤◌, ◌<◌, ◌+◌, ℕ, zero, suc, Bool, List, [], ◌∷◌, length, filter, is_some, slice_get, slice_index, slice_range, if◌then◌else◌}
 use Rattle.std.specs.List.{All, range_with_len}
 use Rattle.std.specs.Option.{option_map_or}
 use Rattle.std.specs.Ordering.{eq_by_cmp, nat_cmp}
-use Rattle.std.specs.Global.{Vec}
 use Rattle.std.specs.FinMap.{find}
 use Rattle.mpslp_decimal.specs.Decimal.{Number}
 use Rattle.mpslp_model_core.specs.ModelParts.{AreModelParts}
+use Rattle.mpslp_model_core.specs.RowNames.{AreNames}
+use Rattle.mpslp_model_core.specs.declared.by_row.RowLists.{RowLists}
 use Rattle.mpslp_model_core.specs.declared.model.ModelColumn.{ModelColumn}
 use Rattle.mpslp_model_core.specs.declared.model.ModelParts.{ModelParts}
+use Rattle.mpslp_model_core.specs.declared.row_names.RowNames.{RowNames}
 
--- the list at an index, empty after the last one
-abbrev pub list_at : List (Vec ℕ) → ℕ → List ℕ
-list_at lists i = option_map_or (λ (list : Vec ℕ). list.items) (slice_get lists i) []
+-- the list of the row at an index
+abbrev pub list_at : RowLists → ℕ → List ℕ
+list_at lists i = slice_range lists.columns.items (slice_index lists.starts.items i) (slice_index lists.starts.items (suc i))
 
 -- the column, if it has a coefficient
 abbrev pub column_if : Bool → ℕ → List ℕ
 column_if has column = if has then column ∷ [] else []
 
--- a coefficient of this number adds its column to the list of its row
-abbrev pub HasNoted : ℕ → ℕ → List (Vec ℕ) → List (Vec ℕ) → Type 0
-HasNoted number column old new = (i : ℕ) → list_at new i ≡ list_at old i ++ column_if (eq_by_cmp nat_cmp (suc i) number) column
+-- a coefficient of this number adds one to the count at it, unless it is the objective's
+abbrev pub HasCounted : ℕ → List ℕ → List ℕ → Type 0
+HasCounted number old new = (i : ℕ) → slice_index new (suc i) ≡ slice_index old (suc i) + (if eq_by_cmp nat_cmp (suc i) number then 1 else 0)
 
 -- each number is 0, the objective's, or that of one of so many rows
 abbrev pub AreWithin : ℕ → List (ℕ × Number) → Type 0
@@ -38,12 +40,26 @@ cells_of columns j = option_map_or (λ (column : List ℕ × ModelColumn). colum
 abbrev pub columns_with : List (List ℕ × ModelColumn) → ℕ → ℕ → List ℕ
 columns_with columns n count = filter (λ j. has_number n (cells_of columns j)) (range_with_len 0 count)
 
+-- for each row the number of its coefficients, and 0 for the objective
+pub record AreCounts (columns : List (List ℕ × ModelColumn)) (rows : ℕ) (counts : List ℕ) : Type 0 where
+  pub len : length counts ≡ suc rows
+  pub objective : slice_index counts 0 ≡ 0
+  pub own : (i : ℕ) → i < rows → slice_index counts (suc i) ≡ length (columns_with columns (suc i) (length columns))
+
+-- where the list of a row starts: after those of the rows before it
+abbrev pub start_of : List (List ℕ × ModelColumn) → ℕ → ℕ
+start_of columns zero = 0
+start_of columns (suc i) = start_of columns i + length (columns_with columns (suc i) (length columns))
+
 -- for each row the columns that have a coefficient in it
-pub record AreByRow (columns : List (List ℕ × ModelColumn)) (rows : ℕ) (lists : List (Vec ℕ)) : Type 0 where
-  pub len : length lists ≡ rows
+pub record AreByRow (columns : List (List ℕ × ModelColumn)) (rows : ℕ) (lists : RowLists) : Type 0 where
+  pub len : length lists.starts.items ≡ suc rows
+  pub starts : (i : ℕ) → i ≤ rows → slice_index lists.starts.items i ≡ start_of columns i
+  pub room : length lists.columns.items ≡ start_of columns rows
   pub own : (i : ℕ) → i < rows → list_at lists i ≡ columns_with columns (suc i) (length columns)
 
--- the parts of a model, and their lists by rows
-pub record AreIndexed (m : ModelParts) (lists : List (Vec ℕ)) : Type 0 where
+-- the parts of a model, their lists by rows, and the names of rows
+pub record AreIndexed (m : ModelParts) (lists : RowLists) (row_names : RowNames) : Type 0 where
   pub parts : AreModelParts m
   pub by_row : AreByRow m.columns.items (length m.rows.items) lists
+  pub names : AreNames m.rows.items row_names

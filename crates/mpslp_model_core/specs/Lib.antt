@@ -8,6 +8,7 @@ pub mod Views
 pub mod ModelCode
 pub mod Columned
 pub mod ModelParts
+pub mod RowNames
 pub mod ByRow
 pub mod Same
 pub mod SameLaws

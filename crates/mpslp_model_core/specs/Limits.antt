@@ -30,6 +30,11 @@ abbrev pub is_definition_by_limits : RowDefinition → Bool
 is_definition_by_limits (by_type _) = false
 is_definition_by_limits (by_limits _ _) = true
 
+-- a row by its type, without a range
+abbrev pub is_plain : RowDefinition → Option Number → Bool
+is_plain (by_type _) None = true
+is_plain _ _ = false
+
 -- a lower limit of plus infinity, or an upper one of minus infinity
 abbrev pub have_infinite_side : RowDefinition → Bool
 have_infinite_side (by_type _) = false

@@ -11,11 +11,13 @@
 mod bounds;
 mod by_row;
 mod columns;
+mod joined;
 pub mod laws;
 mod limits;
 mod model;
 mod packed;
 mod packed_row_definition;
+mod row_names;
 mod sides;
 
 pub use bounds::{ColumnFault, DeclaredColumn, kind_of_column_fault};

@@ -5,7 +5,7 @@ ghost use Rattle.std.specs.Ordering.{is_lt};
 ghost use Rattle.std.specs.Option.{option_map_or};
 ghost use Rattle.mpslp_decimal.specs.Decimal.{decimal_cmp, is_infinite_size, size_of, sum_of, difference_of};
 ghost use Rattle.mpslp_types.specs.Limit.{is_at_most};
-ghost use Rattle.mpslp_model_core.specs.Limits.{row_definition, sides, plain_limits, ranged_limits, limits_of, has_infinite_rhs, is_large_limit, distance_passes, is_inexact, is_too_large, is_crossed};
+ghost use Rattle.mpslp_model_core.specs.Limits.{row_definition, is_plain, sides, plain_limits, ranged_limits, limits_of, has_infinite_rhs, is_large_limit, distance_passes, is_inexact, is_too_large, is_crossed};
 ghost use Rattle.mpslp_model_core.specs.WrongParts.{is_faulty_row, row_test, kind_of_row_fault};
 
 use crate::sides::RowLimits;
@@ -55,7 +55,11 @@ pub fn plain_limits(row_type: RowType, rhs: Decimal) -> RowLimits
         RowType::Free => (Limit::MinusInf, Limit::PlusInf),
         RowType::AtMost => (Limit::MinusInf, Limit::of(rhs)),
         RowType::AtLeast => (Limit::of(rhs), Limit::PlusInf),
-        RowType::Equal => (Limit::of(rhs), Limit::of(rhs)),
+        RowType::Equal => {
+            let lower = Limit::of(rhs);
+            let upper = lower;
+            (lower, upper)
+        }
     };
     RowLimits { lower, upper }
 }
@@ -121,10 +125,10 @@ fn has_infinite_rhs(
 {
     match definition {
         UnpackedRowDefinition::ByType(RowType::AtMost) => {
-            rhs.is_infinite_size() && (range.is_some() || rhs.is_negative())
+            (range.is_some() || rhs.is_negative()) && rhs.is_infinite_size()
         }
         UnpackedRowDefinition::ByType(RowType::AtLeast) => {
-            rhs.is_infinite_size() && (range.is_some() || !rhs.is_negative())
+            (range.is_some() || !rhs.is_negative()) && rhs.is_infinite_size()
         }
         UnpackedRowDefinition::ByType(RowType::Equal) => rhs.is_infinite_size(),
         UnpackedRowDefinition::ByType(RowType::Free) | UnpackedRowDefinition::ByLimits(_, _) =>
@@ -211,7 +215,18 @@ fn is_crossed(limits: &Option<RowLimits>) -> bool
     }
 }
 
-/// Whether a row with this definition, right-hand side and range has any error. Its limits are computed only once.
+/// Whether the row is declared by its type, and has no range.
+fn is_plain(definition: &UnpackedRowDefinition, range: &Option<Decimal>) -> bool
+    ensures { result ≡ is_plain (row_definition definition.now) range.now }
+{
+    match (definition, range) {
+        (UnpackedRowDefinition::ByType(_), None) => true,
+        _ => false,
+    }
+}
+
+/// Whether a row with this definition, right-hand side and range has any error. Its limits are computed only once, and not at
+/// all for a row by its type without a range: there only the right-hand side may be wrong.
 pub fn is_faulty_row(
     definition: &UnpackedRowDefinition,
     rhs: Decimal,
@@ -219,6 +234,9 @@ pub fn is_faulty_row(
 ) -> bool
     ensures { result ≡ is_faulty_row (row_definition definition.now) rhs range.now }
 {
+    if is_plain(definition, range) {
+        return has_infinite_rhs(definition, rhs, range);
+    }
     let limits = limits_of(definition, rhs, range);
     has_infinite_rhs(definition, rhs, range)
         || (is_inexact(&limits) || (is_too_large(&limits) || is_crossed(&limits)))

@@ -11,11 +11,12 @@ ghost use Rattle.mpslp_model_core.specs.Same.{IsSameObjective};
 ghost use Rattle.mpslp_model_core.specs.ModelParts.{linear_model, AreModelParts};
 ghost use Rattle.mpslp_model_core.specs.Views.{letter_E, letter_R, row_names, column_names, rows_of, columns_of, num_rows, num_columns, num_elements, row_name, column_name, row_index, column_index, row_sense, right_hand_side, row_range, is_integer_column, coefficient_at, column_elements, numbered_elements, row_columns};
 
-use crate::by_row::{columns_by_row, list_of};
+use crate::by_row::{RowLists, columns_by_row, list_of};
 use crate::columns::{
     cells_at, count_elements, first_value, row_cells, row_of, same_columns, value_at,
 };
 use crate::packed::{PackedColumn, PackedRow};
+use crate::row_names::{RowNames, name_at, names_of};
 use crate::sides::{ColumnBounds, RowLimits};
 use mpslp_decimal::laws::each_value_is_a_decimal;
 use mpslp_decimal::{Decimal, PackedDecimal};
@@ -66,7 +67,9 @@ pub struct ModelParts {
 pub struct Model {
     pub(crate) parts: ModelParts,
     /// The numbers of the columns with a coefficient in each row, ascending.
-    by_row: Vec<Vec<u32>>,
+    by_row: RowLists,
+    /// The names of the rows in one text.
+    row_names: RowNames,
 }
 
 impl marker::Model for Model {
@@ -82,7 +85,7 @@ impl marker::Model for Model {
 
     ghost view = { λ m. linear_model m.parts };
 
-    ghost invariant = { λ m. AreIndexed m.parts m.by_row.items };
+    ghost invariant = { λ m. AreIndexed m.parts m.by_row m.row_names };
 }
 
 /// The index of the entry of this name. The entries must be in the order of their names.
@@ -156,17 +159,23 @@ fn range_between(row: RowLimits) -> Decimal
 }
 
 impl Model {
-    /// Makes a model of its parts, and the lists of the columns that have a coefficient in each row.
+    /// Makes a model of its parts, the lists of the columns that have a coefficient in each row, and the text of the names of
+    /// rows.
     ///
     /// # Errors
     ///
-    /// [`AllocError`] if there is no memory for the lists, or there are more than 4,294,967,296 columns.
+    /// [`AllocError`] if there is no memory for the lists or the text, or there are more than 4,294,967,296 columns.
     pub fn of_parts(alloc: Global, parts: ModelParts) -> Result<Model, AllocError>
         requires { AreModelParts parts }
         ensures { IfOk result (λ model. model ≡ linear_model parts) }
     {
         let by_row = columns_by_row(alloc, parts.rows.as_slice().len(), &parts.columns)?;
-        Ok(Model { parts, by_row })
+        let row_names = names_of(alloc, &parts.rows)?;
+        Ok(Model {
+            parts,
+            by_row,
+            row_names,
+        })
     }
 
     /// The number of rows, without the objective.
@@ -224,6 +233,15 @@ impl Model {
         ensures { slice_get (row_names self.now) i ≡ Some result.now }
     {
         &entry_at(&self.parts.rows, i).0
+    }
+
+    /// The bytes of the name of the row of number `i`. The names are one after another here, so this reads less memory than
+    /// [`Model::row_name`].
+    pub fn row_text(&self, i: usize) -> &[u8]
+        requires { i < num_rows self.now }
+        ensures { slice_get (row_names self.now) i ≡ Some result.now }
+    {
+        name_at(&self.row_names, i)
     }
 
     /// The name of the column of number `j`.

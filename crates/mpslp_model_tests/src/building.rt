@@ -251,7 +251,7 @@ impl Shown {
             let (i, value) = model.entry(j, k);
             if i < model.num_rows() {
                 self.put(b"entry ".as_slice())?;
-                self.put(model.row_name(i).as_bytes())?;
+                self.put(model.row_text(i))?;
                 self.put(b" ".as_slice())?;
                 self.put_number(value)?;
                 self.put(b" ".as_slice())?;

@@ -16,9 +16,9 @@ use Rattle.mpslp_types.specs.declared.faults.BuildFault.{BuildFault}
 use Rattle.mpslp_types.specs.declared.faults.BuildFault.TheVariants.{UnknownColumn, SemiContinuous}
 use Rattle.mpslp_types.specs.declared.faults.FaultKind.{FaultKind}
 use Rattle.mpslp_types.specs.declared.faults.FaultKind.TheVariants as kinds
-use Rattle.mpslp_mps.specs.Line.{Fields}
-use Rattle.mpslp_mps.specs.BoundLine.{BoundLine, bound_type, bound_shape}
-use Rattle.mpslp_mps.specs.LineDeclarations.{declared_if_some, lower_given, upper_given, is_integer_type, is_semi_type, kind_declared, bound_declared, bound_value, bound_line_declared}
+use Rattle.mpslp_mps_fields.specs.Line.{Fields}
+use Rattle.mpslp_mps_fields.specs.BoundLine.{BoundLine, bound_type, bound_shape, is_integer_type, is_semi_type}
+use Rattle.mpslp_mps.specs.LineDeclarations.{declared_if_some, lower_given, upper_given, kind_declared, bound_declared, bound_value, bound_line_declared}
 use Rattle.mpslp_mps.specs.KindClash.{type_clash}
 use Rattle.mpslp_lines.specs.Field.{value_of}
 use Rattle.mpslp_lines.specs.Declaring.{kind_of_build_fault, declared_fault}
@@ -27,8 +27,8 @@ use Rattle.mpslp_lines.specs.ErrorOf.{error_of_build}
 use Rattle.mpslp_lines.specs.LineAnswer.{IsErrorOf, LineResult, AreDeclared}
 use Rattle.mpslp_lines.specs.declared.errors.LineError.{LineError}
 use Rattle.mpslp_lines.specs.declared.errors.LineError.TheVariants.{Fault, OutOfMemory}
-use Rattle.mpslp_mps.specs.declared.bound_types.BoundType.{BoundType}
-use Rattle.mpslp_mps.specs.declared.bound_types.BoundType.TheVariants as bounds
+use Rattle.mpslp_mps_fields.specs.declared.bound_types.BoundType.{BoundType}
+use Rattle.mpslp_mps_fields.specs.declared.bound_types.BoundType.TheVariants as bounds
 use Rattle.mpslp_types.proofs.BoolLemmas.{nor}
 use Rattle.mpslp_builder.proofs.MadeDrafts.{with_declarations-append}
 use Rattle.mpslp_lines.proofs.LeastLemmas.{earlier_of}

@@ -18,17 +18,17 @@ use Rattle.mpslp_types.specs.declared.faults.BuildFault.TheVariants as builds
 use Rattle.mpslp_builder.proofs.MadeDrafts.{declared_names-from_made}
 use Rattle.mpslp_lines.specs.Declaring.{is_kind_clash}
 use Rattle.mpslp_lines.proofs.ClashLemmas.{has_kind_clash, says_no_kind, no-clash}
-use Rattle.mpslp_mps.specs.Line.{Fields}
-use Rattle.mpslp_mps.specs.DataLine.{ValuesLine, word_shape, row_shape, row_type, column_shape, is_marker_line}
-use Rattle.mpslp_mps.specs.BoundLine.{BoundLine, bound_type, bound_shape}
+use Rattle.mpslp_mps_fields.specs.Line.{Fields}
+use Rattle.mpslp_mps_fields.specs.DataLine.{ValuesLine, word_shape, row_shape, row_type, column_shape, is_marker_line}
+use Rattle.mpslp_mps_fields.specs.BoundLine.{BoundLine, bound_type, bound_shape}
 use Rattle.mpslp_mps.specs.Context.{Context}
 use Rattle.mpslp_mps.specs.LineDeclarations.{declared_if_some, sense_declared, is_new_objective, row_of_type, row_declared, coefficient_declared, column_declared, bound_declared, bound_value, bound_line_declared, default_objective, data_declared, header_declared}
 use Rattle.mpslp_mps.specs.LineValues.{named_values}
 use Rattle.mpslp_mps.specs.KindClash.{column_clash, type_clash, bound_clash}
-use Rattle.mpslp_mps.specs.declared.bound_types.BoundType.{BoundType}
-use Rattle.mpslp_mps.specs.declared.bound_types.BoundType.TheVariants as bounds
-use Rattle.mpslp_mps.specs.declared.sections.Section.{Section}
-use Rattle.mpslp_mps.specs.declared.sections.Section.TheVariants.{Name, ObjSense, ObjName, Rows, Columns, Rhs, Ranges, Bounds, EndData}
+use Rattle.mpslp_mps_fields.specs.declared.bound_types.BoundType.{BoundType}
+use Rattle.mpslp_mps_fields.specs.declared.bound_types.BoundType.TheVariants as bounds
+use Rattle.mpslp_mps_fields.specs.declared.sections.Section.{Section}
+use Rattle.mpslp_mps_fields.specs.declared.sections.Section.TheVariants.{Name, ObjSense, ObjName, Rows, Columns, Rhs, Ranges, Bounds, EndData}
 use Rattle.mpslp_mps.proofs.OrderLemmas.{each-declared, each-flat, sense-passes, sides-passes, ranges-passes}
 
 -- ---- checks by the builder

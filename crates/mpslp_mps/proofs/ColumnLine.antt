@@ -11,8 +11,8 @@ use Rattle.mpslp_model_core.specs.Lists.{those_of}
 use Rattle.mpslp_types.specs.FaultOrder.{kind_rank, least_kind}
 use Rattle.mpslp_types.specs.declared.faults.FaultKind.{FaultKind}
 use Rattle.mpslp_types.specs.declared.faults.FaultKind.TheVariants as kinds
-use Rattle.mpslp_mps.specs.Line.{Fields, data_line}
-use Rattle.mpslp_mps.specs.DataLine.{Pair, ValuesLine, column_shape, is_marker_line}
+use Rattle.mpslp_mps_fields.specs.Line.{Fields, data_line}
+use Rattle.mpslp_mps_fields.specs.DataLine.{Pair, ValuesLine, column_shape, is_marker_line}
 use Rattle.mpslp_mps.specs.Context.{Context}
 use Rattle.mpslp_lines.specs.FaultTests.{FaultTests, judged_by, first_held}
 use Rattle.mpslp_lines.specs.Field.{name_tests, number_tests}
@@ -23,8 +23,8 @@ use Rattle.mpslp_mps.specs.LineDeclarations.{coefficient_declared, data_declared
 use Rattle.mpslp_lines.specs.Declaring.{declaring_faults, declared_fault}
 use Rattle.mpslp_mps.specs.LineAnswer.{item_fault}
 use Rattle.mpslp_mps.specs.ColumnDeclared.{front_declared, value_declared, has_duplicate}
-use Rattle.mpslp_mps.specs.declared.sections.Section.{Section}
-use Rattle.mpslp_mps.specs.declared.sections.Section.TheVariants.{Columns}
+use Rattle.mpslp_mps_fields.specs.declared.sections.Section.{Section}
+use Rattle.mpslp_mps_fields.specs.declared.sections.Section.TheVariants.{Columns}
 use Rattle.mpslp_lines.proofs.HeldLemmas.{held-third, held-among}
 use Rattle.mpslp_lines.proofs.LeastLemmas.{is_from, earlier_of, stays-least, least-those_of, least-append}
 use Rattle.mpslp_lines.specs.LineAnswer.{IsErrorOf}

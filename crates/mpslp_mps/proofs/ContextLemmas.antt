@@ -7,13 +7,13 @@ use Rattle.std.proofs.lemmas.List.{append-nil}
 use Rattle.std.proofs.lemmas.List.Elements.{filter_map-append, filter-append}
 use Rattle.mpslp_types.specs.Name.{same_bytes}
 use Rattle.mpslp_model_core.specs.Lists.{head_of}
-use Rattle.mpslp_mps.specs.Line.{Fields, LineContent, skipped, header, data_line}
-use Rattle.mpslp_mps.specs.Section.{section_of_header, is_section}
-use Rattle.mpslp_mps.specs.DataLine.{opening_word}
+use Rattle.mpslp_mps_fields.specs.Line.{Fields, LineContent, skipped, header, data_line}
+use Rattle.mpslp_mps_fields.specs.Section.{section_of_header, is_section}
+use Rattle.mpslp_mps_fields.specs.DataLine.{opening_word}
 use Rattle.mpslp_mps.specs.Context.{is_read, word_due_after, word_due, said_after, objname_word, objname, marker_word, line_column, vector_set, bound_set, first_set, current_section, fields_under, data_lines, context_of}
 use Rattle.mpslp_mps.specs.NextContext.{changed_under, next_part, next_set, next_context}
-use Rattle.mpslp_mps.specs.declared.sections.Section.{Section}
-use Rattle.mpslp_mps.specs.declared.sections.Section.TheVariants.{Columns, Rhs, Ranges, Bounds}
+use Rattle.mpslp_mps_fields.specs.declared.sections.Section.{Section}
+use Rattle.mpslp_mps_fields.specs.declared.sections.Section.TheVariants.{Columns, Rhs, Ranges, Bounds}
 use Rattle.mpslp_mps.proofs.SectionLemmas.{last_or-append, current_section-push, said_after-push, data_lines-push}
 
 pub word_due-push : (before : List LineContent) (item : LineContent) → word_due (before ++ item ∷ []) ≡ cond (is_read item) (word_due_after item) (word_due before)

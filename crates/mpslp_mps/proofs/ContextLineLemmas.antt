@@ -11,7 +11,8 @@ use Rattle.mpslp_types.proofs.BoolLemmas.{both_so}
 use Rattle.mpslp_lines.specs.LegalLine.{has_legal_length, is_legal_byte}
 use Rattle.mpslp_lines.proofs.HeldLemmas.{later_tests}
 use Rattle.mpslp_lines.proofs.FirstFaultLemmas.{legal-only}
-use Rattle.mpslp_mps.specs.Line.{LineContent, content_of, outside_comment, is_legal_line}
+use Rattle.mpslp_mps_fields.specs.Line.{LineContent, content_of, outside_comment}
+use Rattle.mpslp_mps.specs.LegalLine.{is_legal_line}
 use Rattle.mpslp_mps.specs.Context.{Context, context_of}
 use Rattle.mpslp_mps.specs.LineDeclarations.{line_declares}
 use Rattle.mpslp_mps.specs.LineFault.{item_tests, line_tests}

@@ -3,14 +3,14 @@ use Rattle.std.proofs.Common.{◌≡◌, refl, ℕ, suc, List, [], ◌∷◌, ta
 use Rattle.std.specs.Prelude.{Option, Some, None}
 use Rattle.std.specs.List.{position_or_len}
 use Rattle.std.specs.Option.{option_or}
-use Rattle.mpslp_mps.specs.Line.{LineContent}
-use Rattle.mpslp_mps.specs.Section.{section_of_header, is_section, begins}
+use Rattle.mpslp_mps_fields.specs.Line.{LineContent}
+use Rattle.mpslp_mps_fields.specs.Section.{section_of_header, is_section, begins}
 use Rattle.mpslp_mps.specs.Context.{Context}
 use Rattle.mpslp_mps.specs.NextContext.{next_context}
 use Rattle.mpslp_mps.specs.MpsText.{is_end}
 use Rattle.mpslp_mps.specs.FedLaws.{to_end-last, to_end-more}
-use Rattle.mpslp_mps.specs.declared.sections.Section.{Section}
-use Rattle.mpslp_mps.specs.declared.sections.Section.TheVariants.{EndData}
+use Rattle.mpslp_mps_fields.specs.declared.sections.Section.{Section}
+use Rattle.mpslp_mps_fields.specs.declared.sections.Section.TheVariants.{EndData}
 
 -- the lines up to that of ENDATA, as in `read_lines`
 abbrev pub up_to_end : List (List ℕ) → List (List ℕ)

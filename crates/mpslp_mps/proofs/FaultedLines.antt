@@ -25,7 +25,7 @@ use Rattle.mpslp_lines.specs.LineAnswer.{fault_on_line}
 use Rattle.mpslp_lines.specs.FaultTests.{FaultTests}
 use Rattle.mpslp_lines.proofs.LeastLemmas.{lesser, earlier_of, least-append, least-none}
 use Rattle.mpslp_lines.proofs.FirstFaultLemmas.{faultless}
-use Rattle.mpslp_mps.specs.Line.{LineContent, content_of, outside_comment}
+use Rattle.mpslp_mps_fields.specs.Line.{LineContent, content_of, outside_comment}
 use Rattle.mpslp_mps.specs.Context.{context_of}
 use Rattle.mpslp_mps.specs.LineDeclarations.{line_declares}
 use Rattle.mpslp_mps.specs.LineFault.{item_tests, line_tests}

@@ -9,8 +9,8 @@ use Rattle.mpslp_builder.specs.Declaration.{Draft, empty_draft}
 use Rattle.mpslp_types.specs.declared.faults.Fault.{Fault}
 use Rattle.mpslp_types.specs.declared.faults.FaultKind.{FaultKind}
 use Rattle.mpslp_lines.specs.LineAnswer.{fault_on_line}
-use Rattle.mpslp_mps.specs.Section.{is_section}
-use Rattle.mpslp_mps.specs.Line.{content_of}
+use Rattle.mpslp_mps_fields.specs.Section.{is_section}
+use Rattle.mpslp_mps_fields.specs.Line.{content_of}
 use Rattle.mpslp_mps.specs.Context.{Context, context_of}
 use Rattle.mpslp_mps.specs.NextContext.{without_names, kept_context}
 use Rattle.mpslp_mps.specs.MpsText.{is_end}
@@ -19,7 +19,7 @@ use Rattle.mpslp_mps.specs.LineByLine.{placed_in, draft_after, context_after, fa
 use Rattle.mpslp_mps.specs.ReadAnswer.{lines_to_end}
 use Rattle.mpslp_mps.specs.Fed.{lines_fault, LedTo}
 use Rattle.mpslp_mps.specs.FedLaws.{to_end-last, to_end-more}
-use Rattle.mpslp_mps.specs.declared.sections.Section.TheVariants.{EndData}
+use Rattle.mpslp_mps_fields.specs.declared.sections.Section.TheVariants.{EndData}
 use Rattle.mpslp_mps.specs.VectorDeclared.{HasMpsSides}
 use Rattle.mpslp_mps.proofs.EndLemmas.{at_end-after}
 use Rattle.mpslp_mps.proofs.LoopLemmas.{sides-next}

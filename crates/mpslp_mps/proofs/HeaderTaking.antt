@@ -6,16 +6,17 @@ use Rattle.mpslp_types.specs.Name.{is_one_of}
 use Rattle.mpslp_builder.specs.Declaration.{Draft}
 use Rattle.mpslp_types.specs.declared.faults.FaultKind.{FaultKind}
 use Rattle.mpslp_types.specs.declared.faults.FaultKind.TheVariants as kinds
-use Rattle.mpslp_mps.specs.Line.{Fields, header}
-use Rattle.mpslp_mps.specs.Section.{section_named}
+use Rattle.mpslp_mps_fields.specs.Line.{Fields, header}
+use Rattle.mpslp_mps_fields.specs.Section.{section_named}
 use Rattle.mpslp_mps.specs.Context.{Context}
 use Rattle.mpslp_lines.specs.FaultTests.{first_held}
-use Rattle.mpslp_mps.specs.HeaderFault.{unknown_section, header_tests}
+use Rattle.mpslp_mps.specs.HeaderFault.{header_tests}
+use Rattle.mpslp_mps_fields.specs.HeaderLine.{unknown_section}
 use Rattle.mpslp_mps.specs.LineDeclarations.{header_declared}
 use Rattle.mpslp_mps.specs.LineAnswer.{item_fault}
 use Rattle.mpslp_lines.specs.Declaring.{declared_fault}
-use Rattle.mpslp_mps.specs.declared.sections.Section.{Section}
-use Rattle.mpslp_mps.specs.declared.sections.Section.TheVariants.{Name, ObjSense, ObjName, Rows, Columns, Rhs, Ranges, Bounds, EndData}
+use Rattle.mpslp_mps_fields.specs.declared.sections.Section.{Section}
+use Rattle.mpslp_mps_fields.specs.declared.sections.Section.TheVariants.{Name, ObjSense, ObjName, Rows, Columns, Rhs, Ranges, Bounds, EndData}
 use Rattle.mpslp_lines.proofs.LeastLemmas.{is_from}
 use Rattle.mpslp_lines.proofs.FirstFaultLemmas.{form-first, declared-first}
 use Rattle.mpslp_mps.proofs.ClashLemmas.{header-apart}

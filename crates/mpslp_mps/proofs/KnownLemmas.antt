@@ -16,19 +16,19 @@ use Rattle.mpslp_types.proofs.BoolLemmas.{both_so, or_left}
 use Rattle.mpslp_builder.proofs.RefusalLemmas.{are_known_in_turn}
 use Rattle.mpslp_builder.proofs.LaterDrafts.{itself_named}
 use Rattle.mpslp_builder.proofs.SlotLemmas.{has-put}
-use Rattle.mpslp_mps.specs.Line.{Fields, LineContent, skipped, header, data_line}
-use Rattle.mpslp_mps.specs.Section.{has, section_named, begins, is_section}
-use Rattle.mpslp_mps.specs.DataLine.{RowLine, Pair, ValuesLine, word_shape, sense_of, row_shape, row_type, column_shape, is_marker_line, vector_shape}
-use Rattle.mpslp_mps.specs.BoundLine.{BoundLine, bound_type, bound_shape}
+use Rattle.mpslp_mps_fields.specs.Line.{Fields, LineContent, skipped, header, data_line}
+use Rattle.mpslp_mps_fields.specs.Section.{has, section_named, begins, is_section}
+use Rattle.mpslp_mps_fields.specs.DataLine.{RowLine, Pair, ValuesLine, word_shape, sense_of, row_shape, row_type, column_shape, is_marker_line, vector_shape}
+use Rattle.mpslp_mps_fields.specs.BoundLine.{BoundLine, bound_type, bound_shape}
 use Rattle.mpslp_mps.specs.Context.{Context, context_of, current_section, has_section}
 use Rattle.mpslp_mps.specs.LineDeclarations.{declared_if_some, sense_declared, is_new_objective, row_of_type, row_declared, coefficient_declared, column_declared, columns_line_declared, rhs_line_declared, ranges_declared, bound_declared, bound_value, bound_line_declared, data_declared, header_declared, line_declares}
 use Rattle.mpslp_lines.specs.Field.{value_of}
 use Rattle.mpslp_mps.specs.HeaderFault.{header_tests}
 use Rattle.mpslp_mps.proofs.ContextLineLemmas.{form_faults, declared_items, are_well_formed, no_faults}
-use Rattle.mpslp_mps.specs.declared.sections.Section.{Section}
-use Rattle.mpslp_mps.specs.declared.sections.Section.TheVariants.{Name, ObjSense, ObjName, Rows, Columns, Rhs, Ranges, Bounds, EndData}
-use Rattle.mpslp_mps.specs.declared.bound_types.BoundType.{BoundType}
-use Rattle.mpslp_mps.specs.declared.bound_types.BoundType.TheVariants as bounds
+use Rattle.mpslp_mps_fields.specs.declared.sections.Section.{Section}
+use Rattle.mpslp_mps_fields.specs.declared.sections.Section.TheVariants.{Name, ObjSense, ObjName, Rows, Columns, Rhs, Ranges, Bounds, EndData}
+use Rattle.mpslp_mps_fields.specs.declared.bound_types.BoundType.{BoundType}
+use Rattle.mpslp_mps_fields.specs.declared.bound_types.BoundType.TheVariants as bounds
 use Rattle.mpslp_builder.proofs.MadeDrafts.{with_declarations-append}
 use Rattle.mpslp_mps.proofs.SectionLemmas.{has_section-push}
 use Rattle.mpslp_mps.proofs.OrderLemmas.{header-fresh, Past, past-rows, past-columns, never, IsGood, is_late, Ordered, ordered-push, declares_row, declares_column, no_rows, no_columns, rows-kept, columns-kept, each-declared, sense-passes, sides-passes, ranges-passes, bounds-passes, columns-line-no-rows, passes-no_rows, passes-no_columns}

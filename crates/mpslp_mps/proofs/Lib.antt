@@ -10,7 +10,6 @@ pub mod ContextLemmas
 pub mod ObjectiveLemmas
 pub mod ModelFromNoFault
 pub mod ReadingLemmas
-pub mod FieldsLemmas
 pub mod StepLemmas
 pub mod FrontLemmas
 pub mod RisingTests

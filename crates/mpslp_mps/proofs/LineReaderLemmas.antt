@@ -11,13 +11,13 @@ use Rattle.mpslp_lines.specs.LinesRead.{RefusesLines}
 use Rattle.mpslp_lines.specs.LineAnswer.{IsErrorOf, IsFaultOn}
 use Rattle.mpslp_lines.specs.declared.errors.LineError.{LineError}
 use Rattle.mpslp_lines.specs.declared.errors.LineError.TheVariants as errors
-use Rattle.mpslp_mps.specs.Section.{is_section}
+use Rattle.mpslp_mps_fields.specs.Section.{is_section}
 use Rattle.mpslp_mps.specs.FirstFault.{line_fault, first_mps_fault}
 use Rattle.mpslp_mps.specs.LineByLine.{placed_in}
 use Rattle.mpslp_mps.specs.ReadAnswer.{ReadsMps}
 use Rattle.mpslp_mps.specs.Fed.{HasRead, IsFaultOfLines}
 use Rattle.mpslp_mps.specs.declared.line_reader.LineReader.{LineReader}
-use Rattle.mpslp_mps.specs.declared.sections.Section.TheVariants.{EndData}
+use Rattle.mpslp_mps_fields.specs.declared.sections.Section.TheVariants.{EndData}
 use Rattle.mpslp_mps.proofs.FedLemmas.{lines_fault-is, led-fault}
 use Rattle.mpslp_mps.proofs.TextLemmas.{fault_of_lines, first_fault-whole, draft-whole}
 use Rattle.mpslp_mps.proofs.ReadLemmas.{finished-reads}

@@ -11,7 +11,7 @@ use Rattle.mpslp_mps.specs.LineFault.{item_tests, line_tests}
 use Rattle.mpslp_mps.specs.LineDeclarations.{line_declares}
 use Rattle.mpslp_mps.proofs.ContextLineLemmas.{item-form}
 use Rattle.mpslp_mps.proofs.RisingTests.{item-rising}
-use Rattle.mpslp_mps.specs.Line.{content_of, outside_comment}
+use Rattle.mpslp_mps_fields.specs.Line.{content_of, outside_comment}
 use Rattle.mpslp_mps.specs.Context.{Context}
 use Rattle.mpslp_mps.specs.LineAnswer.{item_fault}
 use Rattle.mpslp_mps.specs.FirstFault.{line_fault}

@@ -20,7 +20,7 @@ use Rattle.mpslp_lines.specs.LineAnswer.{fault_on_line}
 use Rattle.mpslp_lines.proofs.FirstFaultLemmas.{faultless}
 use Rattle.mpslp_lines.proofs.ObjectiveLemmas.{objective-declared}
 use Rattle.mpslp_lines.proofs.AnswerLemmas.{no_fault-unless}
-use Rattle.mpslp_mps.specs.Line.{LineContent, content_of}
+use Rattle.mpslp_mps_fields.specs.Line.{LineContent, content_of}
 use Rattle.mpslp_mps.specs.Context.{context_of}
 use Rattle.mpslp_mps.specs.MpsText.{LineInContext, is_end, read_lines, has_end, declared_at, tests_at, is_well_formed, lines_in_context_after, lines_in_context, declarations_of, DeclaresMps}
 use Rattle.mpslp_mps.specs.FirstFault.{line_fault, first_line_fault, whole_mps_fault, first_mps_fault}

@@ -16,7 +16,7 @@ use Rattle.mpslp_builder.proofs.Acceptance.{none-from_means}
 use Rattle.mpslp_lines.specs.LineAnswer.{fault_on_line}
 use Rattle.mpslp_lines.proofs.FirstFaultLemmas.{no_fault}
 use Rattle.mpslp_lines.proofs.AnswerLemmas.{model-or_fault as one_of_both}
-use Rattle.mpslp_mps.specs.Line.{LineContent, content_of}
+use Rattle.mpslp_mps_fields.specs.Line.{LineContent, content_of}
 use Rattle.mpslp_mps.specs.Context.{context_of}
 use Rattle.mpslp_mps.specs.MpsText.{LineInContext, read_lines, has_end, declared_at, tests_at, is_well_formed, lines_in_context_after, lines_in_context, DeclaresMps}
 use Rattle.mpslp_mps.specs.FirstFault.{first_line_fault, whole_mps_fault, first_mps_fault}

@@ -8,8 +8,8 @@ use Rattle.mpslp_model_core.specs.Lists.{those_of}
 use Rattle.mpslp_lines.proofs.LeastLemmas.{least-none}
 use Rattle.mpslp_types.specs.declared.faults.Fault.{Fault}
 use Rattle.mpslp_types.specs.declared.faults.FaultKind.{FaultKind}
-use Rattle.mpslp_mps.specs.Line.{Fields, LineContent, skipped, header, data_line, content_of}
-use Rattle.mpslp_mps.specs.Section.{has, section_named, section_of_header, begins}
+use Rattle.mpslp_mps_fields.specs.Line.{Fields, LineContent, skipped, header, data_line, content_of}
+use Rattle.mpslp_mps_fields.specs.Section.{has, section_named, section_of_header, begins}
 use Rattle.mpslp_mps.specs.Context.{Context}
 use Rattle.mpslp_mps.specs.NextContext.{next_context}
 use Rattle.mpslp_mps.specs.HeaderFault.{header_tests}
@@ -21,7 +21,7 @@ use Rattle.mpslp_mps.specs.FirstFault.{line_fault}
 use Rattle.mpslp_lines.specs.LineAnswer.{fault_on_line}
 use Rattle.mpslp_mps.specs.LineByLine.{placed_in, context_after, draft_after, fault_from, draft_from}
 use Rattle.mpslp_mps.specs.ReadAnswer.{lines_to_end}
-use Rattle.mpslp_mps.specs.declared.sections.Section.TheVariants.{Columns, EndData}
+use Rattle.mpslp_mps_fields.specs.declared.sections.Section.TheVariants.{Columns, EndData}
 use Rattle.mpslp_builder.proofs.RefusalLemmas.{left_none}
 use Rattle.mpslp_mps.proofs.SectionLemmas.{has-more}
 use Rattle.mpslp_mps.proofs.ObjectiveLemmas.{columns-name, end-after}

@@ -6,14 +6,14 @@ use Rattle.mpslp_builder.specs.Declaration.{declare_objective, Draft, with_decla
 use Rattle.mpslp_model_core.specs.Lists.{those_of}
 use Rattle.mpslp_builder.proofs.MadeDrafts.{with_declarations-append}
 use Rattle.mpslp_lines.proofs.ObjectiveLemmas.{named-after}
-use Rattle.mpslp_mps.specs.Line.{Fields, LineContent, skipped, header, data_line, content_of}
-use Rattle.mpslp_mps.specs.Section.{has, section_named, begins, is_section}
+use Rattle.mpslp_mps_fields.specs.Line.{Fields, LineContent, skipped, header, data_line, content_of}
+use Rattle.mpslp_mps_fields.specs.Section.{has, section_named, begins, is_section}
 use Rattle.mpslp_mps.specs.Context.{Context, context_of, has_section}
 use Rattle.mpslp_mps.specs.LineDeclarations.{header_declared, line_declares}
 use Rattle.mpslp_mps.specs.HeaderFault.{header_tests}
 use Rattle.mpslp_mps.specs.MpsText.{is_end}
-use Rattle.mpslp_mps.specs.declared.sections.Section.{Section}
-use Rattle.mpslp_mps.specs.declared.sections.Section.TheVariants.{Name, ObjSense, ObjName, Rows, Columns, Rhs, Ranges, Bounds, EndData}
+use Rattle.mpslp_mps_fields.specs.declared.sections.Section.{Section}
+use Rattle.mpslp_mps_fields.specs.declared.sections.Section.TheVariants.{Name, ObjSense, ObjName, Rows, Columns, Rhs, Ranges, Bounds, EndData}
 use Rattle.mpslp_mps.proofs.SectionLemmas.{has_section-push}
 use Rattle.mpslp_mps.proofs.ContextLineLemmas.{declared_items, are_well_formed}
 use Rattle.mpslp_mps.proofs.OrderLemmas.{header-begins, header-complete, IsGood}

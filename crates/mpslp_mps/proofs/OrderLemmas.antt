@@ -13,20 +13,21 @@ use Rattle.mpslp_types.specs.declared.kinds.Limit.{Limit}
 use Rattle.mpslp_types.specs.declared.faults.FaultKind.TheVariants as kinds
 use Rattle.mpslp_types.proofs.BoolLemmas.{both_so, or_left, or_right, nor}
 use Rattle.mpslp_lines.proofs.HeldLemmas.{first_test, later_tests}
-use Rattle.mpslp_mps.specs.Line.{Fields, LineContent, skipped, header, data_line}
-use Rattle.mpslp_mps.specs.Section.{has, section_named, section_of_header, begins, is_section}
-use Rattle.mpslp_mps.specs.DataLine.{Pair, ValuesLine, word_shape, sense_of, column_shape, is_marker_line, vector_shape}
-use Rattle.mpslp_mps.specs.BoundLine.{BoundLine, bound_type, bound_shape}
+use Rattle.mpslp_mps_fields.specs.Line.{Fields, LineContent, skipped, header, data_line}
+use Rattle.mpslp_mps_fields.specs.Section.{has, section_named, section_of_header, begins, is_section}
+use Rattle.mpslp_mps_fields.specs.DataLine.{Pair, ValuesLine, word_shape, sense_of, column_shape, is_marker_line, vector_shape}
+use Rattle.mpslp_mps_fields.specs.BoundLine.{BoundLine, bound_type, bound_shape}
 use Rattle.mpslp_mps.specs.Context.{Context, context_of, current_section, has_section}
 use Rattle.mpslp_mps.specs.LineDeclarations.{declared_if_some, sense_declared, coefficient_declared, column_declared, columns_line_declared, rhs_line_declared, ranges_declared, bound_declared, bound_value, bound_line_declared}
 use Rattle.mpslp_lines.specs.Field.{value_of}
 use Rattle.mpslp_lines.specs.FaultTests.{FaultTests}
-use Rattle.mpslp_mps.specs.HeaderFault.{may_begin, is_out_of_order, may_follow, lacks_objective, section_tests, header_tests}
+use Rattle.mpslp_mps.specs.HeaderFault.{may_begin, is_out_of_order, lacks_objective, section_tests, header_tests}
+use Rattle.mpslp_mps_fields.specs.HeaderLine.{may_follow}
 use Rattle.mpslp_mps.proofs.ContextLineLemmas.{form_faults}
-use Rattle.mpslp_mps.specs.declared.sections.Section.{Section}
-use Rattle.mpslp_mps.specs.declared.sections.Section.TheVariants.{Name, ObjSense, ObjName, Rows, Columns, Rhs, Ranges, Bounds, EndData}
-use Rattle.mpslp_mps.specs.declared.bound_types.BoundType.{BoundType}
-use Rattle.mpslp_mps.specs.declared.bound_types.BoundType.TheVariants as bounds
+use Rattle.mpslp_mps_fields.specs.declared.sections.Section.{Section}
+use Rattle.mpslp_mps_fields.specs.declared.sections.Section.TheVariants.{Name, ObjSense, ObjName, Rows, Columns, Rhs, Ranges, Bounds, EndData}
+use Rattle.mpslp_mps_fields.specs.declared.bound_types.BoundType.{BoundType}
+use Rattle.mpslp_mps_fields.specs.declared.bound_types.BoundType.TheVariants as bounds
 use Rattle.mpslp_mps.proofs.SectionLemmas.{current_section-push, has_section-push}
 
 -- ---- well-formed headers

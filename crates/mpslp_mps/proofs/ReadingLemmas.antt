@@ -6,7 +6,7 @@ use Rattle.std.specs.Option.{option_map, option_or}
 use Rattle.mpslp_builder.specs.Declaration.{Draft, empty_draft, with_declarations, draft_of}
 use Rattle.mpslp_types.specs.declared.faults.Fault.{Fault}
 use Rattle.mpslp_builder.proofs.MadeDrafts.{with_declarations-append}
-use Rattle.mpslp_mps.specs.Line.{LineContent, content_of}
+use Rattle.mpslp_mps_fields.specs.Line.{LineContent, content_of}
 use Rattle.mpslp_mps.specs.Context.{Context, context_of}
 use Rattle.mpslp_mps.specs.LineDeclarations.{line_declares}
 use Rattle.mpslp_mps.specs.MpsText.{read_lines, declared_at, lines_in_context_after, declarations_of}

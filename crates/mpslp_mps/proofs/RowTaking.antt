@@ -3,7 +3,7 @@ use Rattle.std.proofs.Common.{◌≡◌, refl, List, [], ◌∷◌, Bool, true, 
 use Rattle.std.specs.Prelude.{Option, Some, None}
 use Rattle.std.specs.List.{list_all}
 use Rattle.mpslp_types.specs.declared.faults.FaultKind.TheVariants as kinds
-use Rattle.mpslp_mps.specs.DataLine.{RowLine}
+use Rattle.mpslp_mps_fields.specs.DataLine.{RowLine}
 use Rattle.mpslp_lines.specs.FaultTests.{judged_by}
 use Rattle.mpslp_mps.specs.HeaderFault.{word_tests}
 use Rattle.mpslp_mps.specs.DataFault.{row_line_tests}

@@ -6,17 +6,18 @@ use Rattle.std.specs.Option.{option_map, option_map_or, option_or}
 use Rattle.std.proofs.lemmas.List.{append-nil}
 use Rattle.mpslp_decimal.specs.Decimal.{Number}
 use Rattle.mpslp_types.specs.Name.{same_bytes}
-use Rattle.mpslp_mps.specs.Line.{Fields, skipped, header, data_line}
-use Rattle.mpslp_mps.specs.Section.{is_section, section_named}
-use Rattle.mpslp_mps.specs.DataLine.{ValuesLine, word_shape, column_shape, is_marker_line, marker_shape, opening_word, vector_shape}
-use Rattle.mpslp_mps.specs.BoundLine.{BoundLine, bound_type, bound_shape}
-use Rattle.mpslp_mps.specs.Context.{Context, section_of_word_due, line_column, vector_set, bound_set}
+use Rattle.mpslp_mps_fields.specs.Line.{Fields, skipped, header, data_line}
+use Rattle.mpslp_mps_fields.specs.Section.{is_section, section_named}
+use Rattle.mpslp_mps_fields.specs.DataLine.{ValuesLine, word_shape, column_shape, is_marker_line, marker_shape, opening_word, vector_shape}
+use Rattle.mpslp_mps_fields.specs.BoundLine.{BoundLine, bound_type, bound_shape}
+use Rattle.mpslp_mps.specs.Context.{Context, line_column, vector_set, bound_set}
+use Rattle.mpslp_mps_fields.specs.HeaderLine.{section_of_word_due, header_objname}
 use Rattle.mpslp_mps.specs.NextContext.{next_part, next_set, next_context}
 use Rattle.mpslp_mps.specs.LineValues.{named_values}
-use Rattle.mpslp_mps.specs.ContextStep.{header_objname, after_header, after_objname, after_data, after_marker, after_column, after_rhs, after_range, after_bound}
-use Rattle.mpslp_mps.specs.declared.bound_types.BoundType.{BoundType}
-use Rattle.mpslp_mps.specs.declared.sections.Section.{Section}
-use Rattle.mpslp_mps.specs.declared.sections.Section.TheVariants.{ObjSense, ObjName, Rows, Columns, Rhs, Ranges, Bounds}
+use Rattle.mpslp_mps.specs.ContextStep.{after_header, after_objname, after_data, after_marker, after_column, after_set}
+use Rattle.mpslp_mps_fields.specs.declared.bound_types.BoundType.{BoundType}
+use Rattle.mpslp_mps_fields.specs.declared.sections.Section.{Section}
+use Rattle.mpslp_mps_fields.specs.declared.sections.Section.TheVariants.{ObjSense, ObjName, Rows, Columns, Rhs, Ranges, Bounds}
 
 -- a line that gives nothing leaves what is known unchanged
 same-option : {X : Type 0} (o : Option X) → option_or o None ≡ o
@@ -105,17 +106,17 @@ set-of fields set values k = of (vector_shape fields) k
     of (Some line) e = ap (option_map (λ (p : List ℕ × List (List ℕ × Number)). p.0)) e
 
 pub step-right_side : (c : Context) (fields : Fields) (set : List ℕ) (values : List (List ℕ × Number)) → c.section ≡ Some Rhs
-    → option_map named_values (vector_shape fields) ≡ Some (set, values) → next_context c (data_line fields) ≡ after_rhs c set
+    → option_map named_values (vector_shape fields) ≡ Some (set, values) → next_context c (data_line fields) ≡ after_set c Rhs set
 step-right_side c fields set values h k =
     ap (under c fields) h ∙ (λ i. record c { sections_seen = append-nil c.sections_seen i; word_due = None; objname = same-option c.objname i; rhs_set = option_or c.rhs_set (set-of fields set values k i) })
 
 pub step-range : (c : Context) (fields : Fields) (set : List ℕ) (values : List (List ℕ × Number)) → c.section ≡ Some Ranges
-    → option_map named_values (vector_shape fields) ≡ Some (set, values) → next_context c (data_line fields) ≡ after_range c set
+    → option_map named_values (vector_shape fields) ≡ Some (set, values) → next_context c (data_line fields) ≡ after_set c Ranges set
 step-range c fields set values h k =
     ap (under c fields) h ∙ (λ i. record c { sections_seen = append-nil c.sections_seen i; word_due = None; objname = same-option c.objname i; ranges_set = option_or c.ranges_set (set-of fields set values k i) })
 
 pub step-bound : (c : Context) (letters : List ℕ) (more : Fields) (type : BoundType) (line : BoundLine) → c.section ≡ Some Bounds → bound_type letters ≡ Some type
-    → bound_shape type more ≡ Some line → next_context c (data_line (letters ∷ more)) ≡ after_bound c line.set
+    → bound_shape type more ≡ Some line → next_context c (data_line (letters ∷ more)) ≡ after_set c Bounds line.set
 step-bound c letters more type line h t k =
     ap (under c (letters ∷ more)) h ∙ (λ i. record c { sections_seen = append-nil c.sections_seen i; word_due = None; objname = same-option c.objname i; bounds_set = option_or c.bounds_set (set i) })
   where

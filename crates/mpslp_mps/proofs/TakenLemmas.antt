@@ -9,12 +9,12 @@ use Rattle.mpslp_model_core.specs.Lists.{those_of}
 use Rattle.mpslp_types.specs.FaultOrder.{least_kind}
 use Rattle.mpslp_types.specs.declared.faults.FaultKind.{FaultKind}
 use Rattle.mpslp_types.specs.declared.faults.FaultKind.TheVariants as kinds
-use Rattle.mpslp_mps.specs.Line.{Fields, data_line}
-use Rattle.mpslp_mps.specs.DataLine.{Pair, ValuesLine}
+use Rattle.mpslp_mps_fields.specs.Line.{Fields, data_line}
+use Rattle.mpslp_mps_fields.specs.DataLine.{Pair, ValuesLine}
 use Rattle.mpslp_mps.specs.Context.{Context}
 use Rattle.mpslp_mps.specs.LineDeclarations.{declared_if_some, rhs_line_declared, ranges_declared, data_declared}
 use Rattle.mpslp_lines.specs.Field.{value_of, number_tests}
-use Rattle.mpslp_mps.specs.BoundLine.{BoundLine, bound_type, bound_shape}
+use Rattle.mpslp_mps_fields.specs.BoundLine.{BoundLine, bound_type, bound_shape}
 use Rattle.mpslp_lines.specs.FaultTests.{FaultTests, judged_by, first_held}
 use Rattle.mpslp_mps.specs.FieldFault.{set_tests}
 use Rattle.mpslp_mps.specs.DataFault.{vector_tests, bound_tests, typed_bound_tests, bound_line_tests, data_tests}
@@ -22,8 +22,8 @@ use Rattle.mpslp_mps.specs.LineAnswer.{item_fault}
 use Rattle.mpslp_mps.specs.LineValues.{row_value, named_values}
 use Rattle.mpslp_lines.specs.Declaring.{declaring_faults, declared_fault}
 use Rattle.mpslp_mps.specs.VectorDeclared.{rhs_values_declared, ranges_of}
-use Rattle.mpslp_mps.specs.declared.bound_types.BoundType.{BoundType}
-use Rattle.mpslp_mps.specs.declared.sections.Section.{Section}
+use Rattle.mpslp_mps_fields.specs.declared.bound_types.BoundType.{BoundType}
+use Rattle.mpslp_mps_fields.specs.declared.sections.Section.{Section}
 use Rattle.mpslp_lines.proofs.LeastLemmas.{is_from}
 use Rattle.mpslp_lines.proofs.ClashLemmas.{has_kind_clash}
 use Rattle.mpslp_lines.proofs.FirstFaultLemmas.{form-first, is_behind_clash, clash-first, declared-first}

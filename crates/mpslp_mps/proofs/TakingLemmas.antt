@@ -5,7 +5,7 @@ use Rattle.std.specs.List.{list_all}
 use Rattle.mpslp_builder.specs.Declaration.{Declarations, Draft, with_declarations}
 use Rattle.mpslp_types.specs.declared.faults.FaultKind.{FaultKind}
 use Rattle.mpslp_types.specs.declared.faults.FaultKind.TheVariants as kinds
-use Rattle.mpslp_mps.specs.Line.{Fields, data_line}
+use Rattle.mpslp_mps_fields.specs.Line.{Fields, data_line}
 use Rattle.mpslp_mps.specs.Context.{Context}
 use Rattle.mpslp_mps.specs.NextContext.{next_context}
 use Rattle.mpslp_lines.specs.FaultTests.{first_held}
@@ -16,7 +16,7 @@ use Rattle.mpslp_lines.specs.LineAnswer.{IsErrorOf}
 use Rattle.mpslp_mps.specs.LineAnswer.{ReadsContent}
 use Rattle.mpslp_lines.specs.declared.errors.LineError.{LineError}
 use Rattle.mpslp_lines.specs.declared.errors.LineError.TheVariants.{Fault, OutOfMemory}
-use Rattle.mpslp_mps.specs.declared.sections.Section.{Section}
+use Rattle.mpslp_mps_fields.specs.declared.sections.Section.{Section}
 use Rattle.mpslp_lines.proofs.LeastLemmas.{is_from}
 use Rattle.mpslp_lines.proofs.ClashLemmas.{has_kind_clash}
 use Rattle.mpslp_mps.proofs.TakenLemmas.{data_fault, data_fault-form, data_fault-declared, declared-is}

@@ -5,7 +5,7 @@ use Rattle.std.specs.List.{list_all}
 use Rattle.mpslp_types.proofs.BoolLemmas.{both_so}
 use Rattle.mpslp_builder.specs.Declaration.{Draft, empty_draft, with_declarations}
 use Rattle.mpslp_model_core.specs.Lists.{is_nonempty}
-use Rattle.mpslp_mps.specs.Line.{LineContent, skipped, header, data_line, content_of}
+use Rattle.mpslp_mps_fields.specs.Line.{LineContent, skipped, header, data_line, content_of}
 use Rattle.mpslp_mps.specs.Context.{context_of}
 use Rattle.mpslp_mps.specs.LineDeclarations.{line_declares}
 use Rattle.mpslp_mps.specs.MpsText.{is_mps_text, read_lines, has_end, is_well_formed, lines_in_context}

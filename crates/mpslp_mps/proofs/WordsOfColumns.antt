@@ -12,14 +12,14 @@ use Rattle.mpslp_builder.specs.Declaration.{Declaration, declare_sense, declare_
 use Rattle.mpslp_model_core.specs.Lists.{is_nonempty, when}
 use Rattle.mpslp_builder.proofs.LaterDrafts.{more_entries, itself_named}
 use Rattle.mpslp_builder.proofs.SlotLemmas.{same_name, has-put}
-use Rattle.mpslp_mps.specs.Line.{Fields, LineContent, skipped, header, data_line}
-use Rattle.mpslp_mps.specs.Section.{is_section}
-use Rattle.mpslp_mps.specs.DataLine.{ValuesLine, is_marker_line, column_shape}
+use Rattle.mpslp_mps_fields.specs.Line.{Fields, LineContent, skipped, header, data_line}
+use Rattle.mpslp_mps_fields.specs.Section.{is_section}
+use Rattle.mpslp_mps_fields.specs.DataLine.{ValuesLine, is_marker_line, column_shape}
 use Rattle.mpslp_mps.specs.Context.{Context, context_of, current_section, fields_under, data_lines, line_column, last_column}
 use Rattle.mpslp_mps.specs.LineDeclarations.{declared_if_some, coefficient_declared, column_declared, columns_line_declared, data_declared, line_declares}
 use Rattle.mpslp_mps.specs.DataFault.{is_split}
 use Rattle.mpslp_mps.specs.TextInWords.{same_column, entries_after, stand_together}
-use Rattle.mpslp_mps.specs.declared.sections.Section.TheVariants.{Columns}
+use Rattle.mpslp_mps_fields.specs.declared.sections.Section.TheVariants.{Columns}
 use Rattle.mpslp_mps.proofs.OrderLemmas.{IsGood}
 use Rattle.mpslp_mps.proofs.SectionLemmas.{data_lines-push}
 use Rattle.mpslp_mps.proofs.WordsOfFields.{section-is, column-continues_column}

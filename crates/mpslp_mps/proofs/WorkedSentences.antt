@@ -1,7 +1,7 @@
 -- `FaultsInWords` on worked lines, by computation: each definition holds for lines with its error, and for no correct line.
 use Rattle.std.proofs.Common.{◌≡◌, refl}
 use Rattle.std.specs.Prelude.{ℕ, Bool, true, false, ◌||◌, List, [], ◌∷◌, ◌++◌, map, codes}
-use Rattle.mpslp_mps.specs.Line.{LineContent, content_of}
+use Rattle.mpslp_mps_fields.specs.Line.{LineContent, content_of}
 use Rattle.mpslp_mps.specs.MpsText.{read_lines}
 use Rattle.mpslp_mps.specs.FaultsInWords.{repeats_section, stands_out_of_order, is_wrong_marker, is_of_second_set, splits_column, repeats_row, names_unknown_row, names_unknown_column, repeats_entry}
 use Rattle.mpslp_mps.proofs.WorkedFiles.{small, ranges, semi_columns, maximized, integer_bounds}

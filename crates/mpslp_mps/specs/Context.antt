@@ -1,15 +1,16 @@
 -- What the lines before a line mean for it: each part is defined directly by the list of these lines.
-use Rattle.std.specs.Prelude.{ℕ, Bool, true, false, List, [], ◌∷◌, ◌++◌, filter, filter_map, Option, Some, None, if◌then◌else◌}
+use Rattle.std.specs.Prelude.{ℕ, Bool, true, false, List, [], ◌∷◌, ◌++◌, filter, filter_map, Option, None, if◌then◌else◌}
 use Rattle.std.specs.List.{last_or, cons_option}
 use Rattle.std.specs.Option.{option_map, option_map_or, option_or}
 use Rattle.mpslp_types.specs.Name.{same_bytes}
 use Rattle.mpslp_model_core.specs.Lists.{head_of, when}
-use Rattle.mpslp_mps.specs.Line.{Fields, LineContent, skipped, header, data_line}
-use Rattle.mpslp_mps.specs.Section.{has, section_named, section_of_header, is_section}
-use Rattle.mpslp_mps.specs.DataLine.{word_shape, column_shape, is_marker_line, marker_shape, opening_word, vector_shape}
-use Rattle.mpslp_mps.specs.BoundLine.{bound_type, bound_shape}
-use Rattle.mpslp_mps.specs.declared.sections.Section.{Section}
-use Rattle.mpslp_mps.specs.declared.sections.Section.TheVariants.{ObjSense, ObjName, Columns, Rhs, Ranges, Bounds}
+use Rattle.mpslp_mps_fields.specs.Line.{Fields, LineContent, skipped, header, data_line}
+use Rattle.mpslp_mps_fields.specs.Section.{has, section_named, section_of_header, is_section}
+use Rattle.mpslp_mps_fields.specs.HeaderLine.{section_of_word_due}
+use Rattle.mpslp_mps_fields.specs.DataLine.{word_shape, column_shape, is_marker_line, marker_shape, opening_word, vector_shape}
+use Rattle.mpslp_mps_fields.specs.BoundLine.{bound_type, bound_shape}
+use Rattle.mpslp_mps_fields.specs.declared.sections.Section.{Section}
+use Rattle.mpslp_mps_fields.specs.declared.sections.Section.TheVariants.{ObjName, Columns, Rhs, Ranges, Bounds}
 
 -- ---- sections
 
@@ -51,17 +52,6 @@ data_lines section before = data_lines_after section None before
 abbrev pub is_read : LineContent → Bool
 is_read skipped = false
 is_read _ = true
-
--- a section of one word: after the keyword of its header, or on a line of its own
-abbrev pub takes_word : Section → Bool
-takes_word ObjSense = true
-takes_word ObjName = true
-takes_word _ = false
-
--- the section whose word is missing after its header
-abbrev pub section_of_word_due : Section → Fields → Option Section
-section_of_word_due section [] = if takes_word section then Some section else None
-section_of_word_due section more = None
 
 abbrev pub word_due_after : LineContent → Option Section
 word_due_after (header keyword more) = option_map_or (λ section. section_of_word_due section more) (section_named keyword) None

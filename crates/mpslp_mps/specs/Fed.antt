@@ -3,10 +3,7 @@ use Rattle.std.specs.Prelude.{◌≡◌, ℕ, ◌+◌, ◌-◌, ◌^◌, min, Bo
 use Rattle.std.specs.List.{list_any}
 use Rattle.mpslp_builder.specs.Declaration.{Draft, empty_draft}
 use Rattle.mpslp_types.specs.declared.faults.Fault.{Fault}
-use Rattle.mpslp_model.specs.CompleteLines.{complete_lines}
-use Rattle.mpslp_lines.specs.Pieces.{IsFed}
-use Rattle.mpslp_lines.specs.declared.piece_reader.PieceReader.{PieceReader}
-use Rattle.mpslp_mps.specs.Section.{is_section}
+use Rattle.mpslp_mps_fields.specs.Section.{is_section}
 use Rattle.mpslp_mps.specs.Context.{Context, context_of}
 use Rattle.mpslp_mps.specs.NextContext.{kept_context}
 use Rattle.mpslp_mps.specs.MpsText.{is_end, lines_in_context_after}
@@ -14,7 +11,7 @@ use Rattle.mpslp_mps.specs.FirstFault.{first_line_fault}
 use Rattle.mpslp_mps.specs.LineByLine.{draft_from, context_from}
 use Rattle.mpslp_mps.specs.ReadAnswer.{lines_to_end}
 use Rattle.mpslp_mps.specs.declared.line_reader.LineReader.{LineReader}
-use Rattle.mpslp_mps.specs.declared.sections.Section.TheVariants.{EndData}
+use Rattle.mpslp_mps_fields.specs.declared.sections.Section.TheVariants.{EndData}
 
 -- ---- complete lines
 
@@ -25,10 +22,6 @@ lines_fault text = first_line_fault 1 (lines_in_context_after [] empty_draft (li
 -- This is the error of the first of these lines that has one.
 abbrev pub IsFaultOfLines : List (List ℕ) → Fault → Type 0
 IsFaultOfLines text fault = lines_fault text ≡ Some fault
-
--- This is the error of the first complete line that has one.
-abbrev pub IsFaultOfComplete : List ℕ → Fault → Type 0
-IsFaultOfComplete bytes fault = IsFaultOfLines (complete_lines bytes) fault
 
 -- The lines from the first on, up to that of ENDATA, were read, and none has an error. They led to this draft, to this
 -- context (without its names after ENDATA), and to the number of the next line.
@@ -45,8 +38,3 @@ HasRead reader text = LedTo text reader.context reader.builder reader.number
 -- the line of ENDATA was read
 abbrev pub is_ended : LineReader → Bool
 is_ended reader = is_section EndData reader.context.section
-
--- These bytes were read, and none was rejected.
-abbrev pub IsFedAll : Option (PieceReader LineReader) → List ℕ → Type 0
-IsFedAll None bytes = ⊥
-IsFedAll (Some reader) bytes = IsFed HasRead is_ended reader bytes

@@ -1,24 +1,21 @@
 -- Laws of a reader of MPS text in pieces. They are in `specs/` because its `impl` cites them.
 use Rattle.std.proofs.Common.{◌≡◌, refl, sym, ap, ◌∙◌, ℕ, ◌+◌, suc, List, [], ◌∷◌, ◌++◌, take, Bool, true, false, cond, arith}
-use Rattle.std.specs.Prelude.{◌||◌, not, is_some, Option, Some, None}
+use Rattle.std.specs.Prelude.{◌||◌, not, Option, Some, None}
 use Rattle.std.specs.List.{position_or_len, list_any}
 use Rattle.std.proofs.lemmas.List.Folds.{list_any-append}
 use Rattle.std.specs.Option.{option_or, option_map}
 use Rattle.std.specs.Str.Lines.{lines}
 use Rattle.mpslp_builder.specs.Declaration.{Draft, empty_draft, with_declarations}
 use Rattle.mpslp_types.specs.declared.faults.Fault.{Fault}
-use Rattle.mpslp_model.specs.CompleteLines.{complete_lines, open_tail}
-use Rattle.mpslp_model.proofs.CompleteLineLemmas.{lines-more}
-use Rattle.mpslp_lines.specs.declared.piece_reader.PieceReader.{PieceReader}
 use Rattle.mpslp_lines.specs.LineAnswer.{fault_on_line}
-use Rattle.mpslp_mps.specs.Line.{LineContent, content_of}
+use Rattle.mpslp_mps_fields.specs.Line.{LineContent, content_of}
 use Rattle.mpslp_mps.specs.Context.{context_of}
 use Rattle.mpslp_mps.specs.NextContext.{kept_context}
 use Rattle.mpslp_mps.specs.MpsText.{LineInContext, is_end, lines_in_context_after, declared_at}
 use Rattle.mpslp_mps.specs.FirstFault.{line_fault, first_line_fault, whole_mps_fault, IsFirstMpsFault}
 use Rattle.mpslp_mps.specs.LineByLine.{draft_from, context_from}
 use Rattle.mpslp_mps.specs.ReadAnswer.{lines_to_end}
-use Rattle.mpslp_mps.specs.Fed.{lines_fault, IsFaultOfLines, IsFaultOfComplete, HasRead, is_ended, IsFedAll}
+use Rattle.mpslp_mps.specs.Fed.{lines_fault, IsFaultOfLines, HasRead, is_ended}
 use Rattle.mpslp_mps.specs.declared.line_reader.LineReader.{LineReader}
 
 -- ---- the lines up to that of ENDATA
@@ -79,12 +76,6 @@ lines_fault-stays text more fault h = first_fault-stays text more 1 [] empty_dra
 pub lines_fault-is_first : (bytes : List ℕ) (fault : Fault) → IsFaultOfLines (lines bytes) fault → IsFirstMpsFault bytes fault
 lines_fault-is_first bytes fault h = ap (λ (o : Option Fault). option_or o (whole_mps_fault bytes)) h
 
--- The first error of the complete lines is that of the whole text, whatever follows.
-pub complete-is_first : (bytes more : List ℕ) (fault : Fault) → IsFaultOfComplete bytes fault → IsFirstMpsFault (bytes ++ more) fault
-complete-is_first bytes more fault h =
-    ap (λ (o : Option Fault). option_or o (whole_mps_fault (bytes ++ more)))
-    (ap lines_fault (lines-more bytes more) ∙ lines_fault-stays (complete_lines bytes) (lines (open_tail bytes ++ more)) fault h)
-
 -- ---- lines after that of ENDATA
 
 -- if one of the lines is that of ENDATA, no line after them is read
@@ -111,12 +102,6 @@ read-behind_end reader text more led at_end =
 
 -- ---- a reader
 
--- A reader that has read bytes still reads.
-pub fed-works : (reader : Option (PieceReader LineReader)) (bytes : List ℕ) → IsFedAll reader bytes → not (is_some reader) ≡ false
-fed-works None bytes h = absurd h
-fed-works (Some reader) bytes h = refl
-
--- No complete line of the bytes that were read has an error.
-pub fed-is_clean : (reader : Option (PieceReader LineReader)) (bytes : List ℕ) (fault : Fault) → IsFedAll reader bytes → IsFaultOfComplete bytes fault → ⊥
-fed-is_clean None bytes fault h found = h
-fed-is_clean (Some reader) bytes fault h found = let both : None ≡ Some fault = sym h.complete.clean ∙ found in cc
+-- No line that was read has an error.
+pub read-is_clean : (reader : LineReader) (text : List (List ℕ)) (fault : Fault) → HasRead reader text → IsFaultOfLines text fault → ⊥
+read-is_clean reader text fault led found = let both : None ≡ Some fault = sym led.clean ∙ found in cc

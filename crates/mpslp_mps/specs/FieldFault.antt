@@ -4,7 +4,7 @@ use Rattle.std.specs.Option.{option_map_or}
 use Rattle.mpslp_types.specs.Name.{same_bytes}
 use Rattle.mpslp_types.specs.declared.faults.FaultKind.TheVariants.{SecondSet}
 use Rattle.mpslp_lines.specs.FaultTests.{FaultTests}
-use Rattle.mpslp_mps.specs.DataLine.{Pair}
+use Rattle.mpslp_mps_fields.specs.DataLine.{Pair}
 
 abbrev pub literals_of : List Pair → List (List ℕ)
 literals_of pairs = map (λ pair. pair.literal) pairs

@@ -1,24 +1,15 @@
 -- The errors of a header, after the lines before it.
-use Rattle.std.specs.Prelude.{ℕ, Bool, true, ◌||◌, ◌&&◌, not, List, [], ◌∷◌, Option, Some, None, is_some, is_none, if◌then◌else◌, codes}
-use Rattle.mpslp_types.specs.Name.{is_one_of}
+use Rattle.std.specs.Prelude.{ℕ, Bool, true, ◌||◌, ◌&&◌, not, List, [], ◌∷◌, Option, Some, None, is_some, is_none}
 use Rattle.mpslp_builder.specs.Declaration.{Draft}
-use Rattle.mpslp_model_core.specs.Lists.{is_nonempty}
-use Rattle.mpslp_types.specs.declared.faults.FaultKind.{FaultKind}
 use Rattle.mpslp_types.specs.declared.faults.FaultKind.TheVariants as kinds
-use Rattle.mpslp_mps.specs.Line.{Fields}
-use Rattle.mpslp_mps.specs.Section.{has}
-use Rattle.mpslp_mps.specs.DataLine.{sense_of}
+use Rattle.mpslp_mps_fields.specs.Line.{Fields}
+use Rattle.mpslp_mps_fields.specs.Section.{has}
+use Rattle.mpslp_mps_fields.specs.HeaderLine.{unknown_section, may_follow}
+use Rattle.mpslp_mps_fields.specs.DataLine.{sense_of}
 use Rattle.mpslp_mps.specs.Context.{Context}
 use Rattle.mpslp_lines.specs.FaultTests.{FaultTests}
-use Rattle.mpslp_mps.specs.declared.sections.Section.{Section}
-use Rattle.mpslp_mps.specs.declared.sections.Section.TheVariants.{Name, ObjSense, ObjName, Rows, Columns}
-
--- a header that is not a section of this profile
-abbrev pub unknown_section : List ℕ → FaultKind
-unknown_section keyword =
-    if is_one_of (codes "QSECTION" ∷ codes "QMATRIX" ∷ codes "QUADOBJ" ∷ codes "QCMATRIX" ∷ codes "CSECTION" ∷ []) keyword then kinds.Quadratic
-    else (if is_one_of (codes "SOS" ∷ codes "SOS1" ∷ codes "SOS2" ∷ []) keyword then kinds.Sos
-    else (if is_one_of (codes "INDICATORS" ∷ []) keyword then kinds.Indicator else kinds.UnknownSection))
+use Rattle.mpslp_mps_fields.specs.declared.sections.Section.{Section}
+use Rattle.mpslp_mps_fields.specs.declared.sections.Section.TheVariants.{Name, ObjSense, ObjName, Rows, Columns}
 
 -- whether a section that has not begun may begin here
 abbrev pub may_begin : Context → Section → Bool
@@ -32,15 +23,6 @@ may_begin context _ = has context.sections_seen Columns
 -- a header before a missing word, and a section out of order
 abbrev pub is_out_of_order : Context → Section → Bool
 is_out_of_order context section = is_some context.word_due || not (has context.sections_seen section || may_begin context section)
-
--- what may follow the keyword: anything after NAME, one word after OBJSENSE and OBJNAME
-abbrev pub may_follow : Section → Fields → Bool
-may_follow Name more = true
-may_follow ObjSense [] = true
-may_follow ObjSense (word ∷ []) = true
-may_follow ObjName [] = true
-may_follow ObjName (word ∷ []) = true
-may_follow _ more = not (is_nonempty more)
 
 abbrev pub word_tests : List ℕ → FaultTests
 word_tests word = (is_none (sense_of word), kinds.BadType) ∷ []

@@ -2,12 +2,11 @@
 use Rattle.std.specs.Prelude.{ℕ, Bool, false, ◌&&◌, ◌||◌, List, [], ◌∷◌}
 use Rattle.std.specs.Option.{option_map_or}
 use Rattle.mpslp_builder.specs.Declaration.{Draft, is_integer, is_semi}
-use Rattle.mpslp_mps.specs.Line.{Fields}
-use Rattle.mpslp_mps.specs.DataLine.{column_shape}
-use Rattle.mpslp_mps.specs.BoundLine.{bound_type, bound_shape}
+use Rattle.mpslp_mps_fields.specs.Line.{Fields}
+use Rattle.mpslp_mps_fields.specs.DataLine.{column_shape}
+use Rattle.mpslp_mps_fields.specs.BoundLine.{bound_type, bound_shape, is_integer_type, is_semi_type}
 use Rattle.mpslp_mps.specs.Context.{Context}
-use Rattle.mpslp_mps.specs.LineDeclarations.{is_integer_type, is_semi_type}
-use Rattle.mpslp_mps.specs.declared.bound_types.BoundType.{BoundType}
+use Rattle.mpslp_mps_fields.specs.declared.bound_types.BoundType.{BoundType}
 
 -- a line of a semi-continuous column in an integer block
 abbrev pub column_clash : Context → Draft → Fields → Bool

@@ -1,7 +1,3 @@
-pub mod Line
-pub mod Section
-pub mod DataLine
-pub mod BoundLine
 pub mod Context
 pub mod NextContext
 pub mod ContextStep
@@ -10,6 +6,7 @@ pub mod FieldFault
 pub mod LineValues
 pub mod HeaderFault
 pub mod DataFault
+pub mod LegalLine
 pub mod LineFault
 pub mod MpsText
 pub mod TextInWords

@@ -4,7 +4,7 @@ use Rattle.mpslp_builder.specs.Declaration.{Draft, with_declarations}
 use Rattle.mpslp_types.specs.declared.faults.FaultKind.{FaultKind}
 use Rattle.mpslp_lines.specs.Declaring.{first_fault}
 use Rattle.mpslp_lines.specs.LineAnswer.{IsErrorOf, LineResult}
-use Rattle.mpslp_mps.specs.Line.{LineContent}
+use Rattle.mpslp_mps_fields.specs.Line.{LineContent}
 use Rattle.mpslp_mps.specs.Context.{Context}
 use Rattle.mpslp_mps.specs.NextContext.{next_context}
 use Rattle.mpslp_mps.specs.LineDeclarations.{line_declares}

@@ -1,5 +1,5 @@
 -- What each line of MPS text declares. A line of a wrong shape declares nothing.
-use Rattle.std.specs.Prelude.{ℕ, Bool, true, false, ◌&&◌, List, [], ◌∷◌, ◌++◌, map, Option, Some, None, is_none, if◌then◌else◌, codes}
+use Rattle.std.specs.Prelude.{ℕ, Bool, true, ◌&&◌, List, [], ◌∷◌, ◌++◌, map, Option, Some, None, is_none, if◌then◌else◌, codes}
 use Rattle.std.specs.List.{flat_map}
 use Rattle.std.specs.Option.{option_map_or}
 use Rattle.mpslp_types.specs.Name.{same_bytes}
@@ -12,15 +12,15 @@ use Rattle.mpslp_types.specs.declared.kinds.RowType.TheVariants.{Free}
 use Rattle.mpslp_types.specs.declared.kinds.Limit.{Limit}
 use Rattle.mpslp_types.specs.declared.kinds.Limit.TheVariants.{MinusInf, PlusInf}
 use Rattle.mpslp_lines.specs.Field.{value_of}
-use Rattle.mpslp_mps.specs.Line.{Fields, LineContent, skipped, header, data_line}
-use Rattle.mpslp_mps.specs.Section.{section_named}
-use Rattle.mpslp_mps.specs.DataLine.{RowLine, Pair, ValuesLine, word_shape, sense_of, row_shape, row_type, column_shape, is_marker_line, vector_shape}
-use Rattle.mpslp_mps.specs.BoundLine.{BoundLine, bound_type, bound_shape}
+use Rattle.mpslp_mps_fields.specs.Line.{Fields, LineContent, skipped, header, data_line}
+use Rattle.mpslp_mps_fields.specs.Section.{section_named}
+use Rattle.mpslp_mps_fields.specs.DataLine.{RowLine, Pair, ValuesLine, word_shape, sense_of, row_shape, row_type, column_shape, is_marker_line, vector_shape}
+use Rattle.mpslp_mps_fields.specs.BoundLine.{BoundLine, bound_type, bound_shape, is_integer_type, is_semi_type}
 use Rattle.mpslp_mps.specs.Context.{Context}
-use Rattle.mpslp_mps.specs.declared.sections.Section.{Section}
-use Rattle.mpslp_mps.specs.declared.sections.Section.TheVariants.{ObjSense, Rows, Columns, Rhs, Ranges, Bounds}
-use Rattle.mpslp_mps.specs.declared.bound_types.BoundType.{BoundType}
-use Rattle.mpslp_mps.specs.declared.bound_types.BoundType.TheVariants as bounds
+use Rattle.mpslp_mps_fields.specs.declared.sections.Section.{Section}
+use Rattle.mpslp_mps_fields.specs.declared.sections.Section.TheVariants.{ObjSense, Rows, Columns, Rhs, Ranges, Bounds}
+use Rattle.mpslp_mps_fields.specs.declared.bound_types.BoundType.{BoundType}
+use Rattle.mpslp_mps_fields.specs.declared.bound_types.BoundType.TheVariants as bounds
 
 -- what an optional value declares, if it is present
 abbrev pub declared_if_some : {X : Type 0} → (X → Declarations) → Option X → Declarations
@@ -99,17 +99,6 @@ upper_given bounds.Binary value = Some one_limit
 upper_given bounds.IntegerLower value = None
 upper_given bounds.IntegerUpper value = Some value
 upper_given bounds.SemiUpper value = Some value
-
--- whether the type declares the column integer, or semi-continuous
-abbrev pub is_integer_type : BoundType → Bool
-is_integer_type bounds.Binary = true
-is_integer_type bounds.IntegerLower = true
-is_integer_type bounds.IntegerUpper = true
-is_integer_type _ = false
-
-abbrev pub is_semi_type : BoundType → Bool
-is_semi_type bounds.SemiUpper = true
-is_semi_type _ = false
 
 abbrev pub kind_declared : BoundType → List ℕ → Declarations
 kind_declared type column = when (is_integer_type type) (declare_integer column) ++ when (is_semi_type type) (declare_semi column)

@@ -3,8 +3,8 @@ use Rattle.std.specs.Prelude.{ℕ, List, [], ◌++◌}
 use Rattle.mpslp_builder.specs.Declaration.{Draft}
 use Rattle.mpslp_lines.specs.FaultTests.{FaultTests}
 use Rattle.mpslp_lines.specs.LegalLine.{legal_tests}
-use Rattle.mpslp_mps.specs.Line.{LineContent, skipped, header, data_line, outside_comment, content_of}
-use Rattle.mpslp_mps.specs.Section.{section_named}
+use Rattle.mpslp_mps_fields.specs.Line.{LineContent, skipped, header, data_line, outside_comment, content_of}
+use Rattle.mpslp_mps_fields.specs.Section.{section_named}
 use Rattle.mpslp_mps.specs.Context.{Context}
 use Rattle.mpslp_mps.specs.HeaderFault.{header_tests}
 use Rattle.mpslp_mps.specs.DataFault.{data_tests}

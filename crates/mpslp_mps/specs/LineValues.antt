@@ -2,7 +2,7 @@
 use Rattle.std.specs.Prelude.{ℕ, map, List}
 use Rattle.mpslp_decimal.specs.Decimal.{Number}
 use Rattle.mpslp_lines.specs.Field.{value_of}
-use Rattle.mpslp_mps.specs.DataLine.{Pair, ValuesLine}
+use Rattle.mpslp_mps_fields.specs.DataLine.{Pair, ValuesLine}
 
 -- the row of a pair, and its value
 abbrev pub row_value : Pair → List ℕ × Number

@@ -7,12 +7,12 @@ use Rattle.mpslp_builder.specs.Declaration.{Declarations, Draft, empty_draft, wi
 use Rattle.mpslp_builder.specs.Meaning.{Means}
 use Rattle.mpslp_model_core.specs.Lists.{is_nonempty, those_of}
 use Rattle.mpslp_lines.specs.FaultTests.{FaultTests}
-use Rattle.mpslp_mps.specs.Line.{LineContent, content_of}
-use Rattle.mpslp_mps.specs.Section.{begins}
+use Rattle.mpslp_mps_fields.specs.Line.{LineContent, content_of}
+use Rattle.mpslp_mps_fields.specs.Section.{begins}
 use Rattle.mpslp_mps.specs.Context.{Context, context_of}
 use Rattle.mpslp_mps.specs.LineDeclarations.{line_declares}
 use Rattle.mpslp_mps.specs.LineFault.{line_tests}
-use Rattle.mpslp_mps.specs.declared.sections.Section.TheVariants.{EndData}
+use Rattle.mpslp_mps_fields.specs.declared.sections.Section.TheVariants.{EndData}
 
 -- ---- the lines that are read
 

@@ -3,12 +3,12 @@ use Rattle.std.specs.Prelude.{ℕ, Bool, List, [], ◌++◌, Option, None, if◌
 use Rattle.std.specs.List.{cons_option}
 use Rattle.std.specs.Option.{option_map_or, option_or}
 use Rattle.mpslp_types.specs.Name.{same_bytes}
-use Rattle.mpslp_mps.specs.Line.{Fields, LineContent, data_line}
-use Rattle.mpslp_mps.specs.Section.{section_of_header, is_section}
-use Rattle.mpslp_mps.specs.DataLine.{opening_word}
+use Rattle.mpslp_mps_fields.specs.Line.{Fields, LineContent, data_line}
+use Rattle.mpslp_mps_fields.specs.Section.{section_of_header, is_section}
+use Rattle.mpslp_mps_fields.specs.DataLine.{opening_word}
 use Rattle.mpslp_mps.specs.Context.{is_read, word_due_after, objname_word, marker_word, line_column, vector_set, bound_set, Context}
-use Rattle.mpslp_mps.specs.declared.sections.Section.{Section}
-use Rattle.mpslp_mps.specs.declared.sections.Section.TheVariants.{Columns, Rhs, Ranges, Bounds, EndData}
+use Rattle.mpslp_mps_fields.specs.declared.sections.Section.{Section}
+use Rattle.mpslp_mps_fields.specs.declared.sections.Section.TheVariants.{Columns, Rhs, Ranges, Bounds, EndData}
 
 -- how a data line of the section changes a part of the context
 abbrev pub changed_under : {X : Type 0} → Section → Option Section → (Fields → X → X) → LineContent → X → X

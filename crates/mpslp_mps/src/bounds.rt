@@ -5,21 +5,22 @@ ghost use Rattle.std.specs.Option.{ForSome, option_map_or};
 ghost use Rattle.mpslp_types.specs.Limit.{limit_of, is_given};
 ghost use Rattle.mpslp_builder.specs.Bounds.{zero_limit, one_limit};
 ghost use Rattle.mpslp_builder.specs.Declaration.{declare_integer, declare_semi, is_integer, is_semi, bounds_declared};
-ghost use Rattle.mpslp_mps.specs.Line.{data_line};
-ghost use Rattle.mpslp_mps.specs.LineDeclarations.{lower_given, upper_given, is_integer_type, is_semi_type, kind_declared, bound_declared};
+ghost use Rattle.mpslp_mps_fields.specs.Line.{data_line};
+ghost use Rattle.mpslp_mps.specs.LineDeclarations.{lower_given, upper_given, kind_declared, bound_declared};
+ghost use Rattle.mpslp_mps_fields.specs.BoundLine.{is_integer_type, is_semi_type};
 ghost use Rattle.mpslp_mps.specs.KindClash.{type_clash};
 ghost use Rattle.mpslp_mps.specs.LineAnswer.{ReadsContent};
 ghost use Rattle.mpslp_lines.specs.LineAnswer.{AreDeclared, IfFault, IsErrorOf};
 ghost use Rattle.mpslp_lines.specs.Declaring.{declared_fault};
-ghost use Rattle.mpslp_mps.specs.declared.sections.Section.{Section};
+ghost use Rattle.mpslp_mps_fields.specs.declared.sections.Section.{Section};
 
-use crate::bound_types::BoundType;
 use crate::clashes::has_bound_clash;
 use crate::context::LineContext;
 use crate::data_lines::check_bound;
 use mpslp_decimal::Decimal;
 use mpslp_lines::LineError;
 use mpslp_model::{Builder, FaultKind, Limit};
+use mpslp_mps_fields::{BoundType, Section, is_integer_type, is_semi_type};
 
 /// A bound of 0.
 fn zero_limit() -> Limit
@@ -32,10 +33,7 @@ fn zero_limit() -> Limit
 fn one_limit() -> Limit
     ensures { result ≡ one_limit }
 {
-    match Decimal::parse(b"1") {
-        Ok(one) => Limit::Finite(one),
-        Err(_) => zero_limit(),
-    }
+    Limit::Finite(Decimal::one())
 }
 
 /// The bound that a value gives, 0 if the line has no value.
@@ -97,26 +95,6 @@ fn declare_bounds_given(
 {
     builder.bounds(column, lower, upper)?;
     Ok(())
-}
-
-/// Whether a line of this type declares its column integer.
-fn is_integer_type(bound_type: BoundType) -> bool
-    ensures { result ≡ is_integer_type bound_type }
-{
-    match bound_type {
-        BoundType::Binary | BoundType::IntegerLower | BoundType::IntegerUpper => true,
-        _ => false,
-    }
-}
-
-/// Whether a line of this type declares its column semi-continuous.
-fn is_semi_type(bound_type: BoundType) -> bool
-    ensures { result ≡ is_semi_type bound_type }
-{
-    match bound_type {
-        BoundType::SemiUpper => true,
-        _ => false,
-    }
 }
 
 /// Declares a column integer. It must not be semi-continuous.
@@ -189,7 +167,7 @@ fn read_typed_bound(
     }
     let (bound_type, line, value) = check_bound(context, letters, more)?;
     declare_bound(builder, bound_type, line.column, bound_value_or_zero(value))?;
-    context.pass_bound(line.set)?;
+    context.pass_set(Section::Bounds, line.set)?;
     Ok(())
 }
 
@@ -203,6 +181,7 @@ pub(crate) fn read_bound(
     ensures answers { ReadsContent context.old builder.old (data_line (map (λ field. field.now) fields.now)) result context.new builder.new }
     ensures unchanged { IfFault result ((context.new ≡ context.old) × (builder.new ≡ builder.old)) }
 {
+    // This branch is never taken: a data line is not blank, so it has a field.
     let [letters, more @ ..] = fields else {
         context.pass_data();
         return Ok(());

@@ -6,16 +6,16 @@ ghost use Rattle.std.specs.Prelude.{◌≡◌, ◌∷◌, map, false};
 ghost use Rattle.std.specs.Option.{option_map_or};
 ghost use Rattle.mpslp_builder.specs.Declaration.{is_integer, is_semi};
 ghost use Rattle.mpslp_lines.specs.Declaring.{is_kind_clash};
-ghost use Rattle.mpslp_mps.specs.DataLine.{column_shape};
-ghost use Rattle.mpslp_mps.specs.BoundLine.{bound_shape};
+ghost use Rattle.mpslp_mps_fields.specs.DataLine.{column_shape};
+ghost use Rattle.mpslp_mps_fields.specs.BoundLine.{bound_shape};
 ghost use Rattle.mpslp_mps.specs.KindClash.{column_clash, type_clash, bound_clash};
 
-use crate::bound_types::BoundType;
 use crate::context::LineContext;
-use crate::shapes::{bound_shape, column_shape};
-use crate::words::bound_type;
 use mpslp_model::laws::each_builder_is_made;
 use mpslp_model::{BuildFault, Builder};
+use mpslp_mps_fields::{
+    BoundType, bound_shape, bound_type, column_shape, is_integer_type, is_semi_type,
+};
 
 /// Whether the error is that of a column of the other type.
 fn is_kind_clash(fault: BuildFault) -> bool
@@ -70,13 +70,8 @@ pub(crate) fn has_column_clash(context: &LineContext, builder: &Builder, fields:
 fn has_type_clash(builder: &Builder, bound_type: BoundType, column: &[u8]) -> bool
     ensures { result ≡ type_clash builder.now bound_type column.now }
 {
-    match bound_type {
-        BoundType::Binary | BoundType::IntegerLower | BoundType::IntegerUpper => {
-            is_semi(builder, column)
-        }
-        BoundType::SemiUpper => is_integer(builder, column),
-        _ => false,
-    }
+    (is_integer_type(bound_type) && is_semi(builder, column))
+        || (is_semi_type(bound_type) && is_integer(builder, column))
 }
 
 /// Whether a bound of this type, with these fields after it, makes its column both integer and semi-continuous.

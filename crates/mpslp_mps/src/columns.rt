@@ -7,9 +7,9 @@ ghost use Rattle.mpslp_builder.specs.Declaration.{Draft, with_declaration, with_
 ghost use Rattle.mpslp_model_core.specs.Lists.{when};
 ghost use Rattle.mpslp_types.specs.declared.faults.FaultKind.{FaultKind};
 ghost use Rattle.mpslp_lines.specs.declared.errors.LineError.{LineError};
-ghost use Rattle.mpslp_mps.specs.declared.sections.Section.{Section};
-ghost use Rattle.mpslp_mps.specs.Line.{data_line};
-ghost use Rattle.mpslp_mps.specs.DataLine.{is_marker_line};
+ghost use Rattle.mpslp_mps_fields.specs.declared.sections.Section.{Section};
+ghost use Rattle.mpslp_mps_fields.specs.Line.{data_line};
+ghost use Rattle.mpslp_mps_fields.specs.DataLine.{is_marker_line};
 ghost use Rattle.mpslp_mps.specs.DataFault.{is_split};
 ghost use Rattle.mpslp_lines.specs.FaultTests.{first_held};
 ghost use Rattle.mpslp_lines.specs.Declaring.{declared_fault};
@@ -20,11 +20,11 @@ ghost use Rattle.mpslp_mps.specs.LineAnswer.{ReadsContent};
 use crate::clashes::has_column_clash;
 use crate::context::LineContext;
 use crate::data_lines::{check_column, check_marker};
-use crate::shapes::is_marker_line;
 use crate::values::{RowValue, RowValues, is_same_row};
 use mpslp_lines::LineError;
 use mpslp_model::laws::each_builder_is_made;
 use mpslp_model::{Builder, FaultKind, Name};
+use mpslp_mps_fields::is_marker_line;
 use std::alloc::Global;
 
 /// Reads a marker line.

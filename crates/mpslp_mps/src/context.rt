@@ -1,16 +1,16 @@
 //! The context of a line: what the lines before it mean for it.
 
-ghost use Rattle.std.specs.Prelude.{◌≡◌, [], true, false, is_some, OnOk};
-ghost use Rattle.std.specs.Option.{option_map, option_map_or};
+ghost use Rattle.std.specs.Prelude.{◌≡◌, [], true, false, Some, is_some, OnOk};
+ghost use Rattle.std.specs.Option.{option_map, option_map_or, option_or};
 ghost use Rattle.mpslp_types.specs.Name.{same_bytes};
-ghost use Rattle.mpslp_mps.specs.Section.{has, is_section};
-ghost use Rattle.mpslp_mps.specs.declared.sections.Section.{Section};
+ghost use Rattle.mpslp_mps_fields.specs.Section.{has, is_section};
+ghost use Rattle.mpslp_mps_fields.specs.declared.sections.Section.{Section};
 ghost use Rattle.mpslp_mps.specs.Context.{context_of};
-ghost use Rattle.mpslp_mps.specs.ContextStep.{with_objname, after_header, after_objname, after_data, after_marker, after_column, after_rhs, after_range, after_bound};
+ghost use Rattle.mpslp_mps.specs.ContextStep.{after_header, after_objname, after_data, after_marker, after_column, after_set};
 ghost use Rattle.mpslp_mps.specs.NextContext.{without_names, kept_context};
 ghost use Rattle.mpslp_mps.specs.HeaderFault.{may_begin, is_out_of_order};
 
-use crate::sections::Section;
+use mpslp_mps_fields::Section;
 use std::alloc::{AllocError, Global};
 use std::marker::Model;
 
@@ -68,6 +68,16 @@ fn bytes_of(name: &Option<Vec<u8>>) -> Option<&[u8]>
         Some(known) => Some(known.as_slice()),
         None => None,
     }
+}
+
+/// Keeps a copy of the bytes as the name, unless there is a name already.
+fn keep_first(name: &mut Option<Vec<u8>>, alloc: Global, bytes: &[u8]) -> Result<(), AllocError>
+    ensures { OnOk result (option_map (λ known. known.items) name.new ≡ option_or (option_map (λ known. known.items) name.old) (Some bytes.now)) }
+{
+    if name.is_none() {
+        *name = Some(bytes.to_vec(alloc)?);
+    }
+    Ok(())
 }
 
 impl LineContext {
@@ -228,17 +238,7 @@ impl LineContext {
         self.section = Some(section);
         self.word_due = word_due;
         if let Some(name) = objective {
-            self.keep_objname(name)?;
-        }
-        Ok(())
-    }
-
-    /// Keeps the name of the objective, unless there is one already.
-    fn keep_objname(&mut self, name: &[u8]) -> Result<(), AllocError>
-        ensures { OnOk result (self.new ≡ with_objname self.old name.now) }
-    {
-        if self.objname.is_none() {
-            self.objname = Some(name.to_vec(self.alloc)?);
+            keep_first(&mut self.objname, self.alloc, name)?;
         }
         Ok(())
     }
@@ -248,7 +248,8 @@ impl LineContext {
         ensures { OnOk result (self.new ≡ after_objname self.old name.now) }
     {
         self.word_due = None;
-        self.keep_objname(name)
+        keep_first(&mut self.objname, self.alloc, name)?;
+        Ok(())
     }
 
     /// Updates the context after a data line of OBJSENSE or ROWS.
@@ -278,35 +279,16 @@ impl LineContext {
         Ok(())
     }
 
-    /// Updates the context after a line of RHS with this set name.
-    pub(crate) fn pass_rhs(&mut self, set: &[u8]) -> Result<(), AllocError>
-        ensures { OnOk result (self.new ≡ after_rhs self.old set.now) }
+    /// Updates the context after a line of RHS, RANGES or BOUNDS with this set name.
+    pub(crate) fn pass_set(&mut self, section: Section, set: &[u8]) -> Result<(), AllocError>
+        ensures { OnOk result (self.new ≡ after_set self.old section set.now) }
     {
         self.word_due = None;
-        if self.rhs_set.is_none() {
-            self.rhs_set = Some(set.to_vec(self.alloc)?);
-        }
-        Ok(())
-    }
-
-    /// Updates the context after a line of RANGES with this set name.
-    pub(crate) fn pass_range(&mut self, set: &[u8]) -> Result<(), AllocError>
-        ensures { OnOk result (self.new ≡ after_range self.old set.now) }
-    {
-        self.word_due = None;
-        if self.ranges_set.is_none() {
-            self.ranges_set = Some(set.to_vec(self.alloc)?);
-        }
-        Ok(())
-    }
-
-    /// Updates the context after a line of BOUNDS with this set name.
-    pub(crate) fn pass_bound(&mut self, set: &[u8]) -> Result<(), AllocError>
-        ensures { OnOk result (self.new ≡ after_bound self.old set.now) }
-    {
-        self.word_due = None;
-        if self.bounds_set.is_none() {
-            self.bounds_set = Some(set.to_vec(self.alloc)?);
+        match section {
+            Section::Rhs => keep_first(&mut self.rhs_set, self.alloc, set)?,
+            Section::Ranges => keep_first(&mut self.ranges_set, self.alloc, set)?,
+            Section::Bounds => keep_first(&mut self.bounds_set, self.alloc, set)?,
+            _ => {}
         }
         Ok(())
     }

@@ -5,8 +5,8 @@ ghost use Rattle.std.specs.Option.{option_map, option_map_or};
 ghost use Rattle.std.specs.Result.{result_err};
 ghost use Rattle.mpslp_types.specs.Name.{name_refusal, same_bytes};
 ghost use Rattle.mpslp_builder.specs.Declaration.{Draft, declare_sense};
-ghost use Rattle.mpslp_mps.specs.DataLine.{word_shape, row_shape, column_shape, marker_shape, opening_word, vector_shape};
-ghost use Rattle.mpslp_mps.specs.BoundLine.{bound_type, bound_shape};
+ghost use Rattle.mpslp_mps_fields.specs.DataLine.{word_shape, row_shape, column_shape, marker_shape, opening_word, vector_shape};
+ghost use Rattle.mpslp_mps_fields.specs.BoundLine.{bound_type, bound_shape};
 ghost use Rattle.mpslp_mps.specs.Context.{Context};
 ghost use Rattle.mpslp_mps.specs.LineDeclarations.{declared_if_some, sense_declared, row_declared, row_of_type};
 ghost use Rattle.mpslp_lines.specs.Field.{value_of, name_tests, number_tests};
@@ -18,18 +18,17 @@ ghost use Rattle.mpslp_types.specs.declared.faults.FaultKind.{FaultKind};
 ghost use Rattle.mpslp_mps.specs.LineValues.{named_values};
 ghost use Rattle.mpslp_lines.specs.LineAnswer.{IsErrorOf};
 
-use crate::bound_types::BoundType;
 use crate::context::LineContext;
-use crate::shapes::{
-    BoundLine, ValuesLine, bound_shape, column_shape, marker_shape, row_shape, third_field,
-    vector_shape, word_shape,
-};
 use crate::values::{RowValues, is_second_set, values_of};
-use crate::words::{bound_type, is_due_word, is_opening_word, is_sos_word, row_type, sense_of};
 use mpslp_decimal::Decimal;
 use mpslp_lines::{LineError, value_of};
 use mpslp_model::laws::each_builder_is_made;
 use mpslp_model::{Builder, FaultKind, Name, NameFault, RowType, Sense};
+use mpslp_mps_fields::{
+    BoundLine, BoundType, ValuesLine, bound_shape, bound_type, column_shape, is_due_word,
+    is_opening_word, is_sos_word, marker_shape, row_shape, row_type, sense_of, third_field,
+    vector_shape, word_shape,
+};
 use std::alloc::Global;
 
 /// The sense of a data line under OBJSENSE.

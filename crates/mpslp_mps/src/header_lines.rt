@@ -3,19 +3,17 @@
 ghost use Rattle.std.specs.Prelude.{◌≡◌, [], ◌∷◌, map, Some};
 ghost use Rattle.std.specs.Option.{option_map_or};
 ghost use Rattle.mpslp_builder.specs.Declaration.{declare_sense};
-ghost use Rattle.mpslp_mps.specs.Line.{header};
-ghost use Rattle.mpslp_mps.specs.DataLine.{word_shape};
+ghost use Rattle.mpslp_mps_fields.specs.Line.{header};
+ghost use Rattle.mpslp_mps_fields.specs.DataLine.{word_shape};
 ghost use Rattle.mpslp_mps.specs.LineDeclarations.{declared_if_some, sense_declared, default_objective, header_declared};
 ghost use Rattle.mpslp_lines.specs.LineAnswer.{AreDeclared, IfFault};
 ghost use Rattle.mpslp_mps.specs.LineAnswer.{ReadsContent};
 
 use crate::context::LineContext;
-use crate::headers::{check_header, header_objname, section_of_word_due};
-use crate::sections::Section;
-use crate::shapes::word_shape;
-use crate::words::sense_of;
+use crate::headers::check_header;
 use mpslp_lines::LineError;
 use mpslp_model::{Builder, Name, Sense};
+use mpslp_mps_fields::{Section, header_objname, section_of_word_due, sense_of, word_shape};
 use std::alloc::Global;
 
 /// The sense after the keyword OBJSENSE.

@@ -1,29 +1,13 @@
-//! The form of headers, and its errors.
+//! The errors of headers.
 
 ghost use Rattle.std.specs.Prelude.{◌≡◌, Some, None, map, MatchResult};
-ghost use Rattle.mpslp_mps.specs.Section.{section_named};
-ghost use Rattle.std.specs.Option.{option_map};
-ghost use Rattle.mpslp_mps.specs.Context.{section_of_word_due};
-ghost use Rattle.mpslp_mps.specs.ContextStep.{header_objname};
+ghost use Rattle.mpslp_mps_fields.specs.Section.{section_named};
 ghost use Rattle.mpslp_lines.specs.FaultTests.{first_held};
-ghost use Rattle.mpslp_mps.specs.HeaderFault.{may_follow, lacks_objective, section_tests, header_tests};
+ghost use Rattle.mpslp_mps.specs.HeaderFault.{lacks_objective, section_tests, header_tests};
 
 use crate::context::LineContext;
-use crate::sections::Section;
-use crate::shapes::word_shape;
-use crate::words::{section_named, sense_of, unknown_section};
 use mpslp_model::{Builder, FaultKind};
-
-/// Whether these fields may follow the keyword of the section.
-fn may_follow(section: Section, more: &[&[u8]]) -> bool
-    ensures { result ≡ may_follow section (map (λ field. field.now) more.now) }
-{
-    match section {
-        Section::Name => true,
-        Section::ObjSense | Section::ObjName => more.len() <= 1,
-        _ => more.is_empty(),
-    }
-}
+use mpslp_mps_fields::{Section, may_follow, section_named, sense_of, unknown_section};
 
 /// Whether OBJNAME names the objective, but no N row has that name.
 fn lacks_objective(context: &LineContext, builder: &Builder) -> bool
@@ -73,25 +57,4 @@ pub(crate) fn check_header(
     }
     check_section(context, builder, section, more)?;
     Ok(section)
-}
-
-/// The section, if it is OBJSENSE or OBJNAME and its header has no word: the word must follow on a line of its own.
-pub(crate) fn section_of_word_due(section: Section, more: &[&[u8]]) -> Option<Section>
-    ensures { result ≡ section_of_word_due section (map (λ field. field.now) more.now) }
-{
-    match (section, more) {
-        (Section::ObjSense | Section::ObjName, []) => Some(section),
-        _ => None,
-    }
-}
-
-/// The name of the objective after the keyword OBJNAME.
-pub(crate) fn header_objname<'a>(section: Section, more: &[&'a [u8]]) -> Option<&'a [u8]>
-    ensures { option_map (λ name. name.now) result ≡ header_objname section (map (λ field. field.now) more.now) }
-{
-    if section == Section::ObjName {
-        word_shape(more)
-    } else {
-        None
-    }
 }

@@ -10,7 +10,7 @@ use std::alloc::Global;
 
 /// Reads MPS text line by line.
 #[derive(Drop)]
-pub(crate) struct LineReader {
+pub struct LineReader {
     alloc: Global,
     context: LineContext,
     builder: Builder,
@@ -22,7 +22,7 @@ impl ReadLines for LineReader {
     ghost use Rattle.mpslp_mps.specs.MpsText.{DeclaresMps};
     ghost use Rattle.mpslp_mps.specs.FirstFault.{IsFirstMpsFault};
     ghost use Rattle.mpslp_mps.specs.Fed.{HasRead, is_ended, IsFaultOfLines};
-    ghost use Rattle.mpslp_mps.specs.FedLaws.{read-behind_end, lines_fault-stays, lines_fault-is_first};
+    ghost use Rattle.mpslp_mps.specs.FedLaws.{read-behind_end, read-is_clean, lines_fault-stays, lines_fault-is_first};
 
     ghost has_read = { HasRead };
 
@@ -73,6 +73,8 @@ impl ReadLines for LineReader {
     }
 
     ghost behind_end = { read-behind_end };
+
+    ghost read_is_clean = { read-is_clean };
 
     ghost fault_stays = { lines_fault-stays };
 

@@ -1,10 +1,12 @@
 //! Reads lines: each is checked, and then its declarations are passed to the builder.
 
 ghost use Rattle.std.specs.Prelude.{◌≡◌, Some, map};
+ghost use Rattle.std.specs.List.{list_all};
 ghost use Rattle.mpslp_builder.specs.Declaration.{Draft};
-ghost use Rattle.mpslp_mps.specs.declared.sections.Section.{Section};
-ghost use Rattle.mpslp_mps.specs.Line.{data_line, header_of, content_of};
+ghost use Rattle.mpslp_mps_fields.specs.declared.sections.Section.{Section};
+ghost use Rattle.mpslp_mps_fields.specs.Line.{data_line, header_of, content_of, outside_comment};
 ghost use Rattle.mpslp_mps.specs.LineDeclarations.{is_new_objective, row_of_type};
+ghost use Rattle.mpslp_lines.specs.LegalLine.{is_legal_byte};
 ghost use Rattle.mpslp_lines.specs.LineAnswer.{AreDeclared, IfFault};
 ghost use Rattle.mpslp_mps.specs.LineAnswer.{ReadsContent};
 ghost use Rattle.mpslp_mps.specs.ReadAnswer.{ReadsLine};
@@ -14,13 +16,11 @@ use crate::bounds::read_bound;
 use crate::columns::read_column;
 use crate::context::LineContext;
 use crate::data_lines::{check_objname, check_row, check_sense};
-use crate::fields::front_fields;
 use crate::header_lines::read_header;
-use crate::line::{has_legal_bytes, is_data, is_skipped};
-use crate::sections::Section;
 use crate::vectors::{read_range, read_rhs};
-use mpslp_lines::{LineError, has_legal_length};
+use mpslp_lines::{LineError, are_legal_bytes, has_legal_length};
 use mpslp_model::{Builder, FaultKind, Name, RowType};
+use mpslp_mps_fields::{Section, front_fields, is_comment, is_data, is_skipped};
 use std::alloc::Global;
 
 /// Reads a data line under OBJSENSE.
@@ -130,6 +130,7 @@ fn read_keyword(
 {
     match fields {
         [keyword, more @ ..] => read_header(context, builder, alloc, keyword, more),
+        // Never taken: a line that is not skipped is not blank, so it has a field.
         [] => Ok(()),
     }
 }
@@ -154,6 +155,13 @@ fn read_content(
     } else {
         read_keyword(context, builder, alloc, &fields)
     }
+}
+
+/// Whether all bytes of the line are legal. A comment may have any bytes.
+fn has_legal_bytes(line: &[u8]) -> bool
+    ensures { result ≡ list_all is_legal_byte (outside_comment line.now) }
+{
+    is_comment(line) || are_legal_bytes(line)
 }
 
 /// Reads a line.

@@ -8,10 +8,10 @@ ghost use Rattle.mpslp_mps.specs.FieldFault.{literals_of};
 ghost use Rattle.mpslp_lines.specs.FaultTests.{first_held};
 ghost use Rattle.mpslp_mps.specs.LineValues.{row_value};
 
-use crate::shapes::{Pair, Pairs};
 use mpslp_decimal::Decimal;
 use mpslp_lines::{kind_of_number_fault, lesser_fault, value_of};
 use mpslp_model::FaultKind;
+use mpslp_mps_fields::{Pair, Pairs};
 use std::marker::Model;
 
 /// A row and a value.

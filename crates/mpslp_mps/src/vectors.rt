@@ -5,17 +5,18 @@ ghost use Rattle.mpslp_builder.specs.Declaration.{has_row, is_free_row, rhs_decl
 ghost use Rattle.mpslp_types.specs.Name.{same_bytes};
 ghost use Rattle.mpslp_types.specs.FaultOrder.{least_kind};
 ghost use Rattle.mpslp_lines.specs.Declaring.{declaring_faults, declared_fault};
-ghost use Rattle.mpslp_mps.specs.Line.{data_line};
+ghost use Rattle.mpslp_mps_fields.specs.Line.{data_line};
 ghost use Rattle.mpslp_lines.specs.LineAnswer.{IsErrorOf, AreDeclared, IfFault};
 ghost use Rattle.mpslp_mps.specs.LineAnswer.{ReadsContent};
 ghost use Rattle.mpslp_mps.specs.VectorDeclared.{HasMpsSides, rhs_values_declared, ranges_of};
-ghost use Rattle.mpslp_mps.specs.declared.sections.Section.{Section};
+ghost use Rattle.mpslp_mps_fields.specs.declared.sections.Section.{Section};
 
 use crate::context::LineContext;
 use crate::data_lines::check_vector;
 use crate::values::{RowValue, RowValues, is_same_row};
 use mpslp_lines::{LineError, lesser_kind};
 use mpslp_model::{Builder, FaultKind};
+use mpslp_mps_fields::Section;
 
 /// Whether both rows are declared. The objective counts as a row.
 fn are_rows(builder: &Builder, first: &RowValue, second: &RowValue) -> bool
@@ -109,7 +110,7 @@ pub(crate) fn read_rhs(
 {
     let (set, sides) = check_vector(context.rhs_set(), fields)?;
     declare_rhs_values(builder, sides)?;
-    context.pass_rhs(set)?;
+    context.pass_set(Section::Rhs, set)?;
     Ok(())
 }
 
@@ -216,6 +217,6 @@ pub(crate) fn read_range(
 {
     let (set, ranges) = check_vector(context.ranges_set(), fields)?;
     declare_ranges(builder, ranges)?;
-    context.pass_range(set)?;
+    context.pass_set(Section::Ranges, set)?;
     Ok(())
 }

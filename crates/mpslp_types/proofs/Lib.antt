@@ -1,5 +1,6 @@
 pub mod BoolLemmas
 pub mod EachLemmas
 pub mod NameLemmas
+pub mod ReservedLemmas
 mod WorkedNames
 pub mod LimitLemmas

@@ -75,6 +75,21 @@ reserved_words =
 abbrev pub is_reserved : List ℕ → Bool
 is_reserved word = is_one_of reserved_words (map lower_byte word)
 
+-- the first two letters of reserved words, in lower case
+abbrev pub reserved_beginnings : List (List ℕ)
+reserved_beginnings =
+    codes "bi" ∷ codes "bo" ∷ codes "en" ∷ codes "fr" ∷ codes "ge" ∷ codes "in" ∷ codes "ma" ∷ codes "mi"
+    ∷ codes "s." ∷ codes "se" ∷ codes "so" ∷ codes "st" ∷ codes "su" ∷ []
+
+-- two letters with which a reserved word begins, ignoring case
+abbrev pub begins_reserved : ℕ → ℕ → Bool
+begins_reserved first second = list_any (same_bytes (lower_byte first ∷ lower_byte second ∷ [])) reserved_beginnings
+
+-- a word that is not longer than the longest reserved word, and begins like one of them
+abbrev pub may_be_reserved : List ℕ → Bool
+may_be_reserved (first ∷ second ∷ rest) = nat_le (length (first ∷ second ∷ rest)) 8 && begins_reserved first second
+may_be_reserved _ = false
+
 -- `e` or `E`, followed by nothing or by a digit
 abbrev pub is_like_exponent : List ℕ → Bool
 is_like_exponent [] = false

@@ -12,6 +12,7 @@ ghost use Rattle.std.specs.Cmp.Lexicographic.{nat_list_cmp_total, nat_list_eq_eq
 ghost use Rattle.std.specs.Cmp.Rules.{hashing};
 ghost use Rattle.mpslp_types.specs.Name.{IsMpsName, is_visible, same_bytes, marker, name_refusal, bytes_cmp};
 
+pub use lp::{is_lp_byte, may_be_reserved};
 use std::alloc::Global;
 use std::cmp::Ordering;
 use std::hash::{Hash, Hasher};

@@ -4,7 +4,7 @@ use Rattle.std.specs.Prelude.{◌&&◌, ◌==◌}
 use Rattle.std.proofs.lemmas.Bool.{eqb-true}
 use Rattle.std.specs.Cmp.{first_so, second_so}
 use Rattle.mpslp_types.proofs.BoolLemmas.{not_so}
-use Rattle.mpslp_mps.specs.DataLine.{opening_word, closing_word}
+use Rattle.mpslp_mps_fields.specs.DataLine.{opening_word, closing_word}
 use Rattle.mpslp_canonical_mps.specs.CanonicalMps.{Lines, integer_part, marker_line}
 use Rattle.mpslp_canonical_mps.specs.Printed.{line_text, text_of}
 use Rattle.mpslp_write.specs.TextBuffer.{BufferState, with_header, HasPut, Emits, Prints, PrintsSection, text_under, header_behind}

@@ -12,8 +12,8 @@ use Rattle.mpslp_io.specs.Devices.{Grows, TookMore}
 use Rattle.mpslp_model.specs.Formats.{TookFirst, IsTaken, IsWritten}
 use Rattle.mpslp_io.proofs.GrowsLemmas.{Grows-nil, Grows-append}
 use Rattle.std.specs.List.{flat_map}
-use Rattle.mpslp_mps.specs.Section.{keyword_of}
-use Rattle.mpslp_mps.specs.declared.sections.Section.{Section}
+use Rattle.mpslp_mps_fields.specs.Section.{keyword_of}
+use Rattle.mpslp_mps_fields.specs.declared.sections.Section.{Section}
 use Rattle.mpslp_canonical_mps.specs.CanonicalMps.{Lines, under_header}
 use Rattle.mpslp_write.proofs.LinesAtLemmas.{flat_map-rest}
 use Rattle.mpslp_write.specs.TextBuffer.{BufferState, buffer_state, empty_buffer, with_header, HasPut, Emits, PutsHeader, text_by, text_under, header_behind, Prints, PrintsSection}

@@ -14,7 +14,7 @@ use Rattle.mpslp_model_core.specs.Views.{row_sense, row_range, right_hand_side}
 use Rattle.mpslp_types.specs.declared.kinds.Limit.{Limit}
 use Rattle.mpslp_types.specs.declared.kinds.Limit.TheVariants.{MinusInf, Finite, PlusInf}
 use Rattle.mpslp_types.specs.declared.kinds.RowType.TheVariants.{AtLeast, Equal}
-use Rattle.mpslp_mps.specs.DataLine.{letter_of}
+use Rattle.mpslp_mps_fields.specs.DataLine.{letter_of}
 use Rattle.mpslp_canonical_mps.specs.Printed.{short_line}
 use Rattle.mpslp_canonical_mps.specs.PrintedValues.{printed_type, printed_rhs}
 use Rattle.mpslp_canonical_mps.specs.CanonicalMps.{Lines, row_line, vector_line, range_lines}

@@ -13,9 +13,10 @@ ghost use Rattle.mpslp_canonical_lp.proofs.LpFormat as lp_laws;
 
 use crate::lp::{first_unfit_name, write_lp};
 use crate::mps::write_mps;
-use mpslp_lp::{LpReader, read_lp};
+use crate::readers::{LpFormatReader, MpsFormatReader};
+use mpslp_lp::read_lp;
 use mpslp_model::{Format, Model, ReadFault, Sink, WriteFault};
-use mpslp_mps::{MpsReader, read_mps};
+use mpslp_mps::read_mps;
 use std::alloc::Global;
 
 /// MPS as in the CPLEX file format reference, in the profile of `docs/FORMATS.md`. It can express every model.
@@ -33,7 +34,7 @@ impl Format for Mps {
 
     ghost unfit = { λ m. None };
 
-    type Reader = MpsReader;
+    type Reader = MpsFormatReader;
 
     fn read(alloc: Global, bytes: &[u8]) -> Result<Model, ReadFault> {
         read_mps(alloc, bytes)
@@ -79,7 +80,7 @@ impl Format for Lp {
 
     ghost unfit = { unfit };
 
-    type Reader = LpReader;
+    type Reader = LpFormatReader;
 
     fn read(alloc: Global, bytes: &[u8]) -> Result<Model, ReadFault> {
         read_lp(alloc, bytes)

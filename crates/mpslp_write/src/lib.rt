@@ -9,6 +9,7 @@
 mod formats;
 mod lp;
 mod mps;
+mod readers;
 mod text_buffer;
 
 pub use formats::{Lp, Mps};

@@ -9,6 +9,9 @@ from typing import Any, Literal, NamedTuple
 
 from mpslp import _mpslp
 
+# Each whole number up to this one is a double.
+_MOST_WHOLE = 2**53
+
 
 class Arrays(NamedTuple):
     """A model as arrays: numpy's if numpy is installed, otherwise those of the module ``array``.
@@ -78,6 +81,45 @@ def arrays_of(arrays: _mpslp.Arrays, sense: Literal["minimize", "maximize"]) -> 
 def listed(values: Any) -> list[Any]:
     """A sequence as a list of Python's own numbers."""
     return list(values.tolist() if hasattr(values, "tolist") else values)
+
+
+def doubles_of(values: Any) -> bytes | None:
+    """The memory of an array of doubles that are equal to the numbers of a sequence, or None if one is equal to no double."""
+    if _code(values) == "d":
+        return memoryview(values).tobytes()
+    numbers = listed(values)
+    return array("d", numbers).tobytes() if all(map(_is_double, numbers)) else None
+
+
+def integers_of(values: Any) -> bytes | None:
+    """The memory of an array of 64-bit integers that are those of a sequence, or None if there is none."""
+    if _code(values) == "q":
+        return memoryview(values).tobytes()
+    try:
+        return array("q", memoryview(values) if _code(values) else listed(values)).tobytes()
+    except (OverflowError, TypeError):
+        return None
+
+
+def bytes_of(values: Any) -> bytes | None:
+    """The numbers of a sequence as bytes, or None if one is no byte."""
+    try:
+        return bytes(listed(values))
+    except (TypeError, ValueError):
+        return None
+
+
+def _code(values: Any) -> str:
+    """The type code of a buffer of one dimension; empty for other sequences."""
+    try:
+        view = memoryview(values)
+    except TypeError:
+        return ""
+    return view.format if view.ndim == 1 else ""
+
+
+def _is_double(number: object) -> bool:
+    return type(number) is float or (type(number) is int and abs(number) <= _MOST_WHOLE)
 
 
 def _maker() -> Any:

@@ -3,6 +3,7 @@
 # Annotations are evaluated here, because the classes appear as those of the package, which has fewer names.
 
 import dataclasses
+import math
 import re
 from collections.abc import Callable, Iterable, Iterator, Mapping
 from dataclasses import dataclass
@@ -10,7 +11,7 @@ from decimal import Decimal
 from typing import TYPE_CHECKING, Any, Literal, TypeAlias
 
 from mpslp import _mpslp
-from mpslp._arrays import Arrays, arrays_of, listed
+from mpslp._arrays import Arrays, arrays_of, bytes_of, doubles_of, integers_of, listed
 from mpslp._mappings import Held, Numbered
 from mpslp._numbers import INFINITY, Number, decimal_of, difference, limit_of
 from mpslp._sources import Format, Path, Source, format_number, naming, read, write
@@ -400,6 +401,33 @@ def from_arrays(arrays: Arrays) -> Model:
     """
     row_names = _names_of(arrays.row_names, "r", len(arrays.row_lower))
     column_names = _names_of(arrays.column_names, "x", len(arrays.c))
+    made = _made_of_doubles(arrays, row_names, column_names)
+    return _made_of_numbers(arrays, row_names, column_names) if made is None else model_of(made)
+
+
+def _made_of_doubles(arrays: Arrays, row_names: list[str], column_names: list[str]) -> _mpslp.Arrays | None:
+    """The model of arrays whose numbers are all doubles; None if they are not, or are no model."""
+    count = len(column_names)
+    parts = (
+        doubles_of(arrays.row_lower),
+        doubles_of(arrays.row_upper),
+        doubles_of([0.0] * count if arrays.lower is None else arrays.lower),
+        doubles_of([math.inf] * count if arrays.upper is None else arrays.upper),
+        doubles_of(arrays.c),
+        bytes(count) if arrays.integrality is None else bytes_of(arrays.integrality),
+        integers_of(arrays.indptr),
+        integers_of(arrays.indices),
+        doubles_of(arrays.data),
+    )
+    given = [part for part in parts if part is not None]
+    is_plain = len(given) == len(parts) and doubles_of([arrays.constant]) is not None and isinstance(arrays.objective, str)
+    if not is_plain or arrays.sense not in _SENSE_NUMBERS:
+        return None
+    return _mpslp.make_of_doubles(_SENSE_NUMBERS[arrays.sense], arrays.objective, arrays.constant, row_names, column_names, *given)
+
+
+def _made_of_numbers(arrays: Arrays, row_names: list[str], column_names: list[str]) -> Model:
+    """The model of arrays of any numbers. Raises ValueError for what no model has."""
     starts, indices, values = listed(arrays.indptr), listed(arrays.indices), listed(arrays.data)
     count = len(column_names)
     lower = [0] * count if arrays.lower is None else listed(arrays.lower)

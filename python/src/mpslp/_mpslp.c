@@ -719,47 +719,212 @@ static int make_column(parts *all, PyObject *column) {
            make_number(cost, &made->cost) && make_each(all, entries, make_element);
 }
 
-/* The arrays of the library for a model: rows and columns in byte order, and numbers in normal form. */
-static PyObject *arrays_of_made(PyObject *module, const mpslp_model *made) {
-    mpslp_text text = MPSLP_NO_TEXT;
-    mpslp_model model = MPSLP_NO_MODEL;
-    mpslp_fault fault = MPSLP_NO_FAULT;
-    mpslp_status status;
-    Py_BEGIN_ALLOW_THREADS
-    status = mpslp_store(MPSLP_MPS, made, &text, &fault);
-    if (status == MPSLP_OK) status = mpslp_load(MPSLP_MPS, text.bytes, text.len, &model, &fault);
-    mpslp_free(&text);
-    Py_END_ALLOW_THREADS
-    return status == MPSLP_OK ? arrays_of(module, &model) : refuse(module, status, &fault, NULL);
+/* Gives a model the arrays that were made for it. No pointer may be null, and an empty array has no items. */
+static void take_parts(mpslp_model *model, const parts *all) {
+    if (all->names.len != 0) model->names.bytes = all->names.items;
+    if (all->rows.len != 0) model->rows = all->rows.items;
+    if (all->columns.len != 0) model->columns = all->columns.items;
+    if (all->elements.len != 0) model->elements = all->elements.items;
+    model->names.len = all->names.len;
+    model->num_rows = all->rows.len;
+    model->num_columns = all->columns.len;
+    model->num_elements = all->elements.len;
 }
+
+static void free_parts(const parts *all) {
+    free(all->names.items);
+    free(all->rows.items);
+    free(all->columns.items);
+    free(all->elements.items);
+}
+
+#define NO_PARTS { { NULL, 0, 0 }, { NULL, 0, 0 }, { NULL, 0, 0 }, { NULL, 0, 0 } }
 
 static PyObject *make(PyObject *module, PyObject *arguments) {
     const char *objective;
     Py_ssize_t len;
     unsigned sense;
-    PyObject *constant, *rows, *columns, *made = NULL;
-    parts all = { { NULL, 0, 0 }, { NULL, 0, 0 }, { NULL, 0, 0 }, { NULL, 0, 0 } };
-    mpslp_model model = MPSLP_NO_MODEL;
+    PyObject *constant, *rows, *columns, *arrays = NULL;
+    parts all = NO_PARTS;
+    mpslp_model made = MPSLP_NO_MODEL, model = MPSLP_NO_MODEL;
     if (!PyArg_ParseTuple(arguments, "Is#OO!O!:make", &sense, &objective, &len, &constant, &PyList_Type, &rows, &PyList_Type, &columns)) return NULL;
-    model.sense = sense;
-    if (make_name(&all, objective, len, &model.objective) && make_number(constant, &model.constant) && make_each(&all, rows, make_row) &&
+    made.sense = sense;
+    if (make_name(&all, objective, len, &made.objective) && make_number(constant, &made.constant) && make_each(&all, rows, make_row) &&
         make_each(&all, columns, make_column)) {
-        /* No pointer may be null, and an empty array has no items. */
-        if (all.names.len != 0) model.names.bytes = all.names.items;
-        if (all.rows.len != 0) model.rows = all.rows.items;
-        if (all.columns.len != 0) model.columns = all.columns.items;
-        if (all.elements.len != 0) model.elements = all.elements.items;
-        model.names.len = all.names.len;
-        model.num_rows = all.rows.len;
-        model.num_columns = all.columns.len;
-        model.num_elements = all.elements.len;
-        made = arrays_of_made(module, &model);
+        mpslp_fault fault = MPSLP_NO_FAULT;
+        mpslp_status status;
+        take_parts(&made, &all);
+        Py_BEGIN_ALLOW_THREADS
+        status = mpslp_normalize(&made, &model, &fault);
+        Py_END_ALLOW_THREADS
+        arrays = status == MPSLP_OK ? arrays_of(module, &model) : refuse(module, status, &fault, NULL);
     }
-    free(all.names.items);
-    free(all.rows.items);
-    free(all.columns.items);
-    free(all.elements.items);
-    return made;
+    free_parts(&all);
+    return arrays;
+}
+
+/* ---- models that are made of arrays of doubles */
+
+/* What a model is made of: names, and bytes objects that hold an array each. */
+typedef struct {
+    PyObject *row_names, *column_names;
+    PyObject *row_lower, *row_upper, *lower, *upper, *costs, *values; /* doubles */
+    PyObject *starts, *rows;                                          /* 64-bit integers */
+    PyObject *kinds;                                                  /* bytes */
+} of_doubles;
+
+static double double_at(PyObject *array, size_t i) {
+    double found;
+    memcpy(&found, PyBytes_AsString(array) + i * sizeof found, sizeof found);
+    return found;
+}
+
+static int64_t integer_at(PyObject *array, size_t i) {
+    int64_t found;
+    memcpy(&found, PyBytes_AsString(array) + i * sizeof found, sizeof found);
+    return found;
+}
+
+static int has_items(PyObject *array, size_t count, size_t size) { return (size_t)PyBytes_Size(array) == count * size; }
+
+/*
+ * Sets a double with few decimal places as the decimal of its shortest text. No double is nearest to two decimals of up to 15
+ * digits, so if one of them is read as this double, it is the shortest.
+ */
+static int set_short(double value, mpslp_number *number) {
+    static const double powers[] = { 1, 1e1, 1e2, 1e3, 1e4, 1e5, 1e6, 1e7, 1e8, 1e9 };
+    for (int places = 0; places < (int)(sizeof powers / sizeof powers[0]); places++) {
+        const double scaled = value * powers[places];
+        int64_t digits;
+        if (!(scaled > -1e15 && scaled < 1e15)) return 0;
+        digits = (int64_t)(scaled < 0 ? scaled - 0.5 : scaled + 0.5);
+        if ((double)digits / powers[places] == value) {
+            const mpslp_number found = { (uint64_t)digits, digits < 0 ? -1 : 0, -places, 0 };
+            *number = found;
+            return 1;
+        }
+    }
+    return 0;
+}
+
+/* Sets a finite double as the decimal of its shortest text. */
+static int set_finite(double value, mpslp_number *number) {
+    char *text;
+    int is_set;
+    if (value - value != 0) return 0;
+    if (set_short(value, number)) return 1;
+    text = PyOS_double_to_string(value, 'r', 0, 0, NULL);
+    if (text == NULL) return 0;
+    is_set = read_number(text, number);
+    PyMem_Free(text);
+    return is_set;
+}
+
+/* The same of a limit, which is infinite, by its sign, from a magnitude of 1e20. */
+static int set_limit(double value, mpslp_number *number) {
+    const mpslp_number infinite = { 0, 0, 0, value < 0 ? -1 : 1 };
+    if (value > -1e20 && value < 1e20) return set_finite(value, number);
+    *number = infinite;
+    return value == value;
+}
+
+static int make_listed_name(parts *all, PyObject *names, size_t number, mpslp_name *name) {
+    Py_ssize_t len;
+    PyObject *item = PyList_GetItem(names, (Py_ssize_t)number);
+    const char *bytes = PyUnicode_Check(item) ? PyUnicode_AsUTF8AndSize(item, &len) : NULL;
+    return bytes != NULL && make_name(all, bytes, len, name);
+}
+
+static int make_row_of_doubles(parts *all, const of_doubles *from, size_t i) {
+    mpslp_row *row = more(&all->rows, 1, sizeof *row);
+    return row != NULL && make_listed_name(all, from->row_names, i, &row->name) && set_limit(double_at(from->row_lower, i), &row->lower) &&
+           set_limit(double_at(from->row_upper, i), &row->upper);
+}
+
+/* The items of one column, without zeros. `seen` has the number from 1 of the last column with an item in each row. */
+static int make_elements_of_doubles(parts *all, const of_doubles *from, size_t j, size_t *seen) {
+    const int64_t first = integer_at(from->starts, j), end = integer_at(from->starts, j + 1), most = integer_at(from->starts, (size_t)PyList_Size(from->column_names));
+    const size_t num_rows = (size_t)PyList_Size(from->row_names);
+    if (first < 0 || first > end || end > most) return 0;
+    for (size_t k = (size_t)first; k < (size_t)end; k++) {
+        const int64_t row = integer_at(from->rows, k);
+        const double value = double_at(from->values, k);
+        mpslp_element *element;
+        if (row < 0 || (uint64_t)row >= num_rows || seen[row] == j + 1) return 0;
+        seen[row] = j + 1;
+        if (value == 0) continue;
+        element = more(&all->elements, 1, sizeof *element);
+        if (element == NULL || !set_finite(value, &element->value)) return 0;
+        element->row = (size_t)row;
+    }
+    return 1;
+}
+
+static int make_column_of_doubles(parts *all, const of_doubles *from, size_t j, size_t *seen) {
+    const unsigned kind = (unsigned char)PyBytes_AsString(from->kinds)[j];
+    mpslp_column *column = more(&all->columns, 1, sizeof *column);
+    if (column == NULL || kind > MPSLP_SEMI_CONTINUOUS) return 0;
+    column->kind = kind;
+    column->first = all->elements.len;
+    return make_listed_name(all, from->column_names, j, &column->name) && set_limit(double_at(from->lower, j), &column->lower) &&
+           set_limit(double_at(from->upper, j), &column->upper) && set_finite(double_at(from->costs, j), &column->cost) &&
+           make_elements_of_doubles(all, from, j, seen);
+}
+
+/* Whether the arrays have as many items as the model has rows, columns and elements. */
+static int have_lengths(const of_doubles *from, size_t num_rows, size_t num_columns) {
+    const size_t count = (size_t)PyBytes_Size(from->rows) / sizeof(int64_t);
+    return has_items(from->row_lower, num_rows, sizeof(double)) && has_items(from->row_upper, num_rows, sizeof(double)) &&
+           has_items(from->lower, num_columns, sizeof(double)) && has_items(from->upper, num_columns, sizeof(double)) &&
+           has_items(from->costs, num_columns, sizeof(double)) && has_items(from->kinds, num_columns, 1) &&
+           has_items(from->starts, num_columns + 1, sizeof(int64_t)) && has_items(from->values, count, sizeof(double)) &&
+           integer_at(from->starts, 0) == 0 && integer_at(from->starts, num_columns) == (int64_t)count;
+}
+
+static int make_parts_of_doubles(parts *all, const of_doubles *from) {
+    const size_t num_rows = (size_t)PyList_Size(from->row_names), num_columns = (size_t)PyList_Size(from->column_names);
+    size_t *seen;
+    int is_made = 1;
+    if (!have_lengths(from, num_rows, num_columns)) return 0;
+    seen = calloc(num_rows + 1, sizeof *seen);
+    if (seen == NULL) {
+        PyErr_NoMemory();
+        return 0;
+    }
+    for (size_t i = 0; is_made && i < num_rows; i++) is_made = make_row_of_doubles(all, from, i);
+    for (size_t j = 0; is_made && j < num_columns; j++) is_made = make_column_of_doubles(all, from, j, seen);
+    free(seen);
+    return is_made;
+}
+
+/* The model of arrays, or None if they define none: why they do not is found by the modules of the package. */
+static PyObject *make_of_doubles(PyObject *module, PyObject *arguments) {
+    const char *objective;
+    Py_ssize_t len;
+    unsigned sense;
+    double constant;
+    of_doubles from;
+    PyObject *arrays = NULL;
+    parts all = NO_PARTS;
+    mpslp_model made = MPSLP_NO_MODEL, model = MPSLP_NO_MODEL;
+    if (!PyArg_ParseTuple(arguments, "Is#dO!O!SSSSSSSSS:make_of_doubles", &sense, &objective, &len, &constant, &PyList_Type, &from.row_names,
+                          &PyList_Type, &from.column_names, &from.row_lower, &from.row_upper, &from.lower, &from.upper, &from.costs, &from.kinds,
+                          &from.starts, &from.rows, &from.values))
+        return NULL;
+    made.sense = sense;
+    if (make_name(&all, objective, len, &made.objective) && set_finite(constant, &made.constant) && make_parts_of_doubles(&all, &from)) {
+        mpslp_fault fault = MPSLP_NO_FAULT;
+        mpslp_status status;
+        take_parts(&made, &all);
+        Py_BEGIN_ALLOW_THREADS
+        status = mpslp_normalize(&made, &model, &fault);
+        Py_END_ALLOW_THREADS
+        if (status == MPSLP_OK) arrays = arrays_of(module, &model);
+        if (status == MPSLP_OUT_OF_MEMORY) PyErr_NoMemory();
+    }
+    free_parts(&all);
+    if (arrays == NULL && PyErr_Occurred() && PyErr_ExceptionMatches(PyExc_UnicodeError)) PyErr_Clear();
+    return arrays != NULL || PyErr_Occurred() ? arrays : Py_NewRef(Py_None);
 }
 
 static PyMethodDef calls[] = {
@@ -775,6 +940,9 @@ static PyMethodDef calls[] = {
       "store($module, arrays, format, /)\n--\n\nThe canonical text of a model." },
     { "make", make, METH_VARARGS,
       "make($module, sense, objective, constant, rows, columns, /)\n--\n\nThe model of such parts, in any order." },
+    { "make_of_doubles", make_of_doubles, METH_VARARGS,
+      "make_of_doubles($module, sense, objective, constant, row_names, column_names, row_lower, row_upper, lower, upper, costs, kinds, starts, rows,\n"
+      "                values, /)\n--\n\nThe model of arrays of doubles and of 64-bit integers, or None if they define none." },
     { NULL, NULL, 0, NULL },
 };
 

@@ -23,6 +23,23 @@ def make(
     columns: list[tuple[str, int, Decimal, Decimal, Decimal, list[tuple[int, Decimal]]]],
     /,
 ) -> Arrays: ...
+def make_of_doubles(
+    sense: int,
+    objective: str,
+    constant: float,
+    row_names: list[str],
+    column_names: list[str],
+    row_lower: bytes,
+    row_upper: bytes,
+    lower: bytes,
+    upper: bytes,
+    costs: bytes,
+    kinds: bytes,
+    starts: bytes,
+    rows: bytes,
+    values: bytes,
+    /,
+) -> Arrays | None: ...
 @final
 class Arrays:
     __hash__: ClassVar[None]  # type: ignore[assignment]

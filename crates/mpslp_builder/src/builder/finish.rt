@@ -15,9 +15,9 @@ ghost use Rattle.mpslp_types.specs.declared.kinds.Sense.TheVariants.{Minimize};
 ghost use Rattle.mpslp_builder.specs.Tables.{bytes, name_of_objective, draft, IsNumbered};
 
 use crate::builder::Builder;
+use crate::name_map::NameMap;
 use crate::tables::Tables;
 use crate::tables::file_faults::FoundFault;
-use indexmap::IndexMap;
 use mpslp_builder_parts::{ObjectiveParts, in_order, order_of, ordered_columns, ranks_of, rows_of};
 use mpslp_decimal::{Decimal, PackedDecimal};
 use mpslp_model_core::{
@@ -27,10 +27,7 @@ use mpslp_types::{Fault, FaultKind, Name, ReadFault, Sense};
 use std::alloc::{AllocError, Global};
 
 /// The entries of a map, in the order in which they were inserted.
-fn entries_of<V: Drop>(
-    alloc: Global,
-    map: IndexMap<Vec<u8>, V>,
-) -> Result<Vec<(Vec<u8>, V)>, AllocError>
+fn entries_of<V: Drop>(alloc: Global, map: NameMap<V>) -> Result<Vec<(Vec<u8>, V)>, AllocError>
     ensures { IfOk result (λ entries. entries.items ≡ map.entries) }
 {
     map.into_iter().collect(alloc)
@@ -114,7 +111,7 @@ pub(crate) fn into_model(
 }
 
 /// The name at an index, moved out of the map without a copy.
-fn name_out_of<V: Drop>(mut entries: IndexMap<Vec<u8>, V>, index: usize) -> Option<Name>
+fn name_out_of<V: Drop>(mut entries: NameMap<V>, index: usize) -> Option<Name>
     requires { (name : List ℕ) → entry_name entries.entries index ≡ Some name → IsMpsName name }
     ensures { result ≡ entry_name entries.entries index }
 {

@@ -11,8 +11,8 @@ ghost use Rattle.mpslp_builder.specs.Meaning.{file_fault};
 ghost use Rattle.mpslp_builder.specs.Tables.{draft, IsNumbered};
 ghost use Rattle.mpslp_builder.specs.FaultFound.{row_fails, column_fails, is_wrong_row, is_wrong_column, is_below, least_name, entry_name, kind_of_row_fault, kind_of_column_fault, named_fault, fault_found, IsThere};
 
+use crate::name_map::NameMap;
 use crate::tables::Tables;
-use indexmap::IndexMap;
 use mpslp_builder_parts::{ColumnParts, RowParts};
 use mpslp_model_core::{ColumnFault, RowFault, is_faulty_row, row_has};
 
@@ -69,7 +69,7 @@ impl Faulty<ColumnFault> for ColumnParts {
 }
 
 /// Whether any entry has an error. Most files have none, and then one scan of the entries is enough.
-fn has_faulty<F, V: Faulty<F>>(entries: &IndexMap<Vec<u8>, V>) -> bool
+fn has_faulty<F, V: Faulty<F>>(entries: &NameMap<V>) -> bool
     ensures { result ≡ list_any (λ e. V.is_wrong e.1) entries.now.entries }
 {
     let mut index = entries.len();
@@ -85,7 +85,7 @@ fn has_faulty<F, V: Faulty<F>>(entries: &IndexMap<Vec<u8>, V>) -> bool
 }
 
 /// Whether a name is below that of the entry at an index, or there is no such index.
-fn is_below<V>(entries: &IndexMap<Vec<u8>, V>, name: &[u8], least: Option<usize>) -> bool
+fn is_below<V>(entries: &NameMap<V>, name: &[u8], least: Option<usize>) -> bool
     ensures { result ≡ is_below name.now (option_and_then (entry_name entries.now.entries) least) }
 {
     match least {
@@ -98,7 +98,7 @@ fn is_below<V>(entries: &IndexMap<Vec<u8>, V>, name: &[u8], least: Option<usize>
 }
 
 /// The index of the entry that has this error and the least name.
-fn least_faulty<F: Copy, V: Faulty<F>>(entries: &IndexMap<Vec<u8>, V>, fault: F) -> Option<usize>
+fn least_faulty<F: Copy, V: Faulty<F>>(entries: &NameMap<V>, fault: F) -> Option<usize>
     ensures name { option_and_then (entry_name entries.now.entries) result ≡ least_name (V.fails fault) entries.now.entries }
     ensures there { ForSome result (λ i. i < length entries.now.entries) }
 {

@@ -2,14 +2,22 @@
 
 ghost use Rattle.std.specs.Prelude.{◌≡◌, map};
 ghost use Rattle.std.specs.List.{list_all, list_any};
-ghost use Rattle.mpslp_types.specs.Name.{is_upper, is_letter, is_lp_symbol, is_lp_byte, lower_byte, same_bytes, is_reserved, is_like_exponent, begins_a_number, is_lp_name};
+ghost use Rattle.mpslp_types.specs.Name.{is_upper, is_lp_byte, lower_byte, same_bytes, begins_reserved, may_be_reserved, is_reserved, is_like_exponent, begins_a_number, is_lp_name};
 ghost use Rattle.mpslp_decimal.specs.Literal.{is_digit};
 
 use crate::laws::each_name_is_legal;
 use crate::names::Name;
 
-/// The characters of LP names other than letters and digits.
-const LP_SYMBOLS: &[u8] = b"!\"#$%&()/,.;?@_'{}|~`";
+/// Each byte that LP names may have, at the index of its value; `-` at all other indices.
+static LP_BYTES: [u8; 256] = *b"\
+    --------------------------------\
+    -!\"#$%&'()--,-./0123456789-;---?\
+    @ABCDEFGHIJKLMNOPQRSTUVWXYZ----_\
+    `abcdefghijklmnopqrstuvwxyz{|}~-\
+    --------------------------------\
+    --------------------------------\
+    --------------------------------\
+    --------------------------------";
 
 /// The reserved words of LP, in lower case.
 const RESERVED_WORDS: [&[u8]; 31] = [
@@ -53,13 +61,6 @@ fn is_upper(byte: u8) -> bool
     65 <= byte && byte <= 90
 }
 
-/// Whether the byte is a letter.
-fn is_letter(byte: u8) -> bool
-    ensures { result ≡ is_letter byte }
-{
-    is_upper(byte) || (97 <= byte && byte <= 122)
-}
-
 /// Whether the byte is a digit.
 fn is_digit(byte: u8) -> bool
     ensures { result ≡ is_digit byte }
@@ -67,18 +68,12 @@ fn is_digit(byte: u8) -> bool
     48 <= byte && byte <= 57
 }
 
-/// Whether the byte is one of the symbols of LP names.
-fn is_lp_symbol(byte: u8) -> bool
-    ensures { result ≡ is_lp_symbol byte }
-{
-    LP_SYMBOLS.iter().any(|symbol| *symbol == byte)
-}
-
-/// Whether the byte is allowed in LP names.
-fn is_lp_byte(byte: u8) -> bool
+/// Whether the byte is allowed in LP names: a letter, a digit or one of `!"#$%&()/,.;?@_'{}|~` and a back quote.
+#[inline(always)]
+pub fn is_lp_byte(byte: u8) -> bool
     ensures { result ≡ is_lp_byte byte }
 {
-    is_letter(byte) || (is_digit(byte) || is_lp_symbol(byte))
+    LP_BYTES[byte as usize] != b'-'
 }
 
 /// Whether all bytes are allowed in LP names.
@@ -136,11 +131,40 @@ fn is_one_of(words: &[&[u8]], text: &[u8]) -> bool
     words.iter().any(|word| is_word(text, word))
 }
 
+/// The length of the longest reserved word.
+const LONGEST_WORD: usize = 8;
+
+/// Whether a reserved word begins with these two letters, ignoring case.
+fn begins_reserved(first: u8, second: u8) -> bool
+    ensures { result ≡ begins_reserved first second }
+{
+    match lower_byte(first) {
+        b'b' => matches!(lower_byte(second), b'i' | b'o'),
+        b'e' | b'i' => lower_byte(second) == b'n',
+        b'f' => lower_byte(second) == b'r',
+        b'g' => lower_byte(second) == b'e',
+        b'm' => matches!(lower_byte(second), b'a' | b'i'),
+        b's' => matches!(lower_byte(second), b'.' | b'e' | b'o' | b't' | b'u'),
+        _ => false,
+    }
+}
+
+/// Whether the text may be a reserved word, by its length and its first two letters, ignoring case. This excludes most names
+/// quickly.
+pub fn may_be_reserved(text: &[u8]) -> bool
+    ensures { result ≡ may_be_reserved text.now }
+{
+    match text {
+        [first, second, ..] => text.len() <= LONGEST_WORD && begins_reserved(*first, *second),
+        _ => false,
+    }
+}
+
 /// Whether the text is a reserved word, in any case of its letters.
 fn is_reserved(text: &[u8]) -> bool
     ensures { result ≡ is_reserved text.now }
 {
-    is_one_of(&RESERVED_WORDS, text)
+    may_be_reserved(text) && is_one_of(&RESERVED_WORDS, text)
 }
 
 impl Name {

@@ -111,7 +111,7 @@ fn put_row<W: Sink>(model: &Model, i: usize, sink: &mut W, buffer: &mut Buffer)
 {
     let lower = model.row_lower(i);
     let upper = model.row_upper(i);
-    put_label_line(sink, buffer, model.row_name(i).as_bytes());
+    put_label_line(sink, buffer, model.row_text(i));
     put_left_limit(sink, buffer, &lower, &upper);
     put_row_terms(model, i, sink, buffer);
     put_last_limit(sink, buffer, &lower, &upper);

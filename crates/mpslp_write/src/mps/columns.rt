@@ -35,7 +35,7 @@ fn put_element<W: Sink>(model: &Model, j: usize, k: usize, sink: &mut W, buffer:
         sink,
         buffer,
         model.column_name(j).as_bytes(),
-        model.row_name(i).as_bytes(),
+        model.row_text(i),
         value,
     );
 }

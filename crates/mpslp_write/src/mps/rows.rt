@@ -32,12 +32,7 @@ fn put_row<W: Sink>(model: &Model, i: usize, sink: &mut W, buffer: &mut Buffer)
 {
     each_model_is_sound(model);
     let letter = printed_letter(model.row_sense(i));
-    put_short_line(
-        sink,
-        buffer,
-        [letter].as_slice(),
-        model.row_name(i).as_bytes(),
-    );
+    put_short_line(sink, buffer, [letter].as_slice(), model.row_text(i));
 }
 
 /// Prints the lines of all rows in ROWS.
@@ -87,7 +82,7 @@ fn put_row_rhs<W: Sink>(model: &Model, i: usize, sink: &mut W, buffer: &mut Buff
     ensures { Prints line_text W.holds W.failed W.count sink.old sink.new buffer.old buffer.new (lines_at row_rhs_lines (entries model.now.rows) i) }
 {
     let side = rhs_at(model, i);
-    put_rhs(sink, buffer, model.row_name(i).as_bytes(), side);
+    put_rhs(sink, buffer, model.row_text(i), side);
 }
 
 /// Prints the right-hand sides of all rows.
@@ -121,7 +116,7 @@ fn put_range<W: Sink>(model: &Model, i: usize, sink: &mut W, buffer: &mut Buffer
 {
     let range = model.row_range(i);
     if !range.is_zero() {
-        put_value_line(sink, buffer, b"RNG", model.row_name(i).as_bytes(), range);
+        put_value_line(sink, buffer, b"RNG", model.row_text(i), range);
     }
 }
 

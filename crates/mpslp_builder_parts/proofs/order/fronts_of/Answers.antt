@@ -12,7 +12,7 @@ loop-number-preserved g c =
     let name : c.as_slice.result.now ≡ name_at entries number = c.as_slice.ensures.value ∙ name_at-entry entries number c.index-entries-number.result c.loop-number-test.true c.index-entries-number.is in
     record {
       fronts = c.in_ok-push.ensures.items
-          ∙ (λ i. c.loop-number.invariant.fronts i ++ record { bytes = (c.front_value-bytes.ensures.value ∙ ap (front_value 8) name) i; number = number } ∷ [])
+          ∙ (λ i. c.loop-number.invariant.fronts i ++ record { bytes = (c.front_value-bytes.ensures.value ∙ ap (front_value 16) name) i; number = number } ∷ [])
           ∙ sym (map-range_with_len_more (front_at entries) 0 number number (omega arith));
       bytes = λ n i h. at_next (λ n. slice_index (name_at entries n) i < 256) number n h (λ under. c.loop-number.invariant.bytes n i under)
           (subst (λ (name : List ℕ). slice_index name i < 256) name (c.front_value-bytes.ensures.bytes i));

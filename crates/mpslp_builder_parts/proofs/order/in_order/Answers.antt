@@ -1,31 +1,56 @@
-use Rattle.std.proofs.Common.{◌≡◌, refl, sym, ap, ◌∙◌, ℕ, ◌+◌, ◌<◌, List, [], ◌∷◌, ◌++◌, length, take, get_or, arith}
-use Rattle.std.specs.Prelude.{Option, Some, None, slice_get, filter_map}
-use Rattle.std.specs.Option.{option_to_list}
-use Rattle.std.proofs.lemmas.List.{take_more, get_or-set_other, length-set}
-use Rattle.std.proofs.lemmas.List.Elements.{filter_map-append}
-use Rattle.mpslp_builder_parts.specs.Ordered.{entries_at}
+use Rattle.std.proofs.Common.{◌≡◌, sym, ap, subst, ◌∙◌, ℕ, ◌<◌, List, length, get_or, arith}
+use Rattle.std.specs.List.{range_with_len}
+use Rattle.std.proofs.lemmas.List.{get_or_read}
+use Rattle.std.proofs.lemmas.List.Edits.{length-swap}
+use Rattle.mpslp_builder_parts.proofs.PlaceLemmas.{AreMoved, none_moved, next_below, next_numbered, next_moved, all_moved}
 use Rattle.mpslp_builder_parts.proofs.order.in_order.Goals as goal
 
-one_taken : {X : Type 0} (o : Option X) → option_to_list o ≡ filter_map (λ (o : Option X). o) (o ∷ [])
-one_taken None = refl
-one_taken (Some x) = refl
-
-taken-next : {X : Type 0} (items : List X) (order : List ℕ) (k : ℕ) → k < length order → entries_at items (take (k + 1) order) ≡ entries_at items (take k order) ++ option_to_list (slice_get items (get_or order k 0))
-taken-next items order k h =
-    ap (entries_at items) (take_more order k 0 h) ∙ filter_map-append (slice_get items) (take k order) (get_or order k 0 ∷ [])
-    ∙ ap (λ (more : List _). entries_at items (take k order) ++ more) (sym (one_taken (slice_get items (get_or order k 0))))
-
-pub loop-number-preserved : goal.loop-number-preserved
-loop-number-preserved g c =
-    let items = c.args.items.items in
+pub loop-place-init : goal.loop-place-init
+loop-place-init g c =
+    let all = c.args.items.items in
     let order = c.args.order.now in
-    let k = c.loop-number.number-index in
-    let m = get_or order k 0 in
-    let before = c.loop-number.invariant in
-    let waits = before.left m c.index_mut.result.now (c.requires.within k c.loop-number-test.true) (λ p h. c.requires.apart p k h c.loop-number-test.true) in
-    let item : c.take-item.result ≡ slice_get items m = c.take-item.ensures.value ∙ c.index_mut.ensures.value ∙ waits in
-    record {
-      ordered = c.in_ok-push_given.ensures ∙ (λ i. before.ordered i ++ option_to_list (item i)) ∙ sym (taken-next items order k c.loop-number-test.true);
-      left = λ n d l h. get_or-set_other c.loop-number.left.items m n c.take-item.new.self d (λ is. h k (omega arith) (sym is)) ∙ before.left n d l (λ p under. h p (omega (arith, under)));
-      len = length-set c.loop-number.left.items m c.take-item.new.self ∙ before.len;
-    }
+    let count : c.len.result ≡ length all = omega (arith, c.len.ensures) in
+    let count_again : c.len-2.result ≡ length all = omega (arith, c.len-2.ensures) in
+    let numbers : c.in_ok-numbers.numbers.items ≡ range_with_len 0 (length all) = c.in_ok-numbers.ensures ∙ ap (range_with_len 0) count in
+    let places : c.in_ok-places.places.items ≡ range_with_len 0 (length all) = c.in_ok-places.ensures ∙ ap (range_with_len 0) count_again in
+    subst (λ (ns : List ℕ). AreMoved all order 0 all ns c.in_ok-places.places.items) (sym numbers)
+    (subst (λ (ps : List ℕ). AreMoved all order 0 all (range_with_len 0 (length all)) ps) (sym places) (none_moved all order))
+
+pub index_mut-requires-in-loop-place : goal.index_mut-requires-in-loop-place
+index_mut-requires-in-loop-place g c =
+    let all = c.args.items.items in
+    let order = c.args.order.now in
+    let place = c.loop-place.place in
+    let numbers = c.loop-place.numbers.items in
+    let places = c.loop-place.places.items in
+    let before = c.loop-place.invariant in
+    let below : place < length all = next_below all order c.requires.within c.requires.apart place c.loop-place-test.true c.loop-place.items.items numbers places before in
+    let number = next_numbered all order c.requires.within c.requires.apart place c.loop-place-test.true c.loop-place.items.items numbers places before in
+    let moved_is : c.index-moved.result.now ≡ get_or numbers place 0 = get_or_read numbers place c.index-moved.result.now (omega (arith, below, before.numbers_len)) c.index-moved.ensures 0 in
+    omega (arith, moved_is, number.below, before.places_len)
+
+pub loop-place-preserved : goal.loop-place-preserved
+loop-place-preserved g c =
+    let all = c.args.items.items in
+    let order = c.args.order.now in
+    let place = c.loop-place.place in
+    let numbers = c.loop-place.numbers.items in
+    let places = c.loop-place.places.items in
+    let before = c.loop-place.invariant in
+    let below : place < length all = next_below all order c.requires.within c.requires.apart place c.loop-place-test.true c.loop-place.items.items numbers places before in
+    let number_in : get_or order place 0 < length places = (let within = c.requires.within place c.loop-place-test.true in omega (arith, within, before.places_len)) in
+    let from_is : c.index-from.result.now ≡ get_or places (get_or order place 0) 0 = get_or_read places (get_or order place 0) c.index-from.result.now number_in c.index-from.ensures 0 in
+    let moved_is : c.index-moved.result.now ≡ get_or numbers place 0 = get_or_read numbers place c.index-moved.result.now (omega (arith, below, before.numbers_len)) c.index-moved.ensures 0 in
+    let new_len : length c.swap.new.self.items ≡ length c.loop-place.items.items = ap length c.swap.ensures.items ∙ length-swap c.loop-place.items.items place c.index-from.result.now in
+    next_moved all order c.requires.within c.requires.apart place c.loop-place-test.true c.loop-place.items.items numbers places before c.index-from.result.now c.index-moved.result.now c.swap.new.self.items
+    from_is moved_is c.swap.ensures.by_index new_len
+
+pub returns : goal.returns
+returns g c =
+    let all = c.args.items.items in
+    let order = c.args.order.now in
+    let items = c.loop-place.items.items in
+    let numbers = c.loop-place.numbers.items in
+    let places = c.loop-place.places.items in
+    let is_end : c.loop-place.place ≡ length order = omega (arith, c.loop-place-test.false, c.loop-place.auto.place-end) in
+    c.truncate.ensures.items ∙ all_moved all order items numbers places c.requires.within (subst (λ (done : ℕ). AreMoved all order done items numbers places) is_end c.loop-place.invariant)

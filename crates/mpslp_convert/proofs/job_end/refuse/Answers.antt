@@ -1,4 +1,4 @@
-use Rattle.std.proofs.Common.{◌≡◌, ◌∙◌, ◌++◌, ℕ, List, refl, subst, codes}
+use Rattle.std.proofs.Common.{◌∙◌, ◌++◌, ℕ, List, refl, subst, codes}
 use Rattle.mpslp_convert.specs.Performed.{IsTold}
 use Rattle.mpslp_convert.proofs.job_end.refuse.Goals as goal
 

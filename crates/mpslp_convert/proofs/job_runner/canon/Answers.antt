@@ -1,4 +1,3 @@
-use Rattle.std.proofs.Common.{◌≡◌}
 use Rattle.mpslp_convert.proofs.job_runner.canon.Goals as goal
 
 pub returns-in-Mps-Mps-clause-answer : goal.returns-in-Mps-Mps-clause-answer

@@ -1,21 +1,51 @@
-use Rattle.std.proofs.Common.{◌≡◌, sym, ap, ◌∙◌, ℕ, suc, List, [], ◌++◌, arith}
-use Rattle.std.specs.Prelude.{Option, Some}
-use Rattle.std.specs.Option.{option_map_or}
-use Rattle.std.proofs.lemmas.Option.{slice_get-get_or}
-use Rattle.mpslp_model_core.specs.declared.model.ModelColumn.{ModelColumn}
-use Rattle.mpslp_model_core.specs.ByRow.{column_if, has_number, cells_of}
-use Rattle.mpslp_model_core.proofs.ByRowLemmas.{columns_more}
+use Rattle.std.proofs.Common.{◌≡◌, sym, ap, suc, ◌+◌, length, arith}
+use Rattle.mpslp_model_core.specs.ByRow.{columns_with}
+use Rattle.mpslp_model_core.proofs.FillLemmas.{noted, noted_none, noted_fits, cell_noted, cell_within, column_noted, put_same, put_none, put_fits, put_more, lists_from_put}
 use Rattle.mpslp_model_core.proofs.by_row.columns_by_row.Goals as goal
+
+pub loop-number-init : goal.loop-number-init
+loop-number-init c =
+    let total = c.in_ok-total.ensures.total in
+    let len = c.in_ok-list.ensures.len in
+    put_none c.args.columns.now c.args.rows c.in_ok-starts.starts.items c.starts_of.new.counts.items c.in_ok-list.list.items c.in_ok-starts.ensures
+    c.starts_of.ensures.len c.in_ok-total.ensures.starts (omega arith)
+
+pub put_cell-requires-clause-row : goal.put_cell-requires-clause-row
+put_cell-requires-clause-row c =
+    let within = cell_within c.args.columns.now c.loop-number.number c.index-columns-number.result c.deref-cell-items.result.now c.loop-cell.cell-index c.cell-item.result (omega arith) c.index-columns-number.is c.deref-cell-items.ensures.value (omega arith) c.cell-item.is c.args.rows c.requires.within in
+    let len = c.loop-cell.invariant.len in
+    omega arith
+
+pub put_cell-requires-clause-room : goal.put_cell-requires-clause-room
+put_cell-requires-clause-room c =
+    let columns = c.args.columns.now in
+    let k = c.loop-number.number in
+    let m = c.loop-cell.cell-index in
+    let within = cell_within columns k c.index-columns-number.result c.deref-cell-items.result.now m c.cell-item.result (omega arith) c.index-columns-number.is c.deref-cell-items.ensures.value (omega arith) c.cell-item.is c.args.rows c.requires.within in
+    let more = cell_noted columns k c.index-columns-number.result c.deref-cell-items.result.now m c.cell-item.result (omega arith) c.index-columns-number.is c.deref-cell-items.ensures.value (omega arith) c.cell-item.is c.requires.sorted in
+    put_fits c.cell-item.result.0 k c.loop-cell.invariant within more (λ i. noted_fits columns k (m + 1) i (omega arith))
+
+pub loop-cell-init : goal.loop-cell-init
+loop-cell-init c = put_same (λ i. sym (noted_none c.args.columns.now c.loop-number.number i)) c.loop-number.invariant
+
+pub loop-cell-preserved : goal.loop-cell-preserved
+loop-cell-preserved c =
+    let columns = c.args.columns.now in
+    let k = c.loop-number.number in
+    let m = c.loop-cell.cell-index in
+    let within = cell_within columns k c.index-columns-number.result c.deref-cell-items.result.now m c.cell-item.result (omega arith) c.index-columns-number.is c.deref-cell-items.ensures.value (omega arith) c.cell-item.is c.args.rows c.requires.within in
+    let more = cell_noted columns k c.index-columns-number.result c.deref-cell-items.result.now m c.cell-item.result (omega arith) c.index-columns-number.is c.deref-cell-items.ensures.value (omega arith) c.cell-item.is c.requires.sorted in
+    put_more columns c.args.rows (λ i. noted columns k m i) (λ i. noted columns k (m + 1) i) c.loop-cell.starts.items c.loop-cell.list.items c.put_cell.new.ends.items c.put_cell.new.list.items c.cell-item.result.0 k
+    c.loop-cell.invariant within more (λ i. noted_fits columns k (m + 1) i (omega arith)) c.put_cell.ensures.put c.put_cell.ensures.kept
+    c.put_cell.ensures.ends_len c.put_cell.ensures.list_len c.put_cell.ensures.objective c.put_cell.ensures.counted
 
 pub loop-number-preserved : goal.loop-number-preserved
 loop-number-preserved c =
-    let columns = c.args.columns.now in
-    let k = c.loop-number.number in
-    let cells : c.deref.result.now ≡ cells_of columns k =
-    c.deref.ensures.value
-    ∙ sym (ap (λ (o : Option (List ℕ × ModelColumn)). option_map_or (λ (column : List ℕ × ModelColumn). column.1.cells.items) o [])
-    (slice_get-get_or columns k c.index-columns-number.result (omega arith) ∙ ap Some (sym c.index-columns-number.is))) in
-    record {
-      len = c.in_ok-note_column.ensures.len ∙ c.loop-number.invariant.len;
-      own = λ i. c.in_ok-note_column.ensures.noted i ∙ (λ t. c.loop-number.invariant.own i t ++ column_if (has_number (suc i) (cells t)) k) ∙ sym (columns_more columns (suc i) k);
-    }
+    put_same (column_noted c.args.columns.now c.loop-number.number c.index-columns-number.result c.deref-cell-items.result.now c.loop-cell.cell-index (omega arith) c.index-columns-number.is c.deref-cell-items.ensures.value (omega arith))
+    c.loop-cell.invariant
+
+pub returns : goal.returns
+returns c =
+    let all : c.loop-number.number ≡ length c.args.columns.now = omega arith in
+    lists_from_put c.args.columns.now c.args.rows (record { starts = c.loop-number.starts; columns = c.loop-number.list })
+    (put_same (λ i. ap (columns_with c.args.columns.now (suc i)) all) c.loop-number.invariant)

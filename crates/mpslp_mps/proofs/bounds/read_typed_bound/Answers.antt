@@ -1,12 +1,12 @@
 use Rattle.std.proofs.Common.{sym, ap, subst, ◌∙◌, rules, map, Bor, ℕ, List, ◌∷◌}
 use Rattle.std.specs.Prelude.{Option, Some}
 use Rattle.mpslp_builder.specs.Declaration.{with_declarations}
-use Rattle.mpslp_mps.specs.BoundLine.{BoundLine}
-use Rattle.mpslp_mps.specs.ContextStep.{after_bound}
+use Rattle.mpslp_mps_fields.specs.BoundLine.{BoundLine}
+use Rattle.mpslp_mps.specs.ContextStep.{after_set}
 use Rattle.mpslp_mps.specs.LineDeclarations.{bound_declared}
 use Rattle.mpslp_types.specs.declared.faults.FaultKind.{FaultKind}
 use Rattle.mpslp_lines.specs.LineAnswer.{IsErrorOf}
-use Rattle.mpslp_mps.specs.declared.sections.Section.TheVariants.{Bounds}
+use Rattle.mpslp_mps_fields.specs.declared.sections.Section.TheVariants.{Bounds}
 use Rattle.mpslp_mps.proofs.StepLemmas.{step-bound}
 use Rattle.mpslp_mps.proofs.TakenLemmas.{data_fault-form, clash-told, data_fault-declared, declared-is, bounds-early, bounds-behind}
 use Rattle.mpslp_mps.specs.KindClash.{type_clash}
@@ -59,6 +59,6 @@ returns-clause-answers c =
     let same = declared-is c.args.context.now c.args.builder.now (c.args.letters.now ∷ more) (Some Bounds) declarations c.requires is in
     let step = step-bound c.args.context.now c.args.letters.now more type line c.requires said.1 said.2 in (
       fault_is ∙ c.in_ok-declare_bound.ensures.answers.0,
-      c.in_ok-pass_bound.ensures ∙ ap (λ (parts : BoundLine). after_bound c.args.context.now parts.set) c.line.view_is ∙ sym step,
+      c.in_ok-pass_set.ensures ∙ ap (λ (parts : BoundLine). after_set c.args.context.now Bounds parts.set) c.line.view_is ∙ sym step,
       c.in_ok-declare_bound.ensures.answers.1 ∙ ap (with_declarations c.args.builder.now) (sym same),
     )

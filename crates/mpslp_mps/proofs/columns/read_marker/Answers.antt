@@ -2,7 +2,7 @@ use Rattle.std.proofs.Common.{◌∙◌, ap, sym, map, refl, []}
 use Rattle.std.specs.List.{list_all}
 use Rattle.mpslp_lines.specs.FaultTests.{FaultTests, first_held}
 use Rattle.mpslp_lines.specs.declared.errors.LineError.TheVariants.{Fault}
-use Rattle.mpslp_mps.specs.declared.sections.Section.TheVariants.{Columns}
+use Rattle.mpslp_mps_fields.specs.declared.sections.Section.TheVariants.{Columns}
 use Rattle.mpslp_mps.proofs.StepLemmas.{step-marker}
 use Rattle.mpslp_mps.proofs.TakingLemmas.{is_early, data-judged, data-taken}
 use Rattle.mpslp_lines.proofs.AnswerLemmas.{ends-by}

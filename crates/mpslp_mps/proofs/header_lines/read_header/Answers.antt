@@ -6,7 +6,7 @@ use Rattle.mpslp_mps.specs.ContextStep.{after_header}
 use Rattle.mpslp_mps.specs.LineDeclarations.{header_declared}
 use Rattle.mpslp_lines.specs.LineAnswer.{IsErrorOf}
 use Rattle.mpslp_lines.specs.declared.errors.LineError.TheVariants.{Fault}
-use Rattle.mpslp_mps.specs.declared.sections.Section.{Section}
+use Rattle.mpslp_mps_fields.specs.declared.sections.Section.{Section}
 use Rattle.mpslp_mps.proofs.StepLemmas.{step-header}
 use Rattle.mpslp_lines.proofs.AnswerLemmas.{ends-by}
 use Rattle.mpslp_mps.proofs.HeaderTaking.{header-form, header-declares}

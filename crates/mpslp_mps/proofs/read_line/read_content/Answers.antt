@@ -1,5 +1,5 @@
 use Rattle.std.proofs.Common.{◌≡◌, sym, ap, subst, ◌∙◌, List, ℕ, map, take, Bor}
-use Rattle.mpslp_mps.specs.Line.{Fields, LineContent, data_line, header_of, fields}
+use Rattle.mpslp_mps_fields.specs.Line.{Fields, LineContent, data_line, header_of, fields}
 use Rattle.mpslp_mps.specs.LineAnswer.{ReadsContent}
 use Rattle.mpslp_mps.proofs.FrontTaking.{data-front, header-front, data-item, header-item}
 use Rattle.mpslp_mps.proofs.read_line.read_content.Goals as goal

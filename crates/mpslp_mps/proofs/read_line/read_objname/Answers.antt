@@ -1,8 +1,8 @@
 use Rattle.std.proofs.Common.{refl, sym, ◌∙◌, [], map, not}
 use Rattle.std.specs.Prelude.{is_some}
-use Rattle.mpslp_mps.specs.DataLine.{word_shape}
+use Rattle.mpslp_mps_fields.specs.DataLine.{word_shape}
 use Rattle.mpslp_lines.specs.declared.errors.LineError.TheVariants.{Fault}
-use Rattle.mpslp_mps.specs.declared.sections.Section.TheVariants.{ObjName}
+use Rattle.mpslp_mps_fields.specs.declared.sections.Section.TheVariants.{ObjName}
 use Rattle.mpslp_lines.proofs.AnswerLemmas.{ends-by}
 use Rattle.mpslp_mps.proofs.StepLemmas.{step-objname}
 use Rattle.mpslp_mps.proofs.TakingLemmas.{data-judged, data-taken}

@@ -1,6 +1,6 @@
 use Rattle.std.proofs.Common.{map}
-use Rattle.mpslp_mps.specs.DataLine.{row_shape}
-use Rattle.mpslp_mps.specs.declared.sections.Section.TheVariants.{Rows}
+use Rattle.mpslp_mps_fields.specs.DataLine.{row_shape}
+use Rattle.mpslp_mps_fields.specs.declared.sections.Section.TheVariants.{Rows}
 use Rattle.mpslp_lines.proofs.AnswerLemmas.{ends-by}
 use Rattle.mpslp_mps.proofs.TakingLemmas.{data-judged}
 use Rattle.mpslp_mps.proofs.RowTaking.{row-early}

@@ -6,9 +6,9 @@ use Rattle.mpslp_lines.specs.ErrorOf.{error_of_build}
 use Rattle.mpslp_lines.specs.LineAnswer.{IsErrorOf}
 use Rattle.mpslp_lines.proofs.RefusedLemmas.{call-error}
 use Rattle.mpslp_mps.proofs.TakenLemmas.{data_fault-declared}
-use Rattle.mpslp_mps.specs.DataLine.{word_shape}
+use Rattle.mpslp_mps_fields.specs.DataLine.{word_shape}
 use Rattle.mpslp_lines.specs.declared.errors.LineError.TheVariants.{Fault}
-use Rattle.mpslp_mps.specs.declared.sections.Section.TheVariants.{ObjSense}
+use Rattle.mpslp_mps_fields.specs.declared.sections.Section.TheVariants.{ObjSense}
 use Rattle.mpslp_lines.proofs.AnswerLemmas.{ends-by}
 use Rattle.mpslp_mps.proofs.TakingLemmas.{data-judged}
 use Rattle.mpslp_mps.proofs.RowTaking.{sense-early}

@@ -2,12 +2,12 @@ use Rattle.std.proofs.Common.{sym, ap, subst, ◌∙◌, rules, map, Bor, ℕ, L
 use Rattle.std.specs.Prelude.{Option, Some}
 use Rattle.mpslp_builder.specs.Declaration.{with_declarations}
 use Rattle.mpslp_types.specs.declared.faults.FaultKind.{FaultKind}
-use Rattle.mpslp_mps.specs.DataLine.{vector_shape}
+use Rattle.mpslp_mps_fields.specs.DataLine.{vector_shape}
 use Rattle.mpslp_lines.specs.FaultTests.{judged_by, first_held}
 use Rattle.mpslp_mps.specs.DataFault.{vector_tests}
 use Rattle.mpslp_lines.specs.LineAnswer.{IsErrorOf}
 use Rattle.mpslp_mps.specs.VectorDeclared.{rhs_values_declared}
-use Rattle.mpslp_mps.specs.declared.sections.Section.TheVariants.{Rhs}
+use Rattle.mpslp_mps_fields.specs.declared.sections.Section.TheVariants.{Rhs}
 use Rattle.mpslp_mps.proofs.StepLemmas.{step-right_side}
 use Rattle.mpslp_mps.proofs.TakenLemmas.{data_fault-form, data_fault-declared, declared-is, vector-early, rhs_values-are}
 use Rattle.mpslp_mps.proofs.ClashLemmas.{sides-apart}
@@ -38,6 +38,6 @@ returns-clause-answers c =
     let fault_is = data_fault-declared c.args.context.now c.args.builder.now fields (Some Rhs) (rhs_values_declared c.args.builder.now c.in_ok-set.sides) c.requires.section held is in
     let same = declared-is c.args.context.now c.args.builder.now fields (Some Rhs) (rhs_values_declared c.args.builder.now c.in_ok-set.sides) c.requires.section is in (
       fault_is ∙ c.in_ok-declare_rhs_values.ensures.answers.0,
-      c.in_ok-pass_rhs.ensures ∙ sym (step-right_side c.args.context.now fields c.in_ok-set.set.now c.in_ok-set.sides c.requires.section c.in_ok-set.ensures.1),
+      c.in_ok-pass_set.ensures ∙ sym (step-right_side c.args.context.now fields c.in_ok-set.set.now c.in_ok-set.sides c.requires.section c.in_ok-set.ensures.1),
       c.in_ok-declare_rhs_values.ensures.answers.1 ∙ ap (with_declarations c.args.builder.now) (sym same),
     )

@@ -1,5 +1,5 @@
 use Rattle.std.proofs.Common.{refl, ap, [], ◌∷◌}
-use Rattle.mpslp_mps.specs.declared.sections.Section.TheVariants.{Name, EndData}
+use Rattle.mpslp_mps_fields.specs.declared.sections.Section.TheVariants.{Name, EndData}
 use Rattle.mpslp_canonical_mps.specs.CanonicalMps.{header_line, sense_lines}
 use Rattle.mpslp_write.proofs.OutputLemmas.{section_then, section_same, section_text}
 use Rattle.mpslp_write.proofs.mps.put_lines.Goals as goal

@@ -1,5 +1,5 @@
 use Rattle.std.proofs.Common.{refl, [], ◌∷◌, ◌++◌}
-use Rattle.mpslp_mps.specs.declared.sections.Section.TheVariants.{Columns}
+use Rattle.mpslp_mps_fields.specs.declared.sections.Section.TheVariants.{Columns}
 use Rattle.mpslp_model_core.specs.Listing.{listing_of}
 use Rattle.mpslp_canonical_mps.specs.CanonicalMps.{header_line, column_lines, is_plain_column, is_integer_column, integer_part}
 use Rattle.mpslp_write.proofs.LinesAtLemmas.{flat_map-filter}

@@ -11,8 +11,8 @@ use Rattle.mpslp_write.proofs.ColumnLemmas.{element-seen, row-within, row-named}
 use Rattle.mpslp_write.proofs.OutputLemmas.{prints_same}
 use Rattle.mpslp_write.proofs.mps.columns.put_element.Goals as goal
 
-pub row_name-requires : goal.row_name-requires
-row_name-requires g c =
+pub row_text-requires : goal.row_text-requires
+row_text-requires g c =
     let m = c.args.model.now in
     let (e, at, index, value) = element-seen m (column_elements m (column_name m c.args.j)) c.args.k c.entry-i.result.0 c.entry-i.result.1 c.entry-i.ensures in
     row-within m e.0.row c.entry-i.result.0 index
@@ -23,6 +23,6 @@ returns g c =
     let name = column_name m c.args.j in
     let column : c.as_bytes.result.now ≡ name = c.as_bytes.ensures ∙ sym (get_or_from_slice_get (column_names m) c.args.j _ [] c.column_name.ensures) in
     let (e, at, index, value) = element-seen m (column_elements m name) c.args.k c.entry-i.result.0 c.entry-i.result.1 c.entry-i.ensures in
-    let row : c.as_bytes-2.result.now ≡ e.0.row = c.as_bytes-2.ensures ∙ row-named m e.0.row _ c.entry-i.result.0 index c.row_name.ensures in
+    let row : c.row_text.result.now ≡ e.0.row = row-named m e.0.row _ c.entry-i.result.0 index c.row_text.ensures in
     prints_same ((λ i. coefficient_line (column i) (row i, sym value i) ∷ []) ∙ sym (ap (λ (o : Option (CoefficientKey × Number)). option_map_or (element_lines name) o []) at))
     c.put_value_line.ensures

@@ -1,15 +1,12 @@
-use Rattle.std.proofs.Common.{sym, ap, ◌∙◌, ℕ, List, [], ◌∷◌}
-use Rattle.std.specs.Prelude.{codes}
+use Rattle.std.proofs.Common.{sym}
 use Rattle.std.specs.FinMap.{entries}
-use Rattle.mpslp_canonical_mps.specs.CanonicalMps.{vector_line}
 use Rattle.mpslp_write.proofs.RowLines.{range-put, range-left}
 use Rattle.mpslp_write.proofs.OutputLemmas.{prints_same, prints_nothing}
 use Rattle.mpslp_write.proofs.mps.rows.put_range.Goals as goal
 
 pub returns-then-not-is_zero : goal.returns-then-not-is_zero
 returns-then-not-is_zero g c =
-    prints_same (ap (λ (name : List ℕ). vector_line (codes "RNG") name c.row_range-range.result ∷ []) c.as_bytes.ensures
-    ∙ range-put (entries c.args.model.now.rows) c.args.i _ _ c.row_name.ensures c.row_range-range.ensures (sym c.if-not-is_zero.ensures))
+    prints_same (range-put (entries c.args.model.now.rows) c.args.i _ _ c.row_text.ensures c.row_range-range.ensures (sym c.if-not-is_zero.ensures))
     c.put_value_line.ensures
 
 pub returns-else-not-is_zero : goal.returns-else-not-is_zero

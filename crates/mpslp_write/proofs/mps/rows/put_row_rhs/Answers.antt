@@ -1,4 +1,3 @@
-use Rattle.std.proofs.Common.{ap, ◌∙◌, ℕ, List}
 use Rattle.std.specs.FinMap.{entries}
 use Rattle.mpslp_model_core.specs.Model.{Row}
 use Rattle.mpslp_canonical_mps.specs.PrintedValues.{printed_rhs}
@@ -9,6 +8,5 @@ use Rattle.mpslp_write.proofs.mps.rows.put_row_rhs.Goals as goal
 
 pub returns : goal.returns
 returns g c =
-    prints_same (ap (λ (name : List ℕ). rhs_lines name c.rhs_at-side.result) c.as_bytes.ensures
-    ∙ lines_seen (entries c.args.model.now.rows) c.args.i (λ (row : Row). printed_rhs row.lower row.upper) rhs_lines _ _ c.row_name.ensures c.rhs_at-side.ensures)
+    prints_same (lines_seen (entries c.args.model.now.rows) c.args.i (λ (row : Row). printed_rhs row.lower row.upper) rhs_lines _ _ c.row_text.ensures c.rhs_at-side.ensures)
     c.put_rhs.ensures

@@ -1,6 +1,6 @@
 use Rattle.std.proofs.Common.{◌∙◌, refl, [], ◌∷◌}
 use Rattle.std.specs.FinMap.{entries}
-use Rattle.mpslp_mps.specs.declared.sections.Section.TheVariants.{Rows}
+use Rattle.mpslp_mps_fields.specs.declared.sections.Section.TheVariants.{Rows}
 use Rattle.mpslp_canonical_mps.specs.CanonicalMps.{header_line, objective_line, row_line}
 use Rattle.mpslp_write.proofs.LinesAtLemmas.{map-flat_map}
 use Rattle.mpslp_write.proofs.OutputLemmas.{section_of, section_then, section_same, section_text}

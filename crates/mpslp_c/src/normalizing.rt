@@ -1,0 +1,69 @@
+//! The call that puts the arrays of a model into the form of a model that was loaded.
+
+ghost use Rattle.std.specs.Prelude.{◌≡◌, IsOkUnless};
+ghost use Rattle.mpslp_model_core.specs.Model.{LinearModel};
+ghost use Rattle.mpslp_convert.specs.Conversions.{IsErrUnless};
+ghost use Rattle.mpslp_c.specs.Stored.{Defines};
+ghost use Rattle.mpslp_c.specs.Answers.{HasFault, IsNormalizing, AreArraysGiven, IsNormalized};
+
+use crate::answers::OK;
+use crate::arrays::{MpslpModel, told_model};
+use crate::faults::{MpslpFault, StoreFault, tell_stored};
+use crate::storing::{store_status, stored_model};
+use std::alloc::Global;
+
+/// The arrays, as of a model that was loaded, of the model that arrays define.
+fn normalized(alloc: Global, model: &MpslpModel) -> Result<MpslpModel, StoreFault>
+    ensures answer { IsNormalizing model.now result }
+    ensures accepts { (m : LinearModel) → Defines model.now m → IsOkUnless result StoreFault.OutOfMemory }
+    ensures refuses { (why : StoreFault) → HasFault model.now why → IsErrUnless result why StoreFault.OutOfMemory }
+{
+    let model = stored_model(alloc, model)?;
+    match told_model(alloc, &model) {
+        Ok(told) => Ok(told),
+        Err(_) => Err(StoreFault::OutOfMemory),
+    }
+}
+
+/// Sets the arrays, or the error.
+fn give_arrays(
+    answer: Result<MpslpModel, StoreFault>,
+    out: &mut MpslpModel,
+    fault: &mut MpslpFault,
+) -> u32
+    ensures { AreArraysGiven answer result out.old out.new fault.old fault.new }
+{
+    match answer {
+        Ok(model) => {
+            *out = model;
+            OK
+        }
+        Err(why) => {
+            tell_stored(&why, fault);
+            store_status(&why)
+        }
+    }
+}
+
+/// Makes the arrays of the model that arrays define, in the form that [`mpslp_load`](crate::loading::mpslp_load) returns: rows,
+/// columns and the elements of a column in their order there, numbers in normal form, and no element of 0.
+///
+/// The arrays that are given may have the form that [`mpslp_store`](crate::storing::mpslp_store) accepts, and are rejected with
+/// the same first error.
+///
+/// | status | when |
+/// |---|---|
+/// | 0 | `out` is the model, allocated by `malloc`; the caller frees each array that is not empty |
+/// | 2 | the arrays define no model; `fault` is their first error |
+/// | 5 | an allocation failed |
+#[unsafe(no_mangle)]
+pub extern "C" fn mpslp_normalize(
+    alloc: Global,
+    model: &MpslpModel,
+    out: &mut MpslpModel,
+    fault: &mut MpslpFault,
+) -> u32
+    ensures { IsNormalized model.now result out.old out.new fault.old fault.new }
+{
+    give_arrays(normalized(alloc, model), out, fault)
+}

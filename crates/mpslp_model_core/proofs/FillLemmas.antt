@@ -1,0 +1,391 @@
+-- How the lists of columns by rows are filled, coefficient by coefficient.
+use Rattle.std.proofs.Common.{◌≡◌, refl, sym, ap, subst, ◌∙◌, ℕ, zero, suc, ◌+◌, ◌-◌, ◌<◌, ◌≤◌, List, [], ◌∷◌, ◌++◌, length, take, drop, Bool, true, false, cond, get_or, sum, ◌⊎◌, inl, inr, add-one, add-zero, add-suc, zero-add, le_trans, arith}
+use Rattle.std.specs.Prelude.{Option, Some, None, is_some, slice_get}
+use Rattle.std.specs.List.{All, list_all}
+use Rattle.std.specs.Option.{option_map_or}
+use Rattle.std.specs.Ordering.{eq_by_cmp, nat_cmp}
+use Rattle.std.specs.FinMap.{find, is_sorted}
+use Rattle.std.specs.Cmp.{nat_cmp_total}
+use Rattle.std.proofs.lemmas.Bool.{cases_order, cases_lt, cases_Bool, both_ways}
+use Rattle.std.proofs.lemmas.List.{append-nil, append_assoc, length-append, length-drop, length-take-le, take-append-drop, take_all, take_more, get_or_append_left, get_or_push, get_or-take, get_or-drop}
+use Rattle.std.proofs.lemmas.List.Sums.{fold_push}
+use Rattle.std.proofs.lemmas.Option.{slice_get-get_or}
+use Rattle.std.proofs.lemmas.Grind.{same_number_lists}
+use Rattle.mpslp_decimal.specs.Decimal.{Number}
+use Rattle.mpslp_model_core.specs.Numbered.{IsOnceBy}
+use Rattle.mpslp_model_core.specs.ByRow.{list_at, column_if, has_number, cells_of, columns_with, AreWithin, HasCounted, AreCounts, start_of, AreByRow}
+use Rattle.mpslp_model_core.specs.declared.by_row.RowLists.{RowLists}
+use Rattle.mpslp_model_core.specs.declared.model.ModelColumn.{ModelColumn}
+use Rattle.mpslp_model_core.proofs.CellLemmas.{number_same, number_tied, or_else, find-two}
+use Rattle.mpslp_model_core.proofs.OnceLemmas.{passed, once-sorted}
+use Rattle.mpslp_model_core.proofs.NumberLemmas.{all_at}
+use Rattle.mpslp_model_core.proofs.ByRowLemmas.{columns_more}
+
+-- ---- the coefficients of one column
+
+missed_at : (n : ℕ) (cells : List (ℕ × Number)) (m : ℕ) (d : ℕ × Number) → m < length cells → find nat_cmp n cells ≡ None → eq_by_cmp nat_cmp n (get_or cells m d).0 ≡ false
+missed_at n [] m d below none = absurd (omega arith)
+missed_at n (c ∷ cells) zero d below none = (passed (eq_by_cmp nat_cmp n c.0) c.1 (find nat_cmp n cells) none).0
+missed_at n (c ∷ cells) (suc m) d below none = missed_at n cells m d (omega arith) (passed (eq_by_cmp nat_cmp n c.0) c.1 (find nat_cmp n cells) none).1
+
+-- one coefficient more: no number occurs twice
+taken_more : (n column : ℕ) (cells : List (ℕ × Number)) (m : ℕ) (d : ℕ × Number) → m < length cells → IsOnceBy nat_cmp cells
+    → column_if (has_number n (take (suc m) cells)) column ≡ column_if (has_number n (take m cells)) column ++ column_if (eq_by_cmp nat_cmp n (get_or cells m d).0) column
+taken_more n column [] m d below once = absurd (omega arith)
+taken_more n column (c ∷ cells) zero d below once =
+    elim (eq_by_cmp nat_cmp n c.0) as (λ b. column_if (is_some (cond b (Some c.1) None)) column ≡ column_if b column) [
+      | true ↦ refl
+      | false ↦ refl
+    ]
+taken_more n column (c ∷ cells) (suc m) d below once =
+    by (eq_by_cmp nat_cmp n c.0) refl (taken_more n column cells m d (omega arith) once.1)
+  where
+    later : Bool
+    later = eq_by_cmp nat_cmp n (get_or cells m d).0
+
+    by : (tied : Bool) → eq_by_cmp nat_cmp n c.0 ≡ tied
+        → column_if (has_number n (take (suc m) cells)) column ≡ column_if (has_number n (take m cells)) column ++ column_if later column
+        → column_if (is_some (cond tied (Some c.1) (find nat_cmp n (take (suc m) cells)))) column ≡ column_if (is_some (cond tied (Some c.1) (find nat_cmp n (take m cells)))) column ++ column_if later column
+    by true tie rest =
+        let none : find nat_cmp n cells ≡ None = ap (λ (k : ℕ). find nat_cmp k cells) (number_same n c.0 tie) ∙ once.0 in
+        ap (λ (b : Bool). column ∷ column_if b column) (sym (missed_at n cells m d (omega arith) none))
+    by false tie rest = rest
+
+-- what the first columns and the first coefficients of the next one add to the list of a row
+abbrev pub noted : List (List ℕ × ModelColumn) → ℕ → ℕ → ℕ → List ℕ
+noted columns k m i = columns_with columns (suc i) k ++ column_if (has_number (suc i) (take m (cells_of columns k))) k
+
+pub noted_none : (columns : List (List ℕ × ModelColumn)) (k i : ℕ) → noted columns k 0 i ≡ columns_with columns (suc i) k
+noted_none columns k i = append-nil (columns_with columns (suc i) k)
+
+pub noted_more : (columns : List (List ℕ × ModelColumn)) (k m : ℕ) (d : ℕ × Number) → m < length (cells_of columns k) → IsOnceBy nat_cmp (cells_of columns k)
+    → (i : ℕ) → noted columns k (m + 1) i ≡ noted columns k m i ++ column_if (eq_by_cmp nat_cmp (suc i) (get_or (cells_of columns k) m d).0) k
+noted_more columns k m d below once i =
+    let cells = cells_of columns k in
+    ap (λ (n : ℕ). noted columns k n i) (add-one m)
+    ∙ ap (λ (l : List ℕ). columns_with columns (suc i) k ++ l) (taken_more (suc i) k cells m d below once)
+    ∙ sym (append_assoc (columns_with columns (suc i) k) (column_if (has_number (suc i) (take m cells)) k) (column_if (eq_by_cmp nat_cmp (suc i) (get_or cells m d).0) k))
+
+pub noted_all : (columns : List (List ℕ × ModelColumn)) (k i : ℕ) → noted columns k (length (cells_of columns k)) i ≡ columns_with columns (suc i) (k + 1)
+noted_all columns k i =
+    let cells = cells_of columns k in
+    ap (λ (es : List (ℕ × Number)). columns_with columns (suc i) k ++ column_if (has_number (suc i) es) k) (take_all (length cells) cells (omega arith))
+    ∙ sym (columns_more columns (suc i) k)
+
+-- ---- a coefficient of a column, as a loop reads it
+
+-- the cells of a column that was read at an index
+pub cells_read : (columns : List (List ℕ × ModelColumn)) (k : ℕ) (column : List ℕ × ModelColumn) → k < length columns → column ≡ get_or columns k column → column.1.cells.items ≡ cells_of columns k
+cells_read columns k column below is =
+    sym (ap (λ (o : Option (List ℕ × ModelColumn)). option_map_or (λ (c : List ℕ × ModelColumn). c.1.cells.items) o []) (slice_get-get_or columns k column below ∙ ap Some (sym is)))
+
+module _ (columns : List (List ℕ × ModelColumn)) (k : ℕ) (column : List ℕ × ModelColumn) (cells : List (ℕ × Number)) (m : ℕ) (cell : ℕ × Number)
+    (below : k < length columns) (read : column ≡ get_or columns k column) (items : cells ≡ column.1.cells.items) (under : m < length cells) (is : cell ≡ get_or cells m cell) where
+  there : cells ≡ cells_of columns k
+  there = items ∙ cells_read columns k column below read
+
+  pub cell_noted : list_all (λ (c : List ℕ × ModelColumn). is_sorted nat_cmp c.1.cells.items) columns ≡ true
+      → (i : ℕ) → noted columns k (m + 1) i ≡ noted columns k m i ++ column_if (eq_by_cmp nat_cmp (suc i) cell.0) k
+  cell_noted sorted i =
+      let at : slice_get columns k ≡ Some column = slice_get-get_or columns k column below ∙ ap Some (sym read) in
+      let ordered : is_sorted nat_cmp (cells_of columns k) ≡ true = ap (is_sorted nat_cmp) (sym (cells_read columns k column below read)) ∙ all_at (λ (c : List ℕ × ModelColumn). is_sorted nat_cmp c.1.cells.items) columns k column sorted at in
+      let number : (get_or (cells_of columns k) m cell).0 ≡ cell.0 = ap (λ (es : List (ℕ × Number)). (get_or es m cell).0) (sym there) ∙ ap (λ (e : ℕ × Number). e.0) (sym is) in
+      noted_more columns k m cell (subst (λ (es : List (ℕ × Number)). m < length es) there under) (once-sorted nat_cmp nat_cmp_total (cells_of columns k) ordered) i
+      ∙ ap (λ (n : ℕ). noted columns k m i ++ column_if (eq_by_cmp nat_cmp (suc i) n) k) number
+
+  pub cell_within : (rows : ℕ) → All (λ (c : List ℕ × ModelColumn). AreWithin rows c.1.cells.items) columns → cell.0 ≤ rows
+  cell_within rows within =
+      let whole : cells ≡ (get_or columns k column).1.cells.items = items ∙ ap (λ (c : List ℕ × ModelColumn). c.1.cells.items) read in
+      let inside : m < length (get_or columns k column).1.cells.items = subst (λ (es : List (ℕ × Number)). m < length es) whole under in
+      subst (λ (n : ℕ). n ≤ rows) (ap (λ (es : List (ℕ × Number)). (get_or es m cell).0) (sym whole) ∙ ap (λ (e : ℕ × Number). e.0) (sym is))
+      (within k column below m cell inside)
+
+-- a column whose coefficients are all noted
+pub column_noted : (columns : List (List ℕ × ModelColumn)) (k : ℕ) (column : List ℕ × ModelColumn) (cells : List (ℕ × Number)) (m : ℕ) → k < length columns → column ≡ get_or columns k column
+    → cells ≡ column.1.cells.items → length cells ≡ m → (i : ℕ) → noted columns k m i ≡ columns_with columns (suc i) (k + 1)
+column_noted columns k column cells m below read items all i =
+    ap (λ (n : ℕ). noted columns k n i) (sym all ∙ ap length (items ∙ cells_read columns k column below read)) ∙ noted_all columns k i
+
+-- ---- how long the lists are
+
+rising : (f : ℕ → ℕ) → ((j : ℕ) → f j ≤ f (suc j)) → (j r : ℕ) → f j ≤ f (j + r)
+rising f step j zero = let same : f j ≤ f j = omega arith in subst (λ (n : ℕ). f j ≤ f n) (sym (add-zero j)) same
+rising f step j (suc r) =
+    let before = rising f step j r in
+    let last = step (j + r) in
+    subst (λ (n : ℕ). f j ≤ f n) (sym (add-suc j r)) (le_trans before last)
+
+column_one : (has : Bool) (column : ℕ) → length (column_if has column) ≤ 1
+column_one true column = omega arith
+column_one false column = omega arith
+
+with_more : (columns : List (List ℕ × ModelColumn)) (n k : ℕ) → length (columns_with columns n (suc k)) ≡ length (columns_with columns n k) + length (column_if (has_number n (cells_of columns k)) k)
+with_more columns n k = ap length (ap (columns_with columns n) (sym (add-one k)) ∙ columns_more columns n k) ∙ length-append (columns_with columns n k) (column_if (has_number n (cells_of columns k)) k)
+
+with_few : (columns : List (List ℕ × ModelColumn)) (n k : ℕ) → length (columns_with columns n k) ≤ k
+with_few columns n zero = omega arith
+with_few columns n (suc k) =
+    let before = with_few columns n k in
+    let more = with_more columns n k in
+    let last = column_one (has_number n (cells_of columns k)) k in
+    omega arith
+
+with_rise : (columns : List (List ℕ × ModelColumn)) (n j k : ℕ) → j ≤ k → length (columns_with columns n j) ≤ length (columns_with columns n k)
+with_rise columns n j k below =
+    let whole : j + (k - j) ≡ k = omega arith in
+    subst (λ (top : ℕ). length (columns_with columns n j) ≤ length (columns_with columns n top)) whole
+    (rising (λ (l : ℕ). length (columns_with columns n l)) (λ l. let more = with_more columns n l in omega arith) j (k - j))
+
+one_of_both : (a b : Option Number) (column : ℕ) → length (column_if (is_some a) column) ≤ length (column_if (is_some (or_else a b)) column)
+one_of_both None b column = omega arith
+one_of_both (Some x) b column = omega arith
+
+noted_within : (columns : List (List ℕ × ModelColumn)) (k m i : ℕ) → length (noted columns k m i) ≤ length (columns_with columns (suc i) (suc k))
+noted_within columns k m i =
+    let n = suc i in
+    let cells = cells_of columns k in
+    let taken = find nat_cmp n (take m cells) in
+    let both : or_else taken (find nat_cmp n (drop m cells)) ≡ find nat_cmp n cells = sym (find-two nat_cmp n (take m cells) (drop m cells)) ∙ ap (find nat_cmp n) (take-append-drop m cells) in
+    let part = subst (λ (o : Option Number). length (column_if (is_some taken) k) ≤ length (column_if (is_some o) k)) both (one_of_both taken (find nat_cmp n (drop m cells)) k) in
+    let split = length-append (columns_with columns n k) (column_if (is_some taken) k) in
+    let more = with_more columns n k in
+    omega arith
+
+pub noted_few : (columns : List (List ℕ × ModelColumn)) (k m i : ℕ) → k < length columns → length (noted columns k m i) ≤ length columns
+noted_few columns k m i below =
+    let part = noted_within columns k m i in
+    let few = with_few columns (suc i) (suc k) in
+    omega arith
+
+pub noted_fits : (columns : List (List ℕ × ModelColumn)) (k m i : ℕ) → k < length columns → length (noted columns k m i) ≤ length (columns_with columns (suc i) (length columns))
+noted_fits columns k m i below =
+    let part = noted_within columns k m i in
+    let rest = with_rise columns (suc i) (suc k) (length columns) below in
+    omega arith
+
+-- ---- where the lists start
+
+pub starts_rise : (columns : List (List ℕ × ModelColumn)) (i j : ℕ) → i ≤ j → start_of columns i ≤ start_of columns j
+starts_rise columns i j below =
+    let whole : i + (j - i) ≡ j = omega arith in
+    subst (λ (top : ℕ). start_of columns i ≤ start_of columns top) whole (rising (start_of columns) (λ l. omega arith) i (j - i))
+
+-- places in the lists of two rows differ
+places_apart : (columns : List (List ℕ × ModelColumn)) (i r p q : ℕ)
+    → p < length (columns_with columns (suc i) (length columns)) → q < length (columns_with columns (suc r) (length columns))
+    → start_of columns i + p ≡ start_of columns r + q → i ≡ r
+places_apart columns i r p q under over same = by (cases_order i r)
+  where
+    by : (i ≡ r) ⊎ ((i < r) ⊎ (r < i)) → i ≡ r
+    by (inl e) = e
+    by (inr (inl before)) = let far : start_of columns (suc i) ≤ start_of columns r = starts_rise columns (suc i) r before in absurd (omega arith)
+    by (inr (inr after)) = let far : start_of columns (suc r) ≤ start_of columns i = starts_rise columns (suc r) i after in absurd (omega arith)
+
+pub sums_are_starts : (columns : List (List ℕ × ModelColumn)) (rows : ℕ) (counts : List ℕ) → AreCounts columns rows counts → (i : ℕ) → i ≤ rows → sum (take (suc i) counts) ≡ start_of columns i
+sums_are_starts columns rows counts are zero below =
+    let some : 0 < length counts = let len = are.len in omega arith in
+    ap sum (take_more counts 0 0 some) ∙ zero-add (get_or counts 0 0) ∙ are.objective
+sums_are_starts columns rows counts are (suc i) below =
+    let some : suc i < length counts = let len = are.len in omega arith in
+    let x = get_or counts (suc i) 0 in
+    ap (λ (n : ℕ). sum (take n counts)) (sym (add-one (suc i)))
+    ∙ ap sum (take_more counts (suc i) 0 some)
+    ∙ fold_push (λ (a x : ℕ). a + x) 0 (take (suc i) counts) x
+    ∙ (λ t. sums_are_starts columns rows counts are i (omega arith) t + are.own i (omega arith) t)
+
+-- ---- column by column
+
+-- the numbers of coefficients so far
+pub record AreCounted (rows : ℕ) (lists : ℕ → List ℕ) (counts : List ℕ) : Type 0 where
+  pub len : length counts ≡ suc rows
+  pub objective : get_or counts 0 0 ≡ 0
+  pub own : (i : ℕ) → i < rows → get_or counts (suc i) 0 ≡ length (lists i)
+
+pub counted_same : {rows : ℕ} {own next : ℕ → List ℕ} {counts : List ℕ} → ((i : ℕ) → own i ≡ next i) → AreCounted rows own counts → AreCounted rows next counts
+counted_same {rows} {own} {next} {counts} same are = subst (λ (lists : ℕ → List ℕ). AreCounted rows lists counts) (λ t i. same i t) are
+
+pub counted_few : {rows : ℕ} {own : ℕ → List ℕ} {counts : List ℕ} (most : ℕ) → AreCounted rows own counts → ((i : ℕ) → length (own i) ≤ most) → (n : ℕ) → n ≤ rows → get_or counts n 0 ≤ most
+counted_few {rows} {own} {counts} most are few zero within = let none = are.objective in omega arith
+counted_few {rows} {own} {counts} most are few (suc i) within =
+    let count = are.own i within in
+    let bound = few i in
+    omega arith
+
+column_length : (has : Bool) (column : ℕ) → length (column_if has column) ≡ cond has 1 0
+column_length true column = refl
+column_length false column = refl
+
+one_longer : (own next : ℕ → List ℕ) (number column : ℕ) → ((i : ℕ) → next i ≡ own i ++ column_if (eq_by_cmp nat_cmp (suc i) number) column)
+    → (i : ℕ) → length (next i) ≡ length (own i) + cond (eq_by_cmp nat_cmp (suc i) number) 1 0
+one_longer own next number column more i =
+    let tied = eq_by_cmp nat_cmp (suc i) number in
+    ap length (more i) ∙ length-append (own i) (column_if tied column) ∙ ap (λ (l : ℕ). length (own i) + l) (column_length tied column)
+
+pub counted_more : {rows : ℕ} {own next : ℕ → List ℕ} {old new : List ℕ} (number column : ℕ) → AreCounted rows own old
+    → ((i : ℕ) → next i ≡ own i ++ column_if (eq_by_cmp nat_cmp (suc i) number) column)
+    → length new ≡ length old → get_or new 0 0 ≡ get_or old 0 0 → HasCounted number old new → AreCounted rows next new
+counted_more {rows} {own} {next} {old} {new} number column are more len objective counted = record {
+  len = len ∙ are.len;
+  objective = objective ∙ are.objective;
+  own = λ i below. counted i ∙ ap (λ (n : ℕ). n + cond (eq_by_cmp nat_cmp (suc i) number) 1 0) (are.own i below) ∙ sym (one_longer own next number column more i);
+}
+
+-- the lists so far, each from its start to its end
+pub record ArePut (columns : List (List ℕ × ModelColumn)) (rows : ℕ) (own : ℕ → List ℕ) (row_ends list : List ℕ) : Type 0 where
+  pub len : length row_ends ≡ suc rows
+  pub room : length list ≡ start_of columns rows
+  pub objective : get_or row_ends 0 0 ≡ 0
+  pub ends : (i : ℕ) → i < rows → get_or row_ends (suc i) 0 ≡ start_of columns i + length (own i)
+  pub put : (i p : ℕ) → i < rows → p < length (own i) → get_or list (start_of columns i + p) 0 ≡ get_or (own i) p 0
+
+pub put_same : {columns : List (List ℕ × ModelColumn)} {rows : ℕ} {own next : ℕ → List ℕ} {ends list : List ℕ} → ((i : ℕ) → own i ≡ next i) → ArePut columns rows own ends list → ArePut columns rows next ends list
+put_same {columns} {rows} {own} {next} {ends} {list} same are = subst (λ (lists : ℕ → List ℕ). ArePut columns rows lists ends list) (λ t i. same i t) are
+
+-- there is room for a coefficient that is not noted yet
+pub put_fits : {columns : List (List ℕ × ModelColumn)} {rows : ℕ} {own next : ℕ → List ℕ} {row_ends list : List ℕ} (number column : ℕ) → ArePut columns rows own row_ends list → number ≤ rows
+    → ((i : ℕ) → next i ≡ own i ++ column_if (eq_by_cmp nat_cmp (suc i) number) column)
+    → ((i : ℕ) → length (next i) ≤ length (columns_with columns (suc i) (length columns)))
+    → 0 < number → get_or row_ends number 0 < length list
+put_fits zero column are below more fits some = absurd (omega arith)
+put_fits {columns} {rows} {own} {next} {row_ends} {list} (suc i) column are below more fits some =
+    let longer : length (next i) ≡ length (own i) + 1 = one_longer own next (suc i) column more i ∙ ap (λ (b : Bool). length (own i) + cond b 1 0) (number_tied (suc i) (suc i) refl) in
+    let end = are.ends i below in
+    let room = are.room in
+    let fit = fits i in
+    let far : start_of columns (suc i) ≤ start_of columns rows = starts_rise columns (suc i) rows below in
+    omega arith
+
+-- before the first column
+pub put_none : (columns : List (List ℕ × ModelColumn)) (rows : ℕ) (counts starts list : List ℕ) → AreCounts columns rows counts → length starts ≡ length counts
+    → ((i : ℕ) → i < length counts → get_or starts i 0 ≡ sum (take i counts)) → length list ≡ sum counts → ArePut columns rows (λ i. columns_with columns (suc i) 0) starts list
+put_none columns rows counts starts list are len sums room = record {
+  len = len ∙ are.len;
+  room = room ∙ ap sum (sym (take_all (suc rows) counts (let some = are.len in omega arith))) ∙ sums_are_starts columns rows counts are rows (omega arith);
+  objective = sums 0 (let some = are.len in omega arith);
+  ends = λ i below. sums (suc i) (let some = are.len in omega arith) ∙ sums_are_starts columns rows counts are i (omega arith) ∙ sym (add-zero (start_of columns i));
+  put = λ i p below under. absurd (omega arith);
+}
+
+module _ (columns : List (List ℕ × ModelColumn)) (rows : ℕ) (own next : ℕ → List ℕ) (old_ends old_list ends list : List ℕ) (number column : ℕ)
+    (are : ArePut columns rows own old_ends old_list)
+    (row : number ≤ rows)
+    (more : (i : ℕ) → next i ≡ own i ++ column_if (eq_by_cmp nat_cmp (suc i) number) column)
+    (fits : (i : ℕ) → length (next i) ≤ length (columns_with columns (suc i) (length columns)))
+    (placed : 0 < number → get_or list (get_or old_ends number 0) 0 ≡ column)
+    (kept : (p : ℕ) → (0 < number → p ≡ get_or old_ends number 0 → ⊥) → get_or list p 0 ≡ get_or old_list p 0) where
+  next_length : (i : ℕ) → length (next i) ≡ length (own i) + cond (eq_by_cmp nat_cmp (suc i) number) 1 0
+  next_length = one_longer own next number column more
+
+  -- the place that is written is in the list of another row
+  elsewhere : (i p : ℕ) → p < length (own i) → eq_by_cmp nat_cmp (suc i) number ≡ false → 0 < number → start_of columns i + p ≡ get_or old_ends number 0 → ⊥
+  elsewhere i p under other some same =
+      let r = number - 1 in
+      let is : number ≡ suc r = omega arith in
+      let below : r < rows = omega arith in
+      let tied : eq_by_cmp nat_cmp (suc r) number ≡ true = number_tied (suc r) number (sym is) in
+      let longer : length (next r) ≡ length (own r) + 1 = next_length r ∙ ap (λ (b : Bool). length (own r) + cond b 1 0) tied in
+      let within : length (own r) < length (columns_with columns (suc r) (length columns)) = let fit = fits r in omega arith in
+      let alike : length (next i) ≡ length (own i) + 0 = next_length i ∙ ap (λ (b : Bool). length (own i) + cond b 1 0) other in
+      let under_all : p < length (columns_with columns (suc i) (length columns)) = let fit = fits i in omega arith in
+      let one = places_apart columns i r p (length (own r)) under_all within (same ∙ ap (λ (n : ℕ). get_or old_ends n 0) is ∙ are.ends r below) in
+      let tie : eq_by_cmp nat_cmp (suc i) number ≡ true = number_tied (suc i) number (ap (λ (n : ℕ). suc n) one ∙ sym is) in
+      both_ways (eq_by_cmp nat_cmp (suc i) number) other tie
+
+  put_own : (i p : ℕ) → i < rows → p < length (next i) → eq_by_cmp nat_cmp (suc i) number ≡ true → get_or list (start_of columns i + p) 0 ≡ get_or (next i) p 0
+  put_own i p below under tie = by (cases_lt p (length (own i)))
+    where
+      is : suc i ≡ number
+      is = number_same (suc i) number tie
+
+      now : next i ≡ own i ++ column ∷ []
+      now = more i ∙ ap (λ (b : Bool). own i ++ column_if b column) tie
+
+      longer : length (next i) ≡ length (own i) + 1
+      longer = next_length i ∙ ap (λ (b : Bool). length (own i) + cond b 1 0) tie
+
+      end : get_or old_ends number 0 ≡ start_of columns i + length (own i)
+      end = ap (λ (n : ℕ). get_or old_ends n 0) (sym is) ∙ are.ends i below
+
+      by : (p < length (own i)) ⊎ (length (own i) ≤ p) → get_or list (start_of columns i + p) 0 ≡ get_or (next i) p 0
+      by (inl before) =
+          let last = end in
+          kept (start_of columns i + p) (λ some same. omega arith)
+          ∙ are.put i p below before ∙ sym (get_or_append_left (own i) (column ∷ []) 0 p before) ∙ ap (λ (l : List ℕ). get_or l p 0) (sym now)
+      by (inr after) =
+          let whole : length (own i) ≡ p = let len = longer in omega arith in
+          ap (λ (q : ℕ). get_or list q 0) (ap (λ (q : ℕ). start_of columns i + q) (sym whole) ∙ sym end)
+          ∙ placed (let same = is in omega arith) ∙ sym (get_or_push (own i) column 0 p whole) ∙ ap (λ (l : List ℕ). get_or l p 0) (sym now)
+
+  put_other : (i p : ℕ) → i < rows → p < length (next i) → eq_by_cmp nat_cmp (suc i) number ≡ false → get_or list (start_of columns i + p) 0 ≡ get_or (next i) p 0
+  put_other i p below under other =
+      let now : next i ≡ own i = more i ∙ ap (λ (b : Bool). own i ++ column_if b column) other ∙ append-nil (own i) in
+      let inside : p < length (own i) = subst (λ (l : List ℕ). p < length l) now under in
+      kept (start_of columns i + p) (elsewhere i p inside other) ∙ are.put i p below inside ∙ ap (λ (l : List ℕ). get_or l p 0) (sym now)
+
+  put_at : (i p : ℕ) → i < rows → p < length (next i) → get_or list (start_of columns i + p) 0 ≡ get_or (next i) p 0
+  put_at i p below under = by (cases_Bool (eq_by_cmp nat_cmp (suc i) number))
+    where
+      by : (eq_by_cmp nat_cmp (suc i) number ≡ true) ⊎ (eq_by_cmp nat_cmp (suc i) number ≡ false) → get_or list (start_of columns i + p) 0 ≡ get_or (next i) p 0
+      by (inl tie) = put_own i p below under tie
+      by (inr other) = put_other i p below under other
+
+  pub put_more : length ends ≡ length old_ends → length list ≡ length old_list → get_or ends 0 0 ≡ get_or old_ends 0 0 → HasCounted number old_ends ends → ArePut columns rows next ends list
+  put_more ends_len list_len objective counted = record {
+    len = ends_len ∙ are.len;
+    room = list_len ∙ are.room;
+    objective = objective ∙ are.objective;
+    ends = λ i below.
+        let now = counted i in
+        let old = are.ends i below in
+        let longer = next_length i in
+        omega arith;
+    put = put_at;
+  }
+
+-- with all columns the lists are done
+pub lists_from_put : (columns : List (List ℕ × ModelColumn)) (rows : ℕ) (lists : RowLists)
+    → ArePut columns rows (λ i. columns_with columns (suc i) (length columns)) lists.starts.items lists.columns.items → AreByRow columns rows lists
+lists_from_put columns rows lists are = record {
+  len = are.len;
+  starts = starts;
+  room = are.room;
+  own = own;
+}
+  where
+    starts : (i : ℕ) → i ≤ rows → get_or lists.starts.items i 0 ≡ start_of columns i
+    starts zero below = are.objective
+    starts (suc i) below = are.ends i below
+
+    own : (i : ℕ) → i < rows → list_at lists i ≡ columns_with columns (suc i) (length columns)
+    own i below =
+        let list = lists.columns.items in
+        let start = start_of columns i in
+        let count = length (columns_with columns (suc i) (length columns)) in
+        let first : get_or lists.starts.items i 0 ≡ start = starts i (omega arith) in
+        let end : get_or lists.starts.items (suc i) 0 ≡ start + count = starts (suc i) below in
+        let far : start_of columns (suc i) ≤ start_of columns rows = starts_rise columns (suc i) rows below in
+        let left = length-drop start list in
+        let room = are.room in
+        let len : length (take count (drop start list)) ≡ count = length-take-le count (drop start list) (omega arith) in
+        let taken : start + count - start ≡ count = omega arith in
+        (λ t. take (end t - first t) (drop (first t) list))
+        ∙ ap (λ (n : ℕ). take n (drop start list)) taken
+        ∙ same_number_lists (take count (drop start list)) (columns_with columns (suc i) (length columns)) len
+        (λ p under.
+        let inside : p < count = subst (λ (n : ℕ). p < n) len under in
+        get_or-take count (drop start list) p 0 inside ∙ get_or-drop start list p 0 ∙ are.put i p below inside)
+
+-- ---- the list of a row
+
+pub list_ordered : {columns : List (List ℕ × ModelColumn)} {rows : ℕ} {lists : RowLists} → AreByRow columns rows lists → (i : ℕ) → i < rows → get_or lists.starts.items i 0 ≤ get_or lists.starts.items (suc i) 0
+list_ordered {columns} are i below =
+    let start = are.starts i (omega arith) in
+    let end = are.starts (suc i) below in
+    omega arith
+
+pub list_inside : {columns : List (List ℕ × ModelColumn)} {rows : ℕ} {lists : RowLists} → AreByRow columns rows lists → (i : ℕ) → i < rows → get_or lists.starts.items (suc i) 0 ≤ length lists.columns.items
+list_inside {columns} {rows} are i below =
+    let end = are.starts (suc i) below in
+    let room = are.room in
+    let far : start_of columns (suc i) ≤ start_of columns rows = starts_rise columns (suc i) rows below in
+    omega arith
