@@ -1,6 +1,6 @@
 # The commands of the README. They need the Rattle kit, whose command is rt.
 
-.PHONY: program run test wrong-bodies lib lib-check python python-check bench refused random vectors docs-check solvers dialects
+.PHONY: program run test mutants lib lib-check python python-check bench refused random vectors docs-check solvers dialects
 
 # Proves and builds the program: 20 to 35 minutes the first time, and later what changed.
 program:
@@ -13,14 +13,14 @@ FILE = examples/small.mps
 run:
 	@python3 scripts/run.py '$(FILE)' '$(TO)'
 
-# The merge gate: proves everything, tries the must-fail edits, which are wrong versions that the prover has to refuse, and runs
-# tests and programs. On a machine that has done so it proves what changed since and the crates above it.
+# The merge gate: proves everything, tests the mutants, which are wrong versions that the prover has to reject, and runs tests and
+# programs.
 test:
 	@python3 scripts/gate.py
 
-# Tries the wrong bodies that the gate leaves out: most say more of a function that a must-fail edit turns already.
-wrong-bodies:
-	sh tests/wrong_bodies.sh
+# Tests the mutants of all crates.
+mutants: lib
+	python3 scripts/mutants.py
 
 # Builds the library for C, proved: build/libmpslp.a and build/libmpslp.so.0.
 lib:

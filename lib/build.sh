@@ -2,7 +2,7 @@
 # lib/build.sh: makes build/libmpslp.a and build/libmpslp.so.0 from the proved crate mpslp_c, the kit's heap, and the inline
 # functions of the header.
 #
-# lib/build.sh gate: the same with the libraries that rt ci has proved in this checkout and left there, none of which rt lib
+# lib/build.sh gate: the same with the libraries that rt ci has proved for the gate and left in build/ci/, none of which rt lib
 # accepts. The crate itself is proved once more: rattle builds no other.
 set -eu
 cd "$(dirname "$0")/.."
@@ -11,11 +11,11 @@ root=$PWD
 if test "${1:-}" = gate; then
     set --
     for name in $(sed -n 's/^mpslp_c staticlib: //p' crates.txt); do
-        library=$root/crates/$name/out/rlib/$name.rlib
+        library=$root/build/ci/crates/$name/out/rlib/$name.rlib
         test -e "$library" || library=$kit/rlibs/$name.rlib
         set -- "$@" --extern "$name=$library"
     done
-    for folder in "$root"/crates/*/out/rlib; do
+    for folder in "$root"/build/ci/crates/*/out/rlib; do
         set -- "$@" -L "dependency=$folder"
     done
     mkdir -p crates/mpslp_c/out

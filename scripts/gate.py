@@ -1,24 +1,30 @@
 #!/usr/bin/env python3
 """The merge gate, quietly: scripts/gate.py
 
-First `rt ci`: it proves every crate and its tests, checks that the prover rejects the mutants of must-fail/, and runs the tests
-and programs. Then the scripts of TESTS test what it built, side by side. One line is printed for each crate, each directory of
-mutants and each script; all of their output goes to build/log/. Results are cached on this machine, so a second call, or a call
-after an interrupted one, proves only what is left or has changed.
+First `rt ci` proves every crate and its tests, and runs the tests and programs, on a copy of the crates in build/ci/. Then, side
+by side, scripts/mutants.py checks that the prover rejects each mutant, and the scripts of TESTS test what was built. The copy has
+no mutants, since `rt ci` would check a whole crate for each. One line is printed for each crate, its mutants and each script; all
+of their output goes to build/log/.
 """
 
 import os
 import re
+import shutil
 import subprocess
 import sys
 import time
-from collections import Counter
-from concurrent.futures import ThreadPoolExecutor, as_completed
+from concurrent.futures import Future, ThreadPoolExecutor, as_completed
 from dataclasses import dataclass
 from pathlib import Path
 
 from kit import ROOT, require_kit
+from mutants import Outcome, crates_with_mutants, kit_folder, test_crate
 from prove import LOGS, below, crates_of_repository, mark, sums_of
+
+# Where `rt ci` runs, and what it leaves there: the library of each crate, its program and its tests.
+COPY = ROOT / "build" / "ci"
+# What a crate has that `rt ci` does not read here.
+LEFT_OUT = shutil.ignore_patterns("must-fail", "out")
 
 # Each proof takes up to 4 GB of memory, so there are at most so many side by side.
 MOST_PROOFS = 4
@@ -53,9 +59,7 @@ TESTS = (
 PROVED = re.compile(r"rt: (\w+) proved$")
 TESTS_PROVED = re.compile(r"rt: (\w+): its tests are proved$")
 KEPT = re.compile(r"rt: (\w+) is kept:")
-EDITS_BEGUN = re.compile(r"rt: (\w+): trying its must-fail edits \((\d+)\)")
-EDIT = re.compile(r"rt: must-fail (\w+)/\S+: (refused|BAD EDIT|NOT TRIED|NOT REFUSED)")
-FAILURE = re.compile(r"^fn \S+: (?:not proved|no proof)|NOT PROVED|NOT REFUSED|BAD EDIT|NOT TRIED|FAILED|\berror\b|^rt: .*(?:failed|refuse)")
+FAILURE = re.compile(r"^fn \S+: (?:not proved|no proof)|NOT PROVED|FAILED|\berror\b|^rt: .*(?:failed|refuse)")
 CLOSING = re.compile(r"(\d+) passed, (\d+) failed$")
 # A script that skips a test because a tool is missing reports it with this prefix.
 SKIPPED = "skipped: "
@@ -79,12 +83,31 @@ def processors() -> int:
     return min(MOST_PROOFS, len(os.sched_getaffinity(0)))
 
 
+def copy_crates() -> None:
+    """Copies what `rt ci` reads to a directory of its own, which it takes for the top of a repository by its .git."""
+    shutil.rmtree(COPY, ignore_errors=True)
+    shutil.copytree(ROOT / "crates", COPY / "crates", ignore=LEFT_OUT)
+    for name in ("crates.txt", "HANDLES"):
+        shutil.copyfile(ROOT / name, COPY / name)
+    (COPY / ".git").mkdir()
+
+
+def take_programs() -> None:
+    """Puts the programs and tests that `rt ci` built where the scripts look for them."""
+    for file in COPY.glob("crates/*/out/*"):
+        if file.is_file():
+            to = ROOT / file.relative_to(COPY)
+            to.parent.mkdir(exist_ok=True)
+            shutil.copy2(file, to)
+
+
 def prove_all(report: Report) -> tuple[bool, str]:
     """Runs `rt ci`, and returns whether it passed, and its closing line."""
-    log, closing, edits, shown = LOGS / "rt-ci.log", "", Counter[tuple[str, str]](), 0
+    copy_crates()
+    log, closing = LOGS / "rt-ci.log", ""
     environment = {**os.environ, "RT_JOBS": str(processors())}
     with log.open("w") as output, subprocess.Popen(
-        ["rt", "ci"], cwd=ROOT, stdout=subprocess.PIPE, stderr=subprocess.STDOUT, text=True, errors="replace", env=environment
+        ["rt", "ci"], cwd=COPY, stdout=subprocess.PIPE, stderr=subprocess.STDOUT, text=True, errors="replace", env=environment
     ) as ci:
         for line in ci.stdout:
             output.write(line)
@@ -96,16 +119,12 @@ def prove_all(report: Report) -> tuple[bool, str]:
                 report.say(f"{found[1]}: its tests proved")
             elif found := KEPT.match(line):
                 report.say(f"{found[1]}: proved by an earlier run")
-            elif found := EDITS_BEGUN.match(line):
-                report.say(f"{found[1]}: {found[2]} must-fail edits begun")
-            elif found := EDIT.match(line):
-                edits[found[1], found[2]] += 1
             elif found := CLOSING.match(line):
                 closing = line
     passed = ci.returncode == 0
-    for (crate, result), number in sorted(edits.items()):
-        report.say(f"{crate}: {number} must-fail edits {result}")
-    if not passed:
+    if passed:
+        take_programs()
+    else:
         show_failures(log)
     return passed, closing or "0 passed, 1 failed"
 
@@ -128,23 +147,53 @@ def run_test(test: Test) -> tuple[int, float, Path]:
     return status, time.monotonic() - begun, log
 
 
-def test_all(report: Report) -> tuple[int, list[str]]:
-    """Runs the scripts side by side, and returns how many failed, and what was left out."""
-    failed, skipped = 0, []
+@dataclass
+class Tally:
+    """What passed and failed, and what was skipped for want of a tool."""
+
+    passed: int = 0
+    failed: int = 0
+    skipped: tuple[str, ...] = ()
+
+
+def report_test(report: Report, test: Test, status: int, seconds: float, log: Path) -> Tally:
+    lines = log.read_text(errors="replace").splitlines()
+    if status:
+        report.say(f"{test.name}: FAILED in {seconds:.0f} s; the last lines of {log.relative_to(ROOT)}:")
+        for line in lines[-15:]:
+            print(f"    {line[:300]}", flush=True)
+    else:
+        report.say(f"{test.name}: passed in {seconds:.0f} s{': ' + lines[-1][:100] if lines else ''}")
+    skipped = tuple(line.removeprefix(SKIPPED) for line in lines if line.startswith(SKIPPED))
+    return Tally(int(not status), int(bool(status)), skipped)
+
+
+def report_mutants(report: Report, outcome: Outcome) -> Tally:
+    report.say(outcome.line)
+    for problem in outcome.problems:
+        print(f"    {problem}", flush=True)
+    return Tally(outcome.rejected, len(outcome.problems))
+
+
+def test_all(report: Report) -> Tally:
+    """Tests the mutants and runs the scripts, side by side."""
+    crates, kit = crates_of_repository(), kit_folder()
+    begun: dict[Future[Outcome] | Future[tuple[int, float, Path]], Test | None] = {}
+    tallies = []
     with ThreadPoolExecutor(processors()) as pool:
-        running = {pool.submit(run_test, test): test for test in TESTS}
-        for ended in as_completed(running):
-            test, (status, seconds, log) = running[ended], ended.result()
-            lines = log.read_text(errors="replace").splitlines()
-            skipped += [line.removeprefix(SKIPPED) for line in lines if line.startswith(SKIPPED)]
-            if status:
-                failed += 1
-                report.say(f"{test.name}: FAILED in {seconds:.0f} s; the last lines of {log.relative_to(ROOT)}:")
-                for line in lines[-15:]:
-                    print(f"    {line[:300]}", flush=True)
-            else:
-                report.say(f"{test.name}: passed in {seconds:.0f} s{': ' + lines[-1][:100] if lines else ''}")
-    return failed, skipped
+        # The first test takes longest, and then the mutants of the largest crates.
+        begun |= {pool.submit(run_test, TESTS[0]): TESTS[0]}
+        begun |= {pool.submit(test_crate, crate, crates, kit, COPY / "crates"): None for crate in crates_with_mutants(crates)}
+        begun |= {pool.submit(run_test, test): test for test in TESTS[1:]}
+        for ended in as_completed(begun):
+            test, result = begun[ended], ended.result()
+            if isinstance(result, Outcome):
+                tallies.append(report_mutants(report, result))
+            elif test:
+                tallies.append(report_test(report, test, *result))
+    return Tally(
+        sum(it.passed for it in tallies), sum(it.failed for it in tallies), tuple(what for it in tallies for what in it.skipped)
+    )
 
 
 def mark_program() -> None:
@@ -160,14 +209,16 @@ def main() -> int:
     report.say(f"rt ci: {processors()} proofs side by side; the prover's output is in {LOGS.relative_to(ROOT)}/")
     passed, closing = prove_all(report)
     print(closing, flush=True)
+    proved, unproved = map(int, CLOSING.match(closing).groups())
+    tally = Tally()
     if passed:
         mark_program()
-        failed, skipped = test_all(report)
-        for what in skipped:
+        tally = test_all(report)
+        for what in tally.skipped:
             report.say(f"skipped: {what}")
-        passed = failed == 0
-        report.say(f"{len(TESTS) - failed} of {len(TESTS)} scripts passed, {len(skipped)} things skipped for want of a tool")
-    report.say(f"the gate {'passed' if passed else 'FAILED'} in {report.minutes:.0f} minutes")
+    passed = passed and not tally.failed
+    report.say(f"the gate {'passed' if passed else 'FAILED'} in {report.minutes:.0f} minutes: crates, mutants and scripts together:")
+    print(f"{proved + tally.passed} passed, {unproved + tally.failed} failed", flush=True)
     return 0 if passed else 1
 
 

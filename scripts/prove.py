@@ -5,8 +5,9 @@ Crates that do not depend on one another are proved side by side, and a crate th
 processors. One line is printed for each crate; the prover's own output goes to build/log/. Proofs are cached: a second call
 proves what has changed since, and a call after an interrupted one goes on where that was.
 
-The kit locks a checkout's crates while it proves one of them. So each lane has a copy of the sources in build/lanes/; there, and
-in the checkout itself, the kit reuses what it has proved of the same sources in another copy.
+The kit locks a checkout's crates while it proves one of them. So each lane has a copy of the sources in build/lanes/. What is
+kept of a crate, its proofs and the library built of it, is in the `out` of the checkout: it is moved into a lane while the crate is
+proved there, and the libraries that a crate uses are linked into the lane before.
 """
 
 import argparse
@@ -152,6 +153,14 @@ def minutes(seconds: float) -> str:
     return "less than a minute" if seconds < 60 else f"{seconds / 60:.0f} min"
 
 
+# Where the kit keeps, below a crate's `out`, its proofs and the library built of it, with a checksum of what that was built from.
+PROOFS, LIBRARY, STAMP = Path("incremental"), Path("rlib"), Path("rlib", "stamp")
+
+
+def is_same_file(one: Path, other: Path) -> bool:
+    return one.is_file() and other.is_file() and one.read_bytes() == other.read_bytes()
+
+
 class Lane:
     """A copy of all sources, in which one crate is proved at a time."""
 
@@ -164,6 +173,32 @@ class Lane:
             self.copy(crate)
         for old in set(os.listdir(self.folder / "crates")) - set(crates):
             shutil.rmtree(self.folder / "crates" / old)
+        # A run that was killed left the proofs of a crate here.
+        for crate in crates.values():
+            if (self.out(crate) / PROOFS).exists() and not (crate.folder / "out" / PROOFS).exists():
+                self.give_back(crate)
+
+    def out(self, crate: Crate) -> Path:
+        return self.folder / "crates" / crate.name / "out"
+
+    def take(self, crate: Crate) -> None:
+        """Moves what is kept of a crate from the checkout to the lane."""
+        shutil.rmtree(self.out(crate), ignore_errors=True)
+        if (crate.folder / "out").exists():
+            (crate.folder / "out").rename(self.out(crate))
+
+    def give_back(self, crate: Crate) -> None:
+        """Moves what is kept of a crate from the lane to the checkout."""
+        if self.out(crate).exists():
+            shutil.rmtree(crate.folder / "out", ignore_errors=True)
+            self.out(crate).rename(crate.folder / "out")
+
+    def link_library(self, crate: Crate) -> None:
+        """Makes the proved library of a crate usable in the lane. A library is never changed, only replaced."""
+        kept, here = crate.folder / "out", self.out(crate)
+        if (kept / STAMP).exists() and not is_same_file(kept / STAMP, here / STAMP):
+            shutil.rmtree(here, ignore_errors=True)
+            shutil.copytree(kept / LIBRARY, here / LIBRARY, copy_function=os.link)
 
     def copy(self, crate: Crate) -> None:
         """Brings the crate's sources up to date, and does not touch those that are: the kit looks at what changed."""
@@ -218,7 +253,7 @@ class Proof:
 
     def __init__(self, every: dict[str, Crate], top: str, lanes: int):
         crates = below(every, top)
-        self.crates, self.top = {crate.name: crate for crate in crates}, every[top]
+        self.every, self.crates, self.top = every, {crate.name: crate for crate in crates}, every[top]
         self.sums = sums_of(crates)
         self.estimate = Estimate(crates)
         self.processors = len(os.sched_getaffinity(0))
@@ -239,14 +274,18 @@ class Proof:
         """Proves a crate in a lane; the top one in the checkout, which builds it."""
         crate, log = self.crates[name], LOGS / f"{name}.log"
         log.unlink(missing_ok=True)
-        if crate is not self.top:
-            words, folder = ["rt", "lib", "--jobs", str(jobs)], lane.folder / "crates" / name
-        elif crate.is_program:
-            # The program is built and then run: its help is the shortest run.
-            words, folder = ["rt", "run", "--jobs", str(jobs), "--", "--help"], crate.folder
-        else:
-            words, folder = ["rt", "lib", "--jobs", str(jobs)], crate.folder
-        return self.runner.run(words, folder, log)
+        prove = ["rt", "lib", "--jobs", str(jobs)]
+        if crate is self.top:
+            # A program is built and then run: its help is the shortest run.
+            build = ["rt", "run", *prove[2:], "--", "--help"] if crate.is_program else prove
+            return self.runner.run(build, crate.folder, log)
+        for library in below(self.every, name)[:-1]:
+            lane.link_library(library)
+        lane.take(crate)
+        try:
+            return self.runner.run(prove, lane.folder / "crates" / name, log)
+        finally:
+            lane.give_back(crate)
 
     def all(self) -> bool:
         """Proves what is left to prove, and returns whether all of it is proved."""

@@ -1,19 +1,13 @@
 #!/bin/sh
-# tests/callers.sh: builds the library for C and the Python package from what rt ci has proved in this checkout, and tests both
-# and their installation.
+# tests/callers.sh: builds the library for C and the Python package from what rt ci has proved for the gate, and tests both and
+# their installation.
 # Their requirements, apart from the kit, are in docs/C.md and python/README.md; if one is missing, they are reported and skipped.
 set -eu
 cd "$(dirname "$0")/.."
 for tool in gcc g++ valgrind; do
     command -v $tool > /dev/null || { echo "skipped: the library for C and the Python package ($tool is missing)"; exit 0; }
 done
-# In a fresh checkout the libraries that rt ci built are in place. If there were libraries from other checks, rt ci has put those
-# back; they have a stamp, and rt lib continues from them.
-if test -e crates/mpslp_convert/out/rlib/stamp; then
-    sh lib/build.sh
-else
-    sh lib/build.sh gate
-fi
+sh lib/build.sh gate
 sh tests/c/check.sh
 if command -v pkg-config > /dev/null; then
     sh release/install_check.sh

@@ -25,8 +25,16 @@ echo "$1 $(basename "$PWD")" >> "$STAND_IN_CALLS"
 case "$1 $(basename "$PWD")" in
     "$STAND_IN_FAILS") echo "fn bounds::put: not proved"; exit 1 ;;
     "lib $STAND_IN_SLOW") sleep 60 ;;
-    "run mpslp") mkdir -p out; cp "$0.program" out/mpslp ;;
     "try mpslp") sh "$0.try"; exit $? ;;
+esac
+# The kit looks for the libraries of the crates that this one uses beside it, and would prove those that are missing.
+for name in $(sed -n "s/^$(basename "$PWD"): //p" ../../crates.txt); do
+    test ! -d "../$name" || test -e "../$name/out/rlib/stamp" || { echo "$name is not there"; exit 1; }
+done
+mkdir -p out/rlib out/incremental
+echo "$1 of $(basename "$PWD")" | tee -a out/incremental/proofs > out/rlib/stamp
+case "$1 $(basename "$PWD")" in
+    "run mpslp") cp "$0.program" out/mpslp ;;
 esac
 """
 
@@ -114,6 +122,8 @@ class Commands(unittest.TestCase):
             source.write("// changed\n")
         self.assertEqual(self.make().returncode, 0)
         self.assertEqual(self.calls()[before:], ["lib mpslp_convert", "run mpslp"])
+        kept = self.copy / "crates" / "mpslp_convert" / "out" / "incremental" / "proofs"
+        self.assertEqual(len(kept.read_text().splitlines()), 2, "the second proof does not begin over the first")
 
     def test_an_interrupted_make_goes_on(self) -> None:
         process = subprocess.Popen(

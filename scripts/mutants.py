@@ -1,0 +1,278 @@
+#!/usr/bin/env python3
+"""Tests that the prover rejects the mutants: scripts/mutants.py [CRATE ..]
+
+A mutant is a wrong version of a crate, written as an edit of its sources, in must-fail/ of the crate or in tests/wrong-bodies/. `rt must-fail` checks a crate once for each mutant, and
+most of that time is spent on reading the crate and those below it. Here one check tests many mutants: a function is proved from
+the contracts of the functions that it calls, so mutants that change nothing but the bodies of different functions do not
+influence one another. Such a mutant counts as rejected only if the prover rejects the function that it changes for itself, and
+not only because it calls a function that is not proved, and if it rejects no function for itself that no mutant changes. Mutants
+that remain are checked together again, without those that were rejected, and at last, as all other mutants, one at a time.
+
+The libraries below the crates have to be proved and built, as `make` leaves them. One line is printed for each crate.
+"""
+
+import argparse
+import os
+import re
+import shutil
+import subprocess
+import sys
+import tempfile
+import time
+from concurrent.futures import ThreadPoolExecutor, as_completed
+from dataclasses import dataclass, field
+from pathlib import Path
+
+from kit import ROOT, require_kit
+from prove import LOGS, PARTS, Crate, crates_of_repository
+
+FUNCTION = re.compile(r"( *)(?:pub(?:\([^)]*\))? )?(?:const |unsafe )*fn (\w+)")
+NOT_PROVED = re.compile(r"fn (\S+): (?:not proved|no proof)(?:[:;] (.*))?$")
+# Why a function is not proved if nothing is wrong with it.
+OF_ITS_CALLS = re.compile(r"it calls `[^;]*, which (?:is|are) not proved$")
+# What the prover says of a text that it cannot read. A mutant is a statement that reads well and is false.
+UNREADABLE = re.compile(r"is not in scope|has no field|is no name|operand is missing|expected the end|cannot continue")
+
+
+@dataclass(frozen=True)
+class Body:
+    """The body of a function, as the lines of a file that it takes up."""
+
+    file: str
+    function: str
+    first: int
+    last: int
+
+    def is_of(self, name: str) -> bool:
+        """Whether this is a function of the file with this name, as the prover prints it: CRATE::MODULE::TYPE::FUNCTION."""
+        modules = [it for it in Path(self.file).with_suffix("").parts[1:] if it not in ("lib", "main", "mod")]
+        parts = name.split("::")
+        return parts[1 : 1 + len(modules)] == modules and parts[-1] == self.function
+
+
+def bodies_of(file: str, text: str) -> list[Body]:
+    """The bodies of the functions in a file that has the layout of `rt fmt`."""
+    lines, found = text.split("\n"), []
+    for number, line in enumerate(lines):
+        if header := FUNCTION.match(line):
+            indent, name = header[1], header[2]
+            first = number
+            while not (lines[first].startswith(indent) and lines[first][len(indent) : len(indent) + 1] != " " and lines[first].endswith("{")):
+                first += 1
+                if first == len(lines):
+                    break
+            else:
+                last = next((it for it in range(first, len(lines)) if lines[it] == f"{indent}}}"), first)
+                found.append(Body(file, name, first + 1, last))
+    return found
+
+
+@dataclass
+class Mutant:
+    """An edit: in each of these files, texts and what they are replaced by."""
+
+    crate: Crate
+    path: Path
+    changes: list[tuple[str, str, str]] = field(default_factory=list)
+    problem: str | None = None
+
+    @property
+    def name(self) -> str:
+        return f"{self.crate.name}/{self.path.stem}"
+
+    def apply(self, texts: dict[str, str]) -> None:
+        """Applies the edit to the texts of files, and notes a problem if it cannot be applied."""
+        for file, old, new in self.changes:
+            if file not in texts:
+                path = self.crate.folder / file
+                texts[file] = path.read_text() if path.is_file() else ""
+            if texts[file].count(old) != 1:
+                self.problem = f"its text is in {file} {texts[file].count(old)} times, and not once"
+                return
+            texts[file] = texts[file].replace(old, new)
+
+    def body(self) -> Body | None:
+        """The body of the function that the mutant changes, if it changes nothing else."""
+        found = set()
+        for file, old, _ in self.changes:
+            text = (self.crate.folder / file).read_text()
+            line = text[: text.find(old)].count("\n")
+            around = [it for it in bodies_of(file, text) if it.first <= line <= it.last]
+            found.add(max(around, key=lambda it: it.first) if around and file.startswith("src/") else None)
+        return found.pop() if len(found) == 1 else None
+
+
+def edits_of(crate: Crate) -> list[Path]:
+    folders = (crate.folder / "must-fail", ROOT / "tests" / "wrong-bodies" / crate.name)
+    return [path for folder in folders for path in sorted(folder.glob("*.edit"))]
+
+
+def read_mutant(crate: Crate, path: Path) -> Mutant:
+    """Reads an edit: lines `file: PATH`, `old: TEXT` and `new: TEXT`."""
+    mutant, file, old = Mutant(crate, path), "", ""
+    for line in path.read_text().split("\n"):
+        if line.startswith("file: "):
+            file = line.removeprefix("file: ").strip()
+        elif line.startswith("old: "):
+            old = line.removeprefix("old: ")
+        elif line.startswith("new:"):
+            mutant.changes.append((file, old, line.removeprefix("new:").removeprefix(" ")))
+    if not mutant.changes or not all(file.startswith(tuple(f"{part}/" for part in PARTS)) and old for file, old, _ in mutant.changes):
+        mutant.problem = "it has no file, old and new text"
+    else:
+        mutant.apply({})
+    return mutant
+
+
+def batch_of(mutants: list[tuple[Mutant, Body]]) -> list[tuple[Mutant, Body]]:
+    """As many of the mutants as change functions with different names."""
+    return list({body.function: (mutant, body) for mutant, body in reversed(mutants)}.values())
+
+
+class Prover:
+    """Checks edited copies of a crate, each over what the checks before it proved."""
+
+    def __init__(self, crate: Crate, crates: dict[str, Crate], kit: Path, libraries: Path, kept: Path, log: Path):
+        self.crate, self.kit, self.kept, self.log, self.checks = crate, kit, kept, log, 0
+        self.words = self.words_of(crates, libraries)
+
+    def words_of(self, crates: dict[str, Crate], libraries: Path) -> list[str]:
+        head, _, uses = self.crate.line.partition("#")[0].partition(":")
+        words = ["--crate-name", self.crate.name, "src/main.rt" if self.crate.is_program else "src/lib.rt"]
+        folders = {name: libraries / name / "out" / "rlib" for name in crates}
+        for name in ["std", *uses.split()]:
+            words += ["--extern", f"{name}={folders.get(name, self.kit / 'rlibs') / name}.rlib"]
+        for folder in [self.kit / "rlibs", *folders.values()]:
+            words += ["-L", f"dependency={folder}"]
+        if "staticlib" in head.split():
+            words += ["--crate-type", "staticlib"]
+        words += ["--antt-project", f"{self.kit}/rattle/logic/antt-project.json", "--logic-built", f"{self.kit}/logic_built"]
+        return [*words, "--links", f"{self.crate.name}=", "--jobs", "1", "--incremental", str(self.kept)]
+
+    def check(self, mutants: list[Mutant], what: str) -> tuple[int, list[str]]:
+        """The status of the check of the crate with these edits, and the lines that it printed."""
+        texts: dict[str, str] = {}
+        for mutant in mutants:
+            mutant.apply(texts)
+        self.checks += 1
+        begun = time.monotonic()
+        with tempfile.TemporaryDirectory(prefix="mutant-") as name:
+            room = Path(name)
+            for part in PARTS:
+                if (self.crate.folder / part).is_dir():
+                    shutil.copytree(self.crate.folder / part, room / part)
+            for file, text in texts.items():
+                (room / file).write_text(text)
+            ran = subprocess.run(
+                [self.kit / "bin" / "rattle", "check", *self.words],
+                cwd=room,
+                stdin=subprocess.DEVNULL,
+                stdout=subprocess.PIPE,
+                stderr=subprocess.STDOUT,
+                text=True,
+                errors="replace",
+                check=False,
+            )
+        with self.log.open("a") as log:
+            log.write(f"== {what}, {time.monotonic() - begun:.0f} s, status {ran.returncode}\n{ran.stdout}")
+        return ran.returncode, ran.stdout.rstrip("\n").split("\n")
+
+    def rejects(self, mutant: Mutant) -> str | None:
+        """None if the prover rejects the mutant, or else why that is not known."""
+        status, lines = self.check([mutant], mutant.name)
+        for line in lines:
+            place = re.match(r"(?:\./)?((?:src|specs)/\S+?):\d+:\d+: error: (.*)", line)
+            if place and UNREADABLE.search(re.sub(r"`[^`]*`", "", place[2])):
+                return f"the prover cannot read it: {line[:160]}"
+        if status == 1 and lines[-1].startswith("logic=not-proved"):
+            return None
+        return "NOT REJECTED: the crate is proved with it" if status == 0 else f"no verdict: {lines[-1][:160]}"
+
+    def rejected_of(self, batch: list[tuple[Mutant, Body]]) -> list[tuple[Mutant, Body]]:
+        """Those mutants of a batch of which one check shows that they are rejected."""
+        status, lines = self.check([mutant for mutant, _ in batch], f"{len(batch)} mutants of {self.crate.name}")
+        found = [it for line in lines if (it := NOT_PROVED.match(line))]
+        names = [it[1] for it in found if not OF_ITS_CALLS.fullmatch(it[2] or "")]
+        has_verdict = status == 1 and lines[-1].startswith("logic=not-proved")
+        if not has_verdict or not all(any(body.is_of(name) for _, body in batch) for name in names):
+            return []
+        return [(mutant, body) for mutant, body in batch if sum(map(body.is_of, names)) == 1]
+
+    def test(self, mutants: list[Mutant]) -> list[str]:
+        """Tests the mutants, and returns what is wrong with them."""
+        left = [(mutant, body) for mutant in mutants if (body := mutant.body())]
+        while len(batch := batch_of(left)) > 1 and (rejected := self.rejected_of(batch)):
+            left = [it for it in left if it not in rejected]
+        alone = [it for it in mutants if not it.body()] + [mutant for mutant, _ in left]
+        return [f"{it.name}: {why}" for it in alone if (why := self.rejects(it))]
+
+    def is_sound(self) -> bool:
+        """Whether the crate itself is proved over what the checks of its mutants left."""
+        return self.check([], f"{self.crate.name} unchanged")[0] == 0
+
+
+@dataclass
+class Outcome:
+    crate: Crate
+    mutants: int
+    checks: int
+    seconds: float
+    problems: list[str]
+
+    @property
+    def rejected(self) -> int:
+        return self.mutants - len(self.problems)
+
+    @property
+    def line(self) -> str:
+        return f"{self.crate.name}: {self.rejected} of {self.mutants} mutants rejected, {self.checks} checks in {self.seconds:.0f} s"
+
+
+def test_crate(crate: Crate, crates: dict[str, Crate], kit: Path, libraries: Path) -> Outcome:
+    """Tests all mutants of a crate, over the proved libraries in libraries/CRATE/out/."""
+    begun = time.monotonic()
+    mutants = [read_mutant(crate, path) for path in edits_of(crate)]
+    problems = [f"{it.name}: {it.problem}" for it in mutants if it.problem]
+    log = LOGS / f"mutants-{crate.name}.log"
+    log.unlink(missing_ok=True)
+    with tempfile.TemporaryDirectory(prefix="mutants-") as kept:
+        prover = Prover(crate, crates, kit, libraries, Path(kept), log)
+        problems += prover.test([it for it in mutants if not it.problem])
+        if not prover.is_sound():
+            problems = [f"{it.name}: the crate itself is not proved over what its mutants left" for it in mutants]
+    return Outcome(crate, len(mutants), prover.checks, time.monotonic() - begun, problems)
+
+
+def crates_with_mutants(crates: dict[str, Crate]) -> list[Crate]:
+    """The crates that have mutants, the largest first."""
+    found = [it for it in crates.values() if edits_of(it)]
+    return sorted(found, key=lambda it: -sum(file.stat().st_size for file in it.files()))
+
+
+def kit_folder() -> Path:
+    return Path(subprocess.run(["rt", "doc"], capture_output=True, text=True, check=True).stdout.strip()).parent
+
+
+def main() -> int:
+    parser = argparse.ArgumentParser(description=__doc__.split("\n")[0])
+    parser.add_argument("crates", nargs="*", metavar="CRATE", help="the crates whose mutants are tested (all)")
+    parser.add_argument("--libraries", type=Path, default=ROOT / "crates", help="where the proved libraries are, in CRATE/out/")
+    parser.add_argument("--jobs", type=int, default=len(os.sched_getaffinity(0)), help="how many crates are tested side by side")
+    arguments = parser.parse_args()
+    require_kit()
+    crates = crates_of_repository()
+    chosen = [it for it in crates_with_mutants(crates) if not arguments.crates or it.name in arguments.crates]
+    LOGS.mkdir(parents=True, exist_ok=True)
+    kit, libraries, outcomes = kit_folder(), arguments.libraries.resolve(), []
+    with ThreadPoolExecutor(max(1, arguments.jobs)) as pool:
+        for ended in as_completed([pool.submit(test_crate, crate, crates, kit, libraries) for crate in chosen]):
+            outcome = ended.result()
+            outcomes.append(outcome)
+            print("\n    ".join([outcome.line, *outcome.problems]), flush=True)
+    failed = sum(len(it.problems) for it in outcomes)
+    print(f"{sum(it.rejected for it in outcomes)} mutants rejected, {failed} not")
+    return 1 if failed else 0
+
+
+if __name__ == "__main__":
+    sys.exit(main())
