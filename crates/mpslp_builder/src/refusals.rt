@@ -117,10 +117,11 @@ impl Tables {
         ensures { result ≡ has_coefficient (draft None None self.now) (record { row = row.now; column = column.now }) }
     {
         self.each_name_stands_once();
-        let Some(place) = self.row_ref(row) else {
+        // A column that is not declared yet saves the look-up of the row.
+        let Some(number) = self.column_number(column) else {
             return false;
         };
-        let Some(number) = self.column_number(column) else {
+        let Some(place) = self.row_ref(row) else {
             return false;
         };
         self.has_cell(number, place.number())

@@ -24,7 +24,7 @@ use Rattle.mpslp_lines.specs.Field.{value_of}
 use Rattle.mpslp_lines.specs.Declaring.{kind_of_build_fault, declared_fault}
 use Rattle.mpslp_lines.specs.FaultTests.{first_held}
 use Rattle.mpslp_lines.specs.ErrorOf.{error_of_build}
-use Rattle.mpslp_lines.specs.LineAnswer.{IsErrorOf, LineResult, AreDeclared}
+use Rattle.mpslp_lines.specs.LineAnswer.{IsErrorOf, IfFault, LineResult, AreDeclared}
 use Rattle.mpslp_lines.specs.declared.errors.LineError.{LineError}
 use Rattle.mpslp_lines.specs.declared.errors.LineError.TheVariants.{Fault, OutOfMemory}
 use Rattle.mpslp_mps_fields.specs.declared.bound_types.BoundType.{BoundType}
@@ -83,6 +83,19 @@ pub sides-refused : (all : Draft) (column : List ℕ) (lower upper : Option Limi
 sides-refused all column lower upper fault P Q h answer =
     subst (λ (o : Option FaultKind). IsErrorOf o (error_of_build fault)) (sym (sides_fault all column lower upper h))
     (call-refused (bounds_tests all column lower upper) fault P Q answer)
+
+-- and nothing has changed
+pub sides-unchanged : (faults : List BuildFault) (fault : BuildFault) (P Q : Type 0) (answer : LineResult) → Answers faults (Err fault) P Q → IfFault answer Q
+sides-unchanged faults fault P Q answer h = holds answer (unchanged faults h)
+  where
+    unchanged : (faults : List BuildFault) → Answers faults (Err fault) P Q → Q
+    unchanged [] h = h.1
+    unchanged (first ∷ later) h = h.1
+
+    holds : (answer : LineResult) → Q → IfFault answer Q
+    holds (Ok x) q = tt
+    holds (Err (Fault kind)) q = q
+    holds (Err OutOfMemory) q = tt
 
 -- bounds that are checked
 pub sides-none : (all : Draft) (column : List ℕ) (lower upper : Option Limit) → (is_some lower || is_some upper) ≡ true → Ok tt ≡ first_refusal (bounds_refusals all column lower upper)

@@ -91,7 +91,8 @@ fn declare_bounds_given(
     requires some { (is_some lower || is_some upper) ≡ true }
     requires lower { ForSome lower (λ side. IsTrue (is_given side)) }
     requires upper { ForSome upper (λ side. IsTrue (is_given side)) }
-    ensures { AreDeclared builder.old (bounds_declared column.now lower upper) result builder.new }
+    ensures answers { AreDeclared builder.old (bounds_declared column.now lower upper) result builder.new }
+    ensures unchanged { IfFault result (builder.new ≡ builder.old) }
 {
     builder.bounds(column, lower, upper)?;
     Ok(())
@@ -133,7 +134,15 @@ fn declare_kind(
     Ok(())
 }
 
-/// Declares what a line of BOUNDS says of its column. The bounds are checked before the type of the column is declared.
+/// Whether a line of this type declares bounds only.
+fn has_bounds_only(bound_type: BoundType) -> bool
+    ensures { result ≡ true → (is_integer_type bound_type ≡ false) × (is_semi_type bound_type ≡ false) }
+{
+    !is_integer_type(bound_type) && !is_semi_type(bound_type)
+}
+
+/// Declares what a line of BOUNDS says of its column. If it declares more than bounds, these are checked before the type of the
+/// column is declared.
 fn declare_bound(
     builder: &mut Builder,
     bound_type: BoundType,
@@ -146,6 +155,9 @@ fn declare_bound(
     ensures unchanged { IfFault result (builder.new ≡ builder.old) }
 {
     let (lower, upper) = bounds_of_type(bound_type, &value);
+    if has_bounds_only(bound_type) {
+        return declare_bounds_given(builder, column, lower, upper);
+    }
     check_bounds_given(builder, column, &lower, &upper)?;
     declare_kind(builder, bound_type, column)?;
     declare_bounds_given(builder, column, lower, upper)

@@ -14,7 +14,7 @@ ghost use Rattle.mpslp_mps.specs.DataFault.{is_split};
 ghost use Rattle.mpslp_lines.specs.FaultTests.{first_held};
 ghost use Rattle.mpslp_lines.specs.Declaring.{declared_fault};
 ghost use Rattle.mpslp_lines.specs.LineAnswer.{AreDeclared, IfFault, IsErrorOf};
-ghost use Rattle.mpslp_mps.specs.ColumnDeclared.{front_declared, value_declared, has_duplicate};
+ghost use Rattle.mpslp_mps.specs.ColumnDeclared.{front_declared, value_declared, has_duplicate, IsFreeForSecond};
 ghost use Rattle.mpslp_mps.specs.LineAnswer.{ReadsContent};
 
 use crate::clashes::has_column_clash;
@@ -90,15 +90,11 @@ fn has_duplicate(builder: &Builder, column: &[u8], values: &RowValues<'_>) -> bo
     }
 }
 
-/// Declares the column, if it is not declared yet.
+/// Declares the column of a line.
 fn declare_name(builder: &mut Builder, alloc: Global, column: &[u8]) -> Result<(), LineError>
     requires name { IsMpsName column.now }
     ensures { MatchResult result (λ _. builder.new ≡ with_declaration builder.old (declare_column column.now)) (λ error. error ≡ LineError.OutOfMemory) }
 {
-    if builder.has_column(column) {
-        each_builder_is_made(builder);
-        return Ok(());
-    }
     let name = Name::new(alloc, column)?;
     builder.column(name)?;
     Ok(())
@@ -187,6 +183,43 @@ fn declare_in_last_column(
     Ok(())
 }
 
+/// Whether a coefficient of the column can be declared after one of another row: its row is another one and is declared, and
+/// the coefficient is not.
+fn is_free_for_second(
+    builder: &Builder,
+    column: &[u8],
+    first: &RowValue<'_>,
+    second: &RowValue<'_>,
+) -> bool
+    requires column { has_column builder.now column.now ≡ true }
+    ensures { result ≡ true → IsFreeForSecond builder.now column.now first.now second.now }
+{
+    !is_same_row(first, second) && builder.check_coefficient(second.row, column).is_ok()
+}
+
+/// Declares two coefficients of the column of the line before, and that the column is marked if it is. Only the first may be
+/// rejected; this way each row is looked up no more than twice.
+fn declare_two_in_last_column(
+    builder: &mut Builder,
+    column: &[u8],
+    first: &RowValue<'_>,
+    second: &RowValue<'_>,
+    is_marked: bool,
+) -> Result<(), LineError>
+    requires column { has_column builder.old column.now ≡ true }
+    requires apart { (is_marked && is_semi builder.old column.now) ≡ false }
+    requires free { IsFreeForSecond builder.old column.now first.now second.now }
+    ensures answers { let first_fault = declared_fault builder.old (value_declared column.now first.now) in
+        MatchResult result (λ _. (first_fault ≡ None) × (builder.new ≡ with_declarations (with_declarations builder.old (front_declared is_marked column.now)) (flat_map (value_declared column.now) (first.now ∷ second.now ∷ [])))) (IsErrorOf first_fault) }
+    ensures unchanged { IfFault result (builder.new ≡ builder.old) }
+{
+    each_builder_is_made(builder);
+    builder.coefficient(first.row, column, first.value)?;
+    builder.coefficient(second.row, column, second.value)?;
+    declare_mark(builder, column, is_marked)?;
+    Ok(())
+}
+
 /// Reads a line of a column. Each error is checked before anything is declared.
 fn read_values(
     context: &mut LineContext,
@@ -208,6 +241,16 @@ fn read_values(
             declare_in_last_column(builder, column, &values.first, context.in_integer_part())?;
             context.pass_column(column)?;
             return Ok(());
+        }
+    }
+    if let Some(second) = &values.second {
+        if continues_column(context, builder, column) {
+            if is_free_for_second(builder, column, &values.first, second) {
+                let is_marked = context.in_integer_part();
+                declare_two_in_last_column(builder, column, &values.first, second, is_marked)?;
+                context.pass_column(column)?;
+                return Ok(());
+            }
         }
     }
     check_rows_and_column(context, builder, column, &values)?;
