@@ -1,11 +1,12 @@
 -- A text is divided into fields from its start.
-use Rattle.std.proofs.Common.{◌≡◌, refl, sym, ap, subst, ◌∙◌, ℕ, suc, ◌+◌, ◌-◌, ◌<◌, ◌≤◌, List, [], ◌∷◌, ◌++◌, map, length, take, drop, Bool, true, false, arith, append_assoc, Bor}
-use Rattle.std.specs.Prelude.{filter, nat_lt, not, ◌||◌, ◌==◌, codes, slice_index}
-use Rattle.std.specs.List.{slice_split, position_or_len}
+use Rattle.std.proofs.Common.{◌≡◌, refl, sym, ap, subst, ◌∙◌, ℕ, suc, ◌+◌, ◌-◌, ◌<◌, ◌≤◌, List, [], ◌∷◌, ◌++◌, map, length, take, drop, Bool, true, false, cond, arith, append_assoc, Bor}
+use Rattle.std.specs.Prelude.{Some, None, filter, nat_lt, not, ◌||◌, ◌==◌, codes, slice_index}
+use Rattle.std.specs.List.{slice_split, position, position_or_len}
 use Rattle.std.proofs.lemmas.Bool.{lt-ltb}
-use Rattle.std.proofs.lemmas.List.Sums.{position_or_len_is}
+use Rattle.std.proofs.lemmas.Bool.Decides.{nat_tests}
+use Rattle.std.proofs.lemmas.List.Sums.{position_or_len_is, prefix_len-le-length}
 use Rattle.std.proofs.lemmas.List.{map-append}
-use Rattle.bstr.specs.Bytes.{is_in, not_in}
+use Rattle.bstr.specs.Bytes.{is_in}
 use Rattle.mpslp_mps_fields.specs.Line.{Fields, is_blank, fields}
 
 abbrev has_bytes : List ℕ → Bool
@@ -108,11 +109,12 @@ first-blank text at within none here = first-place (is_in (codes " \t")) is_blan
 pub no-blank : (text : List ℕ) → NonePasses (is_in (codes " \t")) text (length text) → length text ≡ position_or_len is_blank text
 no-blank text none = no-place (is_in (codes " \t")) is_blank in-blanks text none
 
-pub first-solid : (text : List ℕ) (at : ℕ) → at < length text → NonePasses (not_in (codes " \t")) text at → not_in (codes " \t") (slice_index text at) ≡ true → at ≡ position_or_len is_solid text
-first-solid text at within none here = first-place (not_in (codes " \t")) is_solid (λ byte. ap not (in-blanks byte)) text at within none here
-
-pub no-solid : (text : List ℕ) → NonePasses (not_in (codes " \t")) text (length text) → length text ≡ position_or_len is_solid text
-no-solid text none = no-place (not_in (codes " \t")) is_solid (λ byte. ap not (in-blanks byte)) text none
+pub position-none : {X : Type 0} (p : X → Bool) (xs : List X) → position p xs ≡ None → length xs ≡ position_or_len p xs
+position-none p xs h = by (nat_lt (position_or_len p xs) (length xs)) refl h
+  where
+    by : (b : Bool) → nat_lt (position_or_len p xs) (length xs) ≡ b → cond b (Some (position_or_len p xs)) None ≡ None → length xs ≡ position_or_len p xs
+    by true e k = cc
+    by false e k = let within = prefix_len-le-length (λ x. not (p x)) xs in grind (arith, nat_tests)
 
 pub no-fields : (w from : List ℕ) → from ≡ drop (position_or_len is_solid w) w → length from ≡ 0 → fields w ≡ []
 no-fields w [] e h = sym (fields-after_blanks w) ∙ ap fields (sym e)

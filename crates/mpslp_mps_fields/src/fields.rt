@@ -1,21 +1,30 @@
 //! The fields of a line.
 
 ghost use Rattle.std.specs.Prelude.{◌≡◌, ◌≤◌, [], ◌∷◌, map, take, drop, length, not, MatchOption};
-ghost use Rattle.std.specs.List.{position_or_len};
+ghost use Rattle.std.specs.List.{position, position_or_len};
 ghost use Rattle.mpslp_mps_fields.specs.Line.{is_blank, fields};
 
+use crate::line::is_blank;
 use arrayvec::ArrayVec;
 use bstr::ByteSlice;
 
 /// One more field than any data line has, so that a line with too many fields is found.
 pub const FRONT_LEN: usize = 6;
 
+/// The place of the first byte of a text that is neither a space nor a tab. Between fields there are few of these, so each byte is
+/// tested.
+fn first_of_field(text: &[u8]) -> Option<usize>
+    ensures { result ≡ position (λ byte. not (is_blank byte)) text.now }
+{
+    text.iter().position(|byte| !is_blank(*byte))
+}
+
 /// The number of spaces and tabs with which a text begins.
 fn blanks_len(text: &[u8]) -> usize
     ensures len { result ≡ position_or_len (λ byte. not (is_blank byte)) text.now }
     ensures within { result ≤ length text.now }
 {
-    match text.find_not_byteset(b" \t") {
+    match first_of_field(text) {
         Some(at) => at,
         None => text.len(),
     }

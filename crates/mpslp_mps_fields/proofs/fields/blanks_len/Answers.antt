@@ -1,10 +1,6 @@
-use Rattle.mpslp_mps_fields.proofs.FieldsLemmas.{first-solid, no-solid}
+use Rattle.std.proofs.Common.{◌∙◌, sym}
+use Rattle.mpslp_mps_fields.proofs.FieldsLemmas.{position-none}
 use Rattle.mpslp_mps_fields.proofs.fields.blanks_len.Goals as goal
 
-pub returns-in-Some-clause-len : goal.returns-in-Some-clause-len
-returns-in-Some-clause-len c =
-    let found = c.in-Some.ensures in
-    first-solid c.args.text.now c.in-Some.at found.0.high found.0.before found.1
-
 pub returns-in-None-clause-len : goal.returns-in-None-clause-len
-returns-in-None-clause-len c = no-solid c.args.text.now c.in-None.ensures
+returns-in-None-clause-len c = position-none _ c.args.text.now (sym c.first_of_field.ensures ∙ c.in-None.is)
