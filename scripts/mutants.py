@@ -29,7 +29,7 @@ from prove import LOGS, PARTS, Crate, crates_of_repository
 FUNCTION = re.compile(r"( *)(?:pub(?:\([^)]*\))? )?(?:const |unsafe )*fn (\w+)")
 NOT_PROVED = re.compile(r"fn (\S+): (?:not proved|no proof)(?:[:;] (.*))?$")
 # Why a function is not proved if nothing is wrong with it.
-OF_ITS_CALLS = re.compile(r"it calls `[^;]*, which (?:is|are) not proved$")
+OF_ITS_CALLS = re.compile(r"it (?:calls|passes the block) `[^;]*, which (?:is|are) not proved(?:; it (?:calls|passes the block) `[^;]*, which (?:is|are) not proved)*")
 # What the prover says of a text that it cannot read. A mutant is a statement that reads well and is false.
 UNREADABLE = re.compile(r"is not in scope|has no field|is no name|operand is missing|expected the end|cannot continue")
 
