@@ -33,10 +33,10 @@ use Rattle.mpslp_lp_sentences.proofs.Stamped.{stamped, ending, here, Hears, IsWh
 use Rattle.mpslp_lp_sentences.proofs.ItemsHeard.{side_first, side_rest, side-split, hears-side_from, hears-side, hears-relation}
 
 -- what bounds of a column declare
-abbrev limits_declared : List ℕ → Limits → Declarations
+abbrev pub limits_declared : List ℕ → Limits → Declarations
 limits_declared column limits = bounds_declared column limits.lower limits.upper
 
-by-relation : (column : List ℕ) (relation : Relation) (value : Limit) → limits_declared column (limits_by relation value) ≡ bounds_by column relation value
+pub by-relation : (column : List ℕ) (relation : Relation) (value : Limit) → limits_declared column (limits_by relation value) ≡ bounds_by column relation value
 by-relation column AtMost value = refl
 by-relation column AtLeast value = refl
 by-relation column EqualTo value = refl
@@ -46,7 +46,7 @@ some-limit AtMost value = refl
 some-limit AtLeast value = refl
 some-limit EqualTo value = refl
 
-flipped : (relation : Relation) → flip relation ≡ turned relation
+pub flipped : (relation : Relation) → flip relation ≡ turned relation
 flipped AtMost = refl
 flipped AtLeast = refl
 flipped EqualTo = refl

@@ -38,7 +38,7 @@ pub signed-is : (sign : SignOf) (value : Decimal) → apply_sign sign value ≡ 
 signed-is Plus value = refl
 signed-is Minus value = refl
 
-times-plus : (sign : SignOf) → times sign Plus ≡ sign
+pub times-plus : (sign : SignOf) → times sign Plus ≡ sign
 times-plus Plus = refl
 times-plus Minus = refl
 

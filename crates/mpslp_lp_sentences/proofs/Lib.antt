@@ -8,3 +8,10 @@ pub mod RowsHeard
 pub mod SectionsHeard
 pub mod SentenceRead
 mod WorkedSentences
+pub mod Found
+pub mod FoundParts
+pub mod FoundObjective
+pub mod FoundRows
+pub mod FoundSections
+pub mod FoundFile
+pub mod SentenceFound

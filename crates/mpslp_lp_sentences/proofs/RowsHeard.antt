@@ -234,7 +234,7 @@ module _ (last : ℕ) (later : Tokens) (sections_seen : SectionsSeen) (earlier :
 
 -- ---- whole rows
 
-declared-is : (name : List ℕ) (relation : Relation) (value : Limit) (terms : List Term) → row_declared (row_at name None (map pair terms)) (sides_by relation value) ≡ row_with name (limits_by relation value) terms
+pub declared-is : (name : List ℕ) (relation : Relation) (value : Limit) (terms : List Term) → row_declared (row_at name None (map pair terms)) (sides_by relation value) ≡ row_with name (limits_by relation value) terms
 declared-is name AtMost value terms = ap (λ (more : Declarations). declare_row name (limits_by AtMost value) ∷ more) (terms-declare name terms)
 declared-is name AtLeast value terms = ap (λ (more : Declarations). declare_row name (limits_by AtLeast value) ∷ more) (terms-declare name terms)
 declared-is name EqualTo value terms = ap (λ (more : Declarations). declare_row name (limits_by EqualTo value) ∷ more) (terms-declare name terms)
@@ -255,17 +255,30 @@ row-new earlier name form terms h =
     terms-new name terms (with_declarations earlier (declare_row name form ∷ [])) [] (parts-taken earlier (declare_row name form ∷ []) (flat_map (term_declared name) terms) h).1 (λ column none. refl)
 
 -- the tokens of a row, in the order in which they are read
-row-order : (label first more end xs : List Terminal) → (label ++ ((first ++ more) ++ end)) ++ xs ≡ label ++ (first ++ (more ++ (end ++ xs)))
+pub row-order : (label first more end xs : List Terminal) → (label ++ ((first ++ more) ++ end)) ++ xs ≡ label ++ (first ++ (more ++ (end ++ xs)))
 row-order label first more end xs =
     append_assoc label ((first ++ more) ++ end) xs
     ∙ ap (λ (tokens : List Terminal). label ++ tokens) (append_assoc (first ++ more) end xs ∙ append_assoc first more (end ++ xs))
 
-between-order : (label left first more end xs : List Terminal) (relation : Terminal)
+pub between-order : (label left first more end xs : List Terminal) (relation : Terminal)
     → (label ++ (left ++ relation ∷ ((first ++ more) ++ end))) ++ xs ≡ label ++ (left ++ relation ∷ (first ++ (more ++ (end ++ xs))))
 between-order label left first more end xs relation =
     append_assoc label (left ++ relation ∷ ((first ++ more) ++ end)) xs
     ∙ ap (λ (tokens : List Terminal). label ++ tokens) (append_assoc left (relation ∷ ((first ++ more) ++ end)) xs
     ∙ ap (λ (tokens : List Terminal). left ++ relation ∷ tokens) (append_assoc (first ++ more) end xs ∙ append_assoc first more (end ++ xs)))
+
+-- a row adds one to the rows
+adds-one : (earlier : Draft) (name : List ℕ) (form : RowDefinition) (terms : List Term) → IsSortedDraft earlier → refusals_in_turn earlier (row_with name form terms) ≡ []
+    → length (with_declarations earlier (row_with name form terms)).rows ≡ length earlier.rows + 1
+adds-one earlier name form terms sorted h =
+    subst (λ (ds : Declarations). refusals_in_turn earlier (declare_row name form ∷ ds) ≡ [] → length (with_declarations earlier (declare_row name form ∷ ds)).rows ≡ length earlier.rows + 1) (terms-declare name terms)
+    (row-adds earlier name form (map pair terms) sorted) h
+
+pub row-counted : (place : ℕ) (part : Row) (earlier : Draft) → IsSortedDraft earlier → refusals_in_turn earlier (row_declares (place, part)) ≡ []
+    → length (with_declarations earlier (row_declares (place, part))).rows ≡ length earlier.rows + 1
+row-counted place (row label terms relation right) earlier sorted h = adds-one earlier _ _ terms sorted h
+row-counted place (row_between label lower terms upper) earlier sorted h = adds-one earlier _ _ terms sorted h
+row-counted place (row_from_above label upper terms lower) earlier sorted h = adds-one earlier _ _ terms sorted h
 
 module _ (last : ℕ) (later : Tokens) (sections_seen : SectionsSeen) where
   abbrev At : Draft → List Terminal → Declarations → Type 0
@@ -320,19 +333,6 @@ module _ (last : ℕ) (later : Tokens) (sections_seen : SectionsSeen) where
       (whole-left_side last later sections_seen earlier label upper AtLeast signs number column (terms_tokens terms ++ end) _
       (whole-terms last later sections_seen earlier name left terms ((column, coefficient signs number) ∷ []) end _ ok new.1
       (whole-end last later sections_seen earlier name left (map pair all) AtLeast lower xs made refl h rest))))
-
-  -- a row adds one to the rows
-  adds-one : (earlier : Draft) (name : List ℕ) (form : RowDefinition) (terms : List Term) → IsSortedDraft earlier → refusals_in_turn earlier (row_with name form terms) ≡ []
-      → length (with_declarations earlier (row_with name form terms)).rows ≡ length earlier.rows + 1
-  adds-one earlier name form terms sorted h =
-      subst (λ (ds : Declarations). refusals_in_turn earlier (declare_row name form ∷ ds) ≡ [] → length (with_declarations earlier (declare_row name form ∷ ds)).rows ≡ length earlier.rows + 1) (terms-declare name terms)
-      (row-adds earlier name form (map pair terms) sorted) h
-
-  row-counted : (place : ℕ) (part : Row) (earlier : Draft) → IsSortedDraft earlier → refusals_in_turn earlier (row_declares (place, part)) ≡ []
-      → length (with_declarations earlier (row_declares (place, part))).rows ≡ length earlier.rows + 1
-  row-counted place (row label terms relation right) earlier sorted h = adds-one earlier _ _ terms sorted h
-  row-counted place (row_between label lower terms upper) earlier sorted h = adds-one earlier _ _ terms sorted h
-  row-counted place (row_from_above label upper terms lower) earlier sorted h = adds-one earlier _ _ terms sorted h
 
   pub whole-rows : (parts : List Row) (place : ℕ) (earlier : Draft) (xs : List Terminal) (made : Declarations) → list_all is_row parts ≡ true → place ≡ length earlier.rows + 1 → IsSortedDraft earlier
       → refusals_in_turn earlier (flat_map row_declares (enumerate_from place parts)) ≡ []

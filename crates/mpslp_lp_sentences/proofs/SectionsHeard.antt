@@ -60,7 +60,7 @@ pub record IsInside (seen : SectionsSeen) : Type 0 where
   pub begun : seen.objective ≡ true
   pub open_still : seen.end ≡ false
 
-inside-after : (part : Section) (seen : SectionsSeen) → IsInside seen → IsInside (with_section seen (kind_of part))
+pub inside-after : (part : Section) (seen : SectionsSeen) → IsInside seen → IsInside (with_section seen (kind_of part))
 inside-after (bounds lines) seen h = record { begun = h.begun; open_still = h.open_still }
 inside-after (generals names) seen h = record { begun = h.begun; open_still = h.open_still }
 inside-after (binaries names) seen h = record { begun = h.begun; open_still = h.open_still }
@@ -158,7 +158,7 @@ items-rows name (part ∷ parts) earlier =
     ap (λ (draft : Draft). draft.rows) (with_declarations-append (item_declares name part) (flat_map (item_declares name) parts) earlier)
     ∙ items-rows name parts (with_declarations earlier (item_declares name part)) ∙ item-rows name part earlier
 
-objective-rows : (part : Objective) → (with_declarations empty_draft (objective_declares part)).rows ≡ []
+pub objective-rows : (part : Objective) → (with_declarations empty_draft (objective_declares part)).rows ≡ []
 objective-rows (objective sense label parts) = items-rows (objective_name label) parts _
 
 -- ---- nothing was opened
@@ -170,7 +170,7 @@ before-rows (generals _ ∷ parts) = before-rows parts
 before-rows (binaries _ ∷ parts) = before-rows parts
 before-rows (semis _ _ ∷ parts) = before-rows parts
 
-abbrev after_rows : SectionsSeen
+abbrev pub after_rows : SectionsSeen
 after_rows = with_section after_word kinds.Rows
 
 behind-rows : (parts : List Section) → list_all (is_fresh after_rows) parts ≡ true

@@ -30,20 +30,20 @@ use Rattle.mpslp_lp_sentences.proofs.SectionsHeard.{front_tokens, whole-file}
 
 -- ---- lists
 
-abbrev first_or : {X : Type 0} → X → List X → X
+abbrev pub first_or : {X : Type 0} → X → List X → X
 first_or default [] = default
 first_or default (x ∷ xs) = x
 
-abbrev rest_of : {X : Type 0} → List X → List X
+abbrev pub rest_of : {X : Type 0} → List X → List X
 rest_of [] = []
 rest_of (x ∷ xs) = xs
 
-none-longer : {X : Type 0} (x : X) (xs : List X) → x ∷ xs ≡ [] → ⊥
+pub none-longer : {X : Type 0} (x : X) (xs : List X) → x ∷ xs ≡ [] → ⊥
 none-longer x xs h = cc
 
 -- ---- tokens on their lines
 
-abbrev seen : TerminalAt → Terminal
+abbrev pub seen : TerminalAt → Terminal
 seen token = token.terminal
 
 -- the tokens of lines, the first of which has this number
@@ -68,7 +68,7 @@ lines-before [] n m h = tt
 lines-before (l ∷ ls) n m h =
     before-append m (line_terminals (n, l)) (tokens_from (n + 1) ls) (line-before n m (tokens l) (omega (arith, h))) (lines-before ls (n + 1) m (omega (arith, h)))
 
-line-seen : (n : ℕ) (found : List Token) → map seen (map (λ (token : Token). record { line = n; terminal = terminal_of token.kind token.text }) found) ≡ map as_terminal found
+pub line-seen : (n : ℕ) (found : List Token) → map seen (map (λ (token : Token). record { line = n; terminal = terminal_of token.kind token.text }) found) ≡ map as_terminal found
 line-seen n [] = refl
 line-seen n (token ∷ found) = ap (λ (more : List Terminal). terminal_of token.kind token.text ∷ more) (line-seen n found)
 
@@ -145,7 +145,7 @@ stamped-from m (x ∷ xs) (token ∷ found) later h e =
 
 -- ---- the text
 
-front-end : (whole : File) → file_tokens whole ≡ front_tokens whole ++ Opens words.End ∷ []
+pub front-end : (whole : File) → file_tokens whole ≡ front_tokens whole ++ Opens words.End ∷ []
 front-end (file first second parts) =
     ap (λ (xs : List Terminal). objective_tokens first ++ xs) (sym (append_assoc (row_section_tokens second) (flat_map section_tokens parts) (Opens words.End ∷ [])))
     ∙ sym (append_assoc (objective_tokens first) (row_section_tokens second ++ flat_map section_tokens parts) (Opens words.End ∷ []))
