@@ -223,6 +223,21 @@ pub named_reads : Reads named 3 named_file
 unfolding digits trailing_zeros
 named_reads = record { right = refl; sound = refl; tokens = refl; declares = refl; unrefused = refl; same = refl }
 
+-- ---- what follows a right-hand side is the next row
+
+abbrev two_rows : List ℕ
+two_rows = text (codes "min" ∷ codes "st" ∷ codes "x >= 2 + y <= 5" ∷ codes "end" ∷ [])
+
+abbrev two_rows_file : File
+two_rows_file = file (objective Minimize None [])
+    (rows (seen.Opens words.Rows ∷ []) (row None (first (codes "x") ∷ []) AtLeast (value 2) ∷ row None (plus (codes "y") ∷ []) AtMost (value 5) ∷ [])) []
+
+pub two_rows_reads : Reads two_rows 4 two_rows_file
+    (declare_sense Minimize ∷ declare_objective (codes "obj") ∷ declare_row (codes "c1") (by_limits (finite 2) PlusInf) ∷ (put (codes "c1") (codes "x") (units 1)
+    ++ declare_row (codes "c2") (by_limits MinusInf (finite 5)) ∷ put (codes "c2") (codes "y") (units 1)))
+unfolding digits trailing_zeros
+two_rows_reads = record { right = refl; sound = refl; tokens = refl; declares = refl; unrefused = refl; same = refl }
+
 -- ---- files whose declarations are rejected
 
 abbrev two_constants_file : File

@@ -11,7 +11,9 @@ use Rattle.mpslp_lp_sentences.specs.Spelling.{file_tokens, is_file}
 use Rattle.mpslp_lp_sentences.specs.Meaning.{file_declares}
 
 -- "The file": the tokens of the first lines are those of a file, up to its `end`, which is last on its line; later lines are
--- ignored. No line of these has an error by itself, and nothing that is declared is rejected after what was declared before.
+-- ignored. No line of these has an error by itself. Nothing is rejected after what was declared before: "The objective", at
+-- most one constant; "Rows", no name of an earlier row or of the objective; "Columns", at most one term of a column in a row
+-- or in the objective; "Duplicates", each bound once.
 pub record IsSentence (bytes : List ℕ) (declared : Declarations) : Type 0 where
   pub whole : File
   pub right : IsTrue (is_file whole)
