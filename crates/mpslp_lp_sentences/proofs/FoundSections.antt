@@ -1,0 +1,458 @@
+-- What tokens have to be if the grammar reads the sections of a file.
+use Rattle.std.proofs.Common.{◌≡◌, ◌≤◌, ◌<◌, refl, sym, ap, subst, ◌∙◌, ℕ, zero, suc, ◌+◌, List, [], ◌∷◌, ◌++◌, Bool, true, false, not, append_assoc, length, arith}
+use Rattle.std.specs.Prelude.{Option, Some, None, ◌==◌, ◌&&◌, ◌||◌, if◌then◌else◌, unwrap_or}
+use Rattle.std.specs.List.{flat_map, list_all, list_any}
+use Rattle.std.specs.Cmp.{first_so, second_so}
+use Rattle.mpslp_types.proofs.BoolLemmas.{both_so, both_false, so_not}
+use Rattle.mpslp_types.specs.declared.faults.FaultKind.{FaultKind}
+use Rattle.mpslp_types.specs.declared.faults.FaultKind.TheVariants.{SectionRepeated, SectionOrder, BadToken}
+use Rattle.mpslp_builder.specs.Declaration.{Declaration, Declarations, Draft, declare_column, declare_integer, declare_binary, declare_semi, with_declarations}
+use Rattle.mpslp_lp_grammar.specs.declared.signs.Sign.TheVariants.{Plus, Minus}
+use Rattle.mpslp_lp_grammar.specs.Rules.{◌>>=◌, next, ahead}
+use Rattle.mpslp_lp_grammar.specs.Rules.Parsed.{Reads}
+use Rattle.mpslp_lp_grammar.specs.Rules.AfterPhrase.{Ends}
+use Rattle.mpslp_lp_grammar.specs.Terminal.{Terminal, TerminalAt}
+use Rattle.mpslp_lp_grammar.specs.Terminal.Terminal.{Opens, Name, Sign}
+use Rattle.mpslp_lp_grammar.specs.Point.{section_fault, with_section, has_seen, is_out_of_order}
+use Rattle.mpslp_lp_grammar.specs.declared.sections_seen.SectionsSeen.{SectionsSeen}
+use Rattle.mpslp_lp_grammar.specs.declared.context.Context.{Context}
+use Rattle.mpslp_lp_grammar.specs.declared.states.Place.{Place}
+use Rattle.mpslp_lp_grammar.specs.declared.states.Place.TheVariants.{InBounds, InGenerals, InBinaries, InSemis}
+use Rattle.mpslp_lp_grammar.specs.declared.states.LastWord.{LastWord}
+use Rattle.mpslp_lp_grammar.specs.declared.states.LastWord.TheVariants.{Continuous}
+use Rattle.mpslp_lp_grammar.specs.Phrase.{PhraseRule, Follows, fails, refuses, goes_to}
+use Rattle.mpslp_lp_grammar.specs.Grammar.{line_end, opened_by, is_last_word, last_word, semi_from, section_start, section_from, may_begin_section}
+use Rattle.mpslp_lp_tokens.specs.Words.{section_of}
+use Rattle.mpslp_lp_tokens.specs.declared.words.Section.{Section as Kind}
+use Rattle.mpslp_lp_tokens.specs.declared.words.Section.TheVariants as kinds
+use Rattle.mpslp_lp_tokens.specs.declared.words.SectionWord.{SectionWord}
+use Rattle.mpslp_lp_tokens.specs.declared.words.SectionWord.TheVariants as words
+use Rattle.mpslp_canonical_lp.specs.PrintedDeclarations.{point_at}
+use Rattle.mpslp_canonical_lp.proofs.TerminalLemmas.{at}
+use Rattle.mpslp_lp_sentences.specs.Phrases.{Section}
+use Rattle.mpslp_lp_sentences.specs.Phrases.Section.{bounds, generals, binaries, semis}
+use Rattle.mpslp_lp_sentences.specs.Spelling.{bound_tokens, name_tokens, section_tokens, opens_semis, is_section, same_section, are_sections}
+use Rattle.mpslp_lp_sentences.specs.Meaning.{bound_declares, names_declare, section_declares}
+use Rattle.mpslp_lp_sentences.proofs.Whole.{listened, heard}
+use Rattle.mpslp_lp_sentences.proofs.Stamped.{is_elsewhere, here, onward}
+use Rattle.mpslp_lp_sentences.proofs.SectionsHeard.{kind_of, IsInside, inside-after, is_fresh}
+use Rattle.mpslp_lp_sentences.proofs.Found.{all_at, onwards, onwards-append, Heard, Complete, complete-phrase, heard-next, heard-ahead, goes-heard}
+use Rattle.mpslp_lp_sentences.proofs.FoundParts.{ReadsNames, rest-shorter, all-phrases, all_declare, all-flat, name_token, name_declares, Anything, any_name, one-name, bound_declared, any_bound, NoRelation, none-follows, one-bound}
+
+-- ---- the word of a section
+
+pub record Opened (seen : SectionsSeen) (earlier : Draft) (line : ℕ → ℕ) (word : SectionWord) (xs : List Terminal) (made : Declarations) : Type 0 where
+  pub none : section_fault seen (section_of word) ≡ None
+  pub heard : Heard (section_start (here (with_section seen (section_of word)) earlier) (at (line 0) (Opens word)) word) (onward line) xs made
+
+pub opened-heard : (place : Place) (seen : SectionsSeen) (earlier : Draft) (line : ℕ → ℕ) (word : SectionWord) (xs : List Terminal) (made : Declarations) → may_begin_section place ≡ true
+    → Complete (point_at place seen earlier) line (Opens word ∷ xs) made → Opened seen earlier line word xs made
+opened-heard place seen earlier line word xs made may h =
+    by (section_fault seen (section_of word)) refl
+    (sym (ap (λ (b : Bool). listened (if b then section_from (here seen earlier) token word else refuses (here seen earlier) token BadToken) (all_at (onward line) xs)) may)
+    ∙ complete-phrase (point_at place seen earlier) line (Opens word) xs made h)
+  where
+    token : TerminalAt
+    token = at (line 0) (Opens word)
+
+    by : (o : Option FaultKind) → section_fault seen (section_of word) ≡ o
+        → listened (elim o as (λ _. PhraseRule Follows) [
+          | Some kind ↦ fails (at (line 0) (Opens word)) kind
+          | None ↦ section_start (here (with_section seen (section_of word)) earlier) (at (line 0) (Opens word)) word
+        ]) (all_at (onward line) xs) ≡ Some made → Opened seen earlier line word xs made
+    by (Some kind) e k = absurd cc
+    by None e k = record { none = e; heard = k }
+
+-- `end`
+at-end : (context : Context) (line : ℕ → ℕ) (xs : List Terminal) (made : Declarations) → Heard (line_end context (line 0)) (onward line) xs made → (is_elsewhere (line 0) (all_at (onward line) xs) ≡ true) × (made ≡ [])
+at-end context line [] made h = (refl, sym (ap (λ (o : Option Declarations). unwrap_or o []) h))
+at-end context line (x ∷ xs) made h = by (line 1 == line 0) h
+  where
+    by : (b : Bool) → heard (if b then refuses context (at (line 1) x) BadToken (all_at (onward (onward line)) xs) else Reads (Ends context.earlier) 0) (all_at (onward line) (x ∷ xs)) ≡ Some made
+        → (not b ≡ true) × (made ≡ [])
+    by true k = absurd cc
+    by false k = (refl, sym (ap (λ (o : Option Declarations). unwrap_or o []) k))
+
+-- ---- sections that were opened
+
+unseen : (seen : SectionsSeen) (kind : Kind) → section_fault seen kind ≡ None → has_seen seen kind ≡ false
+unseen seen kind h = by (has_seen seen kind) (is_out_of_order seen kind) h
+  where
+    by : (b o : Bool) → (if b then Some SectionRepeated else (if o then Some SectionOrder else None)) ≡ None → b ≡ false
+    by true o k = absurd cc
+    by false o k = refl
+
+in-order : (seen : SectionsSeen) (kind : Kind) → section_fault seen kind ≡ None → is_out_of_order seen kind ≡ false
+in-order seen kind h = by (has_seen seen kind) (is_out_of_order seen kind) h
+  where
+    by : (b o : Bool) → (if b then Some SectionRepeated else (if o then Some SectionOrder else None)) ≡ None → o ≡ false
+    by true o k = absurd cc
+    by false true k = absurd cc
+    by false false k = refl
+
+clash : {b : Bool} → b ≡ true → b ≡ false → ⊥
+clash h k = no_truth (sym k ∙ h)
+  where
+    no_truth : false ≡ true → ⊥
+    no_truth e = cc
+
+-- no rows come after these sections
+abbrev pub Closed : SectionsSeen → Type 0
+Closed seen = section_fault seen kinds.Rows ≡ None → ⊥
+
+closed-after : (part : Section) (seen : SectionsSeen) → IsInside seen → Closed (with_section seen (kind_of part))
+closed-after (bounds lines) seen inside h = clash (ap (λ (b : Bool). not b || (true || (seen.generals || (seen.binaries || (seen.semis || seen.end))))) inside.begun) (in-order (with_section seen kinds.Bounds) kinds.Rows h)
+closed-after (generals names) seen inside h = clash (by (not seen.objective) seen.bounds) (in-order (with_section seen kinds.Generals) kinds.Rows h)
+  where
+    by : (a b : Bool) → (a || (b || true)) ≡ true
+    by true b = refl
+    by false true = refl
+    by false false = refl
+closed-after (binaries names) seen inside h = clash (by (not seen.objective) seen.bounds seen.generals) (in-order (with_section seen kinds.Binaries) kinds.Rows h)
+  where
+    by : (a b c : Bool) → (a || (b || (c || true))) ≡ true
+    by true b c = refl
+    by false true c = refl
+    by false false true = refl
+    by false false false = refl
+closed-after (semis opening names) seen inside h = clash (by (not seen.objective) seen.bounds seen.generals seen.binaries) (in-order (with_section seen kinds.SemiContinuous) kinds.Rows h)
+  where
+    by : (a b c d : Bool) → (a || (b || (c || (d || true)))) ≡ true
+    by true b c d = refl
+    by false true c d = refl
+    by false false true d = refl
+    by false false false true = refl
+    by false false false false = refl
+
+abbrev pub is_rows : SectionWord → Bool
+is_rows words.Rows = true
+is_rows words.Subject = true
+is_rows words.Such = true
+is_rows _ = false
+
+pub no-rows : (word : SectionWord) (seen : SectionsSeen) → Closed seen → section_fault seen (section_of word) ≡ None → is_rows word ≡ false
+no-rows words.Rows seen closed h = absurd (closed h)
+no-rows words.Subject seen closed h = absurd (closed h)
+no-rows words.Such seen closed h = absurd (closed h)
+no-rows _ seen closed h = refl
+
+-- a section that may come after another is of another kind
+fresh-apart : (first part : Section) (seen : SectionsSeen) → is_fresh (with_section seen (kind_of first)) part ≡ true → (same_section first part ≡ false) × (is_fresh seen part ≡ true)
+fresh-apart (bounds _) (bounds _) seen h = absurd cc
+fresh-apart (bounds _) (generals _) seen h = (refl, h)
+fresh-apart (bounds _) (binaries _) seen h = (refl, h)
+fresh-apart (bounds _) (semis _ _) seen h = (refl, h)
+fresh-apart (generals _) (generals _) seen h = absurd cc
+fresh-apart (generals _) (bounds _) seen h = (refl, h)
+fresh-apart (generals _) (binaries _) seen h = (refl, h)
+fresh-apart (generals _) (semis _ _) seen h = (refl, h)
+fresh-apart (binaries _) (binaries _) seen h = absurd cc
+fresh-apart (binaries _) (bounds _) seen h = (refl, h)
+fresh-apart (binaries _) (generals _) seen h = (refl, h)
+fresh-apart (binaries _) (semis _ _) seen h = (refl, h)
+fresh-apart (semis _ _) (semis _ _) seen h = absurd cc
+fresh-apart (semis _ _) (bounds _) seen h = (refl, h)
+fresh-apart (semis _ _) (generals _) seen h = (refl, h)
+fresh-apart (semis _ _) (binaries _) seen h = (refl, h)
+
+all-fresh_apart : (first : Section) (parts : List Section) (seen : SectionsSeen) → list_all (is_fresh (with_section seen (kind_of first))) parts ≡ true
+    → (list_any (same_section first) parts ≡ false) × (list_all (is_fresh seen) parts ≡ true)
+all-fresh_apart first [] seen h = (refl, refl)
+all-fresh_apart first (part ∷ parts) seen h =
+    let fresh = is_fresh (with_section seen (kind_of first)) in
+    let one = fresh-apart first part seen (first_so (fresh part) (list_all fresh parts) h) in
+    let more = all-fresh_apart first parts seen (second_so (fresh part) (list_all fresh parts) h) in
+    (both_false (same_section first part) (list_any (same_section first) parts) one.0 more.0, both_so (is_fresh seen part) (list_all (is_fresh seen) parts) one.1 more.1)
+
+-- ---- the sections up to the end
+
+pub record TailFound (seen : SectionsSeen) (line : ℕ → ℕ) (xs : List Terminal) (made : Declarations) : Type 0 where
+  pub parts : List Section
+  pub good : are_sections parts ≡ true
+  pub fresh : list_all (is_fresh seen) parts ≡ true
+  pub after : List Terminal
+  pub same : xs ≡ flat_map section_tokens parts ++ Opens words.End ∷ after
+  pub is : made ≡ flat_map section_declares parts
+  pub elsewhere : is_elsewhere (onwards (flat_map section_tokens parts) line 0) (all_at (onward (onwards (flat_map section_tokens parts) line)) after) ≡ true
+
+-- a section, and those after it
+section-joined : (part : Section) (seen : SectionsSeen) (line : ℕ → ℕ) (xs rest : List Terminal) (made more : Declarations) → is_section part ≡ true → has_seen seen (kind_of part) ≡ false → xs ≡ section_tokens part ++ rest
+    → made ≡ section_declares part ++ more → TailFound (with_section seen (kind_of part)) (onwards (section_tokens part) line) rest more → TailFound seen line xs made
+section-joined part seen line xs rest made more ok new same is tail =
+    let apart = all-fresh_apart part tail.parts seen tail.fresh in
+    record {
+      parts = part ∷ tail.parts;
+      good = both_so (is_section part) (not (list_any (same_section part) tail.parts) && are_sections tail.parts) ok
+          (both_so (not (list_any (same_section part) tail.parts)) (are_sections tail.parts) (so_not (list_any (same_section part) tail.parts) apart.0) tail.good);
+      fresh = both_so (is_fresh seen part) (list_all (is_fresh seen) tail.parts) (so_not (has_seen seen (kind_of part)) new) apart.1;
+      after = tail.after;
+      same = same ∙ ap (λ (ys : List Terminal). section_tokens part ++ ys) tail.same ∙ sym (append_assoc (section_tokens part) (flat_map section_tokens tail.parts) (Opens words.End ∷ tail.after));
+      is = is ∙ ap (λ (ds : Declarations). section_declares part ++ ds) tail.is;
+      elsewhere = subst (λ (l : ℕ → ℕ). is_elsewhere (l 0) (all_at (onward l) tail.after) ≡ true) (sym (onwards-append (section_tokens part) (flat_map section_tokens tail.parts) line)) tail.elsewhere;
+    }
+
+-- ---- the body of a section, up to the next section word
+
+pub record Body (part : Section) (seen : SectionsSeen) (line : ℕ → ℕ) (xs : List Terminal) (made : Declarations) : Type 0 where
+  pub word : SectionWord
+  pub rest : List Terminal
+  pub more : Declarations
+  pub same : xs ≡ section_tokens part ++ Opens word ∷ rest
+  pub is : made ≡ section_declares part ++ more
+  pub place : Place
+  pub may : may_begin_section place ≡ true
+  pub later : Draft
+  pub heard : Complete (point_at place (with_section seen (kind_of part)) later) (onwards (section_tokens part) line) (Opens word ∷ rest) more
+  pub shorter : length rest + 1 < length xs
+
+-- some section
+pub record SomeBody (kind : Kind) (seen : SectionsSeen) (line : ℕ → ℕ) (xs : List Terminal) (made : Declarations) : Type 0 where
+  pub part : Section
+  pub ok : is_section part ≡ true
+  pub kind_is : kind_of part ≡ kind
+  pub body : Body part seen line xs made
+
+shorter-tail : (x : Terminal) (front rest xs : List Terminal) (word : SectionWord) → xs ≡ (x ∷ front) ++ Opens word ∷ rest → length rest + 1 < length xs
+shorter-tail x front rest xs word same = by (ap (λ (ys : List Terminal). length ys) same) (rest-shorter front (Opens word ∷ rest) (front ++ Opens word ∷ rest) refl)
+  where
+    by : length xs ≡ length (x ∷ (front ++ Opens word ∷ rest)) → length (Opens word ∷ rest) ≤ length (front ++ Opens word ∷ rest) → length rest + 1 < length xs
+    by e less = omega (arith, e, less)
+
+heading-shorter : (opening front rest xs : List Terminal) (word : SectionWord) → opens_semis opening ≡ true → xs ≡ (opening ++ front) ++ Opens word ∷ rest → length rest + 1 < length xs
+heading-shorter [] front rest xs word ok same = absurd cc
+heading-shorter (x ∷ opening) front rest xs word ok same = shorter-tail x (opening ++ front) rest xs word same
+
+bounds-body : (seen : SectionsSeen) (earlier : Draft) (line : ℕ → ℕ) (xs : List Terminal) (made : Declarations)
+    → Heard (goes_to (here (with_section seen kinds.Bounds) earlier) (InBounds None) []) (onward line) xs made → SomeBody kinds.Bounds seen line (Opens words.Bounds ∷ xs) made
+bounds-body seen earlier line xs made h =
+    let inside = with_section seen kinds.Bounds in
+    let goes = goes-heard (here inside earlier) (InBounds None) [] (onward line) xs made h in
+    let all = all-phrases bound_tokens bound_declared any_bound InBounds NoRelation inside (one-bound inside) (length xs) None earlier (onward line) xs goes.more (omega arith) (none-follows inside earlier (onward line) xs goes.more goes.rest) goes.rest in
+    let flat : all_declare bound_declared earlier all.its ≡ flat_map bound_declares all.its = all-flat bound_declares all.its earlier in
+    let whole : Opens words.Bounds ∷ xs ≡ (Opens words.Bounds ∷ flat_map bound_tokens all.its) ++ Opens all.word ∷ all.rest = ap (λ (ys : List Terminal). Opens words.Bounds ∷ ys) all.same in
+    record {
+      part = bounds all.its;
+      ok = refl;
+      kind_is = refl;
+      body = record {
+        word = all.word;
+        rest = all.rest;
+        more = all.more;
+        same = whole;
+        is = goes.is ∙ all.is ∙ ap (λ (ds : Declarations). ds ++ all.more) flat;
+        place = InBounds all.to;
+        may = refl;
+        later = with_declarations earlier (all_declare bound_declared earlier all.its);
+        heard = all.heard;
+        shorter = shorter-tail (Opens words.Bounds) (flat_map bound_tokens all.its) all.rest (Opens words.Bounds ∷ xs) all.word whole;
+      };
+    }
+
+name_tokens-flat : (names : List (List ℕ)) → flat_map name_token names ≡ name_tokens names
+name_tokens-flat [] = refl
+name_tokens-flat (name ∷ names) = ap (λ (ys : List Terminal). Name name ∷ ys) (name_tokens-flat names)
+
+-- names up to the next section word
+record NamesFound (place : Place) (kind : List ℕ → Declaration) (seen : SectionsSeen) (line : ℕ → ℕ) (xs : List Terminal) (made : Declarations) : Type 0 where
+  names : List (List ℕ)
+  word : SectionWord
+  rest : List Terminal
+  more : Declarations
+  same : xs ≡ name_tokens names ++ Opens word ∷ rest
+  is : made ≡ names_declare kind names ++ more
+  later : Draft
+  heard : Complete (point_at place seen later) (onwards (name_tokens names) line) (Opens word ∷ rest) more
+
+names-found : (place : Place) (kind : List ℕ → Declaration) (seen : SectionsSeen) (reads : ReadsNames place kind seen) (earlier : Draft) (line : ℕ → ℕ) (xs : List Terminal) (made : Declarations) → Complete (point_at place seen earlier) line xs made
+    → NamesFound place kind seen line xs made
+names-found place kind seen reads earlier line xs made h =
+    let all = all-phrases name_token (name_declares kind) any_name (λ (s : Unit {0}). place) Anything seen (one-name place kind seen reads) (length xs) tt earlier line xs made (omega arith) tt h in
+    let tokens = name_tokens-flat all.its in
+    record {
+      names = all.its;
+      word = all.word;
+      rest = all.rest;
+      more = all.more;
+      same = all.same ∙ ap (λ (ys : List Terminal). ys ++ Opens all.word ∷ all.rest) tokens;
+      is = all.is ∙ ap (λ (ds : Declarations). ds ++ all.more) (all-flat (λ (name : List ℕ). declare_column name ∷ kind name ∷ []) all.its earlier);
+      later = with_declarations earlier (all_declare (name_declares kind) earlier all.its);
+      heard = subst (λ (ys : List Terminal). Complete (point_at place seen (with_declarations earlier (all_declare (name_declares kind) earlier all.its))) (onwards ys line) (Opens all.word ∷ all.rest) all.more) tokens all.heard;
+    }
+
+reads-generals : (seen : SectionsSeen) → ReadsNames InGenerals declare_integer seen
+reads-generals seen earlier n (Opens word) tokens h = absurd cc
+reads-generals seen earlier n _ tokens h = refl
+
+reads-binaries : (seen : SectionsSeen) → ReadsNames InBinaries declare_binary seen
+reads-binaries seen earlier n (Opens word) tokens h = absurd cc
+reads-binaries seen earlier n _ tokens h = refl
+
+reads-semis : (seen : SectionsSeen) → ReadsNames InSemis declare_semi seen
+reads-semis seen earlier n (Opens word) tokens h = absurd cc
+reads-semis seen earlier n _ tokens h = refl
+
+generals-body : (seen : SectionsSeen) (earlier : Draft) (line : ℕ → ℕ) (xs : List Terminal) (made : Declarations)
+    → Heard (goes_to (here (with_section seen kinds.Generals) earlier) InGenerals []) (onward line) xs made → SomeBody kinds.Generals seen line (Opens words.Generals ∷ xs) made
+generals-body seen earlier line xs made h =
+    let inside = with_section seen kinds.Generals in
+    let goes = goes-heard (here inside earlier) InGenerals [] (onward line) xs made h in
+    let found = names-found InGenerals declare_integer inside (reads-generals inside) earlier (onward line) xs goes.more goes.rest in
+    let whole : Opens words.Generals ∷ xs ≡ (Opens words.Generals ∷ name_tokens found.names) ++ Opens found.word ∷ found.rest = ap (λ (ys : List Terminal). Opens words.Generals ∷ ys) found.same in
+    record {
+      part = generals found.names;
+      ok = refl;
+      kind_is = refl;
+      body = record {
+        word = found.word;
+        rest = found.rest;
+        more = found.more;
+        same = whole;
+        is = goes.is ∙ found.is;
+        place = InGenerals;
+        may = refl;
+        later = found.later;
+        heard = found.heard;
+        shorter = shorter-tail (Opens words.Generals) (name_tokens found.names) found.rest (Opens words.Generals ∷ xs) found.word whole;
+      };
+    }
+
+binaries-body : (seen : SectionsSeen) (earlier : Draft) (line : ℕ → ℕ) (xs : List Terminal) (made : Declarations)
+    → Heard (goes_to (here (with_section seen kinds.Binaries) earlier) InBinaries []) (onward line) xs made → SomeBody kinds.Binaries seen line (Opens words.Binaries ∷ xs) made
+binaries-body seen earlier line xs made h =
+    let inside = with_section seen kinds.Binaries in
+    let goes = goes-heard (here inside earlier) InBinaries [] (onward line) xs made h in
+    let found = names-found InBinaries declare_binary inside (reads-binaries inside) earlier (onward line) xs goes.more goes.rest in
+    let whole : Opens words.Binaries ∷ xs ≡ (Opens words.Binaries ∷ name_tokens found.names) ++ Opens found.word ∷ found.rest = ap (λ (ys : List Terminal). Opens words.Binaries ∷ ys) found.same in
+    record {
+      part = binaries found.names;
+      ok = refl;
+      kind_is = refl;
+      body = record {
+        word = found.word;
+        rest = found.rest;
+        more = found.more;
+        same = whole;
+        is = goes.is ∙ found.is;
+        place = InBinaries;
+        may = refl;
+        later = found.later;
+        heard = found.heard;
+        shorter = shorter-tail (Opens words.Binaries) (name_tokens found.names) found.rest (Opens words.Binaries ∷ xs) found.word whole;
+      };
+    }
+
+-- names after the words of the heading
+semis-body : (opening : List Terminal) (seen : SectionsSeen) (earlier : Draft) (line : ℕ → ℕ) (tail : List Terminal) (made : Declarations) → opens_semis opening ≡ true
+    → Complete (point_at InSemis (with_section seen kinds.SemiContinuous) earlier) (onwards opening line) tail made → SomeBody kinds.SemiContinuous seen line (opening ++ tail) made
+semis-body opening seen earlier line tail made ok h =
+    let inside = with_section seen kinds.SemiContinuous in
+    let found = names-found InSemis declare_semi inside (reads-semis inside) earlier (onwards opening line) tail made h in
+    let whole : opening ++ tail ≡ (opening ++ name_tokens found.names) ++ Opens found.word ∷ found.rest =
+    ap (λ (ys : List Terminal). opening ++ ys) found.same ∙ sym (append_assoc opening (name_tokens found.names) (Opens found.word ∷ found.rest)) in
+    record {
+      part = semis opening found.names;
+      ok = ok;
+      kind_is = refl;
+      body = record {
+        word = found.word;
+        rest = found.rest;
+        more = found.more;
+        same = whole;
+        is = found.is;
+        place = InSemis;
+        may = refl;
+        later = found.later;
+        heard = subst (λ (l : ℕ → ℕ). Complete (point_at InSemis inside found.later) l (Opens found.word ∷ found.rest) found.more) (sym (onwards-append opening (name_tokens found.names) line)) found.heard;
+        shorter = heading-shorter opening (name_tokens found.names) found.rest (opening ++ tail) found.word ok whole;
+      };
+    }
+
+-- what goes on and declares nothing
+pub moved : (context : Context) (place : Place) (line : ℕ → ℕ) (xs : List Terminal) (made : Declarations) → Heard (goes_to context place []) line xs made → Complete (point_at place context.sections_seen context.earlier) line xs made
+moved context place line xs made h =
+    let goes = goes-heard context place [] line xs made h in
+    subst (λ (ds : Declarations). Complete (point_at place context.sections_seen context.earlier) line xs ds) (sym goes.is) goes.rest
+
+-- the last word of a heading
+pub record LastWordFound (wanted : LastWord) (context : Context) (line : ℕ → ℕ) (xs : List Terminal) (made : Declarations) : Type 0 where
+  pub word : List ℕ
+  pub tail : List Terminal
+  pub same : xs ≡ Name word ∷ tail
+  pub is : is_last_word wanted word ≡ true
+  pub heard : Complete (point_at (opened_by wanted) context.sections_seen context.earlier) (onward line) tail made
+
+pub last_word-heard : (wanted : LastWord) (context : Context) (line : ℕ → ℕ) (xs : List Terminal) (made : Declarations) → Heard (next >>= last_word context wanted) line xs made → LastWordFound wanted context line xs made
+last_word-heard wanted context line [] made h = absurd cc
+last_word-heard wanted context line (x ∷ xs) made h = by x (heard-next (last_word context wanted) line x xs made h)
+  where
+    named : (word : List ℕ) (b : Bool) → is_last_word wanted word ≡ b
+        → Heard (if b then goes_to context (opened_by wanted) [] else refuses context (at (line 0) (Name word)) BadToken) (onward line) xs made → LastWordFound wanted context line (Name word ∷ xs) made
+    named word true e k = record { word = word; tail = xs; same = refl; is = e; heard = moved context (opened_by wanted) (onward line) xs made k }
+    named word false e k = absurd cc
+
+    by : (y : Terminal) → Heard (last_word context wanted (at (line 0) y)) (onward line) xs made → LastWordFound wanted context line (y ∷ xs) made
+    by (Name word) k = named word (is_last_word wanted word) refl k
+    by _ k = absurd cc
+
+semi-body : (seen : SectionsSeen) (earlier : Draft) (line : ℕ → ℕ) (xs : List Terminal) (made : Declarations)
+    → Heard (ahead >>= semi_from (here (with_section seen kinds.SemiContinuous) earlier)) (onward line) xs made → SomeBody kinds.SemiContinuous seen line (Opens words.Semi ∷ xs) made
+semi-body seen earlier line [] made h = absurd cc
+semi-body seen earlier line (Sign Minus ∷ xs) made h =
+    let context : Context = here (with_section seen kinds.SemiContinuous) earlier in
+    let found = last_word-heard Continuous context (onward (onward line)) xs made
+    (heard-next (λ (dash : TerminalAt). next >>= last_word context Continuous) (onward line) (Sign Minus) xs made (heard-ahead (semi_from context) (onward line) (Sign Minus) xs made h)) in
+    subst (λ (ys : List Terminal). SomeBody kinds.SemiContinuous seen line (Opens words.Semi ∷ Sign Minus ∷ ys) made) (sym found.same)
+    (semis-body (Opens words.Semi ∷ Sign Minus ∷ Name found.word ∷ []) seen earlier line found.tail made found.is found.heard)
+semi-body seen earlier line (Sign Plus ∷ xs) made h =
+    let context : Context = here (with_section seen kinds.SemiContinuous) earlier in
+    semis-body (Opens words.Semi ∷ []) seen earlier line (Sign Plus ∷ xs) made refl (moved context InSemis (onward line) (Sign Plus ∷ xs) made (heard-ahead (semi_from context) (onward line) (Sign Plus) xs made h))
+semi-body seen earlier line (x ∷ xs) made h =
+    let context : Context = here (with_section seen kinds.SemiContinuous) earlier in
+    semis-body (Opens words.Semi ∷ []) seen earlier line (x ∷ xs) made refl (moved context InSemis (onward line) (x ∷ xs) made (heard-ahead (semi_from context) (onward line) x xs made h))
+
+-- ---- all sections
+
+after-section : (kind : Kind) (seen : SectionsSeen) (line : ℕ → ℕ) (xs : List Terminal) (made : Declarations) (some : SomeBody kind seen line xs made) → section_fault seen kind ≡ None → IsInside seen
+    → ((inside : SectionsSeen) → IsInside inside → is_rows some.body.word ≡ false → (place : Place) (later : Draft) (on : ℕ → ℕ) → may_begin_section place ≡ true
+    → Complete (point_at place inside later) on (Opens some.body.word ∷ some.body.rest) some.body.more → TailFound inside on (Opens some.body.word ∷ some.body.rest) some.body.more)
+    → TailFound seen line xs made
+after-section kind seen line xs made some none inside rec =
+    let body = some.body in
+    let after = with_section seen (kind_of some.part) in
+    let opened = opened-heard body.place after body.later (onwards (section_tokens some.part) line) body.word body.rest body.more body.may body.heard in
+    section-joined some.part seen line xs (Opens body.word ∷ body.rest) made body.more some.ok
+    (unseen seen (kind_of some.part) (subst (λ (k : Kind). section_fault seen k ≡ None) (sym some.kind_is) none)) body.same body.is
+    (rec after (inside-after some.part seen inside) (no-rows body.word after (closed-after some.part seen inside) opened.none) body.place body.later (onwards (section_tokens some.part) line) body.may body.heard)
+
+pub sections-found : (n : ℕ) (place : Place) (seen : SectionsSeen) (earlier : Draft) (line : ℕ → ℕ) (word : SectionWord) (xs : List Terminal) (made : Declarations) → length xs < n → may_begin_section place ≡ true → IsInside seen
+    → is_rows word ≡ false → Complete (point_at place seen earlier) line (Opens word ∷ xs) made → TailFound seen line (Opens word ∷ xs) made
+sections-found zero place seen earlier line word xs made fits may inside plain h = absurd (omega (arith, fits))
+sections-found (suc n) place seen earlier line word xs made fits may inside plain h =
+    by word plain (opened-heard place seen earlier line word xs made may h)
+    (λ after within next rest more rows there later on begins short k. sections-found n there after later on next rest more (omega (arith, fits, short)) begins within rows k)
+  where
+    Rest : SectionWord → Type 0
+    Rest first = (after : SectionsSeen) → IsInside after → (next : SectionWord) (rest : List Terminal) (more : Declarations) → is_rows next ≡ false → (there : Place) (later : Draft) (on : ℕ → ℕ) → may_begin_section there ≡ true
+        → length rest + 1 < length (Opens first ∷ xs) → Complete (point_at there after later) on (Opens next ∷ rest) more → TailFound after on (Opens next ∷ rest) more
+
+    section : (first : SectionWord) (kind : Kind) → section_fault seen kind ≡ None → SomeBody kind seen line (Opens first ∷ xs) made → Rest first → TailFound seen line (Opens first ∷ xs) made
+    section first kind none some rec =
+        after-section kind seen line (Opens first ∷ xs) made some none inside
+        (λ after within rows there later on begins k. rec after within some.body.word some.body.rest some.body.more rows there later on begins some.body.shorter k)
+
+    by : (first : SectionWord) → is_rows first ≡ false → Opened seen earlier line first xs made → Rest first → TailFound seen line (Opens first ∷ xs) made
+    by words.Minimize rows opened rec = absurd (clash inside.begun (unseen seen kinds.Objective opened.none))
+    by words.Maximize rows opened rec = absurd (clash inside.begun (unseen seen kinds.Objective opened.none))
+    by words.Rows rows opened rec = absurd cc
+    by words.Subject rows opened rec = absurd cc
+    by words.Such rows opened rec = absurd cc
+    by words.Bounds rows opened rec = section words.Bounds kinds.Bounds opened.none (bounds-body seen earlier line xs made opened.heard) rec
+    by words.Generals rows opened rec = section words.Generals kinds.Generals opened.none (generals-body seen earlier line xs made opened.heard) rec
+    by words.Binaries rows opened rec = section words.Binaries kinds.Binaries opened.none (binaries-body seen earlier line xs made opened.heard) rec
+    by words.Semi rows opened rec = section words.Semi kinds.SemiContinuous opened.none (semi-body seen earlier line xs made opened.heard) rec
+    by words.Semis rows opened rec =
+        section words.Semis kinds.SemiContinuous opened.none
+        (semis-body (Opens words.Semis ∷ []) seen earlier line xs made refl (moved (here (with_section seen kinds.SemiContinuous) earlier) InSemis (onward line) xs made opened.heard)) rec
+    by words.End rows opened rec =
+        let end = at-end (here (with_section seen kinds.End) earlier) line xs made opened.heard in
+        record { parts = []; good = refl; fresh = refl; after = xs; same = refl; is = end.1; elsewhere = end.0 }

@@ -1,0 +1,17 @@
+pub mod Whole
+pub mod Stamped
+pub mod ItemsHeard
+pub mod ObjectiveHeard
+pub mod BoundsHeard
+pub mod RowFacts
+pub mod RowsHeard
+pub mod SectionsHeard
+pub mod SentenceRead
+mod WorkedSentences
+pub mod Found
+pub mod FoundParts
+pub mod FoundObjective
+pub mod FoundRows
+pub mod FoundSections
+pub mod FoundFile
+pub mod SentenceFound

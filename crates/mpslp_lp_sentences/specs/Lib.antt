@@ -1,0 +1,5 @@
+pub mod Phrases
+pub mod Spelling
+pub mod Meaning
+pub mod Sentence
+pub mod Laws

@@ -1,0 +1,14 @@
+//! Laws of LP text as a whole. Each is the contract of a function that does nothing: to cite the law, call the function.
+
+ghost use Rattle.mpslp_lp_sentences.specs.Laws.{ReadTextsAreSentences, SentencesAreRead};
+
+/// Bytes whose first lines are, token by token, a file, with no error of a line by itself and no declaration that is
+/// rejected, are LP text, and declare what the file declares.
+pub fn sentences_are_read()
+    ensures { SentencesAreRead }
+{}
+
+/// LP text is such a file, which declares what the text declares. So LP text is what the phrases say, and nothing else.
+pub fn read_texts_are_sentences()
+    ensures { ReadTextsAreSentences }
+{}
