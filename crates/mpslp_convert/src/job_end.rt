@@ -8,7 +8,7 @@ use crate::fault_line::line_of;
 use crate::faults::{ConvertFault, RunFault};
 use mpslp_jobs::JobFault;
 use mpslp_model::{Sink, put_all};
-use mpslp_write::Buffer;
+use mpslp_write::{Buffer, Output};
 
 /// The exit status of arguments that are not a job.
 const WRONG_WORDS: u8 = 3;
@@ -79,10 +79,11 @@ fn tell<E: Sink>(err: &mut E, front: &[u8], middle: &[u8], end: &[u8])
     ensures err_stays { E.failed err.old ≡ true → E.failed err.new ≡ true }
 {
     let mut buffer = Buffer::new();
-    buffer.put(err, front);
-    buffer.put(err, middle);
-    buffer.put(err, end);
-    let _ = buffer.finish(err);
+    let mut output = Output::new(err, &mut buffer);
+    output.put(front);
+    output.put(middle);
+    output.put(end);
+    let _ = output.finish();
 }
 
 /// Writes the line of a failure.
