@@ -11,7 +11,22 @@ use mpslp_model::laws::each_name_is_legal;
 use mpslp_model::{Fault, Name, NameAt, Sink, WriteFault, put_all};
 use std::marker::Model;
 
-/// Enough for every line: a place of at most 47 bytes, a kind of at most 16, a name of at most 255, and separators.
+/// The most bytes of a number, as itoa prints it.
+const NUMBER_LEN: usize = 40;
+
+/// The most bytes of the word before a number and of the space between them.
+const WORD_LEN: usize = 7;
+
+/// The most bytes of a place: a word, or one with a number.
+const PLACE_LEN: usize = WORD_LEN + NUMBER_LEN;
+
+/// The most bytes of a name and of the space before it.
+const NAME_LEN: usize = 256;
+
+/// The most bytes of the text of an error: a place, a colon and a space, a kind of at most 16 bytes, and a name.
+const TEXT_LEN: usize = PLACE_LEN + 2 + 16 + NAME_LEN;
+
+/// Enough for every line: a text and its line feed.
 const CAPACITY: usize = 384;
 
 /// A line under construction, in a buffer on the stack.
@@ -50,17 +65,17 @@ impl Line {
     }
 
     fn put_number(&mut self, number: u64)
-        requires { length self.old + 40 ≤ CAPACITY }
+        requires { length self.old + NUMBER_LEN ≤ CAPACITY }
         ensures text { self.new ≡ self.old ++ decimal number }
-        ensures bound { length self.new ≤ length self.old + 40 }
+        ensures bound { length self.new ≤ length self.old + NUMBER_LEN }
     {
         self.put(Buffer::new().format(number).as_bytes());
     }
 
     fn put_name(&mut self, name: &Option<Name>)
-        requires { length self.old + 256 ≤ CAPACITY }
+        requires { length self.old + NAME_LEN ≤ CAPACITY }
         ensures text { self.new ≡ self.old ++ name_text name.now }
-        ensures bound { length self.new ≤ length self.old + 256 }
+        ensures bound { length self.new ≤ length self.old + NAME_LEN }
     {
         if let Some(name) = name {
             each_name_is_legal(name);
@@ -71,9 +86,9 @@ impl Line {
 
     /// A text followed by a number.
     fn numbered(text: &[u8], number: u64) -> Line
-        requires { length text.now ≤ 7 }
+        requires { length text.now ≤ WORD_LEN }
         ensures text { result ≡ text.now ++ decimal number }
-        ensures bound { length result ≤ 47 }
+        ensures bound { length result ≤ PLACE_LEN }
     {
         let mut line = Line::new();
         line.put(text);
@@ -94,7 +109,7 @@ impl Line {
     /// The place of an error in a file: its line, or the whole file.
     fn of_line(line: u64) -> Line
         ensures text { result ≡ line_text line }
-        ensures bound { length result ≤ 47 }
+        ensures bound { length result ≤ PLACE_LEN }
     {
         if line == 0 {
             Line::plain(b"file")
@@ -106,7 +121,7 @@ impl Line {
     /// A name in a model, by its number.
     fn of_place(name_at: NameAt) -> Line
         ensures text { result ≡ place_text name_at }
-        ensures bound { length result ≤ 47 }
+        ensures bound { length result ≤ PLACE_LEN }
     {
         match name_at {
             NameAt::Objective => Line::plain(b"objective"),
@@ -118,7 +133,7 @@ impl Line {
     /// The text that reports an error of a file.
     fn of_file(fault: &Fault) -> Line
         ensures text { result ≡ file_text fault.now }
-        ensures bound { length result ≤ 321 }
+        ensures bound { length result ≤ TEXT_LEN }
     {
         let mut line = Line::of_line(fault.line);
         line.put(b": ");
@@ -130,7 +145,7 @@ impl Line {
     /// The text that reports a name that is not legal in the format.
     fn of_not_lp(name_at: NameAt) -> Line
         ensures text { result ≡ fault_text (RunFault.NotLp name_at) }
-        ensures bound { length result ≤ 321 }
+        ensures bound { length result ≤ TEXT_LEN }
     {
         let mut line = Line::of_place(name_at);
         line.put(b": NotLp");
@@ -140,7 +155,7 @@ impl Line {
     /// The text that reports an error.
     fn of_fault(fault: &RunFault) -> Line
         ensures text { result ≡ fault_text fault.now }
-        ensures bound { length result ≤ 321 }
+        ensures bound { length result ≤ TEXT_LEN }
     {
         match fault {
             RunFault::Read => Line::plain(b"read failed"),

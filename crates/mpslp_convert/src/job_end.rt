@@ -2,13 +2,13 @@
 
 ghost use Rattle.std.specs.Prelude.{◌≡◌, ◌++◌, [], ℕ, List, true, Result, if◌then◌else◌};
 ghost use Rattle.mpslp_convert.specs.FaultLine.{fault_line};
-ghost use Rattle.mpslp_convert.specs.Performed.{failure_of, input_text, is_of_input, failure_line, comparison_failure, refusal_line, refusal_status, IsTold, IsEnded, IsPrinted, IsRefused, ended_by};
+ghost use Rattle.mpslp_convert.specs.Performed.{sink_change, failure_of, input_text, is_of_input, failure_line, comparison_failure, refusal_line, refusal_status, IsTold, IsEnded, IsPrinted, IsRefused, ended_by};
 
 use crate::fault_line::line_of;
 use crate::faults::{ConvertFault, RunFault};
 use mpslp_jobs::JobFault;
 use mpslp_model::{Sink, put_all};
-use mpslp_write::Buffer;
+use mpslp_write::{Buffer, Output};
 
 /// The exit status of arguments that are not a job.
 const WRONG_WORDS: u8 = 3;
@@ -75,19 +75,20 @@ fn is_of_input(fault: &RunFault) -> bool
 
 /// Writes three pieces as one text, as far as the sink takes it, and does not flush.
 fn tell<E: Sink>(err: &mut E, front: &[u8], middle: &[u8], end: &[u8])
-    ensures answer { IsTold E.holds E.failed E.count err.old err.new (front.now ++ middle.now ++ end.now) }
+    ensures answer { IsTold (sink_change E.Sink err.old err.new) (front.now ++ middle.now ++ end.now) }
     ensures err_stays { E.failed err.old ≡ true → E.failed err.new ≡ true }
 {
     let mut buffer = Buffer::new();
-    buffer.put(err, front);
-    buffer.put(err, middle);
-    buffer.put(err, end);
-    let _ = buffer.finish(err);
+    let mut output = Output::new(err, &mut buffer);
+    output.put(front);
+    output.put(middle);
+    output.put(end);
+    let _ = output.finish();
 }
 
 /// Writes the line of a failure.
 fn tell_failure<E: Sink>(failure: &Failure, err: &mut E)
-    ensures answer { IsTold E.holds E.failed E.count err.old err.new (failure_line failure.now) }
+    ensures answer { IsTold (sink_change E.Sink err.old err.new) (failure_line failure.now) }
     ensures err_stays { E.failed err.old ≡ true → E.failed err.new ≡ true }
 {
     let line = line_of(&failure.fault);
@@ -101,7 +102,7 @@ fn tell_failure<E: Sink>(failure: &Failure, err: &mut E)
 
 /// Returns the exit status of a job, and reports its failure if there is one.
 pub(crate) fn status_of_end<E: Sink>(end: &Result<u8, Failure>, err: &mut E) -> u8
-    ensures answer { IsEnded E.holds E.failed E.count err.old err.new end.now result }
+    ensures answer { IsEnded (sink_change E.Sink err.old err.new) end.now result }
     ensures err_stays { E.failed err.old ≡ true → E.failed err.new ≡ true }
 {
     match end {
@@ -115,7 +116,7 @@ pub(crate) fn status_of_end<E: Sink>(end: &Result<u8, Failure>, err: &mut E) -> 
 
 /// Writes a text to a sink, and flushes it once.
 pub(crate) fn print<W: Sink>(text: &[u8], out: &mut W) -> Result<(), RunFault>
-    ensures answer { IsPrinted W.holds W.failed W.count out.old out.new text.now result }
+    ensures answer { IsPrinted (sink_change W.Sink out.old out.new) text.now result }
     ensures out_stays { W.failed out.old ≡ true → W.failed out.new ≡ true }
 {
     let mut written = 0;
@@ -140,7 +141,7 @@ pub(crate) fn ended_by(status: u8, answer: Result<(), RunFault>) -> Result<u8, F
 
 /// Reports why there is no job, and returns the exit status.
 pub(crate) fn refuse<W: Sink, E: Sink>(fault: &JobFault, out: &mut W, err: &mut E) -> u8
-    ensures answer { IsRefused W.holds W.failed W.count E.holds E.failed E.count out.old out.new err.old err.new fault.now result }
+    ensures answer { IsRefused (sink_change W.Sink out.old out.new) (sink_change E.Sink err.old err.new) fault.now result }
     ensures out_stays { W.failed out.old ≡ true → W.failed out.new ≡ true }
     ensures err_stays { E.failed err.old ≡ true → E.failed err.new ≡ true }
 {

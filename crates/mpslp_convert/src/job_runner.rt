@@ -5,7 +5,7 @@ ghost use Rattle.mpslp_convert.specs.Conversions.{IsComparison};
 ghost use Rattle.mpslp_convert.specs.Feeding.{IsModelOrFault};
 ghost use Rattle.mpslp_convert.specs.Runs.{ReadsWithin};
 ghost use Rattle.mpslp_convert.specs.ShownText.{shown_text};
-ghost use Rattle.mpslp_convert.specs.Performed.{declares_in, first_fault_in, unfit_in, text_in, IsRunDone, IsSaid, IsSecondDone, IsSameDone, IsDone, IsPerformed};
+ghost use Rattle.mpslp_convert.specs.Performed.{source_change, sink_change, declares_in, first_fault_in, unfit_in, text_in, IsRunDone, IsSaid, IsSecondDone, IsSameDone, IsDone, IsPerformed};
 
 use crate::faults::ConvertFault;
 use crate::fed_model::read_text;
@@ -26,8 +26,8 @@ fn canon<R: Source, W: Sink>(
     source: &mut R,
     out: &mut W,
 ) -> Result<u8, Failure>
-    ensures answer { IsRunDone (declares_in from) (first_fault_in from) (unfit_in to) (text_in to) W.holds W.failed W.count
-        (R.left source.old) (R.left source.new) (R.failed source.new) max_bytes out.old out.new result }
+    ensures answer { IsRunDone (declares_in from) (first_fault_in from) (unfit_in to) (text_in to) max_bytes
+        (source_change R.Source source.old source.new) (sink_change W.Sink out.old out.new) result }
     ensures source { ReadsWithin R.left R.failed R.count max_bytes source.old source.new }
     ensures out_stays { W.failed out.old ≡ true → W.failed out.new ≡ true }
 {
@@ -47,8 +47,8 @@ fn show_in<R: Source, W: Sink>(
     source: &mut R,
     out: &mut W,
 ) -> Result<u8, Failure>
-    ensures answer { IsRunDone (declares_in from) (first_fault_in from) (λ m. None) shown_text W.holds W.failed W.count
-        (R.left source.old) (R.left source.new) (R.failed source.new) max_bytes out.old out.new result }
+    ensures answer { IsRunDone (declares_in from) (first_fault_in from) (λ m. None) shown_text max_bytes
+        (source_change R.Source source.old source.new) (sink_change W.Sink out.old out.new) result }
     ensures source { ReadsWithin R.left R.failed R.count max_bytes source.old source.new }
     ensures out_stays { W.failed out.old ≡ true → W.failed out.new ≡ true }
 {
@@ -77,7 +77,7 @@ fn same_of<A: Format, B: Format>(
 
 /// Prints the result of a comparison.
 fn say<W: Sink>(same: Result<bool, ConvertFault>, out: &mut W) -> Result<u8, Failure>
-    ensures answer { IsSaid W.holds W.failed W.count out.old out.new same result }
+    ensures answer { IsSaid (sink_change W.Sink out.old out.new) same result }
     ensures out_stays { W.failed out.old ≡ true → W.failed out.new ≡ true }
 {
     match same {
@@ -95,8 +95,8 @@ fn compare<A: Format, B: Format, R: Source, S: Source, W: Sink>(
     second: &mut S,
     out: &mut W,
 ) -> Result<u8, Failure>
-    ensures answer { IsSameDone A.declares A.first_fault B.declares B.first_fault W.holds W.failed W.count
-        R.left R.failed S.left S.failed max_bytes first.old first.new second.old second.new out.old out.new result }
+    ensures answer { IsSameDone A.declares A.first_fault B.declares B.first_fault max_bytes
+        (source_change R.Source first.old first.new) (source_change S.Source second.old second.new) (sink_change W.Sink out.old out.new) result }
     ensures first { ReadsWithin R.left R.failed R.count max_bytes first.old first.new }
     ensures second { ReadsWithin S.left S.failed S.count max_bytes second.old second.new }
     ensures out_stays { W.failed out.old ≡ true → W.failed out.new ≡ true }
@@ -122,8 +122,8 @@ fn same<R: Source, S: Source, W: Sink>(
     second: &mut S,
     out: &mut W,
 ) -> Result<u8, Failure>
-    ensures answer { IsSameDone (declares_in first_form) (first_fault_in first_form) (declares_in second_form) (first_fault_in second_form) W.holds W.failed W.count
-        R.left R.failed S.left S.failed max_bytes first.old first.new second.old second.new out.old out.new result }
+    ensures answer { IsSameDone (declares_in first_form) (first_fault_in first_form) (declares_in second_form) (first_fault_in second_form) max_bytes
+        (source_change R.Source first.old first.new) (source_change S.Source second.old second.new) (sink_change W.Sink out.old out.new) result }
     ensures first { ReadsWithin R.left R.failed R.count max_bytes first.old first.new }
     ensures second { ReadsWithin S.left S.failed S.count max_bytes second.old second.new }
     ensures out_stays { W.failed out.old ≡ true → W.failed out.new ≡ true }
@@ -147,7 +147,8 @@ fn do_job<R: Source, S: Source, W: Sink>(
     second: &mut S,
     out: &mut W,
 ) -> Result<u8, Failure>
-    ensures answer { IsDone W.holds W.failed W.count R.left R.failed S.left S.failed max_bytes first.old first.new second.old second.new out.old out.new job.now result }
+    ensures answer { IsDone max_bytes
+        (source_change R.Source first.old first.new) (source_change S.Source second.old second.new) (sink_change W.Sink out.old out.new) job.now result }
     ensures first { ReadsWithin R.left R.failed R.count max_bytes first.old first.new }
     ensures second { ReadsWithin S.left S.failed S.count max_bytes second.old second.new }
     ensures out_stays { W.failed out.old ≡ true → W.failed out.new ≡ true }
@@ -206,8 +207,9 @@ pub fn perform<R: Source, S: Source, W: Sink, E: Sink>(
     out: &mut W,
     err: &mut E,
 ) -> u8
-    ensures answer { IsPerformed W.holds W.failed W.count E.holds E.failed E.count R.left R.failed S.left S.failed max_bytes
-        first.old first.new second.old second.new out.old out.new err.old err.new job.now result }
+    ensures answer { IsPerformed max_bytes
+        (source_change R.Source first.old first.new) (source_change S.Source second.old second.new)
+        (sink_change W.Sink out.old out.new) (sink_change E.Sink err.old err.new) job.now result }
     ensures first { ReadsWithin R.left R.failed R.count max_bytes first.old first.new }
     ensures second { ReadsWithin S.left S.failed S.count max_bytes second.old second.new }
     ensures out_stays { W.failed out.old ≡ true → W.failed out.new ≡ true }

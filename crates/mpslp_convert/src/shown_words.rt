@@ -2,45 +2,45 @@
 
 ghost use Rattle.std.specs.Prelude.{◌≡◌, ◌++◌, codes, decimal};
 ghost use Rattle.mpslp_decimal.specs.NumberText.{number_text};
-ghost use Rattle.mpslp_write.specs.TextBuffer.{Emits};
+ghost use Rattle.mpslp_write.specs.Printing.{Puts};
 ghost use Rattle.mpslp_convert.specs.ShownText.{sense_word, kind_word, limit_text};
 
 use mpslp_decimal::{Decimal, DecimalText};
 use mpslp_model::{Kind, Limit, Sense, Sink};
-use mpslp_write::Buffer;
+use mpslp_write::Output;
 
 /// Puts a space and a word.
-pub(crate) fn put_word<W: Sink>(sink: &mut W, buffer: &mut Buffer, word: &[u8])
-    ensures { Emits W.holds W.failed W.count sink.old sink.new buffer.old buffer.new (codes " " ++ word.now) }
+pub(crate) fn put_word<W: Sink>(output: &mut Output<W>, word: &[u8])
+    ensures { Puts W.Sink output.old output.new (codes " " ++ word.now) }
 {
-    buffer.put(sink, b" ");
-    buffer.put(sink, word);
+    output.put(b" ");
+    output.put(word);
 }
 
 /// Puts a space and a count or an index.
-pub(crate) fn put_count<W: Sink>(sink: &mut W, buffer: &mut Buffer, count: u128)
-    ensures { Emits W.holds W.failed W.count sink.old sink.new buffer.old buffer.new (codes " " ++ decimal count) }
+pub(crate) fn put_count<W: Sink>(output: &mut Output<W>, count: u128)
+    ensures { Puts W.Sink output.old output.new (codes " " ++ decimal count) }
 {
     let mut digits = itoa::Buffer::new();
-    put_word(sink, buffer, digits.format(count).as_bytes());
+    put_word(output, digits.format(count).as_bytes());
 }
 
 /// Puts a space and a number.
-pub(crate) fn put_number<W: Sink>(sink: &mut W, buffer: &mut Buffer, value: Decimal)
-    ensures { Emits W.holds W.failed W.count sink.old sink.new buffer.old buffer.new (codes " " ++ number_text value) }
+pub(crate) fn put_number<W: Sink>(output: &mut Output<W>, value: Decimal)
+    ensures { Puts W.Sink output.old output.new (codes " " ++ number_text value) }
 {
     let mut text = DecimalText::new();
-    put_word(sink, buffer, text.put(value));
+    put_word(output, text.put(value));
 }
 
 /// Puts a space and a limit of a row or a bound of a column.
-pub(crate) fn put_limit<W: Sink>(sink: &mut W, buffer: &mut Buffer, limit: &Limit)
-    ensures { Emits W.holds W.failed W.count sink.old sink.new buffer.old buffer.new (codes " " ++ limit_text limit.now) }
+pub(crate) fn put_limit<W: Sink>(output: &mut Output<W>, limit: &Limit)
+    ensures { Puts W.Sink output.old output.new (codes " " ++ limit_text limit.now) }
 {
     match limit {
-        Limit::MinusInf => put_word(sink, buffer, b"-inf"),
-        Limit::Finite(value) => put_number(sink, buffer, *value),
-        Limit::PlusInf => put_word(sink, buffer, b"inf"),
+        Limit::MinusInf => put_word(output, b"-inf"),
+        Limit::Finite(value) => put_number(output, *value),
+        Limit::PlusInf => put_word(output, b"inf"),
     }
 }
 

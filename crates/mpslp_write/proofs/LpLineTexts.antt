@@ -1,16 +1,15 @@
--- The pieces of a line of LP, one after another, are its text.
-use Rattle.std.proofs.Common.{◌≡◌, refl, sym, ap, ◌∙◌, ℕ, ◌<◌, Bool, true, false, List, [], ◌∷◌, ◌++◌, length, append_assoc, append-nil, arith}
+-- The pieces of a line of LP, one after another, are its text; and a text is not empty.
+use Rattle.std.proofs.Common.{◌≡◌, refl, sym, ap, ◌∙◌, ℕ, ◌<◌, List, [], ◌∷◌, ◌++◌, length, append_assoc, append-nil, arith}
 use Rattle.std.specs.Prelude.{codes, replicate}
 use Rattle.std.specs.List.{flat_map}
 use Rattle.std.specs.Fmt.{digits}
-use Rattle.mpslp_decimal.specs.Decimal.{Number, is_negative, size_of, trailing_zeros}
-use Rattle.mpslp_decimal.specs.NumberText.{number_text}
+use Rattle.mpslp_decimal.specs.Decimal.{trailing_zeros}
 use Rattle.mpslp_model_core.specs.Model.{LinearModel}
 use Rattle.mpslp_types.specs.declared.kinds.Sense.{Sense}
 use Rattle.mpslp_types.specs.declared.kinds.Sense.TheVariants.{Minimize, Maximize}
 use Rattle.mpslp_lp_grammar.specs.declared.relations.Relation.TheVariants.{AtLeast}
-use Rattle.mpslp_canonical_lp.specs.Printed.{Lexeme, word, label, number, sign, lexeme_text, sign_bytes, line_text}
-use Rattle.mpslp_canonical_lp.specs.CanonicalLp.{Lines, heading, under_heading, semi_heading, under_semi_heading, label_line, long_line, term_line, signed_lexemes, right_line, minus_large, canonical_lp}
+use Rattle.mpslp_canonical_lp.specs.Printed.{Lexeme, lexeme_text, line_text}
+use Rattle.mpslp_canonical_lp.specs.CanonicalLp.{Lines, heading, under_heading, semi_heading, under_semi_heading, right_line, minus_large, canonical_lp}
 use Rattle.mpslp_write.specs.TextBuffer.{text_by, text_under}
 
 -- ---- one line
@@ -35,27 +34,6 @@ line-text indent piece lexemes =
     sym (append-nil ((blanks ++ (lexeme_text piece ++ spaced lexemes)) ++ 10 ∷ [])
     ∙ append_assoc blanks (lexeme_text piece ++ spaced lexemes) (10 ∷ [])
     ∙ ap (λ (l : List ℕ). blanks ++ l) (append_assoc (lexeme_text piece) (spaced lexemes) (10 ∷ []) ∙ ap (λ (l : List ℕ). lexeme_text piece ++ l) (behind-spaced lexemes)))
-
-pub label-text : (name : List ℕ) → codes " " ++ (name ++ codes ":\n") ≡ text_by line_text (label_line name ∷ [])
-label-text name = ap (λ (l : List ℕ). codes " " ++ l) (sym (append_assoc name (codes ":") (10 ∷ []))) ∙ line-text 1 (label name) []
-
--- a sign with two spaces before it and one after it, and what follows
-signed : (minus : Bool) (size rest : List ℕ) → ((codes "  " ++ (sign_bytes minus ++ codes " ")) ++ size) ++ rest ≡ codes "  " ++ (sign_bytes minus ++ (codes " " ++ (size ++ rest)))
-signed true size rest = refl
-signed false size rest = refl
-
--- the sign of a number, and its absolute value
-abbrev pub signed_text : Number → List ℕ
-signed_text value = (codes "  " ++ (sign_bytes (is_negative value) ++ codes " ")) ++ number_text (size_of value)
-
-pub term-text : (column : List ℕ) (value : Number) → signed_text value ++ (codes " " ++ (column ++ codes "\n")) ≡ text_by line_text (term_line (column, value) ∷ [])
-term-text column value =
-    signed (is_negative value) (number_text (size_of value)) (codes " " ++ (column ++ codes "\n"))
-    ∙ line-text 2 (sign (is_negative value)) (number (size_of value) ∷ word column ∷ [])
-
-pub constant-text : (value : Number) → signed_text value ++ codes "\n" ≡ text_by line_text (long_line (signed_lexemes value) ∷ [])
-constant-text value =
-    signed (is_negative value) (number_text (size_of value)) (codes "\n") ∙ line-text 2 (sign (is_negative value)) (number (size_of value) ∷ [])
 
 pub unlimited-text : codes "  >= -1e20\n" ≡ text_by line_text (right_line AtLeast minus_large ∷ [])
 unfolding digits trailing_zeros

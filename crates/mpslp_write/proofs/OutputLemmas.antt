@@ -1,286 +1,115 @@
--- How the text that was put grows piece by piece, and how it is sent to the sink.
-use Rattle.std.proofs.Common.{◌≡◌, refl, sym, ap, subst, ◌∙◌, ℕ, ◌+◌, ◌-◌, ◌^◌, ◌<◌, ◌≤◌, min, Bool, true, false, inl, inr, List, [], ◌∷◌, ◌++◌, length, take, append_assoc, append-nil, arith}
-use Rattle.std.specs.Prelude.{Option, Some, None, Result, Ok, Err, IsOk}
-use Rattle.mpslp_model_core.specs.Model.{LinearModel}
-use Rattle.mpslp_types.specs.declared.faults.NameAt.{NameAt}
-use Rattle.mpslp_types.specs.declared.faults.WriteFault.{WriteFault}
-use Rattle.mpslp_types.specs.declared.faults.WriteFault.TheVariants.{Write, NotLp}
-use Rattle.std.proofs.Math.Seq.{take-append-add}
-use Rattle.std.proofs.lemmas.Bool.{cases_lt}
-use Rattle.std.proofs.lemmas.List.{length-append, take-append-le}
-use Rattle.mpslp_io.specs.Devices.{Grows, TookMore}
-use Rattle.mpslp_model.specs.Formats.{TookFirst, IsTaken, IsWritten}
-use Rattle.mpslp_io.proofs.GrowsLemmas.{Grows-nil, Grows-append}
+-- How the text that was put to an output grows, piece by piece and line by line.
+use Rattle.std.proofs.Common.{◌≡◌, refl, sym, ap, subst, ◌∙◌, ℕ, true, List, [], ◌∷◌, ◌++◌, take, append_assoc, append-nil}
 use Rattle.std.specs.List.{flat_map}
-use Rattle.mpslp_mps_fields.specs.Section.{keyword_of}
-use Rattle.mpslp_mps_fields.specs.declared.sections.Section.{Section}
-use Rattle.mpslp_canonical_mps.specs.CanonicalMps.{Lines, under_header}
+use Rattle.mpslp_io.specs.declared.devices.Sink.{Ghosts as SinkOf}
+use Rattle.mpslp_write.specs.TextBuffer.{BufferState, HasPut, text_by, text_under, header_behind}
+use Rattle.mpslp_write.specs.Printing.{IsSameOutput, Holds, Puts, PutsWaiting, HasHeader, Prints, PrintsSection}
+use Rattle.mpslp_write.specs.declared.output.Output.{Output}
 use Rattle.mpslp_write.proofs.LinesAtLemmas.{flat_map-rest}
-use Rattle.mpslp_write.specs.TextBuffer.{BufferState, buffer_state, empty_buffer, with_header, HasPut, Emits, PutsHeader, text_by, text_under, header_behind, Prints, PrintsSection}
-use Rattle.mpslp_canonical_mps.specs.Printed.{line_text, text_of}
+use Rattle.mpslp_write.proofs.BufferLemmas.{HasPut-header, HasPut-cut, put_same, text_by-append, no-header, none-behind, text_under-append, header_behind-append}
 
-pub text_by-append : {L : Type 0} (line_text : L → List ℕ) (front back : List L) → text_by line_text (front ++ back) ≡ text_by line_text front ++ text_by line_text back
-text_by-append line_text [] back = refl
-text_by-append line_text (line ∷ front) back =
-    let one = line_text line ++ 10 ∷ [] in
-    ap (λ (l : List ℕ). one ++ l) (text_by-append line_text front back) ∙ sym (append_assoc one (text_by line_text front) (text_by line_text back))
+same_always : {W : Type 0} {a : Output W} → IsSameOutput a a
+same_always = record { sink = refl; buffer = refl }
 
-not_both : {b : Bool} → b ≡ true → b ≡ false → ⊥
-not_both p q = absurd cc
-
--- ---- lines below a header
-
-module _ {L : Type 0} (line_text : L → List ℕ) where
-  no-header : (lines : List L) → text_under line_text [] lines ≡ text_by line_text lines
-  no-header [] = refl
-  no-header (line ∷ lines) = refl
-
-  -- part by part
-  text_under-append : (header : List ℕ) (front back : List L)
-      → text_under line_text header front ++ text_under line_text (header_behind header front) back ≡ text_under line_text header (front ++ back)
-  text_under-append header [] back = refl
-  text_under-append header (line ∷ front) back =
-      ap (λ (l : List ℕ). (header ++ text_by line_text (line ∷ front)) ++ l) (no-header back) ∙ append_assoc header (text_by line_text (line ∷ front)) (text_by line_text back)
-      ∙ ap (λ (l : List ℕ). header ++ l) (sym (text_by-append line_text (line ∷ front) back))
-
-none-behind : {L : Type 0} (lines : List L) → header_behind [] lines ≡ []
-none-behind [] = refl
-none-behind (line ∷ lines) = refl
-
-header_behind-append : {L : Type 0} (header : List ℕ) (front back : List L) → header_behind (header_behind header front) back ≡ header_behind header (front ++ back)
-header_behind-append header [] back = refl
-header_behind-append header (line ∷ front) back = none-behind back
-
--- of a section of MPS
-pub under-text : (section : Section) (header : List ℕ) (lines : Lines) → header ≡ keyword_of section ++ 10 ∷ []
-    → text_under line_text header lines ≡ text_of (under_header section lines)
-under-text section header [] is = refl
-under-text section header (line ∷ lines) is = ap (λ (l : List ℕ). l ++ text_of (line ∷ lines)) is
-
-module _ {S : Type 0} (holds : S → List ℕ → Type 0) (failed : S → Bool) (count : S → ℕ) where
-  -- a prefix that a sink accepted is a prefix of any longer text
-  TookFirst-more : (first now : S) (text more : List ℕ) (told : ℕ) → TookFirst holds first now text told → TookFirst holds first now (text ++ more) told
-  TookFirst-more first now text more told took =
-      let len = length-append text more in
-      record {
-        count = took.count;
-        within = omega (arith, len, took.within);
-        told_is = took.told_is;
-        holds_them = subst (Grows holds first now) (sym (take-append-le took.count text more took.within)) took.holds_them;
-      }
-
-  -- nothing was put yet
-  pub HasPut-nothing : (s : S) → HasPut holds failed count s s empty_buffer [] []
-  HasPut-nothing s = record {
-    under_way = λ _. record {
-      header_is = refl;
-      sent = [];
-      parts = refl;
-      sent_is = Grows-nil holds s;
-      taken_is = omega arith;
-      calls = omega arith;
-      stays = λ h. h;
-      works = λ some. absurd (omega arith);
-    };
-    cut_off = λ is. absurd (not_both is refl);
-  }
-
-  -- another header waits
-  HasPut-header : (first now : S) (buffer : BufferState) (text before header : List ℕ) → HasPut holds failed count first now buffer text before
-      → HasPut holds failed count first now (with_header header buffer) text header
-  HasPut-header first now buffer text before header h = record {
-    under_way = λ works.
-        let was = h.under_way works in
-        record { header_is = refl; sent = was.sent; parts = was.parts; sent_is = was.sent_is; taken_is = was.taken_is; calls = was.calls; stays = was.stays; works = was.works };
-    cut_off = λ fails. let was = h.cut_off fails in record { fails = was.fails; took = was.took; calls = was.calls };
-  }
-
-  -- the sink accepted all that waited
-  pub HasPut-sent : (first old new : S) (text header piece : List ℕ) (taken later : ℕ)
-      → (waits : List ℕ) → HasPut holds failed count first old (buffer_state waits piece taken false) text header → Grows holds old new piece
-      → later ≡ min (taken + length piece) (2 ^ 64 - 1) → count new ≤ count old + length piece → (failed old ≡ true → failed new ≡ true)
-      → (0 < length piece → failed new ≡ false) → (length piece ≡ 0 → new ≡ old)
-      → HasPut holds failed count first new (buffer_state waits [] later false) text header
-  HasPut-sent first old new text header piece taken later waits h grows is calls stays works same = record {
-    under_way = λ _.
-        let was = h.under_way refl in
-        let whole : length text ≡ length was.sent + length piece = ap length was.parts ∙ length-append was.sent piece in
-        let before = was.taken_is in
-        let called = was.calls in
-        record {
-          header_is = was.header_is;
-          sent = text;
-          parts = sym (append-nil text);
-          sent_is = subst (Grows holds first new) (sym was.parts) (Grows-append holds first old new was.sent piece was.sent_is grows);
-          taken_is = omega arith;
-          calls = omega arith;
-          stays = λ f. stays (was.stays f);
-          works = λ some. elim (cases_lt 0 (length piece)) [
-            | inl more ↦ works more
-            | inr none ↦
-                let e : length piece ≡ 0 = omega arith in
-                subst (λ s. failed s ≡ false) (sym (same e)) (was.works (omega arith))
-          ];
-        };
-    cut_off = λ fails. absurd (not_both fails refl);
-  }
-
-  -- the sink failed on what waited
-  pub HasPut-failed : (first old new : S) (text header piece : List ℕ) (taken later : ℕ)
-      → (waits : List ℕ) → HasPut holds failed count first old (buffer_state waits piece taken false) text header → TookMore holds old new piece taken later
-      → count new ≤ count old + length piece → failed new ≡ true
-      → HasPut holds failed count first new (buffer_state waits [] later true) text header
-  HasPut-failed first old new text header piece taken later waits h took calls fails = record {
-    under_way = λ works. absurd (not_both refl works);
-    cut_off = λ _.
-        let was = h.under_way refl in
-        let whole : length text ≡ length was.sent + length piece = ap length was.parts ∙ length-append was.sent piece in
-        let before = was.taken_is in
-        let called = was.calls in
-        let within = took.within in
-        let tally = took.tally_is in
-        let cut : take (length was.sent + took.count) text ≡ was.sent ++ take took.count piece =
-        ap (take (length was.sent + took.count)) was.parts ∙ take-append-add was.sent piece took.count in
-        record {
-          fails = fails;
-          took = record {
-            count = length was.sent + took.count;
-            within = omega arith;
-            told_is = omega arith;
-            holds_them = subst (Grows holds first new) (sym cut) (Grows-append holds first old new was.sent _ was.sent_is took.holds_them);
-          };
-          calls = omega arith;
-        };
-  }
-
-  -- nothing more is sent to a sink that has failed, whatever is put and whatever header waits
-  pub HasPut-cut : (first now : S) (buffer : BufferState) (text more before header : List ℕ) → buffer.has_failed ≡ true → HasPut holds failed count first now buffer text before
-      → HasPut holds failed count first now buffer (text ++ more) header
-  HasPut-cut first now buffer text more before header fails h = record {
-    under_way = λ works. absurd (not_both fails works);
-    cut_off = λ is.
-        let was = h.cut_off is in
-        let len = length-append text more in
-        record { fails = was.fails; took = TookFirst-more first now text more buffer.taken was.took; calls = omega (arith, len, was.calls) };
-  }
+pub same_then : {W : Type 0} {a b c : Output W} → IsSameOutput a b → IsSameOutput b c → IsSameOutput a c
+same_then one two = record { sink = two.sink ∙ one.sink; buffer = two.buffer ∙ one.buffer }
 
 -- ---- pieces one after another
 
-module _ {S : Type 0} {holds : S → List ℕ → Type 0} {failed : S → Bool} {count : S → ℕ} where
-  -- the same text and waiting header, written differently
-  pub put_same : {first now : S} {buffer : BufferState} {text other header more : List ℕ} → text ≡ other → header ≡ more → HasPut holds failed count first now buffer text header
-      → HasPut holds failed count first now buffer other more
-  put_same {first} {now} {buffer} {text} {other} {header} {more} same waits h =
-      subst (λ t. HasPut holds failed count first now buffer t more) same (subst (HasPut holds failed count first now buffer text) waits h)
-
-  pub emits_then : {a b c : S} {x y z : BufferState} {front back : List ℕ} → Emits holds failed count a b x y front → Emits holds failed count b c y z back
-      → Emits holds failed count a c x z (front ++ back)
-  emits_then {front = front} {back = back} one two = record {
+module _ {W : Type 0} {k : SinkOf W} where
+  pub puts_then : {a b c : Output W} {front back : List ℕ} → Puts k a b front → Puts k b c back → Puts k a c (front ++ back)
+  puts_then {front = front} {back = back} one two = record {
+    same = same_then one.same two.same;
     puts = λ first text header h. put_same (append_assoc text front back) refl (two.puts first (text ++ front) header (one.puts first text header h));
   }
 
-  pub emits_same : {a b : S} {x y : BufferState} {piece other : List ℕ} → piece ≡ other → Emits holds failed count a b x y piece → Emits holds failed count a b x y other
-  emits_same {a} {b} {x} {y} same h = subst (Emits holds failed count a b x y) same h
+  pub puts_same : {a b : Output W} {piece other : List ℕ} → piece ≡ other → Puts k a b piece → Puts k a b other
+  puts_same {a} {b} same h = subst (Puts k a b) same h
 
-  pub emits_nothing : (s : S) (buffer : BufferState) → Emits holds failed count s s buffer buffer []
-  emits_nothing s buffer = record { puts = λ first text header h. put_same (sym (append-nil text)) refl h }
+  pub puts_nothing : (o : Output W) → Puts k o o []
+  puts_nothing o = record { same = same_always; puts = λ first text header h. put_same (sym (append-nil text)) refl h }
 
   -- after the sink has failed, what is put does not matter
-  pub emits_cut : {a b : S} {x y : BufferState} {front : List ℕ} (back : List ℕ) → y.has_failed ≡ true → Emits holds failed count a b x y front
-      → Emits holds failed count a b x y (front ++ back)
-  emits_cut {b = b} {y = y} back fails h =
-      emits_then h (record { puts = λ first text header g. HasPut-cut holds failed count first b y text back header header fails g })
+  cut : (o : Output W) (back : List ℕ) → o.buffer.now.has_failed ≡ true → Puts k o o back
+  cut o back fails = record {
+    same = same_always;
+    puts = λ first text header g. HasPut-cut k.holds k.failed k.count first o.sink.now o.buffer.now text back header header fails g;
+  }
 
-  -- no header waits any more
-  pub closed_put : {first b : S} {y closed : BufferState} {text other header : List ℕ} → closed ≡ with_header [] y → text ≡ other
-      → HasPut holds failed count first b y text header → HasPut holds failed count first b closed other []
-  closed_put {first} {b} {y} {text = text} {other} {header} closes same h =
-      subst (λ buffer. HasPut holds failed count first b buffer other []) (sym closes) (put_same same refl (HasPut-header holds failed count first b y text header [] h))
+  pub puts_cut : {a b : Output W} {front : List ℕ} (back : List ℕ) → b.buffer.now.has_failed ≡ true → Puts k a b front → Puts k a b (front ++ back)
+  puts_cut {b = b} back fails h = puts_then h (cut b back fails)
+
+  -- another header waits
+  pub put_under : {first : W} {a b : Output W} {text other before header : List ℕ} → HasHeader header a b → text ≡ other → Holds k first a text before → Holds k first b other header
+  put_under {first} {a} {b} {text} {other} {before} {header} h same g =
+      subst (λ (s : W). HasPut k.holds k.failed k.count first s b.buffer.now other header) (sym h.sink_is)
+      (subst (λ (buffer : BufferState). HasPut k.holds k.failed k.count first a.sink.now buffer other header) (sym h.buffer_is)
+      (put_same same refl (HasPut-header k.holds k.failed k.count first a.sink.now a.buffer.now text before header g)))
 
 -- ---- lines one after another
 
-module _ {S L : Type 0} {line_text : L → List ℕ} {holds : S → List ℕ → Type 0} {failed : S → Bool} {count : S → ℕ} where
-  pub prints_nothing : (s : S) (buffer : BufferState) → Prints line_text holds failed count s s buffer buffer []
-  prints_nothing s buffer = record { puts = λ first text header h. put_same (sym (append-nil text)) refl h }
+module _ {W L : Type 0} {line_text : L → List ℕ} {k : SinkOf W} where
+  pub prints_nothing : (o : Output W) → Prints line_text k o o []
+  prints_nothing o = record { same = same_always; puts = λ first text header h. put_same (sym (append-nil text)) refl h }
 
-  pub prints_then : {a b c : S} {x y z : BufferState} {front back : List L} → Prints line_text holds failed count a b x y front → Prints line_text holds failed count b c y z back
-      → Prints line_text holds failed count a c x z (front ++ back)
+  pub prints_then : {a b c : Output W} {front back : List L} → Prints line_text k a b front → Prints line_text k b c back → Prints line_text k a c (front ++ back)
   prints_then {front = front} {back = back} one two = record {
+    same = same_then one.same two.same;
     puts = λ first text header h.
         put_same (append_assoc text (text_under line_text header front) (text_under line_text (header_behind header front) back) ∙ ap (λ (l : List ℕ). text ++ l) (text_under-append line_text header front back))
         (header_behind-append header front back) (two.puts first _ _ (one.puts first text header h));
   }
 
-  pub prints_same : {a b : S} {x y : BufferState} {lines other : List L} → lines ≡ other → Prints line_text holds failed count a b x y lines → Prints line_text holds failed count a b x y other
-  prints_same {a} {b} {x} {y} same h = subst (Prints line_text holds failed count a b x y) same h
+  pub prints_same : {a b : Output W} {lines other : List L} → lines ≡ other → Prints line_text k a b lines → Prints line_text k a b other
+  prints_same {a} {b} same h = subst (Prints line_text k a b) same h
 
   -- pieces that are the text of a line, below the header
-  pub prints_line : {a b c : S} {x y z : BufferState} {piece : List ℕ} {line : L} → piece ≡ text_by line_text (line ∷ []) → PutsHeader holds failed count a b x y
-      → Emits holds failed count b c y z piece → Prints line_text holds failed count a c x z (line ∷ [])
-  prints_line {line = line} same opens emits = record {
+  pub prints_line : {a b c : Output W} {piece : List ℕ} {line : L} → piece ≡ text_by line_text (line ∷ []) → PutsWaiting k a b → Puts k b c piece
+      → Prints line_text k a c (line ∷ [])
+  prints_line {line = line} same opens puts = record {
+    same = same_then opens.same puts.same;
     puts = λ first text header h.
-        put_same (append_assoc text header (text_by line_text (line ∷ []))) refl ((emits_same same emits).puts first (text ++ header) [] (opens.puts first text header h));
+        put_same (append_assoc text header (text_by line_text (line ∷ []))) refl ((puts_same same puts).puts first (text ++ header) [] (opens.puts first text header h));
   }
 
-  -- so the entries after it do not matter
-  pub prints_cut : {X : Type 0} {a b : S} {x y : BufferState} (f : X → List L) (xs : List X) (i : ℕ) → y.has_failed ≡ true
-      → Prints line_text holds failed count a b x y (flat_map f (take i xs)) → Prints line_text holds failed count a b x y (flat_map f xs)
-  prints_cut {b = b} {y = y} f xs i fails h =
-      prints_same (flat_map-rest f xs i) (prints_then h (record { puts = λ first text header g. HasPut-cut holds failed count first b y text _ header _ fails g }))
+  -- after the sink has failed, the other entries do not matter
+  pub prints_cut : {X : Type 0} {a b : Output W} (f : X → List L) (xs : List X) (i : ℕ) → b.buffer.now.has_failed ≡ true
+      → Prints line_text k a b (flat_map f (take i xs)) → Prints line_text k a b (flat_map f xs)
+  prints_cut {b = b} f xs i fails h =
+      prints_same (flat_map-rest f xs i) (prints_then h (record {
+        same = same_always;
+        puts = λ first text header g. HasPut-cut k.holds k.failed k.count first b.sink.now b.buffer.now text _ header _ fails g;
+      }))
 
   -- ---- sections one after another
 
   -- lines before which no header waits
-  pub section_of : {a b : S} {x y : BufferState} {lines : List L} → Prints line_text holds failed count a b x y lines → PrintsSection line_text holds failed count a b x y lines
-  section_of {lines = lines} h = record { puts = λ first text g. put_same (ap (λ (l : List ℕ). text ++ l) (no-header line_text lines)) (none-behind lines) (h.puts first text [] g) }
+  pub section_of : {a b : Output W} {lines : List L} → Prints line_text k a b lines → PrintsSection line_text k a b lines
+  section_of {lines = lines} h = record {
+    same = h.same;
+    puts = λ first text g. put_same (ap (λ (l : List ℕ). text ++ l) (no-header line_text lines)) (none-behind lines) (h.puts first text [] g);
+  }
 
-  pub section_then : {a b c : S} {x y z : BufferState} {front back : List L} → PrintsSection line_text holds failed count a b x y front
-      → PrintsSection line_text holds failed count b c y z back → PrintsSection line_text holds failed count a c x z (front ++ back)
+  pub section_then : {a b c : Output W} {front back : List L} → PrintsSection line_text k a b front → PrintsSection line_text k b c back
+      → PrintsSection line_text k a c (front ++ back)
   section_then {front = front} {back = back} one two = record {
+    same = same_then one.same two.same;
     puts = λ first text h.
         put_same (append_assoc text (text_by line_text front) (text_by line_text back) ∙ ap (λ (l : List ℕ). text ++ l) (sym (text_by-append line_text front back))) refl
         (two.puts first _ (one.puts first text h));
   }
 
-  pub section_same : {a b : S} {x y : BufferState} {lines other : List L} → lines ≡ other → PrintsSection line_text holds failed count a b x y lines
-      → PrintsSection line_text holds failed count a b x y other
-  section_same {a} {b} {x} {y} same h = subst (PrintsSection line_text holds failed count a b x y) same h
+  pub section_same : {a b : Output W} {lines other : List L} → lines ≡ other → PrintsSection line_text k a b lines → PrintsSection line_text k a b other
+  section_same {a} {b} same h = subst (PrintsSection line_text k a b) same h
 
   -- pieces that are the text of lines
-  pub section_text : {a b : S} {x y : BufferState} {piece : List ℕ} {lines : List L} → piece ≡ text_by line_text lines → Emits holds failed count a b x y piece
-      → PrintsSection line_text holds failed count a b x y lines
-  section_text same h = record { puts = λ first text g. (emits_same same h).puts first text [] g }
-
-  -- a header waits from now on, and lines are put below it
-  pub opened_put : {first a b : S} {x opened y : BufferState} {text header : List ℕ} {lines : List L} → opened ≡ with_header header x
-      → Prints line_text holds failed count a b opened y lines → HasPut holds failed count first a x text []
-      → HasPut holds failed count first b y (text ++ text_under line_text header lines) (header_behind header lines)
-  opened_put {first} {a} {x = x} {text = text} {header} opens h g =
-      h.puts first text header (subst (λ buffer. HasPut holds failed count first a buffer text header) (sym opens) (HasPut-header holds failed count first a x text [] header g))
+  pub section_text : {a b : Output W} {piece : List ℕ} {lines : List L} → piece ≡ text_by line_text lines → Puts k a b piece → PrintsSection line_text k a b lines
+  section_text same h = record { same = h.same; puts = λ first text g. (puts_same same h).puts first text [] g }
 
   -- lines below a header that waits from now on, until none waits
-  pub section_under : {a b : S} {x opened y closed : BufferState} {lines other : List L} (header : List ℕ) → text_under line_text header lines ≡ text_by line_text other
-      → opened ≡ with_header header x → Prints line_text holds failed count a b opened y lines → closed ≡ with_header [] y
-      → PrintsSection line_text holds failed count a b x closed other
+  pub section_under : {a b c d : Output W} {lines other : List L} (header : List ℕ) → text_under line_text header lines ≡ text_by line_text other
+      → HasHeader header a b → Prints line_text k b c lines → HasHeader [] c d → PrintsSection line_text k a d other
   section_under header same opens h closes = record {
-    puts = λ first text g. closed_put closes (ap (λ (l : List ℕ). text ++ l) same) (opened_put opens h g);
+    same = same_then opens.same (same_then h.same closes.same);
+    puts = λ first text g. put_under closes (ap (λ (l : List ℕ). text ++ l) same) (h.puts first text header (put_under opens refl g));
   }
-
--- ---- the result for the caller
-
-pub taken-written : {S : Type 0} (holds : S → List ℕ → Type 0) (failed : S → Bool) (unfit : LinearModel → Option NameAt) (text : LinearModel → List ℕ) (m : LinearModel) (first now : S)
-    (r : Result (Unit {0}) WriteFault) → unfit m ≡ None → IsTaken holds failed first now (text m) r → IsWritten unfit text holds failed m first now r
-taken-written holds failed unfit text m first now (Ok _) fits h = (fits, h)
-taken-written holds failed unfit text m first now (Err (Write written)) fits h = (fits, h.0, h.1)
-taken-written holds failed unfit text m first now (Err (NotLp place)) fits h = absurd h
-
-pub taken-succeeds : {S : Type 0} (holds : S → List ℕ → Type 0) (failed : S → Bool) (first now : S) (text : List ℕ) (r : Result (Unit {0}) WriteFault)
-    → IsTaken holds failed first now text r → failed now ≡ false → IsOk r
-taken-succeeds holds failed first now text (Ok _) h works = refl
-taken-succeeds holds failed first now text (Err (Write written)) h works = absurd (not_both h.0 works)
-taken-succeeds holds failed first now text (Err (NotLp place)) h works = absurd h
-
--- if each result with a place was handled, none is left
-pub none-left : {X : Type 0} (o : Option X) → ((x : X) → o ≡ Some x → ⊥) → o ≡ None
-none-left None never = refl
-none-left (Some x) never = absurd (never x refl)

@@ -10,7 +10,7 @@ use Rattle.std.specs.FinMap.{entries}
 use Rattle.mpslp_types.specs.Name.{is_mps_name}
 use Rattle.mpslp_model_core.specs.Model.{LinearModel, Row, IsSound, is_sound_row}
 use Rattle.mpslp_types.specs.Limit.{are_sides, is_bounded_decimal, has_bounded_distance}
-use Rattle.mpslp_model_core.specs.Views.{row_sense, row_range, right_hand_side}
+use Rattle.mpslp_model_core.specs.Views.{letter_E, letter_R, row_sense, row_range, right_hand_side}
 use Rattle.mpslp_types.specs.declared.kinds.Limit.{Limit}
 use Rattle.mpslp_types.specs.declared.kinds.Limit.TheVariants.{MinusInf, Finite, PlusInf}
 use Rattle.mpslp_types.specs.declared.kinds.RowType.TheVariants.{AtLeast, Equal}
@@ -38,7 +38,7 @@ letter-told (Finite a) MinusInf h = absurd (never (is_bounded_decimal a) h)
     never false e = cc
 letter-told (Finite a) (Finite b) h = by (have_same_value a b)
   where
-    by : (same : Bool) → printed_letter (cond same 69 82) ∷ [] ≡ letter_of (cond same Equal AtLeast)
+    by : (same : Bool) → printed_letter (cond same letter_E letter_R) ∷ [] ≡ letter_of (cond same Equal AtLeast)
     by true = refl
     by false = refl
 letter-told (Finite a) PlusInf h = refl

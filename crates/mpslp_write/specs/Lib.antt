@@ -1,3 +1,6 @@
+-- ---- what public laws and contracts say
 pub mod TextBuffer
+pub mod Printing
+-- ---- what only the code cites
 pub mod LinesAt
 pub mod LpLinesAt

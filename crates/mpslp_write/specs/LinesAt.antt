@@ -3,7 +3,7 @@ use Rattle.std.specs.Prelude.{ℕ, Bool, true, false, not, List, [], ◌∷◌, 
 use Rattle.std.specs.Option.{option_map_or}
 use Rattle.mpslp_decimal.specs.Decimal.{Number, is_zero}
 use Rattle.mpslp_model_core.specs.Model.{LinearModel, CoefficientKey, Column}
-use Rattle.mpslp_model_core.specs.Views.{coefficient_at, column_elements}
+use Rattle.mpslp_model_core.specs.Views.{coefficient_at, column_elements, letter_G, letter_R}
 use Rattle.mpslp_types.specs.declared.kinds.Kind.{Kind}
 use Rattle.mpslp_types.specs.declared.kinds.Limit.{Limit}
 use Rattle.mpslp_types.specs.declared.kinds.Limit.TheVariants.{MinusInf, Finite, PlusInf}
@@ -18,7 +18,7 @@ lines_at lines_of entries i = option_map_or lines_of (slice_get entries i) []
 
 -- the letter of a row by its sense; R, a ranged row, is printed as G
 abbrev pub printed_letter : ℕ → ℕ
-printed_letter sense = if sense == 82 then 71 else sense
+printed_letter sense = if sense == letter_R then letter_G else sense
 
 -- whether a column, which is integer or not, is in the part of COLUMNS
 abbrev pub is_wanted : Part → Bool → Bool

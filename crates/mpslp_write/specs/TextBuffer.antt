@@ -88,18 +88,6 @@ abbrev pub header_behind : {L : Type 0} → List ℕ → List L → List ℕ
 header_behind header [] = header
 header_behind header (line ∷ lines) = []
 
--- The lines were appended to whatever was put, after the header that waited.
-pub record Prints {S L : Type 0} (line_text : L → List ℕ) (holds : S → List ℕ → Type 0) (failed : S → Bool) (count : S → ℕ) (old new : S) (before after : BufferState)
-    (lines : List L) : Type 0 where
-  pub puts : (first : S) (text header : List ℕ) → HasPut holds failed count first old before text header
-      → HasPut holds failed count first new after (text ++ text_under line_text header lines) (header_behind header lines)
-
--- If no header waited, the lines were appended to whatever was put, including their headers, and no header waits.
-pub record PrintsSection {S L : Type 0} (line_text : L → List ℕ) (holds : S → List ℕ → Type 0) (failed : S → Bool) (count : S → ℕ) (old new : S) (before after : BufferState)
-    (lines : List L) : Type 0 where
-  pub puts : (first : S) (text : List ℕ) → HasPut holds failed count first old before text []
-      → HasPut holds failed count first new after (text ++ text_by line_text lines) []
-
 -- the result for a sink that accepted all that it was sent, or failed
 abbrev pub answer_of : BufferState → Result (Unit {0}) WriteFault
 answer_of buffer = if buffer.has_failed then Err (Write buffer.taken) else Ok tt

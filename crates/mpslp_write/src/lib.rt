@@ -3,16 +3,18 @@
 //! [`write_mps`] writes the canonical MPS text of a model, which mpslp_canonical_mps defines, to a sink, and [`write_lp`]
 //! its canonical LP text, which mpslp_canonical_lp defines. [`first_unfit_name`] finds the first name of a model that is not
 //! legal in LP. [`Mps`] and [`Lp`] are the formats: reader, writer, and the laws that relate them. Other texts are printed
-//! through a [`Buffer`], too.
+//! through an [`Output`], too.
 #![tactic(auto)]
 
 mod formats;
 mod lp;
 mod mps;
+mod output;
 mod readers;
 mod text_buffer;
 
 pub use formats::{Lp, Mps};
 pub use lp::{first_unfit_name, write_lp};
 pub use mps::write_mps;
+pub use output::Output;
 pub use text_buffer::Buffer;

@@ -14,26 +14,27 @@ ghost use Rattle.mpslp_types.specs.declared.faults.WriteFault.TheVariants.{NotLp
 ghost use Rattle.mpslp_canonical_lp.specs.Printed.{line_text};
 ghost use Rattle.mpslp_canonical_lp.specs.CanonicalLp.{canonical_lp, canonical_lines};
 ghost use Rattle.mpslp_canonical_lp.specs.Unfit.{unfit};
-ghost use Rattle.mpslp_write.specs.TextBuffer.{PrintsSection};
+ghost use Rattle.mpslp_write.specs.Printing.{PrintsSection};
 
 use crate::lp::bounds::put_bounds_section;
 pub use crate::lp::fit::first_unfit_name;
 use crate::lp::kinds::{put_generals_section, put_semis_section};
 use crate::lp::objective::put_objective_section;
 use crate::lp::rows::put_rows_section;
+use crate::output::Output;
 use crate::text_buffer::Buffer;
 use mpslp_model::{Model, Sink, WriteFault};
 
 /// Prints the canonical lines of a model.
-fn put_lines<W: Sink>(model: &Model, sink: &mut W, buffer: &mut Buffer)
-    ensures { PrintsSection line_text W.holds W.failed W.count sink.old sink.new buffer.old buffer.new (canonical_lines model.now) }
+fn put_lines<W: Sink>(model: &Model, output: &mut Output<W>)
+    ensures { PrintsSection line_text W.Sink output.old output.new (canonical_lines model.now) }
 {
-    put_objective_section(model, sink, buffer);
-    put_rows_section(model, sink, buffer);
-    put_bounds_section(model, sink, buffer);
-    put_generals_section(model, sink, buffer);
-    put_semis_section(model, sink, buffer);
-    buffer.put(sink, b"End\n");
+    put_objective_section(model, output);
+    put_rows_section(model, output);
+    put_bounds_section(model, output);
+    put_generals_section(model, output);
+    put_semis_section(model, output);
+    output.put(b"End\n");
 }
 
 /// Writes the canonical LP text of a model to a sink, in at most as many calls as it has bytes, and does not flush. The text
@@ -59,6 +60,7 @@ pub fn write_lp<W: Sink>(model: &Model, sink: &mut W) -> Result<(), WriteFault>
         return Err(WriteFault::NotLp(place));
     }
     let mut buffer = Buffer::new();
-    put_lines(model, sink, &mut buffer);
-    buffer.finish(sink)
+    let mut output = Output::new(sink, &mut buffer);
+    put_lines(model, &mut output);
+    output.finish()
 }

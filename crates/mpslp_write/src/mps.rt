@@ -9,36 +9,37 @@ ghost use Rattle.std.specs.Prelude.{◌≡◌, ◌+◌, ◌≤◌, true, false, 
 ghost use Rattle.mpslp_model.specs.Formats.{IsWritten};
 ghost use Rattle.mpslp_canonical_mps.specs.Printed.{line_text};
 ghost use Rattle.mpslp_canonical_mps.specs.CanonicalMps.{canonical_mps, canonical_lines, sense_lines};
-ghost use Rattle.mpslp_write.specs.TextBuffer.{PrintsSection};
+ghost use Rattle.mpslp_write.specs.Printing.{PrintsSection};
 
 use crate::mps::bounds::put_bounds_section;
 use crate::mps::columns::put_columns_section;
 use crate::mps::rows::{put_ranges_section, put_rhs_section, put_rows_section};
+use crate::output::Output;
 use crate::text_buffer::Buffer;
 use mpslp_model::{Model, Sense, Sink, WriteFault};
 
 /// Prints the section OBJSENSE, if the objective is maximized.
-fn put_sense<W: Sink>(sense: Sense, sink: &mut W, buffer: &mut Buffer)
-    ensures { PrintsSection line_text W.holds W.failed W.count sink.old sink.new buffer.old buffer.new (sense_lines sense) }
+fn put_sense<W: Sink>(sense: Sense, output: &mut Output<W>)
+    ensures { PrintsSection line_text W.Sink output.old output.new (sense_lines sense) }
 {
     match sense {
         Sense::Minimize => {}
-        Sense::Maximize => buffer.put(sink, b"OBJSENSE\n    MAX\n"),
+        Sense::Maximize => output.put(b"OBJSENSE\n    MAX\n"),
     }
 }
 
 /// Prints the canonical lines of a model.
-fn put_lines<W: Sink>(model: &Model, sink: &mut W, buffer: &mut Buffer)
-    ensures { PrintsSection line_text W.holds W.failed W.count sink.old sink.new buffer.old buffer.new (canonical_lines model.now) }
+fn put_lines<W: Sink>(model: &Model, output: &mut Output<W>)
+    ensures { PrintsSection line_text W.Sink output.old output.new (canonical_lines model.now) }
 {
-    buffer.put(sink, b"NAME\n");
-    put_sense(model.objective_sense(), sink, buffer);
-    put_rows_section(model, sink, buffer);
-    put_columns_section(model, sink, buffer);
-    put_rhs_section(model, sink, buffer);
-    put_ranges_section(model, sink, buffer);
-    put_bounds_section(model, sink, buffer);
-    buffer.put(sink, b"ENDATA\n");
+    output.put(b"NAME\n");
+    put_sense(model.objective_sense(), output);
+    put_rows_section(model, output);
+    put_columns_section(model, output);
+    put_rhs_section(model, output);
+    put_ranges_section(model, output);
+    put_bounds_section(model, output);
+    output.put(b"ENDATA\n");
 }
 
 /// Writes the canonical MPS text of a model to a sink, in at most as many calls as it has bytes, and does not flush. The
@@ -57,6 +58,7 @@ pub fn write_mps<W: Sink>(model: &Model, sink: &mut W) -> Result<(), WriteFault>
     ensures stays { W.failed sink.old ≡ true → W.failed sink.new ≡ true }
 {
     let mut buffer = Buffer::new();
-    put_lines(model, sink, &mut buffer);
-    buffer.finish(sink)
+    let mut output = Output::new(sink, &mut buffer);
+    put_lines(model, &mut output);
+    output.finish()
 }

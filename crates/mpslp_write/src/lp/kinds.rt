@@ -9,10 +9,10 @@ ghost use Rattle.mpslp_model_core.specs.Listing.{listing_of};
 ghost use Rattle.mpslp_canonical_lp.specs.CanonicalLp.{generals_section, semis_section};
 ghost use Rattle.mpslp_write.specs.LinesAt.{lines_at};
 ghost use Rattle.mpslp_write.specs.LpLinesAt.{is_of_section, name_lines};
-ghost use Rattle.mpslp_write.specs.TextBuffer.{Prints, PrintsSection};
+ghost use Rattle.mpslp_write.specs.Printing.{Prints, PrintsSection};
 
 use crate::lp::lines::put_name_line;
-use crate::text_buffer::Buffer;
+use crate::output::Output;
 use mpslp_model::{Kind, Model, Sink};
 
 /// A section that lists the columns of a type.
@@ -41,47 +41,41 @@ fn is_of_section(section: KindSection, kind: Kind) -> bool
 }
 
 /// Prints the name of column `j`, if the section lists it.
-fn put_name<W: Sink>(
-    model: &Model,
-    j: usize,
-    section: KindSection,
-    sink: &mut W,
-    buffer: &mut Buffer,
-)
+fn put_name<W: Sink>(model: &Model, j: usize, section: KindSection, output: &mut Output<W>)
     requires { j < num_columns model.now }
-    ensures { Prints line_text W.holds W.failed W.count sink.old sink.new buffer.old buffer.new (lines_at (name_lines section) (entries model.now.columns) j) }
+    ensures { Prints line_text W.Sink output.old output.new (lines_at (name_lines section) (entries model.now.columns) j) }
 {
     if is_of_section(section, model.column_kind(j)) {
-        put_name_line(sink, buffer, model.column_name(j).as_bytes());
+        put_name_line(output, model.column_name(j).as_bytes());
     }
 }
 
 /// Prints the names of the columns that the section lists.
-fn put_names<W: Sink>(model: &Model, section: KindSection, sink: &mut W, buffer: &mut Buffer)
-    ensures { Prints line_text W.holds W.failed W.count sink.old sink.new buffer.old buffer.new (flat_map (name_lines section) (entries model.now.columns)) }
+fn put_names<W: Sink>(model: &Model, section: KindSection, output: &mut Output<W>)
+    ensures { Prints line_text W.Sink output.old output.new (flat_map (name_lines section) (entries model.now.columns)) }
 {
     for j in 0..model.num_cols() {
-        if buffer.has_failed() {
+        if output.has_failed() {
             return;
         }
-        put_name(model, j, section, sink, buffer);
+        put_name(model, j, section, output);
     }
 }
 
 /// Prints the section of integer columns, or nothing if there are none.
-pub(crate) fn put_generals_section<W: Sink>(model: &Model, sink: &mut W, buffer: &mut Buffer)
-    ensures { PrintsSection line_text W.holds W.failed W.count sink.old sink.new buffer.old buffer.new (generals_section (listing_of model.now)) }
+pub(crate) fn put_generals_section<W: Sink>(model: &Model, output: &mut Output<W>)
+    ensures { PrintsSection line_text W.Sink output.old output.new (generals_section (listing_of model.now)) }
 {
-    buffer.open_section(b"Generals\n");
-    put_names(model, KindSection::Generals, sink, buffer);
-    buffer.close_section();
+    output.open_section(b"Generals\n");
+    put_names(model, KindSection::Generals, output);
+    output.close_section();
 }
 
 /// Prints the section of semi-continuous columns, or nothing if there are none.
-pub(crate) fn put_semis_section<W: Sink>(model: &Model, sink: &mut W, buffer: &mut Buffer)
-    ensures { PrintsSection line_text W.holds W.failed W.count sink.old sink.new buffer.old buffer.new (semis_section (listing_of model.now)) }
+pub(crate) fn put_semis_section<W: Sink>(model: &Model, output: &mut Output<W>)
+    ensures { PrintsSection line_text W.Sink output.old output.new (semis_section (listing_of model.now)) }
 {
-    buffer.open_section(b"Semi-Continuous\n");
-    put_names(model, KindSection::SemiContinuous, sink, buffer);
-    buffer.close_section();
+    output.open_section(b"Semi-Continuous\n");
+    put_names(model, KindSection::SemiContinuous, output);
+    output.close_section();
 }

@@ -9,64 +9,64 @@ ghost use Rattle.mpslp_model_core.specs.Listing.{listing_of};
 ghost use Rattle.mpslp_canonical_lp.specs.CanonicalLp.{constant_lines, objective_section};
 ghost use Rattle.mpslp_write.specs.LinesAt.{lines_at};
 ghost use Rattle.mpslp_write.specs.LpLinesAt.{objective_term_lines, sense_lines};
-ghost use Rattle.mpslp_write.specs.TextBuffer.{Prints, PrintsSection};
+ghost use Rattle.mpslp_write.specs.Printing.{Prints, PrintsSection};
 
 use crate::lp::lines::{put_constant_line, put_label_line, put_term_line};
-use crate::text_buffer::Buffer;
+use crate::output::Output;
 use mpslp_decimal::Decimal;
 use mpslp_model::laws::each_model_is_sound;
 use mpslp_model::{Model, Sense, Sink};
 
 /// Prints the word with which the text begins.
-fn put_sense<W: Sink>(sense: Sense, sink: &mut W, buffer: &mut Buffer)
-    ensures { PrintsSection line_text W.holds W.failed W.count sink.old sink.new buffer.old buffer.new (sense_lines sense) }
+fn put_sense<W: Sink>(sense: Sense, output: &mut Output<W>)
+    ensures { PrintsSection line_text W.Sink output.old output.new (sense_lines sense) }
 {
     match sense {
-        Sense::Minimize => buffer.put(sink, b"Minimize\n"),
-        Sense::Maximize => buffer.put(sink, b"Maximize\n"),
+        Sense::Minimize => output.put(b"Minimize\n"),
+        Sense::Maximize => output.put(b"Maximize\n"),
     }
 }
 
 /// Prints the term of column `j` if it is not 0, or if the column has no coefficient in a row.
-fn put_objective_term<W: Sink>(model: &Model, j: usize, sink: &mut W, buffer: &mut Buffer)
+fn put_objective_term<W: Sink>(model: &Model, j: usize, output: &mut Output<W>)
     requires { j < num_columns model.now }
-    ensures { Prints line_text W.holds W.failed W.count sink.old sink.new buffer.old buffer.new (lines_at (objective_term_lines (listing_of model.now)) (entries model.now.columns) j) }
+    ensures { Prints line_text W.Sink output.old output.new (lines_at (objective_term_lines (listing_of model.now)) (entries model.now.columns) j) }
 {
     each_model_is_sound(model);
     let value = model.objective_coefficient(j);
     if value.is_zero() && model.column_len(j) > 0 {
         return;
     }
-    put_term_line(sink, buffer, model.column_name(j).as_bytes(), value);
+    put_term_line(output, model.column_name(j).as_bytes(), value);
 }
 
 /// Prints the terms of all columns.
-fn put_objective_terms<W: Sink>(model: &Model, sink: &mut W, buffer: &mut Buffer)
-    ensures { Prints line_text W.holds W.failed W.count sink.old sink.new buffer.old buffer.new (flat_map (objective_term_lines (listing_of model.now)) (entries model.now.columns)) }
+fn put_objective_terms<W: Sink>(model: &Model, output: &mut Output<W>)
+    ensures { Prints line_text W.Sink output.old output.new (flat_map (objective_term_lines (listing_of model.now)) (entries model.now.columns)) }
 {
     for j in 0..model.num_cols() {
-        if buffer.has_failed() {
+        if output.has_failed() {
             return;
         }
-        put_objective_term(model, j, sink, buffer);
+        put_objective_term(model, j, output);
     }
 }
 
 /// Prints the constant of the objective, unless it is 0.
-fn put_constant<W: Sink>(sink: &mut W, buffer: &mut Buffer, value: Decimal)
-    ensures { Prints line_text W.holds W.failed W.count sink.old sink.new buffer.old buffer.new (constant_lines value) }
+fn put_constant<W: Sink>(output: &mut Output<W>, value: Decimal)
+    ensures { Prints line_text W.Sink output.old output.new (constant_lines value) }
 {
     if !value.is_zero() {
-        put_constant_line(sink, buffer, value);
+        put_constant_line(output, value);
     }
 }
 
 /// Prints the objective: its sense, its name, its terms and its constant.
-pub(crate) fn put_objective_section<W: Sink>(model: &Model, sink: &mut W, buffer: &mut Buffer)
-    ensures { PrintsSection line_text W.holds W.failed W.count sink.old sink.new buffer.old buffer.new (objective_section (listing_of model.now)) }
+pub(crate) fn put_objective_section<W: Sink>(model: &Model, output: &mut Output<W>)
+    ensures { PrintsSection line_text W.Sink output.old output.new (objective_section (listing_of model.now)) }
 {
-    put_sense(model.objective_sense(), sink, buffer);
-    put_label_line(sink, buffer, model.objective_name().as_bytes());
-    put_objective_terms(model, sink, buffer);
-    put_constant(sink, buffer, model.objective_constant());
+    put_sense(model.objective_sense(), output);
+    put_label_line(output, model.objective_name().as_bytes());
+    put_objective_terms(model, output);
+    put_constant(output, model.objective_constant());
 }

@@ -9,67 +9,67 @@ ghost use Rattle.mpslp_model_core.specs.Listing.{listing_of};
 ghost use Rattle.mpslp_canonical_lp.specs.CanonicalLp.{term_line, row_terms, left_lines, last_line, row_lines, rows_section};
 ghost use Rattle.mpslp_write.specs.LinesAt.{lines_at};
 ghost use Rattle.mpslp_write.specs.LpLinesAt.{numbered_term_lines, left_between, last_between};
-ghost use Rattle.mpslp_write.specs.TextBuffer.{Prints, PrintsSection};
+ghost use Rattle.mpslp_write.specs.Printing.{Prints, PrintsSection};
 
 use crate::lp::lines::{
     put_at_least_line, put_at_most_line, put_equal_line, put_free_row_line, put_label_line,
     put_left_line, put_term_line,
 };
 use crate::mps::bounds::have_same_value;
-use crate::text_buffer::Buffer;
+use crate::output::Output;
 use mpslp_decimal::Decimal;
 use mpslp_model::laws::each_model_is_sound;
 use mpslp_model::{Limit, Model, Sink};
 
 /// Prints term `k` of row `i`.
-fn put_term<W: Sink>(model: &Model, i: usize, k: usize, sink: &mut W, buffer: &mut Buffer)
+fn put_term<W: Sink>(model: &Model, i: usize, k: usize, output: &mut Output<W>)
     requires row { i < num_rows model.now }
     requires term { k < length (row_columns model.now (row_name model.now i)) }
-    ensures { Prints line_text W.holds W.failed W.count sink.old sink.new buffer.old buffer.new (lines_at (numbered_term_lines model.now (row_name model.now i)) (row_columns model.now (row_name model.now i)) k) }
+    ensures { Prints line_text W.Sink output.old output.new (lines_at (numbered_term_lines model.now (row_name model.now i)) (row_columns model.now (row_name model.now i)) k) }
 {
     let (j, value) = model.row_entry(i, k);
-    put_term_line(sink, buffer, model.column_name(j).as_bytes(), value);
+    put_term_line(output, model.column_name(j).as_bytes(), value);
 }
 
 /// Prints the terms of row `i`.
-fn put_terms<W: Sink>(model: &Model, i: usize, sink: &mut W, buffer: &mut Buffer)
+fn put_terms<W: Sink>(model: &Model, i: usize, output: &mut Output<W>)
     requires { i < num_rows model.now }
-    ensures { Prints line_text W.holds W.failed W.count sink.old sink.new buffer.old buffer.new (flat_map (numbered_term_lines model.now (row_name model.now i)) (row_columns model.now (row_name model.now i))) }
+    ensures { Prints line_text W.Sink output.old output.new (flat_map (numbered_term_lines model.now (row_name model.now i)) (row_columns model.now (row_name model.now i))) }
 {
     for k in 0..model.row_len(i) {
-        put_term(model, i, k, sink, buffer);
+        put_term(model, i, k, output);
     }
 }
 
 /// Prints the terms of row `i`. A row without terms gets the first column with coefficient 0.
-fn put_row_terms<W: Sink>(model: &Model, i: usize, sink: &mut W, buffer: &mut Buffer)
+fn put_row_terms<W: Sink>(model: &Model, i: usize, output: &mut Output<W>)
     requires { i < num_rows model.now }
-    ensures { Prints line_text W.holds W.failed W.count sink.old sink.new buffer.old buffer.new (map term_line (row_terms (listing_of model.now) (row_name model.now i))) }
+    ensures { Prints line_text W.Sink output.old output.new (map term_line (row_terms (listing_of model.now) (row_name model.now i))) }
 {
     each_model_is_sound(model);
-    put_terms(model, i, sink, buffer);
+    put_terms(model, i, output);
     if model.row_len(i) == 0 {
         let first = model.column_name(0).as_bytes();
-        put_term_line(sink, buffer, first, Decimal::zero());
+        put_term_line(output, first, Decimal::zero());
     }
 }
 
 /// Prints the lower limit of a ranged row. Prints nothing if both limits are equal.
-fn put_left_between<W: Sink>(sink: &mut W, buffer: &mut Buffer, lower: Decimal, upper: Decimal)
-    ensures { Prints line_text W.holds W.failed W.count sink.old sink.new buffer.old buffer.new (left_between lower upper) }
+fn put_left_between<W: Sink>(output: &mut Output<W>, lower: Decimal, upper: Decimal)
+    ensures { Prints line_text W.Sink output.old output.new (left_between lower upper) }
 {
     if !have_same_value(lower, upper) {
-        put_left_line(sink, buffer, lower);
+        put_left_line(output, lower);
     }
 }
 
 /// Prints what comes before the terms of a row: the lower limit of a ranged row.
-fn put_left_limit<W: Sink>(sink: &mut W, buffer: &mut Buffer, lower: &Limit, upper: &Limit)
-    ensures { Prints line_text W.holds W.failed W.count sink.old sink.new buffer.old buffer.new (left_lines lower.now upper.now) }
+fn put_left_limit<W: Sink>(output: &mut Output<W>, lower: &Limit, upper: &Limit)
+    ensures { Prints line_text W.Sink output.old output.new (left_lines lower.now upper.now) }
 {
     match lower {
         Limit::Finite(lower) => match upper {
-            Limit::Finite(upper) => put_left_between(sink, buffer, *lower, *upper),
+            Limit::Finite(upper) => put_left_between(output, *lower, *upper),
             Limit::MinusInf | Limit::PlusInf => {}
         },
         Limit::MinusInf | Limit::PlusInf => {}
@@ -77,62 +77,62 @@ fn put_left_limit<W: Sink>(sink: &mut W, buffer: &mut Buffer, lower: &Limit, upp
 }
 
 /// Prints the upper limit of a row, or the right-hand side if both limits are equal.
-fn put_last_between<W: Sink>(sink: &mut W, buffer: &mut Buffer, lower: Decimal, upper: Decimal)
-    ensures { Prints line_text W.holds W.failed W.count sink.old sink.new buffer.old buffer.new (last_between lower upper) }
+fn put_last_between<W: Sink>(output: &mut Output<W>, lower: Decimal, upper: Decimal)
+    ensures { Prints line_text W.Sink output.old output.new (last_between lower upper) }
 {
     if have_same_value(lower, upper) {
-        put_equal_line(sink, buffer, upper);
+        put_equal_line(output, upper);
     } else {
-        put_at_most_line(sink, buffer, upper);
+        put_at_most_line(output, upper);
     }
 }
 
 /// Prints what comes after the terms of a row: its upper limit, or else its lower limit. A row without limits is printed as
 /// at least -1e20.
-fn put_last_limit<W: Sink>(sink: &mut W, buffer: &mut Buffer, lower: &Limit, upper: &Limit)
-    ensures { Prints line_text W.holds W.failed W.count sink.old sink.new buffer.old buffer.new (last_line lower.now upper.now ∷ []) }
+fn put_last_limit<W: Sink>(output: &mut Output<W>, lower: &Limit, upper: &Limit)
+    ensures { Prints line_text W.Sink output.old output.new (last_line lower.now upper.now ∷ []) }
 {
     match lower {
         Limit::Finite(lower) => match upper {
-            Limit::Finite(upper) => put_last_between(sink, buffer, *lower, *upper),
-            Limit::MinusInf | Limit::PlusInf => put_at_least_line(sink, buffer, *lower),
+            Limit::Finite(upper) => put_last_between(output, *lower, *upper),
+            Limit::MinusInf | Limit::PlusInf => put_at_least_line(output, *lower),
         },
         Limit::MinusInf | Limit::PlusInf => match upper {
-            Limit::Finite(upper) => put_at_most_line(sink, buffer, *upper),
-            Limit::MinusInf | Limit::PlusInf => put_free_row_line(sink, buffer),
+            Limit::Finite(upper) => put_at_most_line(output, *upper),
+            Limit::MinusInf | Limit::PlusInf => put_free_row_line(output),
         },
     }
 }
 
 /// Prints row `i`.
-fn put_row<W: Sink>(model: &Model, i: usize, sink: &mut W, buffer: &mut Buffer)
+fn put_row<W: Sink>(model: &Model, i: usize, output: &mut Output<W>)
     requires { i < num_rows model.now }
-    ensures { Prints line_text W.holds W.failed W.count sink.old sink.new buffer.old buffer.new (lines_at (row_lines (listing_of model.now)) (entries model.now.rows) i) }
+    ensures { Prints line_text W.Sink output.old output.new (lines_at (row_lines (listing_of model.now)) (entries model.now.rows) i) }
 {
     let lower = model.row_lower(i);
     let upper = model.row_upper(i);
-    put_label_line(sink, buffer, model.row_text(i));
-    put_left_limit(sink, buffer, &lower, &upper);
-    put_row_terms(model, i, sink, buffer);
-    put_last_limit(sink, buffer, &lower, &upper);
+    put_label_line(output, model.row_text(i));
+    put_left_limit(output, &lower, &upper);
+    put_row_terms(model, i, output);
+    put_last_limit(output, &lower, &upper);
 }
 
 /// Prints all rows.
-fn put_rows<W: Sink>(model: &Model, sink: &mut W, buffer: &mut Buffer)
-    ensures { Prints line_text W.holds W.failed W.count sink.old sink.new buffer.old buffer.new (flat_map (row_lines (listing_of model.now)) (entries model.now.rows)) }
+fn put_rows<W: Sink>(model: &Model, output: &mut Output<W>)
+    ensures { Prints line_text W.Sink output.old output.new (flat_map (row_lines (listing_of model.now)) (entries model.now.rows)) }
 {
     for i in 0..model.num_rows() {
-        if buffer.has_failed() {
+        if output.has_failed() {
             return;
         }
-        put_row(model, i, sink, buffer);
+        put_row(model, i, output);
     }
 }
 
 /// Prints the rows and their heading.
-pub(crate) fn put_rows_section<W: Sink>(model: &Model, sink: &mut W, buffer: &mut Buffer)
-    ensures { PrintsSection line_text W.holds W.failed W.count sink.old sink.new buffer.old buffer.new (rows_section (listing_of model.now)) }
+pub(crate) fn put_rows_section<W: Sink>(model: &Model, output: &mut Output<W>)
+    ensures { PrintsSection line_text W.Sink output.old output.new (rows_section (listing_of model.now)) }
 {
-    buffer.put(sink, b"Subject To\n");
-    put_rows(model, sink, buffer);
+    output.put(b"Subject To\n");
+    put_rows(model, output);
 }

@@ -10,23 +10,23 @@ ghost use Rattle.mpslp_canonical_mps.specs.PrintedValues.{is_fixed, printed_lowe
 ghost use Rattle.mpslp_canonical_mps.specs.CanonicalMps.{bound_line, column_bound_lines, bounds_section};
 ghost use Rattle.mpslp_model_core.specs.Listing.{listing_of};
 ghost use Rattle.mpslp_write.specs.LinesAt.{lines_at, fixed_value, are_free};
-ghost use Rattle.mpslp_write.specs.TextBuffer.{Prints, PrintsSection};
+ghost use Rattle.mpslp_write.specs.Printing.{Prints, PrintsSection};
 
 use crate::mps::lines::{put_bare_bound, put_valued_bound};
-use crate::text_buffer::Buffer;
+use crate::output::Output;
 use mpslp_decimal::Decimal;
 use mpslp_decimal::laws::each_value_is_a_decimal;
 use mpslp_model::{Kind, Limit, Model, Sink};
 
 /// Prints the line of a lower bound, unless it is 0.
-fn put_lower<W: Sink>(sink: &mut W, buffer: &mut Buffer, column: &[u8], lower: &Limit)
-    ensures { Prints line_text W.holds W.failed W.count sink.old sink.new buffer.old buffer.new (map (bound_line column.now) (printed_lower lower.now)) }
+fn put_lower<W: Sink>(output: &mut Output<W>, column: &[u8], lower: &Limit)
+    ensures { Prints line_text W.Sink output.old output.new (map (bound_line column.now) (printed_lower lower.now)) }
 {
     match lower {
-        Limit::MinusInf => put_bare_bound(sink, buffer, b"MI", column),
+        Limit::MinusInf => put_bare_bound(output, b"MI", column),
         Limit::Finite(value) => {
             if !value.is_zero() {
-                put_valued_bound(sink, buffer, b"LO", column, *value);
+                put_valued_bound(output, b"LO", column, *value);
             }
         }
         Limit::PlusInf => {}
@@ -34,31 +34,25 @@ fn put_lower<W: Sink>(sink: &mut W, buffer: &mut Buffer, column: &[u8], lower: &
 }
 
 /// Prints the line of a finite upper bound. The type `SC` also declares its column semi-continuous.
-fn put_finite_upper<W: Sink>(
-    sink: &mut W,
-    buffer: &mut Buffer,
-    column: &[u8],
-    kind: Kind,
-    value: Decimal,
-)
-    ensures { Prints line_text W.holds W.failed W.count sink.old sink.new buffer.old buffer.new (map (bound_line column.now) (printed_upper kind (Limit.Finite value))) }
+fn put_finite_upper<W: Sink>(output: &mut Output<W>, column: &[u8], kind: Kind, value: Decimal)
+    ensures { Prints line_text W.Sink output.old output.new (map (bound_line column.now) (printed_upper kind (Limit.Finite value))) }
 {
     match kind {
-        Kind::Continuous | Kind::Integer => put_valued_bound(sink, buffer, b"UP", column, value),
-        Kind::Semi => put_valued_bound(sink, buffer, b"SC", column, value),
+        Kind::Continuous | Kind::Integer => put_valued_bound(output, b"UP", column, value),
+        Kind::Semi => put_valued_bound(output, b"SC", column, value),
     }
 }
 
 /// Prints the line of an upper bound. An infinite one is printed only for an integer column, whose upper bound would
 /// otherwise be 1.
-fn put_upper<W: Sink>(sink: &mut W, buffer: &mut Buffer, column: &[u8], kind: Kind, upper: &Limit)
-    ensures { Prints line_text W.holds W.failed W.count sink.old sink.new buffer.old buffer.new (map (bound_line column.now) (printed_upper kind upper.now)) }
+fn put_upper<W: Sink>(output: &mut Output<W>, column: &[u8], kind: Kind, upper: &Limit)
+    ensures { Prints line_text W.Sink output.old output.new (map (bound_line column.now) (printed_upper kind upper.now)) }
 {
     match upper {
         Limit::MinusInf => {}
-        Limit::Finite(value) => put_finite_upper(sink, buffer, column, kind, *value),
+        Limit::Finite(value) => put_finite_upper(output, column, kind, *value),
         Limit::PlusInf => match kind {
-            Kind::Integer => put_bare_bound(sink, buffer, b"PL", column),
+            Kind::Integer => put_bare_bound(output, b"PL", column),
             Kind::Continuous | Kind::Semi => {}
         },
     }
@@ -66,17 +60,16 @@ fn put_upper<W: Sink>(sink: &mut W, buffer: &mut Buffer, column: &[u8], kind: Ki
 
 /// Prints the lines of a lower and an upper bound, one after the other.
 fn put_both<W: Sink>(
-    sink: &mut W,
-    buffer: &mut Buffer,
+    output: &mut Output<W>,
     column: &[u8],
     kind: Kind,
     lower: &Limit,
     upper: &Limit,
 )
-    ensures { Prints line_text W.holds W.failed W.count sink.old sink.new buffer.old buffer.new (map (bound_line column.now) (printed_lower lower.now ++ printed_upper kind upper.now)) }
+    ensures { Prints line_text W.Sink output.old output.new (map (bound_line column.now) (printed_lower lower.now ++ printed_upper kind upper.now)) }
 {
-    put_lower(sink, buffer, column, lower);
-    put_upper(sink, buffer, column, kind, upper);
+    put_lower(output, column, lower);
+    put_upper(output, column, kind, upper);
 }
 
 /// Whether the numbers have the same value.
@@ -138,36 +131,34 @@ fn are_free(lower: &Limit, upper: &Limit) -> bool
 
 /// Prints the lines of the bounds of a column.
 fn put_bounds_of<W: Sink>(
-    sink: &mut W,
-    buffer: &mut Buffer,
+    output: &mut Output<W>,
     column: &[u8],
     kind: Kind,
     lower: &Limit,
     upper: &Limit,
 )
-    ensures { Prints line_text W.holds W.failed W.count sink.old sink.new buffer.old buffer.new (map (bound_line column.now) (printed_bounds kind lower.now upper.now)) }
+    ensures { Prints line_text W.Sink output.old output.new (map (bound_line column.now) (printed_bounds kind lower.now upper.now)) }
 {
     if are_free(lower, upper) {
-        put_bare_bound(sink, buffer, b"FR", column);
+        put_bare_bound(output, b"FR", column);
         return;
     }
     match fixed_value(kind, lower, upper) {
-        Some(value) => put_valued_bound(sink, buffer, b"FX", column, value),
-        None => put_both(sink, buffer, column, kind, lower, upper),
+        Some(value) => put_valued_bound(output, b"FX", column, value),
+        None => put_both(output, column, kind, lower, upper),
     }
 }
 
 /// Prints the lines of the bounds of column `j`.
-fn put_bounds<W: Sink>(model: &Model, j: usize, sink: &mut W, buffer: &mut Buffer)
+fn put_bounds<W: Sink>(model: &Model, j: usize, output: &mut Output<W>)
     requires { j < num_columns model.now }
-    ensures { Prints line_text W.holds W.failed W.count sink.old sink.new buffer.old buffer.new (lines_at column_bound_lines (entries model.now.columns) j) }
+    ensures { Prints line_text W.Sink output.old output.new (lines_at column_bound_lines (entries model.now.columns) j) }
 {
     let lower = model.col_lower(j);
     let upper = model.col_upper(j);
     let kind = model.column_kind(j);
     put_bounds_of(
-        sink,
-        buffer,
+        output,
         model.column_name(j).as_bytes(),
         kind,
         &lower,
@@ -176,22 +167,22 @@ fn put_bounds<W: Sink>(model: &Model, j: usize, sink: &mut W, buffer: &mut Buffe
 }
 
 /// Prints the lines of the bounds of all columns.
-fn put_all_bounds<W: Sink>(model: &Model, sink: &mut W, buffer: &mut Buffer)
-    ensures { Prints line_text W.holds W.failed W.count sink.old sink.new buffer.old buffer.new (flat_map column_bound_lines (entries model.now.columns)) }
+fn put_all_bounds<W: Sink>(model: &Model, output: &mut Output<W>)
+    ensures { Prints line_text W.Sink output.old output.new (flat_map column_bound_lines (entries model.now.columns)) }
 {
     for j in 0..model.num_cols() {
-        if buffer.has_failed() {
+        if output.has_failed() {
             return;
         }
-        put_bounds(model, j, sink, buffer);
+        put_bounds(model, j, output);
     }
 }
 
 /// Prints the section BOUNDS, or nothing if every column has the bounds that it has by default.
-pub(crate) fn put_bounds_section<W: Sink>(model: &Model, sink: &mut W, buffer: &mut Buffer)
-    ensures { PrintsSection line_text W.holds W.failed W.count sink.old sink.new buffer.old buffer.new (bounds_section (listing_of model.now)) }
+pub(crate) fn put_bounds_section<W: Sink>(model: &Model, output: &mut Output<W>)
+    ensures { PrintsSection line_text W.Sink output.old output.new (bounds_section (listing_of model.now)) }
 {
-    buffer.open_section(b"BOUNDS\n");
-    put_all_bounds(model, sink, buffer);
-    buffer.close_section();
+    output.open_section(b"BOUNDS\n");
+    put_all_bounds(model, output);
+    output.close_section();
 }

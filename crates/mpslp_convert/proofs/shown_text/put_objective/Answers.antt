@@ -1,7 +1,7 @@
 use Rattle.std.proofs.Common.{◌∙◌, [], ◌∷◌}
 use Rattle.std.specs.Prelude.{codes}
 use Rattle.mpslp_decimal.specs.NumberText.{number_text}
-use Rattle.mpslp_write.proofs.OutputLemmas.{emits_then, emits_same}
+use Rattle.mpslp_write.proofs.OutputLemmas.{puts_then, puts_same}
 use Rattle.mpslp_convert.specs.ShownText.{line_of}
 use Rattle.mpslp_convert.proofs.shown_text.put_objective.Goals as goal
 
@@ -10,6 +10,6 @@ returns g c =
     let name = c.as_bytes.ensures ∙ c.objective_name.ensures in
     let constant = c.objective_constant.ensures in
     let offset = c.objective_offset.ensures in
-    emits_same (λ i. line_of (codes "objective") (name i ∷ codes "constant" ∷ number_text (constant i) ∷ codes "offset" ∷ number_text (offset i) ∷ []))
-    (emits_then c.put.ensures
-    (emits_then c.put_word.ensures (emits_then c.put-2.ensures (emits_then c.put_number.ensures (emits_then c.put-3.ensures (emits_then c.put_number-2.ensures c.put-4.ensures))))))
+    puts_same (λ i. line_of (codes "objective") (name i ∷ codes "constant" ∷ number_text (constant i) ∷ codes "offset" ∷ number_text (offset i) ∷ []))
+    (puts_then c.put.ensures
+    (puts_then c.put_word.ensures (puts_then c.put-2.ensures (puts_then c.put_number.ensures (puts_then c.put-3.ensures (puts_then c.put_number-2.ensures c.put-4.ensures))))))

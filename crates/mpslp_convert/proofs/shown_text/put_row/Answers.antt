@@ -1,7 +1,7 @@
 use Rattle.std.proofs.Common.{◌∙◌, [], ◌∷◌}
 use Rattle.std.specs.Prelude.{codes, decimal}
 use Rattle.mpslp_decimal.specs.NumberText.{number_text}
-use Rattle.mpslp_write.proofs.OutputLemmas.{emits_then, emits_same}
+use Rattle.mpslp_write.proofs.OutputLemmas.{puts_then, puts_same}
 use Rattle.mpslp_convert.specs.ShownText.{line_of, limit_text}
 use Rattle.mpslp_convert.proofs.ShownLemmas.{row-seen}
 use Rattle.mpslp_convert.proofs.shown_text.put_row.Goals as goal
@@ -14,13 +14,13 @@ returns g c =
     let range = c.row_range.result in
     let name = c.as_bytes.ensures in
     let letter = c.as_slice.ensures in
-    emits_same ((λ i. line_of (codes "row")
+    puts_same ((λ i. line_of (codes "row")
     (decimal c.args.i ∷ name i ∷ letter i ∷ limit_text lower ∷ limit_text upper ∷ codes "rhs" ∷ number_text rhs ∷ codes "range" ∷ number_text range ∷ []))
     ∙ row-seen c.args.model.now c.args.i _ _ lower upper rhs range c.row_name.ensures c.row_sense-letter.ensures c.row_lower-lower.ensures c.row_upper-upper.ensures
     c.right_hand_side.ensures c.row_range.ensures)
-    (emits_then c.put.ensures
-    (emits_then c.put_count.ensures
-    (emits_then c.put_word.ensures
-    (emits_then c.put_word-2.ensures
-    (emits_then c.put_limit.ensures
-    (emits_then c.put_limit-2.ensures (emits_then c.put-2.ensures (emits_then c.put_number.ensures (emits_then c.put-3.ensures (emits_then c.put_number-2.ensures c.put-4.ensures))))))))))
+    (puts_then c.put.ensures
+    (puts_then c.put_count.ensures
+    (puts_then c.put_word.ensures
+    (puts_then c.put_word-2.ensures
+    (puts_then c.put_limit.ensures
+    (puts_then c.put_limit-2.ensures (puts_then c.put-2.ensures (puts_then c.put_number.ensures (puts_then c.put-3.ensures (puts_then c.put_number-2.ensures c.put-4.ensures))))))))))

@@ -1,5 +1,5 @@
-use Rattle.mpslp_write.proofs.OutputLemmas.{emits_then}
+use Rattle.mpslp_write.proofs.OutputLemmas.{puts_then}
 use Rattle.mpslp_convert.proofs.shown_words.put_word.Goals as goal
 
 pub returns : goal.returns
-returns g c = emits_then c.put.ensures c.put-2.ensures
+returns g c = puts_then c.put.ensures c.put-2.ensures

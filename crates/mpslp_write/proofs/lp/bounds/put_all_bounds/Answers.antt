@@ -6,7 +6,7 @@ use Rattle.mpslp_write.proofs.OutputLemmas.{prints_nothing, prints_then, prints_
 use Rattle.mpslp_write.proofs.lp.bounds.put_all_bounds.Goals as goal
 
 pub loop-j-init : goal.loop-j-init
-loop-j-init g c = prints_nothing c.args.sink.now c.args.buffer.now
+loop-j-init g c = prints_nothing c.args.output.now
 
 pub loop-j-preserved : goal.loop-j-preserved
 loop-j-preserved g c = prints_same (flat_map-next bound_lines (entries c.args.model.now.columns) c.loop-j.j) (prints_then c.loop-j.invariant c.put_bounds.ensures)

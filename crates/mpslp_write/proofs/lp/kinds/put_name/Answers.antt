@@ -23,4 +23,4 @@ returns-else-is_of_section g c =
     let left = sym c.is_of_section.ensures ∙ c.if-is_of_section.false in
     prints_same (nothing_seen (entries c.args.model.now.columns) c.args.j (λ (column : Column). column.kind) told _ c.column_kind.ensures
     (λ name. ap (λ (b : Bool). cond b (short_line (word name ∷ []) ∷ []) []) left))
-    (prints_nothing c.args.sink.now c.args.buffer.now)
+    (prints_nothing c.args.output.now)

@@ -3,10 +3,10 @@ use Rattle.std.specs.List.{flat_map}
 use Rattle.std.specs.FinMap.{entries}
 use Rattle.mpslp_canonical_lp.specs.Printed.{line_text}
 use Rattle.mpslp_write.specs.LpLinesAt.{name_lines}
-use Rattle.mpslp_write.specs.TextBuffer.{Prints}
+use Rattle.mpslp_write.specs.Printing.{Prints}
 use Rattle.mpslp_write.proofs.lp.kinds.put_names.Given as goal
 
 -- the lines of the entries so far were put
 abbrev pub invariant-loop-j : goal.invariant-loop-j
 invariant-loop-j g l =
-    Prints line_text g.W.Sink.holds g.W.Sink.failed g.W.Sink.count l.fn.sink l.sink l.fn.buffer l.buffer (flat_map (name_lines l.section) (take l.j (entries l.model.columns)))
+    Prints line_text g.W.Sink l.fn.output l.output (flat_map (name_lines l.section) (take l.j (entries l.model.columns)))

@@ -8,4 +8,4 @@ returns-then-not-is_zero g c = prints_same (ap (λ (none : Bool). cond none [] (
 
 pub returns-else-not-is_zero : goal.returns-else-not-is_zero
 returns-else-not-is_zero g c =
-    prints_same (ap (λ (none : Bool). cond none [] (long_line (signed_lexemes c.args.value) ∷ [])) (c.if-not-is_zero.ensures)) (prints_nothing c.args.sink.now c.args.buffer.now)
+    prints_same (ap (λ (none : Bool). cond none [] (long_line (signed_lexemes c.args.value) ∷ [])) (c.if-not-is_zero.ensures)) (prints_nothing c.args.output.now)

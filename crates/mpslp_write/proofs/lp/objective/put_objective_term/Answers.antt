@@ -20,7 +20,7 @@ returns-then-column_len-gt0 g c =
     let zero = sym told ∙ c.if-is_zero.true in
     prints_same (objective-left m c.each_model_is_sound.ensures (column_name m c.args.j) zero (omega arith)
     ∙ named-lines (objective_lines_of (listing_of m)) (entries m.columns) c.args.j c.requires)
-    (prints_nothing c.args.sink.now c.args.buffer.now)
+    (prints_nothing c.args.output.now)
 
 pub returns : goal.returns
 returns g c =

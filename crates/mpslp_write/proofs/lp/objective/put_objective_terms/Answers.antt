@@ -7,7 +7,7 @@ use Rattle.mpslp_write.proofs.OutputLemmas.{prints_nothing, prints_then, prints_
 use Rattle.mpslp_write.proofs.lp.objective.put_objective_terms.Goals as goal
 
 pub loop-j-init : goal.loop-j-init
-loop-j-init g c = prints_nothing c.args.sink.now c.args.buffer.now
+loop-j-init g c = prints_nothing c.args.output.now
 
 pub loop-j-preserved : goal.loop-j-preserved
 loop-j-preserved g c = prints_same (flat_map-next (objective_term_lines (listing_of c.args.model.now)) (entries c.args.model.now.columns) c.loop-j.j) (prints_then c.loop-j.invariant c.put_objective_term.ensures)

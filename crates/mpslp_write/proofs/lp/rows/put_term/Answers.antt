@@ -2,7 +2,7 @@ use Rattle.std.proofs.Common.{◌≡◌, sym, ap, ◌∙◌, ℕ, [], ◌∷◌}
 use Rattle.std.specs.Prelude.{Option}
 use Rattle.std.specs.Option.{option_map_or}
 use Rattle.std.proofs.lemmas.Option.{get_or_from_slice_get}
-use Rattle.mpslp_model_core.specs.Views.{row_name, column_name, column_names, num_columns, row_columns, has_coefficient}
+use Rattle.mpslp_model_core.specs.Views.{row_name, column_name, column_names, num_columns, has_coefficient}
 use Rattle.mpslp_model_core.proofs.ByRowLemmas.{listed_below}
 use Rattle.mpslp_canonical_lp.specs.CanonicalLp.{term_line}
 use Rattle.mpslp_write.specs.LpLinesAt.{numbered_term_lines}

@@ -3,11 +3,11 @@ use Rattle.std.specs.List.{flat_map}
 use Rattle.mpslp_model_core.specs.Views.{row_name, row_columns}
 use Rattle.mpslp_canonical_lp.specs.Printed.{line_text}
 use Rattle.mpslp_write.specs.LpLinesAt.{numbered_term_lines}
-use Rattle.mpslp_write.specs.TextBuffer.{Prints}
+use Rattle.mpslp_write.specs.Printing.{Prints}
 use Rattle.mpslp_write.proofs.lp.rows.put_terms.Given as goal
 
 -- the terms so far were put
 abbrev pub invariant-loop-k : goal.invariant-loop-k
 invariant-loop-k g l =
-    Prints line_text g.W.Sink.holds g.W.Sink.failed g.W.Sink.count l.fn.sink l.sink l.fn.buffer l.buffer
+    Prints line_text g.W.Sink l.fn.output l.output
     (flat_map (numbered_term_lines l.model (row_name l.model l.i)) (take l.k (row_columns l.model (row_name l.model l.i))))

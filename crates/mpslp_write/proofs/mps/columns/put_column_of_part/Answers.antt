@@ -20,4 +20,4 @@ returns-else-is_wanted g c =
     let lines = lines_at (column_lines m) m.columns c.args.j in
     prints_same (sym (ap (λ (wanted : Bool). cond wanted lines []) (sym c.is_wanted.ensures ∙ c.if-is_wanted.false))
     ∙ part-lines c.args.part (column_lines m) m.columns c.args.j c.is_integer.result c.is_integer.ensures)
-    (prints_nothing c.args.sink.now c.args.buffer.now)
+    (prints_nothing c.args.output.now)

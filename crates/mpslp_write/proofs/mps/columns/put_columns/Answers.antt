@@ -8,7 +8,7 @@ use Rattle.mpslp_write.proofs.OutputLemmas.{prints_nothing, prints_then, prints_
 use Rattle.mpslp_write.proofs.mps.columns.put_columns.Goals as goal
 
 pub loop-j-init : goal.loop-j-init
-loop-j-init g c = prints_nothing c.args.sink.now c.args.buffer.now
+loop-j-init g c = prints_nothing c.args.output.now
 
 pub loop-j-preserved : goal.loop-j-preserved
 loop-j-preserved g c = prints_same (flat_map-next (of_part c.args.part (column_lines (listing_of c.args.model.now))) (entries c.args.model.now.columns) c.loop-j.j) (prints_then c.loop-j.invariant c.put_column_of_part.ensures)

@@ -6,7 +6,7 @@ use Rattle.mpslp_write.proofs.OutputLemmas.{prints_nothing, prints_then, prints_
 use Rattle.mpslp_write.proofs.mps.columns.put_elements.Goals as goal
 
 pub loop-k-init : goal.loop-k-init
-loop-k-init g c = prints_nothing c.args.sink.now c.args.buffer.now
+loop-k-init g c = prints_nothing c.args.output.now
 
 pub loop-k-preserved : goal.loop-k-preserved
 loop-k-preserved g c =

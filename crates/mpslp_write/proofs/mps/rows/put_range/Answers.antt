@@ -11,4 +11,4 @@ returns-then-not-is_zero g c =
 
 pub returns-else-not-is_zero : goal.returns-else-not-is_zero
 returns-else-not-is_zero g c =
-    prints_same (range-left (entries c.args.model.now.rows) c.args.i _ c.row_range-range.ensures (sym c.if-not-is_zero.ensures)) (prints_nothing c.args.sink.now c.args.buffer.now)
+    prints_same (range-left (entries c.args.model.now.rows) c.args.i _ c.row_range-range.ensures (sym c.if-not-is_zero.ensures)) (prints_nothing c.args.output.now)

@@ -6,7 +6,7 @@ use Rattle.mpslp_write.proofs.OutputLemmas.{prints_nothing, prints_then, prints_
 use Rattle.mpslp_write.proofs.mps.rows.put_ranges.Goals as goal
 
 pub loop-i-init : goal.loop-i-init
-loop-i-init g c = prints_nothing c.args.sink.now c.args.buffer.now
+loop-i-init g c = prints_nothing c.args.output.now
 
 pub loop-i-preserved : goal.loop-i-preserved
 loop-i-preserved g c = prints_same (flat_map-next range_lines (entries c.args.model.now.rows) c.loop-i.i) (prints_then c.loop-i.invariant c.put_range.ensures)

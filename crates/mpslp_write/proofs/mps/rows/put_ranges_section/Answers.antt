@@ -1,7 +1,8 @@
 use Rattle.std.proofs.Common.{refl}
 use Rattle.std.specs.Prelude.{codes}
 use Rattle.mpslp_mps_fields.specs.declared.sections.Section.TheVariants.{Ranges}
-use Rattle.mpslp_write.proofs.OutputLemmas.{under-text, section_under}
+use Rattle.mpslp_write.proofs.BufferLemmas.{under-text}
+use Rattle.mpslp_write.proofs.OutputLemmas.{section_under}
 use Rattle.mpslp_write.proofs.mps.rows.put_ranges_section.Goals as goal
 
 pub returns : goal.returns

@@ -2,7 +2,8 @@ use Rattle.std.proofs.Common.{◌∙◌, refl}
 use Rattle.std.specs.Prelude.{codes}
 use Rattle.mpslp_mps_fields.specs.declared.sections.Section.TheVariants.{Rhs}
 use Rattle.mpslp_canonical_mps.specs.CanonicalMps.{rhs_lines}
-use Rattle.mpslp_write.proofs.OutputLemmas.{prints_then, prints_same, under-text, section_under}
+use Rattle.mpslp_write.proofs.BufferLemmas.{under-text}
+use Rattle.mpslp_write.proofs.OutputLemmas.{prints_then, prints_same, section_under}
 use Rattle.mpslp_write.proofs.mps.rows.put_rhs_section.Goals as goal
 
 pub returns : goal.returns

@@ -1,6 +1,6 @@
 use Rattle.std.proofs.Common.{refl, sym, subst, [], Bool, true}
 use Rattle.mpslp_write.specs.TextBuffer.{buffer_state, HasPut}
-use Rattle.mpslp_write.proofs.OutputLemmas.{HasPut-sent, HasPut-failed}
+use Rattle.mpslp_write.proofs.BufferLemmas.{HasPut-sent, HasPut-failed}
 use Rattle.mpslp_write.proofs.text_buffer.Sent.send.Goals as goal
 
 pub returns-in-Ok : goal.returns-in-Ok
