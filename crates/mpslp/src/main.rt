@@ -4,8 +4,7 @@
 mod inputs;
 
 use inputs::perform_on_inputs;
-use mpslp_command::job;
-use mpslp_convert::{Job, JobFault, Word};
+use mpslp_convert::{Job, JobFault, Word, job};
 use mpslp_model::ToWrite;
 use std::io::ErrorKind;
 use std::process::ExitCode;

@@ -3,7 +3,7 @@
 mod command_line;
 
 use crate::inputs::perform_on_inputs;
-use mpslp_command::job;
+use mpslp_convert::job;
 use mpslp_model::ToWrite;
 use std::alloc::{AllocError, Global};
 use std::rt::Files;

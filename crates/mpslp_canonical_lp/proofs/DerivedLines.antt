@@ -25,7 +25,7 @@ use Rattle.mpslp_lp_grammar.specs.declared.relations.Relation.TheVariants.{AtLea
 use Rattle.mpslp_lp_grammar.specs.declared.states.Place.TheVariants.{BeforeItems, InObjective, BetweenRows, InBounds}
 use Rattle.mpslp_canonical_lp.specs.Printed.{PrintedLine, word, semi_continuous}
 use Rattle.mpslp_canonical_lp.specs.CanonicalLp.{Lines, Term, heading, label_line, sense_word, term_line, constant_lines, row_terms, row_lines, bound_lines, name_line, semi_heading}
-use Rattle.mpslp_canonical_lp.specs.PrintedDeclarations.{point_at, terminals_at, AreDerived, AreDerivedAt, is_legal_term, after_objective, rows_heading, constant_declared, DeriveObjectives, AreLegalTerms, row_and_terms, DeriveRows, column_and_bounds, DeriveBounds, DeriveAllKinds, end_heading, DeriveAllHeadings}
+use Rattle.mpslp_canonical_lp.specs.PrintedDeclarations.{point_at, terminals_at, AreDerived, AreDerivedAt, is_legal_term, after_objective, rows_heading, constant_declared, EndsObjectiveFrom, DeriveObjectives, AreLegalTerms, row_and_terms, DeriveRows, column_and_bounds, DeriveBounds, DeriveAllKinds, end_heading, DeriveAllHeadings}
 use Rattle.mpslp_canonical_lp.proofs.LexemeLemmas.{IsGoodName}
 use Rattle.mpslp_canonical_lp.proofs.LineLemmas.{line-terminals}
 use Rattle.mpslp_canonical_lp.proofs.TextLemmas.{all-faultless}
@@ -70,6 +70,12 @@ objective-term started name term legal n sections_seen earlier h =
     derive from to n (term_line term ∷ []) (term_declared name term) (term-printable term good, tt)
     (one-line from to n (term_line term) (term_declared name term) (one-term started sections_seen earlier name n term good h))
 
+objective-end : (started : Bool) (name : List ℕ) → EndsObjectiveFrom (items_at name started)
+objective-end started name n earlier value decimal h =
+    derive _ _ n (constant_lines value ++ rows_heading) (constant_declared value)
+    (in-turn (constant_lines value) rows_heading (constant-printable value decimal) (subject-printable, tt))
+    (constant-walk started after_objective earlier name n value h refl)
+
 pub objectives-derived : DeriveObjectives
 objectives-derived name legal =
     record {
@@ -81,10 +87,8 @@ objectives-derived name legal =
           (subst (λ (tokens : List TerminalAt). Walks start tokens (objective_declared sense name) to) (sym (begin-terminals n sense name)) (start-walks n (n + 1) sense name));
       first = objective-term false name;
       later = objective-term true name;
-      constant = λ n earlier value decimal h.
-          derive _ _ n (constant_lines value ++ rows_heading) (constant_declared value)
-          (in-turn (constant_lines value) rows_heading (constant-printable value decimal) (subject-printable, tt))
-          (constant-walk true after_objective earlier name n value h refl);
+      end = objective-end true name;
+      end_without_terms = objective-end false name;
     }
 
 -- ---- rows

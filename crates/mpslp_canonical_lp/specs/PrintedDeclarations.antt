@@ -66,16 +66,22 @@ rows_heading = heading (codes "Subject" ∷ codes "To" ∷ []) ∷ []
 abbrev pub constant_declared : Number → Declarations
 constant_declared value = if is_zero value then [] else declare_constant value ∷ []
 
--- the sense and the name; the first term and each later one; the constant and the heading of the rows, which completes it
+-- from a place on, the constant and the heading of the rows, which completes it
+abbrev pub EndsObjectiveFrom : Place → Type 0
+EndsObjectiveFrom place =
+    (n : ℕ) (earlier : Draft) (value : Number) → IsDecimal value → refusals_in_turn earlier (constant_declared value) ≡ []
+    → AreDerived (point_at place after_objective earlier) n (constant_lines value ++ rows_heading) (constant_declared value)
+    (point_at BetweenRows (with_section after_objective sections.Rows) (with_declarations earlier (constant_declared value)))
+
+-- the sense and the name; the first term and each later one; the end after a term, or of an objective without terms
 pub record DeriveObjective (name : List ℕ) : Type 0 where
   pub begin : (n : ℕ) (sense : Sense)
       → AreDerived start n (heading (sense_word sense ∷ []) ∷ label_line name ∷ []) (objective_declared sense name)
       (point_at (BeforeItems name) after_objective (draft_of (objective_declared sense name)))
   pub first : (term : Term) → is_legal_term term ≡ true → AreDerivedAt (BeforeItems name) (term_line term ∷ []) (term_declared name term) (InObjective name)
   pub later : (term : Term) → is_legal_term term ≡ true → AreDerivedAt (InObjective name) (term_line term ∷ []) (term_declared name term) (InObjective name)
-  pub constant : (n : ℕ) (earlier : Draft) (value : Number) → IsDecimal value → refusals_in_turn earlier (constant_declared value) ≡ []
-      → AreDerived (point_at (InObjective name) after_objective earlier) n (constant_lines value ++ rows_heading) (constant_declared value)
-      (point_at BetweenRows (with_section after_objective sections.Rows) (with_declarations earlier (constant_declared value)))
+  pub end : EndsObjectiveFrom (InObjective name)
+  pub end_without_terms : EndsObjectiveFrom (BeforeItems name)
 
 abbrev pub DeriveObjectives : Type 0
 DeriveObjectives = (name : List ℕ) → is_lp_name name ≡ true → DeriveObjective name

@@ -1,7 +1,6 @@
 //! Tests of arguments and the jobs that they request.
 
-use mpslp_command::job;
-use mpslp_jobs::{Form, Job, JobFault, Word};
+use mpslp_convert::{Form, Job, JobFault, Word, job};
 use std::alloc::{AllocError, Global};
 use std::test::Fail;
 
