@@ -26,7 +26,7 @@ use Rattle.mpslp_c.specs.declared.arrays.MpslpColumn.{MpslpColumn}
 use Rattle.mpslp_c.specs.declared.arrays.MpslpElement.{MpslpElement}
 use Rattle.mpslp_c.specs.declared.arrays.MpslpModel.{MpslpModel}
 
-all-append : {X : Type 0} (p : X → Bool) (xs ys : List X) → list_all p xs ≡ true → list_all p ys ≡ true → list_all p (xs ++ ys) ≡ true
+pub all-append : {X : Type 0} (p : X → Bool) (xs ys : List X) → list_all p xs ≡ true → list_all p ys ≡ true → list_all p (xs ++ ys) ≡ true
 all-append p [] ys h k = k
 all-append p (x ∷ xs) ys h k = both_so (p x) (list_all p (xs ++ ys)) (first_so (p x) (list_all p xs) h) (all-append p xs ys (second_so (p x) (list_all p xs) h) k)
 

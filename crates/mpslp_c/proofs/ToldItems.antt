@@ -9,7 +9,7 @@ use Rattle.std.proofs.lemmas.Grind.{flat_map-append}
 use Rattle.std.proofs.lemmas.List.{length-map, length-take-le, length-drop, take_all}
 use Rattle.std.proofs.lemmas.List.Sums.{sum_by-cons}
 use Rattle.std.proofs.lemmas.List.Quantifiers.{position-Some}
-use Rattle.std.proofs.lemmas.Option.{slice_get_within}
+use Rattle.std.proofs.lemmas.Option.{slice_get-map, slice_get_within}
 use Rattle.mpslp_decimal.specs.Decimal.{Number, IsDecimal, is_decimal, zero_number}
 use Rattle.mpslp_types.specs.Name.{same_bytes}
 use Rattle.mpslp_types.specs.declared.faults.FaultKind.{FaultKind}
@@ -37,6 +37,8 @@ use Rattle.mpslp_c.specs.declared.arrays.MpslpColumn.{MpslpColumn}
 use Rattle.mpslp_c.specs.declared.arrays.MpslpElement.{MpslpElement}
 use Rattle.mpslp_c.specs.declared.arrays.MpslpModel.{MpslpModel}
 use Rattle.mpslp_c.proofs.CountLemmas.{all_counted}
+use Rattle.mpslp_c.proofs.KnownLemmas.{all-append}
+use Rattle.mpslp_c.proofs.StoredLemmas.{same_some}
 use Rattle.mpslp_c.proofs.ToldValues.{number-told, limit-told, lower-given, upper-given, name-told}
 use Rattle.mpslp_c.proofs.ToldDeclarations.{objective_told, row_told, kind_told, cost_key, cost_at, head_told, cell_told, column_told, told_declarations}
 
@@ -62,15 +64,9 @@ give_item {place} {number} {steps} {more} one rest = record {
   declared = λ i. one.declared i ++ rest.declared i;
 }
 
-all-append : (xs ys : List Item) → list_all is_good_item xs ≡ true → list_all is_good_item ys ≡ true → list_all is_good_item (xs ++ ys) ≡ true
-all-append [] ys h k = k
-all-append (x ∷ xs) ys h k =
-    both_so (is_good_item x) (list_all is_good_item (xs ++ ys)) (first_so (is_good_item x) (list_all is_good_item xs) h)
-    (all-append xs ys (second_so (is_good_item x) (list_all is_good_item xs) h) k)
-
 give_then : {xs ys : List Item} {ds es : Declarations} → GiveItems xs ds → GiveItems ys es → GiveItems (xs ++ ys) (ds ++ es)
 give_then {xs} {ys} one rest = record {
-  good = all-append xs ys one.good rest.good;
+  good = all-append is_good_item xs ys one.good rest.good;
   declared = flat_map-append declared_by xs ys ∙ (λ i. one.declared i ++ rest.declared i);
 }
 
@@ -94,9 +90,7 @@ name-at {X} (d ∷ es) zero e at = let same : d ≡ e = cc in ap (λ (x : List �
 name-at (d ∷ es) (suc i) e at = name-at es i e at
 
 value-at : {X : Type 0} (es : List (List ℕ × X)) (i : ℕ) (e : List ℕ × X) → slice_get es i ≡ Some e → slice_get (map (λ (d : List ℕ × X). d.1) es) i ≡ Some e.1
-value-at [] i e at = let no : ⊥ = cc in absurd no
-value-at {X} (d ∷ es) zero e at = let same : d ≡ e = cc in ap (λ (x : List ℕ × X). Some x.1) same
-value-at (d ∷ es) (suc i) e at = value-at es i e at
+value-at {X} es i e at = slice_get-map (λ (d : List ℕ × X). d.1) es i ∙ ap (option_map (λ (d : List ℕ × X). d.1)) at
 
 each-at : {X : Type 0} (P : X → Type 0) (xs : List X) (i : ℕ) (x : X) → Each P xs → slice_get xs i ≡ Some x → P x
 each-at P [] i x h at = let no : ⊥ = cc in absurd no
@@ -217,9 +211,6 @@ record IsColumnTold (m : LinearModel) (names : List ℕ) (all : List MpslpElemen
   kind : told.kind ≡ kind_number column.1.kind
   elements : (k : ℕ) → k < column_len m column.0 → TellsElement (slice_get (numbered_elements m column.0) k) (slice_get all (told.first + k))
 
-some-same : {X : Type 0} {x y : X} → ◌≡◌ {A = Option X} (Some x) (Some y) → x ≡ y
-some-same h = cc
-
 column-told : (m : LinearModel) (names : List ℕ) (all : List MpslpElement) (j : ℕ) (column : List ℕ × Column) (told : MpslpColumn)
     → slice_get (maps.entries m.columns) j ≡ Some column → TellsColumn m names all j told → IsColumnTold m names all column told
 column-told m names all j column told at tells =
@@ -231,7 +222,7 @@ column-told m names all j column told at tells =
       lower = side-of (λ (c : Column). c.lower) told.lower here head.lower;
       upper = side-of (λ (c : Column). c.upper) told.upper here head.upper;
       cost = subst (λ (name : List ℕ). TellsNumber (cost_at m name) told.cost) named head.cost;
-      kind = some-same (sym head.kind ∙ ap (option_map (λ (c : Column). kind_number c.kind)) here);
+      kind = same_some (sym head.kind ∙ ap (option_map (λ (c : Column). kind_number c.kind)) here);
       elements = subst (λ (name : List ℕ). (k : ℕ) → k < column_len m name → TellsElement (slice_get (numbered_elements m name) k) (slice_get all (told.first + k))) named tells.elements;
     }
 
@@ -322,7 +313,7 @@ module _ (m : LinearModel) (sound : IsSound m) (names : List ℕ) (rows : List M
       let fine = each-at _ cells k cell own at in
       let below : k < length cells = slice_get_within cells k cell at in
       let numbered : slice_get (numbered_elements m column.0) k ≡ Some (row_index m cell.0.row, cell.1) =
-      slice_get-mapped (λ (e : CoefficientKey × Number). (row_index m e.0.row, e.1)) cells k cell at in
+      slice_get-map (λ (e : CoefficientKey × Number). (row_index m e.0.row, e.1)) cells k ∙ ap (option_map (λ (e : CoefficientKey × Number). (row_index m e.0.row, e.1))) at in
       let placed : slice_get all (told.first + k) ≡ Some element = sym (slice_get-take (end - told.first) (drop told.first all) k (omega (arith, sum, below)) ∙ slice_get-drop told.first all k) ∙ there in
       let both : (row_index m cell.0.row ≡ Some element.row) × TellsNumber cell.1 element.value = both-told numbered placed (tells.elements k below) in
       record {
@@ -332,11 +323,6 @@ module _ (m : LinearModel) (sound : IsSound m) (names : List ℕ) (rows : List M
         value = both.1;
       })
     where
-      slice_get-mapped : {X Y : Type 0} (f : X → Y) (xs : List X) (i : ℕ) (x : X) → slice_get xs i ≡ Some x → slice_get (map f xs) i ≡ Some (f x)
-      slice_get-mapped f [] i x at = let no : ⊥ = cc in absurd no
-      slice_get-mapped f (y ∷ xs) zero x at = let same : y ≡ x = cc in ap (λ z. Some (f z)) same
-      slice_get-mapped f (y ∷ xs) (suc i) x at = slice_get-mapped f xs i x at
-
       both-told : {o : Option (Option ℕ × Number)} {p : Option MpslpElement} {entry : Option ℕ × Number} {element : MpslpElement} → o ≡ Some entry → p ≡ Some element → TellsElement o p
           → (entry.0 ≡ Some element.row) × TellsNumber entry.1 element.value
       both-told {o} {p} {entry} {element} is there tells = subst (λ (q : Option MpslpElement). TellsElement (Some entry) q) there (subst (λ (q : Option (Option ℕ × Number)). TellsElement q p) is tells)

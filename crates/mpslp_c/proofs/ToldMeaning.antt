@@ -36,6 +36,7 @@ use Rattle.mpslp_canonical_lp.proofs.RankedSlots.{new-from_others, Section, join
 use Rattle.mpslp_c.specs.Arrays.{TellsModel}
 use Rattle.mpslp_c.specs.Stored.{Defines}
 use Rattle.mpslp_c.specs.declared.arrays.MpslpModel.{MpslpModel}
+use Rattle.mpslp_c.proofs.StoredLemmas.{same_some}
 use Rattle.mpslp_c.proofs.ToldDeclarations.{objective_told, row_told, kind_told, cost_key, cell_told, column_told, told_declarations}
 use Rattle.mpslp_c.proofs.ToldDraft.{drafted, rows-drafted, columns-drafted, rhs_values-none, IsOwn, own-columns, integer-at, semi-at, objective-drafted, draft-means}
 use Rattle.mpslp_c.proofs.ToldItems.{items-told}
@@ -46,14 +47,11 @@ use Rattle.mpslp_c.proofs.ToldItems.{items-told}
 abbrev IsOwnedBy : (Slot → Option (List ℕ)) → List ℕ → Slot → Type 0
 IsOwnedBy owner name slot = owner slot ≡ Some name
 
-some_name : (a b : List ℕ) → ◌≡◌ {A = Option (List ℕ)} (Some a) (Some b) → same_bytes b a ≡ false → ⊥
-some_name a b e other = no_truth (sym (itself_named b) ∙ ap (same_bytes b) (sym (same_names e)) ∙ other)
-  where
-    same_names : {x y : List ℕ} → ◌≡◌ {A = Option (List ℕ)} (Some x) (Some y) → x ≡ y
-    same_names h = cc
+no_truth : false ≡ true → ⊥
+no_truth h = cc
 
-    no_truth : true ≡ false → ⊥
-    no_truth h = cc
+some_name : (a b : List ℕ) → ◌≡◌ {A = Option (List ℕ)} (Some a) (Some b) → same_bytes b a ≡ false → ⊥
+some_name a b e other = no_truth (sym other ∙ ap (same_bytes b) (same_some e) ∙ itself_named b)
 
 owned-apart : {X : Type 0} (owner : Slot → Option (List ℕ)) (f : List ℕ × X → List Slot) → ((e : List ℕ × X) → Each (IsOwnedBy owner e.0) (f e)) → (es : List (List ℕ × X)) → AreOther es → Apart same_slot f es
 owned-apart owner f own [] h = tt
@@ -139,9 +137,6 @@ cells-once cells sorted = as-keys cells ∙ distinct-sorted key_cmp key_total sa
     as-keys : (es : List (CoefficientKey × Number)) → are_distinct same_slot (map cell_slot es) ≡ are_distinct same_place (keys_of es)
     as-keys [] = refl
     as-keys (e ∷ es) = λ i. not (any-key e.0 es i) && as-keys es i
-
-no_truth : false ≡ true → ⊥
-no_truth h = cc
 
 not-same : (a b : List ℕ) → not (same_bytes a b) ≡ true → same_bytes b a ≡ false
 not-same a b h = nat_list_eq_equiv.symm b a ∙ not_so (same_bytes a b) h
