@@ -30,9 +30,13 @@ lib:
 lib-check: lib program
 	sh tests/c/check.sh
 
-# Builds the wheel of the Python package, in build/.
-python: lib
-	sh python/build.sh
+# Builds the wheel of the Python package, in build/, if it is missing or older than the library or a file of the package.
+WHEEL = build/mpslp-$(shell cat VERSION)-cp310-abi3-linux_x86_64.whl
+
+python: $(WHEEL)
+
+$(WHEEL): build/libmpslp.so.0 python/build.sh $(shell find python/src python/setup.py python/pyproject.toml python/README.md docs/errors.tsv -name '__pycache__' -prune -o -type f -print)
+	@sh python/build.sh
 
 # Tests the Python package.
 python-check: python

@@ -195,9 +195,9 @@ typedef char mpslp_enumerations_have_4_bytes[sizeof(mpslp_format) == 4 && sizeof
 
 /*
  * An exact decimal: `high` times 2^64 plus `low` is the mantissa, which is multiplied by ten to the `exponent`. In a model that
- * mpslp_load returned the mantissa has at most 36 digits and does not end in a zero, the exponent is from -500 to 500, and 0 has
- * the exponent 0, so numbers are equal if and only if their parts are. If `infinity` is -1 or 1 the number is the infinity of
- * that sign, and the rest is 0.
+ * mpslp_load or mpslp_normalize returned the mantissa has at most 36 digits and does not end in a zero, the exponent is from -500
+ * to 500, and 0 has the exponent 0, so numbers are equal if and only if their parts are. If `infinity` is -1 or 1 the number is
+ * the infinity of that sign, and the rest is 0.
  */
 typedef struct mpslp_number {
     uint64_t low;
@@ -232,9 +232,9 @@ typedef struct mpslp_element {
 } mpslp_element;
 
 /*
- * A model. In a model that mpslp_load or mpslp_normalize returned, rows and columns are in byte order of their names; the objective is no row; and
- * the elements are those of the first column, then those of the second, and so on, each column's in the order of rows. Release
- * such a model with mpslp_free_model. No pointer is null.
+ * A model. In a model that mpslp_load or mpslp_normalize returned, rows and columns are in byte order of their names; the objective
+ * is no row; and the elements are those of the first column, then those of the second, and so on, each column's in the order of
+ * rows. Release such a model with mpslp_free_model. No pointer is null.
  */
 typedef struct mpslp_model {
     mpslp_text names; /* the bytes of all names */
@@ -321,7 +321,10 @@ MPSLP_INLINE int mpslp_compare_name(const mpslp_model *model, mpslp_name name, c
     return order != 0 ? order : (name.len > len) - (name.len < len);
 }
 
-/* Finds the row whose name is `len` bytes, by bisection. Returns whether there is one, and its index in `*number`. */
+/*
+ * Finds the row whose name is `len` bytes, by bisection: the rows have to be in byte order of their names. Returns whether there is
+ * one, and its index in `*number`.
+ */
 MPSLP_INLINE MPSLP_MUST_USE bool mpslp_find_row(const mpslp_model *model, const char *name, size_t len, size_t *number) {
     size_t first = 0, end = model->num_rows;
     while (first < end) {
@@ -337,7 +340,10 @@ MPSLP_INLINE MPSLP_MUST_USE bool mpslp_find_row(const mpslp_model *model, const 
     return false;
 }
 
-/* Finds the column whose name is `len` bytes, by bisection. Returns whether there is one, and its index in `*number`. */
+/*
+ * Finds the column whose name is `len` bytes, by bisection: the columns have to be in byte order of their names. Returns whether
+ * there is one, and its index in `*number`.
+ */
 MPSLP_INLINE MPSLP_MUST_USE bool mpslp_find_column(const mpslp_model *model, const char *name, size_t len, size_t *number) {
     size_t first = 0, end = model->num_columns;
     while (first < end) {
@@ -658,7 +664,7 @@ MPSLP_INLINE void mpslp_free(mpslp_text *text) {
     *text = none;
 }
 
-/* Frees a model that mpslp_load returned, and makes it MPSLP_NO_MODEL. An empty array has nothing to free. */
+/* Frees a model that mpslp_load or mpslp_normalize returned, and makes it MPSLP_NO_MODEL. An empty array has nothing to free. */
 MPSLP_INLINE void mpslp_free_model(mpslp_model *model) {
     const mpslp_model none = MPSLP_NO_MODEL;
     mpslp_free(&model->names);

@@ -69,6 +69,12 @@ echo other > "$scratch/stage/usr/share/zsh/site-functions/_other"
 make_without_kit uninstall DESTDIR="$scratch/stage" PREFIX=/usr LIBDIR=/usr/lib64
 test "$(find "$scratch/stage" -type f)" = "$scratch/stage/usr/share/zsh/site-functions/_other" || die "uninstall takes away too much, or leaves $(find "$scratch/stage" -type f)"
 
+# What the library is built from: if a file is newer, it is built again.
+for source in crates.txt crates/mpslp_c/src/storing.rt include/mpslp.h lib/build.sh lib/inline.c lib/mpslp.map VERSION; do
+    make -n -W "$source" install-lib | grep -qx 'sh lib/build.sh' || die "install-lib installs a library that is older than $source"
+done
+! make -n install-lib python | grep -q 'lib/build.sh' || die "install-lib or python builds again what is built"
+
 # Repeating an install or an uninstall changes nothing.
 make_without_kit install install install-lib uninstall uninstall PREFIX="$scratch/twice"
 is_gone "$scratch/twice"

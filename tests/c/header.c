@@ -99,6 +99,12 @@ static void check_bulk(const mpslp_model *model) {
     assert(rows[0] == 0 && values[0] == 1 && rows[1] == 2 && values[1] == 1 && rows[2] == 1 && values[2] == 1 && rows[3] == 2 && values[3] == 2);
 }
 
+static void check_kinds(void) {
+    mpslp_model model = model_of("min x + y + z\nbounds\nz <= 9\ngenerals\ny\nsemi-continuous\nz\nend\n");
+    assert(!mpslp_is_integer(&model, 0) && mpslp_is_integer(&model, 1) && !mpslp_is_integer(&model, 2));
+    mpslp_free_model(&model);
+}
+
 static void check_large(void) {
     mpslp_model model = MPSLP_NO_MODEL;
     model.num_elements = INT32_MAX;
@@ -146,6 +152,7 @@ int main(int count, char **words) {
     check_lines();
     check_names(&model);
     check_bulk(&model);
+    check_kinds();
     check_large();
     check_no_numbers();
     mpslp_free_model(&model);

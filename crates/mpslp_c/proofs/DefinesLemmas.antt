@@ -1,22 +1,22 @@
 -- Items without an error define a model, and the items of arrays that define a model have no error.
-use Rattle.std.proofs.Common.{◌≡◌, refl, sym, ap, ◌∙◌, subst, ℕ, zero, suc, List, [], ◌∷◌, ◌++◌, map, Bool, true, false, not, Option, None, Some, Result, Ok, Err}
-use Rattle.std.specs.Prelude.{◌&&◌, ◌||◌, is_some, IsTrue}
-use Rattle.std.specs.List.{list_all, list_any, flat_map}
+use Rattle.std.proofs.Common.{◌≡◌, refl, sym, ap, ◌∙◌, subst, ℕ, List, [], ◌∷◌, ◌++◌, map, Bool, true, not, Option, None, Some, Ok, Err}
+use Rattle.std.specs.Prelude.{◌||◌, is_some}
+use Rattle.std.specs.List.{list_all, flat_map}
 use Rattle.std.specs.Option.{option_map_or}
 use Rattle.std.specs.Cmp.{first_so, second_so}
 use Rattle.std.proofs.lemmas.List.{append-nil}
 use Rattle.mpslp_model_core.specs.Model.{LinearModel}
 use Rattle.mpslp_model_core.specs.Lists.{head_of}
-use Rattle.mpslp_types.proofs.BoolLemmas.{both_so, or_left, nor, both_false}
+use Rattle.mpslp_types.proofs.BoolLemmas.{both_so, both_false}
 use Rattle.mpslp_types.specs.Limit.{is_plus_infinite, is_minus_infinite}
 use Rattle.mpslp_types.specs.declared.kinds.Limit.{Limit}
 use Rattle.mpslp_types.specs.declared.faults.BuildFault.{BuildFault}
 use Rattle.mpslp_types.specs.declared.faults.BuildFault.TheVariants as builds
 use Rattle.mpslp_types.specs.declared.faults.FaultKind.{FaultKind}
-use Rattle.mpslp_builder.specs.Declaration.{Declaration, declare_objective, declare_constant, declare_lower, declare_upper, Declarations, Draft, empty_draft, with_declaration, with_declarations, draft_of, has_column, has_name}
+use Rattle.mpslp_builder.specs.Declaration.{declare_objective, declare_constant, declare_lower, declare_upper, Declarations, Draft, empty_draft, with_declaration, with_declarations, has_column, has_name}
 use Rattle.mpslp_builder.specs.Refusal.{refusals, refusals_in_turn, bounds_refusals}
-use Rattle.mpslp_builder.specs.Consistency.{has_objective, AreConsistent}
-use Rattle.mpslp_builder.specs.Meaning.{DraftMeans, Means}
+use Rattle.mpslp_builder.specs.Consistency.{has_objective}
+use Rattle.mpslp_builder.specs.Meaning.{DraftMeans}
 use Rattle.mpslp_builder.proofs.RefusalLemmas.{left_none, right_none, join_none, first_none, rest_none, pass, are_known_in_turn, consistent-from_none, none-from_consistent}
 use Rattle.mpslp_builder.proofs.MadeDrafts.{with_declarations-append, refusals_in_turn-append, bounds-in_turn}
 use Rattle.mpslp_lines.specs.Declaring.{kind_of_build_fault}

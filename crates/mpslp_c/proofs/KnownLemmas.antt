@@ -1,22 +1,19 @@
 -- Each name is declared before it is used: the objective and the rows come first, and each column before its elements.
 use Rattle.std.proofs.Common.{◌≡◌, refl, sym, ap, ◌∙◌, subst, ℕ, zero, suc, List, [], ◌∷◌, ◌++◌, Bool, true, false, Option, None, Some, Result, Ok, Err, cond, append_assoc}
-use Rattle.std.specs.Prelude.{◌&&◌, ◌||◌, nat_le, slice_get, slice_range, length}
+use Rattle.std.specs.Prelude.{◌&&◌, nat_le, slice_get, slice_range, length}
 use Rattle.std.specs.List.{list_all, flat_map}
 use Rattle.std.specs.Cmp.{first_so, second_so}
 use Rattle.std.specs.Cmp.Lexicographic.{bytes_decides}
-use Rattle.std.specs.FinMap.{put}
 use Rattle.std.proofs.lemmas.Grind.{flat_map-append}
-use Rattle.std.proofs.lemmas.List.Folds.{list_all-append}
 use Rattle.mpslp_decimal.specs.Decimal.{Number}
 use Rattle.mpslp_model_core.specs.Model.{LinearModel}
 use Rattle.mpslp_types.specs.declared.kinds.Limit.{Limit}
-use Rattle.mpslp_types.proofs.BoolLemmas.{both_so, or_left, or_right}
-use Rattle.mpslp_types.specs.Name.{same_bytes, bytes_cmp, name_refusal}
-use Rattle.mpslp_types.specs.declared.names.NameFault.{NameFault}
+use Rattle.mpslp_types.proofs.BoolLemmas.{both_so, or_left}
+use Rattle.mpslp_types.specs.Name.{same_bytes}
 use Rattle.mpslp_types.specs.declared.faults.FaultKind.{FaultKind}
 use Rattle.mpslp_types.specs.declared.faults.FaultKind.TheVariants.{ColumnSplit}
 use Rattle.mpslp_c.specs.declared.faults.TheConstants.{AT_COLUMN}
-use Rattle.mpslp_builder.specs.Declaration.{Declaration, declare_sense, declare_objective, declare_constant, declare_row, declare_rhs, declare_range, declare_column, declare_coefficient, declare_lower, declare_upper, declare_marked, declare_integer, declare_binary, declare_semi, Declarations, Draft, empty_draft, with_declaration, with_declarations, draft_of, has_row, has_column, has_name, by_limits}
+use Rattle.mpslp_builder.specs.Declaration.{Declaration, declare_sense, declare_objective, declare_constant, declare_row, declare_column, declare_coefficient, declare_lower, declare_upper, declare_integer, declare_semi, Declarations, Draft, empty_draft, with_declaration, with_declarations, draft_of, has_row, has_column, has_name}
 use Rattle.mpslp_builder.specs.Consistency.{is_known}
 use Rattle.mpslp_builder.proofs.RefusalLemmas.{are_known_in_turn}
 use Rattle.mpslp_builder.proofs.SlotLemmas.{has-put}
@@ -25,12 +22,11 @@ use Rattle.mpslp_builder.proofs.MadeDrafts.{with_declarations-append}
 use Rattle.mpslp_c.specs.Stored.{Step, fails, declares, bounds, step_declared, steps_with, name_given, number_given, limit_given, bytes_at, sense_steps, objective_steps, row_steps, kind_steps, column_steps, element_steps, Item, row_items, element_items, elements_end, own_items, column_items, first_column_steps, items, is_good, is_good_item, declared_by, Defines}
 use Rattle.mpslp_c.proofs.StepLemmas.{given_bytes}
 use Rattle.mpslp_c.specs.declared.arrays.MpslpRow.{MpslpRow}
-use Rattle.mpslp_c.specs.declared.arrays.MpslpName.{MpslpName}
 use Rattle.mpslp_c.specs.declared.arrays.MpslpColumn.{MpslpColumn}
 use Rattle.mpslp_c.specs.declared.arrays.MpslpElement.{MpslpElement}
 use Rattle.mpslp_c.specs.declared.arrays.MpslpModel.{MpslpModel}
 
-all-append : {X : Type 0} (p : X → Bool) (xs ys : List X) → list_all p xs ≡ true → list_all p ys ≡ true → list_all p (xs ++ ys) ≡ true
+pub all-append : {X : Type 0} (p : X → Bool) (xs ys : List X) → list_all p xs ≡ true → list_all p ys ≡ true → list_all p (xs ++ ys) ≡ true
 all-append p [] ys h k = k
 all-append p (x ∷ xs) ys h k = both_so (p x) (list_all p (xs ++ ys)) (first_so (p x) (list_all p xs) h) (all-append p xs ys (second_so (p x) (list_all p xs) h) k)
 

@@ -6,3 +6,9 @@ pub mod KnownLemmas
 pub mod NumberLemmas
 pub mod StepLemmas
 pub mod StoredLemmas
+pub mod StoredTexts
+pub mod ToldDeclarations
+pub mod ToldDraft
+pub mod ToldItems
+pub mod ToldMeaning
+pub mod ToldValues

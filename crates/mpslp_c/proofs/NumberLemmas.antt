@@ -1,7 +1,7 @@
 -- The literal of a mantissa and an exponent is read as their value.
-use Rattle.std.proofs.Common.{◌≡◌, refl, sym, ap, subst, ◌∙◌, List, [], ◌∷◌, ◌++◌, length, ℕ, zero, suc, Bool, true, false, arith, ◌<◌, ◌≤◌, ◌+◌, ◌-◌, ◌*◌, ◌^◌, length-append, add-one, append_assoc}
-use Rattle.std.specs.Prelude.{ℤ, pos, negsuc, ◌-ℤ◌, neg_ℤ, unsigned_abs, int_le, ◌&&◌, ◌||◌, not, nat_lt, if◌then◌else◌, Result, Ok, Err}
-use Rattle.std.specs.List.{list_any, before_first, after_first}
+use Rattle.std.proofs.Common.{◌≡◌, refl, sym, ap, subst, ◌∙◌, List, [], ◌∷◌, ◌++◌, length, ℕ, Bool, true, false, arith, ◌<◌, ◌≤◌, ◌^◌, length-append}
+use Rattle.std.specs.Prelude.{ℤ, pos, negsuc, ◌-ℤ◌, neg_ℤ, unsigned_abs, ◌&&◌, ◌||◌, not, if◌then◌else◌, Result, Ok, Err}
+use Rattle.std.specs.List.{before_first, after_first}
 use Rattle.std.specs.Fmt.{decimal, signed_decimal}
 use Rattle.std.proofs.lemmas.Fmt.{length-decimal-le_wide}
 use Rattle.std.proofs.lemmas.List.{append-nil}
@@ -12,12 +12,11 @@ use Rattle.mpslp_decimal.specs.Decimal.{Number, normal, has_few_digits, has_smal
 use Rattle.mpslp_decimal.specs.Literal.{is_digit, is_minus, without_sign, is_point, is_exponent_mark, digits_sum, are_digits, to_signed, signed_value, unsigned_part, fraction_digits, mantissa_digits, exponent_part, is_literal, literal_value, number_of}
 use Rattle.mpslp_decimal.specs.declared.literal.NumberFault.{NumberFault}
 use Rattle.mpslp_decimal.specs.declared.literal.NumberFault.TheVariants.{BadNumber, LongNumber, TooManyDigits, ExponentRange}
-use Rattle.mpslp_decimal.proofs.CutLemmas.{Each, Each-weaker, before-at, after-at, after-none, before-none, AreDigits, digit-no_mark, digit-no_point, digit-no_sign, digit-no_minus, Spells, decimal-spells}
+use Rattle.mpslp_decimal.proofs.CutLemmas.{Each, Each-weaker, before-at, after-at, after-none, before-none, AreDigits, digit-no_mark, digit-no_point, digit-no_sign, digit-no_minus, decimal-spells}
 use Rattle.mpslp_decimal.proofs.NumberTextLemmas.{are-digits}
 use Rattle.mpslp_types.specs.declared.faults.FaultKind.{FaultKind}
 use Rattle.mpslp_lines.specs.Field.{kind_of_number_fault}
-use Rattle.mpslp_lines.specs.declared.errors.LineError.TheVariants.{Fault}
-use Rattle.mpslp_c.specs.Stored.{decimal_given, literal_text, IsFaultGiven}
+use Rattle.mpslp_c.specs.Stored.{decimal_given, literal_text}
 
 -- ---- a sign and digits
 

@@ -2,7 +2,7 @@
 --
 -- Their items, in this order: the objective, the rows, and then each column with its elements. Each item has steps: what it
 -- declares, or an error of its own.
-use Rattle.std.specs.Prelude.{◌≡◌, ℕ, zero, suc, ◌+◌, ◌-◌, ◌^◌, ℤ, pos, negsuc, ◌+ℤ◌, ◌*ℤ◌, Bool, true, false, ◌&&◌, not, nat_le, int_lt, IsTrue, List, [], ◌∷◌, ◌++◌, map, length, slice_get, slice_range, Option, None, Some, Result, Ok, Err, if◌then◌else◌}
+use Rattle.std.specs.Prelude.{◌≡◌, ℕ, zero, suc, ◌+◌, ◌^◌, ℤ, pos, ◌+ℤ◌, ◌*ℤ◌, Bool, true, false, ◌&&◌, not, nat_le, int_lt, IsTrue, List, [], ◌∷◌, ◌++◌, map, length, slice_get, slice_range, Option, None, Some, Result, Ok, Err, if◌then◌else◌}
 use Rattle.std.specs.List.{list_all, flat_map}
 use Rattle.std.specs.Option.{option_map_or}
 use Rattle.std.specs.Fmt.{signed_decimal}
@@ -15,17 +15,16 @@ use Rattle.mpslp_types.specs.declared.names.NameFault.TheVariants as names
 use Rattle.mpslp_types.specs.declared.faults.FaultKind.{FaultKind}
 use Rattle.mpslp_types.specs.declared.faults.FaultKind.TheVariants.{NameLength, NameByte, NameMarker, BadNumber, TooManyDigits, ExponentRange, BadType, UnknownRow, ColumnSplit}
 use Rattle.mpslp_types.specs.declared.kinds.Limit.{Limit}
-use Rattle.mpslp_types.specs.declared.kinds.Limit.TheVariants.{MinusInf, Finite, PlusInf}
+use Rattle.mpslp_types.specs.declared.kinds.Limit.TheVariants.{MinusInf, PlusInf}
 use Rattle.mpslp_types.specs.declared.kinds.Sense.TheVariants.{Minimize, Maximize}
 use Rattle.mpslp_model_core.specs.Model.{LinearModel}
 use Rattle.mpslp_model_core.specs.Lists.{head_of}
-use Rattle.mpslp_builder.specs.Declaration.{Declaration, declare_sense, declare_objective, declare_constant, declare_row, declare_column, declare_coefficient, declare_integer, declare_semi, by_limits, Declarations, Draft, empty_draft, with_declarations, bounds_declared}
+use Rattle.mpslp_builder.specs.Declaration.{Declaration, declare_sense, declare_objective, declare_constant, declare_row, declare_column, declare_coefficient, declare_integer, declare_semi, by_limits, Declarations, Draft, with_declarations, bounds_declared}
 use Rattle.mpslp_builder.specs.Refusal.{refusals, bounds_refusals}
 use Rattle.mpslp_builder.specs.Meaning.{Means}
 use Rattle.mpslp_lines.specs.Declaring.{kind_of_build_fault}
 use Rattle.mpslp_lines.specs.declared.errors.LineError.{LineError}
 use Rattle.mpslp_lines.specs.declared.errors.LineError.TheVariants.{Fault, OutOfMemory}
-use Rattle.mpslp_c.specs.declared.arrays.TheConstants.{CONTINUOUS, INTEGER, SEMI, MINIMIZE, MAXIMIZE}
 use Rattle.mpslp_c.specs.declared.faults.TheConstants.{AT_OBJECTIVE, AT_ROW, AT_COLUMN, AT_ELEMENT}
 use Rattle.mpslp_c.specs.declared.faults.ItemFault.{ItemFault}
 use Rattle.mpslp_c.specs.declared.faults.StoreFault.{StoreFault}

@@ -8,6 +8,7 @@ mod answers;
 mod arrays;
 mod calls;
 mod faults;
+pub mod laws;
 mod loading;
 mod normalizing;
 mod numbers;

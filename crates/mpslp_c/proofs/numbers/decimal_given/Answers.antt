@@ -1,4 +1,4 @@
-use Rattle.std.proofs.Common.{◌≡◌, ◌∙◌, ap, sym, Ok, Err, rules, to_z, of_z}
+use Rattle.std.proofs.Common.{◌≡◌, ◌∙◌, ap, sym, Err, rules, to_z, of_z}
 use Rattle.std.specs.Int.{w32, w128}
 use Rattle.mpslp_decimal.specs.Literal.{number_of}
 use Rattle.mpslp_c.specs.Stored.{literal_text}

@@ -1,5 +1,5 @@
-use Rattle.std.proofs.Common.{◌≡◌, ◌∙◌, refl, sym, [], ◌∷◌, List, Ok, Some}
-use Rattle.mpslp_builder.specs.Declaration.{declare_column, declare_coefficient, with_declarations}
+use Rattle.std.proofs.Common.{◌≡◌, ◌∙◌, refl, sym, ◌∷◌, Some}
+use Rattle.mpslp_builder.specs.Declaration.{declare_column, declare_coefficient}
 use Rattle.mpslp_builder.specs.Refusal.{refusals, bounds_refusals}
 use Rattle.mpslp_c.specs.Stored.{declares, bounds, column_steps, kind_steps}
 use Rattle.mpslp_c.proofs.StepLemmas.{steps_are, call_err, call_then, column_taken, name_made}

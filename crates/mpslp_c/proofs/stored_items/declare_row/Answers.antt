@@ -1,7 +1,7 @@
-use Rattle.std.proofs.Common.{◌≡◌, ◌∙◌, refl, sym, [], ◌∷◌, List, Ok}
-use Rattle.mpslp_builder.specs.Declaration.{declare_row, by_limits, with_declaration}
+use Rattle.std.proofs.Common.{◌≡◌, ◌∙◌, refl, sym, [], ◌∷◌, Ok}
+use Rattle.mpslp_builder.specs.Declaration.{declare_row, by_limits}
 use Rattle.mpslp_builder.specs.Refusal.{refusals}
-use Rattle.mpslp_c.specs.Stored.{Step, declares, row_steps}
+use Rattle.mpslp_c.specs.Stored.{declares, row_steps}
 use Rattle.mpslp_c.proofs.StepLemmas.{steps_are, call_err, call_then, no_steps, row_taken, name_made}
 use Rattle.mpslp_c.proofs.stored_items.declare_row.Goals as goal
 

@@ -1,4 +1,4 @@
-use Rattle.std.proofs.Common.{◌≡◌, ◌∙◌, ap, sym, subst, ℕ, [], ◌∷◌, ◌++◌, ◌+◌, List, length, drop, Result, Ok, Err}
+use Rattle.std.proofs.Common.{sym, subst, ℕ, [], ◌∷◌, ◌++◌, ◌+◌, length, drop, Result, Ok, Err}
 use Rattle.mpslp_c.specs.Answers.{TakesItems}
 use Rattle.mpslp_c.specs.Stored.{own_items, elements_end, column_items}
 use Rattle.mpslp_c.specs.declared.faults.StoreFault.{StoreFault}

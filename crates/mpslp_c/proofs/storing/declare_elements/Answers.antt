@@ -1,4 +1,4 @@
-use Rattle.std.proofs.Common.{◌≡◌, sym, subst, [], ◌∷◌, ◌+◌, List, Result, Ok}
+use Rattle.std.proofs.Common.{sym, subst, [], ◌∷◌, ◌+◌, Result}
 use Rattle.std.specs.Prelude.{slice_range}
 use Rattle.mpslp_c.specs.Answers.{TakesItems}
 use Rattle.mpslp_c.specs.Stored.{element_items}

@@ -1,4 +1,4 @@
-use Rattle.std.proofs.Common.{◌≡◌, ◌∙◌, ap, sym, subst, ℕ, [], ◌∷◌, ◌++◌, List, Result, Ok}
+use Rattle.std.proofs.Common.{sym, subst, ℕ, [], ◌∷◌, ◌++◌, List, Result}
 use Rattle.mpslp_c.specs.Answers.{TakesItems}
 use Rattle.mpslp_c.specs.Stored.{Item, items, objective_steps, row_items, first_column_steps, column_items, bytes_at}
 use Rattle.mpslp_c.specs.declared.faults.StoreFault.{StoreFault}

@@ -1,5 +1,4 @@
-use Rattle.std.proofs.Common.{◌≡◌, ◌∙◌, sym, ap, inl, None, Some, Option}
-use Rattle.mpslp_types.specs.declared.faults.NameAt.{NameAt}
+use Rattle.std.proofs.Common.{◌∙◌, sym, ap, inl}
 use Rattle.mpslp_c.specs.declared.faults.StoreFault.TheVariants as stored
 use Rattle.mpslp_c.proofs.DefinesLemmas.{one_model}
 use Rattle.mpslp_c.proofs.StoredLemmas.{some_none, same_some}

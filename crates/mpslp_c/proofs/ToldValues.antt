@@ -1,0 +1,98 @@
+-- The numbers, limits and names in the arrays of a well-formed model are given back as they are.
+use Rattle.std.proofs.Common.{◌≡◌, refl, sym, ap, ◌∙◌, ℕ, List, Bool, true, false, not, Result, Ok, Err, None, ◌*◌, ◌+◌, ◌^◌, length, arith, le-leb}
+use Rattle.std.specs.Prelude.{ℤ, pos, negsuc, ◌-ℤ◌, ◌&&◌, unsigned_abs, int_le, int_lt, nat_le, if◌then◌else◌}
+use Rattle.std.specs.List.{list_all}
+use Rattle.std.specs.Option.{option_map_or}
+use Rattle.std.specs.Ordering.{int_eq}
+use Rattle.std.specs.Cmp.{first_so, second_so}
+use Rattle.std.proofs.lemmas.Int.{ints}
+use Rattle.mpslp_decimal.specs.Decimal.{Number, IsDecimal, is_zero, is_normal, normal, has_few_digits, has_small_exponent}
+use Rattle.mpslp_decimal.specs.Literal.{to_signed}
+use Rattle.mpslp_decimal.proofs.NormalLemmas.{normal-tens}
+use Rattle.mpslp_decimal.proofs.NumberTextLemmas.{signed-size, nonzero-ends, zero-is}
+use Rattle.mpslp_types.specs.Limit.{is_given, is_lower_side, is_upper_side}
+use Rattle.mpslp_types.specs.Name.{is_mps_name, has_name_length, is_visible, same_bytes, marker, name_refusal}
+use Rattle.mpslp_types.specs.declared.faults.FaultKind.{FaultKind}
+use Rattle.mpslp_types.specs.declared.faults.FaultKind.TheVariants.{TooManyDigits, ExponentRange, BadNumber, NameLength}
+use Rattle.mpslp_types.specs.declared.kinds.Limit.{Limit}
+use Rattle.mpslp_types.specs.declared.kinds.Limit.TheVariants.{MinusInf, Finite, PlusInf}
+use Rattle.mpslp_builder.proofs.SoundParts.{no_marker, bounded_so, bounded_finite}
+use Rattle.mpslp_c.specs.Arrays.{TellsNumber, TellsLimit, TellsName}
+use Rattle.mpslp_c.specs.Stored.{given_number, decimal_given, number_given, finite_limit, limit_given, kind_of_name_fault, bytes_at, name_given}
+use Rattle.mpslp_c.specs.declared.numbers.MpslpNumber.{MpslpNumber}
+use Rattle.mpslp_c.specs.declared.arrays.MpslpName.{MpslpName}
+
+-- ---- numbers
+
+no_more : (m : ℕ) → m ≡ m * 10 ^ 0
+no_more m = omega arith
+
+same_exponent : (e : ℤ) → e ≡ e -ℤ pos 0
+same_exponent e = omega (arith, ints)
+
+-- a decimal is its own normal form
+normal-own : (d : Number) → IsDecimal d → normal d ≡ d
+normal-own d ok = by (is_zero d) refl
+  where
+    minus : Bool
+    minus = int_le d.mantissa (negsuc 0)
+
+    size : ℕ
+    size = unsigned_abs d.mantissa
+
+    by : (b : Bool) → is_zero d ≡ b → normal d ≡ d
+    by true z = let e = zero-is d ok z in ap normal e ∙ refl ∙ sym e
+    by false z =
+        (λ i. normal (record { mantissa = (sym (signed-size d.mantissa) ∙ ap (to_signed minus) (no_more size)) i; exponent = same_exponent d.exponent i }))
+        ∙ normal-tens minus size 0 d.exponent (nonzero-ends d ok z) (omega arith)
+        ∙ (λ i. record { mantissa = signed-size d.mantissa i; exponent = d.exponent })
+
+abbrev tested : Number → Result Number FaultKind
+tested value = if not (has_few_digits value) then Err TooManyDigits else (if not (has_small_exponent value) then Err ExponentRange else Ok value)
+
+decimal-own : (d : Number) → IsDecimal d → decimal_given d ≡ Ok d
+decimal-own d ok =
+    let few : has_few_digits d ≡ true = first_so (has_few_digits d) (has_small_exponent d && is_normal d) ok in
+    let small : has_small_exponent d ≡ true = first_so (has_small_exponent d) (is_normal d) (second_so (has_few_digits d) (has_small_exponent d && is_normal d) ok) in
+    ap tested (normal-own d ok) ∙ (λ i. if not (few i) then Err TooManyDigits else (if not (small i) then Err ExponentRange else Ok d))
+
+decimal-told : (d : Number) (told : MpslpNumber) → IsDecimal d → TellsNumber d told → decimal_given (given_number told) ≡ Ok d
+decimal-told d told ok tells = (λ i. decimal_given (record { mantissa = sym tells.mantissa i; exponent = tells.exponent i })) ∙ decimal-own d ok
+
+pub number-told : (d : Number) (told : MpslpNumber) → IsDecimal d → TellsNumber d told → number_given told ≡ Ok d
+number-told d told ok tells =
+    (λ i. if int_eq (tells.infinity i) (pos 0) then decimal_given (given_number told) else Err BadNumber) ∙ decimal-told d told ok tells
+
+-- ---- limits and bounds
+
+pub limit-told : (limit : Limit) (told : MpslpNumber) → is_given limit ≡ true → TellsLimit limit told → limit_given told ≡ Ok limit
+limit-told MinusInf told given tells = ap limit_given tells
+limit-told PlusInf told given tells = ap limit_given tells
+limit-told (Finite d) told given tells =
+    (λ i. if int_lt (tells.infinity i) (pos 0) then Ok MinusInf else (if int_lt (pos 0) (tells.infinity i) then Ok PlusInf else finite_limit (decimal_given (given_number told))))
+    ∙ ap finite_limit (decimal-told d told (bounded_so d given) tells) ∙ ap (λ (limit : Limit). Ok limit) (bounded_finite d given)
+
+pub lower-given : (limit : Limit) → is_lower_side limit ≡ true → is_given limit ≡ true
+lower-given MinusInf h = refl
+lower-given (Finite d) h = h
+lower-given PlusInf h = refl
+
+pub upper-given : (limit : Limit) → is_upper_side limit ≡ true → is_given limit ≡ true
+upper-given MinusInf h = refl
+upper-given (Finite d) h = h
+upper-given PlusInf h = refl
+
+-- ---- names
+
+no-refusal : (name : List ℕ) → is_mps_name name ≡ true → name_refusal name ≡ None
+no-refusal name h =
+    let rest = list_all is_visible name && not (same_bytes name marker) in
+    let sized : has_name_length name ≡ true = first_so (has_name_length name) rest h in
+    let seen : list_all is_visible name ≡ true = first_so (list_all is_visible name) (not (same_bytes name marker)) (second_so (has_name_length name) rest h) in
+    rw (sized, seen, no_marker name h) refl
+
+pub name-told : (all name : List ℕ) (told : MpslpName) → is_mps_name name ≡ true → TellsName all name told → name_given all told ≡ Ok name
+name-told all name told legal tells =
+    let within : nat_le (told.at + told.len) (length all) ≡ true = le-leb (told.at + told.len) (length all) tells.within in
+    let none : name_refusal (bytes_at all told) ≡ None = ap name_refusal tells.bytes ∙ no-refusal name legal in
+    (λ i. if within i then option_map_or (λ fault. Err (kind_of_name_fault fault)) (none i) (Ok (tells.bytes i)) else Err NameLength)
