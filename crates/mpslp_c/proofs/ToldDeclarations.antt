@@ -1,4 +1,4 @@
--- What the arrays of a model declare, item by item: a list that depends on the model alone.
+-- What the arrays of a model declare, item by item: a list that depends only on the model.
 use Rattle.std.specs.Prelude.{ℕ, List, [], ◌∷◌, ◌++◌, map}
 use Rattle.std.specs.List.{flat_map}
 use Rattle.std.specs.FinMap as maps

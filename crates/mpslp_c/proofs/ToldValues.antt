@@ -1,4 +1,4 @@
--- The numbers, limits and names in the arrays of a well-formed model are given back as they are.
+-- The numbers, limits and names in the arrays of a well-formed model are given back unchanged.
 use Rattle.std.proofs.Common.{◌≡◌, refl, sym, ap, ◌∙◌, ℕ, List, Bool, true, false, not, Result, Ok, Err, None, ◌*◌, ◌+◌, ◌^◌, length, arith, le-leb}
 use Rattle.std.specs.Prelude.{ℤ, pos, negsuc, ◌-ℤ◌, ◌&&◌, unsigned_abs, int_le, int_lt, nat_le, if◌then◌else◌}
 use Rattle.std.specs.List.{list_all}
