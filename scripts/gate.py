@@ -26,8 +26,8 @@ COPY = ROOT / "build" / "ci"
 # What a crate has that `rt ci` does not read here.
 LEFT_OUT = shutil.ignore_patterns("must-fail", "out")
 
-# Each proof takes up to 4 GB of memory, so there are at most so many side by side.
-MOST_PROOFS = 4
+# Each check takes up to 4 GB of memory, so there are at most so many side by side.
+MOST_CHECKS = 4
 
 
 @dataclass(frozen=True)
@@ -80,7 +80,7 @@ class Report:
 
 
 def processors() -> int:
-    return min(MOST_PROOFS, len(os.sched_getaffinity(0)))
+    return min(MOST_CHECKS, len(os.sched_getaffinity(0)))
 
 
 def copy_crates() -> None:
@@ -105,7 +105,9 @@ def prove_all(report: Report) -> tuple[bool, str]:
     """Runs `rt ci`, and returns whether it passed, and its closing line."""
     copy_crates()
     log, closing = LOGS / "rt-ci.log", ""
-    environment = {**os.environ, "RT_JOBS": str(processors())}
+    # Without RT_JOBS `rt ci` proves as many crates side by side as there are processors and memory for, and gives idle processors
+    # to a crate for which others wait.
+    environment = {name: value for name, value in os.environ.items() if name != "RT_JOBS"}
     with log.open("w") as output, subprocess.Popen(
         ["rt", "ci"], cwd=COPY, stdout=subprocess.PIPE, stderr=subprocess.STDOUT, text=True, errors="replace", env=environment
     ) as ci:
@@ -206,7 +208,7 @@ def main() -> int:
     require_kit()
     LOGS.mkdir(parents=True, exist_ok=True)
     report = Report()
-    report.say(f"rt ci: {processors()} proofs side by side; the prover's output is in {LOGS.relative_to(ROOT)}/")
+    report.say(f"rt ci proves on {processors()} processors; the prover's output is in {LOGS.relative_to(ROOT)}/")
     passed, closing = prove_all(report)
     print(closing, flush=True)
     proved, unproved = map(int, CLOSING.match(closing).groups())
