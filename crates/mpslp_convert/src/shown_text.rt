@@ -11,7 +11,7 @@ ghost use Rattle.mpslp_convert.specs.ShownText.{sense_line, objective_line, coun
 
 use crate::shown_words::{kind_word, put_count, put_limit, put_number, put_word, sense_word};
 use mpslp_model::{Model, Sink, WriteFault};
-use mpslp_write::{Buffer, Output};
+use mpslp_write::{Buffer, Output, put_each};
 
 /// Puts the line of the objective's sense.
 fn put_sense<W: Sink>(model: &Model, output: &mut Output<W>)
@@ -73,12 +73,9 @@ fn put_row<W: Sink>(model: &Model, i: usize, output: &mut Output<W>)
 fn put_rows<W: Sink>(model: &Model, output: &mut Output<W>)
     ensures { Puts W.Sink output.old output.new (rows_text model.now) }
 {
-    for i in 0..model.num_rows() {
-        if output.has_failed() {
-            return;
-        }
-        put_row(model, i, output);
-    }
+    put_each(model.num_rows(), output, |i, output| {
+        put_row(model, i, output)
+    });
 }
 
 /// Puts the line of nonzero number `k` of the column of number `j`.
@@ -128,12 +125,9 @@ fn put_column<W: Sink>(model: &Model, j: usize, output: &mut Output<W>)
 fn put_columns<W: Sink>(model: &Model, output: &mut Output<W>)
     ensures { Puts W.Sink output.old output.new (columns_text model.now) }
 {
-    for j in 0..model.num_cols() {
-        if output.has_failed() {
-            return;
-        }
-        put_column(model, j, output);
-    }
+    put_each(model.num_cols(), output, |j, output| {
+        put_column(model, j, output)
+    });
 }
 
 /// Puts the text that shows a model.

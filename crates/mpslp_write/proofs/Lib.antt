@@ -11,3 +11,4 @@ pub mod DifferenceLemmas
 pub mod LpLineTexts
 pub mod LpTerms
 pub mod FirstPlace
+pub mod EachLemmas

@@ -6,6 +6,7 @@
 //! through an [`Output`], too.
 #![tactic(auto)]
 
+mod each;
 mod formats;
 mod lp;
 mod mps;
@@ -13,6 +14,7 @@ mod output;
 mod readers;
 mod text_buffer;
 
+pub use each::{CanFail, put_each};
 pub use formats::{Lp, Mps};
 pub use lp::{first_unfit_name, write_lp};
 pub use mps::write_mps;

@@ -12,6 +12,7 @@ ghost use Rattle.mpslp_write.specs.LinesAt.{lines_at};
 ghost use Rattle.mpslp_write.specs.LpLinesAt.{lines_between, lines_from};
 ghost use Rattle.mpslp_write.specs.Printing.{Prints, PrintsSection};
 
+use crate::each::put_each;
 use crate::lp::lines::{
     put_between_line, put_fixed_line, put_free_column_line, put_lower_bound_line,
     put_upper_bound_line,
@@ -73,12 +74,9 @@ fn put_bounds<W: Sink>(model: &Model, j: usize, output: &mut Output<W>)
 fn put_all_bounds<W: Sink>(model: &Model, output: &mut Output<W>)
     ensures { Prints line_text W.Sink output.old output.new (flat_map bound_lines (entries model.now.columns)) }
 {
-    for j in 0..model.num_cols() {
-        if output.has_failed() {
-            return;
-        }
-        put_bounds(model, j, output);
-    }
+    put_each(model.num_cols(), output, |j, output| {
+        put_bounds(model, j, output)
+    });
 }
 
 /// Prints the Bounds section, or nothing if all bounds are 0 and plus infinity.

@@ -11,6 +11,7 @@ ghost use Rattle.mpslp_write.specs.LinesAt.{lines_at};
 ghost use Rattle.mpslp_write.specs.LpLinesAt.{is_of_section, name_lines};
 ghost use Rattle.mpslp_write.specs.Printing.{Prints, PrintsSection};
 
+use crate::each::put_each;
 use crate::lp::lines::put_name_line;
 use crate::output::Output;
 use mpslp_model::{Kind, Model, Sink};
@@ -54,12 +55,9 @@ fn put_name<W: Sink>(model: &Model, j: usize, section: KindSection, output: &mut
 fn put_names<W: Sink>(model: &Model, section: KindSection, output: &mut Output<W>)
     ensures { Prints line_text W.Sink output.old output.new (flat_map (name_lines section) (entries model.now.columns)) }
 {
-    for j in 0..model.num_cols() {
-        if output.has_failed() {
-            return;
-        }
-        put_name(model, j, section, output);
-    }
+    put_each(model.num_cols(), output, |j, output| {
+        put_name(model, j, section, output)
+    });
 }
 
 /// Prints the section of integer columns, or nothing if there are none.

@@ -11,6 +11,7 @@ ghost use Rattle.mpslp_write.specs.LinesAt.{lines_at};
 ghost use Rattle.mpslp_write.specs.LpLinesAt.{objective_term_lines, sense_lines};
 ghost use Rattle.mpslp_write.specs.Printing.{Prints, PrintsSection};
 
+use crate::each::put_each;
 use crate::lp::lines::{put_constant_line, put_label_line, put_term_line};
 use crate::output::Output;
 use mpslp_decimal::Decimal;
@@ -44,12 +45,9 @@ fn put_objective_term<W: Sink>(model: &Model, j: usize, output: &mut Output<W>)
 fn put_objective_terms<W: Sink>(model: &Model, output: &mut Output<W>)
     ensures { Prints line_text W.Sink output.old output.new (flat_map (objective_term_lines (listing_of model.now)) (entries model.now.columns)) }
 {
-    for j in 0..model.num_cols() {
-        if output.has_failed() {
-            return;
-        }
-        put_objective_term(model, j, output);
-    }
+    put_each(model.num_cols(), output, |j, output| {
+        put_objective_term(model, j, output)
+    });
 }
 
 /// Prints the constant of the objective, unless it is 0.

@@ -11,6 +11,7 @@ ghost use Rattle.mpslp_write.specs.LinesAt.{lines_at};
 ghost use Rattle.mpslp_write.specs.LpLinesAt.{numbered_term_lines, left_between, last_between};
 ghost use Rattle.mpslp_write.specs.Printing.{Prints, PrintsSection};
 
+use crate::each::put_each;
 use crate::lp::lines::{
     put_at_least_line, put_at_most_line, put_equal_line, put_free_row_line, put_label_line,
     put_left_line, put_term_line,
@@ -121,12 +122,9 @@ fn put_row<W: Sink>(model: &Model, i: usize, output: &mut Output<W>)
 fn put_rows<W: Sink>(model: &Model, output: &mut Output<W>)
     ensures { Prints line_text W.Sink output.old output.new (flat_map (row_lines (listing_of model.now)) (entries model.now.rows)) }
 {
-    for i in 0..model.num_rows() {
-        if output.has_failed() {
-            return;
-        }
-        put_row(model, i, output);
-    }
+    put_each(model.num_rows(), output, |i, output| {
+        put_row(model, i, output)
+    });
 }
 
 /// Prints the rows and their heading.

@@ -12,6 +12,7 @@ ghost use Rattle.mpslp_model_core.specs.Listing.{listing_of};
 ghost use Rattle.mpslp_write.specs.LinesAt.{lines_at, fixed_value, are_free};
 ghost use Rattle.mpslp_write.specs.Printing.{Prints, PrintsSection};
 
+use crate::each::put_each;
 use crate::mps::lines::{put_bare_bound, put_valued_bound};
 use crate::output::Output;
 use mpslp_decimal::Decimal;
@@ -170,12 +171,9 @@ fn put_bounds<W: Sink>(model: &Model, j: usize, output: &mut Output<W>)
 fn put_all_bounds<W: Sink>(model: &Model, output: &mut Output<W>)
     ensures { Prints line_text W.Sink output.old output.new (flat_map column_bound_lines (entries model.now.columns)) }
 {
-    for j in 0..model.num_cols() {
-        if output.has_failed() {
-            return;
-        }
-        put_bounds(model, j, output);
-    }
+    put_each(model.num_cols(), output, |j, output| {
+        put_bounds(model, j, output)
+    });
 }
 
 /// Prints the section BOUNDS, or nothing if every column has the bounds that it has by default.

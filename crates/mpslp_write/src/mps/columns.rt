@@ -10,6 +10,7 @@ ghost use Rattle.mpslp_model_core.specs.Listing.{listing_of};
 ghost use Rattle.mpslp_write.specs.LinesAt.{lines_at, is_wanted, of_part, element_lines, objective_lines};
 ghost use Rattle.mpslp_write.specs.Printing.{Prints, PrintsSection};
 
+use crate::each::put_each;
 use crate::mps::lines::put_value_line;
 use crate::output::Output;
 use mpslp_model::laws::each_model_is_sound;
@@ -96,12 +97,9 @@ fn put_column_of_part<W: Sink>(model: &Model, j: usize, part: Part, output: &mut
 fn put_columns<W: Sink>(model: &Model, part: Part, output: &mut Output<W>)
     ensures { Prints line_text W.Sink output.old output.new (flat_map (of_part part (column_lines (listing_of model.now))) (entries model.now.columns)) }
 {
-    for j in 0..model.num_cols() {
-        if output.has_failed() {
-            return;
-        }
-        put_column_of_part(model, j, part, output);
-    }
+    put_each(model.num_cols(), output, |j, output| {
+        put_column_of_part(model, j, part, output)
+    });
 }
 
 /// Prints the lines of the integer columns between marker lines, or nothing if no column is integer.

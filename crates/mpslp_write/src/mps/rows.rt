@@ -12,6 +12,7 @@ ghost use Rattle.mpslp_model_core.specs.Listing.{listing_of};
 ghost use Rattle.mpslp_write.specs.LinesAt.{lines_at, printed_letter};
 ghost use Rattle.mpslp_write.specs.Printing.{Prints, PrintsSection};
 
+use crate::each::put_each;
 use crate::mps::lines::{put_short_line, put_value_line};
 use crate::output::Output;
 use mpslp_decimal::Decimal;
@@ -39,12 +40,9 @@ fn put_row<W: Sink>(model: &Model, i: usize, output: &mut Output<W>)
 fn put_rows<W: Sink>(model: &Model, output: &mut Output<W>)
     ensures { Prints line_text W.Sink output.old output.new (flat_map (λ row. row_line row ∷ []) (entries model.now.rows)) }
 {
-    for i in 0..model.num_rows() {
-        if output.has_failed() {
-            return;
-        }
-        put_row(model, i, output);
-    }
+    put_each(model.num_rows(), output, |i, output| {
+        put_row(model, i, output)
+    });
 }
 
 /// Prints the section ROWS: the objective, and then the rows.
@@ -89,12 +87,9 @@ fn put_row_rhs<W: Sink>(model: &Model, i: usize, output: &mut Output<W>)
 fn put_all_rhs<W: Sink>(model: &Model, output: &mut Output<W>)
     ensures { Prints line_text W.Sink output.old output.new (flat_map row_rhs_lines (entries model.now.rows)) }
 {
-    for i in 0..model.num_rows() {
-        if output.has_failed() {
-            return;
-        }
-        put_row_rhs(model, i, output);
-    }
+    put_each(model.num_rows(), output, |i, output| {
+        put_row_rhs(model, i, output)
+    });
 }
 
 /// Prints the section RHS: the negated constant of the objective, and then the right-hand sides of the rows, unless they are
@@ -124,12 +119,9 @@ fn put_range<W: Sink>(model: &Model, i: usize, output: &mut Output<W>)
 fn put_ranges<W: Sink>(model: &Model, output: &mut Output<W>)
     ensures { Prints line_text W.Sink output.old output.new (flat_map range_lines (entries model.now.rows)) }
 {
-    for i in 0..model.num_rows() {
-        if output.has_failed() {
-            return;
-        }
-        put_range(model, i, output);
-    }
+    put_each(model.num_rows(), output, |i, output| {
+        put_range(model, i, output)
+    });
 }
 
 /// Prints the section RANGES, or nothing if no row has a range.

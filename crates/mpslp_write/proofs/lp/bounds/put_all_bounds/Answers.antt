@@ -1,18 +1,8 @@
-use Rattle.std.proofs.Common.{sym, ◌∙◌, arith}
+use Rattle.std.proofs.Common.{rules, arith}
 use Rattle.std.specs.FinMap.{entries}
 use Rattle.mpslp_canonical_lp.specs.CanonicalLp.{bound_lines}
-use Rattle.mpslp_write.proofs.LinesAtLemmas.{flat_map-next, all-taken}
-use Rattle.mpslp_write.proofs.OutputLemmas.{prints_nothing, prints_then, prints_same, prints_cut}
+use Rattle.mpslp_write.proofs.EachLemmas.{prints_each}
 use Rattle.mpslp_write.proofs.lp.bounds.put_all_bounds.Goals as goal
 
-pub loop-j-init : goal.loop-j-init
-loop-j-init g c = prints_nothing c.args.output.now
-
-pub loop-j-preserved : goal.loop-j-preserved
-loop-j-preserved g c = prints_same (flat_map-next bound_lines (entries c.args.model.now.columns) c.loop-j.j) (prints_then c.loop-j.invariant c.put_bounds.ensures)
-
-pub returns-then-has_failed : goal.returns-then-has_failed
-returns-then-has_failed g c = prints_cut bound_lines (entries c.args.model.now.columns) c.loop-j.j (sym c.has_failed.ensures ∙ c.if-has_failed.true) c.loop-j.invariant
-
 pub returns : goal.returns
-returns g c = prints_same (all-taken bound_lines (entries c.args.model.now.columns) c.loop-j.j (omega arith)) c.loop-j.invariant
+returns g c = prints_each bound_lines (entries c.args.model.now.columns) (omega arith) (λ i within x y call. search rules) c.put_each.ensures

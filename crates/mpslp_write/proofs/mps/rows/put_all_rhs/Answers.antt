@@ -1,18 +1,8 @@
-use Rattle.std.proofs.Common.{sym, ◌∙◌, arith}
+use Rattle.std.proofs.Common.{rules, arith}
 use Rattle.std.specs.FinMap.{entries}
 use Rattle.mpslp_canonical_mps.specs.CanonicalMps.{row_rhs_lines}
-use Rattle.mpslp_write.proofs.LinesAtLemmas.{flat_map-next, all-taken}
-use Rattle.mpslp_write.proofs.OutputLemmas.{prints_nothing, prints_then, prints_same, prints_cut}
+use Rattle.mpslp_write.proofs.EachLemmas.{prints_each}
 use Rattle.mpslp_write.proofs.mps.rows.put_all_rhs.Goals as goal
 
-pub loop-i-init : goal.loop-i-init
-loop-i-init g c = prints_nothing c.args.output.now
-
-pub loop-i-preserved : goal.loop-i-preserved
-loop-i-preserved g c = prints_same (flat_map-next row_rhs_lines (entries c.args.model.now.rows) c.loop-i.i) (prints_then c.loop-i.invariant c.put_row_rhs.ensures)
-
-pub returns-then-has_failed : goal.returns-then-has_failed
-returns-then-has_failed g c = prints_cut row_rhs_lines (entries c.args.model.now.rows) c.loop-i.i (sym c.has_failed.ensures ∙ c.if-has_failed.true) c.loop-i.invariant
-
 pub returns : goal.returns
-returns g c = prints_same (all-taken row_rhs_lines (entries c.args.model.now.rows) c.loop-i.i (omega arith)) c.loop-i.invariant
+returns g c = prints_each row_rhs_lines (entries c.args.model.now.rows) (omega arith) (λ i within x y call. search rules) c.put_each.ensures
