@@ -8,7 +8,7 @@ pub mod Meaning
 pub mod Answer
 pub mod Finish
 pub mod Laws
--- ---- what the code stores
+-- ---- what only the code cites
 pub mod Tables
 pub mod Calls
 pub mod FaultFound

@@ -30,7 +30,7 @@ fn arrays_of<A: Format>(alloc: Global, bytes: &[u8]) -> Result<MpslpModel, Conve
     }
 }
 
-/// The same, by the number of the format.
+/// The same, in a format that is known only when the program runs.
 fn arrays_in(alloc: Global, form: Form, bytes: &[u8]) -> Result<MpslpModel, ConvertFault>
     ensures answer { IsLoading (declares_in form) (first_fault_in form) bytes.now result }
     ensures accepts { (m : LinearModel) → declares_in form bytes.now m → IsOkUnless result ConvertFault.OutOfMemory }

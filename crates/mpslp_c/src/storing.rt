@@ -205,7 +205,7 @@ fn stored_text<B: Format>(alloc: Global, model: &MpslpModel) -> Result<Vec<u8>, 
     }
 }
 
-/// The same, by the number of the format.
+/// The same, in a format that is known only when the program runs.
 fn stored_text_in(alloc: Global, to: Form, model: &MpslpModel) -> Result<Vec<u8>, StoreFault>
     ensures answer { IsStoring (unfit_in to) (text_in to) model.now result }
     ensures accepts { (m : LinearModel) → Defines model.now m → unfit_in to m ≡ None → IsOkUnless result StoreFault.OutOfMemory }

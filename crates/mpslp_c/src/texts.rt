@@ -1,4 +1,4 @@
-//! Texts in either format, by the number of the format.
+//! Texts in formats that are known only when the program runs.
 
 ghost use Rattle.std.specs.Prelude.{◌≡◌, None, Some, IsOkUnless};
 ghost use Rattle.mpslp_model_core.specs.Model.{LinearModel};

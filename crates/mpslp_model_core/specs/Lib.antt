@@ -1,3 +1,4 @@
+-- ---- what public laws and contracts say
 pub mod Lists
 pub mod Model
 pub mod Listing
@@ -5,13 +6,14 @@ pub mod Limits
 pub mod Columns
 pub mod WrongParts
 pub mod Views
-pub mod ModelCode
-pub mod Columned
 pub mod ModelParts
-pub mod RowNames
-pub mod ByRow
 pub mod Same
 pub mod SameLaws
 pub mod Numbered
+-- ---- what only the code cites
+pub mod ModelCode
+pub mod Columned
+pub mod RowNames
+pub mod ByRow
 pub mod Packed
 pub mod PackedRowDefinition

@@ -1,9 +1,8 @@
+-- ---- what public laws and contracts say
 pub mod Context
 pub mod NextContext
-pub mod ContextStep
 pub mod LineDeclarations
 pub mod FieldFault
-pub mod LineValues
 pub mod HeaderFault
 pub mod DataFault
 pub mod LegalLine
@@ -14,10 +13,13 @@ pub mod FirstFault
 pub mod LineByLine
 pub mod FaultsInWords
 pub mod Laws
+pub mod ReadAnswer
+pub mod Fed
+pub mod FedLaws
+-- ---- what only the code cites
+pub mod ContextStep
+pub mod LineValues
 pub mod LineAnswer
 pub mod VectorDeclared
 pub mod ColumnDeclared
 pub mod KindClash
-pub mod ReadAnswer
-pub mod Fed
-pub mod FedLaws
