@@ -47,6 +47,7 @@ TESTS = (
     Test("refused memory", ("python3", "tests/refused.py")),
     Test("independent reader", ("python3", "tests/independent_check.py", "--runs", "20000")),
     Test("make and make run", ("python3", "tests/commands_check.py")),
+    Test("mutants in one check", ("python3", "tests/mutants_check.py")),
     Test("a large file", ("python3", "tests/large_file.py")),
     Test("documents", ("python3", "tests/docs_check.py")),
     Test("random models in other dialects", ("python3", "tests/adapt_random.py", "--models", "300")),

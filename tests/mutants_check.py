@@ -1,0 +1,147 @@
+#!/usr/bin/env python3
+"""Test scripts/mutants.py with a stand-in for the prover, on a small repository: tests/mutants_check.py
+
+The stand-in rejects a function whose body has the word `wrong`, and says of one that calls it that a function it calls is not
+proved. So a mutant with another change is one that the prover accepts.
+"""
+
+import os
+import shutil
+import subprocess
+import sys
+import tempfile
+import unittest
+from pathlib import Path
+
+ROOT = Path(__file__).resolve().parent.parent
+
+KIT_SUM = (ROOT / "kit-sum").read_text().strip()
+
+RT = """#!/bin/sh
+case "$1" in
+    version) echo "rattle-kit-99 logic %s" ;;
+    doc) echo "%s/START-HERE.md" ;;
+esac
+"""
+
+RATTLE = """#!{python}
+import re, sys
+from pathlib import Path
+
+with open("{checks}", "a") as checks:
+    checks.write("check\\n")
+bodies = {{}}
+for file in sorted(Path("src").glob("*.rt")):
+    module = "" if file.stem == "lib" else f"{{file.stem}}::"
+    for name, body in re.findall(r"fn (\\w+)\\(\\) -> u8 {{\\n(.*?)\\n}}", file.read_text(), re.S):
+        bodies[f"low::{{module}}{{name}}"] = body
+wrong = [name for name, body in bodies.items() if "wrong" in body]
+for name, body in bodies.items():
+    calls = [other for other in wrong if other != name and other.rpartition("::")[2] + "()" in body]
+    told = "; it calls `" + calls[0] + "`, which is not proved" if calls else ""
+    if name in wrong:
+        print(f"fn {{name}}: not proved{{told}}" if not calls else f"fn {{name}}: no proof: {{told[2:]}}")
+    else:
+        print(f"fn {{name}}: no proof: {{told[2:]}}" if calls else f"fn {{name}}: proved")
+if "unreadable" in Path("src/lib.rt").read_text():
+    print("src/lib.rt:1:1: error: `unreadable` is not in scope")
+print("logic=not-proved" if wrong else "logic=proved")
+sys.exit(bool(wrong))
+"""
+
+LIB = """mod high;
+
+const LIMIT: u8 = 1;
+
+pub fn one() -> u8 {
+    1
+}
+
+pub fn two() -> u8 {
+    2
+}
+"""
+
+HIGH = """pub fn three() -> u8 {
+    one() + two()
+}
+"""
+
+
+class Mutants(unittest.TestCase):
+    def setUp(self) -> None:
+        self.folder = Path(tempfile.mkdtemp(prefix="mpslp-mutants-"))
+        self.addCleanup(shutil.rmtree, self.folder)
+        self.crate = self.folder / "crates" / "low"
+        for name in ("src", "must-fail"):
+            (self.crate / name).mkdir(parents=True)
+        (self.crate / "src" / "lib.rt").write_text(LIB)
+        (self.crate / "src" / "high.rt").write_text(HIGH)
+        (self.folder / "crates.txt").write_text("low:\n")
+        (self.folder / "kit-sum").write_text(KIT_SUM)
+        shutil.copytree(ROOT / "scripts", self.folder / "scripts")
+        self.checks = self.folder / "checks"
+        tools = self.folder / "bin"
+        tools.mkdir()
+        for name, text in (("rt", RT % (KIT_SUM, self.folder)), ("rattle", RATTLE.format(python=sys.executable, checks=self.checks))):
+            (tools / name).write_text(text)
+            (tools / name).chmod(0o755)
+
+    def add(self, name: str, old: str, new: str, file: str = "src/lib.rt") -> None:
+        (self.crate / "must-fail" / f"{name}.edit").write_text(f"file: {file}\nold: {old}\nnew: {new}\n")
+
+    def run_mutants(self) -> tuple[int, str, int]:
+        """The exit status, the output, and the number of checks."""
+        ran = subprocess.run(
+            [sys.executable, "scripts/mutants.py"],
+            cwd=self.folder,
+            env={**os.environ, "PATH": f"{self.folder / 'bin'}:{os.environ['PATH']}"},
+            capture_output=True, text=True, timeout=60, check=False,
+        )
+        checks = self.checks.read_text().splitlines() if self.checks.exists() else []
+        return ran.returncode, ran.stdout + ran.stderr, len(checks)
+
+    def test_mutants_of_different_functions_are_checked_together(self) -> None:
+        self.add("one", "    1", "    wrong")
+        self.add("two", "    2", "    wrong + 2")
+        status, said, checks = self.run_mutants()
+        self.assertEqual((status, checks), (0, 2), said)
+        self.assertIn("low: 2 of 2 mutants rejected", said)
+
+    def test_mutants_of_one_function_are_checked_one_after_another(self) -> None:
+        self.add("one", "    1", "    wrong")
+        self.add("another", "    1", "    wrong + 1")
+        status, said, checks = self.run_mutants()
+        self.assertEqual((status, checks), (0, 3), said)
+
+    def test_a_function_that_only_calls_a_rejected_one_is_not_rejected_for_itself(self) -> None:
+        self.add("one", "    1", "    wrong")
+        self.add("three", "    one() + two()", "    one() + wrong", "src/high.rt")
+        status, said, checks = self.run_mutants()
+        self.assertEqual((status, checks), (0, 3), said)
+
+    def test_an_accepted_mutant_is_reported(self) -> None:
+        self.add("one", "    1", "    wrong")
+        self.add("three", "    one() + two()", "    two() + one()", "src/high.rt")
+        status, said, _ = self.run_mutants()
+        self.assertEqual(status, 1)
+        self.assertIn("low/three: NOT REJECTED: the crate is proved with it", said)
+        self.assertIn("1 mutants rejected, 1 not", said)
+
+    def test_a_mutant_that_cannot_be_read_is_reported(self) -> None:
+        self.add("constant", "const LIMIT: u8 = 1;", "const LIMIT: u8 = unreadable;")
+        status, said, _ = self.run_mutants()
+        self.assertEqual(status, 1)
+        self.assertIn("the prover cannot read it", said)
+
+    def test_a_mutant_whose_text_is_not_there_once_is_reported(self) -> None:
+        self.add("absent", "    7", "    wrong")
+        self.add("twice", "u8 {", "u16 {")
+        status, said, _ = self.run_mutants()
+        self.assertEqual(status, 1)
+        self.assertIn("low/absent: its text is in src/lib.rt 0 times", said)
+        self.assertIn("low/twice: its text is in src/lib.rt 2 times", said)
+
+
+if __name__ == "__main__":
+    unittest.main()
