@@ -44,12 +44,12 @@ class Commands(unittest.TestCase):
         self.folder = Path(tempfile.mkdtemp(prefix="mpslp-commands-"))
         self.addCleanup(shutil.rmtree, self.folder)
         self.copy = self.folder / "copy"
-        for name in ("Makefile", "HANDLES", "kit-sum", "crates.txt"):
-            self.copy.mkdir(exist_ok=True)
-            shutil.copy(ROOT / name, self.copy)
-        for name in ("scripts", "examples", "release"):
+        for name in ("Makefile", "HANDLES", "VERSION", "kit-sum", "crates.txt", "docs/errors.tsv"):
+            (self.copy / name).parent.mkdir(parents=True, exist_ok=True)
+            shutil.copy(ROOT / name, self.copy / name)
+        for name in ("scripts", "examples", "release", "python"):
             if (ROOT / name).exists():
-                shutil.copytree(ROOT / name, self.copy / name)
+                shutil.copytree(ROOT / name, self.copy / name, ignore=shutil.ignore_patterns("__pycache__", "build"))
         # The roots of the crates are enough for a stand-in.
         for source in ROOT.glob("crates/*/src/*.rt"):
             if source.name in ("lib.rt", "main.rt"):
