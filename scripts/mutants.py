@@ -26,6 +26,7 @@ from pathlib import Path
 from kit import ROOT, require_kit
 from prove import LOGS, PARTS, Crate, crates_of_repository
 
+IMPL = re.compile(r"impl\b(?:<.*?>)? (?:.* for )?(\w+)")
 FUNCTION = re.compile(r"( *)(?:pub(?:\([^)]*\))? )?(?:const |unsafe )*fn (\w+)")
 NOT_PROVED = re.compile(r"fn (\S+): (?:not proved|no proof)(?:[:;] (.*))?$")
 # Why a function is not proved if nothing is wrong with it.
@@ -42,18 +43,26 @@ class Body:
     function: str
     first: int
     last: int
+    # The type whose method it is.
+    owner: str | None = None
 
     def is_of(self, name: str) -> bool:
-        """Whether this is a function of the file with this name, as the prover prints it: CRATE::MODULE::TYPE::FUNCTION."""
+        """Whether the prover's name is that of the function, CRATE::MODULE::FUNCTION or CRATE::MODULE::TYPE::FUNCTION, or of a
+        closure in it, CRATE::MODULE::fn::FUNCTION::... The module of a method is that of its file or that of its type."""
         modules = [it for it in Path(self.file).with_suffix("").parts[1:] if it not in ("lib", "main", "mod")]
         parts = name.split("::")
-        return parts[1 : 1 + len(modules)] == modules and parts[-1] == self.function
+        inner = parts[1 + len(modules) :]
+        is_here = parts[1 : 1 + len(modules)] == modules
+        is_method = self.owner is not None and len(parts) > 2 and parts[-2].startswith(self.owner)
+        return parts[-1] == self.function and (is_here or is_method) or is_here and inner[:2] == ["fn", self.function]
 
 
 def bodies_of(file: str, text: str) -> list[Body]:
     """The bodies of the functions in a file that has the layout of `rt fmt`."""
-    lines, found = text.split("\n"), []
+    lines, found, owner = text.split("\n"), [], None
     for number, line in enumerate(lines):
+        if block := IMPL.match(line):
+            owner = block[1]
         if header := FUNCTION.match(line):
             indent, name = header[1], header[2]
             first = number
@@ -63,7 +72,7 @@ def bodies_of(file: str, text: str) -> list[Body]:
                     break
             else:
                 last = next((it for it in range(first, len(lines)) if lines[it] == f"{indent}}}"), first)
-                found.append(Body(file, name, first + 1, last))
+                found.append(Body(file, name, first + 1, last, owner if indent else None))
     return found
 
 
@@ -196,7 +205,7 @@ class Prover:
         has_verdict = status == 1 and lines[-1].startswith("logic=not-proved")
         if not has_verdict or not all(any(body.is_of(name) for _, body in batch) for name in names):
             return []
-        return [(mutant, body) for mutant, body in batch if sum(map(body.is_of, names)) == 1]
+        return [(mutant, body) for mutant, body in batch if any(map(body.is_of, names))]
 
     def test(self, mutants: list[Mutant]) -> list[str]:
         """Tests the mutants, and returns what is wrong with them."""
