@@ -1,8 +1,8 @@
 #!/usr/bin/env python3
 """Tests that the prover rejects the mutants: scripts/mutants.py [CRATE ..]
 
-A mutant is a wrong version of a crate, written as an edit of its sources, in must-fail/ of the crate or in tests/wrong-bodies/. `rt must-fail` checks a crate once for each mutant, and
-most of that time is spent on reading the crate and those below it. Here one check tests many mutants: a function is proved from
+A mutant is a wrong version of a crate, written as an edit of its sources, in must-fail/ of the crate or in tests/wrong-bodies/.
+`rt must-fail` checks a crate once for each mutant, and most of that time is spent on reading the crate and those below it. Here one check tests many mutants: a function is proved from
 the contracts of the functions that it calls, so mutants that change nothing but the bodies of different functions do not
 influence one another. Such a mutant counts as rejected only if the prover rejects the function that it changes for itself, and
 not only because it calls a function that is not proved, and if it rejects no function for itself that no mutant changes. Mutants
@@ -138,6 +138,15 @@ def batch_of(mutants: list[tuple[Mutant, Body]]) -> list[tuple[Mutant, Body]]:
     return list({body.function: (mutant, body) for mutant, body in reversed(mutants)}.values())
 
 
+def unreadable(lines: list[str]) -> str | None:
+    """The line, if any, in which the prover says that it cannot read a text of the code or of its definitions."""
+    for line in lines:
+        place = re.match(r"(?:\./)?((?:src|specs)/\S+?):\d+:\d+: error: (.*)", line)
+        if place and UNREADABLE.search(re.sub(r"`[^`]*`", "", place[2])):
+            return line
+    return None
+
+
 class Prover:
     """Checks edited copies of a crate, each over what the checks before it proved."""
 
@@ -189,10 +198,8 @@ class Prover:
     def rejects(self, mutant: Mutant) -> str | None:
         """None if the prover rejects the mutant, or else why that is not known."""
         status, lines = self.check([mutant], mutant.name)
-        for line in lines:
-            place = re.match(r"(?:\./)?((?:src|specs)/\S+?):\d+:\d+: error: (.*)", line)
-            if place and UNREADABLE.search(re.sub(r"`[^`]*`", "", place[2])):
-                return f"the prover cannot read it: {line[:160]}"
+        if line := unreadable(lines):
+            return f"the prover cannot read it: {line[:160]}"
         if status == 1 and lines[-1].startswith("logic=not-proved"):
             return None
         return "NOT REJECTED: the crate is proved with it" if status == 0 else f"no verdict: {lines[-1][:160]}"
@@ -203,7 +210,7 @@ class Prover:
         found = [it for line in lines if (it := NOT_PROVED.match(line))]
         names = [it[1] for it in found if not OF_ITS_CALLS.fullmatch(it[2] or "")]
         has_verdict = status == 1 and lines[-1].startswith("logic=not-proved")
-        if not has_verdict or not all(any(body.is_of(name) for _, body in batch) for name in names):
+        if not has_verdict or unreadable(lines) or not all(any(body.is_of(name) for _, body in batch) for name in names):
             return []
         return [(mutant, body) for mutant, body in batch if any(map(body.is_of, names))]
 
@@ -212,8 +219,8 @@ class Prover:
         left = [(mutant, body) for mutant in mutants if (body := mutant.body())]
         while len(batch := batch_of(left)) > 1 and (rejected := self.rejected_of(batch)):
             left = [it for it in left if it not in rejected]
-        alone = [it for it in mutants if not it.body()] + [mutant for mutant, _ in left]
-        return [f"{it.name}: {why}" for it in alone if (why := self.rejects(it))]
+        single = [it for it in mutants if not it.body()] + [mutant for mutant, _ in left]
+        return [f"{it.name}: {why}" for it in single if (why := self.rejects(it))]
 
     def is_sound(self) -> bool:
         """Whether the crate itself is proved over what the checks of its mutants left."""

@@ -38,11 +38,11 @@ for file in sorted(Path("src").glob("*.rt")):
 wrong = [name for name, body in bodies.items() if "wrong" in body]
 for name, body in bodies.items():
     calls = [other for other in wrong if other != name and other.rpartition("::")[2] + "()" in body]
-    told = "; it calls `" + calls[0] + "`, which is not proved" if calls else ""
+    reason = "; it calls `" + calls[0] + "`, which is not proved" if calls else ""
     if name in wrong:
-        print(f"fn {{name}}: not proved{{told}}" if not calls else f"fn {{name}}: no proof: {{told[2:]}}")
+        print(f"fn {{name}}: not proved{{reason}}" if not calls else f"fn {{name}}: no proof: {{reason[2:]}}")
     else:
-        print(f"fn {{name}}: no proof: {{told[2:]}}" if calls else f"fn {{name}}: proved")
+        print(f"fn {{name}}: no proof: {{reason[2:]}}" if calls else f"fn {{name}}: proved")
 if "unreadable" in Path("src/lib.rt").read_text():
     print("src/lib.rt:1:1: error: `unreadable` is not in scope")
 print("logic=not-proved" if wrong else "logic=proved")
