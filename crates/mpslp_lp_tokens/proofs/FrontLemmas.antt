@@ -49,13 +49,13 @@ within-none (suc most) bytes m beyond =
     ]) (beyond (suc most) (omega arith) m)
     ∙ within-none most bytes (omega (arith, m)) beyond
 
-found-at : (bytes : List ℕ) (kind : TokenKind) (size : ℕ) → 0 < size → size ≤ length bytes → kind_of (take size bytes) ≡ Some kind → None-beyond bytes size
+pub found-at : (bytes : List ℕ) (kind : TokenKind) (size : ℕ) → 0 < size → size ≤ length bytes → kind_of (take size bytes) ≡ Some kind → None-beyond bytes size
     → token_at bytes ≡ record { kind = kind; size = size }
 found-at bytes kind size some w k beyond =
     ap (λ (o : Option Front). elim o as (λ _. Front) [ Some front ↦ front | None ↦ record { kind = Unknown; size = 1 } ])
     (within-found (length bytes) bytes kind size (omega arith) some w k beyond)
 
-none-at : (bytes : List ℕ) → None-beyond bytes 0 → token_at bytes ≡ record { kind = Unknown; size = 1 }
+pub none-at : (bytes : List ℕ) → None-beyond bytes 0 → token_at bytes ≡ record { kind = Unknown; size = 1 }
 none-at bytes beyond =
     ap (λ (o : Option Front). elim o as (λ _. Front) [ Some front ↦ front | None ↦ record { kind = Unknown; size = 1 } ])
     (within-none (length bytes) bytes (omega arith) beyond)

@@ -7,3 +7,4 @@ pub mod NumberSize
 pub mod FrontLemmas
 pub mod FrontText
 pub mod TokenLemmas
+pub mod LongestTokens

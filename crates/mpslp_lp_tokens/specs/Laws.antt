@@ -1,8 +1,9 @@
 -- Laws of the tokens of a line.
-use Rattle.std.specs.Prelude.{◌≡◌, ℕ, ◌+◌, ◌≤◌, ◌<◌, Bool, true, IsTrue, List, [], ◌∷◌, ◌++◌, length, map, take, drop}
-use Rattle.std.specs.List.{list_all}
+use Rattle.std.specs.Prelude.{◌≡◌, ◌⊎◌, ℕ, ◌+◌, ◌≤◌, ◌<◌, Bool, true, false, IsTrue, List, [], ◌∷◌, ◌++◌, length, map, take, drop, Some, None}
+use Rattle.std.specs.List.{list_all, prefix_len}
 use Rattle.mpslp_lp_tokens.specs.Line.{is_blank, begins_comment}
-use Rattle.mpslp_lp_tokens.specs.Token.{Token, tokens}
+use Rattle.mpslp_lp_tokens.specs.Token.{kind_of, Token, tokens}
+use Rattle.mpslp_lp_tokens.specs.declared.tokens.TokenKind.TheVariants.{Unknown}
 
 -- From a place of a line on, each text is the slice of the line at its start and has a byte at least, and no token begins
 -- before the one before it ends.
@@ -48,3 +49,33 @@ pub record IsMadeOf (found : List Token) (bytes : List ℕ) : Type 0 where
 -- Each line is its tokens, the spaces and tabs between them, and its comment.
 abbrev pub LinesAreTokens : Type 0
 LinesAreTokens = (line : List ℕ) → IsMadeOf (tokens line) line
+
+-- ---- the longest tokens
+
+-- No longer prefix of the bytes is a token.
+abbrev pub IsNoLonger : ℕ → List ℕ → Type 0
+IsNoLonger size bytes = (n : ℕ) → size < n → n ≤ length bytes → kind_of (take n bytes) ≡ None
+
+-- The bytes begin with the token, and with no longer one; or with no token at all, and their first byte is an unknown one.
+abbrev pub BeginWith : Token → List ℕ → Type 0
+BeginWith token bytes =
+    (take (length token.text) bytes ≡ token.text) × IsNoLonger (length token.text) bytes
+    × ((kind_of token.text ≡ Some token.kind) ⊎ ((kind_of token.text ≡ None) × (token.kind ≡ Unknown) × (length token.text ≡ 1)))
+
+-- From a place of a line on, the bytes are these tokens: each comes after spaces and tabs, begins no comment, and is the longest
+-- at its place; after the last one there are spaces, tabs and a comment at most.
+abbrev pub AreLongest : ℕ → List Token → List ℕ → Type 0
+AreLongest place [] bytes = is_comment (drop (prefix_len is_blank bytes) bytes) ≡ true
+AreLongest place (token ∷ more) bytes =
+    let blanks = prefix_len is_blank bytes in
+    let rest = drop blanks bytes in
+    (is_comment rest ≡ false) × BeginWith token rest × (token.start ≡ place + blanks)
+    × AreLongest (token.start + length token.text) more (drop (length token.text) rest)
+
+-- The tokens of a line are of this form.
+abbrev pub TokensAreLongest : Type 0
+TokensAreLongest = (line : List ℕ) → AreLongest 0 (tokens line) line
+
+-- No others are.
+abbrev pub LongestAreTokens : Type 0
+LongestAreTokens = (line : List ℕ) (found : List Token) → AreLongest 0 found line → found ≡ tokens line

@@ -1,6 +1,6 @@
 //! Laws of the tokens of a line. Each is the contract of a function that does nothing: to cite the law, call the function.
 
-ghost use Rattle.mpslp_lp_tokens.specs.Laws.{LinesAreTokens, TokensAreSlices};
+ghost use Rattle.mpslp_lp_tokens.specs.Laws.{LinesAreTokens, LongestAreTokens, TokensAreLongest, TokensAreSlices};
 
 /// The tokens of a line are consecutive slices of it that do not overlap, whatever its bytes are.
 pub fn tokens_are_slices()
@@ -11,4 +11,15 @@ pub fn tokens_are_slices()
 /// backslash and the rest of the line.
 pub fn lines_are_tokens()
     ensures { LinesAreTokens }
+{}
+
+/// The tokens of a line are the longest ones: after spaces and tabs each is the longest text at its place that is a token, or
+/// one unknown byte if no token begins there; after the last one comes a comment or nothing.
+pub fn tokens_are_longest()
+    ensures { TokensAreLongest }
+{}
+
+/// Only the tokens of a line are of that form. Both laws together define them without a walk over the line.
+pub fn longest_are_tokens()
+    ensures { LongestAreTokens }
 {}

@@ -1,0 +1,5 @@
+use Rattle.mpslp_lp_tokens.proofs.LongestTokens.{tokens-unique}
+use Rattle.mpslp_lp_tokens.proofs.laws.longest_are_tokens.Goals as goal
+
+pub returns : goal.returns
+returns c = tokens-unique
