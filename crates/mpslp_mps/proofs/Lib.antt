@@ -53,6 +53,8 @@ pub mod KindsOfLines
 pub mod FaultsOfWords
 pub mod FaultsOfNames
 pub mod RepeatsOfNames
+pub mod DeclaredByLines
+pub mod ValuesDeclared
 pub mod WorkedSentences
 pub mod FedLemmas
 pub mod LineReaderLemmas

@@ -13,7 +13,13 @@ use Rattle.mpslp_mps.specs.TextInWords.{words_in, has_free_row, same_column}
 use Rattle.mpslp_mps.specs.FaultsInWords.{row_name, is_free_row_line, has_row_twice}
 use Rattle.mpslp_mps_fields.specs.declared.bound_types.BoundType.{BoundType}
 use Rattle.mpslp_mps_fields.specs.declared.bound_types.BoundType.TheVariants as bounds
+use Rattle.mpslp_mps_fields.specs.declared.sections.Section.{Section}
 use Rattle.mpslp_mps_fields.specs.declared.sections.Section.TheVariants.{ObjName, Rows, Columns, Rhs, Ranges, Bounds}
+
+-- a data line of the section whose fields pass the test
+abbrev pub is_line_of : Section → (Fields → Bool) → List LineContent → LineContent → Bool
+is_line_of section test before (data_line fields) = is_section section (current_section before) && test fields
+is_line_of section test before _ = false
 
 -- ---- the objective: the row that OBJNAME names, or else the first N row, or else `obj`
 
@@ -35,8 +41,7 @@ abbrev pub vector_pairs : Fields → List Pair
 vector_pairs fields = option_map_or (λ line. line.pairs) (vector_shape fields) []
 
 abbrev pub ranges_free_row : List LineContent → LineContent → Bool
-ranges_free_row before (data_line fields) = is_section Ranges (current_section before) && list_any (λ pair. is_without_limits before pair.row) (vector_pairs fields)
-ranges_free_row before _ = false
+ranges_free_row before item = is_line_of Ranges (λ fields. list_any (λ pair. is_without_limits before pair.row) (vector_pairs fields)) before item
 
 -- ---- DuplicateRange: a line of RANGES with a row twice, or with a row that an earlier line of RANGES has
 
@@ -48,8 +53,7 @@ abbrev pub repeats_row_of : List Fields → List Pair → Bool
 repeats_row_of lines pairs = has_row_twice pairs || list_any (λ pair. list_any (has_value_of pair.row) lines) pairs
 
 abbrev pub repeats_range : List LineContent → LineContent → Bool
-repeats_range before (data_line fields) = is_section Ranges (current_section before) && repeats_row_of (data_lines Ranges before) (vector_pairs fields)
-repeats_range before _ = false
+repeats_range before item = is_line_of Ranges (λ fields. repeats_row_of (data_lines Ranges before) (vector_pairs fields)) before item
 
 -- ---- DuplicateRhs: a line of RHS with a row twice, or with a row that an earlier line of RHS has
 
@@ -58,8 +62,7 @@ abbrev pub takes_side : List LineContent → List ℕ → Bool
 takes_side before row = not (has_free_row before row) || names_objective before row
 
 abbrev pub repeats_side : List LineContent → LineContent → Bool
-repeats_side before (data_line fields) = is_section Rhs (current_section before) && repeats_row_of (data_lines Rhs before) (filter (λ pair. takes_side before pair.row) (vector_pairs fields))
-repeats_side before _ = false
+repeats_side before item = is_line_of Rhs (λ fields. repeats_row_of (data_lines Rhs before) (filter (λ pair. takes_side before pair.row) (vector_pairs fields))) before item
 
 -- ---- DuplicateBound: a line of BOUNDS with a lower or an upper bound of a column that has one from an earlier line
 
@@ -95,8 +98,7 @@ abbrev pub repeats_bound_of : List LineContent → BoundType → List ℕ → Bo
 repeats_bound_of before type column = (gives_lower type && has_bound before gives_lower column) || (gives_upper type && has_bound before gives_upper column)
 
 abbrev pub repeats_bound : List LineContent → LineContent → Bool
-repeats_bound before (data_line fields) = is_section Bounds (current_section before) && is_such_bound (repeats_bound_of before) fields
-repeats_bound before _ = false
+repeats_bound before item = is_line_of Bounds (is_such_bound (repeats_bound_of before)) before item
 
 -- ---- SemiContinuous: a line SC of an integer column, or a line BV, LI or UI of a column with a line SC
 
@@ -120,5 +122,4 @@ abbrev pub clashes_with : List LineContent → BoundType → List ℕ → Bool
 clashes_with before type column = (is_semi_type type && is_integer_column before column) || (is_integer_type type && has_bound before is_semi_type column)
 
 abbrev pub makes_both_kinds : List LineContent → LineContent → Bool
-makes_both_kinds before (data_line fields) = is_section Bounds (current_section before) && is_such_bound (clashes_with before) fields
-makes_both_kinds before _ = false
+makes_both_kinds before item = is_line_of Bounds (is_such_bound (clashes_with before)) before item

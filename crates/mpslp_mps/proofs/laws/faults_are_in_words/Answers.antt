@@ -1,3 +1,5 @@
+use Rattle.mpslp_mps.proofs.ValuesDeclared.{semi_lines-kept}
+use Rattle.mpslp_mps.proofs.DeclaredByLines.{line-of}
 use Rattle.mpslp_mps.proofs.FaultsOfWords.{section-repeated, section-order, bad-marker, column-split, second-set}
 use Rattle.mpslp_mps.proofs.FaultsOfNames.{unknown-rows, unknown-columns}
 use Rattle.mpslp_mps.proofs.RepeatsOfNames.{repeated-rows, repeated-entries}
