@@ -55,6 +55,7 @@ pub mod FaultsOfNames
 pub mod RepeatsOfNames
 pub mod DeclaredByLines
 pub mod ValuesDeclared
+pub mod ObjectiveOfLines
 pub mod WorkedSentences
 pub mod FedLemmas
 pub mod LineReaderLemmas

@@ -1,3 +1,4 @@
+use Rattle.mpslp_mps.proofs.ObjectiveOfLines.{first_named-kept}
 use Rattle.mpslp_mps.proofs.ValuesDeclared.{semi_lines-kept}
 use Rattle.mpslp_mps.proofs.DeclaredByLines.{line-of}
 use Rattle.mpslp_mps.proofs.FaultsOfWords.{section-repeated, section-order, bad-marker, column-split, second-set}
