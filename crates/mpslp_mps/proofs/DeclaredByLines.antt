@@ -124,7 +124,11 @@ home_of (declare_constant _) = Name
 home_of (declare_binary _) = Name
 
 abbrev is_at_home : Section → Declaration → Bool
-is_at_home section d = is_section (home_of d) (Some section)
+is_at_home section d = not (is_section Name (Some (home_of d))) && is_section (home_of d) (Some section)
+
+-- a declaration of lines of another section
+abbrev pub is_elsewhere : Section → Declaration → Bool
+is_elsewhere section d = not (is_section Name (Some (home_of d))) && not (is_section section (Some (home_of d)))
 
 at_home : HoldsInSections is_at_home
 at_home = record {
@@ -145,13 +149,16 @@ all-so p q (d ∷ ds) h k = both_so (q d) (list_all q ds) (h d (first_so (p d) (
 
 -- what lines of other sections declare
 elsewhere : (section : Section) (context : Context) (earlier : Draft) (fields : Fields) (o : Option Section) → is_section section o ≡ false
-    → list_all (λ d. not (is_section section (Some (home_of d)))) (data_declared context earlier fields o) ≡ true
+    → list_all (is_elsewhere section) (data_declared context earlier fields o) ≡ true
 elsewhere section context earlier fields o h =
-    all-so (λ d. holds_in is_at_home o d) (λ d. not (is_section section (Some (home_of d)))) (data_declared context earlier fields o) (λ d k. apart o d h k) (data-each is_at_home at_home context earlier fields o)
+    all-so (λ d. holds_in is_at_home o d) (is_elsewhere section) (data_declared context earlier fields o) (λ d k. apart o d h k) (data-each is_at_home at_home context earlier fields o)
   where
-    apart : (s : Option Section) (d : Declaration) → is_section section s ≡ false → holds_in is_at_home s d ≡ true → not (is_section section (Some (home_of d))) ≡ true
+    apart : (s : Option Section) (d : Declaration) → is_section section s ≡ false → holds_in is_at_home s d ≡ true → is_elsewhere section d ≡ true
     apart None d e k = cc
-    apart (Some other) d e k = ap not (ap (is_section section) (sym (section-is (home_of d) (Some other) k)) ∙ e)
+    apart (Some other) d e k =
+        let made = not (is_section Name (Some (home_of d))) in
+        both_so made (not (is_section section (Some (home_of d)))) (first_so made (is_section (home_of d) (Some other)) k)
+        (ap not (ap (is_section section) (sym (section-is (home_of d) (Some other) (second_so made (is_section (home_of d) (Some other)) k))) ∙ e))
 
 -- ---- a part of the draft that only lines of one section declare
 
@@ -161,27 +168,22 @@ each-kept part p one [] all h = refl
 each-kept part p one (d ∷ ds) all h = each-kept part p one ds (with_declaration all d) (second_so (p d) (list_all p ds) h) ∙ one all d (first_so (p d) (list_all p ds) h)
 
 pub record IsPartOf (section : Section) (part : Draft → Bool) : Type 0 where
-  pub headed : is_section section (Some ObjSense) ≡ false
+  pub headed : (s : Sense) → is_elsewhere section (declare_sense s) ≡ true
   pub objective : (all : Draft) (name : List ℕ) → part (with_declaration all (declare_objective name)) ≡ part all
-  pub other : (all : Draft) (d : Declaration) → is_section section (Some (home_of d)) ≡ false → part (with_declaration all d) ≡ part all
+  pub other : (all : Draft) (d : Declaration) → is_elsewhere section d ≡ true → part (with_declaration all d) ≡ part all
 
 module _ (section : Section) (part : Draft → Bool) (is : IsPartOf section part) where
   pub header-kept : (context : Context) (earlier : Draft) (more : Fields) (o : Option Section) → part (with_declarations earlier (header_declared context earlier more o)) ≡ part earlier
   header-kept context earlier more o = each-kept part is_of_header by (header_declared context earlier more o) earlier (header-each context earlier more o)
     where
       by : (all : Draft) (d : Declaration) → is_of_header d ≡ true → part (with_declaration all d) ≡ part all
-      by all (declare_sense s) h = is.other all (declare_sense s) is.headed
+      by all (declare_sense s) h = is.other all (declare_sense s) (is.headed s)
       by all (declare_objective name) h = is.objective all name
       by all _ h = cc
 
   pub data-kept : (context : Context) (earlier : Draft) (fields : Fields) (o : Option Section) → is_section section o ≡ false → part (with_declarations earlier (data_declared context earlier fields o)) ≡ part earlier
   data-kept context earlier fields o h =
-      each-kept part (λ d. not (is_section section (Some (home_of d)))) (λ all d k. is.other all d (no (is_section section (Some (home_of d))) k)) (data_declared context earlier fields o) earlier
-      (elsewhere section context earlier fields o h)
-    where
-      no : (b : Bool) → not b ≡ true → b ≡ false
-      no true e = cc
-      no false e = refl
+      each-kept part (is_elsewhere section) is.other (data_declared context earlier fields o) earlier (elsewhere section context earlier fields o h)
 
   -- if each line of the section that declares it passes the test, it has such a line
   pub lines-kept : (test : Fields → Bool)
@@ -216,7 +218,7 @@ module _ (section : Section) (part : Draft → Bool) (is : IsPartOf section part
 
 pub record IsErrorOfSection (section : Section) (kind : FaultKind) : Type 0 where
   pub header : (d : Declaration) → is_of_header d ≡ true → not (may_refuse kind d) ≡ true
-  pub other : (d : Declaration) → is_section section (Some (home_of d)) ≡ false → not (may_refuse kind d) ≡ true
+  pub other : (d : Declaration) → is_elsewhere section d ≡ true → not (may_refuse kind d) ≡ true
 
 -- no header has it
 pub unrefused-header : {X : Type 0} (kind : FaultKind) → ((d : Declaration) → is_of_header d ≡ true → not (may_refuse kind d) ≡ true) → (context : Context) (earlier : Draft) (more : Fields) (o : Option Section)
@@ -226,16 +228,11 @@ unrefused-header kind none context earlier more o h =
     (all-so is_of_header (λ d. not (may_refuse kind d)) (header_declared context earlier more o) none (header-each context earlier more o)) h
 
 -- nor has a line of another section
-pub unrefused-data : {X : Type 0} (section : Section) (kind : FaultKind) → ((d : Declaration) → is_section section (Some (home_of d)) ≡ false → not (may_refuse kind d) ≡ true)
+pub unrefused-data : {X : Type 0} (section : Section) (kind : FaultKind) → ((d : Declaration) → is_elsewhere section d ≡ true → not (may_refuse kind d) ≡ true)
     → (context : Context) (earlier : Draft) (fields : Fields) (o : Option Section) → is_section section o ≡ false → refuses kind earlier (data_declared context earlier fields o) ≡ true → X
 unrefused-data section kind other context earlier fields o out h =
     no-one kind (data_declared context earlier fields o) earlier
-    (all-so (λ d. not (is_section section (Some (home_of d)))) (λ d. not (may_refuse kind d)) (data_declared context earlier fields o) (λ d k. other d (no (is_section section (Some (home_of d))) k))
-    (elsewhere section context earlier fields o out)) h
-  where
-    no : (b : Bool) → not b ≡ true → b ≡ false
-    no true e = cc
-    no false e = refl
+    (all-so (is_elsewhere section) (λ d. not (may_refuse kind d)) (data_declared context earlier fields o) other (elsewhere section context earlier fields o out)) h
 
 -- so a line with this error is one of the section, and passes the test if each of those with the error does
 pub line-of : (section : Section) (kind : FaultKind) → IsErrorOfSection section kind → (test : Fields → Bool) (before : List LineContent) (earlier : Draft)

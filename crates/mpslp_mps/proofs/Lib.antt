@@ -56,6 +56,8 @@ pub mod RepeatsOfNames
 pub mod DeclaredByLines
 pub mod ValuesDeclared
 pub mod ObjectiveOfLines
+pub mod BlocksOfLines
+pub mod FaultsOfValues
 pub mod WorkedSentences
 pub mod FedLemmas
 pub mod LineReaderLemmas

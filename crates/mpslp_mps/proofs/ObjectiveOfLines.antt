@@ -35,14 +35,14 @@ use Rattle.mpslp_mps.proofs.WordsOfOneWord.{missing, without_word, with_word, Is
 use Rattle.mpslp_mps.proofs.WordsOfObjName.{IsWantedEarly, objective-kept, header-unnamed, data-unnamed, told-words}
 use Rattle.mpslp_mps.proofs.NamesOfWords.{Told}
 use Rattle.mpslp_mps.proofs.RepeatsOfNames.{last-place, columns-out}
-use Rattle.mpslp_mps.proofs.DeclaredByLines.{home_of, IsPartOf, lines-kept}
+use Rattle.mpslp_mps.proofs.DeclaredByLines.{is_elsewhere, IsPartOf, lines-kept}
 
 -- ---- a row without limits has a line of type N
 
 free-part : (row : List ℕ) → IsPartOf Rows (λ all. is_free_row all row)
-free-part row = record { headed = refl; objective = λ _ _. refl; other = by }
+free-part row = record { headed = λ _. refl; objective = λ _ _. refl; other = by }
   where
-    by : (all : Draft) (d : Declaration) → is_section Rows (Some (home_of d)) ≡ false → is_free_row (with_declaration all d) row ≡ is_free_row all row
+    by : (all : Draft) (d : Declaration) → is_elsewhere Rows d ≡ true → is_free_row (with_declaration all d) row ≡ is_free_row all row
     by all (declare_row _ _) h = cc
     by all _ h = refl
 

@@ -21,7 +21,7 @@ use Rattle.mpslp_mps_fields.specs.declared.bound_types.BoundType.{BoundType}
 use Rattle.mpslp_mps_fields.specs.declared.bound_types.BoundType.TheVariants as bounds
 use Rattle.mpslp_mps_fields.specs.declared.sections.Section.{Section}
 use Rattle.mpslp_mps_fields.specs.declared.sections.Section.TheVariants.{Rhs, Ranges, Bounds}
-use Rattle.mpslp_mps.proofs.DeclaredByLines.{HoldsInSections, holds_in, data-each, is_of_header, header-each, home_of, IsPartOf, lines-kept}
+use Rattle.mpslp_mps.proofs.DeclaredByLines.{HoldsInSections, holds_in, data-each, is_of_header, header-each, is_elsewhere, IsPartOf, lines-kept}
 
 -- ---- no constant, no row by its limits, no binary column
 
@@ -100,9 +100,9 @@ none-plain = record { limits = λ row. refl; constant = refl; binaries = λ colu
 -- ---- ranges
 
 ranges-part : (row : List ℕ) → IsPartOf Ranges (λ all. has_name all.ranges row)
-ranges-part row = record { headed = refl; objective = λ _ _. refl; other = by }
+ranges-part row = record { headed = λ _. refl; objective = λ _ _. refl; other = by }
   where
-    by : (all : Draft) (d : Declaration) → is_section Ranges (Some (home_of d)) ≡ false → has_name (with_declaration all d).ranges row ≡ has_name all.ranges row
+    by : (all : Draft) (d : Declaration) → is_elsewhere Ranges d ≡ true → has_name (with_declaration all d).ranges row ≡ has_name all.ranges row
     by all (declare_range _ _) h = cc
     by all _ h = refl
 
@@ -136,9 +136,9 @@ range_lines-kept before earlier item have row h = lines-kept Ranges (λ all. has
 -- ---- right-hand sides
 
 sides-part : (row : List ℕ) → IsPartOf Rhs (λ all. has_name all.rhs_values row)
-sides-part row = record { headed = refl; objective = λ _ _. refl; other = by }
+sides-part row = record { headed = λ _. refl; objective = λ _ _. refl; other = by }
   where
-    by : (all : Draft) (d : Declaration) → is_section Rhs (Some (home_of d)) ≡ false → has_name (with_declaration all d).rhs_values row ≡ has_name all.rhs_values row
+    by : (all : Draft) (d : Declaration) → is_elsewhere Rhs d ≡ true → has_name (with_declaration all d).rhs_values row ≡ has_name all.rhs_values row
     by all (declare_rhs _ _) h = cc
     by all _ h = refl
 
@@ -199,30 +199,30 @@ of-bounds part is_of column each (letters ∷ more) all h = typed (bound_type le
     typed (Some type) k = lined type (bound_shape type more) k
 
 lowers-part : (column : List ℕ) → IsPartOf Bounds (λ all. has_name all.lowers column)
-lowers-part column = record { headed = refl; objective = λ _ _. refl; other = by }
+lowers-part column = record { headed = λ _. refl; objective = λ _ _. refl; other = by }
   where
-    by : (all : Draft) (d : Declaration) → is_section Bounds (Some (home_of d)) ≡ false → has_name (with_declaration all d).lowers column ≡ has_name all.lowers column
+    by : (all : Draft) (d : Declaration) → is_elsewhere Bounds d ≡ true → has_name (with_declaration all d).lowers column ≡ has_name all.lowers column
     by all (declare_lower _ _) h = cc
     by all _ h = refl
 
 uppers-part : (column : List ℕ) → IsPartOf Bounds (λ all. has_name all.uppers column)
-uppers-part column = record { headed = refl; objective = λ _ _. refl; other = by }
+uppers-part column = record { headed = λ _. refl; objective = λ _ _. refl; other = by }
   where
-    by : (all : Draft) (d : Declaration) → is_section Bounds (Some (home_of d)) ≡ false → has_name (with_declaration all d).uppers column ≡ has_name all.uppers column
+    by : (all : Draft) (d : Declaration) → is_elsewhere Bounds d ≡ true → has_name (with_declaration all d).uppers column ≡ has_name all.uppers column
     by all (declare_upper _ _) h = cc
     by all _ h = refl
 
 integers-part : (column : List ℕ) → IsPartOf Bounds (λ all. has_name all.integers column)
-integers-part column = record { headed = refl; objective = λ _ _. refl; other = by }
+integers-part column = record { headed = λ _. refl; objective = λ _ _. refl; other = by }
   where
-    by : (all : Draft) (d : Declaration) → is_section Bounds (Some (home_of d)) ≡ false → has_name (with_declaration all d).integers column ≡ has_name all.integers column
+    by : (all : Draft) (d : Declaration) → is_elsewhere Bounds d ≡ true → has_name (with_declaration all d).integers column ≡ has_name all.integers column
     by all (declare_integer _) h = cc
     by all _ h = refl
 
 semis-part : (column : List ℕ) → IsPartOf Bounds (λ all. has_name all.semis column)
-semis-part column = record { headed = refl; objective = λ _ _. refl; other = by }
+semis-part column = record { headed = λ _. refl; objective = λ _ _. refl; other = by }
   where
-    by : (all : Draft) (d : Declaration) → is_section Bounds (Some (home_of d)) ≡ false → has_name (with_declaration all d).semis column ≡ has_name all.semis column
+    by : (all : Draft) (d : Declaration) → is_elsewhere Bounds d ≡ true → has_name (with_declaration all d).semis column ≡ has_name all.semis column
     by all (declare_semi _) h = cc
     by all _ h = refl
 

@@ -1,9 +1,7 @@
-use Rattle.mpslp_mps.proofs.ObjectiveOfLines.{first_named-kept}
-use Rattle.mpslp_mps.proofs.ValuesDeclared.{semi_lines-kept}
-use Rattle.mpslp_mps.proofs.DeclaredByLines.{line-of}
 use Rattle.mpslp_mps.proofs.FaultsOfWords.{section-repeated, section-order, bad-marker, column-split, second-set}
 use Rattle.mpslp_mps.proofs.FaultsOfNames.{unknown-rows, unknown-columns}
 use Rattle.mpslp_mps.proofs.RepeatsOfNames.{repeated-rows, repeated-entries}
+use Rattle.mpslp_mps.proofs.FaultsOfValues.{free-ranges, repeated-ranges, repeated-sides}
 use Rattle.mpslp_mps.proofs.laws.faults_are_in_words.Goals as goal
 
 pub returns : goal.returns
@@ -17,4 +15,7 @@ returns c = record {
   duplicate_row = repeated-rows;
   duplicate_entry = repeated-entries;
   column_split = column-split;
+  duplicate_rhs = repeated-sides;
+  duplicate_range = repeated-ranges;
+  range_on_free = free-ranges;
 }
