@@ -123,7 +123,7 @@ home_of (declare_semi _) = Bounds
 home_of (declare_constant _) = Name
 home_of (declare_binary _) = Name
 
-abbrev is_at_home : Section → Declaration → Bool
+abbrev pub is_at_home : Section → Declaration → Bool
 is_at_home section d = not (is_section Name (Some (home_of d))) && is_section (home_of d) (Some section)
 
 -- a declaration of lines of another section
@@ -233,6 +233,13 @@ pub unrefused-data : {X : Type 0} (section : Section) (kind : FaultKind) → ((d
 unrefused-data section kind other context earlier fields o out h =
     no-one kind (data_declared context earlier fields o) earlier
     (all-so (is_elsewhere section) (λ d. not (may_refuse kind d)) (data_declared context earlier fields o) other (elsewhere section context earlier fields o out)) h
+
+-- nor has a line of this section, if none of its declarations has it
+pub unrefused-at : {X : Type 0} (section : Section) (kind : FaultKind) → ((d : Declaration) → is_at_home section d ≡ true → not (may_refuse kind d) ≡ true) → (context : Context) (earlier : Draft) (fields : Fields)
+    → refuses kind earlier (data_declared context earlier fields (Some section)) ≡ true → X
+unrefused-at section kind none context earlier fields h =
+    no-one kind (data_declared context earlier fields (Some section)) earlier
+    (all-so (λ d. is_at_home section d) (λ d. not (may_refuse kind d)) (data_declared context earlier fields (Some section)) none (data-each is_at_home at_home context earlier fields (Some section))) h
 
 -- so a line with this error is one of the section, and passes the test if each of those with the error does
 pub line-of : (section : Section) (kind : FaultKind) → IsErrorOfSection section kind → (test : Fields → Bool) (before : List LineContent) (earlier : Draft)

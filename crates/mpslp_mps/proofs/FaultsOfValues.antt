@@ -103,7 +103,7 @@ values-told = record {
 }
 
 -- a kind after those of all forms: one of the declarations of the line is rejected with it
-rejected : (kind : FaultKind) (before : List LineContent) (earlier : Draft) (item : LineContent) → is_below kind kinds.LineTooLong ≡ true → is_below kind kinds.BadByte ≡ true → list_all (is_below kind) header_kinds ≡ true
+pub rejected : (kind : FaultKind) (before : List LineContent) (earlier : Draft) (item : LineContent) → is_below kind kinds.LineTooLong ≡ true → is_below kind kinds.BadByte ≡ true → list_all (is_below kind) header_kinds ≡ true
     → ((o : Option Section) → list_all (is_below kind) (kinds_in o) ≡ true) → IsFirst kind before earlier item → refuses kind earlier (line_declares (context_of before) earlier item) ≡ true
 rejected kind before earlier item long byte heads lines first = good-refused kind before earlier item (form-good kind before earlier item long byte heads lines first) first
 

@@ -58,6 +58,7 @@ pub mod ValuesDeclared
 pub mod ObjectiveOfLines
 pub mod BlocksOfLines
 pub mod FaultsOfValues
+pub mod FaultsOfBounds
 pub mod WorkedSentences
 pub mod FedLemmas
 pub mod LineReaderLemmas
