@@ -60,5 +60,6 @@ pub mod BlocksOfLines
 pub mod FaultsOfValues
 pub mod FaultsOfBounds
 pub mod WorkedSentences
+pub mod WorkedValueSentences
 pub mod FedLemmas
 pub mod LineReaderLemmas
