@@ -13,11 +13,10 @@ use Rattle.mpslp_lines.specs.Field.{value_of}
 use Rattle.mpslp_mps_fields.specs.Line.{Fields, LineContent, skipped, header, data_line}
 use Rattle.mpslp_mps_fields.specs.Section.{section_named, is_section}
 use Rattle.mpslp_mps_fields.specs.DataLine.{Pair, ValuesLine, column_shape, is_marker_line, marker_shape, opening_word}
-use Rattle.mpslp_mps.specs.Context.{Context, context_of, current_section, fields_under, data_lines, marker_word, line_column}
-use Rattle.mpslp_mps.specs.LineDeclarations.{declared_if_some, coefficient_declared, column_declared, columns_line_declared, data_declared, line_declares}
+use Rattle.mpslp_mps.specs.Context.{context_of, current_section, fields_under, data_lines, marker_word, line_column}
+use Rattle.mpslp_mps.specs.LineDeclarations.{declared_if_some, coefficient_declared, column_declared, data_declared, line_declares}
 use Rattle.mpslp_mps.specs.TextInWords.{same_column}
 use Rattle.mpslp_mps.specs.ValueFaultsInWords.{opens_block, block_lines, is_in_block}
-use Rattle.mpslp_mps_fields.specs.declared.sections.Section.{Section}
 use Rattle.mpslp_mps_fields.specs.declared.sections.Section.TheVariants.{Columns}
 use Rattle.mpslp_mps.proofs.SectionLemmas.{data_lines-push}
 use Rattle.mpslp_mps.proofs.WordsOfFields.{section-is}

@@ -16,13 +16,13 @@ use Rattle.mpslp_model_core.specs.Lists.{when}
 use Rattle.mpslp_builder.specs.Declaration.{by_type, Declaration, declare_sense, declare_objective, declare_constant, declare_row, declare_rhs, declare_range, declare_column, declare_coefficient, declare_lower, declare_upper, declare_marked, declare_integer, declare_binary, declare_semi, Declarations, Draft, with_declaration, with_declarations}
 use Rattle.mpslp_mps_fields.specs.Line.{Fields, LineContent, skipped, header, data_line}
 use Rattle.mpslp_mps_fields.specs.Section.{section_named, is_section}
-use Rattle.mpslp_mps_fields.specs.DataLine.{RowLine, ValuesLine, row_shape, row_type, column_shape, is_marker_line}
+use Rattle.mpslp_mps_fields.specs.DataLine.{ValuesLine, row_shape, row_type, column_shape, is_marker_line}
 use Rattle.mpslp_mps.specs.Context.{Context, context_of, current_section, fields_under, data_lines}
-use Rattle.mpslp_mps.specs.LineDeclarations.{declared_if_some, is_new_objective, row_of_type, row_declared, coefficient_declared, column_declared, columns_line_declared, data_declared, header_declared, line_declares}
+use Rattle.mpslp_mps.specs.LineDeclarations.{declared_if_some, is_new_objective, row_of_type, row_declared, coefficient_declared, column_declared, data_declared, header_declared, line_declares}
 use Rattle.mpslp_mps.specs.ValueFaultsInWords.{is_line_of}
 use Rattle.mpslp_mps_fields.specs.declared.sections.Section.{Section}
 use Rattle.mpslp_mps_fields.specs.declared.sections.Section.TheVariants.{Name, ObjSense, ObjName, Rows, Columns, Rhs, Ranges, Bounds, EndData}
-use Rattle.mpslp_mps.proofs.OrderLemmas.{never, each-declared, each-flat, sense-passes, sides-passes, ranges-passes, Passes, bounds-passes}
+use Rattle.mpslp_mps.proofs.OrderLemmas.{each-declared, each-flat, sense-passes, sides-passes, ranges-passes, Passes, bounds-passes}
 use Rattle.mpslp_mps.proofs.SectionLemmas.{data_lines-push}
 use Rattle.mpslp_mps.proofs.WordsOfFields.{section-is}
 use Rattle.mpslp_mps.proofs.FaultedLines.{refuses}

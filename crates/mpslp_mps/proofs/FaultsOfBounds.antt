@@ -1,5 +1,5 @@
 -- Lines of BOUNDS with a rejected bound or type are as `ValueFaultsInWords` defines the kind of their error.
-use Rattle.std.proofs.Common.{◌≡◌, refl, sym, ap, ◌∙◌, List, [], ◌∷◌, ◌++◌, ℕ, Bool, true, false, cond}
+use Rattle.std.proofs.Common.{◌≡◌, refl, ap, ◌∙◌, List, [], ◌∷◌, ◌++◌, ℕ, Bool, true, false, cond}
 use Rattle.std.specs.Prelude.{Option, Some, None, not, ◌||◌, ◌&&◌, nat_le}
 use Rattle.std.specs.List.{list_any, list_all, flat_map}
 use Rattle.std.specs.Option.{option_map_or}
@@ -8,10 +8,9 @@ use Rattle.mpslp_types.specs.Name.{same_bytes}
 use Rattle.mpslp_types.specs.declared.kinds.Limit.{Limit}
 use Rattle.mpslp_types.specs.declared.faults.FaultKind.{FaultKind}
 use Rattle.mpslp_types.specs.declared.faults.FaultKind.TheVariants as kinds
-use Rattle.mpslp_types.proofs.BoolLemmas.{both_so, both_false, or_left, or_right, either, either_more}
-use Rattle.mpslp_builder.specs.Declaration.{Declaration, declare_sense, declare_objective, declare_column, declare_coefficient, declare_lower, declare_upper, declare_marked, declare_integer, declare_binary, declare_semi, declare_row, declare_rhs, declare_range, Draft, with_declaration, has_name, is_integer, is_semi}
+use Rattle.mpslp_types.proofs.BoolLemmas.{both_false, either, either_more}
+use Rattle.mpslp_builder.specs.Declaration.{Declaration, declare_sense, declare_objective, declare_column, declare_coefficient, declare_lower, declare_upper, declare_marked, declare_row, declare_rhs, declare_range, Draft, with_declaration, has_name, is_integer, is_semi}
 use Rattle.mpslp_lines.specs.Field.{value_of}
-use Rattle.mpslp_lines.specs.FaultTests.{FaultTests}
 use Rattle.mpslp_mps_fields.specs.Line.{Fields, LineContent, skipped, header, data_line}
 use Rattle.mpslp_mps_fields.specs.Section.{has, section_named, is_section}
 use Rattle.mpslp_mps_fields.specs.DataLine.{Pair, ValuesLine, column_shape, is_marker_line}
@@ -30,7 +29,6 @@ use Rattle.mpslp_mps_fields.specs.declared.sections.Section.{Section}
 use Rattle.mpslp_mps_fields.specs.declared.sections.Section.TheVariants.{Name, ObjSense, ObjName, Rows, Columns, Rhs, Ranges, Bounds, EndData}
 use Rattle.mpslp_mps.proofs.OrderLemmas.{never}
 use Rattle.mpslp_mps.proofs.ObjNameOfWords.{no-more-lines}
-use Rattle.mpslp_mps.proofs.WordsOfFields.{section-is}
 use Rattle.mpslp_mps.proofs.FaultedLines.{holds_of, refuses, IsFirst, in-words-by}
 use Rattle.mpslp_mps.proofs.KindsOfLines.{is_among, none-holds, right_alone, header_kinds, kinds_in, data-among, header-among}
 use Rattle.mpslp_mps.proofs.FaultsOfNames.{may_refuse}

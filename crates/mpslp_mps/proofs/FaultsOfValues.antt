@@ -1,33 +1,31 @@
 -- Lines of RHS, RANGES and BOUNDS with a rejected value are as `ValueFaultsInWords` defines the kind of their error.
 use Rattle.std.proofs.Common.{◌≡◌, refl, sym, ap, ◌∙◌, List, [], ◌∷◌, ◌++◌, ℕ, Bool, true, false, cond, map}
 use Rattle.std.specs.Prelude.{Option, Some, None, is_some, not, ◌||◌, ◌&&◌, filter}
-use Rattle.std.specs.List.{list_any, list_all, flat_map, last_or}
+use Rattle.std.specs.List.{list_any, list_all, flat_map}
 use Rattle.std.specs.Option.{option_map_or}
 use Rattle.mpslp_decimal.specs.Decimal.{Number}
 use Rattle.mpslp_types.specs.Name.{same_bytes}
-use Rattle.mpslp_types.specs.declared.kinds.Limit.{Limit}
 use Rattle.mpslp_types.specs.declared.faults.FaultKind.{FaultKind}
 use Rattle.mpslp_types.specs.declared.faults.FaultKind.TheVariants as kinds
-use Rattle.mpslp_types.proofs.BoolLemmas.{both_so, both_false, or_left, or_right, so_not, either_more}
-use Rattle.mpslp_builder.specs.Declaration.{Declaration, declare_sense, declare_objective, declare_constant, declare_row, declare_rhs, declare_range, declare_column, declare_coefficient, declare_lower, declare_upper, declare_marked, declare_integer, declare_binary, declare_semi, Declarations, Draft, empty_draft, with_declaration, with_declarations, has_name, is_objective, is_free_row, is_row_by_limits, is_integer, is_semi, rhs_declared}
+use Rattle.mpslp_types.proofs.BoolLemmas.{or_left, or_right, either_more}
+use Rattle.mpslp_builder.specs.Declaration.{Declaration, declare_sense, declare_objective, declare_constant, declare_rhs, declare_range, Declarations, Draft, with_declaration, with_declarations, has_name, is_objective, is_free_row, is_row_by_limits, rhs_declared}
 use Rattle.mpslp_builder.specs.Consistency.{has_one_constant}
 use Rattle.mpslp_builder.specs.Refusal.{refusals_in_turn}
 use Rattle.mpslp_builder.proofs.LaterDrafts.{extends-in_turn}
 use Rattle.mpslp_builder.proofs.RefusalLemmas.{HasDeclaredNames, HasKindsApart, none-fine, empty_declared_names, empty_kinds_apart}
 use Rattle.mpslp_builder.proofs.SlotLemmas.{has-put}
 use Rattle.mpslp_lines.specs.Field.{value_of}
-use Rattle.mpslp_mps_fields.specs.Line.{Fields, LineContent, skipped, header, data_line}
-use Rattle.mpslp_mps_fields.specs.Section.{section_named, is_section}
+use Rattle.mpslp_mps_fields.specs.Line.{Fields, LineContent}
 use Rattle.mpslp_mps_fields.specs.DataLine.{Pair, ValuesLine, vector_shape}
-use Rattle.mpslp_mps.specs.Context.{Context, context_of, current_section, data_lines}
-use Rattle.mpslp_mps.specs.LineDeclarations.{declared_if_some, rhs_line_declared, ranges_declared, data_declared, line_declares}
+use Rattle.mpslp_mps.specs.Context.{context_of, data_lines}
+use Rattle.mpslp_mps.specs.LineDeclarations.{declared_if_some, rhs_line_declared, ranges_declared, line_declares}
 use Rattle.mpslp_mps.specs.FaultsInWords.{IsInWords, has_row_twice}
 use Rattle.mpslp_mps.specs.TextInWords.{has_free_row}
 use Rattle.mpslp_mps.specs.ValueFaultsInWords.{is_without_limits, ranges_free_row, vector_pairs, has_value_of, repeats_row_of, repeats_range, takes_side, repeats_side, names_objective, gives_lower, gives_upper}
 use Rattle.mpslp_mps_fields.specs.BoundLine.{is_integer_type, is_semi_type}
 use Rattle.mpslp_mps_fields.specs.declared.sections.Section.{Section}
-use Rattle.mpslp_mps_fields.specs.declared.sections.Section.TheVariants.{Rhs, Ranges, Bounds}
-use Rattle.mpslp_mps.proofs.OrderLemmas.{IsGood, never}
+use Rattle.mpslp_mps_fields.specs.declared.sections.Section.TheVariants.{Rhs, Ranges}
+use Rattle.mpslp_mps.proofs.OrderLemmas.{IsGood}
 use Rattle.mpslp_mps.proofs.NamesOfWords.{Told, none-told, told-kept}
 use Rattle.mpslp_mps.proofs.FaultedLines.{refuses, is_below, IsKept, IsFirst, in-words-by}
 use Rattle.mpslp_mps.proofs.KindsOfLines.{kinds_in, header_kinds}

@@ -1,9 +1,9 @@
 -- The objective of a draft and its rows without limits are those that the lines before name as such.
-use Rattle.std.proofs.Common.{◌≡◌, refl, sym, ap, ◌∙◌, subst, List, [], ◌∷◌, ◌++◌, append_assoc, ℕ, Bool, true, false, cond}
-use Rattle.std.specs.Prelude.{Option, Some, None, is_none, is_some, not, filter_map, ◌||◌, ◌&&◌, codes, nat_le}
-use Rattle.std.specs.List.{list_any, list_all, last_or, flat_map, cons_option}
+use Rattle.std.proofs.Common.{◌≡◌, refl, sym, ap, ◌∙◌, subst, List, [], ◌∷◌, ◌++◌, ℕ, Bool, true, false, cond}
+use Rattle.std.specs.Prelude.{Option, Some, None, is_none, is_some, filter_map, ◌||◌, ◌&&◌, codes}
+use Rattle.std.specs.List.{list_any, flat_map, cons_option}
 use Rattle.std.specs.Option.{option_map, option_map_or}
-use Rattle.std.specs.Cmp.{first_so, second_so}
+use Rattle.std.specs.Cmp.{second_so}
 use Rattle.std.proofs.lemmas.List.{append-nil}
 use Rattle.std.proofs.lemmas.List.Elements.{filter_map-append}
 use Rattle.std.proofs.lemmas.List.Concat.{flat_map-append}
@@ -11,7 +11,7 @@ use Rattle.std.proofs.lemmas.List.Folds.{list_any-append}
 use Rattle.mpslp_types.specs.Name.{same_bytes}
 use Rattle.mpslp_types.specs.declared.kinds.RowType.{RowType}
 use Rattle.mpslp_types.specs.declared.kinds.RowType.TheVariants.{Free, AtMost, AtLeast, Equal}
-use Rattle.mpslp_types.proofs.BoolLemmas.{or_left, or_right, both_false, not_so}
+use Rattle.mpslp_types.proofs.BoolLemmas.{or_left, or_right, not_so}
 use Rattle.mpslp_model_core.specs.Lists.{when, head_of, is_nonempty, those_of}
 use Rattle.mpslp_builder.specs.Declaration.{by_type, RowDefinition, Declaration, declare_objective, declare_row, Draft, with_declaration, with_declarations, at_name, is_objective, is_free_definition, is_free_row}
 use Rattle.mpslp_builder.proofs.LaterDrafts.{Extends, value_in, itself_named, is_objective-after}
@@ -25,7 +25,7 @@ use Rattle.mpslp_mps.specs.HeaderFault.{header_tests}
 use Rattle.mpslp_mps.specs.DataFault.{data_tests}
 use Rattle.mpslp_mps.specs.TextInWords.{is_free, is_free_row_named, has_free_row, is_one_word, word_fields, words_in}
 use Rattle.mpslp_mps.specs.FaultsInWords.{is_free_row_line}
-use Rattle.mpslp_mps.specs.ValueFaultsInWords.{free_row_name, objective_names, names_objective}
+use Rattle.mpslp_mps.specs.ValueFaultsInWords.{free_row_name, names_objective}
 use Rattle.mpslp_mps_fields.specs.declared.sections.Section.{Section}
 use Rattle.mpslp_mps_fields.specs.declared.sections.Section.TheVariants.{Name, ObjSense, ObjName, Rows, Columns, Rhs, Ranges, Bounds, EndData}
 use Rattle.mpslp_mps.proofs.OrderLemmas.{IsGood, never, header-begins}

@@ -1,4 +1,3 @@
-use Rattle.mpslp_mps.proofs.WorkedValueSentences.{range_again}
 use Rattle.mpslp_mps.proofs.FaultsOfWords.{section-repeated, section-order, bad-marker, column-split, second-set}
 use Rattle.mpslp_mps.proofs.FaultsOfNames.{unknown-rows, unknown-columns}
 use Rattle.mpslp_mps.proofs.RepeatsOfNames.{repeated-rows, repeated-entries}
