@@ -143,7 +143,8 @@ at_home = record {
   bounds = record { lower = λ _ _. refl; upper = λ _ _. refl; integer = λ _. refl; semi = λ _. refl };
 }
 
-all-so : (p q : Declaration → Bool) (ds : Declarations) → ((d : Declaration) → p d ≡ true → q d ≡ true) → list_all p ds ≡ true → list_all q ds ≡ true
+-- a weaker test of all
+pub all-so : (p q : Declaration → Bool) (ds : Declarations) → ((d : Declaration) → p d ≡ true → q d ≡ true) → list_all p ds ≡ true → list_all q ds ≡ true
 all-so p q [] h k = refl
 all-so p q (d ∷ ds) h k = both_so (q d) (list_all q ds) (h d (first_so (p d) (list_all p ds) k)) (all-so p q ds h (second_so (p d) (list_all p ds) k))
 

@@ -21,7 +21,7 @@ use Rattle.mpslp_mps_fields.specs.declared.bound_types.BoundType.{BoundType}
 use Rattle.mpslp_mps_fields.specs.declared.bound_types.BoundType.TheVariants as bounds
 use Rattle.mpslp_mps_fields.specs.declared.sections.Section.{Section}
 use Rattle.mpslp_mps_fields.specs.declared.sections.Section.TheVariants.{Rhs, Ranges, Bounds}
-use Rattle.mpslp_mps.proofs.DeclaredByLines.{HoldsInSections, holds_in, data-each, is_of_header, header-each, is_elsewhere, IsPartOf, lines-kept}
+use Rattle.mpslp_mps.proofs.DeclaredByLines.{all-so, HoldsInSections, holds_in, data-each, is_of_header, header-each, is_elsewhere, IsPartOf, lines-kept}
 
 -- ---- no constant, no row by its limits, no binary column
 
@@ -53,14 +53,6 @@ plain-all : (ds : Declarations) (all : Draft) → list_all is_plain ds ≡ true 
 plain-all [] all h plain = plain
 plain-all (d ∷ ds) all h plain = plain-all ds (with_declaration all d) (second_so (is_plain d) (list_all is_plain ds) h) (plain-one all d (first_so (is_plain d) (list_all is_plain ds) h) plain)
 
-weaker : (p q : Declaration → Bool) (ds : Declarations) → ((d : Declaration) → p d ≡ true → q d ≡ true) → list_all p ds ≡ true → list_all q ds ≡ true
-weaker p q [] h k = refl
-weaker p q (d ∷ ds) h k = both (q d) (list_all q ds) (h d (first_so (p d) (list_all p ds) k)) (weaker p q ds h (second_so (p d) (list_all p ds) k))
-  where
-    both : (a b : Bool) → a ≡ true → b ≡ true → (a && b) ≡ true
-    both true b e f = f
-    both false b e f = e
-
 plain-in_sections : HoldsInSections (λ section d. is_plain d)
 plain-in_sections = record {
   sense = λ _. refl;
@@ -78,7 +70,7 @@ pub plain-kept : (context : Context) (earlier : Draft) (item : LineContent) → 
 plain-kept context earlier skipped plain = plain
 plain-kept context earlier (header keyword more) plain =
     plain-all (header_declared context earlier more (section_named keyword)) earlier
-    (weaker is_of_header is_plain (header_declared context earlier more (section_named keyword)) by (header-each context earlier more (section_named keyword))) plain
+    (all-so is_of_header is_plain (header_declared context earlier more (section_named keyword)) by (header-each context earlier more (section_named keyword))) plain
   where
     by : (d : Declaration) → is_of_header d ≡ true → is_plain d ≡ true
     by (declare_constant v) h = cc
@@ -87,7 +79,7 @@ plain-kept context earlier (header keyword more) plain =
     by _ h = refl
 plain-kept context earlier (data_line fields) plain =
     plain-all (data_declared context earlier fields context.section) earlier
-    (weaker (λ d. holds_in (λ section e. is_plain e) context.section d) is_plain (data_declared context earlier fields context.section) (λ d k. by context.section d k)
+    (all-so (λ d. holds_in (λ section e. is_plain e) context.section d) is_plain (data_declared context earlier fields context.section) (λ d k. by context.section d k)
     (data-each (λ section d. is_plain d) plain-in_sections context earlier fields context.section)) plain
   where
     by : (o : Option Section) (d : Declaration) → holds_in (λ section e. is_plain e) o d ≡ true → is_plain d ≡ true
