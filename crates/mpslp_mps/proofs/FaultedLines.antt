@@ -166,15 +166,21 @@ form-holds tests earlier ds kind below h =
 
 -- ---- the line
 
+-- What holds of the lines before any line, and the draft that they declare, if none of them has an error.
+pub record IsKept (Holds : List LineContent → Draft → Type 0) : Type 0 where
+  pub none : Holds [] empty_draft
+  pub kept : (before : List LineContent) (earlier : Draft) (item : LineContent) → IsGood before earlier item → refusals_in_turn earlier (line_declares (context_of before) earlier item) ≡ [] → Holds before earlier
+      → Holds (before ++ item ∷ []) (with_declarations earlier (line_declares (context_of before) earlier item))
+
 -- what is known of the line, and of those before it
-pub record Faulted (ls : List (List ℕ)) (before : List LineContent) (n : ℕ) (fault : Fault) : Type 0 where
+pub record Faulted (Holds : List LineContent → Draft → Type 0) (ls : List (List ℕ)) (before : List LineContent) (n : ℕ) (fault : Fault) : Type 0 where
   pub front : List (List ℕ)
   pub line : List ℕ
   pub later : List (List ℕ)
   pub earlier : Draft
   pub parted : ls ≡ front ++ line ∷ later
   pub number : fault.line ≡ min (length front + n) (2 ^ 64 - 1)
-  pub known : Told (before ++ map content_of front) earlier
+  pub known : Holds (before ++ map content_of front) earlier
   pub told : first_fault (line_tests (context_of (before ++ map content_of front)) earlier line) earlier (line_declares (context_of (before ++ map content_of front)) earlier (content_of line)) ≡ Some fault.kind
 
 one-less : (m n : ℕ) → m + (n + 1) ≡ suc m + n
@@ -183,9 +189,11 @@ one-less m n = grind (arith)
 none-before : (n : ℕ) → n ≡ 0 + n
 none-before n = grind (arith)
 
-find-line : (ls : List (List ℕ)) (before : List LineContent) (earlier : Draft) (n : ℕ) (fault : Fault) → Told before earlier → first_line_fault n (lines_in_context_after before earlier ls) ≡ Some fault → Faulted ls before n fault
-find-line [] before earlier n fault known h = absurd cc
-find-line (line ∷ ls) before earlier n fault known h = by (λ good e. find-line ls (before ++ content_of line ∷ []) next (n + 1) fault (told-kept before earlier (content_of line) good known) e) (line_fault placed) refl h
+find-line : (Holds : List LineContent → Draft → Type 0) → IsKept Holds → (ls : List (List ℕ)) (before : List LineContent) (earlier : Draft) (n : ℕ) (fault : Fault) → Holds before earlier
+    → first_line_fault n (lines_in_context_after before earlier ls) ≡ Some fault → Faulted Holds ls before n fault
+find-line Holds keeps [] before earlier n fault known h = absurd cc
+find-line Holds keeps (line ∷ ls) before earlier n fault known h =
+    by (λ good free e. find-line Holds keeps ls (before ++ content_of line ∷ []) next (n + 1) fault (keeps.kept before earlier (content_of line) good free known) e) (line_fault placed) refl h
   where
     placed : LineInContext
     placed = record { context = context_of before; earlier = earlier; line = line }
@@ -196,12 +204,12 @@ find-line (line ∷ ls) before earlier n fault known h = by (λ good e. find-lin
     rest : List LineInContext
     rest = lines_in_context_after (before ++ content_of line ∷ []) next ls
 
-    by : (IsGood before earlier (content_of line) → first_line_fault (n + 1) rest ≡ Some fault → Faulted ls (before ++ content_of line ∷ []) (n + 1) fault)
-        → (o : Option FaultKind) → line_fault placed ≡ o → option_or (option_map (fault_on_line n) o) (first_line_fault (n + 1) rest) ≡ Some fault → Faulted (line ∷ ls) before n fault
+    by : (IsGood before earlier (content_of line) → refusals_in_turn earlier (declared_at placed) ≡ [] → first_line_fault (n + 1) rest ≡ Some fault → Faulted Holds ls (before ++ content_of line ∷ []) (n + 1) fault)
+        → (o : Option FaultKind) → line_fault placed ≡ o → option_or (option_map (fault_on_line n) o) (first_line_fault (n + 1) rest) ≡ Some fault → Faulted Holds (line ∷ ls) before n fault
     by find None e k =
         let fine = faultless (tests_at placed) earlier (declared_at placed) e in
         let good : IsGood before earlier (content_of line) = item-form (context_of before) earlier line fine.form in
-        let found = find good k in
+        let found = find good fine.unrefused k in
         let same : (before ++ content_of line ∷ []) ++ map content_of found.front ≡ before ++ map content_of (line ∷ found.front) = append_assoc before (content_of line ∷ []) (map content_of found.front) in
         record {
           front = line ∷ found.front;
@@ -210,7 +218,7 @@ find-line (line ∷ ls) before earlier n fault known h = by (λ good e. find-lin
           earlier = found.earlier;
           parted = ap (λ (more : List (List ℕ)). line ∷ more) found.parted;
           number = found.number ∙ ap (λ (m : ℕ). min m (2 ^ 64 - 1)) (one-less (length found.front) n);
-          known = subst (λ (items : List LineContent). Told items found.earlier) same found.known;
+          known = subst (λ (items : List LineContent). Holds items found.earlier) same found.known;
           told = subst (λ (items : List LineContent). first_fault (line_tests (context_of items) found.earlier found.line) found.earlier (line_declares (context_of items) found.earlier (content_of found.line)) ≡ Some fault.kind) same found.told;
         }
     by find (Some kind) e k =
@@ -223,7 +231,7 @@ find-line (line ∷ ls) before earlier n fault known h = by (λ good e. find-lin
           earlier = earlier;
           parted = refl;
           number = sym (ap (λ (f : Fault). f.line) same) ∙ ap (λ (m : ℕ). min m (2 ^ 64 - 1)) (none-before n);
-          known = subst (λ (items : List LineContent). Told items earlier) none known;
+          known = subst (λ (items : List LineContent). Holds items earlier) none known;
           told = subst (λ (items : List LineContent). first_fault (line_tests (context_of items) earlier line) earlier (line_declares (context_of items) earlier (content_of line)) ≡ Some fault.kind) none
               (e ∙ ap (λ (f : Fault). Some f.kind) same);
         }
@@ -278,16 +286,16 @@ pub record IsFirst (kind : FaultKind) (before : List LineContent) (earlier : Dra
   pub late : is_below kind LineTooLong ≡ true → is_below kind BadByte ≡ true → list_all (λ test. is_below kind test.1) (item_tests (context_of before) earlier item) ≡ true → IsGood before earlier item
 
 -- If each line whose first error is of this kind is such a line, the law of the kind holds.
-pub in-words : (kind : FaultKind) (is_such : List LineContent → LineContent → Bool) → is_of_whole kind ≡ false → is_kind kind LineTooLong ≡ false → is_kind kind BadByte ≡ false
-    → ((before : List LineContent) (earlier : Draft) (item : LineContent) → Told before earlier → IsFirst kind before earlier item → is_such before item ≡ true)
+pub in-words-by : (Holds : List LineContent → Draft → Type 0) → IsKept Holds → (kind : FaultKind) (is_such : List LineContent → LineContent → Bool) → is_of_whole kind ≡ false → is_kind kind LineTooLong ≡ false → is_kind kind BadByte ≡ false
+    → ((before : List LineContent) (earlier : Draft) (item : LineContent) → Holds before earlier → IsFirst kind before earlier item → is_such before item ≡ true)
     → IsInWords kind is_such
-in-words kind is_such early short legal such bytes fault first k = by (first_line_fault 1 (lines_in_context bytes)) refl first
+in-words-by Holds keeps kind is_such early short legal such bytes fault first k = by (first_line_fault 1 (lines_in_context bytes)) refl first
   where
     by : (o : Option Fault) → first_line_fault 1 (lines_in_context bytes) ≡ o → option_or o (whole_mps_fault bytes) ≡ Some fault → StandsOn is_such bytes fault
     by None e h = absurd (never (is_of_whole kind) (ap is_of_whole (sym k) ∙ of-whole bytes fault h) early)
     by (Some other) e h =
         let same : other ≡ fault = cc in
-        let found = find-line (read_lines bytes) [] empty_draft 1 fault none-told (e ∙ ap (λ (f : Fault). Some f) same) in
+        let found = find-line Holds keeps (read_lines bytes) [] empty_draft 1 fault keeps.none (e ∙ ap (λ (f : Fault). Some f) same) in
         let items = map content_of found.front in
         let ds = line_declares (context_of items) found.earlier (content_of found.line) in
         let tests = item_tests (context_of items) found.earlier (content_of found.line) in
@@ -311,3 +319,9 @@ in-words kind is_such early short legal such bytes fault first k = by (first_lin
                     (both_so (is_below kind BadByte) (list_all (λ test. is_below kind test.1) tests) b c)) first_is);
               });
         }
+
+-- by what is known of names
+pub in-words : (kind : FaultKind) (is_such : List LineContent → LineContent → Bool) → is_of_whole kind ≡ false → is_kind kind LineTooLong ≡ false → is_kind kind BadByte ≡ false
+    → ((before : List LineContent) (earlier : Draft) (item : LineContent) → Told before earlier → IsFirst kind before earlier item → is_such before item ≡ true)
+    → IsInWords kind is_such
+in-words = in-words-by Told (record { none = none-told; kept = λ before earlier item good _ told. told-kept before earlier item good told })

@@ -53,6 +53,13 @@ pub mod KindsOfLines
 pub mod FaultsOfWords
 pub mod FaultsOfNames
 pub mod RepeatsOfNames
+pub mod DeclaredByLines
+pub mod ValuesDeclared
+pub mod ObjectiveOfLines
+pub mod BlocksOfLines
+pub mod FaultsOfValues
+pub mod FaultsOfBounds
 pub mod WorkedSentences
+pub mod WorkedValueSentences
 pub mod FedLemmas
 pub mod LineReaderLemmas

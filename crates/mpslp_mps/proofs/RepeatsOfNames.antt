@@ -45,7 +45,7 @@ row-named : (before : List LineContent) (earlier : Draft) (name : List ℕ) → 
 row-named before earlier name told out h = left_alone (names_row before name) (has_section before Columns) out (told.row_lines name h)
 
 -- in ROWS the header of COLUMNS has not come yet
-last-place : (sections_seen : List Section) (s : Section) → in_order sections_seen ≡ true → last_or None sections_seen ≡ Some s → list_all (λ (x : Section). nat_le (section_rank x) (section_rank s)) sections_seen ≡ true
+pub last-place : (sections_seen : List Section) (s : Section) → in_order sections_seen ≡ true → last_or None sections_seen ≡ Some s → list_all (λ (x : Section). nat_le (section_rank x) (section_rank s)) sections_seen ≡ true
 last-place [] s h k = refl
 last-place (x ∷ []) s h k = let same : x ≡ s = cc in both_so (nat_le (section_rank x) (section_rank s)) true (ap (λ (y : Section). nat_le (section_rank y) (section_rank s)) same ∙ itself (section_rank s)) refl
   where
@@ -61,7 +61,7 @@ last-place (x ∷ y ∷ sections_seen) s h k =
     both-steps : (a b c : ℕ) → nat_le a b ≡ true → nat_le b c ≡ true → nat_le a c ≡ true
     both-steps a b c e f = grind (arith, nat_tests)
 
-columns-out : (sections_seen : List Section) → list_all (λ (x : Section). nat_le (section_rank x) 2) sections_seen ≡ true → has sections_seen Columns ≡ false
+pub columns-out : (sections_seen : List Section) → list_all (λ (x : Section). nat_le (section_rank x) 2) sections_seen ≡ true → has sections_seen Columns ≡ false
 columns-out [] h = refl
 columns-out (x ∷ sections_seen) h =
     both_false (is_section Columns (Some x)) (has sections_seen Columns) (by x (first_so (nat_le (section_rank x) 2) (list_all (λ (y : Section). nat_le (section_rank y) 2) sections_seen) h))
@@ -78,7 +78,7 @@ columns-out (x ∷ sections_seen) h =
     by Bounds e = cc
     by EndData e = cc
 
-below-all : (kind : FaultKind) → list_all (is_below kind) (kinds_in None) ≡ true → list_all (is_below kind) (kinds_in (Some Rows)) ≡ true → list_all (is_below kind) (kinds_in (Some Columns)) ≡ true → list_all (is_below kind) (kinds_in (Some Bounds)) ≡ true
+pub below-all : (kind : FaultKind) → list_all (is_below kind) (kinds_in None) ≡ true → list_all (is_below kind) (kinds_in (Some Rows)) ≡ true → list_all (is_below kind) (kinds_in (Some Columns)) ≡ true → list_all (is_below kind) (kinds_in (Some Bounds)) ≡ true
     → (o : Option Section) → list_all (is_below kind) (kinds_in o) ≡ true
 below-all kind none rows columns numbers None = none
 below-all kind none rows columns numbers (Some Name) = none
@@ -105,7 +105,7 @@ good-none kind ((held, other) ∷ more) h = by held h (λ e. good-none kind more
         either false = rest e
 
 -- so one of its declarations is rejected
-good-refused : (kind : FaultKind) (before : List LineContent) (earlier : Draft) (item : LineContent) → IsGood before earlier item → IsFirst kind before earlier item → refuses kind earlier (line_declares (context_of before) earlier item) ≡ true
+pub good-refused : (kind : FaultKind) (before : List LineContent) (earlier : Draft) (item : LineContent) → IsGood before earlier item → IsFirst kind before earlier item → refuses kind earlier (line_declares (context_of before) earlier item) ≡ true
 good-refused kind before earlier item good first =
     right_alone (holds_of kind (item_tests (context_of before) earlier item)) (refuses kind earlier (line_declares (context_of before) earlier item)) (good-none kind (item_tests (context_of before) earlier item) good) first.told
 

@@ -12,6 +12,7 @@ pub mod TextInWords
 pub mod FirstFault
 pub mod LineByLine
 pub mod FaultsInWords
+pub mod ValueFaultsInWords
 pub mod Laws
 pub mod ReadAnswer
 pub mod Fed

@@ -1,6 +1,8 @@
 use Rattle.mpslp_mps.proofs.FaultsOfWords.{section-repeated, section-order, bad-marker, column-split, second-set}
 use Rattle.mpslp_mps.proofs.FaultsOfNames.{unknown-rows, unknown-columns}
 use Rattle.mpslp_mps.proofs.RepeatsOfNames.{repeated-rows, repeated-entries}
+use Rattle.mpslp_mps.proofs.FaultsOfValues.{free-ranges, repeated-ranges, repeated-sides}
+use Rattle.mpslp_mps.proofs.FaultsOfBounds.{repeated-bounds, both-kinds-in_words}
 use Rattle.mpslp_mps.proofs.laws.faults_are_in_words.Goals as goal
 
 pub returns : goal.returns
@@ -14,4 +16,9 @@ returns c = record {
   duplicate_row = repeated-rows;
   duplicate_entry = repeated-entries;
   column_split = column-split;
+  duplicate_rhs = repeated-sides;
+  duplicate_range = repeated-ranges;
+  duplicate_bound = repeated-bounds;
+  range_on_free = free-ranges;
+  semi_continuous = both-kinds-in_words;
 }
