@@ -33,6 +33,8 @@ MEMORY_OF_A_LANE = 4_000_000_000
 # More processes seldom help one check.
 MOST_JOBS = 4
 TARGET = "x86_64-unknown-linux-gnu"
+# What the prover starts ends with it. In a session of its own, `nice` would mean nothing to processes of other sessions.
+OWN_GROUP = {"process_group": 0} if sys.version_info >= (3, 11) else {"start_new_session": True}
 
 
 class Estimate:
@@ -86,9 +88,7 @@ class Runner:
 
     def run(self, words: list[str], folder: Path, log: Path) -> int:
         with log.open("ab") as output:
-            process = subprocess.Popen(
-                words, cwd=folder, stdin=subprocess.DEVNULL, stdout=output, stderr=output, start_new_session=True
-            )
+            process = subprocess.Popen(words, cwd=folder, stdin=subprocess.DEVNULL, stdout=output, stderr=output, **OWN_GROUP)
             with self.lock:
                 self.running.add(process)
             try:
