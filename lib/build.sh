@@ -2,26 +2,13 @@
 # lib/build.sh: makes build/libmpslp.a and build/libmpslp.so.0 from the proved crate mpslp_c, the kit's heap, and the inline
 # functions of the header.
 #
-# lib/build.sh gate: the same with the libraries that rt ci has proved for the gate and left in build/ci/, none of which rt lib
-# accepts. The crate itself is proved once more: rattle builds no other.
+# lib/build.sh gate: the same over the libraries that rt ci has proved for the gate and left in build/ci/.
 set -eu
 cd "$(dirname "$0")/.."
 kit=$(dirname "$(rt doc)")
 root=$PWD
 if test "${1:-}" = gate; then
-    set --
-    for name in $(sed -n 's/^mpslp_c staticlib: //p' crates.txt); do
-        library=$root/build/ci/crates/$name/out/rlib/$name.rlib
-        test -e "$library" || library=$kit/rlibs/$name.rlib
-        set -- "$@" --extern "$name=$library"
-    done
-    for folder in "$root"/build/ci/crates/*/out/rlib; do
-        set -- "$@" -L "dependency=$folder"
-    done
-    mkdir -p crates/mpslp_c/out
-    (cd crates/mpslp_c && "$kit/bin/rattle" build --crate-name mpslp_c src/lib.rt --crate-type staticlib --links mpslp_c= \
-        --extern "std=$kit/rlibs/std.rlib" -L "dependency=$kit/rlibs" "$@" --antt-project "$kit/rattle/logic/antt-project.json" \
-        --logic-built "$kit/logic_built" --toolchain "$kit/toolchain" --jobs 2 -o out/libmpslp_c.a)
+    python3 scripts/prove.py mpslp_c --over build/ci/crates
 else
     python3 scripts/prove.py mpslp_c
 fi

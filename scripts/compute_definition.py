@@ -3,7 +3,7 @@
 
 The result of a file is its canonical MPS text or its first error. It is claimed: with --claim by a file of yours, which has this
 text or the line of an error, such as `line 4: BadNumber`; otherwise by tests/independent_reader.py. A crate that says nothing but
-this claim is written to build/lanes/own/crates/own_file: the bytes of the file and the claim, in the definitions that
+this claim is written to build/own_file: the bytes of the file and the claim, in the definitions that
 docs/TRUST.md lists. The checker proves it by computing the definitions on the bytes, or rejects it. No code of mpslp runs.
 
 The first call on a machine proves the crates with the definitions, if `make` has not: some 20 minutes. Large files take long; a
@@ -17,13 +17,16 @@ import subprocess
 import sys
 from pathlib import Path
 
-from kit import ROOT, require_kit
-from prove import Lane, below, crates_of_repository
+from crates import LIBRARIES, Crate, crates_of_repository, words_of
+from kit import ROOT, kit_folder, require_kit
+from prove import prove_all
 
 READER = ROOT / "tests" / "independent_reader.py"
 CRATE = "own_file"
-# The status of `rt check` if it is the claim that is not proved.
+# The status of `rattle check` if it is the claim that is not proved.
 NOT_PROVED = 1
+# The status if the crates with the definitions are not proved.
+NO_VERDICT = 3
 # The crates whose definitions and lemmas the claim cites.
 USES = (
     "mpslp_decimal mpslp_types mpslp_model_core mpslp_builder mpslp_lines mpslp_mps mpslp_lp_tokens mpslp_lp_grammar mpslp_lp mpslp_canonical_mps"
@@ -182,17 +185,23 @@ def sources(form: str, text: bytes, claim: bytes) -> dict[str, str]:
 
 
 def crate_with(files: dict[str, str]) -> Path:
-    """A crate of these files, in a copy of the crates that it uses."""
-    every = crates_of_repository()
-    used = {crate.name: crate for use in USES.split() for crate in below(every, use)}
-    lane = Lane("own", used)
-    (lane.folder / "crates.txt").write_text("".join(f"{line}\n" for line in (*(crate.line for crate in used.values()), f"{CRATE}: {USES}")))
-    folder = lane.folder / "crates" / CRATE
+    """A crate of these files."""
+    folder = ROOT / "build" / CRATE
     shutil.rmtree(folder, ignore_errors=True)
     for name, text in files.items():
         (folder / name).parent.mkdir(parents=True, exist_ok=True)
         (folder / name).write_text(text)
     return folder
+
+
+def check(folder: Path) -> subprocess.CompletedProcess[bytes]:
+    """Has the checker check the crate in this directory, over the proved libraries of the crates that it uses."""
+    crates, uses = crates_of_repository(), tuple(USES.split())
+    words = words_of(Crate(CRATE, f"{CRATE}: {USES}", uses, uses), crates, LIBRARIES)
+    return subprocess.run(
+        [f"{kit_folder()}/bin/rattle", "check", *words, "--jobs", "1"],
+        cwd=folder, stdin=subprocess.DEVNULL, stdout=subprocess.PIPE, stderr=subprocess.STDOUT, check=False,
+    )
 
 
 def main() -> int:
@@ -204,19 +213,21 @@ def main() -> int:
     if form not in ("mps", "lp"):
         parser.error(f"{options.file}: the format of a file is its extension, .mps or .lp")
     require_kit()
+    if not prove_all(tuple(USES.split())):
+        return NO_VERDICT
     claim = options.claim.read_bytes() if options.claim else claim_of_reader(form, options.file)
     folder = crate_with(sources(form, options.file.read_bytes(), claim))
     print(f"the claim is {(folder / 'specs' / 'File.antt').relative_to(ROOT)}; the checker computes the definitions", flush=True)
-    check = subprocess.run(["rt", "check"], cwd=folder, stdin=subprocess.DEVNULL, stdout=subprocess.PIPE, stderr=subprocess.STDOUT, check=False)
-    printed = check.stdout.decode(errors="replace").splitlines()
-    if check.returncode == NOT_PROVED:
+    checked = check(folder)
+    printed = checked.stdout.decode(errors="replace").splitlines()
+    if checked.returncode == NOT_PROVED:
         print("\n".join(line for line in printed if OF_AN_ERROR.search(line)), file=sys.stderr)
         print("not proved: by the definitions this is not the result of the file", file=sys.stderr)
-    elif check.returncode:
+    elif checked.returncode:
         print("\n".join(printed[-15:]), file=sys.stderr)
         print("the checker gave no verdict", file=sys.stderr)
-    if check.returncode:
-        return check.returncode
+    if checked.returncode:
+        return checked.returncode
     sys.stdout.write(f"proved: the result of {options.file} is\n{claim.decode('latin-1')}")
     return 0
 

@@ -17,9 +17,10 @@ from concurrent.futures import Future, ThreadPoolExecutor, as_completed
 from dataclasses import dataclass
 from pathlib import Path
 
+from crates import below, crates_of_repository, mark, sums_of
 from kit import ROOT, require_kit
-from mutants import Outcome, crates_with_mutants, kit_folder, test_crate
-from prove import LOGS, below, crates_of_repository, mark, sums_of
+from mutants import Outcome, crates_with_mutants, test_crate
+from prove import LOGS
 
 # Where `rt ci` runs, and what it leaves there: the library of each crate, its program and its tests.
 COPY = ROOT / "build" / "ci"
@@ -180,13 +181,13 @@ def report_mutants(report: Report, outcome: Outcome) -> Tally:
 
 def test_all(report: Report) -> Tally:
     """Tests the mutants and runs the scripts, side by side."""
-    crates, kit = crates_of_repository(), kit_folder()
+    crates = crates_of_repository()
     begun: dict[Future[Outcome] | Future[tuple[int, float, Path]], Test | None] = {}
     tallies = []
     with ThreadPoolExecutor(processors()) as pool:
         # The first test takes longest, and then the mutants of the largest crates.
         begun |= {pool.submit(run_test, TESTS[0]): TESTS[0]}
-        begun |= {pool.submit(test_crate, crate, crates, kit, COPY / "crates"): None for crate in crates_with_mutants(crates)}
+        begun |= {pool.submit(test_crate, crate, crates, COPY / "crates"): None for crate in crates_with_mutants(crates)}
         begun |= {pool.submit(run_test, test): test for test in TESTS[1:]}
         for ended in as_completed(begun):
             test, result = begun[ended], ended.result()

@@ -30,6 +30,12 @@ def kit_sum() -> str | None:
     return found[1] if found else None
 
 
+@functools.cache
+def kit_folder() -> Path:
+    """The directory of the kit, which has its compiler and its libraries."""
+    return Path(subprocess.run(["rt", "doc"], capture_output=True, text=True, check=True).stdout.strip()).parent
+
+
 def complaint() -> str | None:
     """Why the installed kit cannot prove this repository, and what to do about it, or None if it can."""
     version = kit_version()

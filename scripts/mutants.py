@@ -23,8 +23,9 @@ from concurrent.futures import ThreadPoolExecutor, as_completed
 from dataclasses import dataclass, field
 from pathlib import Path
 
-from kit import ROOT, require_kit
-from prove import LOGS, PARTS, Crate, crates_of_repository
+from crates import LIBRARIES, PARTS, Crate, crates_of_repository, words_of
+from kit import ROOT, kit_folder, require_kit
+from prove import LOGS
 
 IMPL = re.compile(r"impl\b(?:<.*?>)? (?:.* for )?(\w+)")
 FUNCTION = re.compile(r"( *)(?:pub(?:\([^)]*\))? )?(?:const |unsafe )*fn (\w+)")
@@ -150,22 +151,10 @@ def unreadable(lines: list[str]) -> str | None:
 class Prover:
     """Checks edited copies of a crate, each over what the checks before it proved."""
 
-    def __init__(self, crate: Crate, crates: dict[str, Crate], kit: Path, libraries: Path, kept: Path, log: Path):
-        self.crate, self.kit, self.kept, self.log, self.checks = crate, kit, kept, log, 0
-        self.words = self.words_of(crates, libraries)
-
-    def words_of(self, crates: dict[str, Crate], libraries: Path) -> list[str]:
-        head, _, uses = self.crate.line.partition("#")[0].partition(":")
-        words = ["--crate-name", self.crate.name, "src/main.rt" if self.crate.is_program else "src/lib.rt"]
-        folders = {name: libraries / name / "out" / "rlib" for name in crates}
-        for name in ["std", *uses.split()]:
-            words += ["--extern", f"{name}={folders.get(name, self.kit / 'rlibs') / name}.rlib"]
-        for folder in [self.kit / "rlibs", *folders.values()]:
-            words += ["-L", f"dependency={folder}"]
-        if "staticlib" in head.split():
-            words += ["--crate-type", "staticlib"]
-        words += ["--antt-project", f"{self.kit}/rattle/logic/antt-project.json", "--logic-built", f"{self.kit}/logic_built"]
-        return [*words, "--links", f"{self.crate.name}=", "--jobs", "1", "--incremental", str(self.kept)]
+    def __init__(self, crate: Crate, crates: dict[str, Crate], libraries: Path, kept: Path, log: Path):
+        self.crate, self.log, self.checks = crate, log, 0
+        words = [f"{kit_folder()}/bin/rattle", "check", *words_of(crate, crates, libraries)]
+        self.words = [*words, "--jobs", "1", "--incremental", str(kept)]
 
     def check(self, mutants: list[Mutant], what: str) -> tuple[int, list[str]]:
         """The status of the check of the crate with these edits, and the lines that it printed."""
@@ -182,7 +171,7 @@ class Prover:
             for file, text in texts.items():
                 (room / file).write_text(text)
             ran = subprocess.run(
-                [self.kit / "bin" / "rattle", "check", *self.words],
+                self.words,
                 cwd=room,
                 stdin=subprocess.DEVNULL,
                 stdout=subprocess.PIPE,
@@ -244,15 +233,15 @@ class Outcome:
         return f"{self.crate.name}: {self.rejected} of {self.mutants} mutants rejected, {self.checks} checks in {self.seconds:.0f} s"
 
 
-def test_crate(crate: Crate, crates: dict[str, Crate], kit: Path, libraries: Path) -> Outcome:
-    """Tests all mutants of a crate, over the proved libraries in libraries/CRATE/out/."""
+def test_crate(crate: Crate, crates: dict[str, Crate], libraries: Path) -> Outcome:
+    """Tests all mutants of a crate, over the proved libraries in this directory."""
     begun = time.monotonic()
     mutants = [read_mutant(crate, path) for path in edits_of(crate)]
     problems = [f"{it.name}: {it.problem}" for it in mutants if it.problem]
     log = LOGS / f"mutants-{crate.name}.log"
     log.unlink(missing_ok=True)
     with tempfile.TemporaryDirectory(prefix="mutants-") as kept:
-        prover = Prover(crate, crates, kit, libraries, Path(kept), log)
+        prover = Prover(crate, crates, libraries, Path(kept), log)
         problems += prover.test([it for it in mutants if not it.problem])
         if not prover.is_sound():
             problems = [f"{it.name}: the crate itself is not proved over what its mutants left" for it in mutants]
@@ -265,23 +254,19 @@ def crates_with_mutants(crates: dict[str, Crate]) -> list[Crate]:
     return sorted(found, key=lambda it: -sum(file.stat().st_size for file in it.files()))
 
 
-def kit_folder() -> Path:
-    return Path(subprocess.run(["rt", "doc"], capture_output=True, text=True, check=True).stdout.strip()).parent
-
-
 def main() -> int:
     parser = argparse.ArgumentParser(description=__doc__.split("\n")[0])
     parser.add_argument("crates", nargs="*", metavar="CRATE", help="the crates whose mutants are tested (all)")
-    parser.add_argument("--libraries", type=Path, default=ROOT / "crates", help="where the proved libraries are, in CRATE/out/")
+    parser.add_argument("--libraries", type=Path, default=LIBRARIES, help="where the proved libraries are")
     parser.add_argument("--jobs", type=int, default=len(os.sched_getaffinity(0)), help="how many crates are tested side by side")
     arguments = parser.parse_args()
     require_kit()
     crates = crates_of_repository()
     chosen = [it for it in crates_with_mutants(crates) if not arguments.crates or it.name in arguments.crates]
     LOGS.mkdir(parents=True, exist_ok=True)
-    kit, libraries, outcomes = kit_folder(), arguments.libraries.resolve(), []
+    libraries, outcomes = arguments.libraries.resolve(), []
     with ThreadPoolExecutor(max(1, arguments.jobs)) as pool:
-        for ended in as_completed([pool.submit(test_crate, crate, crates, kit, libraries) for crate in chosen]):
+        for ended in as_completed([pool.submit(test_crate, crate, crates, libraries) for crate in chosen]):
             outcome = ended.result()
             outcomes.append(outcome)
             print("\n    ".join([outcome.line, *outcome.problems]), flush=True)

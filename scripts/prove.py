@@ -1,118 +1,40 @@
 #!/usr/bin/env python3
 """Proves a crate and all crates below it, in parallel and quietly: scripts/prove.py CRATE
 
-Crates that do not depend on one another are proved side by side, and a crate that cannot be proved beside others gets the idle
-processors. One line is printed for each crate; the prover's own output goes to build/log/. Proofs are cached: a second call
+Crates that do not depend on one another are proved side by side. The crate with the longest chain of crates that wait for it comes
+first and gets the idle processors. One line is printed for each crate; the prover's own output goes to build/log/. A second call
 proves what has changed since, and a call after an interrupted one goes on where that was.
 
-The kit locks a checkout's crates while it proves one of them. So each lane has a copy of the sources in build/lanes/. What is
-kept of a crate, its proofs and the library built of it, is in the `out` of the checkout: it is moved into a lane while the crate is
-proved there, and the libraries that a crate uses are linked into the lane before.
+Each crate is proved by one call of the kit's `rattle` over the proved libraries in build/proofs/. Such a library has the statements
+of a crate without their proofs, as those of `rt ci` do. A program is linked to crates/NAME/out/NAME, a static library is put to
+crates/NAME/out/libNAME.a.
 """
 
 import argparse
-import hashlib
+import fcntl
 import os
 import re
-import shutil
 import signal
 import subprocess
 import sys
 import threading
 import time
+from collections.abc import Iterator
 from concurrent.futures import FIRST_COMPLETED, Future, ThreadPoolExecutor, wait
-from dataclasses import dataclass
+from contextlib import contextmanager
 from pathlib import Path
 
-from kit import ROOT, kit_sum, require_kit
+from crates import LIBRARIES, Crate, below, built, crates_of_repository, is_current, is_proved_and_built, mark, sums_of, unmark, words_of
+from kit import ROOT, kit_folder, require_kit
 
 LOGS = ROOT / "build" / "log"
-LANES = ROOT / "build" / "lanes"
-# For each proved crate the checksum of everything that its proof read.
-MARKS = ROOT / "build" / "proved"
-PARTS = ("src", "specs", "proofs")
 # The maximum memory of a check of a large crate, in bytes.
-MEMORY_OF_A_LANE = 5_000_000_000
-
-
-@dataclass(frozen=True)
-class Crate:
-    """A line of crates.txt: a crate, and the crates of the repository that it uses."""
-
-    name: str
-    line: str
-    uses: tuple[str, ...]
-
-    @property
-    def folder(self) -> Path:
-        return ROOT / "crates" / self.name
-
-    @property
-    def is_program(self) -> bool:
-        return (self.folder / "src" / "main.rt").exists()
-
-    def files(self) -> list[Path]:
-        return sorted(file for part in PARTS for file in (self.folder / part).rglob("*") if file.is_file())
-
-
-def crates_of_repository() -> dict[str, Crate]:
-    """The crates of crates.txt, by name."""
-    lines = {}
-    for line in (ROOT / "crates.txt").read_text().splitlines():
-        name, colon, uses = line.partition("#")[0].partition(":")
-        if colon:
-            lines[name.split()[0]] = (line, uses.split())
-    return {name: Crate(name, line, tuple(use for use in uses if use in lines)) for name, (line, uses) in lines.items()}
-
-
-def below(crates: dict[str, Crate], top: str) -> list[Crate]:
-    """The crate and all crates below it, lowest first."""
-    order: dict[str, Crate] = {}
-
-    def visit(name: str) -> None:
-        if name not in order:
-            for use in crates[name].uses:
-                visit(use)
-            order[name] = crates[name]
-
-    visit(top)
-    return list(order.values())
-
-
-def sums_of(crates: list[Crate]) -> dict[str, str]:
-    """For each crate a checksum of everything that its proof reads: its sources, those below it, and the kit."""
-    sums: dict[str, str] = {}
-    for crate in crates:
-        sum = hashlib.sha256(f"{kit_sum()} {crate.line}".encode())
-        for use in crate.uses:
-            sum.update(sums[use].encode())
-        for file in crate.files():
-            sum.update(f"{file.relative_to(crate.folder)} {file.stat().st_size}\n".encode())
-            sum.update(file.read_bytes())
-        sums[crate.name] = sum.hexdigest()
-    return sums
-
-
-def built(crate: Crate) -> Path:
-    """The file that is built of a program or of a static library."""
-    return crate.folder / "out" / (crate.name if crate.is_program else f"lib{crate.name}.a")
-
-
-def mark(crate: Crate, sum: str) -> None:
-    """Records that the crate is proved in its current state."""
-    MARKS.mkdir(parents=True, exist_ok=True)
-    (MARKS / crate.name).write_text(sum)
-
-
-def is_marked(crate: Crate, sum: str) -> bool:
-    file = MARKS / crate.name
-    return file.exists() and file.read_text() == sum
-
-
-def is_proved_and_built(crates: list[Crate]) -> bool:
-    """Whether the last of the crates is built from the current sources of all of them."""
-    top = crates[-1]
-    return built(top).exists() and is_marked(top, sums_of(crates)[top.name])
+MEMORY_OF_A_LANE = 4_000_000_000
+# More processes seldom help one check.
+MOST_JOBS = 4
+TARGET = "x86_64-unknown-linux-gnu"
+# What the prover starts ends with it. In a session of its own, `nice` would mean nothing to processes of other sessions.
+OWN_GROUP = {"process_group": 0} if sys.version_info >= (3, 11) else {"start_new_session": True}
 
 
 class Estimate:
@@ -153,68 +75,6 @@ def minutes(seconds: float) -> str:
     return "less than a minute" if seconds < 60 else f"{seconds / 60:.0f} min"
 
 
-# Where the kit keeps, below a crate's `out`, its proofs and the library built of it, with a checksum of what that was built from.
-PROOFS, LIBRARY, STAMP = Path("incremental"), Path("rlib"), Path("rlib", "stamp")
-
-
-def is_same_file(one: Path, other: Path) -> bool:
-    return one.is_file() and other.is_file() and one.read_bytes() == other.read_bytes()
-
-
-class Lane:
-    """A copy of all sources, in which one crate is proved at a time."""
-
-    def __init__(self, name: str, crates: dict[str, Crate]):
-        self.folder = LANES / name
-        self.folder.mkdir(parents=True, exist_ok=True)
-        for name in ("crates.txt", "HANDLES"):
-            shutil.copyfile(ROOT / name, self.folder / name)
-        for crate in crates.values():
-            self.copy(crate)
-        for old in set(os.listdir(self.folder / "crates")) - set(crates):
-            shutil.rmtree(self.folder / "crates" / old)
-        # A run that was killed left the proofs of a crate here.
-        for crate in crates.values():
-            if (self.out(crate) / PROOFS).exists() and not (crate.folder / "out" / PROOFS).exists():
-                self.give_back(crate)
-
-    def out(self, crate: Crate) -> Path:
-        return self.folder / "crates" / crate.name / "out"
-
-    def take(self, crate: Crate) -> None:
-        """Moves what is kept of a crate from the checkout to the lane."""
-        shutil.rmtree(self.out(crate), ignore_errors=True)
-        if (crate.folder / "out").exists():
-            (crate.folder / "out").rename(self.out(crate))
-
-    def give_back(self, crate: Crate) -> None:
-        """Moves what is kept of a crate from the lane to the checkout."""
-        if self.out(crate).exists():
-            shutil.rmtree(crate.folder / "out", ignore_errors=True)
-            self.out(crate).rename(crate.folder / "out")
-
-    def link_library(self, crate: Crate) -> None:
-        """Makes the proved library of a crate usable in the lane. A library is never changed, only replaced."""
-        kept, here = crate.folder / "out", self.out(crate)
-        if (kept / STAMP).exists() and not is_same_file(kept / STAMP, here / STAMP):
-            shutil.rmtree(here, ignore_errors=True)
-            shutil.copytree(kept / LIBRARY, here / LIBRARY, copy_function=os.link)
-
-    def copy(self, crate: Crate) -> None:
-        """Brings the crate's sources up to date, and does not touch those that are: the kit looks at what changed."""
-        to = self.folder / "crates" / crate.name
-        wanted = {file.relative_to(crate.folder): file for file in crate.files()}
-        for path, file in wanted.items():
-            copied = to / path
-            if not copied.exists() or copied.read_bytes() != file.read_bytes():
-                copied.parent.mkdir(parents=True, exist_ok=True)
-                shutil.copyfile(file, copied)
-        for part in PARTS:
-            for file in [it for it in (to / part).rglob("*") if it.is_file()]:
-                if file.relative_to(to) not in wanted:
-                    file.unlink()
-
-
 class Interrupted(Exception):
     pass
 
@@ -228,9 +88,7 @@ class Runner:
 
     def run(self, words: list[str], folder: Path, log: Path) -> int:
         with log.open("ab") as output:
-            process = subprocess.Popen(
-                words, cwd=folder, stdin=subprocess.DEVNULL, stdout=output, stderr=output, start_new_session=True
-            )
+            process = subprocess.Popen(words, cwd=folder, stdin=subprocess.DEVNULL, stdout=output, stderr=output, **OWN_GROUP)
             with self.lock:
                 self.running.add(process)
             try:
@@ -248,75 +106,115 @@ class Runner:
                     pass
 
 
-class Proof:
-    """Proves the crates below the last one, and builds that one in the checkout."""
+def last_lines(log: Path, number: int) -> list[str]:
+    return log.read_text(errors="replace").splitlines()[-number:] if log.exists() else []
 
-    def __init__(self, every: dict[str, Crate], top: str, lanes: int):
-        crates = below(every, top)
-        self.every, self.crates, self.top = every, {crate.name: crate for crate in crates}, every[top]
+
+class Prover:
+    """Proves one crate over the proved libraries of those below it, and builds it."""
+
+    def __init__(self, crates: dict[str, Crate], libraries: Path = LIBRARIES):
+        self.crates, self.libraries, self.runner = crates, libraries, Runner()
+
+    def build(self, crate: Crate, jobs: int, is_urgent: bool = True) -> bool:
+        """Whether the crate is proved and built. Only then is what was built of it before replaced."""
+        log = LOGS / f"{crate.name}.log"
+        log.unlink(missing_ok=True)
+        before = crate.sum()
+        (LIBRARIES / crate.name).mkdir(parents=True, exist_ok=True)
+        built(crate).parent.mkdir(exist_ok=True)
+        is_built = self.is_proved(crate, jobs, is_urgent, log) and (not crate.is_program or self.is_linked(crate, log))
+        if is_built and crate.sum() != before:
+            with log.open("a") as output:
+                output.write(f"the sources of {crate.name} changed while it was proved: prove it again\n")
+            return False
+        return is_built
+
+    def is_proved(self, crate: Crate, jobs: int, is_urgent: bool, log: Path) -> bool:
+        """Whether `rattle` proves the crate and writes what it builds of it."""
+        toolchain = ["--toolchain", f"{kit_folder()}/toolchain"]
+        words = ["build", *words_of(crate, self.crates, self.libraries)]
+        words += ["--statements"] if crate.is_library else [*toolchain, "--backend", "llvm"]
+        words += ["-o", str(object_of(crate) if crate.is_program else built(crate))]
+        # The others leave the processors to the crate for which the longest chain of crates waits.
+        polite = [] if is_urgent else ["nice", "-n", "10"]
+        rattle = [*polite, f"{kit_folder()}/bin/rattle", *words, "--jobs"]
+        status = self.runner.run([*rattle, str(jobs)], crate.folder, log)
+        if status == -signal.SIGKILL and jobs > 1:
+            # Most likely for memory, of which one process takes less.
+            status = self.runner.run([*rattle, "1"], crate.folder, log)
+        return status == 0 and last_lines(log, 1)[0].startswith("logic=proved ")
+
+    def is_linked(self, crate: Crate, log: Path) -> bool:
+        """Whether the program is linked."""
+        kit = kit_folder()
+        words = [f"{kit}/bin/rattle-link", "--target", TARGET, "--toolchain", f"{kit}/toolchain", "-o", str(built(crate))]
+        words += [str(object_of(crate)), f"{kit}/c/libos_c.a", f"{kit}/c/liblibc_c.a"]
+        return self.runner.run(words, crate.folder, log) == 0
+
+
+def object_of(crate: Crate) -> Path:
+    return LIBRARIES / crate.name / f"{crate.name}.o"
+
+
+class Proof:
+    """Proves crates and the crates below them."""
+
+    def __init__(self, every: dict[str, Crate], tops: tuple[str, ...], lanes: int):
+        tops = tuple(it for it in tops if not is_proved_and_built(below(every, it)))
+        crates = below(every, *tops)
+        self.tops, self.crates = tops, {crate.name: crate for crate in crates}
         self.sums = sums_of(crates)
         self.estimate = Estimate(crates)
         self.processors = len(os.sched_getaffinity(0))
-        self.lanes = [Lane(str(number), every) for number in range(1, lanes + 1)]
-        self.runner = Runner()
-        is_current = is_proved_and_built(crates)
-        self.done = {it.name for it in crates if is_current or it is not self.top and is_marked(it, self.sums[it.name])}
+        self.lanes = lanes
+        self.prover = Prover(every)
+        self.done: set[str] = set()
+        for crate in crates:
+            if is_current(crate, self.sums[crate.name]) and all(use in self.done for use in crate.uses):
+                self.done.add(crate.name)
         self.to_do = [crate.name for crate in crates if crate.name not in self.done]
 
-    def say(self, name: str, what: str, seconds: float) -> None:
+    def say(self, name: str, seconds: float) -> None:
         number = len(self.crates) - len(self.to_do) + len([it for it in self.to_do if it in self.done])
         rest = set(self.to_do) - self.done
-        left = self.estimate.left(set(self.to_do), rest, len(self.lanes)) if rest else 0.0
+        left = self.estimate.left(set(self.to_do), rest, self.lanes) if rest else 0.0
         tail = f"   about {minutes(left)} left" if rest else ""
+        what = "proved" if self.crates[name].is_library else "built "
         print(f"{number:3}/{len(self.crates)}  {name:20} {what} in {seconds:4.0f} s{tail}", flush=True)
-
-    def prove(self, name: str, lane: Lane, jobs: int) -> int:
-        """Proves a crate in a lane; the top one in the checkout, which builds it."""
-        crate, log = self.crates[name], LOGS / f"{name}.log"
-        log.unlink(missing_ok=True)
-        prove = ["rt", "lib", "--jobs", str(jobs)]
-        if crate is self.top:
-            # A program is built and then run: its help is the shortest run.
-            build = ["rt", "run", *prove[2:], "--", "--help"] if crate.is_program else prove
-            return self.runner.run(build, crate.folder, log)
-        for library in below(self.every, name)[:-1]:
-            lane.link_library(library)
-        lane.take(crate)
-        try:
-            return self.runner.run(prove, lane.folder / "crates" / name, log)
-        finally:
-            lane.give_back(crate)
 
     def all(self) -> bool:
         """Proves what is left to prove, and returns whether all of it is proved."""
-        free, running = list(self.lanes), {}
+        # What was proved over a library that is now replaced is proved again, also by a later call if this one is interrupted.
+        for name in self.to_do:
+            unmark(self.crates[name])
+        running: dict[Future[bool], tuple[str, float, int]] = {}
         failed: str | None = None
-        with ThreadPoolExecutor(len(self.lanes)) as pool:
+        with ThreadPoolExecutor(self.lanes) as pool:
             try:
                 while not failed and (running or set(self.to_do) - self.done):
-                    self.begin(free, running, pool)
+                    self.begin(running, pool)
                     for ended in wait(running, return_when=FIRST_COMPLETED).done:
-                        name, lane, begun = running.pop(ended)
-                        free.append(lane)
-                        if ended.result():
+                        name, begun, _ = running.pop(ended)
+                        if not ended.result():
                             failed = failed or name
                             continue
                         self.done.add(name)
                         mark(self.crates[name], self.sums[name])
-                        self.say(name, "built " if name == self.top.name else "proved", time.monotonic() - begun)
+                        self.say(name, time.monotonic() - begun)
             except (KeyboardInterrupt, Interrupted):
-                self.runner.stop()
+                self.prover.runner.stop()
                 print("interrupted: what was proved is kept, and the next call goes on from there", file=sys.stderr)
                 raise SystemExit(130) from None
             finally:
                 if failed:
-                    self.runner.stop()
+                    self.prover.runner.stop()
         if failed:
-            self.report(failed)
+            report(failed)
         return not failed
 
-    def begin(self, free: list[Lane], running: dict[Future[int], tuple[str, Lane, float]], pool: ThreadPoolExecutor) -> None:
-        """Starts what can be proved now, the longest chain first, and shares idle processors among these."""
+    def begin(self, running: dict[Future[bool], tuple[str, float, int]], pool: ThreadPoolExecutor) -> None:
+        """Starts what can be proved now, the longest chain first."""
         at_work = {name for name, _, _ in running.values()}
         ready = [
             name
@@ -324,52 +222,87 @@ class Proof:
             if name not in self.done and name not in at_work and all(use in self.done for use in self.crates[name].uses)
         ]
         ready.sort(key=self.estimate.chain_from, reverse=True)
-        for place, name in enumerate(ready[: len(free)]):
-            waiting = min(len(ready), len(self.lanes)) - place
-            idle = self.processors - len(running)
-            jobs = max(1, min(4, idle // max(1, waiting)))
-            lane = free.pop(0)
-            running[pool.submit(self.prove, name, lane, jobs)] = name, lane, time.monotonic()
+        chains = [self.estimate.chain_from(it) for it in at_work]
+        free = self.lanes - len(running)
+        for place, name in enumerate(ready[:free]):
+            is_urgent = place == 0 and all(self.estimate.chain_from(name) >= it for it in chains)
+            idle = self.processors - sum(jobs for _, _, jobs in running.values())
+            # Each crate that is ready gets a processor, and the first all that are left, the urgent one at least half of them all.
+            jobs = idle - (min(len(ready), free) - place - 1)
+            jobs = min(MOST_JOBS, max(jobs, self.processors // 2 if is_urgent else 1, 1))
+            build = pool.submit(self.prover.build, self.crates[name], jobs, is_urgent)
+            running[build] = name, time.monotonic(), jobs
 
-    def report(self, name: str) -> None:
-        log = LOGS / f"{name}.log"
-        lines = log.read_text(errors="replace").splitlines()
-        print(f"{name} is not proved. The last lines of {log.relative_to(ROOT)}:", file=sys.stderr)
-        for line in lines[-15:]:
-            print(f"    {line[:300]}", file=sys.stderr)
+
+def report(name: str) -> None:
+    log = LOGS / f"{name}.log"
+    print(f"{name} is not proved. The last lines of {log.relative_to(ROOT)}:", file=sys.stderr)
+    for line in last_lines(log, 15):
+        print(f"    {line[:300]}", file=sys.stderr)
 
 
 def default_lanes() -> int:
-    """As many lanes as there are processors and memory for."""
+    """As many crates side by side as there are processors and memory for."""
     pages = int(re.search(r"MemAvailable:\s+(\d+)", Path("/proc/meminfo").read_text())[1]) * 1024
     return max(1, min(len(os.sched_getaffinity(0)), pages // MEMORY_OF_A_LANE))
+
+
+@contextmanager
+def alone() -> Iterator[None]:
+    """Waits until no other call proves in this checkout. SIGTERM then ends what the prover runs, as an interrupt does."""
+    LOGS.mkdir(parents=True, exist_ok=True)
+    with (ROOT / "build" / "lock").open("w") as lock:
+        try:
+            fcntl.flock(lock, fcntl.LOCK_EX | fcntl.LOCK_NB)
+        except BlockingIOError:
+            print("waiting for another call that proves in this checkout", file=sys.stderr, flush=True)
+            fcntl.flock(lock, fcntl.LOCK_EX)
+        signal.signal(signal.SIGTERM, lambda *_: (_ for _ in ()).throw(Interrupted()))
+        yield
+
+
+def prove_all(tops: tuple[str, ...], lanes: int | None = None) -> bool:
+    """Proves crates and those below them, as far as they are not proved, and returns whether all are. Prints what it does."""
+    with alone():
+        proof = Proof(crates_of_repository(), tops, lanes or default_lanes())
+        if not proof.to_do:
+            return True
+        begun = time.monotonic()
+        left = proof.estimate.span(set(proof.to_do), proof.lanes)
+        print(
+            f"proving {len(proof.to_do)} of {len(proof.crates)} crates, {proof.lanes} side by side: about {minutes(left)};"
+            f" the prover's output is in build/log/",
+            flush=True,
+        )
+        if not proof.all():
+            return False
+        files = ", ".join(str(built(proof.crates[it]).relative_to(ROOT)) for it in proof.tops)
+        print(f"proved and built, in {(time.monotonic() - begun) / 60:.1f} minutes: {files}")
+        return True
+
+
+def prove_over(top: str, libraries: Path) -> bool:
+    """Proves and builds one crate over proved libraries that are in another directory, and returns whether it is proved."""
+    crates = crates_of_repository()
+    with alone():
+        is_built = Prover(crates, libraries).build(crates[top], 2)
+    if not is_built:
+        report(top)
+    return is_built
 
 
 def main() -> int:
     parser = argparse.ArgumentParser(description=__doc__.split("\n")[0])
     parser.add_argument("crate", nargs="?", default="mpslp", help="the crate to prove and build (mpslp)")
     parser.add_argument("--lanes", type=int, default=None, help="how many crates are proved side by side")
+    parser.add_argument("--over", type=Path, default=None, help="prove this crate alone, over the proved libraries in this directory")
     arguments = parser.parse_args()
     require_kit()
-    crates = crates_of_repository()
-    if arguments.crate not in crates:
+    if arguments.crate not in crates_of_repository():
         parser.error(f"crates.txt has no crate {arguments.crate}")
-    LOGS.mkdir(parents=True, exist_ok=True)
-    signal.signal(signal.SIGTERM, lambda *_: (_ for _ in ()).throw(Interrupted()))
-    begun = time.monotonic()
-    proof = Proof(crates, arguments.crate, arguments.lanes or default_lanes())
-    if not proof.to_do:
-        return 0
-    left = proof.estimate.span(set(proof.to_do), len(proof.lanes))
-    print(
-        f"proving {len(proof.to_do)} of {len(proof.crates)} crates, {len(proof.lanes)} side by side: about {minutes(left)};"
-        f" the prover's output is in build/log/",
-        flush=True,
-    )
-    if not proof.all():
-        return 1
-    print(f"{built(proof.top).relative_to(ROOT)} is proved and built, in {(time.monotonic() - begun) / 60:.1f} minutes")
-    return 0
+    if arguments.over:
+        return 0 if prove_over(arguments.crate, arguments.over.resolve()) else 1
+    return 0 if prove_all((arguments.crate,), arguments.lanes) else 1
 
 
 if __name__ == "__main__":

@@ -12,8 +12,8 @@ import sys
 from pathlib import Path
 from typing import NoReturn
 
+from crates import below, built, crates_of_repository, is_proved_and_built
 from kit import ROOT, require_kit
-from prove import below, built, crates_of_repository, is_proved_and_built
 
 FORMATS = ("mps", "lp")
 # The limits of `rt try` for a program: bytes of output, and seconds.

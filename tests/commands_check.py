@@ -1,7 +1,7 @@
 #!/usr/bin/env python3
-"""Test `make`, `make run` and the check of the kit with a stand-in for `rt`, on a copy: tests/commands_check.py
+"""Test `make`, `make run` and the check of the kit with a stand-in for the kit, on a copy: tests/commands_check.py
 
-Nothing is proved: the stand-in records its calls.
+Nothing is proved: the stand-ins for `rt`, `rattle` and `rattle-link` record their calls.
 """
 
 import os
@@ -17,25 +17,44 @@ from pathlib import Path
 ROOT = Path(__file__).resolve().parent.parent
 KIT_SUM = (ROOT / "kit-sum").read_text().strip()
 
-STAND_IN = """#!/bin/sh
+RT = """#!/bin/sh
 case "$1" in
-    version) echo "rattle-kit-99 logic ${STAND_IN_SUM:-%s}"; exit 0 ;;
+    version) echo "rattle-kit-99 logic ${STAND_IN_SUM:-%s}" ;;
+    doc) echo "$(dirname "$0")/START-HERE.md" ;;
+    try) sh "$0.try" ;;
 esac
-echo "$1 $(basename "$PWD")" >> "$STAND_IN_CALLS"
-case "$1 $(basename "$PWD")" in
-    "$STAND_IN_FAILS") echo "fn bounds::put: not proved"; exit 1 ;;
-    "lib $STAND_IN_SLOW") sleep 60 ;;
-    "try mpslp") sh "$0.try"; exit $? ;;
-esac
-# The kit looks for the libraries of the crates that this one uses beside it, and would prove those that are missing.
-for name in $(sed -n "s/^$(basename "$PWD"): //p" ../../crates.txt); do
-    test ! -d "../$name" || test -e "../$name/out/rlib/stamp" || { echo "$name is not there"; exit 1; }
+"""
+
+# Builds a library only over libraries that are there, as `rattle` does. What it makes names the libraries that it was built over.
+RATTLE = """#!/bin/sh
+verb=$1 name=$3 over=
+echo "$verb $name" >> "$STAND_IN_CALLS"
+while test $# -gt 0; do
+    case "$1" in
+        --extern)
+            library=${2#*=}
+            case "$library" in
+                */build/*) test -e "$library/proved" || { echo "$library is not there"; exit 1; }; over="$over ${2%%=*}" ;;
+            esac ;;
+        --statements) is_library=yes ;;
+        -o) to=$2 ;;
+    esac
+    shift
 done
-mkdir -p out/rlib out/incremental
-echo "$1 of $(basename "$PWD")" | tee -a out/incremental/proofs > out/rlib/stamp
-case "$1 $(basename "$PWD")" in
-    "run mpslp") cp "$0.program" out/mpslp ;;
+case "$name" in
+    "$STAND_IN_FAILS") echo "fn bounds::put: not proved"; echo "logic=not-proved"; exit 1 ;;
+    "$STAND_IN_SLOW") sleep 60 ;;
+    "$STAND_IN_SILENT") echo "no verdict"; exit 0 ;;
 esac
+test "$verb" = check && to=/dev/null
+if test -n "$is_library"; then mkdir -p "$to" && echo "$over" > "$to/proved"; else echo "$over" > "$to"; fi
+echo "logic=proved functions=1"
+"""
+
+LINK = """#!/bin/sh
+echo "link" >> "$STAND_IN_CALLS"
+while test "$1" != -o; do shift; done
+cp "$(dirname "$0")/program" "$2"
 """
 
 
@@ -57,9 +76,11 @@ class Commands(unittest.TestCase):
                 copied.parent.mkdir(parents=True)
                 shutil.copyfile(source, copied)
         self.tools = self.folder / "tools"
-        self.tools.mkdir()
-        self.write_tool("rt", STAND_IN % KIT_SUM)
-        self.write_tool("rt.program", "#!/bin/sh\necho proved \"$@\"\n")
+        (self.tools / "bin").mkdir(parents=True)
+        self.write_tool("rt", RT % KIT_SUM)
+        self.write_tool("bin/rattle", RATTLE)
+        self.write_tool("bin/rattle-link", LINK)
+        self.write_tool("bin/program", "#!/bin/sh\necho proved \"$@\"\n")
         self.calls_file = self.folder / "calls"
 
     def write_tool(self, name: str, text: str) -> None:
@@ -103,17 +124,21 @@ class Commands(unittest.TestCase):
         made = self.make()
         self.assertEqual(made.returncode, 0, made.stderr)
         self.assertLessEqual(len((made.stdout + made.stderr).splitlines()), 60)
-        proved = [call.split()[1] for call in self.calls()]
+        self.assertEqual(self.calls()[-2:], ["build mpslp", "link"])
+        proved = [call.split()[1] for call in self.calls()[:-1]]
         self.assertEqual(len(proved), len(set(proved)))
-        self.assertEqual(proved[-1], "mpslp")
         for line in (self.copy / "crates.txt").read_text().splitlines():
             name, _, uses = line.partition("#")[0].partition(":")
             if name in proved:
                 for use in (use for use in uses.split() if use in proved):
                     self.assertLess(proved.index(use), proved.index(name), f"{name} before {use}")
         self.assertNotIn("mpslp_tests", proved)
-        again = self.make()
-        self.assertEqual((again.returncode, again.stdout, len(self.calls())), (0, "", len(proved)))
+
+    def test_a_second_make_proves_nothing(self) -> None:
+        self.make()
+        before = self.calls()
+        made = self.make()
+        self.assertEqual((made.returncode, made.stdout, self.calls()), (0, "", before))
 
     def test_a_change_proves_its_crate_and_those_above(self) -> None:
         self.make()
@@ -121,9 +146,15 @@ class Commands(unittest.TestCase):
         with (self.copy / "crates" / "mpslp_convert" / "src" / "lib.rt").open("a") as source:
             source.write("// changed\n")
         self.assertEqual(self.make().returncode, 0)
-        self.assertEqual(self.calls()[before:], ["lib mpslp_convert", "run mpslp"])
-        kept = self.copy / "crates" / "mpslp_convert" / "out" / "incremental" / "proofs"
-        self.assertEqual(len(kept.read_text().splitlines()), 2, "the second proof does not begin over the first")
+        self.assertEqual(self.calls()[before:], ["build mpslp_convert", "build mpslp", "link"])
+
+    def test_a_library_that_is_missing_is_proved_again_with_those_above(self) -> None:
+        self.make()
+        before = len(self.calls())
+        (self.copy / "crates" / "mpslp" / "out" / "mpslp").unlink()
+        shutil.rmtree(self.copy / "build" / "proofs" / "mpslp_convert")
+        self.assertEqual(self.make().returncode, 0)
+        self.assertEqual(self.calls()[before:], ["build mpslp_convert", "build mpslp", "link"])
 
     def test_an_interrupted_make_goes_on(self) -> None:
         process = subprocess.Popen(
@@ -131,7 +162,7 @@ class Commands(unittest.TestCase):
             cwd=self.copy, env=self.environment(STAND_IN_SLOW="mpslp_builder"), stdout=subprocess.PIPE, stderr=subprocess.PIPE, text=True,
         )
         for _ in range(200):
-            if "lib mpslp_builder" in self.calls():
+            if "build mpslp_builder" in self.calls():
                 break
             time.sleep(0.1)
         process.send_signal(signal.SIGINT)
@@ -139,18 +170,54 @@ class Commands(unittest.TestCase):
         self.assertNotEqual(process.returncode, 0)
         self.assertIn("interrupted", said)
         before = self.calls()
-        self.assertIn("lib mpslp_types", before)
+        self.assertIn("build mpslp_types", before)
         self.assertEqual(self.make().returncode, 0)
         after = self.calls()[len(before) :]
-        self.assertIn("lib mpslp_builder", after)
-        self.assertNotIn("lib mpslp_types", after)
+        self.assertIn("build mpslp_builder", after)
+        self.assertNotIn("build mpslp_types", after)
+
+    def test_what_is_above_a_crate_that_is_proved_again_is_proved_again_too(self) -> None:
+        self.make()
+        source = self.copy / "crates" / "mpslp_builder" / "src" / "lib.rt"
+        text = source.read_text()
+        source.write_text(text + "// changed\n")
+        self.assertNotEqual(self.make(STAND_IN_FAILS="mpslp_model").returncode, 0)
+        # The library of the builder is now another one, so nothing counts that was proved over the one before.
+        source.write_text(text)
+        before = len(self.calls())
+        self.assertEqual(self.make().returncode, 0)
+        after = self.calls()[before:]
+        self.assertIn("build mpslp_builder", after)
+        self.assertIn("build mpslp_convert", after)
+        self.assertNotIn("build mpslp_types", after)
 
     def test_a_crate_that_fails_is_shown_with_its_last_lines(self) -> None:
-        made = self.make(STAND_IN_FAILS="lib mpslp_write")
+        made = self.make(STAND_IN_FAILS="mpslp_write")
         self.assertNotEqual(made.returncode, 0)
         self.assertIn("mpslp_write is not proved", made.stderr)
         self.assertIn("fn bounds::put: not proved", made.stderr)
-        self.assertNotIn("run mpslp", self.calls())
+        self.assertNotIn("build mpslp", self.calls())
+
+    def test_a_crate_without_a_verdict_is_not_proved(self) -> None:
+        made = self.make(STAND_IN_SILENT="mpslp_types")
+        self.assertNotEqual(made.returncode, 0)
+        self.assertIn("mpslp_types is not proved", made.stderr)
+        self.assertNotIn("build mpslp_model_core", self.calls())
+
+    def test_a_crate_is_proved_alone_over_libraries_in_another_directory(self) -> None:
+        self.assertEqual(self.make().returncode, 0)
+        (self.copy / "build" / "proofs").rename(self.copy / "build" / "others")
+        before = len(self.calls())
+        words = [sys.executable, "scripts/prove.py", "mpslp_c", "--over", "build/others"]
+        over = subprocess.run(words, cwd=self.copy, env=self.environment(), capture_output=True, text=True, timeout=60, check=False)
+        self.assertEqual((over.returncode, self.calls()[before:]), (0, ["build mpslp_c"]), over.stderr)
+        self.assertIn("mpslp_convert", (self.copy / "crates" / "mpslp_c" / "out" / "libmpslp_c.a").read_text())
+
+    def test_a_check_proves_the_crates_below_and_hands_on_its_flags(self) -> None:
+        words = [sys.executable, "scripts/check.py", "mpslp_types", "--only=kinds"]
+        checked = subprocess.run(words, cwd=self.copy, env=self.environment(), capture_output=True, text=True, timeout=60, check=False)
+        self.assertEqual(checked.returncode, 0, checked.stderr)
+        self.assertEqual(sorted(self.calls()), ["build mpslp_decimal", "build mpslp_maps", "check mpslp_types"])
 
     def test_run_takes_the_proved_program_only_while_it_is_current(self) -> None:
         self.write_tool("rt.try", "cat > /dev/null; echo unproved; echo 'run=ended status=0 runners=1 proved=no' >&2\n")

@@ -3,7 +3,7 @@
 ghost use Rattle.std.specs.Prelude.{◌≡◌, IsOkUnless};
 ghost use Rattle.mpslp_model_core.specs.Model.{LinearModel};
 ghost use Rattle.mpslp_types.specs.declared.faults.Fault.{Fault};
-ghost use Rattle.mpslp_convert.specs.Conversions.{IsErrUnless};
+ghost use Rattle.mpslp_conversions.specs.Conversions.{IsErrUnless};
 ghost use Rattle.mpslp_convert.specs.Performed.{declares_in, first_fault_in};
 ghost use Rattle.mpslp_c.specs.Answers.{form_of, IsLoading, IsModelTold, IsLoadAnswer};
 

@@ -4,7 +4,7 @@ ghost use Rattle.std.specs.Prelude.{◌≡◌, ◌+◌, ◌<◌, ◌≤◌, None
 ghost use Rattle.mpslp_model_core.specs.Model.{LinearModel};
 ghost use Rattle.mpslp_types.specs.declared.faults.NameAt.{NameAt};
 ghost use Rattle.mpslp_builder.specs.Declaration.{Draft};
-ghost use Rattle.mpslp_convert.specs.Conversions.{IsErrUnless};
+ghost use Rattle.mpslp_conversions.specs.Conversions.{IsErrUnless};
 ghost use Rattle.mpslp_convert.specs.Performed.{unfit_in, text_in};
 ghost use Rattle.mpslp_c.specs.Stored.{TakesSteps, placed, row_items, element_items, own_items, elements_end, column_items, first_column_steps, items, Defines};
 ghost use Rattle.mpslp_c.specs.Answers.{form_of, TakesItems, HasFault, IsStoredModel, IsStoring, IsStoreTold, IsStoreAnswer, store_status};

@@ -18,14 +18,14 @@ use Rattle.mpslp_jobs.specs.declared.jobs.Job.{Job}
 use Rattle.mpslp_jobs.specs.declared.jobs.Job.TheVariants.{Canon, Same, Show}
 use Rattle.mpslp_jobs.specs.declared.jobs.JobFault.{JobFault}
 use Rattle.mpslp_jobs.specs.declared.jobs.JobFault.TheVariants as refused
-use Rattle.mpslp_convert.specs.Conversions.{Declares, HasFirstFault, Unfit, TextOf, IsComparison}
-use Rattle.mpslp_convert.specs.FaultLine.{fault_line, status_of}
-use Rattle.mpslp_convert.specs.Runs.{IsHandedOn, IsCutShort, IsLoad, IsRun}
-use Rattle.mpslp_convert.specs.ShownText.{shown_text}
-use Rattle.mpslp_convert.specs.declared.faults.ConvertFault.{ConvertFault}
-use Rattle.mpslp_convert.specs.declared.faults.ConvertFault.TheVariants as compared
-use Rattle.mpslp_convert.specs.declared.faults.RunFault.{RunFault}
-use Rattle.mpslp_convert.specs.declared.faults.RunFault.TheVariants.{Read, TooLong, File, NotLp, Write, OutOfMemory}
+use Rattle.mpslp_conversions.specs.Conversions.{Declares, HasFirstFault, Unfit, TextOf, IsComparison}
+use Rattle.mpslp_conversions.specs.FaultLine.{fault_line, status_of}
+use Rattle.mpslp_conversions.specs.Runs.{IsHandedOn, IsCutShort, IsLoad, IsRun}
+use Rattle.mpslp_conversions.specs.ShownText.{shown_text}
+use Rattle.mpslp_conversions.specs.declared.faults.ConvertFault.{ConvertFault}
+use Rattle.mpslp_conversions.specs.declared.faults.ConvertFault.TheVariants as compared
+use Rattle.mpslp_conversions.specs.declared.faults.RunFault.{RunFault}
+use Rattle.mpslp_conversions.specs.declared.faults.RunFault.TheVariants.{Read, TooLong, File, NotLp, Write, OutOfMemory}
 use Rattle.mpslp_convert.specs.declared.job_end.Failure.{Failure}
 use Rattle.mpslp_convert.specs.declared.job_end.Input.{Input}
 use Rattle.mpslp_convert.specs.declared.job_end.Input.TheVariants.{Only, First, Second}

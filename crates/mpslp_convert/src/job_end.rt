@@ -1,14 +1,13 @@
 //! How jobs end: the line of an error, and the exit status.
 
 ghost use Rattle.std.specs.Prelude.{◌≡◌, ◌++◌, [], ℕ, List, true, Result, if◌then◌else◌};
-ghost use Rattle.mpslp_convert.specs.FaultLine.{fault_line};
+ghost use Rattle.mpslp_conversions.specs.FaultLine.{fault_line};
 ghost use Rattle.mpslp_convert.specs.Performed.{sink_change, failure_of, input_text, is_of_input, failure_line, comparison_failure, refusal_line, refusal_status, IsTold, IsEnded, IsPrinted, IsRefused, ended_by};
 
-use crate::fault_line::line_of;
-use crate::faults::{ConvertFault, RunFault};
+use mpslp_conversions::{ConvertFault, RunFault, line_of};
 use mpslp_jobs::JobFault;
 use mpslp_model::{Sink, put_all};
-use mpslp_write::{Buffer, Output};
+use mpslp_output::{Buffer, Output};
 
 /// The exit status of arguments that are not a job.
 const WRONG_WORDS: u8 = 3;

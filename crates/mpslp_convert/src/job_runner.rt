@@ -1,17 +1,14 @@
 //! The jobs of the program, between sources and sinks.
 
 ghost use Rattle.std.specs.Prelude.{◌≡◌, ℕ, List, None, true};
-ghost use Rattle.mpslp_convert.specs.Conversions.{IsComparison};
-ghost use Rattle.mpslp_convert.specs.Feeding.{IsModelOrFault};
-ghost use Rattle.mpslp_convert.specs.Runs.{ReadsWithin};
-ghost use Rattle.mpslp_convert.specs.ShownText.{shown_text};
+ghost use Rattle.mpslp_conversions.specs.Conversions.{IsComparison};
+ghost use Rattle.mpslp_conversions.specs.Feeding.{IsModelOrFault};
+ghost use Rattle.mpslp_conversions.specs.Runs.{ReadsWithin};
+ghost use Rattle.mpslp_conversions.specs.ShownText.{shown_text};
 ghost use Rattle.mpslp_convert.specs.Performed.{source_change, sink_change, declares_in, first_fault_in, unfit_in, text_in, IsRunDone, IsSaid, IsSecondDone, IsSameDone, IsDone, IsPerformed};
 
-use crate::faults::ConvertFault;
-use crate::fed_model::read_text;
 use crate::job_end::{Failure, Input, ended_by, print, refuse, status_of_end};
-use crate::shown_source::show;
-use crate::source_to_sink::run;
+use mpslp_conversions::{ConvertFault, read_text, run, show};
 use mpslp_jobs::{Form, Job, JobFault};
 use mpslp_model::{Fault, Format, Model, Sink, Source};
 use mpslp_write::{Lp, Mps};

@@ -13,7 +13,7 @@ use Rattle.std.specs.FinMap.Entries.{below_all, is_sorted-put}
 use Rattle.std.proofs.lemmas.List.Sums.{position_or_len_is, fails_before_first}
 use Rattle.std.proofs.lemmas.Bool.{lt-ltb, le-ltb}
 use Rattle.std.proofs.lemmas.Option.{slice_get_read, slice_get_past}
-use Rattle.mpslp_types.proofs.BoolLemmas.{true_from, T_from}
+use Rattle.std.proofs.Math.Dec.{T}
 
 -- ---- results of a comparison
 
@@ -165,6 +165,19 @@ module _ {K X : Type 0} (R : K → K → Ordering) where
   place_from_point k (e ∷ es) i le point =
       sym (position_or_len_is (λ (x : K × X). is_le (R k x.0)) (e ∷ es) i e le (λ j below. not_le (R k (get_or (e ∷ es) j e).0) (point.0 j e (omega arith) below))
       (λ inside. le_from (R k (get_or (e ∷ es) i e).0) (point.1 i e (omega arith) inside)))
+
+-- a test as a type and as an equation
+
+none_is : false ≡ true → ⊥
+none_is e = cc
+
+true_from : (b : Bool) → T b → b ≡ true
+true_from true h = refl
+true_from false h = absurd h
+
+T_from : (b : Bool) → b ≡ true → T b
+T_from true h = tt
+T_from false h = absurd (none_is h)
 
 -- `put` keeps the order
 pub sorted-put : {K X : Type 0} (R : K → K → Ordering) (o : IsTotalOrder R) (k : K) (v : X) (es : List (K × X)) → is_sorted R es ≡ true → is_sorted R (put R k v es) ≡ true

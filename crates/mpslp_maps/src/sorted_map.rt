@@ -6,11 +6,8 @@ ghost use Rattle.std.specs.Ordering.{is_eq, is_gt, is_le, nat_cmp};
 ghost use Rattle.std.specs.Cmp.{IsTotalOrder, nat_cmp_total};
 ghost use Rattle.std.specs.declared.cmp.Ordering.{Ordering};
 ghost use Rattle.std.specs.List.{position_or_len};
-ghost use Rattle.std.specs.Cmp.Lexicographic.{nat_list_cmp_total};
 ghost use Rattle.std.specs.FinMap.{find, put, is_sorted};
-ghost use Rattle.mpslp_types.specs.Name.{bytes_cmp};
 
-use mpslp_types::Name;
 use std::alloc::{AllocError, Global};
 use std::cmp::Ordering;
 use std::marker::Model;
@@ -40,24 +37,6 @@ impl<K: Key> Query<K> for K {
 
     fn compare(&self, other: &K) -> Ordering {
         self.compare_keys(other)
-    }
-}
-
-impl Key for Name {
-    ghost cmp = { bytes_cmp };
-
-    ghost total = { nat_list_cmp_total };
-
-    fn compare_keys(&self, other: &Name) -> Ordering {
-        self.as_bytes().cmp(other.as_bytes())
-    }
-}
-
-impl<'a> Query<Name> for &'a [u8] {
-    ghost key = { λ bytes. bytes.now };
-
-    fn compare(&self, other: &Name) -> Ordering {
-        (*self).cmp(other.as_bytes())
     }
 }
 

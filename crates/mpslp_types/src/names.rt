@@ -1,5 +1,6 @@
 //! Names of rows, columns and the objective.
 
+mod keys;
 mod lp;
 
 ghost use Rattle.std.specs.Prelude.{◌≡◌, Some, IfSome, IfNone, IfOk, MatchResult, refl};

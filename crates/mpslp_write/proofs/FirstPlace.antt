@@ -1,5 +1,5 @@
 -- The first element of a list that passes a test, found by checking one after another.
-use Rattle.std.proofs.Common.{◌≡◌, sym, ap, ◌∙◌, ℕ, zero, suc, ◌+◌, ◌≤◌, Bool, true, false, not, cond, List, [], ◌∷◌, length, arith}
+use Rattle.std.proofs.Common.{◌≡◌, refl, sym, ap, ◌∙◌, ℕ, zero, suc, ◌+◌, ◌≤◌, Bool, true, false, not, cond, List, [], ◌∷◌, length, arith}
 use Rattle.std.specs.Prelude.{Option, Some, None, slice_get, position}
 use Rattle.std.specs.List.{position_or_len}
 use Rattle.std.proofs.lemmas.Bool.{le-ltb, lt-ltb}
@@ -48,3 +48,8 @@ module _ {X : Type 0} (p : X → Bool) where
 
   pub first-nowhere : (xs : List X) (i : ℕ) → i ≤ position_or_len p xs → length xs ≤ i → None ≡ position p xs
   first-nowhere xs i h past = sym (λ j. cond (le-ltb (position_or_len p xs) (length xs) (omega arith) j) (Some (position_or_len p xs)) None)
+
+-- if each result with a place was handled, none is left
+pub none-left : {X : Type 0} (o : Option X) → ((x : X) → o ≡ Some x → ⊥) → o ≡ None
+none-left None never = refl
+none-left (Some x) never = absurd (never x refl)

@@ -1,14 +1,3 @@
-pub mod BufferLemmas
-pub mod OutputLemmas
-pub mod LinesAtLemmas
-pub mod CellLemmas
-pub mod ColumnLemmas
-pub mod LineTexts
-pub mod BoundLines
-pub mod RowLines
-pub mod IntegerPart
-pub mod DifferenceLemmas
 pub mod LpLineTexts
 pub mod LpTerms
 pub mod FirstPlace
-pub mod EachLemmas

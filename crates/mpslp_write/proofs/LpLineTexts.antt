@@ -10,7 +10,7 @@ use Rattle.mpslp_types.specs.declared.kinds.Sense.TheVariants.{Minimize, Maximiz
 use Rattle.mpslp_lp_grammar.specs.declared.relations.Relation.TheVariants.{AtLeast}
 use Rattle.mpslp_canonical_lp.specs.Printed.{Lexeme, lexeme_text, line_text}
 use Rattle.mpslp_canonical_lp.specs.CanonicalLp.{Lines, heading, under_heading, semi_heading, under_semi_heading, right_line, minus_large, canonical_lp}
-use Rattle.mpslp_write.specs.TextBuffer.{text_by, text_under}
+use Rattle.mpslp_output.specs.TextBuffer.{text_by, text_under}
 
 -- ---- one line
 

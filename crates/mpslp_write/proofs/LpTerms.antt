@@ -25,8 +25,8 @@ use Rattle.mpslp_canonical_mps.proofs.CoefficientMap.{place_at}
 use Rattle.mpslp_model_core.specs.Listing.{Listing, listing_of}
 use Rattle.mpslp_canonical_lp.specs.CanonicalLp.{Lines, Term, term_line, some_term}
 use Rattle.mpslp_write.specs.LpLinesAt.{term_lines, row_term_lines, numbered_term_lines, has_lines}
-use Rattle.mpslp_write.proofs.ColumnLemmas.{coefficient-not_zero, named-lines}
-use Rattle.mpslp_write.proofs.LinesAtLemmas.{flat_map-all, flat_map-kept, flat_map-numbers}
+use Rattle.mpslp_write_mps.proofs.ColumnLemmas.{coefficient-not_zero, named-lines}
+use Rattle.mpslp_output.proofs.LinesAtLemmas.{flat_map-all, flat_map-kept, flat_map-numbers}
 
 abbrev Coefficients : Type 0
 Coefficients = List (CoefficientKey × Number)

@@ -10,7 +10,7 @@ use Rattle.mpslp_lp_grammar.specs.declared.relations.Relation.TheVariants.{AtMos
 use Rattle.mpslp_canonical_lp.specs.Printed.{number, sense}
 use Rattle.mpslp_model_core.specs.Listing.{Listing, listing_of}
 use Rattle.mpslp_canonical_lp.specs.CanonicalLp.{Lines, heading, long_line, sense_word, Term, term_line, term_in, objective_term, right_line, bound_lexemes, line_of_some, is_integer_kind, is_semi_kind, name_line}
-use Rattle.mpslp_write.specs.LinesAt.{lines_at}
+use Rattle.mpslp_output.specs.LinesAt.{lines_at}
 use Rattle.mpslp_write.specs.declared.lp.kinds.KindSection.{KindSection}
 use Rattle.mpslp_write.specs.declared.lp.kinds.KindSection.TheVariants.{Generals, SemiContinuous}
 

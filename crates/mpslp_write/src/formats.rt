@@ -12,11 +12,11 @@ ghost use Rattle.mpslp_canonical_lp.specs.Unfit.{unfit};
 ghost use Rattle.mpslp_canonical_lp.proofs.LpFormat as lp_laws;
 
 use crate::lp::{first_unfit_name, write_lp};
-use crate::mps::write_mps;
 use crate::readers::{LpFormatReader, MpsFormatReader};
 use mpslp_lp::read_lp;
 use mpslp_model::{Format, Model, ReadFault, Sink, WriteFault};
 use mpslp_mps::read_mps;
+use mpslp_write_mps::write_mps;
 use std::alloc::Global;
 
 /// MPS as in the CPLEX file format reference, in the profile of `docs/FORMATS.md`. It can express every model.

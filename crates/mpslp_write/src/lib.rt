@@ -1,22 +1,15 @@
-//! The writers of canonical texts, and the formats of model files.
+//! The formats of model files, and the writer of canonical LP.
 //!
-//! [`write_mps`] writes the canonical MPS text of a model, which mpslp_canonical_mps defines, to a sink, and [`write_lp`]
-//! its canonical LP text, which mpslp_canonical_lp defines. [`first_unfit_name`] finds the first name of a model that is not
-//! legal in LP. [`Mps`] and [`Lp`] are the formats: reader, writer, and the laws that relate them. Other texts are printed
-//! through an [`Output`], too.
+//! [`Mps`] and [`Lp`] are the formats: reader, writer, and the laws that relate them. [`write_lp`] writes the canonical LP text of a
+//! model, which mpslp_canonical_lp defines, to a sink, and [`first_unfit_name`] finds the first name of a model that is not legal in
+//! LP. [`write_mps`] of mpslp_write_mps and the [`Output`] of mpslp_output, through which both writers print, are re-exported here.
 #![tactic(auto)]
 
-mod each;
 mod formats;
 mod lp;
-mod mps;
-mod output;
 mod readers;
-mod text_buffer;
 
-pub use each::{CanFail, put_each};
 pub use formats::{Lp, Mps};
 pub use lp::{first_unfit_name, write_lp};
-pub use mps::write_mps;
-pub use output::Output;
-pub use text_buffer::Buffer;
+pub use mpslp_output::{Buffer, CanFail, Output, put_each};
+pub use mpslp_write_mps::write_mps;

@@ -14,16 +14,15 @@ ghost use Rattle.mpslp_types.specs.declared.faults.WriteFault.TheVariants.{NotLp
 ghost use Rattle.mpslp_canonical_lp.specs.Printed.{line_text};
 ghost use Rattle.mpslp_canonical_lp.specs.CanonicalLp.{canonical_lp, canonical_lines};
 ghost use Rattle.mpslp_canonical_lp.specs.Unfit.{unfit};
-ghost use Rattle.mpslp_write.specs.Printing.{PrintsSection};
+ghost use Rattle.mpslp_output.specs.Printing.{PrintsSection};
 
 use crate::lp::bounds::put_bounds_section;
 pub use crate::lp::fit::first_unfit_name;
 use crate::lp::kinds::{put_generals_section, put_semis_section};
 use crate::lp::objective::put_objective_section;
 use crate::lp::rows::put_rows_section;
-use crate::output::Output;
-use crate::text_buffer::Buffer;
 use mpslp_model::{Model, Sink, WriteFault};
+use mpslp_output::{Buffer, Output};
 
 /// Prints the canonical lines of a model.
 fn put_lines<W: Sink>(model: &Model, output: &mut Output<W>)

@@ -8,19 +8,18 @@ ghost use Rattle.mpslp_types.specs.declared.kinds.Limit.{Limit};
 ghost use Rattle.mpslp_canonical_lp.specs.Printed.{line_text};
 ghost use Rattle.mpslp_model_core.specs.Listing.{listing_of};
 ghost use Rattle.mpslp_canonical_lp.specs.CanonicalLp.{bound_lexemes, line_of_some, bound_lines, bounds_section};
-ghost use Rattle.mpslp_write.specs.LinesAt.{lines_at};
+ghost use Rattle.mpslp_output.specs.LinesAt.{lines_at};
 ghost use Rattle.mpslp_write.specs.LpLinesAt.{lines_between, lines_from};
-ghost use Rattle.mpslp_write.specs.Printing.{Prints, PrintsSection};
+ghost use Rattle.mpslp_output.specs.Printing.{Prints, PrintsSection};
 
-use crate::each::put_each;
 use crate::lp::lines::{
     put_between_line, put_fixed_line, put_free_column_line, put_lower_bound_line,
     put_upper_bound_line,
 };
-use crate::mps::bounds::have_same_value;
-use crate::output::Output;
 use mpslp_decimal::Decimal;
 use mpslp_model::{Limit, Model, Sink};
+use mpslp_output::{Output, put_each};
+use mpslp_write_mps::have_same_value;
 
 /// Prints the line of two finite bounds.
 fn put_between<W: Sink>(output: &mut Output<W>, column: &[u8], lower: Decimal, upper: Decimal)

@@ -7,14 +7,13 @@ ghost use Rattle.mpslp_model_core.specs.Views.{num_columns};
 ghost use Rattle.mpslp_canonical_lp.specs.Printed.{line_text};
 ghost use Rattle.mpslp_model_core.specs.Listing.{listing_of};
 ghost use Rattle.mpslp_canonical_lp.specs.CanonicalLp.{generals_section, semis_section};
-ghost use Rattle.mpslp_write.specs.LinesAt.{lines_at};
+ghost use Rattle.mpslp_output.specs.LinesAt.{lines_at};
 ghost use Rattle.mpslp_write.specs.LpLinesAt.{is_of_section, name_lines};
-ghost use Rattle.mpslp_write.specs.Printing.{Prints, PrintsSection};
+ghost use Rattle.mpslp_output.specs.Printing.{Prints, PrintsSection};
 
-use crate::each::put_each;
 use crate::lp::lines::put_name_line;
-use crate::output::Output;
 use mpslp_model::{Kind, Model, Sink};
+use mpslp_output::{Output, put_each};
 
 /// A section that lists the columns of a type.
 #[derive(Clone, Copy)]

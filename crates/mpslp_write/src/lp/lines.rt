@@ -6,11 +6,11 @@ ghost use Rattle.mpslp_decimal.specs.NumberText.{number_text};
 ghost use Rattle.mpslp_lp_grammar.specs.declared.relations.Relation.TheVariants as relations;
 ghost use Rattle.mpslp_canonical_lp.specs.Printed.{line_text, sign_bytes, word, number, sense, minus_infinity};
 ghost use Rattle.mpslp_canonical_lp.specs.CanonicalLp.{short_line, long_line, label_line, term_line, signed_lexemes, right_line, minus_large};
-ghost use Rattle.mpslp_write.specs.Printing.{Puts, Prints};
+ghost use Rattle.mpslp_output.specs.Printing.{Puts, Prints};
 
-use crate::output::Output;
 use mpslp_decimal::{Decimal, DecimalText};
 use mpslp_model::Sink;
+use mpslp_output::Output;
 
 /// Prints a number.
 fn put_number<W: Sink>(output: &mut Output<W>, value: Decimal)

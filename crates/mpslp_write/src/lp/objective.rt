@@ -7,16 +7,15 @@ ghost use Rattle.mpslp_model_core.specs.Views.{num_columns};
 ghost use Rattle.mpslp_canonical_lp.specs.Printed.{line_text};
 ghost use Rattle.mpslp_model_core.specs.Listing.{listing_of};
 ghost use Rattle.mpslp_canonical_lp.specs.CanonicalLp.{constant_lines, objective_section};
-ghost use Rattle.mpslp_write.specs.LinesAt.{lines_at};
+ghost use Rattle.mpslp_output.specs.LinesAt.{lines_at};
 ghost use Rattle.mpslp_write.specs.LpLinesAt.{objective_term_lines, sense_lines};
-ghost use Rattle.mpslp_write.specs.Printing.{Prints, PrintsSection};
+ghost use Rattle.mpslp_output.specs.Printing.{Prints, PrintsSection};
 
-use crate::each::put_each;
 use crate::lp::lines::{put_constant_line, put_label_line, put_term_line};
-use crate::output::Output;
 use mpslp_decimal::Decimal;
 use mpslp_model::laws::each_model_is_sound;
 use mpslp_model::{Model, Sense, Sink};
+use mpslp_output::{Output, put_each};
 
 /// Prints the word with which the text begins.
 fn put_sense<W: Sink>(sense: Sense, output: &mut Output<W>)

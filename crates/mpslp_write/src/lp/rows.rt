@@ -7,20 +7,19 @@ ghost use Rattle.mpslp_model_core.specs.Views.{num_rows, row_name, row_columns};
 ghost use Rattle.mpslp_canonical_lp.specs.Printed.{line_text};
 ghost use Rattle.mpslp_model_core.specs.Listing.{listing_of};
 ghost use Rattle.mpslp_canonical_lp.specs.CanonicalLp.{term_line, row_terms, left_lines, last_line, row_lines, rows_section};
-ghost use Rattle.mpslp_write.specs.LinesAt.{lines_at};
+ghost use Rattle.mpslp_output.specs.LinesAt.{lines_at};
 ghost use Rattle.mpslp_write.specs.LpLinesAt.{numbered_term_lines, left_between, last_between};
-ghost use Rattle.mpslp_write.specs.Printing.{Prints, PrintsSection};
+ghost use Rattle.mpslp_output.specs.Printing.{Prints, PrintsSection};
 
-use crate::each::put_each;
 use crate::lp::lines::{
     put_at_least_line, put_at_most_line, put_equal_line, put_free_row_line, put_label_line,
     put_left_line, put_term_line,
 };
-use crate::mps::bounds::have_same_value;
-use crate::output::Output;
 use mpslp_decimal::Decimal;
 use mpslp_model::laws::each_model_is_sound;
 use mpslp_model::{Limit, Model, Sink};
+use mpslp_output::{Output, put_each};
+use mpslp_write_mps::have_same_value;
 
 /// Prints term `k` of row `i`.
 fn put_term<W: Sink>(model: &Model, i: usize, k: usize, output: &mut Output<W>)

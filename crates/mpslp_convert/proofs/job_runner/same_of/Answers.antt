@@ -1,4 +1,4 @@
-use Rattle.mpslp_convert.proofs.ConversionLemmas.{comparison_of}
+use Rattle.mpslp_conversions.proofs.ConversionLemmas.{comparison_of}
 use Rattle.mpslp_convert.proofs.job_runner.same_of.Goals as goal
 
 pub returns-in-Ok-other : goal.returns-in-Ok-other

@@ -3,7 +3,8 @@ use Rattle.std.specs.Prelude.{Option, Some, None}
 use Rattle.mpslp_types.specs.declared.faults.NameAt.{NameAt}
 use Rattle.mpslp_canonical_lp.specs.CanonicalLp.{canonical_lp}
 use Rattle.mpslp_canonical_lp.specs.Unfit.{unfit}
-use Rattle.mpslp_write.proofs.BufferLemmas.{taken-written, taken-succeeds, none-left}
+use Rattle.mpslp_output.proofs.BufferLemmas.{taken-written, taken-succeeds}
+use Rattle.mpslp_write.proofs.FirstPlace.{none-left}
 use Rattle.mpslp_write.proofs.LpLineTexts.{canonical_lp-some}
 use Rattle.mpslp_write.proofs.lp.write_lp.Goals as goal
 

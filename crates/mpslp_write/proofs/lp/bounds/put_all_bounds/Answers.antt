@@ -1,7 +1,7 @@
 use Rattle.std.proofs.Common.{rules, arith}
 use Rattle.std.specs.FinMap.{entries}
 use Rattle.mpslp_canonical_lp.specs.CanonicalLp.{bound_lines}
-use Rattle.mpslp_write.proofs.EachLemmas.{prints_each}
+use Rattle.mpslp_output.proofs.EachLemmas.{prints_each}
 use Rattle.mpslp_write.proofs.lp.bounds.put_all_bounds.Goals as goal
 
 pub returns : goal.returns

@@ -5,8 +5,8 @@ use Rattle.mpslp_types.specs.declared.kinds.Limit.{Limit}
 use Rattle.mpslp_model_core.specs.Model.{Column}
 use Rattle.mpslp_model_core.specs.Views.{columns_of}
 use Rattle.mpslp_canonical_lp.specs.CanonicalLp.{Lines, bound_lexemes, line_of_some}
-use Rattle.mpslp_write.proofs.LinesAtLemmas.{both_seen, lines_seen}
-use Rattle.mpslp_write.proofs.OutputLemmas.{prints_same}
+use Rattle.mpslp_output.proofs.LinesAtLemmas.{both_seen, lines_seen}
+use Rattle.mpslp_output.proofs.OutputLemmas.{prints_same}
 use Rattle.mpslp_write.proofs.lp.bounds.put_bounds.Goals as goal
 
 pub returns : goal.returns

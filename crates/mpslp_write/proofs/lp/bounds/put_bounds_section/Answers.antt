@@ -1,7 +1,7 @@
 use Rattle.std.proofs.Common.{refl}
 use Rattle.std.specs.Prelude.{codes}
 use Rattle.mpslp_write.proofs.LpLineTexts.{under-heading}
-use Rattle.mpslp_write.proofs.OutputLemmas.{section_under}
+use Rattle.mpslp_output.proofs.OutputLemmas.{section_under}
 use Rattle.mpslp_write.proofs.lp.bounds.put_bounds_section.Goals as goal
 
 pub returns : goal.returns

@@ -5,8 +5,8 @@ use Rattle.mpslp_model_core.specs.Model.{Column}
 use Rattle.mpslp_canonical_lp.specs.Printed.{word}
 use Rattle.mpslp_canonical_lp.specs.CanonicalLp.{Lines, short_line}
 use Rattle.mpslp_write.specs.LpLinesAt.{is_of_section}
-use Rattle.mpslp_write.proofs.LinesAtLemmas.{lines_seen, nothing_seen}
-use Rattle.mpslp_write.proofs.OutputLemmas.{prints_nothing, prints_same}
+use Rattle.mpslp_output.proofs.LinesAtLemmas.{lines_seen, nothing_seen}
+use Rattle.mpslp_output.proofs.OutputLemmas.{prints_nothing, prints_same}
 use Rattle.mpslp_write.proofs.lp.kinds.put_name.Goals as goal
 
 pub returns-then-is_of_section : goal.returns-then-is_of_section

@@ -1,7 +1,7 @@
 use Rattle.std.proofs.Common.{rules, arith}
 use Rattle.std.specs.FinMap.{entries}
 use Rattle.mpslp_write.specs.LpLinesAt.{name_lines}
-use Rattle.mpslp_write.proofs.EachLemmas.{prints_each}
+use Rattle.mpslp_output.proofs.EachLemmas.{prints_each}
 use Rattle.mpslp_write.proofs.lp.kinds.put_names.Goals as goal
 
 pub returns : goal.returns

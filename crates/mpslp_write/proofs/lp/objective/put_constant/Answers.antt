@@ -1,6 +1,6 @@
 use Rattle.std.proofs.Common.{ap, Bool, cond, [], ◌∷◌}
 use Rattle.mpslp_canonical_lp.specs.CanonicalLp.{long_line, signed_lexemes}
-use Rattle.mpslp_write.proofs.OutputLemmas.{prints_same, prints_nothing}
+use Rattle.mpslp_output.proofs.OutputLemmas.{prints_same, prints_nothing}
 use Rattle.mpslp_write.proofs.lp.objective.put_constant.Goals as goal
 
 pub returns-then-not-is_zero : goal.returns-then-not-is_zero

@@ -4,7 +4,7 @@ use Rattle.mpslp_model_core.specs.Listing.{listing_of}
 use Rattle.mpslp_canonical_lp.specs.CanonicalLp.{label_line, constant_lines, objective_term}
 use Rattle.mpslp_write.specs.LpLinesAt.{sense_lines}
 use Rattle.mpslp_write.proofs.LpTerms.{terms-joined}
-use Rattle.mpslp_write.proofs.OutputLemmas.{section_of, section_then, section_same}
+use Rattle.mpslp_output.proofs.OutputLemmas.{section_of, section_then, section_same}
 use Rattle.mpslp_write.proofs.lp.objective.put_objective_section.Goals as goal
 
 pub returns : goal.returns

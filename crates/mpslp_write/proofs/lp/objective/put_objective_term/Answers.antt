@@ -5,9 +5,9 @@ use Rattle.mpslp_decimal.specs.Decimal.{is_zero}
 use Rattle.mpslp_model_core.specs.Views.{column_name, column_names, coefficient_at}
 use Rattle.mpslp_model_core.specs.Listing.{listing_of}
 use Rattle.mpslp_canonical_lp.specs.CanonicalLp.{term_line}
-use Rattle.mpslp_write.proofs.ColumnLemmas.{named-lines}
+use Rattle.mpslp_write_mps.proofs.ColumnLemmas.{named-lines}
 use Rattle.mpslp_write.proofs.LpTerms.{objective_lines_of, objective-needed, objective-alone, objective-left}
-use Rattle.mpslp_write.proofs.OutputLemmas.{prints_same, prints_nothing}
+use Rattle.mpslp_output.proofs.OutputLemmas.{prints_same, prints_nothing}
 use Rattle.mpslp_write.proofs.lp.objective.put_objective_term.Goals.{else-is_zero-via-then-is_zero+else-column_len-gt0, else-is_zero-via-else-is_zero}
 use Rattle.mpslp_write.proofs.lp.objective.put_objective_term.Goals as goal
 

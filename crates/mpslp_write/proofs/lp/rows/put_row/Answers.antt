@@ -7,8 +7,8 @@ use Rattle.mpslp_model_core.specs.Model.{Row}
 use Rattle.mpslp_model_core.specs.Views.{row_names, rows_of}
 use Rattle.mpslp_model_core.specs.Listing.{listing_of}
 use Rattle.mpslp_canonical_lp.specs.CanonicalLp.{Lines, label_line, left_lines, term_line, row_terms, last_line}
-use Rattle.mpslp_write.proofs.LinesAtLemmas.{both_seen, lines_seen}
-use Rattle.mpslp_write.proofs.OutputLemmas.{prints_then, prints_same}
+use Rattle.mpslp_output.proofs.LinesAtLemmas.{both_seen, lines_seen}
+use Rattle.mpslp_output.proofs.OutputLemmas.{prints_then, prints_same}
 use Rattle.mpslp_write.proofs.lp.rows.put_row.Goals as goal
 
 pub returns : goal.returns

@@ -5,7 +5,7 @@ use Rattle.mpslp_model_core.specs.Listing.{listing_of}
 use Rattle.mpslp_canonical_lp.specs.CanonicalLp.{term_in, term_line}
 use Rattle.mpslp_write.specs.LpLinesAt.{has_lines}
 use Rattle.mpslp_write.proofs.LpTerms.{terms-listed, some-listed, none-listed, terms-joined, some-terms, no-terms}
-use Rattle.mpslp_write.proofs.OutputLemmas.{prints_then, prints_same}
+use Rattle.mpslp_output.proofs.OutputLemmas.{prints_then, prints_same}
 use Rattle.mpslp_write.proofs.lp.rows.put_row_terms.Goals as goal
 
 pub column_name-requires : goal.column_name-requires

@@ -7,7 +7,7 @@ use Rattle.mpslp_model_core.proofs.ByRowLemmas.{listed_below}
 use Rattle.mpslp_canonical_lp.specs.CanonicalLp.{term_line}
 use Rattle.mpslp_write.specs.LpLinesAt.{numbered_term_lines}
 use Rattle.mpslp_write.proofs.LpTerms.{term-listed}
-use Rattle.mpslp_write.proofs.OutputLemmas.{prints_same}
+use Rattle.mpslp_output.proofs.OutputLemmas.{prints_same}
 use Rattle.mpslp_write.proofs.lp.rows.put_term.Goals as goal
 
 pub column_name-requires : goal.column_name-requires

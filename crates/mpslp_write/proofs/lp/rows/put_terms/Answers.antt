@@ -1,8 +1,8 @@
 use Rattle.std.proofs.Common.{arith}
 use Rattle.mpslp_model_core.specs.Views.{row_name, row_columns}
 use Rattle.mpslp_write.specs.LpLinesAt.{numbered_term_lines}
-use Rattle.mpslp_write.proofs.LinesAtLemmas.{flat_map-next, flat_map-all}
-use Rattle.mpslp_write.proofs.OutputLemmas.{prints_nothing, prints_then, prints_same}
+use Rattle.mpslp_output.proofs.LinesAtLemmas.{flat_map-next, flat_map-all}
+use Rattle.mpslp_output.proofs.OutputLemmas.{prints_nothing, prints_then, prints_same}
 use Rattle.mpslp_write.proofs.lp.rows.put_terms.Goals as goal
 
 pub loop-k-init : goal.loop-k-init

@@ -3,7 +3,7 @@ use Rattle.std.specs.List.{flat_map}
 use Rattle.mpslp_model_core.specs.Views.{row_name, row_columns}
 use Rattle.mpslp_canonical_lp.specs.Printed.{line_text}
 use Rattle.mpslp_write.specs.LpLinesAt.{numbered_term_lines}
-use Rattle.mpslp_write.specs.Printing.{Prints}
+use Rattle.mpslp_output.specs.Printing.{Prints}
 use Rattle.mpslp_write.proofs.lp.rows.put_terms.Given as goal
 
 -- the terms so far were put

@@ -1,0 +1,4 @@
+pub mod BufferLemmas
+pub mod OutputLemmas
+pub mod LinesAtLemmas
+pub mod EachLemmas

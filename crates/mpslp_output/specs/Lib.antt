@@ -1,0 +1,4 @@
+pub mod TextBuffer
+pub mod Printing
+pub mod EachCall
+pub mod LinesAt

@@ -1,0 +1,74 @@
+-- The integer columns between marker lines: the first marker waits as a header, and the last is put if there are lines.
+use Rattle.std.proofs.Common.{◌≡◌, refl, sym, ap, ◌∙◌, ℕ, Bool, true, false, not, List, [], ◌∷◌, ◌++◌, length, suc, append_assoc, arith}
+use Rattle.std.specs.Prelude.{◌&&◌, ◌==◌}
+use Rattle.std.proofs.lemmas.Bool.{eqb-true}
+use Rattle.std.specs.Cmp.{first_so, second_so}
+use Rattle.mpslp_types.proofs.BoolLemmas.{not_so}
+use Rattle.mpslp_mps_fields.specs.DataLine.{opening_word, closing_word}
+use Rattle.mpslp_canonical_mps.specs.CanonicalMps.{Lines, integer_part, marker_line}
+use Rattle.mpslp_canonical_mps.specs.Printed.{line_text, text_of}
+use Rattle.mpslp_io.specs.declared.devices.Sink.{Ghosts as SinkOf}
+use Rattle.mpslp_output.specs.TextBuffer.{BufferState, text_under, header_behind}
+use Rattle.mpslp_output.specs.Printing.{Holds, Puts, HasHeader, Prints, PrintsSection}
+use Rattle.mpslp_output.specs.declared.output.Output.{Output}
+use Rattle.mpslp_output.proofs.BufferLemmas.{text_by-append, put_same, HasPut-cut}
+use Rattle.mpslp_output.proofs.OutputLemmas.{same_then, put_under}
+
+abbrev first_marker : List ℕ
+first_marker = text_of (marker_line opening_word ∷ [])
+
+abbrev last_marker : List ℕ
+last_marker = text_of (marker_line closing_word ∷ [])
+
+-- no header waits, as `close_section` returns at the end of a section
+abbrev has_lines : BufferState → Bool
+has_lines buffer = not buffer.has_failed && (length buffer.header == 0)
+
+no-length : (bytes : List ℕ) → (length bytes == 0) ≡ true → bytes ≡ []
+no-length [] h = refl
+no-length (byte ∷ bytes) h = let none = eqb-true (suc (length bytes)) 0 h in absurd (omega arith)
+
+no-marker : first_marker ≡ [] → ⊥
+no-marker e = cc
+
+-- between the markers
+between : (text : List ℕ) (lines : Lines) → (text ++ (first_marker ++ text_of lines)) ++ last_marker ≡ text ++ (first_marker ++ text_of (lines ++ marker_line closing_word ∷ []))
+between text lines =
+    append_assoc text (first_marker ++ text_of lines) last_marker
+    ∙ ap (λ (l : List ℕ). text ++ (first_marker ++ l)) (sym (text_by-append line_text lines (marker_line closing_word ∷ [])))
+
+module _ {W : Type 0} {k : SinkOf W} where
+  pub integer_some : {a b c d e : Output W} {lines : Lines} → HasHeader first_marker a b → Prints line_text k b c lines → HasHeader [] c d → has_lines c.buffer.now ≡ true
+      → Puts k d e last_marker → PrintsSection line_text k a e (integer_part lines)
+  integer_some {c = c} {e = e} {lines} opens h closes some last = record {
+    same = same_then opens.same (same_then h.same (same_then closes.same last.same));
+    puts = λ first text g. by lines first text (h.puts first text first_marker (put_under opens refl g));
+  }
+    where
+      none_waits : c.buffer.now.header ≡ []
+      none_waits = no-length c.buffer.now.header (second_so (not c.buffer.now.has_failed) _ some)
+
+      by : (lines : Lines) (first : W) (text : List ℕ) → Holds k first c (text ++ text_under line_text first_marker lines) (header_behind first_marker lines)
+          → Holds k first e (text ++ text_of (integer_part lines)) []
+      by [] first text put =
+          let under_way = put.under_way (not_so c.buffer.now.has_failed (first_so (not c.buffer.now.has_failed) _ some)) in
+          absurd (no-marker (sym under_way.header_is ∙ none_waits))
+      by (line ∷ lines) first text put = put_same (between text (line ∷ lines)) refl (last.puts first _ [] (put_under closes refl put))
+
+  pub integer_none : {a b c d : Output W} {lines : Lines} → HasHeader first_marker a b → Prints line_text k b c lines → HasHeader [] c d → has_lines c.buffer.now ≡ false
+      → PrintsSection line_text k a d (integer_part lines)
+  integer_none {c = c} {lines = lines} opens h closes none = record {
+    same = same_then opens.same (same_then h.same closes.same);
+    puts = λ first text g. put_under closes refl (by lines c.buffer.now.has_failed refl first text (h.puts first text first_marker (put_under opens refl g)));
+  }
+    where
+      by : (lines : Lines) (has_failed : Bool) → c.buffer.now.has_failed ≡ has_failed → (first : W) (text : List ℕ)
+          → Holds k first c (text ++ text_under line_text first_marker lines) (header_behind first_marker lines)
+          → Holds k first c (text ++ text_of (integer_part lines)) (header_behind first_marker lines)
+      by [] has_failed is first text put = put
+      by (line ∷ lines) true fails first text put =
+          put_same (between text (line ∷ lines)) refl (HasPut-cut k.holds k.failed k.count first c.sink.now c.buffer.now _ last_marker [] [] fails put)
+      by (line ∷ lines) false works first text put =
+          let header_is = (put.under_way works).header_is in
+          let some : has_lines c.buffer.now ≡ true = (λ i. not (works i) && (length (header_is i) == 0)) in
+          absurd cc

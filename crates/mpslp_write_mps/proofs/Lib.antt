@@ -1,0 +1,7 @@
+pub mod CellLemmas
+pub mod ColumnLemmas
+pub mod LineTexts
+pub mod BoundLines
+pub mod RowLines
+pub mod IntegerPart
+pub mod DifferenceLemmas

@@ -1,0 +1,2 @@
+-- ---- what only the code cites
+pub mod MpsLinesAt

@@ -1,0 +1,47 @@
+-- Lines of MPS that are printed for one entry after another.
+use Rattle.std.specs.Prelude.{ℕ, Bool, true, false, not, List, [], ◌∷◌, Option, Some, None, ◌==◌, if◌then◌else◌}
+use Rattle.mpslp_decimal.specs.Decimal.{Number, is_zero}
+use Rattle.mpslp_model_core.specs.Model.{LinearModel, CoefficientKey, Column}
+use Rattle.mpslp_model_core.specs.Views.{coefficient_at, column_elements, letter_G, letter_R}
+use Rattle.mpslp_types.specs.declared.kinds.Kind.{Kind}
+use Rattle.mpslp_types.specs.declared.kinds.Limit.{Limit}
+use Rattle.mpslp_types.specs.declared.kinds.Limit.TheVariants.{MinusInf, Finite, PlusInf}
+use Rattle.mpslp_canonical_mps.specs.PrintedValues.{is_fixed}
+use Rattle.mpslp_canonical_mps.specs.CanonicalMps.{Lines, is_integer_column, coefficient_line}
+use Rattle.mpslp_write_mps.specs.declared.mps.columns.Part.{Part}
+use Rattle.mpslp_write_mps.specs.declared.mps.columns.Part.TheVariants.{Plain, Integers}
+
+-- the letter of a row by its sense; R, a ranged row, is printed as G
+abbrev pub printed_letter : ℕ → ℕ
+printed_letter sense = if sense == letter_R then letter_G else sense
+
+-- whether a column, which is integer or not, is in the part of COLUMNS
+abbrev pub is_wanted : Part → Bool → Bool
+is_wanted Integers is_integer = is_integer
+is_wanted Plain is_integer = not is_integer
+
+-- the lines of a column if it is in the part
+abbrev pub of_part : Part → (List ℕ × Column → Lines) → List ℕ × Column → Lines
+of_part part lines_of column = if is_wanted part (is_integer_column column) then lines_of column else []
+
+-- the line of a coefficient of a row
+abbrev pub element_lines : List ℕ → CoefficientKey × Number → Lines
+element_lines column element = coefficient_line column (element.0.row, element.1) ∷ []
+
+-- The line of the objective, with its value there: a column has it if that is not 0, or if it has no other coefficients.
+abbrev pub objective_line_at : List ℕ → List ℕ → Number → List (CoefficientKey × Number) → Lines
+objective_line_at objective column value [] = coefficient_line column (objective, value) ∷ []
+objective_line_at objective column value (element ∷ elements) = if is_zero value then [] else coefficient_line column (objective, value) ∷ []
+
+abbrev pub objective_lines : LinearModel → List ℕ → Lines
+objective_lines m column = objective_line_at m.objective column (coefficient_at m m.objective column) (column_elements m column)
+
+-- the value of a column whose bounds are printed in one line, because they are finite and have the same value
+abbrev pub fixed_value : Kind → Limit → Limit → Option Number
+fixed_value kind (Finite lower) (Finite upper) = if is_fixed kind lower upper then Some upper else None
+fixed_value kind _ _ = None
+
+-- neither bound is finite
+abbrev pub are_free : Limit → Limit → Bool
+are_free MinusInf PlusInf = true
+are_free _ _ = false

@@ -1,0 +1,123 @@
+//! The section COLUMNS.
+
+ghost use Rattle.std.specs.Prelude.{◌≡◌, ◌<◌, [], ◌∷◌, length};
+ghost use Rattle.std.specs.List.{flat_map};
+ghost use Rattle.std.specs.FinMap.{entries};
+ghost use Rattle.mpslp_model_core.specs.Views.{num_columns, column_name, column_elements};
+ghost use Rattle.mpslp_canonical_mps.specs.Printed.{line_text};
+ghost use Rattle.mpslp_canonical_mps.specs.CanonicalMps.{column_lines, columns_section, integer_part};
+ghost use Rattle.mpslp_model_core.specs.Listing.{listing_of};
+ghost use Rattle.mpslp_output.specs.LinesAt.{lines_at};
+ghost use Rattle.mpslp_write_mps.specs.MpsLinesAt.{is_wanted, of_part, element_lines, objective_lines};
+ghost use Rattle.mpslp_output.specs.Printing.{Prints, PrintsSection};
+
+use crate::mps::lines::put_value_line;
+use mpslp_model::laws::each_model_is_sound;
+use mpslp_model::{Model, Sink};
+use mpslp_output::{Output, put_each};
+
+/// The parts of COLUMNS, in this order.
+#[derive(Clone, Copy)]
+enum Part {
+    /// The columns that are not integer.
+    Plain,
+    /// The integer columns, between marker lines.
+    Integers,
+}
+
+/// Prints the line of coefficient `k` of column `j`, among its coefficients in rows.
+fn put_element<W: Sink>(model: &Model, j: usize, k: usize, output: &mut Output<W>)
+    requires column { j < num_columns model.now }
+    requires element { k < length (column_elements model.now (column_name model.now j)) }
+    ensures { Prints line_text W.Sink output.old output.new (lines_at (element_lines (column_name model.now j)) (column_elements model.now (column_name model.now j)) k) }
+{
+    let (i, value) = model.entry(j, k);
+    put_value_line(
+        output,
+        model.column_name(j).as_bytes(),
+        model.row_text(i),
+        value,
+    );
+}
+
+/// Prints the lines of the coefficients of column `j` in rows.
+fn put_elements<W: Sink>(model: &Model, j: usize, output: &mut Output<W>)
+    requires { j < num_columns model.now }
+    ensures { Prints line_text W.Sink output.old output.new (flat_map (element_lines (column_name model.now j)) (column_elements model.now (column_name model.now j))) }
+{
+    for k in 0..model.column_len(j) {
+        put_element(model, j, k, output);
+    }
+}
+
+/// Prints the line of the objective in column `j` if it is not 0, or if the column has no coefficient in a row.
+fn put_objective_coefficient<W: Sink>(model: &Model, j: usize, output: &mut Output<W>)
+    requires { j < num_columns model.now }
+    ensures { Prints line_text W.Sink output.old output.new (objective_lines model.now (column_name model.now j)) }
+{
+    let value = model.objective_coefficient(j);
+    if value.is_zero() && model.column_len(j) > 0 {
+        return;
+    }
+    let objective = model.objective_name().as_bytes();
+    put_value_line(output, model.column_name(j).as_bytes(), objective, value);
+}
+
+/// Prints the lines of column `j`: the objective, and then the rows.
+fn put_column<W: Sink>(model: &Model, j: usize, output: &mut Output<W>)
+    requires { j < num_columns model.now }
+    ensures { Prints line_text W.Sink output.old output.new (lines_at (column_lines (listing_of model.now)) (entries model.now.columns) j) }
+{
+    each_model_is_sound(model);
+    put_objective_coefficient(model, j, output);
+    put_elements(model, j, output);
+}
+
+/// Whether the part contains the column, by whether the column is integer.
+fn is_wanted(part: Part, is_integer: bool) -> bool
+    ensures { result ≡ is_wanted part is_integer }
+{
+    match part {
+        Part::Plain => !is_integer,
+        Part::Integers => is_integer,
+    }
+}
+
+/// Prints the lines of column `j`, if it is in the part.
+fn put_column_of_part<W: Sink>(model: &Model, j: usize, part: Part, output: &mut Output<W>)
+    requires { j < num_columns model.now }
+    ensures { Prints line_text W.Sink output.old output.new (lines_at (of_part part (column_lines (listing_of model.now))) (entries model.now.columns) j) }
+{
+    if is_wanted(part, model.is_integer(j)) {
+        put_column(model, j, output);
+    }
+}
+
+/// Prints the lines of all columns of the part.
+fn put_columns<W: Sink>(model: &Model, part: Part, output: &mut Output<W>)
+    ensures { Prints line_text W.Sink output.old output.new (flat_map (of_part part (column_lines (listing_of model.now))) (entries model.now.columns)) }
+{
+    put_each(model.num_cols(), output, |j, output| {
+        put_column_of_part(model, j, part, output)
+    });
+}
+
+/// Prints the lines of the integer columns between marker lines, or nothing if no column is integer.
+fn put_integer_part<W: Sink>(model: &Model, output: &mut Output<W>)
+    ensures { PrintsSection line_text W.Sink output.old output.new (integer_part (flat_map (of_part Part.Integers (column_lines (listing_of model.now))) (entries model.now.columns))) }
+{
+    output.open_section(b"    MARKER  'MARKER'  'INTORG'\n");
+    put_columns(model, Part::Integers, output);
+    if output.close_section() {
+        output.put(b"    MARKER  'MARKER'  'INTEND'\n");
+    }
+}
+
+/// Prints the section COLUMNS: the columns that are not integer, and then the integer ones between marker lines.
+pub(crate) fn put_columns_section<W: Sink>(model: &Model, output: &mut Output<W>)
+    ensures { PrintsSection line_text W.Sink output.old output.new (columns_section (listing_of model.now)) }
+{
+    output.put(b"COLUMNS\n");
+    put_columns(model, Part::Plain, output);
+    put_integer_part(model, output);
+}
