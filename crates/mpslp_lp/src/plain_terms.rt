@@ -1,7 +1,7 @@
 //! Plain terms of rows: one sign, an optional number and a name. Most terms are plain, so they are taken as a whole and not
 //! token by token.
 
-ghost use Rattle.std.specs.Prelude.{◌≡◌, ◌≤◌, List, Err, IfSome, MatchResult, length};
+ghost use Rattle.std.specs.Prelude.{◌≡◌, ◌≤◌, List, Ok, Err, IfSome, MatchResult, length};
 ghost use Rattle.mpslp_types.specs.Name.{IsMpsName};
 ghost use Rattle.mpslp_lp_grammar.specs.Declares.{TakesToken};
 ghost use Rattle.mpslp_lp.specs.PlainTerm.{Begins, IsUnsignedTerm, IsPlainTerm, TakesInRow};
@@ -85,61 +85,58 @@ fn plain_term<'a>(tokens: &mut Tokens<'a>) -> Option<PlainTerm<'a>>
 /// the term.
 fn take_plain_term(
     context: &Context,
-    row: PartialRow,
+    row: &mut PartialRow,
     term: PlainTerm<'_>,
     left: Tokens<'_>,
-) -> Result<PartialRow, LineError>
+) -> Result<(), LineError>
     requires { IsMpsName term.column.now }
-    ensures { (found : List Token) → IsPlainTerm found term.entry.sign term.entry.literal.now term.entry.column.now left.entry → TakesInRow context.now row found result left.entry }
+    ensures { (found : List Token) → IsPlainTerm found term.entry.sign term.entry.literal.now term.entry.column.now left.entry
+        → MatchResult result (λ _. TakesInRow context.now row.old found (Ok row.new) left.entry) (λ error. TakesInRow context.now row.old found (Err error) left.entry) }
 {
     let value = match value_of(term.literal) {
         Ok(value) => term.sign.of(value),
         Err(kind) => return Err(least_error(kind, left)),
     };
-    match row.with_term(context, term.column, value) {
-        Ok(longer) => Ok(longer),
+    match row.add_term(context, term.column, value) {
+        Ok(()) => Ok(()),
         Err(error) => Err(error_before(error, left)),
     }
 }
 
-/// Takes the plain terms of a row that come next.
+/// Takes the plain terms of a row that come next. Returns the tokens after them.
 fn take_plain_terms<'a>(
     context: &Context,
-    row: PartialRow,
+    row: &mut PartialRow,
     tokens: Tokens<'a>,
-) -> Result<(PartialRow, Tokens<'a>), LineError>
+) -> Result<Tokens<'a>, LineError>
     ensures { MatchResult result
-        (λ left. (take_tokens context.now (State.Between (Place.InRow left.0)) left.1 ≡ take_tokens context.now (State.Between (Place.InRow row)) tokens.entry) × (length left.1 ≤ length tokens.entry))
-        (λ error. TakesToken (take_tokens context.now (State.Between (Place.InRow row)) tokens.entry) (Err error) context.now) }
+        (λ left. (take_tokens context.now (State.Between (Place.InRow row.new)) left ≡ take_tokens context.now (State.Between (Place.InRow row.old)) tokens.entry) × (length left ≤ length tokens.entry))
+        (λ error. TakesToken (take_tokens context.now (State.Between (Place.InRow row.old)) tokens.entry) (Err error) context.now) }
 {
-    let mut row = row;
     let mut tokens = tokens;
     'terms: loop {
         let mut left = tokens.again();
         let Some(term) = plain_term(&mut left) else {
-            return Ok((row, tokens));
+            return Ok(tokens);
         };
-        row = take_plain_term(context, row, term, left.again())?;
+        take_plain_term(context, row, term, left.again())?;
         tokens = left;
     }
 }
 
-/// Takes the plain terms that come next, if the state is inside a row.
+/// Takes the plain terms that come next, if the state is inside a row. Returns the tokens after them.
 #[inline(always)]
 pub(crate) fn take_terms<'a>(
     context: &Context,
-    state: State,
+    state: &mut State,
     tokens: Tokens<'a>,
-) -> Result<(State, Tokens<'a>), LineError>
+) -> Result<Tokens<'a>, LineError>
     ensures { MatchResult result
-        (λ left. (take_tokens context.now left.0 left.1 ≡ take_tokens context.now state tokens.entry) × (length left.1 ≤ length tokens.entry))
-        (λ error. TakesToken (take_tokens context.now state tokens.entry) (Err error) context.now) }
+        (λ left. (take_tokens context.now state.new left ≡ take_tokens context.now state.old tokens.entry) × (length left ≤ length tokens.entry))
+        (λ error. TakesToken (take_tokens context.now state.old tokens.entry) (Err error) context.now) }
 {
     match state {
-        State::Between(Place::InRow(row)) => {
-            let (row, left) = take_plain_terms(context, row, tokens)?;
-            Ok((State::Between(Place::InRow(row)), left))
-        }
-        other => Ok((other, tokens)),
+        State::Between(Place::InRow(row)) => take_plain_terms(context, row, tokens),
+        _ => Ok(tokens),
     }
 }
