@@ -13,23 +13,24 @@ use Rattle.mpslp_lp.proofs.plain_terms.take_plain_term.Goals as goal
 
 pub returns-in-Err : goal.returns-in-Err
 returns-in-Err c = λ found p.
-    plain-number c.args.context.now c.args.row found c.args.left c.args.term.sign c.args.term.literal.now c.args.term.column.now p c.in-Err.kind c.least_error.result
+    plain-number c.args.context.now c.args.row.now found c.args.left c.args.term.sign c.args.term.literal.now c.args.term.column.now p c.in-Err.kind c.least_error.result
     (sym (tested-number c.args.term.literal.now) ∙ c.in-Err.ensures) c.least_error.ensures
 
-pub returns-in-Ok-with_term : goal.returns-in-Ok-with_term
-returns-in-Ok-with_term c = λ found p.
+pub returns-in-Ok-add_term : goal.returns-in-Ok-add_term
+returns-in-Ok-add_term c = λ found p.
     let term = c.args.term in
-    plain-goes c.args.context.now c.args.row found c.args.left term.sign term.literal.now term.column.now p c.in-Ok-with_term.longer
+    let longer = c.add_term.new.self in
+    plain-goes c.args.context.now c.args.row.now found c.args.left term.sign term.literal.now term.column.now p longer
     (sym (tested-number term.literal.now) ∙ c.in-Ok.ensures.0)
-    (subst (λ (value : Number). AddsTerm c.args.row term.column.now value (Ok c.in-Ok-with_term.longer)) (c.of-value.ensures ∙ ap (apply_sign term.sign) c.in-Ok.ensures.1)
-    c.in-Ok-with_term.ensures)
+    (subst (λ (value : Number). AddsTerm c.args.row.now term.column.now value (Ok longer)) (c.of-value.ensures ∙ ap (apply_sign term.sign) c.in-Ok.ensures.1)
+    c.in-Ok-add_term.ensures)
 
-pub returns-in-Err-with_term : goal.returns-in-Err-with_term
-returns-in-Err-with_term c = λ found p.
+pub returns-in-Err-add_term : goal.returns-in-Err-add_term
+returns-in-Err-add_term c = λ found p.
     let term = c.args.term in
-    let error = c.in-Err-with_term.error in
-    subst (λ (told : LineError). TakesToken (take_tokens c.args.context.now (Between (InRow c.args.row)) found) (Err told) c.args.context.now) (sym c.error_before.ensures)
-    (plain-refused c.args.context.now c.args.row found c.args.left term.sign term.literal.now term.column.now p error
+    let error = c.in-Err-add_term.error in
+    subst (λ (told : LineError). TakesToken (take_tokens c.args.context.now (Between (InRow c.args.row.now)) found) (Err told) c.args.context.now) (sym c.error_before.ensures)
+    (plain-refused c.args.context.now c.args.row.now found c.args.left term.sign term.literal.now term.column.now p error
     (sym (tested-number term.literal.now) ∙ c.in-Ok.ensures.0)
-    (subst (λ (value : Number). AddsTerm c.args.row term.column.now value (Err error)) (c.of-value.ensures ∙ ap (apply_sign term.sign) c.in-Ok.ensures.1)
-    c.in-Err-with_term.ensures))
+    (subst (λ (value : Number). AddsTerm c.args.row.now term.column.now value (Err error)) (c.of-value.ensures ∙ ap (apply_sign term.sign) c.in-Ok.ensures.1)
+    c.in-Err-add_term.ensures))
