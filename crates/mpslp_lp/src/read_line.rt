@@ -101,16 +101,20 @@ fn take_others(
 ) -> Result<State, LineError>
     ensures { TakesToken (take_tokens context.old state (token_of first.entry ∷ left.entry)) result context.new }
 {
-    let mut state = take_token(context, state, first, left.again())?;
-    let mut tokens = take_terms(context, &mut state, left)?;
-    while let Some(raw_token) = tokens.next() {
+    let mut state = state;
+    let mut raw_token = first;
+    let mut tokens = left;
+    'tokens: loop {
         state = take_token(context, state, raw_token, tokens.again())?;
         tokens = take_terms(context, &mut state, tokens)?;
+        match tokens.next() {
+            Some(next) => raw_token = next,
+            None => return Ok(state),
+        }
     }
-    Ok(state)
 }
 
-/// Takes the tokens of a line. Most lines of a row have only plain terms, for which the state is not moved.
+/// Takes the tokens of a line. Most lines of a row or the objective have only plain terms, for which the state is not moved.
 fn take_tokens(context: &mut Context, state: &mut State, line: &[u8]) -> Result<(), LineError>
     ensures { MatchResult result
         (λ _. take_tokens context.old state.old (tokens line.now) ≡ Goes context.new state.new)
