@@ -21,14 +21,15 @@ use Rattle.mpslp_lp_grammar.specs.LexicalFault.{token_fault}
 use Rattle.mpslp_lp_grammar.specs.Sides.{apply_sign}
 use Rattle.mpslp_lp.specs.LineByLine.{take_tokens, token_faults}
 use Rattle.mpslp_lp_grammar.specs.Declares.{TakesToken, AddsTerm, IsLeastError, error_before}
-use Rattle.mpslp_lp.specs.PlainTerm.{Begins, BeginsWithNumber, IsPlainTerm}
-use Rattle.mpslp_lp_grammar.specs.AfterToken.{AfterToken, Goes, Refuses, refuse, with_made}
+use Rattle.mpslp_lp.specs.PlainTerm.{Begins, BeginsWithNumber, IsPlainTerm, LeadsTo}
+use Rattle.mpslp_lp_grammar.specs.AfterToken.{AfterToken, Goes, Refuses, refuse, with_made, take_term}
 use Rattle.mpslp_lp_grammar.specs.TokenStep.{take}
 use Rattle.mpslp_lp_grammar.specs.declared.context.Context.{Context}
-use Rattle.mpslp_lp_grammar.specs.declared.states.Place.TheVariants.{InRow}
-use Rattle.mpslp_lp_grammar.specs.declared.states.ItemOwner.TheVariants.{OfRow}
+use Rattle.mpslp_lp_grammar.specs.declared.states.Place.TheVariants.{InRow, InObjective}
+use Rattle.mpslp_lp_grammar.specs.declared.states.ItemOwner.TheVariants.{OfRow, OfObjective}
 use Rattle.mpslp_lp_grammar.specs.declared.states.State.{State}
-use Rattle.mpslp_lp_grammar.specs.declared.states.State.TheVariants.{Between, Signs, ItemNumber}
+use Rattle.mpslp_lp_grammar.specs.declared.states.State.TheVariants.{Between, Signs, ItemNumber, RowLabel, RowSign, RowNumber}
+use Rattle.mpslp_lp_grammar.specs.Rows.{without_terms}
 use Rattle.mpslp_lp.proofs.LineTokens.{tokens-next, tokens-own, tokens-refused}
 use Rattle.mpslp_lp_grammar.proofs.TokenAnswers.{one-parsed}
 
@@ -54,71 +55,111 @@ one-sound : None ≡ number_fault (codes "1")
 unfolding trailing_zeros
 one-sound = refl
 
--- the state before the name of a term, which takes the name as the state after the number does
-record BeforeName (context : Context) (row : PartialRow) (found behind : List Token) (sign : SignOf) (literal column : List ℕ) : Type 0 where
+-- the state before the name of a term
+record BeforeName (context : Context) (start : State) (found behind : List Token) (column : List ℕ) (result : AfterToken) : Type 0 where
   state : State
-  comes : take_tokens context (Between (InRow row)) found ≡ take_tokens context state behind
-  takes : take context state (Name column) ≡ take context (ItemNumber (OfRow row) sign (value_of literal)) (Name column)
+  comes : take_tokens context start found ≡ take_tokens context state behind
+  takes : take context state (Name column) ≡ result
 
-module _ (context : Context) (row : PartialRow) (found more : List Token) (sign : SignOf) (literal column : List ℕ) (p : IsPlainTerm found sign literal column more) where
-  abbrev signs : State
-  signs = Signs (OfRow row) sign
-
+module _ (context : Context) (start : State) (taken : Decimal → AfterToken) (found more : List Token) (sign : SignOf) (literal column : List ℕ) (p : IsPlainTerm found sign literal column more) (way : LeadsTo context start sign column taken) where
   -- up to the number, and up to the name
-  behind-sign : take_tokens context (Between (InRow row)) found ≡ take_tokens context signs p.behind_sign
-  behind-sign = step context context (Between (InRow row)) signs found p.behind_sign (Sign sign) p.sign refl
+  behind-sign : take_tokens context start found ≡ take_tokens context way.signs p.behind_sign
+  behind-sign = step context context start way.signs found p.behind_sign (Sign sign) p.sign way.to_signs
 
-  context-name : number_fault literal ≡ None → BeforeName context row found p.term.behind_number sign literal column
+  context-name : number_fault literal ≡ None → BeforeName context start found p.term.behind_number column (taken (apply_sign sign (value_of literal)))
   context-name none = elim p.term.number [
     | inl number ↦ record {
-      state = ItemNumber (OfRow row) sign (value_of literal);
+      state = way.numbered (value_of literal);
       comes = behind-sign
-          ∙ step context context signs (ItemNumber (OfRow row) sign (value_of literal)) p.behind_sign p.term.behind_number (Number (value_of literal))
-          (as-begins p.behind_sign p.term.behind_number literal number none) refl;
-      takes = refl;
+          ∙ step context context way.signs (way.numbered (value_of literal)) p.behind_sign p.term.behind_number (Number (value_of literal))
+          (as-begins p.behind_sign p.term.behind_number literal number none) (way.to_number (value_of literal));
+      takes = way.to_name (value_of literal);
     }
     | inr alone ↦ record {
-      state = signs;
-      comes = behind-sign ∙ ap (take_tokens context signs) (sym alone.1);
-      takes = ap (λ (value : Decimal). take context (ItemNumber (OfRow row) sign value) (Name column)) (one-value ∙ ap value_of (sym alone.0));
+      state = way.signs;
+      comes = behind-sign ∙ ap (take_tokens context way.signs) (sym alone.1);
+      takes = way.alone ∙ ap (λ (v : Decimal). taken (apply_sign sign v)) (one-value ∙ ap value_of (sym alone.0));
     }
   ]
 
-  -- a column that is new in the row
-  pub plain-goes : (longer : PartialRow) → number_fault literal ≡ None → AddsTerm row column (apply_sign sign (value_of literal)) (Ok longer)
-      → take_tokens context (Between (InRow longer)) more ≡ take_tokens context (Between (InRow row)) found
-  plain-goes longer none adds =
-      let value = apply_sign sign (value_of literal) in
-      let next : State = Between (InRow (record row { terms = row.terms ++ (column, value) ∷ [] })) in
+  -- a term that is accepted
+  pub plain-goes : (after : Context) (next : State) → number_fault literal ≡ None → taken (apply_sign sign (value_of literal)) ≡ Goes after next
+      → take_tokens after next more ≡ take_tokens context start found
+  plain-goes after next none goes =
       let named = context-name none in
-      ap (λ (r : PartialRow). take_tokens context (Between (InRow r)) more) adds.1
-      ∙ sym (named.comes
-      ∙ step context context named.state next p.term.behind_number more (Name column) p.term.name
-      (named.takes ∙ ap (λ (b : Bool). if b then refuse context (Name column) DuplicateEntry else Goes (with_made context []) next) adds.0))
+      sym (named.comes ∙ step context after named.state next p.term.behind_number more (Name column) p.term.name (named.takes ∙ goes))
 
-  -- a column that already has a term in the row
-  pub plain-refused : (error : LineError) → number_fault literal ≡ None → AddsTerm row column (apply_sign sign (value_of literal)) (Err error)
-      → TakesToken (take_tokens context (Between (InRow row)) found) (Err (error_before (token_faults more) error)) context
-  plain-refused OutOfMemory none adds = tt
-  plain-refused (Fault kind) none adds =
-      let next : State = Between (InRow (record row { terms = row.terms ++ (column, apply_sign sign (value_of literal)) ∷ [] })) in
+  -- a term with an error
+  pub plain-refused : (after : Context) (error : LineError) → number_fault literal ≡ None → TakesToken (taken (apply_sign sign (value_of literal))) (Err error) after
+      → TakesToken (take_tokens context start found) (Err (error_before (token_faults more) error)) after
+  plain-refused after error none refused =
       let named = context-name none in
       let name = p.term.name in
-      let told : take context named.state (as_terminal name.token) ≡ Refuses kind =
-      ap (take context named.state) name.is ∙ named.takes ∙ ap (λ (b : Bool). if b then refuse context (Name column) DuplicateEntry else Goes (with_made context []) next) adds.0
-      ∙ ap (λ (k : FaultKind). Refuses k) (sym adds.1) in
-      subst (λ (taken : AfterToken). TakesToken taken (Err (error_before (token_faults more) (Fault kind))) context) (sym (named.comes ∙ ap (take_tokens context named.state) name.tokens))
-      (tokens-refused context context named.state name.token more (Fault kind) name.sound told)
+      subst (λ (t : AfterToken). TakesToken t (Err (error_before (token_faults more) error)) after) (sym (named.comes ∙ ap (take_tokens context named.state) name.tokens))
+      (tokens-refused context after named.state name.token more error name.sound
+      (subst (λ (t : AfterToken). TakesToken t (Err error) after) (sym (ap (take context named.state) name.is ∙ named.takes)) refused))
 
   -- a number with an error
-  pub plain-number : (kind : FaultKind) (error : LineError) → number_fault literal ≡ Some kind → IsLeastError (kind ∷ token_faults more) error
-      → TakesToken (take_tokens context (Between (InRow row)) found) (Err error) context
-  plain-number kind error some least = elim p.term.number [
+  pub plain-number : (after : Context) (kind : FaultKind) (error : LineError) → number_fault literal ≡ Some kind → IsLeastError (kind ∷ token_faults more) error
+      → TakesToken (take_tokens context start found) (Err error) after
+  plain-number after kind error some least = elim p.term.number [
     | inl number ↦
         let same : token_faults p.term.behind_number ≡ token_faults more =
         ap token_faults p.term.name.tokens ∙ ap (λ (o : Option FaultKind). cons_option o (token_faults more)) p.term.name.sound in
-        subst (λ (taken : AfterToken). TakesToken taken (Err error) context) (sym (behind-sign ∙ ap (take_tokens context signs) number.tokens))
-        (tokens-own context context signs number.token p.term.behind_number kind error ((λ i. token_fault (number.kind i) (number.text i)) ∙ some)
+        subst (λ (t : AfterToken). TakesToken t (Err error) after) (sym (behind-sign ∙ ap (take_tokens context way.signs) number.tokens))
+        (tokens-own context after way.signs number.token p.term.behind_number kind error ((λ i. token_fault (number.kind i) (number.text i)) ∙ some)
         (subst (λ (faults : List FaultKind). IsLeastError (kind ∷ faults) error) (sym same) least))
     | inr alone ↦ absurd (none-some kind (one-sound ∙ ap number_fault (sym alone.0) ∙ some))
   ]
+
+-- ---- from where terms are taken
+
+pub in-row : (context : Context) (row : PartialRow) (sign : SignOf) (column : List ℕ)
+    → LeadsTo context (Between (InRow row)) sign column (λ value. take_term context (OfRow row) column value (Name column))
+in-row context row sign column = record {
+  signs = Signs (OfRow row) sign;
+  numbered = λ value. ItemNumber (OfRow row) sign value;
+  to_signs = refl;
+  to_number = λ value. refl;
+  to_name = λ value. refl;
+  alone = refl;
+}
+
+pub behind-label : (context : Context) (name : List ℕ) (sign : SignOf) (column : List ℕ)
+    → LeadsTo context (RowLabel name) sign column (λ value. take_term context (OfRow (without_terms name None)) column value (Name column))
+behind-label context name sign column = record {
+  signs = RowSign name sign;
+  numbered = λ value. RowNumber name sign value;
+  to_signs = refl;
+  to_number = λ value. refl;
+  to_name = λ value. refl;
+  alone = refl;
+}
+
+pub in-objective : (context : Context) (objective : List ℕ) (sign : SignOf) (column : List ℕ)
+    → LeadsTo context (Between (InObjective objective)) sign column (λ value. take_term context (OfObjective objective) column value (Name column))
+in-objective context objective sign column = record {
+  signs = Signs (OfObjective objective) sign;
+  numbered = λ value. ItemNumber (OfObjective objective) sign value;
+  to_signs = refl;
+  to_number = λ value. refl;
+  to_name = λ value. refl;
+  alone = refl;
+}
+
+-- ---- a term of a row
+
+-- a column that is new in the row, and one that has a term in the row
+pub row-taken : (context : Context) (row longer : PartialRow) (column : List ℕ) (value : Decimal) → AddsTerm row column value (Ok longer)
+    → take_term context (OfRow row) column value (Name column) ≡ Goes context (Between (InRow longer))
+row-taken context row longer column value adds =
+    let next : State = Between (InRow (record row { terms = row.terms ++ (column, value) ∷ [] })) in
+    ap (λ (b : Bool). if b then refuse context (Name column) DuplicateEntry else Goes (with_made context []) next) adds.0
+    ∙ ap (λ (r : PartialRow). Goes context (Between (InRow r))) (sym adds.1)
+
+pub row-refused : (context : Context) (row : PartialRow) (column : List ℕ) (value : Decimal) (error : LineError) → AddsTerm row column value (Err error)
+    → TakesToken (take_term context (OfRow row) column value (Name column)) (Err error) context
+row-refused context row column value OutOfMemory adds = tt
+row-refused context row column value (Fault kind) adds =
+    let next : State = Between (InRow (record row { terms = row.terms ++ (column, value) ∷ [] })) in
+    ap (λ (b : Bool). if b then refuse context (Name column) DuplicateEntry else Goes (with_made context []) next) adds.0 ∙ ap (λ (k : FaultKind). Refuses k) (sym adds.1)

@@ -10,9 +10,15 @@ use Rattle.mpslp_lp_grammar.specs.Terminal.Terminal.{Sign, Name}
 use Rattle.mpslp_lp_grammar.specs.LexicalFault.{token_fault}
 use Rattle.mpslp_lp.specs.LineByLine.{take_tokens}
 use Rattle.mpslp_lp_grammar.specs.Declares.{TakesToken}
+use Rattle.mpslp_decimal.specs.Decimal.{Number as Decimal}
+use Rattle.mpslp_lp_grammar.specs.Items.{one}
+use Rattle.mpslp_lp_grammar.specs.Sides.{apply_sign}
+use Rattle.mpslp_lp_grammar.specs.AfterToken.{AfterToken, Goes}
+use Rattle.mpslp_lp_grammar.specs.TokenStep.{take}
 use Rattle.mpslp_lp_grammar.specs.declared.context.Context.{Context}
 use Rattle.mpslp_lp_grammar.specs.declared.states.Place.TheVariants.{InRow}
 use Rattle.mpslp_lp_grammar.specs.declared.states.State.TheVariants.{Between}
+use Rattle.mpslp_lp_grammar.specs.declared.states.State.{State}
 use Rattle.mpslp_lp_tokens.specs.declared.tokens.TokenKind.TheVariants as kinds
 
 -- The first token is this terminal, without an error of its own, and the others follow it.
@@ -41,6 +47,15 @@ pub record IsPlainTerm (found : List Token) (first : SignOf) (literal column : L
   pub behind_sign : List Token
   pub sign : Begins found (Sign first) behind_sign
   pub term : IsUnsignedTerm behind_sign literal column more
+
+-- From this state a sign, a number or none, and a name of a term lead to what is taken for the value of the term.
+pub record LeadsTo (context : Context) (start : State) (first : SignOf) (column : List ℕ) (taken : Decimal → AfterToken) : Type 0 where
+  pub signs : State
+  pub numbered : Decimal → State
+  pub to_signs : take context start (Terminal.Sign first) ≡ Goes context signs
+  pub to_number : (value : Decimal) → take context signs (Terminal.Number value) ≡ Goes context (numbered value)
+  pub to_name : (value : Decimal) → take context (numbered value) (Terminal.Name column) ≡ taken (apply_sign first value)
+  pub alone : take context signs (Terminal.Name column) ≡ taken (apply_sign first one)
 
 -- Taking some tokens of a row at once has the same effect as taking them one after another.
 abbrev pub TakesInRow : Context → PartialRow → List Token → Result PartialRow LineError → List Token → Type 0

@@ -5,7 +5,6 @@ use mpslp_lines::{LineError, ReadLines, read_fault};
 use mpslp_lp_grammar::{Context, Place, State};
 use mpslp_model::{Fault, FaultKind, Model, ReadFault};
 use std::alloc::Global;
-use std::mem::replace;
 
 /// Reads the lines of LP text one after another.
 #[derive(Drop)]
@@ -49,9 +48,8 @@ impl ReadLines for LineReader {
     }
 
     fn read_line(&mut self, line: &[u8]) -> Result<(), ReadFault> {
-        let state = replace(&mut self.state, State::AfterEnd);
-        match read_line(&mut self.context, state, line) {
-            Ok(next) => self.state = next,
+        match read_line(&mut self.context, &mut self.state, line) {
+            Ok(()) => {}
             Err(error) => return Err(read_fault(self.number, error)),
         }
         self.number = self.number.saturating_add(1);

@@ -1,20 +1,26 @@
-//! Plain terms of rows: one sign, an optional number and a name. Most terms are plain, so they are taken as a whole and not
-//! token by token.
+//! Plain terms of rows and of the objective: one sign, an optional number and a name. Most terms are plain, so they are taken
+//! as a whole and not token by token.
 
-ghost use Rattle.std.specs.Prelude.{◌≡◌, ◌≤◌, List, Err, IfSome, MatchResult, length};
+ghost use Rattle.std.specs.Prelude.{◌≡◌, ◌≤◌, ℕ, List, Ok, Err, None, IfSome, MatchResult, length};
 ghost use Rattle.mpslp_types.specs.Name.{IsMpsName};
 ghost use Rattle.mpslp_lp_grammar.specs.Declares.{TakesToken};
 ghost use Rattle.mpslp_lp.specs.PlainTerm.{Begins, IsUnsignedTerm, IsPlainTerm, TakesInRow};
 ghost use Rattle.mpslp_lp.specs.LineByLine.{take_tokens};
 ghost use Rattle.mpslp_lp_grammar.specs.Terminal.{Terminal};
+ghost use Rattle.mpslp_lp_grammar.specs.Rows.{without_terms};
 ghost use Rattle.mpslp_lp_tokens.specs.Token.{Token};
 ghost use Rattle.mpslp_lp_grammar.specs.declared.states.Place.{Place};
 ghost use Rattle.mpslp_lp_grammar.specs.declared.states.State.{State};
 
 use crate::read_line::{error_before, least_error};
 use mpslp_lines::{LineError, value_of};
-use mpslp_lp_grammar::{Context, PartialRow, Place, Sign, State, TerminalKind, classify};
+use mpslp_lp_grammar::{
+    Context, PartialRow, Place, Sign, State, TerminalKind, classify, declare_objective_term,
+    row_without_terms,
+};
 use mpslp_lp_tokens::{TokenKind, Tokens};
+use mpslp_model::Name;
+use std::mem::replace;
 
 /// A sign, the text of a number (`1` if the term has none), and the name of a column.
 #[derive(Clone, Copy)]
@@ -82,64 +88,141 @@ fn plain_term<'a>(tokens: &mut Tokens<'a>) -> Option<PlainTerm<'a>>
 }
 
 /// Takes a term of a row. `left` are the tokens after it on its line: their lexical errors are reported before the error of
-/// the term.
+/// the term. The term may also be the first one after the label of the row.
 fn take_plain_term(
     context: &Context,
-    row: PartialRow,
+    row: &mut PartialRow,
     term: PlainTerm<'_>,
     left: Tokens<'_>,
-) -> Result<PartialRow, LineError>
+) -> Result<(), LineError>
     requires { IsMpsName term.column.now }
-    ensures { (found : List Token) → IsPlainTerm found term.entry.sign term.entry.literal.now term.entry.column.now left.entry → TakesInRow context.now row found result left.entry }
+    ensures later { (found : List Token) → IsPlainTerm found term.entry.sign term.entry.literal.now term.entry.column.now left.entry
+        → MatchResult result (λ _. TakesInRow context.now row.old found (Ok row.new) left.entry) (λ error. TakesInRow context.now row.old found (Err error) left.entry) }
+    ensures first { (found : List Token) (name : List ℕ) → IsPlainTerm found term.entry.sign term.entry.literal.now term.entry.column.now left.entry → row.old ≡ without_terms name None
+        → MatchResult result
+        (λ _. take_tokens context.now (State.Between (Place.InRow row.new)) left.entry ≡ take_tokens context.now (State.RowLabel name) found)
+        (λ error. TakesToken (take_tokens context.now (State.RowLabel name) found) (Err error) context.now) }
 {
     let value = match value_of(term.literal) {
         Ok(value) => term.sign.of(value),
         Err(kind) => return Err(least_error(kind, left)),
     };
-    match row.with_term(context, term.column, value) {
-        Ok(longer) => Ok(longer),
+    match row.add_term(context, term.column, value) {
+        Ok(()) => Ok(()),
         Err(error) => Err(error_before(error, left)),
     }
 }
 
-/// Takes the plain terms of a row that come next.
+/// Takes the plain terms of a row that come next. Returns the tokens after them.
 fn take_plain_terms<'a>(
     context: &Context,
-    row: PartialRow,
+    row: &mut PartialRow,
     tokens: Tokens<'a>,
-) -> Result<(PartialRow, Tokens<'a>), LineError>
+) -> Result<Tokens<'a>, LineError>
     ensures { MatchResult result
-        (λ left. (take_tokens context.now (State.Between (Place.InRow left.0)) left.1 ≡ take_tokens context.now (State.Between (Place.InRow row)) tokens.entry) × (length left.1 ≤ length tokens.entry))
-        (λ error. TakesToken (take_tokens context.now (State.Between (Place.InRow row)) tokens.entry) (Err error) context.now) }
+        (λ left. (take_tokens context.now (State.Between (Place.InRow row.new)) left ≡ take_tokens context.now (State.Between (Place.InRow row.old)) tokens.entry) × (length left ≤ length tokens.entry))
+        (λ error. TakesToken (take_tokens context.now (State.Between (Place.InRow row.old)) tokens.entry) (Err error) context.now) }
 {
-    let mut row = row;
     let mut tokens = tokens;
     'terms: loop {
         let mut left = tokens.again();
         let Some(term) = plain_term(&mut left) else {
-            return Ok((row, tokens));
+            return Ok(tokens);
         };
-        row = take_plain_term(context, row, term, left.again())?;
+        take_plain_term(context, row, term, left.again())?;
         tokens = left;
     }
 }
 
-/// Takes the plain terms that come next, if the state is inside a row.
-#[inline(always)]
-pub(crate) fn take_terms<'a>(
-    context: &Context,
-    state: State,
+/// Takes the plain terms of a row that come next, of which the first is that after its label. Returns the tokens after them.
+fn take_first_terms<'a>(
+    context: &mut Context,
+    name: Name,
+    state: &mut State,
     tokens: Tokens<'a>,
-) -> Result<(State, Tokens<'a>), LineError>
+) -> Result<Tokens<'a>, LineError>
     ensures { MatchResult result
-        (λ left. (take_tokens context.now left.0 left.1 ≡ take_tokens context.now state tokens.entry) × (length left.1 ≤ length tokens.entry))
-        (λ error. TakesToken (take_tokens context.now state tokens.entry) (Err error) context.now) }
+        (λ left. (take_tokens context.new state.new left ≡ take_tokens context.old (State.RowLabel name) tokens.entry) × (length left ≤ length tokens.entry))
+        (λ error. TakesToken (take_tokens context.old (State.RowLabel name) tokens.entry) (Err error) context.new) }
+{
+    let mut left = tokens.again();
+    let Some(term) = plain_term(&mut left) else {
+        *state = State::RowLabel(name);
+        return Ok(tokens);
+    };
+    let mut row = row_without_terms(context, name)?;
+    take_plain_term(context, &mut row, term, left.again())?;
+    let rest = take_plain_terms(context, &mut row, left)?;
+    *state = State::Between(Place::InRow(row));
+    Ok(rest)
+}
+
+/// Takes a term of the objective. `left` are the tokens after it on its line: their lexical errors are reported before the
+/// error of the term.
+fn take_objective_term(
+    context: &mut Context,
+    objective: &Name,
+    term: PlainTerm<'_>,
+    left: Tokens<'_>,
+) -> Result<(), LineError>
+    requires { IsMpsName term.column.now }
+    ensures { (found : List Token) → IsPlainTerm found term.entry.sign term.entry.literal.now term.entry.column.now left.entry
+        → MatchResult result
+        (λ _. take_tokens context.new (State.Between (Place.InObjective objective.now)) left.entry ≡ take_tokens context.old (State.Between (Place.InObjective objective.now)) found)
+        (λ error. TakesToken (take_tokens context.old (State.Between (Place.InObjective objective.now)) found) (Err error) context.new) }
+{
+    let value = match value_of(term.literal) {
+        Ok(size) => term.sign.of(size),
+        Err(fault) => return Err(least_error(fault, left)),
+    };
+    match declare_objective_term(context, objective, term.column, value) {
+        Ok(()) => Ok(()),
+        Err(error) => Err(error_before(error, left)),
+    }
+}
+
+/// Takes the plain terms of the objective that come next. Returns the tokens after them.
+fn take_objective_terms<'a>(
+    context: &mut Context,
+    objective: &Name,
+    tokens: Tokens<'a>,
+) -> Result<Tokens<'a>, LineError>
+    ensures { MatchResult result
+        (λ left. (take_tokens context.new (State.Between (Place.InObjective objective.now)) left ≡ take_tokens context.old (State.Between (Place.InObjective objective.now)) tokens.entry) × (length left ≤ length tokens.entry))
+        (λ error. TakesToken (take_tokens context.old (State.Between (Place.InObjective objective.now)) tokens.entry) (Err error) context.new) }
+{
+    let mut tokens = tokens;
+    'terms: loop {
+        let mut left = tokens.again();
+        let Some(term) = plain_term(&mut left) else {
+            return Ok(tokens);
+        };
+        take_objective_term(context, objective, term, left.again())?;
+        tokens = left;
+    }
+}
+
+/// Takes the plain terms that come next, if the state is after a label or a term of a row, or after a term of the objective.
+/// Returns the tokens after them.
+pub(crate) fn take_terms<'a>(
+    context: &mut Context,
+    state: &mut State,
+    tokens: Tokens<'a>,
+) -> Result<Tokens<'a>, LineError>
+    ensures { MatchResult result
+        (λ left. (take_tokens context.new state.new left ≡ take_tokens context.old state.old tokens.entry) × (length left ≤ length tokens.entry))
+        (λ error. TakesToken (take_tokens context.old state.old tokens.entry) (Err error) context.new) }
 {
     match state {
-        State::Between(Place::InRow(row)) => {
-            let (row, left) = take_plain_terms(context, row, tokens)?;
-            Ok((State::Between(Place::InRow(row)), left))
-        }
-        other => Ok((other, tokens)),
+        State::Between(Place::InRow(row)) => take_plain_terms(context, row, tokens),
+        State::Between(Place::InObjective(name)) => take_objective_terms(context, name, tokens),
+        State::RowLabel(_) => match replace(state, State::AfterEnd) {
+            State::RowLabel(name) => take_first_terms(context, name, state, tokens),
+            other => {
+                *state = other;
+                Ok(tokens)
+            }
+        },
+        _ => Ok(tokens),
     }
 }

@@ -1,10 +1,12 @@
 //! Reads a line.
 
-ghost use Rattle.std.specs.Prelude.{◌≡◌, ◌≤◌, ◌∷◌, length, not, if◌then◌else◌};
+ghost use Rattle.std.specs.Prelude.{◌≡◌, ◌≤◌, ◌∷◌, length, not, if◌then◌else◌, Err, MatchResult};
 ghost use Rattle.std.specs.List.{prefix_len};
 ghost use Rattle.mpslp_types.specs.FaultOrder.{least_kind};
 ghost use Rattle.mpslp_lp_tokens.specs.Line.{begins_comment, outside_comment};
 ghost use Rattle.mpslp_lp_tokens.specs.Token.{tokens};
+ghost use Rattle.mpslp_lp_tokens.specs.Scan.{token_of};
+ghost use Rattle.mpslp_lp_grammar.specs.AfterToken.{Goes};
 ghost use Rattle.mpslp_lp_grammar.specs.Declares.{error_before, lesser_of, IsLeastError, TakesToken};
 ghost use Rattle.mpslp_lp.specs.LineByLine.{token_faults, take_tokens, take_line};
 ghost use Rattle.mpslp_lp.specs.Laws.{has_legal_bytes};
@@ -13,8 +15,9 @@ use crate::plain_terms::take_terms;
 use bstr::ByteSlice;
 use mpslp_lines::{LineError, are_legal_bytes, has_legal_length, lesser_kind};
 use mpslp_lp_grammar::{Context, State, TerminalToken, classify, take};
-use mpslp_lp_tokens::{Tokens, tokens_of};
+use mpslp_lp_tokens::{Token, Tokens, tokens_of};
 use mpslp_model::FaultKind;
+use std::mem::replace;
 
 /// The lesser of the kinds of two errors, of which the first is optional.
 fn lesser_of(first: Option<FaultKind>, second: FaultKind) -> FaultKind
@@ -62,30 +65,67 @@ pub(crate) fn least_error(kind: FaultKind, tokens: Tokens<'_>) -> LineError
     }
 }
 
-/// Takes the tokens of a line. Each token is classified once, except where a plain term could
-/// begin but does not. After a token with an error, only the lexical errors of the others matter.
-fn take_tokens(context: &mut Context, state: State, line: &[u8]) -> Result<State, LineError>
-    ensures { TakesToken (take_tokens context.old state (tokens line.now)) result context.new }
+/// Takes a token. `left` are the tokens after it on its line: after a token with an error, only their lexical errors matter.
+#[inline(always)]
+fn take_token(
+    context: &mut Context,
+    state: State,
+    raw_token: Token<'_>,
+    left: Tokens<'_>,
+) -> Result<State, LineError>
+    ensures { MatchResult result
+        (λ next. take_tokens context.new next left.entry ≡ take_tokens context.old state (token_of raw_token.entry ∷ left.entry))
+        (λ error. TakesToken (take_tokens context.old state (token_of raw_token.entry ∷ left.entry)) (Err error) context.new) }
 {
-    let (mut state, mut tokens) = take_terms(context, state, tokens_of(line))?;
-    while let Some(raw_token) = tokens.next() {
-        let kind = match classify(raw_token.kind, raw_token.text) {
-            Ok(kind) => kind,
-            Err(kind) => return Err(least_error(kind, tokens)),
-        };
-        let token = TerminalToken {
-            kind,
-            text: raw_token.text,
-        };
-        let next = match take(context, state, &token) {
-            Ok(next) => next,
-            Err(error) => return Err(error_before(error, tokens)),
-        };
-        let (later, left) = take_terms(context, next, tokens)?;
-        state = later;
-        tokens = left;
+    let kind = match classify(raw_token.kind, raw_token.text) {
+        Ok(kind) => kind,
+        Err(kind) => return Err(least_error(kind, left)),
+    };
+    let token = TerminalToken {
+        kind,
+        text: raw_token.text,
+    };
+    match take(context, state, &token) {
+        Ok(next) => Ok(next),
+        Err(error) => Err(error_before(error, left)),
     }
-    Ok(state)
+}
+
+/// Takes a token and the tokens after it on its line. Each is classified once, except where a plain term could begin but does
+/// not.
+fn take_others(
+    context: &mut Context,
+    state: State,
+    first: Token<'_>,
+    left: Tokens<'_>,
+) -> Result<State, LineError>
+    ensures { TakesToken (take_tokens context.old state (token_of first.entry ∷ left.entry)) result context.new }
+{
+    let mut state = state;
+    let mut raw_token = first;
+    let mut tokens = left;
+    'tokens: loop {
+        state = take_token(context, state, raw_token, tokens.again())?;
+        tokens = take_terms(context, &mut state, tokens)?;
+        match tokens.next() {
+            Some(next) => raw_token = next,
+            None => return Ok(state),
+        }
+    }
+}
+
+/// Takes the tokens of a line. Most lines of a row or the objective have only plain terms, for which the state is not moved.
+fn take_tokens(context: &mut Context, state: &mut State, line: &[u8]) -> Result<(), LineError>
+    ensures { MatchResult result
+        (λ _. take_tokens context.old state.old (tokens line.now) ≡ Goes context.new state.new)
+        (λ error. TakesToken (take_tokens context.old state.old (tokens line.now)) (Err error) context.new) }
+{
+    let mut left = take_terms(context, state, tokens_of(line))?;
+    let Some(first) = left.next() else {
+        return Ok(());
+    };
+    *state = take_others(context, replace(state, State::AfterEnd), first, left)?;
+    Ok(())
 }
 
 /// The number of bytes of the line before its comment.
@@ -117,22 +157,24 @@ fn error_of_line(line: &[u8], error: LineError) -> LineError
     }
 }
 
-/// Reads a line. Returns the state after it, or its error.
+/// Reads a line, and leaves the state after it, or returns its error.
 ///
 /// A line with an illegal byte has a token that no rule accepts. So the bytes are tested only after an error of the tokens, and
 /// most lines are gone over only once.
 pub(crate) fn read_line(
     context: &mut Context,
-    state: State,
+    state: &mut State,
     line: &[u8],
-) -> Result<State, LineError>
-    ensures { TakesToken (take_line context.old state line.now) result context.new }
+) -> Result<(), LineError>
+    ensures { MatchResult result
+        (λ _. take_line context.old state.old line.now ≡ Goes context.new state.new)
+        (λ error. TakesToken (take_line context.old state.old line.now) (Err error) context.new) }
 {
     if !has_legal_length(line) {
         return Err(LineError::Fault(FaultKind::LineTooLong));
     }
     match take_tokens(context, state, line) {
-        Ok(next) => Ok(next),
+        Ok(()) => Ok(()),
         Err(LineError::OutOfMemory) => Err(LineError::OutOfMemory),
         Err(error) => Err(error_of_line(line, error)),
     }

@@ -48,6 +48,12 @@ DeclaresSides earlier front column lower upper answer later =
 
 -- ---- terms of a row
 
+-- The terms get one more, of this column. It is an error if there is one already, and an allocation may fail.
+abbrev pub AddsTo : List (List ℕ × Number) → List ℕ → Number → Result (List (List ℕ × Number)) LineError → Type 0
+AddsTo terms column value (Ok more) = (list_any (λ term. same_bytes column term.0) terms ≡ false) × (more ≡ terms ++ (column, value) ∷ [])
+AddsTo terms column value (Err (Fault kind)) = (list_any (λ term. same_bytes column term.0) terms ≡ true) × (kind ≡ DuplicateEntry)
+AddsTo terms column value (Err OutOfMemory) = Unit {0}
+
 -- The row gets a term of this column. It is an error if the row has one already, and an allocation may fail.
 abbrev pub AddsTerm : PartialRow → List ℕ → Number → Result PartialRow LineError → Type 0
 AddsTerm row column value (Ok more) =

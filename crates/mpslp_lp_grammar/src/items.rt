@@ -4,8 +4,9 @@ ghost use Rattle.std.specs.Prelude.{◌≡◌};
 ghost use Rattle.mpslp_types.specs.Name.{IsMpsName};
 ghost use Rattle.mpslp_lp_grammar.specs.Items.{one};
 ghost use Rattle.mpslp_lp_grammar.specs.TerminalToken.{HasLegalName, terminal_of_token};
-ghost use Rattle.mpslp_lp_grammar.specs.Declares.{TakesToken};
+ghost use Rattle.mpslp_lp_grammar.specs.Declares.{TakesToken, answer_at};
 ghost use Rattle.mpslp_lp_grammar.specs.Terminal.{Terminal};
+ghost use Rattle.mpslp_lp_grammar.specs.declared.states.Place.{Place};
 ghost use Rattle.mpslp_lp_grammar.specs.declared.states.ItemOwner.{ItemOwner};
 ghost use Rattle.mpslp_lp_grammar.specs.AfterToken.{take_term, take_after_signs, begin_item};
 
@@ -28,6 +29,26 @@ pub(crate) fn one() -> Decimal
     }
 }
 
+/// Declares a term of the objective with this name, and its column if that is new.
+///
+/// # Errors
+///
+/// `Fault` if the builder rejects it, with the first error; `OutOfMemory` if an allocation fails. After an error nothing is
+/// known of the context.
+pub fn declare_objective_term(
+    context: &mut Context,
+    objective: &Name,
+    column: &[u8],
+    value: Decimal,
+) -> Result<(), LineError>
+    requires { IsMpsName column.now }
+    ensures { TakesToken (take_term context.old (ItemOwner.OfObjective objective.now) column.now value (Terminal.Name column.now)) (answer_at (Place.InObjective objective.now) result) context.new }
+{
+    context
+        .earlier
+        .declare_term(objective.as_bytes(), column, value)
+}
+
 /// Takes the name of a term of the objective.
 fn take_objective_term(
     context: &mut Context,
@@ -38,9 +59,7 @@ fn take_objective_term(
     requires { IsMpsName column.now }
     ensures { TakesToken (take_term context.old (ItemOwner.OfObjective objective) column.now value (Terminal.Name column.now)) result context.new }
 {
-    let answer = context
-        .earlier
-        .declare_term(objective.as_bytes(), column, value);
+    let answer = declare_objective_term(context, &objective, column, value);
     at_place(answer, Place::InObjective(objective))
 }
 

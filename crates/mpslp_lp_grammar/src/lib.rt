@@ -28,6 +28,8 @@ mod terminals;
 mod token_step;
 
 pub use context::Context;
+pub use items::declare_objective_term;
+pub use rows::row_without_terms;
 pub use signs::Sign;
 pub use states::{PartialRow, Place, State};
 pub use terminals::{TerminalKind, TerminalToken, classify};

@@ -1,7 +1,8 @@
 //! Rows, token by token.
 
-ghost use Rattle.std.specs.Prelude.{◌≡◌, None};
-ghost use Rattle.mpslp_lp_grammar.specs.Rows.{fits_left, row_limits, row_declared};
+ghost use Rattle.std.specs.Prelude.{◌≡◌, None, MatchResult};
+ghost use Rattle.mpslp_lp_grammar.specs.Rows.{fits_left, row_limits, row_declared, without_terms};
+ghost use Rattle.mpslp_lines.specs.declared.errors.LineError.{LineError};
 ghost use Rattle.mpslp_lp_grammar.specs.Sides.{fits_second};
 ghost use Rattle.mpslp_lp_grammar.specs.TerminalToken.{HasLegalName, terminal_of_token};
 ghost use Rattle.mpslp_lp_grammar.specs.Declares.{TakesToken};
@@ -43,6 +44,18 @@ pub(crate) fn fits_left(row: &PartialRow, relation: Relation) -> bool
         Some((_limit, first)) => fits_second(*first, relation),
         None => true,
     }
+}
+
+/// A row without terms and without a left-hand side, in the memory of a completed row if there is one.
+///
+/// # Errors
+///
+/// `OutOfMemory` if an allocation fails. The context is unchanged.
+pub fn row_without_terms(context: &mut Context, name: Name) -> Result<PartialRow, LineError>
+    ensures row { MatchResult result (λ row. row ≡ without_terms name None) (λ error. error ≡ LineError.OutOfMemory) }
+    ensures same { context.new ≡ context.old }
+{
+    context.earlier.row_without_terms(name, None)
 }
 
 /// Takes the first token of a row after its label, or of a row without one.

@@ -1,8 +1,8 @@
 //! The states between tokens: what a reader keeps of an incomplete phrase, besides what is declared.
 
-ghost use Rattle.std.specs.Prelude.{◌≡◌};
+ghost use Rattle.std.specs.Prelude.{◌≡◌, Ok, Err, MatchResult};
 ghost use Rattle.mpslp_types.specs.Name.{IsMpsName};
-ghost use Rattle.mpslp_lp_grammar.specs.Declares.{AddsTerm};
+ghost use Rattle.mpslp_lp_grammar.specs.Declares.{AddsTerm, AddsTo};
 ghost use Rattle.mpslp_lp_grammar.specs.Grammar.{last_word_text, opened_by};
 ghost use Rattle.mpslp_lp_grammar.specs.TokenStep.{is_at_end};
 
@@ -41,6 +41,21 @@ impl Model for PartialRow {
     ghost view = { λ r. record { name = r.parts.value.name; left = r.parts.value.left; terms = r.parts.value.terms.entries } };
 }
 
+/// Adds a term to those of a row.
+fn add_named(
+    terms: &mut IndexMap<TermName, Decimal>,
+    name: TermName,
+    value: Decimal,
+) -> Result<(), LineError>
+    ensures { MatchResult result (λ _. AddsTo terms.old.entries name value (Ok terms.new.entries)) (λ error. AddsTo terms.old.entries name value (Err error)) }
+{
+    match terms.insert(name, value) {
+        Ok(None) => Ok(()),
+        Ok(Some(_)) => Err(LineError::Fault(FaultKind::DuplicateEntry)),
+        Err(_) => Err(LineError::OutOfMemory),
+    }
+}
+
 impl PartialRow {
     /// Adds a term to the row. The name of the column is copied.
     ///
@@ -56,13 +71,28 @@ impl PartialRow {
         requires { IsMpsName column.now }
         ensures { AddsTerm self column.now value result }
     {
-        let name = TermName::copied(context.earlier.alloc(), column)?;
         let mut row = self;
-        match row.parts.terms.insert(name, value) {
-            Ok(None) => Ok(row),
-            Ok(Some(_)) => Err(LineError::Fault(FaultKind::DuplicateEntry)),
-            Err(_) => Err(LineError::OutOfMemory),
-        }
+        row.add_term(context, column, value)?;
+        Ok(row)
+    }
+
+    /// Adds a term to the row in place. The name of the column is copied.
+    ///
+    /// # Errors
+    ///
+    /// `DuplicateEntry` if the column already has a term in the row; `OutOfMemory` if an allocation fails. After an error
+    /// nothing is known of the row.
+    pub fn add_term(
+        &mut self,
+        context: &Context,
+        column: &[u8],
+        value: Decimal,
+    ) -> Result<(), LineError>
+        requires { IsMpsName column.now }
+        ensures { MatchResult result (λ _. AddsTerm self.old column.now value (Ok self.new)) (λ error. AddsTerm self.old column.now value (Err error)) }
+    {
+        let name = TermName::copied(context.earlier.alloc(), column)?;
+        add_named(&mut self.parts.terms, name, value)
     }
 }
 

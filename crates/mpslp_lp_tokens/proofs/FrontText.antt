@@ -6,8 +6,9 @@ use Rattle.mpslp_lp_tokens.specs.Line.{begins_word, continues_word}
 use Rattle.mpslp_lp_tokens.specs.Token.{is_number, operator_kind, token_at}
 use Rattle.mpslp_lp_tokens.specs.Scan.{IsLongestFront, pair_operator}
 use Rattle.mpslp_lp_tokens.proofs.FrontLemmas.{NoPair, word-at, number-at, pair-at, byte-at, unknown-at}
+use Rattle.mpslp_lp_tokens.proofs.NumberSize.{number-longest}
 use Rattle.mpslp_lp_tokens.specs.declared.tokens.TokenKind.{TokenKind}
-use Rattle.mpslp_lp_tokens.specs.declared.tokens.TokenKind.TheVariants.{Word, Number, Unknown}
+use Rattle.mpslp_lp_tokens.specs.declared.tokens.TokenKind.TheVariants.{Word, Number, Plus, Unknown}
 
 pub word-front : (t : List ℕ) (n : ℕ) → 0 < length t → begins_word (get_or t 0 0) ≡ true → n ≡ prefix_len continues_word (take (length t - 1) (drop 1 t)) → token_at t ≡ record { kind = Word; size = 1 + n }
 word-front [] n some w e = absurd (omega (arith, some))
@@ -56,3 +57,12 @@ pub unknown-front : (t : List ℕ) (n : ℕ) → 0 < length t → begins_word (g
     → operator_kind (get_or t 0 0 ∷ []) ≡ None → token_at t ≡ record { kind = Unknown; size = 1 }
 unknown-front [] n some w h r p k = absurd (omega (arith, some))
 unknown-front (b ∷ bs) n some w h r p k = unknown-at b bs w (none_is (b ∷ bs) n h r) (no_pair b bs p) k
+
+-- no number and no operator of two bytes begins with a plus
+pub plus-front : (t : List ℕ) → 0 < length t → get_or t 0 0 ≡ 43 → token_at t ≡ record { kind = Plus; size = 1 }
+plus-front [] some e = absurd (omega (arith, some))
+plus-front (b ∷ bs) some e = subst (λ (c : ℕ). token_at (c ∷ bs) ≡ record { kind = Plus; size = 1 }) (sym e) (byte-at 43 bs Plus refl (number-longest (43 ∷ bs)) (alone bs) refl)
+  where
+    alone : (xs : List ℕ) → NoPair 43 xs
+    alone [] = tt
+    alone (x ∷ xs) = refl

@@ -176,6 +176,12 @@ pub(crate) fn front_at(text: &[u8]) -> Front
             size: 1 + word_len(behind),
         };
     }
+    if *first == b'+' {
+        return Front {
+            kind: TokenKind::Plus,
+            size: 1,
+        };
+    }
     let number = number_len(text);
     if number > 0 {
         return Front {

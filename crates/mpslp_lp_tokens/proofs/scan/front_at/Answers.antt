@@ -1,6 +1,6 @@
 use Rattle.std.proofs.Common.{sym, ap, ◌∙◌, arith}
 use Rattle.mpslp_lp_tokens.specs.Token.{Front}
-use Rattle.mpslp_lp_tokens.proofs.FrontText.{word-front, number-front, pair-front, byte-front, unknown-front}
+use Rattle.mpslp_lp_tokens.proofs.FrontText.{word-front, number-front, plus-front, pair-front, byte-front, unknown-front}
 use Rattle.mpslp_lp_tokens.proofs.scan.front_at.Goals as goal
 
 pub returns-then-is_first_of_word-clause-kind : goal.returns-then-is_first_of_word-clause-kind
@@ -10,6 +10,12 @@ returns-then-is_first_of_word-clause-kind c =
 pub returns-then-is_first_of_word-clause-size : goal.returns-then-is_first_of_word-clause-size
 returns-then-is_first_of_word-clause-size c =
     ap (λ (f : Front). f.size) (sym (word-front c.args.text.now c.word_len.result (omega (arith, c.in-len1-up.len_at_least)) (sym c.is_first_of_word.ensures ∙ c.if-is_first_of_word.true) c.word_len.ensures.count))
+
+pub returns-then-first-eq43-clause-kind : goal.returns-then-first-eq43-clause-kind
+returns-then-first-eq43-clause-kind c = ap (λ (f : Front). f.kind) (sym (plus-front c.args.text.now (omega (arith, c.in-len1-up.len_at_least)) c.if-first-eq43.true))
+
+pub returns-then-first-eq43-clause-size : goal.returns-then-first-eq43-clause-size
+returns-then-first-eq43-clause-size c = ap (λ (f : Front). f.size) (sym (plus-front c.args.text.now (omega (arith, c.in-len1-up.len_at_least)) c.if-first-eq43.true))
 
 pub returns-then-number-gt0-clause-kind : goal.returns-then-number-gt0-clause-kind
 returns-then-number-gt0-clause-kind c =
