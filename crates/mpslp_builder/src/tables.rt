@@ -118,18 +118,11 @@ impl Tables {
         }
     }
 
-    /// Whether a row has this name; the objective does not count.
-    fn is_row(&self, name: &[u8]) -> bool
-        ensures { result ≡ has_name (draft None None self.now).rows name.now }
-    {
-        self.rows.contains_key(name)
-    }
-
     /// Whether a row, or the objective, has this name.
     pub(crate) fn has_row(&self, name: &[u8]) -> bool
         ensures { result ≡ has_row (draft None None self.now) name.now }
     {
-        self.is_objective(name) || self.is_row(name)
+        self.row_ref(name).is_some()
     }
 
     /// Whether a row of this name is declared with type N. The objective does not count.
