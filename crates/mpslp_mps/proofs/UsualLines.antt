@@ -1,8 +1,9 @@
 -- A line of COLUMNS whose declarations are made has no error.
 use Rattle.std.proofs.Common.{◌≡◌, refl, sym, ap, ◌∙◌, ℕ, List, [], ◌∷◌, Bool, true, false, cond, map}
-use Rattle.std.specs.Prelude.{◌&&◌, not, Option, Some, None, Ok}
+use Rattle.std.specs.Prelude.{◌&&◌, not, Option, Some, None, Result, Ok, Err}
 use Rattle.std.specs.List.{list_all, flat_map}
 use Rattle.std.specs.Option.{option_map, option_map_or}
+use Rattle.std.specs.Cmp.Lexicographic.{bytes_decides}
 use Rattle.mpslp_decimal.specs.Decimal.{Number}
 use Rattle.mpslp_types.specs.Name.{same_bytes, has_name_length, is_visible, marker, is_mps_name}
 use Rattle.mpslp_types.specs.FaultOrder.{least_kind}
@@ -19,6 +20,7 @@ use Rattle.mpslp_builder.proofs.RefusalLemmas.{first_none, rest_none, left_none}
 use Rattle.mpslp_lines.specs.Declaring.{kind_of_build_fault, declared_fault}
 use Rattle.mpslp_lines.specs.FaultTests.{FaultTests, judged_by, first_held}
 use Rattle.mpslp_lines.specs.Field.{number_tests}
+use Rattle.mpslp_lines.specs.declared.errors.LineError.{LineError}
 use Rattle.mpslp_lines.proofs.LeastLemmas.{earlier_of}
 use Rattle.mpslp_lines.proofs.DeclaringLemmas.{declared-after}
 use Rattle.mpslp_mps_fields.specs.Line.{Fields, data_line}
@@ -26,14 +28,14 @@ use Rattle.mpslp_mps_fields.specs.DataLine.{ValuesLine, column_shape, is_marker_
 use Rattle.mpslp_mps_fields.specs.declared.sections.Section.{Section}
 use Rattle.mpslp_mps_fields.specs.declared.sections.Section.TheVariants.{Columns}
 use Rattle.mpslp_mps.specs.Context.{Context}
-use Rattle.mpslp_mps.specs.ContextStep.{after_column}
+use Rattle.mpslp_mps.specs.ContextStep.{after_column, after_data}
 use Rattle.mpslp_mps.specs.DataFault.{is_split}
 use Rattle.mpslp_mps.specs.FieldFault.{literals_of}
 use Rattle.mpslp_mps.specs.LineDeclarations.{data_declared}
 use Rattle.mpslp_mps.specs.LineValues.{named_values}
-use Rattle.mpslp_mps.specs.LineAnswer.{item_fault, ReadsContent}
+use Rattle.mpslp_mps.specs.LineAnswer.{item_fault, ReadsContent, MayRead}
 use Rattle.mpslp_mps.specs.ColumnDeclared.{front_declared, value_declared}
-use Rattle.mpslp_mps.specs.UsualLine.{usual_declared, TakesUsual}
+use Rattle.mpslp_mps.specs.UsualLine.{usual_declared, TakesUsual, MayPass}
 use Rattle.mpslp_mps.proofs.ColumnTaking.{front-none, front-there}
 use Rattle.mpslp_mps.proofs.ColumnLine.{field_tests, with_column, column-fault, column-declares}
 use Rattle.mpslp_mps.proofs.StepLemmas.{step-column}
@@ -121,3 +123,35 @@ module _ (context : Context) (earlier : Draft) (fields : Fields) (column : List 
     step ∙ sym (step-column context fields column values here plain is),
     laid ∙ ap (with_declarations earlier) (sym (ap (λ (section : Option Section). data_declared context earlier fields section) here ∙ column-declares context earlier fields column values plain is)),
   )
+
+-- the same for all results
+pub usual-passed : (context : Context) (earlier : Draft) (fields : Fields) (column : List ℕ) (values : List (List ℕ × Number)) → context.section ≡ Some Columns → is_marker_line fields ≡ false
+    → first_held (judged_by (λ line. number_tests (literals_of line.pairs)) (column_shape fields)) ≡ None → option_map named_values (column_shape fields) ≡ Some (column, values)
+    → (answer : Result Bool LineError) (next : Context) (later : Draft) → MayPass context earlier column values answer next later → MayRead context earlier (data_line fields) answer next later
+usual-passed context earlier fields column values here plain held is (Ok true) next later h =
+    usual-read context earlier fields column values here plain held is h.0.2 h.1 h.0.0 next later h.2 h.0.1
+usual-passed context earlier fields column values here plain held is (Ok false) next later h = h
+usual-passed context earlier fields column values here plain held is (Err error) next later h = h
+
+-- ---- the last column
+
+not-split : (there last : Bool) → last ≡ true → (there && not last) ≡ false
+not-split true last h = ap not h
+not-split false last h = refl
+
+last-is : (o : Option (List ℕ)) (column : List ℕ) → option_map_or (same_bytes column) o false ≡ true → o ≡ Some column
+last-is None column h = cc
+last-is (Some name) column h = ap Some (sym ((bytes_decides column name).0 h))
+
+-- another line of it changes the context as a data line does
+pub next-passed : (context : Context) (earlier later : Draft) (column : List ℕ) (values : List (List ℕ × Number)) → option_map_or (same_bytes column) context.last_column false ≡ true
+    → TakesUsual earlier context.in_integer_part column values (Ok true) later → MayPass context earlier column values (Ok true) (after_data context) later
+next-passed context earlier later column values last taken = (
+  taken,
+  not-split (has_column earlier column) (option_map_or (same_bytes column) context.last_column false) last,
+  ap (λ (o : Option (List ℕ)). record context { word_due = None; last_column = o }) (last-is context.last_column column last),
+)
+
+-- a column that is not declared is not split
+pub first-split : (context : Context) (earlier : Draft) (column : List ℕ) → has_column earlier column ≡ false → is_split context earlier column ≡ false
+first-split context earlier column absent = ap (λ (b : Bool). b && not (option_map_or (same_bytes column) context.last_column false)) absent

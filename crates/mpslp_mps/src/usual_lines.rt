@@ -1,16 +1,16 @@
 //! Lines of COLUMNS without an error. Each name of such a line is looked up once.
 
 ghost use Rattle.std.specs.Prelude.{◌≡◌, map, IfSome, Ok, Some, None, true, false};
-ghost use Rattle.std.specs.Option.{option_map};
+ghost use Rattle.std.specs.Option.{option_map, option_map_or};
+ghost use Rattle.mpslp_types.specs.Name.{same_bytes};
 ghost use Rattle.mpslp_builder.specs.ColumnLine.{pair_of, listed};
 ghost use Rattle.mpslp_builder.specs.Declaration.{has_column};
 ghost use Rattle.mpslp_lines.specs.FaultTests.{judged_by, first_held};
 ghost use Rattle.mpslp_lines.specs.Field.{number_tests};
-ghost use Rattle.mpslp_mps.specs.DataFault.{is_split};
 ghost use Rattle.mpslp_mps.specs.FieldFault.{literals_of};
 ghost use Rattle.mpslp_mps.specs.LineAnswer.{MayRead};
 ghost use Rattle.mpslp_mps.specs.LineValues.{named_values};
-ghost use Rattle.mpslp_mps.specs.UsualLine.{TakesUsual};
+ghost use Rattle.mpslp_mps.specs.UsualLine.{TakesUsual, MayPass};
 ghost use Rattle.mpslp_mps_fields.specs.DataLine.{column_shape, is_marker_line};
 ghost use Rattle.mpslp_mps_fields.specs.Line.{data_line};
 ghost use Rattle.mpslp_mps_fields.specs.declared.sections.Section.{Section};
@@ -105,22 +105,39 @@ fn declare_first(
     Ok(is_done)
 }
 
-/// Declares the column of a line and its values, if the line has no error.
-fn declare_usual(
-    context: &LineContext,
+/// Declares the values of the column of the line before, and updates the context, if none of them has an error.
+fn pass_next(
+    context: &mut LineContext,
+    builder: &mut Builder,
+    column: &[u8],
+    values: &RowValues<'_>,
+) -> Result<bool, LineError>
+    requires { option_map_or (same_bytes column.now) context.old.last_column false ≡ true }
+    ensures { MayPass context.old builder.old column.now values.now result context.new builder.new }
+{
+    if declare_next(builder, column, context.in_integer_part(), values)? {
+        context.pass_data();
+        return Ok(true);
+    }
+    Ok(false)
+}
+
+/// Declares a new column with these values, and updates the context, if none of them has an error.
+fn pass_first(
+    context: &mut LineContext,
     builder: &mut Builder,
     alloc: Global,
     column: &[u8],
     values: &RowValues<'_>,
 ) -> Result<bool, LineError>
-    ensures taken { TakesUsual builder.old context.now.in_integer_part column.now values.now result builder.new }
-    ensures together { result ≡ Ok true → is_split context.now builder.old column.now ≡ false }
+    ensures { MayPass context.old builder.old column.now values.now result context.new builder.new }
 {
     let is_marked = context.in_integer_part();
-    if context.is_last_column(column) {
-        return declare_next(builder, column, is_marked, values);
+    if declare_first(builder, alloc, column, is_marked, values)? {
+        context.pass_new_column(column)?;
+        return Ok(true);
     }
-    declare_first(builder, alloc, column, is_marked, values)
+    Ok(false)
 }
 
 /// Reads a line of a column, if it has no error. Otherwise this returns `false`, and nothing has changed.
@@ -137,9 +154,8 @@ pub(crate) fn read_usual(
     let Some((column, values)) = usual_parts(fields) else {
         return Ok(false);
     };
-    if declare_usual(context, builder, alloc, column, &values)? {
-        context.pass_column(column)?;
-        return Ok(true);
+    if context.is_last_column(column) {
+        return pass_next(context, builder, column, &values);
     }
-    Ok(false)
+    pass_first(context, builder, alloc, column, &values)
 }
