@@ -29,6 +29,7 @@ pub mod ColumnDrafts
 pub mod RowDrafts
 pub mod TestLemmas
 pub mod CallLemmas
+pub mod LineLemmas
 pub mod OrderedParts
 pub mod TableParts
 pub mod ModelOfTables

@@ -8,8 +8,10 @@ pub mod Meaning
 pub mod Answer
 pub mod Finish
 pub mod Laws
+pub mod ColumnLine
 -- ---- what only the code cites
 pub mod Tables
 pub mod Calls
+pub mod LineTables
 pub mod FaultFound
 pub mod NameHash

@@ -3,8 +3,10 @@
 
 mod builder;
 pub mod laws;
+mod lines;
 mod name_map;
 mod refusals;
 mod tables;
 
 pub use builder::Builder;
+pub use lines::{Entries, Entry};

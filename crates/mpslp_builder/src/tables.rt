@@ -29,8 +29,20 @@ pub(crate) struct Tables {
     pub(crate) objective: Option<ObjectiveParts>,
     pub(crate) rows: NameMap<RowParts>,
     pub(crate) columns: NameMap<ColumnParts>,
+    /// The index of the row that was used last. It only speeds up look-ups, so any number is correct.
+    pub(crate) recent_row: usize,
     /// The number of the column that was used last. It only speeds up look-ups, so any number is correct.
     pub(crate) recent: usize,
+}
+
+/// Whether two names are the same. Their last bytes are compared first, because most names that differ have other ones.
+fn is_same_name(name: &[u8], other: &[u8]) -> bool
+    ensures { IsTrue result → name.now ≡ other.now }
+{
+    let ([.., last], [.., other_last]) = (name, other) else {
+        return false;
+    };
+    last == other_last && name == other
 }
 
 /// The objective or a row, which share one set of names.
@@ -64,6 +76,7 @@ impl Tables {
             objective: None,
             rows: new_map(alloc),
             columns: new_map(alloc),
+            recent_row: 0,
             recent: 0,
         }
     }
@@ -105,18 +118,11 @@ impl Tables {
         }
     }
 
-    /// Whether a row has this name; the objective does not count.
-    fn is_row(&self, name: &[u8]) -> bool
-        ensures { result ≡ has_name (draft None None self.now).rows name.now }
-    {
-        self.rows.contains_key(name)
-    }
-
     /// Whether a row, or the objective, has this name.
     pub(crate) fn has_row(&self, name: &[u8]) -> bool
         ensures { result ≡ has_row (draft None None self.now) name.now }
     {
-        self.is_objective(name) || self.is_row(name)
+        self.row_ref(name).is_some()
     }
 
     /// Whether a row of this name is declared with type N. The objective does not count.
@@ -141,13 +147,13 @@ impl Tables {
         ensures { IsTrue result → row_name self.now (suc index) ≡ Some name.now }
     {
         match self.rows.get_index(index) {
-            Some((key, _row)) => key.as_slice() == name,
+            Some((key, _row)) => is_same_name(key.as_slice(), name),
             None => false,
         }
     }
 
-    /// The row of this name, or the objective. The row that was declared last is compared first, which saves a look-up if its
-    /// coefficients are declared right after it.
+    /// The row of this name, or the objective. The row that was used last and the one after it are compared first, which saves a
+    /// look-up if rows are used in the order of their declarations.
     pub(crate) fn row_ref(&self, name: &[u8]) -> Option<RowRef>
         ensures place { IfSome result (λ place. row_name self.now (row_key_of place) ≡ Some name.now) }
         ensures found { is_some result ≡ has_row (draft None None self.now) name.now }
@@ -155,9 +161,12 @@ impl Tables {
         if self.is_objective(name) {
             return Some(RowRef::Objective);
         }
-        let last = self.rows.len().saturating_sub(1);
-        if self.is_row_at(last, name) {
-            return Some(RowRef::Row(last));
+        if self.is_row_at(self.recent_row, name) {
+            return Some(RowRef::Row(self.recent_row));
+        }
+        let next = self.recent_row.saturating_add(1);
+        if self.is_row_at(next, name) {
+            return Some(RowRef::Row(next));
         }
         match self.rows.get_full(name) {
             Some((index, _key, _row)) => Some(RowRef::Row(index)),
@@ -170,18 +179,23 @@ impl Tables {
         ensures { IsTrue result → column_name self.now column ≡ Some name.now }
     {
         match self.columns.get_index(column) {
-            Some((key, _parts)) => key.as_slice() == name,
+            Some((key, _parts)) => is_same_name(key.as_slice(), name),
             None => false,
         }
     }
 
-    /// The number of the column of this name. The column that was used last is compared first, which saves a look-up.
+    /// The number of the column of this name. The column that was used last and the one after it are compared first, which
+    /// saves a look-up if columns are used in the order of their declarations.
     pub(crate) fn column_number(&self, name: &[u8]) -> Option<usize>
         ensures number { IfSome result (λ i. column_name self.now i ≡ Some name.now) }
         ensures found { is_some result ≡ has_column (draft None None self.now) name.now }
     {
         if self.is_column(self.recent, name) {
             return Some(self.recent);
+        }
+        let next = self.recent.saturating_add(1);
+        if self.is_column(next, name) {
+            return Some(next);
         }
         match self.columns.get_full(name) {
             Some((i, _key, _column)) => Some(i),
@@ -305,6 +319,7 @@ impl Tables {
         ensures ok { OnOk result (HasRowAdded self.old name (record { definition = definition; rhs = None; range = None }) self.new) }
         ensures err { OnErr result (IsSameTables self.old self.new) }
     {
+        self.recent_row = self.rows.len();
         self.rows.insert(
             name,
             RowParts {
@@ -340,6 +355,7 @@ impl Tables {
         ensures ok { OnOk result (HasColumnChanged self.old column (with_cell row value) self.new) }
         ensures err { OnErr result (IsSameTables self.old self.new) }
     {
+        self.recent_row = row.saturating_sub(1) as usize;
         self.recent = column;
         let (_key, parts) = self.columns.pair_mut(column);
         parts.cells.put(row, value)
@@ -350,6 +366,7 @@ impl Tables {
         requires { is_some (row_name self.old (suc index)) ≡ true }
         ensures { HasRowChanged self.old index (λ row. record row { rhs = Some value }) self.new }
     {
+        self.recent_row = index;
         let (_key, row) = self.rows.pair_mut(index);
         row.rhs = Some(PackedDecimal::of(value));
     }
@@ -380,6 +397,7 @@ impl Tables {
         requires { is_some (row_name self.old (suc index)) ≡ true }
         ensures { HasRowChanged self.old index (λ row. record row { range = Some value }) self.new }
     {
+        self.recent_row = index;
         let (_key, row) = self.rows.pair_mut(index);
         row.range = Some(PackedDecimal::of(value));
     }

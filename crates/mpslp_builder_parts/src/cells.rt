@@ -39,8 +39,11 @@ impl Model for Cells {
     ghost invariant = { λ c. IsOnceBy nat_cmp (c.near ++ c.far.entries) };
 }
 
+/// The capacity from the second coefficient on: most columns with more than one have no more than this many.
+const FEW: usize = 4;
+
 /// Puts a coefficient of a new row into the vector. Many columns have only one coefficient, so the first one allocates no
-/// spare capacity.
+/// spare capacity, and the second one that of a few.
 fn put_near(
     near: &mut SortedMap<u32, PackedDecimal>,
     row: u32,
@@ -50,10 +53,22 @@ fn put_near(
     ensures ok { OnOk result (near.new ≡ put nat_cmp row value near.old) }
     ensures err { OnErr result (near.new ≡ near.old) }
 {
-    if near.is_empty() {
-        near.reserve_exact(1)?;
+    match near.len() {
+        0 => near.reserve_exact(1)?,
+        1 => near.reserve_exact(FEW - 1)?,
+        _ => {}
     }
     near.put(row, value)
+}
+
+/// Whether the tree has a coefficient of this row. Most trees are empty, and these are not searched.
+fn is_in_tree(tree: &BTreeMap<u32, PackedDecimal>, row: u32) -> bool
+    ensures { result ≡ is_some (find nat_cmp row tree.now.entries) }
+{
+    if tree.is_empty() {
+        return false;
+    }
+    tree.contains_key(&row)
 }
 
 impl Cells {
@@ -71,7 +86,7 @@ impl Cells {
     pub fn has(&self, row: u32) -> bool
         ensures { result ≡ is_some (find nat_cmp row self.now) }
     {
-        self.near.has(&row) || self.far.contains_key(&row)
+        self.near.has(&row) || is_in_tree(&self.far, row)
     }
 
     /// Whether a coefficient of this row goes into the vector.

@@ -1,5 +1,6 @@
 //! Tests of the builder's calls and of the accessors of its models, on worked examples.
 
+mod lines;
 mod lp;
 mod rows;
 

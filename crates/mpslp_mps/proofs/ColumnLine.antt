@@ -1,7 +1,7 @@
 -- The first error of a line of a column: of its form, or an unknown row, a split column, or a repeated coefficient.
 use Rattle.std.proofs.Common.{◌≡◌, refl, sym, ap, ◌∙◌, ℕ, List, [], ◌∷◌, ◌++◌, Bool, true, false, cond, map, arith}
-use Rattle.std.specs.Prelude.{◌&&◌, not, nat_le, Option, Some, None, is_some}
-use Rattle.std.specs.List.{list_all, flat_map, cons_option}
+use Rattle.std.specs.Prelude.{◌&&◌, not, nat_le, Option, Some, None}
+use Rattle.std.specs.List.{list_all, flat_map}
 use Rattle.std.specs.Option.{option_map, option_or}
 use Rattle.std.proofs.lemmas.Bool.Decides.{nat_tests}
 use Rattle.mpslp_decimal.specs.Decimal.{Number}
@@ -22,7 +22,7 @@ use Rattle.mpslp_mps.specs.DataFault.{is_split, marker_tests, column_tests, data
 use Rattle.mpslp_mps.specs.LineDeclarations.{coefficient_declared, data_declared, declared_if_some, column_declared}
 use Rattle.mpslp_lines.specs.Declaring.{declaring_faults, declared_fault}
 use Rattle.mpslp_mps.specs.LineAnswer.{item_fault}
-use Rattle.mpslp_mps.specs.ColumnDeclared.{front_declared, value_declared, has_duplicate, IsFreeForSecond}
+use Rattle.mpslp_mps.specs.ColumnDeclared.{front_declared, value_declared, has_duplicate}
 use Rattle.mpslp_mps_fields.specs.declared.sections.Section.{Section}
 use Rattle.mpslp_mps_fields.specs.declared.sections.Section.TheVariants.{Columns}
 use Rattle.mpslp_lines.proofs.HeldLemmas.{held-third, held-among}
@@ -37,7 +37,7 @@ use Rattle.mpslp_mps.specs.KindClash.{column_clash}
 use Rattle.mpslp_mps.proofs.TakingLemmas.{is_early}
 use Rattle.mpslp_mps.proofs.TakenLemmas.{clash-told}
 use Rattle.mpslp_mps.proofs.ClashLemmas.{column-clashes, column-apart}
-use Rattle.mpslp_mps.proofs.ColumnTaking.{are_rows, front-none, front-there, front-rows, values-late, values-unknown, values-double, front-double, next-fault, next-two-fault}
+use Rattle.mpslp_mps.proofs.ColumnTaking.{are_rows, front-none, front-there, front-rows, values-late, values-unknown, values-double, front-double}
 
 -- ---- the form
 
@@ -219,37 +219,6 @@ double-fault context earlier fields column values here plain apart held is in_or
     ∙ values-double values (with_column context earlier column) column (front-there earlier marked column)
     (front-rows earlier marked column values ∙ (placed context earlier column values in_order).0)
     ∙ ap (λ (b : Bool). cond b (Some kinds.DuplicateEntry) None) (front-double earlier marked column values)
-
--- ---- one value of the column of the line before
-
-pub only-first : (first : List ℕ × Number) (second : Option (List ℕ × Number)) (values : List (List ℕ × Number)) → first ∷ cons_option second [] ≡ values → is_some second ≡ false → values ≡ first ∷ []
-only-first first None values h none = sym h
-only-first first (Some other) values h none = cc
-
-pub next-line-fault : (context : Context) (earlier : Draft) (fields : Fields) (column : List ℕ) (values : List (List ℕ × Number)) (first : List ℕ × Number) → context.section ≡ Some Columns
-    → is_marker_line fields ≡ false → column_clash context earlier fields ≡ false → first_held (judged_by field_tests (column_shape fields)) ≡ None
-    → option_map named_values (column_shape fields) ≡ Some (column, values) → values ≡ first ∷ [] → is_split context earlier column ≡ false → has_column earlier column ≡ true
-    → item_fault context earlier (data_line fields) ≡ declared_fault earlier (value_declared column first)
-next-line-fault context earlier fields column values first here plain apart held is one split there =
-    column-fault context earlier fields column values here plain apart held is
-    ∙ ap (λ (b : Bool). earlier_of (cond b (Some kinds.ColumnSplit) None) (declared_fault (with_column context earlier column) (flat_map (value_declared column) values))) split
-    ∙ ap (λ (vs : List (List ℕ × Number)). declared_fault (with_column context earlier column) (flat_map (value_declared column) vs)) one
-    ∙ next-fault earlier context.in_integer_part column first there
-
--- ---- two values of the column of the line before
-
-pub both-values : (first : List ℕ × Number) (second : Option (List ℕ × Number)) (other : List ℕ × Number) (values : List (List ℕ × Number)) → first ∷ cons_option second [] ≡ values → second ≡ Some other → values ≡ first ∷ other ∷ []
-both-values first second other values h is = sym h ∙ ap (λ (o : Option (List ℕ × Number)). first ∷ cons_option o []) is
-
-pub next-two-line-fault : (context : Context) (earlier : Draft) (fields : Fields) (column : List ℕ) (values : List (List ℕ × Number)) (first other : List ℕ × Number) → context.section ≡ Some Columns
-    → is_marker_line fields ≡ false → column_clash context earlier fields ≡ false → first_held (judged_by field_tests (column_shape fields)) ≡ None
-    → option_map named_values (column_shape fields) ≡ Some (column, values) → values ≡ first ∷ other ∷ [] → is_split context earlier column ≡ false → has_column earlier column ≡ true
-    → IsFreeForSecond earlier column first other → item_fault context earlier (data_line fields) ≡ declared_fault earlier (value_declared column first)
-next-two-line-fault context earlier fields column values first other here plain apart held is both split there free =
-    column-fault context earlier fields column values here plain apart held is
-    ∙ ap (λ (b : Bool). earlier_of (cond b (Some kinds.ColumnSplit) None) (declared_fault (with_column context earlier column) (flat_map (value_declared column) values))) split
-    ∙ ap (λ (vs : List (List ℕ × Number)). declared_fault (with_column context earlier column) (flat_map (value_declared column) vs)) both
-    ∙ next-two-fault earlier context.in_integer_part column first other there free
 
 -- ---- the name of the column
 

@@ -1,19 +1,16 @@
 -- Lines of COLUMNS: the first error of their form and of what they declare together.
 use Rattle.std.proofs.Common.{◌≡◌, refl, sym, ap, subst, ◌∙◌, ℕ, List, [], ◌∷◌, ◌++◌, Bool, true, false, cond, map}
-use Rattle.std.specs.Prelude.{◌||◌, ◌&&◌, not, Ok, Err, Option, Some, None, is_some}
+use Rattle.std.specs.Prelude.{◌||◌, ◌&&◌, not, Option, Some, None, is_some}
 use Rattle.std.specs.List.{list_all, flat_map}
 use Rattle.std.specs.Cmp.{first_so, second_so}
 use Rattle.std.specs.FinMap.{find, put}
 use Rattle.mpslp_decimal.specs.Decimal.{Number}
-use Rattle.mpslp_types.specs.Name.{same_bytes, bytes_cmp}
+use Rattle.mpslp_types.specs.Name.{same_bytes}
 use Rattle.mpslp_model_core.specs.Model.{CoefficientKey, key_cmp}
-use Rattle.mpslp_builder.specs.Declaration.{declare_column, declare_marked, declare_coefficient, Declarations, Draft, with_declaration, with_declarations, has_row, has_column, has_coefficient, is_semi}
-use Rattle.mpslp_model_core.specs.Lists.{those_of, when}
+use Rattle.mpslp_builder.specs.Declaration.{declare_column, declare_coefficient, Declarations, Draft, with_declaration, with_declarations, has_row, has_column, has_coefficient, is_semi}
+use Rattle.mpslp_model_core.specs.Lists.{those_of}
 use Rattle.mpslp_types.specs.FaultOrder.{least_kind}
-use Rattle.mpslp_types.specs.declared.faults.BuildFault.{BuildFault}
-use Rattle.mpslp_types.specs.declared.faults.BuildFault.TheVariants.{UnknownRow, UnknownColumn, DuplicateEntry, SemiContinuous, OutOfMemory as BuildOutOfMemory}
-use Rattle.mpslp_builder.specs.Refusal.{refusals}
-use Rattle.mpslp_builder.specs.Answer.{Answers}
+use Rattle.mpslp_types.specs.declared.faults.BuildFault.TheVariants.{UnknownColumn, SemiContinuous}
 use Rattle.mpslp_builder.proofs.SlotLemmas.{has-put, has-put_key}
 use Rattle.mpslp_builder.proofs.LaterDrafts.{itself_named}
 use Rattle.mpslp_types.specs.declared.faults.FaultKind.{FaultKind}
@@ -25,7 +22,7 @@ use Rattle.mpslp_lines.specs.FaultTests.{judged_by}
 use Rattle.mpslp_mps.specs.DataFault.{marker_tests, marker_word_tests, is_sos_marker, column_tests, data_tests}
 use Rattle.mpslp_mps.specs.LineDeclarations.{data_declared, declared_if_some, column_declared}
 use Rattle.mpslp_lines.specs.Declaring.{kind_of_build_fault, declared_fault}
-use Rattle.mpslp_mps.specs.ColumnDeclared.{front_declared, value_declared, has_duplicate, IsFreeForSecond}
+use Rattle.mpslp_mps.specs.ColumnDeclared.{front_declared, value_declared, has_duplicate}
 use Rattle.mpslp_lines.specs.LineAnswer.{IsErrorOf}
 use Rattle.mpslp_lines.specs.declared.errors.LineError.{LineError}
 use Rattle.mpslp_lines.specs.declared.errors.LineError.TheVariants.{Fault, OutOfMemory}
@@ -225,86 +222,3 @@ values-unknown (value ∷ values) earlier column there rows =
     by false b h rest = form-first ((true, kinds.UnknownRow) ∷ []) kinds.UnknownRow next more refl refl refl (values_apart next)
     by true true h rest = ap (λ (o : Option FaultKind). Some (lesser kinds.DuplicateEntry o)) (rest h)
     by true false h rest = rest h
-
--- ---- a line of one value of the column of the line before
-
--- the column exists, so declaring it again changes nothing; whether it is marked does not depend on the coefficient
-pub next-declared : (earlier : Draft) (marked : Bool) (column : List ℕ) (value : List ℕ × Number) → put bytes_cmp column tt earlier.columns ≡ earlier.columns
-    → with_declarations (with_declaration earlier (declare_coefficient (record { row = value.0; column = column }) value.1)) (when marked (declare_marked column))
-    ≡ with_declarations (with_declarations earlier (front_declared marked column)) (value_declared column value)
-next-declared earlier true column value same =
-    ap (λ (columns : List (List ℕ × Unit {0})). with_declaration (with_declaration (record earlier { columns = columns }) (declare_marked column)) (declare_coefficient (record { row = value.0; column = column }) value.1)) (sym same)
-next-declared earlier false column value same =
-    ap (λ (columns : List (List ℕ × Unit {0})). with_declaration (record earlier { columns = columns }) (declare_coefficient (record { row = value.0; column = column }) value.1)) (sym same)
-
--- a call that succeeded had no error
-pub call-made : (faults : List BuildFault) (P Q : Type 0) → Answers faults (Ok tt) P Q → (faults ≡ []) × P
-call-made [] P Q answer = (refl, answer)
-call-made (fault ∷ faults) P Q answer = absurd (let no : Ok tt ≡ Err fault = answer.0 in cc)
-
--- so the error of the coefficient is the same as before the column is declared again
-pub next-fault : (earlier : Draft) (marked : Bool) (column : List ℕ) (value : List ℕ × Number) → has_column earlier column ≡ true
-    → declared_fault (with_declarations earlier (front_declared marked column)) (flat_map (value_declared column) (value ∷ [])) ≡ declared_fault earlier (value_declared column value)
-next-fault earlier true column value there = value-fault (with_declarations earlier (front_declared true column)) column value (front-there earlier true column) ∙ sym (value-fault earlier column value there)
-next-fault earlier false column value there = value-fault (with_declarations earlier (front_declared false column)) column value (front-there earlier false column) ∙ sym (value-fault earlier column value there)
-
--- ---- a line of two values of the column of the line before
-
-earlier-alone : (o : Option FaultKind) → earlier_of o None ≡ o
-earlier-alone None = refl
-earlier-alone (Some kind) = refl
-
--- the second coefficient is still free after the first
-pub still-free : (earlier : Draft) (column : List ℕ) (value other : List ℕ × Number) → IsFreeForSecond earlier column value other
-    → has_coefficient (with_declarations earlier (value_declared column value)) (record { row = other.0; column = column }) ≡ false
-still-free earlier column value other free =
-    let key : CoefficientKey = record { row = value.0; column = column } in
-    let other_key : CoefficientKey = record { row = other.0; column = column } in
-    has-put_key other_key key value.1 earlier.coefficients
-    ∙ ap (λ (b : Bool). (same_bytes other.0 value.0 && b) || has_coefficient earlier other_key) (itself_named column)
-    ∙ (λ i. (free.apart i && true) || free.free i)
-
--- so it has no error
-pub second-none : (earlier : Draft) (column : List ℕ) (value other : List ℕ × Number) → has_column earlier column ≡ true → IsFreeForSecond earlier column value other
-    → declared_fault (with_declarations earlier (value_declared column value)) (value_declared column other) ≡ None
-second-none earlier column value other there free =
-    value-fault (with_declarations earlier (value_declared column value)) column other there
-    ∙ (λ i. cond (not (free.row i)) (Some kinds.UnknownRow) (cond (still-free earlier column value other free i) (Some kinds.DuplicateEntry) None))
-
--- and the error of the line is that of the first
-pub two-fault : (earlier : Draft) (column : List ℕ) (value other : List ℕ × Number) → has_column earlier column ≡ true → IsFreeForSecond earlier column value other
-    → declared_fault earlier (flat_map (value_declared column) (value ∷ other ∷ [])) ≡ declared_fault earlier (value_declared column value)
-two-fault earlier column value other there free =
-    declared-append (value_declared column value) (value_declared column other) earlier
-    ∙ ap (earlier_of (declared_fault earlier (value_declared column value))) (second-none earlier column value other there free)
-    ∙ earlier-alone (declared_fault earlier (value_declared column value))
-
--- the column may be declared before its coefficients
-front-free : (earlier : Draft) (marked : Bool) (column : List ℕ) (value other : List ℕ × Number) → IsFreeForSecond earlier column value other
-    → IsFreeForSecond (with_declarations earlier (front_declared marked column)) column value other
-front-free earlier true column value other free = record { apart = free.apart; row = free.row; free = free.free }
-front-free earlier false column value other free = record { apart = free.apart; row = free.row; free = free.free }
-
-pub next-two-fault : (earlier : Draft) (marked : Bool) (column : List ℕ) (value other : List ℕ × Number) → has_column earlier column ≡ true → IsFreeForSecond earlier column value other
-    → declared_fault (with_declarations earlier (front_declared marked column)) (flat_map (value_declared column) (value ∷ other ∷ [])) ≡ declared_fault earlier (value_declared column value)
-next-two-fault earlier marked column value other there free =
-    two-fault (with_declarations earlier (front_declared marked column)) column value other (front-there earlier marked column) (front-free earlier marked column value other free)
-    ∙ next-fault earlier marked column value there
-
-pub next-two-declared : (earlier : Draft) (marked : Bool) (column : List ℕ) (value other : List ℕ × Number) → put bytes_cmp column tt earlier.columns ≡ earlier.columns
-    → with_declarations (with_declaration (with_declaration earlier (declare_coefficient (record { row = value.0; column = column }) value.1)) (declare_coefficient (record { row = other.0; column = column }) other.1)) (when marked (declare_marked column))
-    ≡ with_declarations (with_declarations earlier (front_declared marked column)) (flat_map (value_declared column) (value ∷ other ∷ []))
-next-two-declared earlier true column value other same =
-    ap (λ (columns : List (List ℕ × Unit {0})). with_declaration (with_declaration (with_declaration (record earlier { columns = columns }) (declare_marked column)) (declare_coefficient (record { row = value.0; column = column }) value.1)) (declare_coefficient (record { row = other.0; column = column }) other.1)) (sym same)
-next-two-declared earlier false column value other same =
-    ap (λ (columns : List (List ℕ × Unit {0})). with_declaration (with_declaration (record earlier { columns = columns }) (declare_coefficient (record { row = value.0; column = column }) value.1)) (declare_coefficient (record { row = other.0; column = column }) other.1)) (sym same)
-
--- so the call for it fails only if an allocation fails
-pub second-out-of-memory : (earlier next : Draft) (column : List ℕ) (value other : List ℕ × Number) (fault : BuildFault) (P Q : Type 0) → has_column earlier column ≡ true
-    → IsFreeForSecond earlier column value other → next ≡ with_declarations earlier (value_declared column value)
-    → Answers (refusals next (declare_coefficient (record { row = other.0; column = column }) other.1)) (Err fault) P Q → fault ≡ BuildOutOfMemory
-second-out-of-memory earlier next column value other fault P Q there free is answer =
-    (subst (λ (faults : List BuildFault). Answers faults (Err fault) P Q) (ap (λ (d : Draft). refusals d (declare_coefficient (record { row = other.0; column = column }) other.1)) is ∙ unrefused) answer).0
-  where
-    unrefused : refusals (with_declarations earlier (value_declared column value)) (declare_coefficient (record { row = other.0; column = column }) other.1) ≡ []
-    unrefused = λ i. those_of ((not (free.row i), UnknownRow) ∷ (not (there i), UnknownColumn) ∷ (still-free earlier column value other free i, DuplicateEntry) ∷ [])

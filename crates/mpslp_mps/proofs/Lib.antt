@@ -19,6 +19,7 @@ pub mod TakingLemmas
 pub mod RowTaking
 pub mod ColumnTaking
 pub mod ColumnLine
+pub mod UsualLines
 pub mod HeaderTaking
 pub mod RhsLemmas
 pub mod TakenLemmas

@@ -23,4 +23,5 @@ pub mod LineValues
 pub mod LineAnswer
 pub mod VectorDeclared
 pub mod ColumnDeclared
+pub mod UsualLine
 pub mod KindClash

@@ -1,9 +1,11 @@
 -- What the code returns for the content of a line.
-use Rattle.std.specs.Prelude.{◌≡◌, Option, None, MatchResult}
+use Rattle.std.specs.Prelude.{◌≡◌, Bool, true, false, Option, None, Result, Ok, Err, MatchResult}
 use Rattle.mpslp_builder.specs.Declaration.{Draft, with_declarations}
 use Rattle.mpslp_types.specs.declared.faults.FaultKind.{FaultKind}
 use Rattle.mpslp_lines.specs.Declaring.{first_fault}
 use Rattle.mpslp_lines.specs.LineAnswer.{IsErrorOf, LineResult}
+use Rattle.mpslp_lines.specs.declared.errors.LineError.{LineError}
+use Rattle.mpslp_lines.specs.declared.errors.LineError.TheVariants.{OutOfMemory}
 use Rattle.mpslp_mps_fields.specs.Line.{LineContent}
 use Rattle.mpslp_mps.specs.Context.{Context}
 use Rattle.mpslp_mps.specs.NextContext.{next_context}
@@ -19,3 +21,9 @@ abbrev pub ReadsContent : Context → Draft → LineContent → LineResult → C
 ReadsContent context earlier item answer next later =
     MatchResult answer (λ _. (item_fault context earlier item ≡ None) × (next ≡ next_context context item) × (later ≡ with_declarations earlier (line_declares context earlier item)))
     (IsErrorOf (item_fault context earlier item))
+
+-- A line without an error is read; or nothing is done; or an allocation failed.
+abbrev pub MayRead : Context → Draft → LineContent → Result Bool LineError → Context → Draft → Type 0
+MayRead context earlier item (Ok true) next later = ReadsContent context earlier item (Ok tt) next later
+MayRead context earlier item (Ok false) next later = (next ≡ context) × (later ≡ earlier)
+MayRead context earlier item (Err error) next later = error ≡ OutOfMemory

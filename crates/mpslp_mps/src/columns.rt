@@ -14,15 +14,15 @@ ghost use Rattle.mpslp_mps.specs.DataFault.{is_split};
 ghost use Rattle.mpslp_lines.specs.FaultTests.{first_held};
 ghost use Rattle.mpslp_lines.specs.Declaring.{declared_fault};
 ghost use Rattle.mpslp_lines.specs.LineAnswer.{AreDeclared, IfFault, IsErrorOf};
-ghost use Rattle.mpslp_mps.specs.ColumnDeclared.{front_declared, value_declared, has_duplicate, IsFreeForSecond};
+ghost use Rattle.mpslp_mps.specs.ColumnDeclared.{front_declared, value_declared, has_duplicate};
 ghost use Rattle.mpslp_mps.specs.LineAnswer.{ReadsContent};
 
 use crate::clashes::has_column_clash;
 use crate::context::LineContext;
 use crate::data_lines::{check_column, check_marker};
+use crate::usual_lines::read_usual;
 use crate::values::{RowValue, RowValues, is_same_row};
 use mpslp_lines::LineError;
-use mpslp_model::laws::each_builder_is_made;
 use mpslp_model::{Builder, FaultKind, Name};
 use mpslp_mps_fields::is_marker_line;
 use std::alloc::Global;
@@ -156,72 +156,8 @@ fn declare_values(
     Ok(())
 }
 
-/// Whether the line before was of this column, which is declared.
-fn continues_column(context: &LineContext, builder: &Builder, column: &[u8]) -> bool
-    ensures { result ≡ true → (is_split context.now builder.now column.now ≡ false) × (has_column builder.now column.now ≡ true) }
-{
-    context.is_last_column(column) && builder.has_column(column)
-}
-
-/// Declares a coefficient of the column of the line before, and that the column is marked if it is. The coefficient may be
-/// rejected, so it comes first; this way its row is looked up only once.
-fn declare_in_last_column(
-    builder: &mut Builder,
-    column: &[u8],
-    value: &RowValue<'_>,
-    is_marked: bool,
-) -> Result<(), LineError>
-    requires column { has_column builder.old column.now ≡ true }
-    requires apart { (is_marked && is_semi builder.old column.now) ≡ false }
-    ensures answers { let first_fault = declared_fault builder.old (value_declared column.now value.now) in
-        MatchResult result (λ _. (first_fault ≡ None) × (builder.new ≡ with_declarations (with_declarations builder.old (front_declared is_marked column.now)) (value_declared column.now value.now))) (IsErrorOf first_fault) }
-    ensures unchanged { IfFault result (builder.new ≡ builder.old) }
-{
-    each_builder_is_made(builder);
-    builder.coefficient(value.row, column, value.value)?;
-    declare_mark(builder, column, is_marked)?;
-    Ok(())
-}
-
-/// Whether a coefficient of the column can be declared after one of another row: its row is another one and is declared, and
-/// the coefficient is not.
-fn is_free_for_second(
-    builder: &Builder,
-    column: &[u8],
-    first: &RowValue<'_>,
-    second: &RowValue<'_>,
-) -> bool
-    requires column { has_column builder.now column.now ≡ true }
-    ensures { result ≡ true → IsFreeForSecond builder.now column.now first.now second.now }
-{
-    !is_same_row(first, second) && builder.check_coefficient(second.row, column).is_ok()
-}
-
-/// Declares two coefficients of the column of the line before, and that the column is marked if it is. Only the first may be
-/// rejected; this way each row is looked up no more than twice.
-fn declare_two_in_last_column(
-    builder: &mut Builder,
-    column: &[u8],
-    first: &RowValue<'_>,
-    second: &RowValue<'_>,
-    is_marked: bool,
-) -> Result<(), LineError>
-    requires column { has_column builder.old column.now ≡ true }
-    requires apart { (is_marked && is_semi builder.old column.now) ≡ false }
-    requires free { IsFreeForSecond builder.old column.now first.now second.now }
-    ensures answers { let first_fault = declared_fault builder.old (value_declared column.now first.now) in
-        MatchResult result (λ _. (first_fault ≡ None) × (builder.new ≡ with_declarations (with_declarations builder.old (front_declared is_marked column.now)) (flat_map (value_declared column.now) (first.now ∷ second.now ∷ [])))) (IsErrorOf first_fault) }
-    ensures unchanged { IfFault result (builder.new ≡ builder.old) }
-{
-    each_builder_is_made(builder);
-    builder.coefficient(first.row, column, first.value)?;
-    builder.coefficient(second.row, column, second.value)?;
-    declare_mark(builder, column, is_marked)?;
-    Ok(())
-}
-
-/// Reads a line of a column. Each error is checked before anything is declared.
-fn read_values(
+/// Reads a line of a column, and checks each error before anything is declared.
+fn read_checked(
     context: &mut LineContext,
     builder: &mut Builder,
     alloc: Global,
@@ -236,23 +172,6 @@ fn read_values(
         return Err(LineError::Fault(FaultKind::SemiContinuous));
     }
     let (column, values) = check_column(context, builder, fields)?;
-    if values.second.is_none() {
-        if continues_column(context, builder, column) {
-            declare_in_last_column(builder, column, &values.first, context.in_integer_part())?;
-            context.pass_column(column)?;
-            return Ok(());
-        }
-    }
-    if let Some(second) = &values.second {
-        if continues_column(context, builder, column) {
-            if is_free_for_second(builder, column, &values.first, second) {
-                let is_marked = context.in_integer_part();
-                declare_two_in_last_column(builder, column, &values.first, second, is_marked)?;
-                context.pass_column(column)?;
-                return Ok(());
-            }
-        }
-    }
     check_rows_and_column(context, builder, column, &values)?;
     if has_duplicate(builder, column, &values) {
         return Err(LineError::Fault(FaultKind::DuplicateEntry));
@@ -261,6 +180,24 @@ fn read_values(
     declare_values(builder, column, values)?;
     context.pass_column(column)?;
     Ok(())
+}
+
+/// Reads a line of a column. Most lines have no error, and these are declared at once.
+fn read_values(
+    context: &mut LineContext,
+    builder: &mut Builder,
+    alloc: Global,
+    fields: &[&[u8]],
+) -> Result<(), LineError>
+    requires section { context.old.section ≡ Some Section.Columns }
+    requires plain { is_marker_line (map (λ field. field.now) fields.now) ≡ false }
+    ensures answers { ReadsContent context.old builder.old (data_line (map (λ field. field.now) fields.now)) result context.new builder.new }
+    ensures unchanged { IfFault result ((context.new ≡ context.old) × (builder.new ≡ builder.old)) }
+{
+    if read_usual(context, builder, alloc, fields)? {
+        return Ok(());
+    }
+    read_checked(context, builder, alloc, fields)
 }
 
 /// Reads a line of COLUMNS.

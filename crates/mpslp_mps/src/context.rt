@@ -80,6 +80,22 @@ fn keep_first(name: &mut Option<Vec<u8>>, alloc: Global, bytes: &[u8]) -> Result
     Ok(())
 }
 
+/// Keeps a copy of the bytes as the name. If there is a name already, its memory is used again.
+fn replace_name(name: &mut Option<Vec<u8>>, alloc: Global, bytes: &[u8]) -> Result<(), AllocError>
+    ensures { OnOk result (option_map (λ known. known.items) name.new ≡ Some bytes.now) }
+{
+    match name {
+        Some(known) => {
+            known.clear();
+            known.extend_from_slice(bytes)
+        }
+        None => {
+            *name = Some(bytes.to_vec(alloc)?);
+            Ok(())
+        }
+    }
+}
+
 impl LineContext {
     /// The context at the start of a text.
     pub(crate) fn new(alloc: Global) -> LineContext
@@ -252,7 +268,7 @@ impl LineContext {
         Ok(())
     }
 
-    /// Updates the context after a data line of OBJSENSE or ROWS.
+    /// Updates the context after a data line of OBJSENSE or ROWS, or another line of the last column.
     pub(crate) fn pass_data(&mut self)
         ensures { self.new ≡ after_data self.old }
     {
@@ -277,6 +293,14 @@ impl LineContext {
             self.last_column = Some(column.to_vec(self.alloc)?);
         }
         Ok(())
+    }
+
+    /// Updates the context after a line of a column that is not the last one. The memory of the last name is used again.
+    pub(crate) fn pass_new_column(&mut self, column: &[u8]) -> Result<(), AllocError>
+        ensures { OnOk result (self.new ≡ after_column self.old column.now) }
+    {
+        self.word_due = None;
+        replace_name(&mut self.last_column, self.alloc, column)
     }
 
     /// Updates the context after a line of RHS, RANGES or BOUNDS with this set name.

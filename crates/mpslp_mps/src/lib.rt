@@ -17,6 +17,7 @@ mod line_reader;
 mod read_line;
 mod reader;
 mod reading;
+mod usual_lines;
 mod values;
 mod vectors;
 

@@ -101,6 +101,7 @@ pub(crate) fn into_model(
         objective,
         rows,
         columns,
+        recent_row: _,
         recent: _,
     } = tables;
     let (row_order, rows) = ordered(alloc, entries_of(alloc, rows)?)?;

@@ -4,7 +4,7 @@ use Rattle.std.specs.Ordering.{nat_cmp}
 use Rattle.std.specs.Cmp.{nat_cmp_total}
 use Rattle.std.specs.FinMap.{find}
 use Rattle.mpslp_decimal.specs.Decimal.{Number}
-use Rattle.mpslp_model_core.proofs.RunLemmas.{has_two, lookup_is_find, or_left, or_right}
+use Rattle.mpslp_model_core.proofs.RunLemmas.{has_two, or_left, or_right}
 use Rattle.mpslp_builder_parts.proofs.cells.Cells.has.Goals as goal
 
 pub returns-then-has : goal.returns-then-has
@@ -19,7 +19,7 @@ pub returns-else-has : goal.returns-else-has
 returns-else-has c =
     let near = c.self.inside.near in
     let far = c.self.inside.far.entries in
-    or_right (is_some (find nat_cmp c.args.row near)) (is_some (find nat_cmp c.args.row far)) c.contains_key.result c.if-has.ensures
-    (c.contains_key.ensures ∙ ap is_some (lookup_is_find nat_cmp c.args.row far))
+    or_right (is_some (find nat_cmp c.args.row near)) (is_some (find nat_cmp c.args.row far)) c.is_in_tree.result c.if-has.ensures
+    c.is_in_tree.ensures
     ∙ sym (has_two nat_cmp nat_cmp_total c.args.row near far)
     ∙ ap (λ (cells : List (ℕ × Number)). is_some (find nat_cmp c.args.row cells)) c.self.view_is

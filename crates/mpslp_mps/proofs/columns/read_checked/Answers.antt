@@ -1,6 +1,5 @@
-use Rattle.std.proofs.Common.{◌≡◌, sym, ap, subst, ◌∙◌, ℕ, List, [], ◌∷◌, ◌++◌, Bool, cond, map}
-use Rattle.mpslp_decimal.specs.Decimal.{Number}
-use Rattle.std.specs.Prelude.{◌&&◌, not, Option, Some, None}
+use Rattle.std.proofs.Common.{◌≡◌, sym, ap, subst, ◌∙◌, Bool, cond, map}
+use Rattle.std.specs.Prelude.{◌&&◌, Option, Some, None}
 use Rattle.std.specs.List.{flat_map}
 use Rattle.mpslp_builder.specs.Declaration.{Draft, with_declarations, has_column, is_semi}
 use Rattle.mpslp_types.specs.declared.faults.FaultKind.{FaultKind}
@@ -18,8 +17,8 @@ use Rattle.mpslp_lines.proofs.UnchangedLemmas.{if_fault-ends, if_fault-none}
 use Rattle.mpslp_mps_fields.specs.DataLine.{column_shape}
 use Rattle.mpslp_mps.proofs.ColumnTaking.{front-there}
 use Rattle.mpslp_mps.proofs.ClashLemmas.{column-apart}
-use Rattle.mpslp_mps.proofs.ColumnLine.{column-judged, column-clash-told, place-fault, placed-fault, double-fault, column-declares, column-named, with_column, only-first, next-line-fault, both-values, next-two-line-fault}
-use Rattle.mpslp_mps.proofs.columns.read_values.Goals as goal
+use Rattle.mpslp_mps.proofs.ColumnLine.{column-judged, column-clash-told, place-fault, placed-fault, double-fault, column-declares, column-named, with_column}
+use Rattle.mpslp_mps.proofs.columns.read_checked.Goals as goal
 
 pub returns-then-has_column_clash-clause-answers : goal.returns-then-has_column_clash-clause-answers
 returns-then-has_column_clash-clause-answers c =
@@ -30,7 +29,7 @@ pub declare_column-requires-clause-apart : goal.declare_column-requires-clause-a
 declare_column-requires-clause-apart c =
     let fields = map (λ field. field.now) c.args.fields.now in
     let column = c.in_ok-column.column.now in
-    ap (λ (b : Bool). b && is_semi c.args.builder.now column) c.in_integer_part-2.ensures
+    ap (λ (b : Bool). b && is_semi c.args.builder.now column) c.in_integer_part.ensures
     ∙ column-apart c.args.context.now c.args.builder.now fields column c.in_ok-column.values c.in_ok-column.ensures.1 (sym c.has_column_clash.ensures ∙ c.if-has_column_clash.false)
 
 pub returns-in_err-column-clause-answers : goal.returns-in_err-column-clause-answers
@@ -51,7 +50,7 @@ returns-in_err-check_rows_and_column-clause-answers c =
 pub declare_values-requires-clause-column : goal.declare_values-requires-clause-column
 declare_values-requires-clause-column c =
     let column = c.in_ok-column.column.now in
-    ap (λ (d : Draft). has_column d column) c.in_ok-declare_column.ensures ∙ front-there c.args.builder.now c.in_integer_part-2.result column
+    ap (λ (d : Draft). has_column d column) c.in_ok-declare_column.ensures ∙ front-there c.args.builder.now c.in_integer_part.result column
 
 pub returns-in_err-declare_values-clause-answers : goal.returns-in_err-declare_values-clause-answers
 returns-in_err-declare_values-clause-answers c =
@@ -63,7 +62,7 @@ returns-in_err-declare_values-clause-answers c =
     let line = c.in_ok-column.ensures in
     let error = c.in_err-declare_values.field-0.0 in
     let draft : c.declare_column.new.builder ≡ with_column context earlier column =
-    c.in_ok-declare_column.ensures ∙ ap (λ (marked : Bool). with_declarations earlier (front_declared marked column)) c.in_integer_part-2.ensures in
+    c.in_ok-declare_column.ensures ∙ ap (λ (marked : Bool). with_declarations earlier (front_declared marked column)) c.in_integer_part.ensures in
     let fault_is = ap (λ (d : Draft). declared_fault d (flat_map (value_declared column) values)) draft
     ∙ sym (placed-fault context earlier fields column values c.requires.section c.requires.plain (sym c.has_column_clash.ensures ∙ c.if-has_column_clash.false) line.0 line.1 c.in_ok-check_rows_and_column.ensures) in
     ends-by c.from_residual-in_err-declare_values.result error _ _ c.from_residual-in_err-declare_values.ensures.1
@@ -80,48 +79,13 @@ returns-clause-answers c =
     let front = front_declared context.in_integer_part column in
     let coefficients = flat_map (value_declared column) values in
     let draft : c.declare_column.new.builder ≡ with_column context earlier column =
-    c.in_ok-declare_column.ensures ∙ ap (λ (marked : Bool). with_declarations earlier (front_declared marked column)) c.in_integer_part-2.ensures in
+    c.in_ok-declare_column.ensures ∙ ap (λ (marked : Bool). with_declarations earlier (front_declared marked column)) c.in_integer_part.ensures in
     let declares = column-declares context earlier fields column values c.requires.plain line.1 in (
       placed-fault context earlier fields column values c.requires.section c.requires.plain (sym c.has_column_clash.ensures ∙ c.if-has_column_clash.false) line.0 line.1 c.in_ok-check_rows_and_column.ensures
           ∙ ap (λ (d : Draft). declared_fault d coefficients) (sym draft) ∙ c.in_ok-declare_values.ensures.0,
-      c.in_ok-pass_column-3.ensures ∙ sym (step-column context fields column values c.requires.section c.requires.plain line.1),
+      c.in_ok-pass_column.ensures ∙ sym (step-column context fields column values c.requires.section c.requires.plain line.1),
       c.in_ok-declare_values.ensures.1 ∙ ap (λ (d : Draft). with_declarations d coefficients) draft ∙ sym (with_declarations-append front coefficients earlier)
           ∙ ap (with_declarations earlier) (sym (ap (λ (section : Option Section). data_declared context earlier fields section) c.requires.section ∙ declares)),
-    )
-
-pub returns-in_err-declare_in_last_column-clause-answers : goal.returns-in_err-declare_in_last_column-clause-answers
-returns-in_err-declare_in_last_column-clause-answers c =
-    let fields = map (λ field. field.now) c.args.fields.now in
-    let line = c.in_ok-column.ensures in
-    let continues_column = c.continues_column.ensures c.if-continues_column.true in
-    let error = c.in_err-declare_in_last_column.field-0.0 in
-    let one = only-first c.values.inside.first c.values.inside.second c.in_ok-column.values c.values.view_is (c.is_none.ensures ∙ ap not c.if-is_none.true) in
-    ends-by c.from_residual-in_err-declare_in_last_column.result error _ _ c.from_residual-in_err-declare_in_last_column.ensures.1
-    (subst (λ (o : Option FaultKind). IsErrorOf o error)
-    (sym (next-line-fault c.args.context.now c.args.builder.now fields c.in_ok-column.column.now c.in_ok-column.values c.values.inside.first c.requires.section c.requires.plain
-    (sym c.has_column_clash.ensures ∙ c.if-has_column_clash.false) line.0 line.1 one continues_column.0 continues_column.1)) c.in_err-declare_in_last_column.ensures.answers)
-
-pub returns-then-continues_column-clause-answers : goal.returns-then-continues_column-clause-answers
-returns-then-continues_column-clause-answers c =
-    let fields = map (λ field. field.now) c.args.fields.now in
-    let context = c.args.context.now in
-    let earlier = c.args.builder.now in
-    let column = c.in_ok-column.column.now in
-    let values = c.in_ok-column.values in
-    let first = c.values.inside.first in
-    let line = c.in_ok-column.ensures in
-    let continues_column = c.continues_column.ensures c.if-continues_column.true in
-    let apart = sym c.has_column_clash.ensures ∙ c.if-has_column_clash.false in
-    let one = only-first first c.values.inside.second values c.values.view_is (c.is_none.ensures ∙ ap not c.if-is_none.true) in
-    let declares = column-declares context earlier fields column values c.requires.plain line.1 in
-    let all : data_declared context earlier fields context.section ≡ front_declared context.in_integer_part column ++ value_declared column first =
-    ap (λ (section : Option Section). data_declared context earlier fields section) c.requires.section ∙ declares
-    ∙ ap (λ (vs : List (List ℕ × Number)). front_declared context.in_integer_part column ++ flat_map (value_declared column) vs) one in (
-      next-line-fault context earlier fields column values first c.requires.section c.requires.plain apart line.0 line.1 one continues_column.0 continues_column.1 ∙ c.in_ok-declare_in_last_column.ensures.answers.0,
-      c.in_ok-pass_column.ensures ∙ sym (step-column context fields column values c.requires.section c.requires.plain line.1),
-      c.in_ok-declare_in_last_column.ensures.answers.1
-          ∙ ap (λ (marked : Bool). with_declarations (with_declarations earlier (front_declared marked column)) (value_declared column first)) c.in_integer_part.ensures
-          ∙ sym (with_declarations-append (front_declared context.in_integer_part column) (value_declared column first) earlier) ∙ ap (with_declarations earlier) (sym all),
     )
 
 pub returns-then-has_duplicate-clause-answers : goal.returns-then-has_duplicate-clause-answers
@@ -148,49 +112,10 @@ returns-in_err-declare_values-clause-unchanged c =
     let apart = sym c.has_column_clash.ensures ∙ c.if-has_column_clash.false in
     let error = c.in_err-declare_values.field-0.0 in
     let draft : c.declare_column.new.builder ≡ with_column context earlier column =
-    c.in_ok-declare_column.ensures ∙ ap (λ (marked : Bool). with_declarations earlier (front_declared marked column)) c.in_integer_part-2.ensures in
+    c.in_ok-declare_column.ensures ∙ ap (λ (marked : Bool). with_declarations earlier (front_declared marked column)) c.in_integer_part.ensures in
     let none = ap (λ (d : Draft). declared_fault d (flat_map (value_declared column) values)) draft
     ∙ sym (placed-fault context earlier fields column values c.requires.section c.requires.plain apart line.0 line.1 c.in_ok-check_rows_and_column.ensures)
     ∙ double-fault context earlier fields column values c.requires.section c.requires.plain apart line.0 line.1 c.in_ok-check_rows_and_column.ensures
     ∙ ap (λ (b : Bool). cond b (Some DuplicateEntry) None) (sym c.has_duplicate.ensures ∙ c.if-has_duplicate.false) in
     if_fault-ends c.from_residual-in_err-declare_values.result error _ c.from_residual-in_err-declare_values.ensures.1
     (if_fault-none (declared_fault c.declare_column.new.builder (flat_map (value_declared column) values)) error _ none c.in_err-declare_values.ensures)
-
-pub returns-in_err-declare_two_in_last_column-clause-answers : goal.returns-in_err-declare_two_in_last_column-clause-answers
-returns-in_err-declare_two_in_last_column-clause-answers c =
-    let fields = map (λ field. field.now) c.args.fields.now in
-    let line = c.in_ok-column.ensures in
-    let continues_column = c.continues_column-in-Some.ensures c.if-continues_column-2.true in
-    let free = c.is_free_for_second.ensures c.if-is_free_for_second.true in
-    let error = c.in_err-declare_two_in_last_column.field-0.0 in
-    let both = both-values c.values.inside.first c.values.inside.second c.in-Some.second c.in_ok-column.values c.values.view_is c.in-Some.is in
-    ends-by c.from_residual-in_err-declare_two_in_last_column.result error _ _ c.from_residual-in_err-declare_two_in_last_column.ensures.1
-    (subst (λ (o : Option FaultKind). IsErrorOf o error)
-    (sym (next-two-line-fault c.args.context.now c.args.builder.now fields c.in_ok-column.column.now c.in_ok-column.values c.values.inside.first c.in-Some.second c.requires.section c.requires.plain
-    (sym c.has_column_clash.ensures ∙ c.if-has_column_clash.false) line.0 line.1 both continues_column.0 continues_column.1 free)) c.in_err-declare_two_in_last_column.ensures.answers)
-
-pub returns-then-is_free_for_second-clause-answers : goal.returns-then-is_free_for_second-clause-answers
-returns-then-is_free_for_second-clause-answers c =
-    let fields = map (λ field. field.now) c.args.fields.now in
-    let context = c.args.context.now in
-    let earlier = c.args.builder.now in
-    let column = c.in_ok-column.column.now in
-    let values = c.in_ok-column.values in
-    let first = c.values.inside.first in
-    let other = c.in-Some.second in
-    let line = c.in_ok-column.ensures in
-    let continues_column = c.continues_column-in-Some.ensures c.if-continues_column-2.true in
-    let free = c.is_free_for_second.ensures c.if-is_free_for_second.true in
-    let apart = sym c.has_column_clash.ensures ∙ c.if-has_column_clash.false in
-    let both = both-values first c.values.inside.second other values c.values.view_is c.in-Some.is in
-    let coefficients = flat_map (value_declared column) (first ∷ other ∷ []) in
-    let declares = column-declares context earlier fields column values c.requires.plain line.1 in
-    let all : data_declared context earlier fields context.section ≡ front_declared context.in_integer_part column ++ coefficients =
-    ap (λ (section : Option Section). data_declared context earlier fields section) c.requires.section ∙ declares
-    ∙ ap (λ (vs : List (List ℕ × Number)). front_declared context.in_integer_part column ++ flat_map (value_declared column) vs) both in (
-      next-two-line-fault context earlier fields column values first other c.requires.section c.requires.plain apart line.0 line.1 both continues_column.0 continues_column.1 free ∙ c.in_ok-declare_two_in_last_column.ensures.answers.0,
-      c.in_ok-pass_column-2.ensures ∙ sym (step-column context fields column values c.requires.section c.requires.plain line.1),
-      c.in_ok-declare_two_in_last_column.ensures.answers.1
-          ∙ ap (λ (marked : Bool). with_declarations (with_declarations earlier (front_declared marked column)) coefficients) c.in_integer_part-is_marked.ensures
-          ∙ sym (with_declarations-append (front_declared context.in_integer_part column) coefficients earlier) ∙ ap (with_declarations earlier) (sym all),
-    )

@@ -1,0 +1,43 @@
+use Rattle.std.proofs.Common.{◌≡◌, sym, ap, ◌∙◌, ◌++◌, [], ◌∷◌, List, ℕ}
+use Rattle.std.specs.List.{flat_map}
+use Rattle.mpslp_model_core.specs.Lists.{when}
+use Rattle.mpslp_builder.specs.Declaration.{Draft, with_declarations, declare_column, declare_marked, has_column}
+use Rattle.mpslp_builder.specs.Refusal.{refusals_in_turn}
+use Rattle.mpslp_builder.specs.Tables.{bytes, draft}
+use Rattle.mpslp_builder.specs.ColumnLine.{listed, entry_declared, column_line}
+use Rattle.mpslp_builder.proofs.LineLemmas.{laid_then}
+use Rattle.mpslp_builder.proofs.builder.Builder.first_line.Goals as goal
+
+pub invariant_of-self : goal.invariant_of-self
+invariant_of-self c = (c.start_column.ensures.kept.made c.self.inside.sense c.self.inside.constant c.self.invariant.0, c.start_column.ensures.kept.numbered)
+
+pub invariant_of-self-in_err-put_line : goal.invariant_of-self-in_err-put_line
+invariant_of-self-in_err-put_line c =
+    let b = c.self.inside in
+    (c.put_line.ensures.kept.made b.sense b.constant (c.start_column.ensures.kept.made b.sense b.constant c.self.invariant.0), c.put_line.ensures.kept.numbered)
+
+pub invariant_of-self-2 : goal.invariant_of-self-2
+invariant_of-self-2 c =
+    let b = c.self.inside in
+    (c.put_line.ensures.kept.made b.sense b.constant (c.start_column.ensures.kept.made b.sense b.constant c.self.invariant.0), c.put_line.ensures.kept.numbered)
+
+pub returns-clause-absent : goal.returns-clause-absent
+returns-clause-absent c = λ _. ap (has_column c.args.self.now) (sym c.as_bytes.ensures) ∙ sym c.has_column.ensures ∙ c.if-has_column.false
+
+pub returns-clause-taken : goal.returns-clause-taken
+returns-clause-taken c =
+    let b = c.self.inside in
+    let inner = draft b.sense b.constant b.tables in
+    let marked = c.args.is_marked in
+    let entries = listed c.args.entries.now in
+    let given = bytes c.into_bytes.result in
+    let named : given ≡ c.args.name = c.into_bytes.ensures in
+    let started = c.in_ok-column.ensures.ok in
+    let laid =
+    laid_then b.tables c.start_column.new.self c.put_line.new.self (declare_column given ∷ []) (when marked (declare_marked given) ++ flat_map (entry_declared given) entries) started.laid
+    (c.in_ok-put_line.ensures.ok given started.named) in (
+      ap (λ (d : Draft). refusals_in_turn d (column_line marked c.args.name entries)) (sym c.self.view_is)
+          ∙ ap (λ (n : List ℕ). refusals_in_turn inner (column_line marked n entries)) (sym named) ∙ laid.free b.sense b.constant,
+      laid.laid b.sense b.constant ∙ ap (λ (n : List ℕ). with_declarations inner (column_line marked n entries)) named
+          ∙ ap (λ (d : Draft). with_declarations d (column_line marked c.args.name entries)) c.self.view_is,
+    )

@@ -1,0 +1,26 @@
+use Rattle.std.proofs.Common.{sym, subst, ◌++◌}
+use Rattle.std.specs.Prelude.{Option}
+use Rattle.std.specs.List.{flat_map}
+use Rattle.mpslp_builder.specs.ColumnLine.{entry_declared, pair_of, pair_if_some}
+use Rattle.mpslp_builder.specs.LineTables.{IsLaid}
+use Rattle.mpslp_builder.specs.declared.lines.Entry.{Entry}
+use Rattle.mpslp_builder.proofs.LineLemmas.{follows_then, laid_then}
+use Rattle.mpslp_builder.proofs.tables.Tables.put_entries.Goals as goal
+
+pub returns-in_err-put_entry-2-clause-kept : goal.returns-in_err-put_entry-2-clause-kept
+returns-in_err-put_entry-2-clause-kept c =
+    follows_then c.args.self.now c.put_entry.new.self c.put_entry-in-Some.new.self c.put_entry.ensures.kept c.put_entry-in-Some.ensures.kept
+
+pub returns-in_ok-put_entry-2-clause-kept : goal.returns-in_ok-put_entry-2-clause-kept
+returns-in_ok-put_entry-2-clause-kept c =
+    follows_then c.args.self.now c.put_entry.new.self c.put_entry-in-Some.new.self c.put_entry.ensures.kept c.put_entry-in-Some.ensures.kept
+
+pub returns-in_ok-put_entry-2-clause-ok : goal.returns-in_ok-put_entry-2-clause-ok
+returns-in_ok-put_entry-2-clause-ok c =
+    let t = c.args.self.now in
+    let u = c.put_entry.new.self in
+    let v = c.put_entry-in-Some.new.self in
+    λ name is.
+    subst (λ (o : Option Entry). IsLaid t (entry_declared name (pair_of c.args.entries.now.first) ++ flat_map (entry_declared name) (pair_if_some o)) v) (sym c.in-Some.is)
+    (laid_then t u v (entry_declared name (pair_of c.args.entries.now.first)) (entry_declared name (pair_of c.in-Some.entry)) (c.in_ok-put_entry.ensures.ok name is)
+    (c.in_ok-put_entry-2.ensures.ok name (c.put_entry.ensures.kept.columns c.args.column name is)))

@@ -1,0 +1,23 @@
+use Rattle.mpslp_builder.proofs.PartLemmas.{on_ok}
+use Rattle.mpslp_builder.proofs.LineLemmas.{cell_laid, cell_follows, cell_others, follows_same, same_cells, either_way}
+use Rattle.mpslp_builder.proofs.tables.Tables.put_entry.Goals as goal
+
+pub returns-clause-ok : goal.returns-clause-ok
+returns-clause-ok c =
+    let t = c.args.self.now in
+    on_ok c.put_cell.result (λ h name is. cell_laid t c.put_cell.new.self c.requires.numbered c.each_name_stands_once.ensures c.args.column c.args.row c.args.entry.now.row.now c.requires.row c.args.entry.now.value h c.requires.absent name is) c.put_cell.ensures.ok
+
+pub returns-clause-kept : goal.returns-clause-kept
+returns-clause-kept c =
+    let t = c.args.self.now in
+    either_way c.put_cell.result
+    (λ h. cell_follows t c.put_cell.new.self c.requires.numbered c.each_name_stands_once.ensures c.args.column c.args.row c.args.entry.now.row.now c.requires.row c.args.entry.now.value h c.requires.absent c.each_value_is_a_decimal.ensures)
+    (λ same. follows_same t c.put_cell.new.self c.requires.numbered same) c.put_cell.ensures.ok c.put_cell.ensures.err
+
+pub returns-clause-cells : goal.returns-clause-cells
+returns-clause-cells c =
+    let t = c.args.self.now in
+    λ other apart.
+    either_way c.put_cell.result
+    (λ h. cell_others t c.put_cell.new.self c.requires.numbered c.each_name_stands_once.ensures c.args.column c.args.row c.args.entry.now.row.now c.requires.row c.args.entry.now.value h c.requires.absent other apart)
+    (λ same. same_cells t c.put_cell.new.self c.args.column other same) c.put_cell.ensures.ok c.put_cell.ensures.err

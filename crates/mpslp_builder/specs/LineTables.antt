@@ -1,0 +1,52 @@
+-- What is known of tables while a line of a column is declared, by number.
+use Rattle.std.specs.Prelude.{◌≡◌, ◌≢◌, ℕ, Bool, false, ◌&&◌, List, [], ◌∷◌, Option, Some, None}
+use Rattle.std.specs.Option.{ForSome}
+use Rattle.std.specs.Ordering.{nat_cmp}
+use Rattle.std.specs.FinMap.{find}
+use Rattle.mpslp_decimal.specs.Decimal.{Number}
+use Rattle.mpslp_types.specs.declared.kinds.Sense.{Sense}
+use Rattle.mpslp_builder.specs.Declaration.{declare_column, Declarations, with_declarations}
+use Rattle.mpslp_builder.specs.Refusal.{refusals_in_turn}
+use Rattle.mpslp_builder.specs.Made.{IsMade}
+use Rattle.mpslp_builder.specs.Tables.{draft, IsNumbered}
+use Rattle.mpslp_builder.specs.Calls.{row_name, column_name, column_tells, cells_at}
+use Rattle.mpslp_builder.specs.declared.lines.Entries.{Entries}
+use Rattle.mpslp_builder.specs.declared.lines.RowNumbers.{RowNumbers}
+use Rattle.mpslp_builder.specs.declared.lines.LinePlace.{LinePlace}
+use Rattle.mpslp_builder.specs.declared.tables.Tables.{Tables}
+
+-- these are the numbers of the rows, which differ
+pub record AreRows (t : Tables) (entries : Entries) (rows : RowNumbers) : Type 0 where
+  pub first : row_name t rows.first ≡ Some entries.first.row.now
+  pub second : ForSome entries.second (λ entry. row_name t rows.second ≡ Some entry.row.now)
+  pub apart : ForSome entries.second (λ entry. rows.second ≢ rows.first)
+
+-- the column has no coefficient in these rows
+pub record AreFree (t : Tables) (column : ℕ) (rows : RowNumbers) : Type 0 where
+  pub first : find nat_cmp rows.first (cells_at t column) ≡ None
+  pub second : find nat_cmp rows.second (cells_at t column) ≡ None
+
+pub record IsLinePlace (t : Tables) (name : List ℕ) (is_marked : Bool) (entries : Entries) (place : LinePlace) : Type 0 where
+  pub column : column_name t place.column ≡ Some name
+  pub apart : (is_marked && column_tells t place.column (λ parts. parts.semi)) ≡ false
+  pub rows : AreRows t entries place.rows
+  pub free : AreFree t place.column place.rows
+
+-- these declarations are made, and none of them is rejected
+pub record IsLaid (t : Tables) (declarations : Declarations) (u : Tables) : Type 0 where
+  pub free : (sense : Option Sense) (constant : Option Number) → refusals_in_turn (draft sense constant t) declarations ≡ []
+  pub laid : (sense : Option Sense) (constant : Option Number) → draft sense constant u ≡ with_declarations (draft sense constant t) declarations
+
+-- what a builder needs of its tables holds after a call if it did before, and all names have kept their numbers
+pub record Follows (t u : Tables) : Type 0 where
+  pub numbered : IsNumbered u
+  pub made : (sense : Option Sense) (constant : Option Number) → IsMade (draft sense constant t) → IsMade (draft sense constant u)
+  pub rows : (n : ℕ) → row_name u n ≡ row_name t n
+  pub columns : (i : ℕ) (name : List ℕ) → column_name t i ≡ Some name → column_name u i ≡ Some name
+
+-- a column of this name and number is new, and has nothing yet
+pub record HasStarted (t : Tables) (name : List ℕ) (column : ℕ) (u : Tables) : Type 0 where
+  pub named : column_name u column ≡ Some name
+  pub laid : IsLaid t (declare_column name ∷ []) u
+  pub cells : cells_at u column ≡ []
+  pub semi : column_tells u column (λ parts. parts.semi) ≡ false

@@ -1,0 +1,157 @@
+-- A line of COLUMNS whose declarations are made has no error.
+use Rattle.std.proofs.Common.{◌≡◌, refl, sym, ap, ◌∙◌, ℕ, List, [], ◌∷◌, Bool, true, false, cond, map}
+use Rattle.std.specs.Prelude.{◌&&◌, not, Option, Some, None, Result, Ok, Err}
+use Rattle.std.specs.List.{list_all, flat_map}
+use Rattle.std.specs.Option.{option_map, option_map_or}
+use Rattle.std.specs.Cmp.Lexicographic.{bytes_decides}
+use Rattle.mpslp_decimal.specs.Decimal.{Number}
+use Rattle.mpslp_types.specs.Name.{same_bytes, has_name_length, is_visible, marker, is_mps_name}
+use Rattle.mpslp_types.specs.FaultOrder.{least_kind}
+use Rattle.mpslp_types.specs.declared.faults.BuildFault.{BuildFault}
+use Rattle.mpslp_types.specs.declared.faults.BuildFault.TheVariants.{UnknownColumn, SemiContinuous}
+use Rattle.mpslp_types.specs.declared.faults.FaultKind.TheVariants as kinds
+use Rattle.mpslp_builder.specs.Declaration.{Draft, declare_column, declare_marked, declare_coefficient, with_declaration, with_declarations, has_column, is_semi}
+use Rattle.mpslp_builder.specs.Refusal.{refusals, refusals_in_turn}
+use Rattle.mpslp_builder.specs.Made.{IsMade}
+use Rattle.mpslp_builder.specs.ColumnLine.{column_line, TakesLine}
+use Rattle.mpslp_builder.proofs.AnswerLemmas.{column_is_legal}
+use Rattle.mpslp_builder.proofs.MadeDrafts.{with_declarations-append}
+use Rattle.mpslp_builder.proofs.RefusalLemmas.{first_none, rest_none, left_none}
+use Rattle.mpslp_lines.specs.Declaring.{kind_of_build_fault, declared_fault}
+use Rattle.mpslp_lines.specs.FaultTests.{FaultTests, judged_by, first_held}
+use Rattle.mpslp_lines.specs.Field.{number_tests}
+use Rattle.mpslp_lines.specs.declared.errors.LineError.{LineError}
+use Rattle.mpslp_lines.proofs.LeastLemmas.{earlier_of}
+use Rattle.mpslp_lines.proofs.DeclaringLemmas.{declared-after}
+use Rattle.mpslp_mps_fields.specs.Line.{Fields, data_line}
+use Rattle.mpslp_mps_fields.specs.DataLine.{ValuesLine, column_shape, is_marker_line}
+use Rattle.mpslp_mps_fields.specs.declared.sections.Section.{Section}
+use Rattle.mpslp_mps_fields.specs.declared.sections.Section.TheVariants.{Columns}
+use Rattle.mpslp_mps.specs.Context.{Context}
+use Rattle.mpslp_mps.specs.ContextStep.{after_column, after_data}
+use Rattle.mpslp_mps.specs.DataFault.{is_split}
+use Rattle.mpslp_mps.specs.FieldFault.{literals_of}
+use Rattle.mpslp_mps.specs.LineDeclarations.{data_declared}
+use Rattle.mpslp_mps.specs.LineValues.{named_values}
+use Rattle.mpslp_mps.specs.LineAnswer.{item_fault, ReadsContent, MayRead}
+use Rattle.mpslp_mps.specs.ColumnDeclared.{front_declared, value_declared}
+use Rattle.mpslp_mps.specs.UsualLine.{usual_declared, TakesUsual, MayPass}
+use Rattle.mpslp_mps.proofs.ColumnTaking.{front-none, front-there}
+use Rattle.mpslp_mps.proofs.ColumnLine.{field_tests, with_column, column-fault, column-declares}
+use Rattle.mpslp_mps.proofs.StepLemmas.{step-column}
+
+-- ---- the name of the column
+
+-- coefficients declare no column
+values-keep : (values : List (List ℕ × Number)) (before : Draft) (column : List ℕ) → has_column (with_declarations before (flat_map (value_declared column) values)) column ≡ has_column before column
+values-keep [] before column = refl
+values-keep (value ∷ values) before column = values-keep values (with_declaration before (declare_coefficient (record { row = value.0; column = column }) value.1)) column
+
+-- a column that a builder has declared has a legal name
+pub usual-named : (earlier later : Draft) (marked : Bool) (column : List ℕ) (values : List (List ℕ × Number)) → later ≡ with_declarations earlier (usual_declared marked column values) → IsMade later
+    → is_mps_name column ≡ true
+usual-named earlier later marked column values is made =
+    let front = front_declared marked column in
+    column_is_legal later column made
+    (ap (λ (d : Draft). has_column d column) (is ∙ with_declarations-append front (flat_map (value_declared column) values) earlier)
+    ∙ values-keep values (with_declarations earlier front) column ∙ front-there earlier marked column)
+
+-- the builder's result, with the name
+pub usual-taken : (earlier later : Draft) (marked : Bool) (column : List ℕ) (values : List (List ℕ × Number)) (is_done : Bool) → TakesLine earlier (column_line marked column values) (Ok is_done) later
+    → IsMade later → TakesUsual earlier marked column values (Ok is_done) later
+usual-taken earlier later marked column values true taken made = (taken.0, taken.1, usual-named earlier later marked column values taken.1 made)
+usual-taken earlier later marked column values false taken made = taken
+
+-- ---- the form
+
+-- a legal name has no error
+fields-held : (parts : Option ValuesLine) (column : List ℕ) (values : List (List ℕ × Number)) → is_mps_name column ≡ true → option_map named_values parts ≡ Some (column, values)
+    → first_held (judged_by (λ line. number_tests (literals_of line.pairs)) parts) ≡ None → first_held (judged_by field_tests parts) ≡ None
+fields-held None column values legal is held = cc
+fields-held (Some line) column values legal is held =
+    let same : line.name ≡ column = ap (λ (o : Option (List ℕ × List (List ℕ × Number))). elim o as (λ _. List ℕ) [ None ↦ [] | Some p ↦ p.0 ]) is in
+    by (has_name_length line.name) (list_all is_visible line.name) (same_bytes line.name marker) (ap is_mps_name same ∙ legal) ∙ held
+  where
+    more : FaultTests
+    more = number_tests (literals_of line.pairs)
+
+    by : (long visible named : Bool) → (long && (visible && not named)) ≡ true
+        → first_held ((not long, kinds.NameLength) ∷ (not visible, kinds.NameByte) ∷ (named, kinds.NameMarker) ∷ more) ≡ first_held more
+    by true true false h = refl
+    by true true true h = cc
+    by true false named h = cc
+    by false visible named h = cc
+
+-- a column that is declared marked is not semi-continuous
+semi-apart : (earlier : Draft) (marked : Bool) (column : List ℕ) (values : List (List ℕ × Number)) → refusals_in_turn earlier (usual_declared marked column values) ≡ []
+    → (marked && is_semi earlier column) ≡ false
+semi-apart earlier false column values free = refl
+semi-apart earlier true column values free =
+    let next = with_declaration earlier (declare_column column) in
+    let more = flat_map (value_declared column) values in
+    first_none (is_semi next column) SemiContinuous []
+    (rest_none (not (has_column next column)) UnknownColumn ((is_semi next column, SemiContinuous) ∷ [])
+    (left_none (refusals next (declare_marked column)) (refusals_in_turn (with_declaration next (declare_marked column)) more) free))
+
+clash-apart : (context : Context) (earlier : Draft) (parts : Option ValuesLine) (column : List ℕ) (values : List (List ℕ × Number)) → option_map named_values parts ≡ Some (column, values)
+    → (context.in_integer_part && is_semi earlier column) ≡ false → (context.in_integer_part && option_map_or (λ line. is_semi earlier line.name) parts false) ≡ false
+clash-apart context earlier None column values is apart = cc
+clash-apart context earlier (Some line) column values is apart =
+    let same : line.name ≡ column = ap (λ (o : Option (List ℕ × List (List ℕ × Number))). elim o as (λ _. List ℕ) [ None ↦ [] | Some p ↦ p.0 ]) is in
+    ap (λ (name : List ℕ). context.in_integer_part && is_semi earlier name) same ∙ apart
+
+-- ---- the line
+
+module _ (context : Context) (earlier : Draft) (fields : Fields) (column : List ℕ) (values : List (List ℕ × Number)) (here : context.section ≡ Some Columns) (plain : is_marker_line fields ≡ false)
+    (held : first_held (judged_by (λ line. number_tests (literals_of line.pairs)) (column_shape fields)) ≡ None) (is : option_map named_values (column_shape fields) ≡ Some (column, values))
+    (legal : is_mps_name column ≡ true) (split : is_split context earlier column ≡ false) (free : refusals_in_turn earlier (usual_declared context.in_integer_part column values) ≡ []) where
+  usual-fault : item_fault context earlier (data_line fields) ≡ None
+  usual-fault =
+      let marked = context.in_integer_part in
+      let front = front_declared marked column in
+      let more = flat_map (value_declared column) values in
+      let apart = semi-apart earlier marked column values free in
+      let none : declared_fault (with_column context earlier column) more ≡ None =
+      sym (declared-after earlier front more (front-none earlier marked column apart)) ∙ ap (λ (faults : List BuildFault). least_kind (map kind_of_build_fault faults)) free in
+      column-fault context earlier fields column values here plain (clash-apart context earlier (column_shape fields) column values is apart) (fields-held (column_shape fields) column values legal is held) is
+      ∙ (λ i. earlier_of (cond (split i) (Some kinds.ColumnSplit) None) (none i))
+
+  pub usual-read : (next : Context) (later : Draft) → next ≡ after_column context column → later ≡ with_declarations earlier (usual_declared context.in_integer_part column values)
+      → ReadsContent context earlier (data_line fields) (Ok tt) next later
+  usual-read next later step laid = (
+    usual-fault,
+    step ∙ sym (step-column context fields column values here plain is),
+    laid ∙ ap (with_declarations earlier) (sym (ap (λ (section : Option Section). data_declared context earlier fields section) here ∙ column-declares context earlier fields column values plain is)),
+  )
+
+-- the same for all results
+pub usual-passed : (context : Context) (earlier : Draft) (fields : Fields) (column : List ℕ) (values : List (List ℕ × Number)) → context.section ≡ Some Columns → is_marker_line fields ≡ false
+    → first_held (judged_by (λ line. number_tests (literals_of line.pairs)) (column_shape fields)) ≡ None → option_map named_values (column_shape fields) ≡ Some (column, values)
+    → (answer : Result Bool LineError) (next : Context) (later : Draft) → MayPass context earlier column values answer next later → MayRead context earlier (data_line fields) answer next later
+usual-passed context earlier fields column values here plain held is (Ok true) next later h =
+    usual-read context earlier fields column values here plain held is h.0.2 h.1 h.0.0 next later h.2 h.0.1
+usual-passed context earlier fields column values here plain held is (Ok false) next later h = h
+usual-passed context earlier fields column values here plain held is (Err error) next later h = h
+
+-- ---- the last column
+
+not-split : (there last : Bool) → last ≡ true → (there && not last) ≡ false
+not-split true last h = ap not h
+not-split false last h = refl
+
+last-is : (o : Option (List ℕ)) (column : List ℕ) → option_map_or (same_bytes column) o false ≡ true → o ≡ Some column
+last-is None column h = cc
+last-is (Some name) column h = ap Some (sym ((bytes_decides column name).0 h))
+
+-- another line of it changes the context as a data line does
+pub next-passed : (context : Context) (earlier later : Draft) (column : List ℕ) (values : List (List ℕ × Number)) → option_map_or (same_bytes column) context.last_column false ≡ true
+    → TakesUsual earlier context.in_integer_part column values (Ok true) later → MayPass context earlier column values (Ok true) (after_data context) later
+next-passed context earlier later column values last taken = (
+  taken,
+  not-split (has_column earlier column) (option_map_or (same_bytes column) context.last_column false) last,
+  ap (λ (o : Option (List ℕ)). record context { word_due = None; last_column = o }) (last-is context.last_column column last),
+)
+
+-- a column that is not declared is not split
+pub first-split : (context : Context) (earlier : Draft) (column : List ℕ) → has_column earlier column ≡ false → is_split context earlier column ≡ false
+first-split context earlier column absent = ap (λ (b : Bool). b && not (option_map_or (same_bytes column) context.last_column false)) absent
