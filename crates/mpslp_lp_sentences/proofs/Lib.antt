@@ -15,3 +15,8 @@ pub mod FoundRows
 pub mod FoundSections
 pub mod FoundFile
 pub mod SentenceFound
+pub mod LexicalKinds
+pub mod FaultedTokens
+pub mod TokenCases
+pub mod SectionFaults
+mod WorkedTokens

@@ -1,0 +1,67 @@
+-- The sentences of `FaultsInWords` hold for the token with the error, and for no token of a file that is close to it and has
+-- no such error, by computation.
+use Rattle.std.proofs.Common.{◌≡◌, refl}
+use Rattle.std.specs.Prelude.{ℕ, suc, Bool, false, ◌||◌, List, ◌∷◌, [], ◌++◌, codes, reverse, if◌then◌else◌}
+use Rattle.std.specs.Str.Lines.{lines}
+use Rattle.mpslp_decimal.specs.Decimal.{trailing_zeros}
+use Rattle.mpslp_lp_grammar.specs.Terminal.{Terminal, terminals}
+use Rattle.mpslp_lp.proofs.WorkedFiles.{text}
+use Rattle.mpslp_lp_sentences.specs.FaultsInWords.{repeats_section, breaks_order}
+
+-- whether a sentence holds for one of the tokens, after earlier ones
+abbrev holds_among : (List Terminal → Terminal → Bool) → List Terminal → List Terminal → Bool
+holds_among is_such earlier [] = false
+holds_among is_such earlier (token ∷ more) = is_such earlier token || holds_among is_such (token ∷ earlier) more
+
+abbrev lines_among : (List Terminal → Terminal → Bool) → ℕ → List Terminal → List (List ℕ) → List ℕ
+lines_among is_such n earlier [] = []
+lines_among is_such n earlier (line ∷ more) =
+    if holds_among is_such earlier (terminals line) then n ∷ lines_among is_such (suc n) (reverse (terminals line) ++ earlier) more
+    else lines_among is_such (suc n) (reverse (terminals line) ++ earlier) more
+
+-- the numbers of the lines that have a token for which a sentence holds
+abbrev lines_with : (List Terminal → Terminal → Bool) → List (List ℕ) → List ℕ
+lines_with is_such ls = lines_among is_such 1 [] (lines (text ls))
+
+-- ---- a file with each section
+
+abbrev whole : List (List ℕ)
+whole = codes "max" ∷ codes "profit: 3 x + 2 y - - 4" ∷ codes "subject to" ∷ codes "c2: x + to <= 4" ∷ codes "-1 <= x + 2 y <= 8 x >= 2" ∷ codes "bounds" ∷ codes "x <= 4 1 <= y <= 5" ∷ codes "to free"
+    ∷ codes "gen x" ∷ codes "bin z" ∷ codes "semi-continuous y" ∷ codes "end" ∷ []
+
+-- ---- SectionRepeated
+
+pub no_section_twice : lines_with repeats_section whole ≡ []
+unfolding trailing_zeros
+no_section_twice = refl
+
+pub objective_twice : lines_with repeats_section (codes "min x" ∷ codes "st" ∷ codes "max" ∷ []) ≡ 3 ∷ []
+unfolding trailing_zeros
+objective_twice = refl
+
+pub semis_twice : lines_with repeats_section (codes "min x semi x" ∷ codes "semis x" ∷ codes "end" ∷ []) ≡ 2 ∷ []
+unfolding trailing_zeros
+semis_twice = refl
+
+-- ---- SectionOrder
+
+pub in_order : lines_with breaks_order whole ≡ []
+unfolding trailing_zeros
+in_order = refl
+
+pub rows_after_bounds : lines_with breaks_order (codes "min x" ∷ codes "bounds" ∷ codes "st" ∷ codes "end" ∷ []) ≡ 3 ∷ []
+unfolding trailing_zeros
+rows_after_bounds = refl
+
+pub end_without_objective : lines_with breaks_order (codes "end" ∷ []) ≡ 1 ∷ []
+unfolding trailing_zeros
+end_without_objective = refl
+
+pub bounds_after_end : lines_with breaks_order (codes "min x" ∷ codes "end bounds" ∷ []) ≡ 2 ∷ []
+unfolding trailing_zeros
+bounds_after_end = refl
+
+-- a section that is repeated is not out of order
+pub rows_twice : lines_with breaks_order (codes "min x" ∷ codes "st" ∷ codes "bounds" ∷ codes "st" ∷ []) ≡ []
+unfolding trailing_zeros
+rows_twice = refl

@@ -1,0 +1,5 @@
+use Rattle.mpslp_lp_sentences.proofs.SectionFaults.{section-repeated, section-order}
+use Rattle.mpslp_lp_sentences.proofs.laws.faults_are_in_words.Goals as goal
+
+pub returns : goal.returns
+returns c = record { section_repeated = section-repeated; section_order = section-order }
