@@ -19,4 +19,5 @@ pub mod LexicalKinds
 pub mod FaultedTokens
 pub mod TokenCases
 pub mod SectionFaults
+pub mod RowShapes
 mod WorkedTokens

@@ -53,7 +53,7 @@ use Rattle.mpslp_lp_grammar.specs.Terminal.{Terminal}
 use Rattle.mpslp_lp_grammar.specs.Terminal.Terminal.{Opens, Name, Number, Sign, Compares, Colon, Infinity, Free, Other}
 use Rattle.mpslp_lp_grammar.specs.TokenByToken.{new_column}
 use Rattle.mpslp_lp_grammar.specs.TokenStep.{begin_after, take_lone, take}
-use Rattle.mpslp_lp_sentences.specs.FaultsInWords.{IsInWords, current_section, is_under, ends_in_name, ends_in_value, ends_in_first_word, begins_row, follows_terms, may_be_left_side, is_right_side, ends_in_constant, follows_constant, left_relation, last_relation, bound_relation, agree, differs_from, mixes_under, mixes_senses, term_columns, is_named}
+use Rattle.mpslp_lp_sentences.specs.FaultsInWords.{IsInWords, is_section, current_section, is_under, ends_in_name, ends_in_value, ends_in_first_word, begins_row, follows_terms, may_be_left_side, is_right_side, ends_in_constant, follows_constant, left_relation, last_relation, bound_relation, agree, differs_from, mixes_under, mixes_senses, term_columns, is_named}
 use Rattle.mpslp_lp_sentences.proofs.FaultedTokens.{in-words}
 use Rattle.mpslp_lp_sentences.proofs.TokenCases.{first_named, signs-by, item-by, limit-by, row-by, bound-by, listed-by, in_objective-by, in_row-by, lone-by, constant-by, last_word-by, left-by, bound_name-by, bound_left-by, bound_column-by, side-by, begin-by, objective-by, objective_name-by, item_number-by, between_rows-by, row_name-by, row_sign-by, row_number-by, in_bounds-by, semi-by}
 use Rattle.mpslp_lp_sentences.proofs.SectionFaults.{section_at_place, section_of_item, section_of_side, section_at, Opened, none-opened, opened-later}
@@ -363,7 +363,7 @@ item context owner earlier h token =
   where
     next : (o : ItemOwner) (more : SignOf) → ItemShape o earlier → SignsShape o (Sign more ∷ earlier)
     next (OfObjective objective) more k = tt
-    next (OfRow row) more k = (row-signed row more earlier k.0, refl, relation-no_row earlier k.1, k.2)
+    next (OfRow row) more k = (row-signed row more earlier k.0, refl, (relation-no_row earlier k.1, k.2))
 
     named : (o : ItemOwner) → ItemShape o earlier → OwnerShape o earlier
     named (OfObjective objective) k = tt
@@ -454,7 +454,7 @@ phrase (BeforeItems objective) context earlier h token = item context (OfObjecti
 phrase (InObjective objective) context earlier h token = in_objective-by (KeepsShape (Some Objective) earlier) context objective (bad context (Some Objective) earlier) (λ sign. tt) token
 phrase BetweenRows context earlier h token = between_rows-by (KeepsShape (Some Rows) earlier) context (λ name. (refl, h)) (row context (default_row context) earlier h) token
 phrase (InRow partial) context earlier h token =
-    in_row-by (KeepsShape (Some Rows) earlier) context partial (bad context (Some Rows) earlier) (λ sign. (row-signed partial sign earlier h.0, refl, h.1, h.2)) (ended context partial earlier h.0) token
+    in_row-by (KeepsShape (Some Rows) earlier) context partial (bad context (Some Rows) earlier) (λ sign. (row-signed partial sign earlier h.0, refl, (h.1, h.2))) (ended context partial earlier h.0) token
 phrase (InBounds left) context earlier h token = in_bounds-by (KeepsShape (Some Bounds) earlier) context left (second context left earlier h) (bound context earlier) token
 phrase InGenerals context earlier h token = listed InGenerals declare_integer context earlier (λ name. tt) token
 phrase InBinaries context earlier h token = listed InBinaries declare_binary context earlier (λ name. tt) token
@@ -503,26 +503,144 @@ last_word context wanted earlier h token =
     by That name k = k
     by Continuous name k = tt
 
+-- the first sign of a row
+signed-left : (earlier : List Terminal) → SignShape earlier → may_be_left_side earlier ≡ true
+signed-left (Sign sign ∷ earlier) h = h
+signed-left [] h = absurd h
+signed-left (_ ∷ earlier) h = absurd h
+
+signed-last : (earlier : List Terminal) → SignShape earlier → ends_in_sign earlier ≡ true
+signed-last (Sign sign ∷ earlier) h = refl
+signed-last [] h = absurd h
+signed-last (_ ∷ earlier) h = absurd h
+
 row_signed : (context : Context) (label : List ℕ) (sign : SignOf) (earlier : List Terminal) → SignShape earlier → (token : Terminal) → KeepsShape (Some Rows) earlier token (take context (RowSign label sign) token)
 row_signed context label sign earlier h token =
-    row_sign-by (KeepsShape (Some Rows) earlier) context label sign refl (λ value. number earlier h) (signs-here earlier h) token
+    row_sign-by (KeepsShape (Some Rows) earlier) context label sign (bad context (Some Rows) earlier) refl (λ value. signed-left earlier h)
+    (λ more. (empty-row label (Sign more ∷ earlier), refl, sign-no_side more earlier (signed-last earlier h)))
+    (λ name. term context (OfRow (without_terms label None)) name (apply_sign sign one) earlier (empty-row label earlier, sign-no_word earlier (signed-last earlier h))) token
+
+-- the first number of a row
+number-value : (earlier : List Terminal) → LeftNumberShape earlier → ends_in_value earlier ≡ true
+number-value (Number value ∷ earlier) h = refl
+number-value [] h = absurd h
+number-value (_ ∷ earlier) h = absurd h
+
+value-no_word : (earlier : List Terminal) → ends_in_value earlier ≡ true → ends_in_first_word earlier ≡ false
+value-no_word [] h = refl
+value-no_word (Opens word ∷ earlier) h = absurd cc
+value-no_word (_ ∷ earlier) h = refl
+
+number-constant : (earlier : List Terminal) → LeftNumberShape earlier → (sign : SignOf) → ends_in_constant earlier (Sign sign) ≡ true
+number-constant (Number value ∷ earlier) h sign = so_not (is_right_side earlier) (left-not_right earlier h)
+number-constant [] h sign = absurd h
+number-constant (_ ∷ earlier) h sign = absurd h
+
+-- the relation after a left side
+left_related : (label : List ℕ) (l : Limit) (relation : Relation) (earlier : List Terminal) → ends_in_value earlier ≡ true → Shape (RowLeftRelation (without_terms label (Some (l, relation)))) (Compares relation ∷ earlier)
+left_related label l relation earlier h =
+    (record { left = ap (λ (b : Bool). if b then Some relation else None) h; terms = no_terms (Compares relation ∷ earlier) }, refl, value-no_name earlier h)
+
+row_numbered : (context : Context) (label : List ℕ) (sign : SignOf) (value : Decimal) (earlier : List Terminal) → LeftNumberShape earlier → (token : Terminal)
+    → KeepsShape (Some Rows) earlier token (take context (RowNumber label sign value) token)
+row_numbered context label sign value earlier h token =
+    row_number-by (KeepsShape (Some Rows) earlier) context label sign value (bad context (Some Rows) earlier)
+    (λ name. term context (OfRow (without_terms label None)) name (apply_sign sign value) earlier (empty-row label earlier, value-no_word earlier (number-value earlier h)))
+    (λ relation. left_related label (limit_of (apply_sign sign value)) relation earlier (number-value earlier h))
+    (λ more. refused context (Some Rows) earlier (Sign more) kinds.ConstantInRow (refl, number-constant earlier h more)) token
+
+row_named : (context : Context) (label : List ℕ) (earlier : List Terminal) → NameShape label earlier → (token : Terminal) → KeepsShape (Some Rows) earlier token (take context (RowName label) token)
+row_named context label earlier h token = row_name-by (KeepsShape (Some Rows) earlier) context label refl (first (InRow (first_named context label)) (with_made context []) earlier (by earlier h)) token
   where
-    number : (xs : List Terminal) → SignShape xs → may_be_left_side xs ≡ true
-    number (Sign s ∷ xs) k = k
-    number [] k = absurd k
-    number (_ ∷ xs) k = absurd k
+    by : (xs : List Terminal) → NameShape label xs → PlaceShape (InRow (first_named context label)) xs
+    by (Name name ∷ xs) k =
+        subst (λ (n : List ℕ). PlaceShape (InRow (first_named context n)) (Name name ∷ xs)) k.0
+        (row-longer (record (first_named context name) { terms = [] }) name one xs (begins-no_word xs k.1) (record { left = tt; terms = no_terms xs }))
+    by [] k = absurd k
+    by (_ ∷ xs) k = absurd k
 
-    shape : (xs : List Terminal) → SignShape xs → ends_in_sign xs ≡ true
-    shape (Sign s ∷ xs) k = refl
-    shape [] k = absurd k
-    shape (_ ∷ xs) k = absurd k
+item_numbered : (context : Context) (owner : ItemOwner) (sign : SignOf) (value : Decimal) (earlier : List Terminal) → NumberShape owner earlier → (token : Terminal)
+    → KeepsShape (section_of_item owner) earlier token (take context (ItemNumber owner sign value) token)
+item_numbered context owner sign value earlier h token =
+    item_number-by (KeepsShape (section_of_item owner) earlier) context owner sign value (λ name. term context owner name (apply_sign sign value) earlier (by owner h))
+    (lone context owner (apply_sign sign value) earlier h) token
+  where
+    no_word : (xs : List Terminal) → EndsInLone xs → ends_in_first_word xs ≡ false
+    no_word (Number v ∷ xs) k = refl
+    no_word [] k = absurd k
+    no_word (_ ∷ xs) k = absurd k
 
-    signs-here : (xs : List Terminal) → SignShape xs → (t : Terminal) → KeepsShape (Some Rows) xs t (take_after_signs context (OfRow (without_terms label None)) sign t)
-    signs-here xs k t =
-        signs-by (KeepsShape (Some Rows) xs) context (OfRow (without_terms label None)) sign (bad context (Some Rows) xs)
-        (λ more. (empty-row label (Sign more ∷ xs), refl, sign-no_side more xs (shape xs k)))
-        (λ name. term context (OfRow (without_terms label None)) name (apply_sign sign one) xs (empty-row label xs, sign-no_word xs (shape xs k)))
-        (λ value. absurd never) t
+    by : (o : ItemOwner) → NumberShape o earlier → OwnerShape o earlier
+    by (OfObjective objective) k = tt
+    by (OfRow row) k = (k.0, no_word earlier k.1)
 
 -- ---- each state
 
+step : (context : Context) (state : State) (earlier : List Terminal) → Shape state earlier → (token : Terminal) → KeepsShape (section_at state) earlier token (take context state token)
+step context (Between place) earlier h token = first place context earlier h token
+step context (AtObjective sense) earlier h token =
+    objective-by (KeepsShape (Some Objective) earlier) context sense (λ name. tt) (later context (objective_declared sense default_objective) (BeforeItems default_objective) earlier tt) token
+step context (ObjectiveName sense label) earlier h token =
+    objective_name-by (KeepsShape (Some Objective) earlier) context sense label
+    (declared context (Some Objective) earlier Colon (refusals_in_turn context.earlier (objective_declared sense label)) (BeforeItems label) (objective_declared sense label) tt)
+    (later context (first_item_declared sense label) (InObjective default_objective) earlier tt) token
+step context (AtLastWord wanted) earlier h token = last_word context wanted earlier h token
+step context AtSemi earlier h token = semi-by (KeepsShape (Some SemiContinuous) earlier) context tt (first InSemis (with_made context []) earlier tt) token
+step context (Signs owner sign) earlier h token = signs context owner sign earlier h token
+step context (ItemNumber owner sign value) earlier h token = item_numbered context owner sign value earlier h token
+step context (RowName label) earlier h token = row_named context label earlier h token
+step context (RowLabel label) earlier h token = row context label earlier h token
+step context (RowSign label sign) earlier h token = row_signed context label sign earlier h token
+step context (RowNumber label sign value) earlier h token = row_numbered context label sign value earlier h token
+step context (RowLeft label l) earlier h token = left-by (KeepsShape (Some Rows) earlier) context label l (bad context (Some Rows) earlier) (λ relation. left_related label l relation earlier h) token
+step context (RowLeftRelation partial) earlier h token = item context (OfRow partial) earlier h token
+step context (BoundName column) earlier h token =
+    bound_name-by (KeepsShape (Some Bounds) earlier) context column (bad context (Some Bounds) earlier)
+    (declared context (Some Bounds) earlier Free (bounds_refusals (with_declarations context.earlier (declare_column column ∷ [])) column no_limits.lower no_limits.upper) (InBounds None)
+    (declare_column column ∷ bounds_declared column no_limits.lower no_limits.upper) tt) (λ relation. tt) token
+step context (BoundSign sign) earlier h token = limit-by (KeepsShape (Some Bounds) earlier) context (λ l t. Goes context (BoundLeft l)) sign (bad context (Some Bounds) earlier) (λ value. tt) tt token
+step context (BoundLeft l) earlier h token = bound_left-by (KeepsShape (Some Bounds) earlier) context l (bad context (Some Bounds) earlier) (λ relation. refl) token
+step context (BoundLeftRelation l relation) earlier h token =
+    let limits = limits_by (flip relation) l in
+    bound_column-by (KeepsShape (Some Bounds) earlier) context l relation (bad context (Some Bounds) earlier)
+    (λ name. declared context (Some Bounds) earlier (Name name) (bounds_refusals (with_declarations context.earlier (declare_column name ∷ [])) name limits.lower limits.upper) (InBounds (Some (name, relation)))
+    (declare_column name ∷ bounds_declared name limits.lower limits.upper) h) token
+step context (AtSide sided) earlier h token =
+    side-by (KeepsShape (section_of_side sided) earlier) context sided (bad context (section_of_side sided) earlier) (λ sign. tt) (λ value. side context sided (limit_of value) earlier (Number value) refl)
+    (side context sided PlusInf earlier Infinity refl) token
+step context (SideSign sided sign) earlier h token =
+    limit-by (KeepsShape (section_of_side sided) earlier) context (λ l t. take_side context sided l t) sign (bad context (section_of_side sided) earlier)
+    (λ value. side context sided (limit_of (apply_sign sign value)) earlier (Number value) refl) (side context sided (infinity sign) earlier Infinity refl) token
+step context AfterEnd earlier h token = bad context (Some End) earlier token
+
+-- ---- the laws
+
+pub record Shaped (earlier : List Terminal) (context : Context) (state : State) : Type 0 where
+  pub opened : Opened earlier context state
+  pub shape : Shape state earlier
+
+pub none-shaped : Shaped [] start.context (Between AtStart)
+none-shaped = record { opened = none-opened; shape = tt }
+
+pub shaped-later : (earlier : List Terminal) (context : Context) (state : State) (token : Terminal) (after : Context) (next : State) → Shaped earlier context state → take context state token ≡ Goes after next
+    → Shaped (token ∷ earlier) after next
+shaped-later earlier context state token after next known h = record {
+  opened = opened-later earlier context state token after next known.opened h;
+  shape = subst (λ (taken : AfterToken). KeepsShape (section_at state) earlier token taken) h (step context state earlier known.shape token);
+}
+
+mixed : (earlier : List Terminal) (context : Context) (state : State) (token : Terminal) → Shaped earlier context state → take context state token ≡ Refuses kinds.MixedSenses → mixes_senses earlier token ≡ true
+mixed earlier context state token known h =
+    ap (λ (here : Option Section). mixes_under here earlier token) known.opened.current
+    ∙ subst (λ (taken : AfterToken). KeepsShape (section_at state) earlier token taken) h (step context state earlier known.shape token)
+
+constant : (earlier : List Terminal) (context : Context) (state : State) (token : Terminal) → Shaped earlier context state → take context state token ≡ Refuses kinds.ConstantInRow → follows_constant earlier token ≡ true
+constant earlier context state token known h =
+    let said : Says (section_at state) earlier token kinds.ConstantInRow = subst (λ (taken : AfterToken). KeepsShape (section_at state) earlier token taken) h (step context state earlier known.shape token) in
+    both_so (is_under Rows earlier) (ends_in_constant earlier token) (ap (λ (here : Option Section). option_map_or (is_section Rows) here false) (known.opened.current ∙ said.0)) said.1
+
+pub mixed-senses : IsInWords kinds.MixedSenses mixes_senses
+mixed-senses = in-words kinds.MixedSenses mixes_senses Shaped (record { at_start = none-shaped; goes = shaped-later; refuses = mixed }) refl refl
+
+pub constant-in_row : IsInWords kinds.ConstantInRow follows_constant
+constant-in_row = in-words kinds.ConstantInRow follows_constant Shaped (record { at_start = none-shaped; goes = shaped-later; refuses = constant }) refl refl

@@ -324,10 +324,11 @@ step context (ItemNumber owner sign value) token =
 step context (RowName label) token = row_name-by (KeepsSections context (Some Rows)) context label (refl, refl) (first-later context [] (InRow (first_named context label))) token
 step context (RowLabel label) token = row context label token
 step context (RowSign label sign) token =
-    row_sign-by (KeepsSections context (Some Rows)) context label sign (refl, refl) (λ value. (refl, refl)) (signs context (OfRow (without_terms label None)) sign) token
+    row_sign-by (KeepsSections context (Some Rows)) context label sign (bad context (Some Rows)) (refl, refl) (λ value. (refl, refl)) (λ more. (refl, refl))
+    (λ name. term context (OfRow (without_terms label None)) name name (apply_sign sign one)) token
 step context (RowNumber label sign value) token =
-    row_number-by (KeepsSections context (Some Rows)) context label sign value (λ name. term context (OfRow (without_terms label None)) name name (apply_sign sign value)) (λ relation. (refl, refl))
-    (lone context (OfRow (without_terms label None)) (apply_sign sign value)) token
+    row_number-by (KeepsSections context (Some Rows)) context label sign value (bad context (Some Rows)) (λ name. term context (OfRow (without_terms label None)) name name (apply_sign sign value)) (λ relation. (refl, refl))
+    (λ more. refused context (Some Rows) (Sign more) kinds.ConstantInRow refl) token
 step context (RowLeft label l) token = left-by (KeepsSections context (Some Rows)) context label l (bad context (Some Rows)) (λ relation. (refl, refl)) token
 step context (RowLeftRelation partial) token = item context (OfRow partial) token
 step context (BoundName column) token =

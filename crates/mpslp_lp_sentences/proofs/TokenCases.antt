@@ -373,36 +373,37 @@ module _ (P : Terminal → AfterToken → Type 0) where
   row_name-by context label colon others Other = others Other
 
   -- after the first sign of a row
-  pub row_sign-by : (context : Context) (label : List ℕ) (before : SignOf)
+  pub row_sign-by : (context : Context) (label : List ℕ) (before : SignOf) → ((t : Terminal) → P t (refuse context t kinds.BadToken))
       → (P Infinity (Goes context (RowLeft label (infinity before))))
       → ((value : Decimal) → P (Number value) (Goes context (RowNumber label before value)))
-      → ((t : Terminal) → P t (take_after_signs context (OfRow (without_terms label None)) before t))
+      → ((sign : SignOf) → P (Sign sign) (Goes context (Signs (OfRow (without_terms label None)) (product before sign))))
+      → ((name : List ℕ) → P (Name name) (take_term context (OfRow (without_terms label None)) name (apply_sign before one) (Name name)))
       → (t : Terminal) → P t (take context (RowSign label before) t)
-  row_sign-by context label before infinite number others (Opens word) = others (Opens word)
-  row_sign-by context label before infinite number others (Name name) = others (Name name)
-  row_sign-by context label before infinite number others (Number value) = number value
-  row_sign-by context label before infinite number others (Sign sign) = others (Sign sign)
-  row_sign-by context label before infinite number others (Compares relation) = others (Compares relation)
-  row_sign-by context label before infinite number others Colon = others Colon
-  row_sign-by context label before infinite number others Infinity = infinite
-  row_sign-by context label before infinite number others Free = others Free
-  row_sign-by context label before infinite number others Other = others Other
+  row_sign-by context label before bad infinite number more term (Opens word) = bad (Opens word)
+  row_sign-by context label before bad infinite number more term (Name name) = term name
+  row_sign-by context label before bad infinite number more term (Number value) = number value
+  row_sign-by context label before bad infinite number more term (Sign sign) = more sign
+  row_sign-by context label before bad infinite number more term (Compares relation) = bad (Compares relation)
+  row_sign-by context label before bad infinite number more term Colon = bad Colon
+  row_sign-by context label before bad infinite number more term Infinity = infinite
+  row_sign-by context label before bad infinite number more term Free = bad Free
+  row_sign-by context label before bad infinite number more term Other = bad Other
 
   -- after the first number of a row
-  pub row_number-by : (context : Context) (label : List ℕ) (before : SignOf) (number : Decimal)
+  pub row_number-by : (context : Context) (label : List ℕ) (before : SignOf) (number : Decimal) → ((t : Terminal) → P t (refuse context t kinds.BadToken))
       → ((name : List ℕ) → P (Name name) (take_term context (OfRow (without_terms label None)) name (apply_sign before number) (Name name)))
       → ((relation : Relation) → P (Compares relation) (Goes context (RowLeftRelation (without_terms label (Some (limit_of (apply_sign before number), relation))))))
-      → ((t : Terminal) → P t (take_lone context (OfRow (without_terms label None)) (apply_sign before number) t))
+      → ((sign : SignOf) → P (Sign sign) (refuse context (Sign sign) kinds.ConstantInRow))
       → (t : Terminal) → P t (take context (RowNumber label before number) t)
-  row_number-by context label before number term end others (Opens word) = others (Opens word)
-  row_number-by context label before number term end others (Name name) = term name
-  row_number-by context label before number term end others (Number value) = others (Number value)
-  row_number-by context label before number term end others (Sign sign) = others (Sign sign)
-  row_number-by context label before number term end others (Compares relation) = end relation
-  row_number-by context label before number term end others Colon = others Colon
-  row_number-by context label before number term end others Infinity = others Infinity
-  row_number-by context label before number term end others Free = others Free
-  row_number-by context label before number term end others Other = others Other
+  row_number-by context label before number bad term end more (Opens word) = bad (Opens word)
+  row_number-by context label before number bad term end more (Name name) = term name
+  row_number-by context label before number bad term end more (Number value) = bad (Number value)
+  row_number-by context label before number bad term end more (Sign sign) = more sign
+  row_number-by context label before number bad term end more (Compares relation) = end relation
+  row_number-by context label before number bad term end more Colon = bad Colon
+  row_number-by context label before number bad term end more Infinity = bad Infinity
+  row_number-by context label before number bad term end more Free = bad Free
+  row_number-by context label before number bad term end more Other = bad Other
 
   -- a token of the bounds
   pub in_bounds-by : (context : Context) (left : Option (List ℕ × Relation))

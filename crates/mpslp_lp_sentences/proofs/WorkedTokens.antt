@@ -6,7 +6,7 @@ use Rattle.std.specs.Str.Lines.{lines}
 use Rattle.mpslp_decimal.specs.Decimal.{trailing_zeros}
 use Rattle.mpslp_lp_grammar.specs.Terminal.{Terminal, terminals}
 use Rattle.mpslp_lp.proofs.WorkedFiles.{text}
-use Rattle.mpslp_lp_sentences.specs.FaultsInWords.{repeats_section, breaks_order}
+use Rattle.mpslp_lp_sentences.specs.FaultsInWords.{repeats_section, breaks_order, follows_constant, mixes_senses}
 
 -- whether a sentence holds for one of the tokens, after earlier ones
 abbrev holds_among : (List Terminal → Terminal → Bool) → List Terminal → List Terminal → Bool
@@ -65,3 +65,65 @@ bounds_after_end = refl
 pub rows_twice : lines_with breaks_order (codes "min x" ∷ codes "st" ∷ codes "bounds" ∷ codes "st" ∷ []) ≡ []
 unfolding trailing_zeros
 rows_twice = refl
+
+-- ---- ConstantInRow
+
+-- a row in place of one
+abbrev with_row : List ℕ → List (List ℕ)
+with_row line = codes "min 3 + x" ∷ codes "subject to" ∷ line ∷ codes "bounds -3 <= x" ∷ codes "end" ∷ []
+
+pub no_constant : lines_with follows_constant whole ≡ []
+unfolding trailing_zeros
+no_constant = refl
+
+pub constant_after_a_term : lines_with follows_constant (with_row (codes "x + 3 <= 5")) ≡ 3 ∷ []
+unfolding trailing_zeros
+constant_after_a_term = refl
+
+pub constant_after_a_left_side : lines_with follows_constant (with_row (codes "1 <= 3 >= x")) ≡ 3 ∷ []
+unfolding trailing_zeros
+constant_after_a_left_side = refl
+
+pub constant_first : lines_with follows_constant (with_row (codes "c: 3 + x <= 5")) ≡ 3 ∷ []
+unfolding trailing_zeros
+constant_first = refl
+
+pub two_signs_on_the_left : lines_with follows_constant (with_row (codes "- - 3 <= x")) ≡ 3 ∷ []
+unfolding trailing_zeros
+two_signs_on_the_left = refl
+
+-- the right side of a row, and then a row that begins with a sign, or with a left side
+pub row_with_a_sign : lines_with follows_constant (with_row (codes "x >= 2 + y <= - 5 - 4 <= y <= 7")) ≡ []
+unfolding trailing_zeros
+row_with_a_sign = refl
+
+pub relation_after_a_right_side : lines_with follows_constant (with_row (codes "x <= 4 <= 5")) ≡ []
+unfolding trailing_zeros
+relation_after_a_right_side = refl
+
+-- ---- MixedSenses
+
+pub no_mixed_senses : lines_with mixes_senses whole ≡ []
+unfolding trailing_zeros
+no_mixed_senses = refl
+
+pub mixed_in_a_row : lines_with mixes_senses (with_row (codes "1 <= x - 2 y >= 0")) ≡ 3 ∷ []
+unfolding trailing_zeros
+mixed_in_a_row = refl
+
+pub equal_on_the_left : lines_with mixes_senses (with_row (codes "3 = x = 4")) ≡ 3 ∷ []
+unfolding trailing_zeros
+equal_on_the_left = refl
+
+pub mixed_in_a_bound : lines_with mixes_senses (codes "min x" ∷ codes "bounds" ∷ codes "1 <= x >= 0" ∷ []) ≡ 3 ∷ []
+unfolding trailing_zeros
+mixed_in_a_bound = refl
+
+-- two rows, or two bounds
+pub mixed_in_two_rows : lines_with mixes_senses (with_row (codes "c: 1 <= x <= 4 y >= 2 3 x = 2")) ≡ []
+unfolding trailing_zeros
+mixed_in_two_rows = refl
+
+pub mixed_in_two_bounds : lines_with mixes_senses (codes "min x" ∷ codes "bounds" ∷ codes "1 <= x y >= 2 x >= 4 z = 3" ∷ []) ≡ []
+unfolding trailing_zeros
+mixed_in_two_bounds = refl

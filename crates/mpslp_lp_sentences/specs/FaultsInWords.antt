@@ -10,6 +10,7 @@ use Rattle.mpslp_types.specs.declared.faults.FaultKind.{FaultKind}
 use Rattle.mpslp_lp_tokens.specs.Words.{section_of}
 use Rattle.mpslp_lp_tokens.specs.declared.words.Section.{Section}
 use Rattle.mpslp_lp_tokens.specs.declared.words.Section.TheVariants.{Objective, Rows, Bounds, Generals, Binaries, SemiContinuous, End}
+use Rattle.mpslp_lp_tokens.specs.declared.words.SectionWord.{SectionWord}
 use Rattle.mpslp_lp_tokens.specs.declared.words.SectionWord.TheVariants as words
 use Rattle.mpslp_lp_grammar.specs.declared.relations.Relation.{Relation}
 use Rattle.mpslp_lp_grammar.specs.declared.relations.Relation.TheVariants.{AtMost, AtLeast, EqualTo}
@@ -81,6 +82,124 @@ comes_early earlier section = not (has_opened earlier Objective)
 abbrev pub breaks_order : List Terminal → Terminal → Bool
 breaks_order earlier (Opens word) = not (has_opened earlier (section_of word)) && (comes_early earlier (section_of word) || comes_late earlier (section_of word))
 breaks_order earlier _ = false
+
+-- ---- rows
+
+-- the last token before is a name; or a number or an infinity
+abbrev pub ends_in_name : List Terminal → Bool
+ends_in_name (Name name ∷ earlier) = true
+ends_in_name _ = false
+
+abbrev pub ends_in_value : List Terminal → Bool
+ends_in_value (Number value ∷ earlier) = true
+ends_in_value (Infinity ∷ earlier) = true
+ends_in_value _ = false
+
+-- the last token before is `subject` or `such`, so that the next one is the last word of the heading
+abbrev pub is_first_word : SectionWord → Bool
+is_first_word words.Subject = true
+is_first_word words.Such = true
+is_first_word _ = false
+
+abbrev pub ends_in_first_word : List Terminal → Bool
+ends_in_first_word (Opens word ∷ earlier) = is_first_word word
+ends_in_first_word _ = false
+
+-- `st` and the like
+abbrev pub is_rows_word : SectionWord → Bool
+is_rows_word words.Rows = true
+is_rows_word _ = false
+
+-- A row begins after the heading, after its label, and after the number or the infinity with which the row before it ends.
+abbrev pub begins_row : List Terminal → Bool
+begins_row (Opens word ∷ earlier) = is_rows_word word
+begins_row (Name word ∷ earlier) = ends_in_first_word earlier
+begins_row (Colon ∷ earlier) = true
+begins_row (Number value ∷ earlier) = true
+begins_row (Infinity ∷ earlier) = true
+begins_row _ = false
+
+-- the relation before a right side follows the name of the last term
+abbrev pub follows_terms : List Terminal → Bool
+follows_terms (Compares relation ∷ earlier) = ends_in_name earlier
+follows_terms _ = false
+
+-- at most one sign after tokens of this kind
+abbrev pub after_sign : (List Terminal → Bool) → List Terminal → Bool
+after_sign test (Sign sign ∷ earlier) = test earlier
+after_sign test earlier = test earlier
+
+-- a number after these tokens may be the left side of a row; it is the right side of a row
+abbrev pub may_be_left_side : List Terminal → Bool
+may_be_left_side earlier = after_sign begins_row earlier
+
+abbrev pub is_right_side : List Terminal → Bool
+is_right_side earlier = after_sign follows_terms earlier
+
+-- ---- ConstantInRow: a sign or a relation after a number that no name follows and that is no side of the row
+
+abbrev pub ends_in_constant : List Terminal → Terminal → Bool
+ends_in_constant (Number value ∷ earlier) (Sign sign) = not (is_right_side earlier)
+ends_in_constant (Number value ∷ earlier) (Compares relation) = not (is_right_side earlier) && not (may_be_left_side earlier)
+ends_in_constant _ _ = false
+
+abbrev pub follows_constant : List Terminal → Terminal → Bool
+follows_constant earlier token = is_under Rows earlier && ends_in_constant earlier token
+
+-- ---- MixedSenses: a second relation of a row or a bound that differs from the first, or a second one after `=`
+
+-- the relation after the left side of a row, which follows a number or an infinity, if only terms come after it
+abbrev pub left_relation : List Terminal → Option Relation
+left_relation (Compares relation ∷ earlier) = if ends_in_value earlier then Some relation else None
+left_relation (Name column ∷ earlier) = left_relation earlier
+left_relation (Number value ∷ earlier) = left_relation earlier
+left_relation (Sign sign ∷ earlier) = left_relation earlier
+left_relation _ = None
+
+-- the relation before the column of a bound, if this column is the last token before
+abbrev pub last_relation : List Terminal → Option Relation
+last_relation (Compares relation ∷ earlier) = Some relation
+last_relation _ = None
+
+abbrev pub bound_relation : List Terminal → Option Relation
+bound_relation (Name column ∷ earlier) = last_relation earlier
+bound_relation _ = None
+
+-- both are `<`, or both are `>`
+abbrev pub agree : Relation → Relation → Bool
+agree AtMost AtMost = true
+agree AtLeast AtLeast = true
+agree _ _ = false
+
+abbrev pub differs_from : Option Relation → Relation → Bool
+differs_from first second = option_map_or (λ relation. not (agree relation second)) first false
+
+abbrev pub mixes_under : Option Section → List Terminal → Terminal → Bool
+mixes_under (Some Rows) earlier (Compares relation) = differs_from (left_relation earlier) relation
+mixes_under (Some Bounds) earlier (Compares relation) = differs_from (bound_relation earlier) relation
+mixes_under _ earlier _ = false
+
+abbrev pub mixes_senses : List Terminal → Terminal → Bool
+mixes_senses earlier token = mixes_under (current_section earlier) earlier token
+
+-- ---- DuplicateEntry: a name of a term that is also that of an earlier term of the row or the objective
+
+-- the columns of the terms since the last heading, label or relation
+abbrev pub term_columns : List Terminal → List (List ℕ)
+term_columns (Name column ∷ earlier) = if ends_in_first_word earlier then [] else column ∷ term_columns earlier
+term_columns (Number value ∷ earlier) = term_columns earlier
+term_columns (Sign sign ∷ earlier) = term_columns earlier
+term_columns _ = []
+
+abbrev pub is_named : List ℕ → List (List ℕ) → Bool
+is_named name names = list_any (same_bytes name) names
+
+abbrev pub repeats_column : List Terminal → Terminal → Bool
+repeats_column earlier (Name column) = is_named column (term_columns earlier)
+repeats_column earlier _ = false
+
+abbrev pub repeats_entry : List Terminal → Terminal → Bool
+repeats_entry earlier token = (is_under Objective earlier || is_under Rows earlier) && repeats_column earlier token
 
 -- ---- the laws
 

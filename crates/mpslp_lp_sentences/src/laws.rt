@@ -1,7 +1,7 @@
 //! Laws of LP text as a whole. Each is the contract of a function that does nothing: to cite the law, call the function.
 
 ghost use Rattle.mpslp_types.specs.declared.faults.FaultKind.{FaultKind};
-ghost use Rattle.mpslp_lp_sentences.specs.FaultsInWords.{IsInWords, breaks_order, repeats_section};
+ghost use Rattle.mpslp_lp_sentences.specs.FaultsInWords.{IsInWords, breaks_order, follows_constant, mixes_senses, repeats_section};
 ghost use Rattle.mpslp_lp_sentences.specs.Laws.{ReadTextsAreSentences, SentencesAreRead};
 
 /// Bytes whose first lines are, token by token, a file, with no error of a line by itself and no declaration that is
@@ -20,4 +20,6 @@ pub fn read_texts_are_sentences()
 pub fn faults_are_in_words()
     ensures section_repeated { IsInWords FaultKind.SectionRepeated repeats_section }
     ensures section_order { IsInWords FaultKind.SectionOrder breaks_order }
+    ensures constant_in_row { IsInWords FaultKind.ConstantInRow follows_constant }
+    ensures mixed_senses { IsInWords FaultKind.MixedSenses mixes_senses }
 {}

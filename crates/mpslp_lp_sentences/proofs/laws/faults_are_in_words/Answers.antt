@@ -1,5 +1,6 @@
 use Rattle.mpslp_lp_sentences.proofs.SectionFaults.{section-repeated, section-order}
+use Rattle.mpslp_lp_sentences.proofs.RowShapes.{mixed-senses, constant-in_row}
 use Rattle.mpslp_lp_sentences.proofs.laws.faults_are_in_words.Goals as goal
 
 pub returns : goal.returns
-returns c = record { section_repeated = section-repeated; section_order = section-order }
+returns c = record { section_repeated = section-repeated; section_order = section-order; constant_in_row = constant-in_row; mixed_senses = mixed-senses }
