@@ -20,4 +20,6 @@ pub mod FaultedTokens
 pub mod TokenCases
 pub mod SectionFaults
 pub mod RowShapes
+pub mod Refusals
+pub mod ToldFaults
 mod WorkedTokens

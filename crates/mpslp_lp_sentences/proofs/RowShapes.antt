@@ -53,7 +53,7 @@ use Rattle.mpslp_lp_grammar.specs.Terminal.{Terminal}
 use Rattle.mpslp_lp_grammar.specs.Terminal.Terminal.{Opens, Name, Number, Sign, Compares, Colon, Infinity, Free, Other}
 use Rattle.mpslp_lp_grammar.specs.TokenByToken.{new_column}
 use Rattle.mpslp_lp_grammar.specs.TokenStep.{begin_after, take_lone, take}
-use Rattle.mpslp_lp_sentences.specs.FaultsInWords.{IsInWords, is_section, current_section, is_under, ends_in_name, ends_in_value, ends_in_first_word, begins_row, follows_terms, may_be_left_side, is_right_side, ends_in_constant, follows_constant, left_relation, last_relation, bound_relation, agree, differs_from, mixes_under, mixes_senses, term_columns, is_named}
+use Rattle.mpslp_lp_sentences.specs.FaultsInWords.{IsInWords, is_section, ends_in_number, ends_in_sign, last_name, current_section, is_under, ends_in_name, ends_in_value, ends_in_first_word, begins_row, follows_terms, may_be_left_side, is_right_side, ends_in_constant, follows_constant, left_relation, last_relation, bound_relation, agree, differs_from, mixes_under, mixes_senses, term_columns, is_named}
 use Rattle.mpslp_lp_sentences.proofs.FaultedTokens.{in-words}
 use Rattle.mpslp_lp_sentences.proofs.TokenCases.{first_named, signs-by, item-by, limit-by, row-by, bound-by, listed-by, in_objective-by, in_row-by, lone-by, constant-by, last_word-by, left-by, bound_name-by, bound_left-by, bound_column-by, side-by, begin-by, objective-by, objective_name-by, item_number-by, between_rows-by, row_name-by, row_sign-by, row_number-by, in_bounds-by, semi-by}
 use Rattle.mpslp_lp_sentences.proofs.SectionFaults.{section_at_place, section_of_item, section_of_side, section_at, Opened, none-opened, opened-later}
@@ -61,11 +61,11 @@ use Rattle.mpslp_lp_sentences.proofs.SectionFaults.{section_at_place, section_of
 -- ---- the tokens before, in each state
 
 -- a number after these tokens is no side of a row
-abbrev NoSide : List Terminal → Type 0
+abbrev pub NoSide : List Terminal → Type 0
 NoSide earlier = (may_be_left_side earlier ≡ false) × (is_right_side earlier ≡ false)
 
 -- the left side and the terms of a row are among the tokens
-abbrev HasLeft : Option (Limit × Relation) → List Terminal → Type 0
+abbrev pub HasLeft : Option (Limit × Relation) → List Terminal → Type 0
 HasLeft None earlier = Unit {0}
 HasLeft (Some left) earlier = left_relation earlier ≡ Some left.1
 
@@ -76,43 +76,53 @@ pub record IsRow (row : PartialRow) (earlier : List Terminal) : Type 0 where
   pub left : HasLeft row.left earlier
   pub terms : HasTerms row.terms earlier
 
-abbrev ends_in_sign : List Terminal → Bool
-ends_in_sign (Sign sign ∷ earlier) = true
-ends_in_sign _ = false
-
 abbrev ends_in_relation : List Terminal → Bool
 ends_in_relation (Compares relation ∷ earlier) = true
 ends_in_relation _ = false
 
 abbrev pub PlaceShape : Place → List Terminal → Type 0
 PlaceShape BetweenRows earlier = begins_row earlier ≡ true
-PlaceShape (InRow row) earlier = IsRow row earlier × (begins_row earlier ≡ false) × (follows_terms earlier ≡ false)
-PlaceShape (InBounds (Some left)) earlier = bound_relation earlier ≡ Some left.1
+PlaceShape (InRow row) earlier = IsRow row earlier × (begins_row earlier ≡ false) × (ends_in_name earlier ≡ true)
+PlaceShape (InBounds (Some left)) earlier = (bound_relation earlier ≡ Some left.1) × (last_name earlier ≡ Some left.0)
+PlaceShape InSemis earlier = ends_in_sign earlier ≡ false
 PlaceShape _ earlier = Unit {0}
 
-abbrev SignsShape : ItemOwner → List Terminal → Type 0
+abbrev pub SignsShape : ItemOwner → List Terminal → Type 0
 SignsShape (OfObjective objective) earlier = Unit {0}
 SignsShape (OfRow row) earlier = IsRow row earlier × (ends_in_sign earlier ≡ true) × NoSide earlier
 
-abbrev EndsInLone : List Terminal → Type 0
+abbrev pub EndsInLone : List Terminal → Type 0
 EndsInLone (Number value ∷ earlier) = NoSide earlier
 EndsInLone _ = ⊥
 
-abbrev NumberShape : ItemOwner → List Terminal → Type 0
-NumberShape (OfObjective objective) earlier = Unit {0}
+abbrev pub NumberShape : ItemOwner → List Terminal → Type 0
+NumberShape (OfObjective objective) earlier = ends_in_number earlier ≡ true
 NumberShape (OfRow row) earlier = IsRow row earlier × EndsInLone earlier
 
-abbrev NameShape : List ℕ → List Terminal → Type 0
+abbrev pub NameShape : List ℕ → List Terminal → Type 0
 NameShape label (Name name ∷ earlier) = (name ≡ label) × (begins_row earlier ≡ true)
 NameShape label _ = ⊥
 
-abbrev SignShape : List Terminal → Type 0
+abbrev pub SignShape : List Terminal → Type 0
 SignShape (Sign sign ∷ earlier) = begins_row earlier ≡ true
 SignShape _ = ⊥
 
-abbrev LeftNumberShape : List Terminal → Type 0
+abbrev pub LeftNumberShape : List Terminal → Type 0
 LeftNumberShape (Number value ∷ earlier) = may_be_left_side earlier ≡ true
 LeftNumberShape _ = ⊥
+
+-- a relation, after a column of a bound or the terms of a row
+abbrev pub RelatedTo : List ℕ → Relation → List Terminal → Type 0
+RelatedTo column relation (Compares other ∷ earlier) = (other ≡ relation) × (last_name earlier ≡ Some column)
+RelatedTo column relation _ = ⊥
+
+abbrev pub SideShape : SideOwner → List Terminal → Type 0
+SideShape (SideOfRow row relation) earlier = follows_terms earlier ≡ true
+SideShape (SideOfBound is_new column relation) earlier = RelatedTo column relation earlier
+
+abbrev pub SignedSideShape : SideOwner → List Terminal → Type 0
+SignedSideShape sided (Sign sign ∷ earlier) = SideShape sided earlier
+SignedSideShape sided _ = ⊥
 
 abbrev pub Shape : State → List Terminal → Type 0
 Shape (Between place) earlier = PlaceShape place earlier
@@ -126,7 +136,11 @@ Shape (RowSign label sign) earlier = SignShape earlier
 Shape (RowNumber label sign value) earlier = LeftNumberShape earlier
 Shape (RowLeft label l) earlier = ends_in_value earlier ≡ true
 Shape (RowLeftRelation row) earlier = IsRow row earlier × (ends_in_relation earlier ≡ true) × (follows_terms earlier ≡ false)
+Shape (BoundName column) earlier = last_name earlier ≡ Some column
 Shape (BoundLeftRelation l relation) earlier = last_relation earlier ≡ Some relation
+Shape (AtSide sided) earlier = SideShape sided earlier
+Shape (SideSign sided sign) earlier = SignedSideShape sided earlier
+Shape AtSemi earlier = ends_in_sign earlier ≡ false
 Shape _ earlier = Unit {0}
 
 -- ---- what an error says
@@ -227,6 +241,11 @@ value-no_name : (earlier : List Terminal) → ends_in_value earlier ≡ true →
 value-no_name [] h = refl
 value-no_name (Name name ∷ earlier) h = absurd cc
 value-no_name (_ ∷ earlier) h = refl
+
+name-no_relation : (earlier : List Terminal) → ends_in_name earlier ≡ true → follows_terms earlier ≡ false
+name-no_relation [] h = refl
+name-no_relation (Compares relation ∷ earlier) h = absurd cc
+name-no_relation (_ ∷ earlier) h = refl
 
 sign-no_word : (earlier : List Terminal) → ends_in_sign earlier ≡ true → ends_in_first_word earlier ≡ false
 sign-no_word [] h = refl
@@ -349,7 +368,7 @@ signs context owner sign earlier h token =
     named (OfRow row) k = (k.0, sign-no_word earlier k.1)
 
     number : (o : ItemOwner) (value : Decimal) → SignsShape o earlier → NumberShape o (Number value ∷ earlier)
-    number (OfObjective objective) value k = tt
+    number (OfObjective objective) value k = refl
     number (OfRow row) value k = (row-numbered row value earlier k.0, k.2)
 
 -- after the relation of a left side, or at the start of the objective
@@ -370,7 +389,7 @@ item context owner earlier h token =
     named (OfRow row) k = (k.0, relation-no_word earlier k.1)
 
     number : (o : ItemOwner) (value : Decimal) → ItemShape o earlier → NumberShape o (Number value ∷ earlier)
-    number (OfObjective objective) value k = tt
+    number (OfObjective objective) value k = refl
     number (OfRow row) value k = (row-numbered row value earlier k.0, relation-no_side earlier k.1 k.2)
 
 side : (context : Context) (sided : SideOwner) (l : Limit) (earlier : List Terminal) (token : Terminal) → begins_row (token ∷ earlier) ≡ true → KeepsShape (section_of_side sided) earlier token (take_side context sided l token)
@@ -394,8 +413,8 @@ opened context here earlier word = by (has_seen context.sections_seen (section_o
     goes words.Bounds b = tt
     goes words.Generals b = tt
     goes words.Binaries b = tt
-    goes words.Semi b = tt
-    goes words.Semis b = tt
+    goes words.Semi b = refl
+    goes words.Semis b = refl
     goes words.End b = tt
 
     by : (a b : Bool) → KeepsShape here earlier (Opens word) (elim (if a then Some kinds.SectionRepeated else (if b then Some kinds.SectionOrder else None)) as (λ _. AfterToken) [
@@ -412,7 +431,7 @@ row context label earlier h token =
     (λ name. term context (OfRow (without_terms label None)) name one earlier (empty-row label earlier, begins-no_word earlier h)) (λ sign. h) token
 
 bound : (context : Context) (earlier : List Terminal) (token : Terminal) → KeepsShape (Some Bounds) earlier token (begin_bound context token)
-bound context earlier token = bound-by (KeepsShape (Some Bounds) earlier) context (bad context (Some Bounds) earlier) (λ name. tt) (λ sign. tt) (λ value. tt) tt token
+bound context earlier token = bound-by (KeepsShape (Some Bounds) earlier) context (bad context (Some Bounds) earlier) (λ name. refl) (λ sign. tt) (λ value. tt) tt token
 
 differ : (first second : Relation) → fits_second first second ≡ false → not (agree first second) ≡ true
 differ AtMost AtMost h = absurd cc
@@ -430,13 +449,13 @@ second : (context : Context) (left : Option (List ℕ × Relation)) (earlier : L
 second context None earlier h relation = bad context (Some Bounds) earlier (Compares relation)
 second context (Some left) earlier h relation =
     either (Some Bounds) earlier (Compares relation) (fits_second left.1 relation) (Goes context (AtSide (SideOfBound false left.0 relation))) (refuse context (Compares relation) kinds.MixedSenses)
-    tt (λ e. ap (λ (o : Option Relation). differs_from o relation) h ∙ differ left.1 relation e)
+    (refl, h.1) (λ e. ap (λ (o : Option Relation). differs_from o relation) h.0 ∙ differ left.1 relation e)
 
-ended : (context : Context) (row : PartialRow) (earlier : List Terminal) → IsRow row earlier → (relation : Relation)
+ended : (context : Context) (row : PartialRow) (earlier : List Terminal) → IsRow row earlier → ends_in_name earlier ≡ true → (relation : Relation)
     → KeepsShape (Some Rows) earlier (Compares relation) (if fits_left row.left relation then Goes context (AtSide (SideOfRow row relation)) else refuse context (Compares relation) kinds.MixedSenses)
-ended context row earlier h relation =
+ended context row earlier h last relation =
     either (Some Rows) earlier (Compares relation) (fits_left row.left relation) (Goes context (AtSide (SideOfRow row relation))) (refuse context (Compares relation) kinds.MixedSenses)
-    tt (by row.left h.left)
+    last (by row.left h.left)
   where
     by : (left : Option (Limit × Relation)) → HasLeft left earlier → fits_left left relation ≡ false → differs_from (left_relation earlier) relation ≡ true
     by None k e = absurd cc
@@ -454,11 +473,11 @@ phrase (BeforeItems objective) context earlier h token = item context (OfObjecti
 phrase (InObjective objective) context earlier h token = in_objective-by (KeepsShape (Some Objective) earlier) context objective (bad context (Some Objective) earlier) (λ sign. tt) token
 phrase BetweenRows context earlier h token = between_rows-by (KeepsShape (Some Rows) earlier) context (λ name. (refl, h)) (row context (default_row context) earlier h) token
 phrase (InRow partial) context earlier h token =
-    in_row-by (KeepsShape (Some Rows) earlier) context partial (bad context (Some Rows) earlier) (λ sign. (row-signed partial sign earlier h.0, refl, (h.1, h.2))) (ended context partial earlier h.0) token
+    in_row-by (KeepsShape (Some Rows) earlier) context partial (bad context (Some Rows) earlier) (λ sign. (row-signed partial sign earlier h.0, refl, (h.1, name-no_relation earlier h.2))) (ended context partial earlier h.0 h.2) token
 phrase (InBounds left) context earlier h token = in_bounds-by (KeepsShape (Some Bounds) earlier) context left (second context left earlier h) (bound context earlier) token
 phrase InGenerals context earlier h token = listed InGenerals declare_integer context earlier (λ name. tt) token
 phrase InBinaries context earlier h token = listed InBinaries declare_binary context earlier (λ name. tt) token
-phrase InSemis context earlier h token = listed InSemis declare_semi context earlier (λ name. tt) token
+phrase InSemis context earlier h token = listed InSemis declare_semi context earlier (λ name. refl) token
 
 first : (place : Place) (context : Context) (earlier : List Terminal) → PlaceShape place earlier → (token : Terminal) → KeepsShape (section_at_place place) earlier token (begin place context token)
 first place context earlier h token =
@@ -501,7 +520,7 @@ last_word context wanted earlier h token =
     by : (w : LastWord) (name : List ℕ) → Shape (AtLastWord w) earlier → PlaceShape (opened_by w) (Name name ∷ earlier)
     by To name k = k
     by That name k = k
-    by Continuous name k = tt
+    by Continuous name k = refl
 
 -- the first sign of a row
 signed-left : (earlier : List Terminal) → SignShape earlier → may_be_left_side earlier ≡ true
@@ -585,7 +604,7 @@ step context (ObjectiveName sense label) earlier h token =
     (declared context (Some Objective) earlier Colon (refusals_in_turn context.earlier (objective_declared sense label)) (BeforeItems label) (objective_declared sense label) tt)
     (later context (first_item_declared sense label) (InObjective default_objective) earlier tt) token
 step context (AtLastWord wanted) earlier h token = last_word context wanted earlier h token
-step context AtSemi earlier h token = semi-by (KeepsShape (Some SemiContinuous) earlier) context tt (first InSemis (with_made context []) earlier tt) token
+step context AtSemi earlier h token = semi-by (KeepsShape (Some SemiContinuous) earlier) context tt (first InSemis (with_made context []) earlier h) token
 step context (Signs owner sign) earlier h token = signs context owner sign earlier h token
 step context (ItemNumber owner sign value) earlier h token = item_numbered context owner sign value earlier h token
 step context (RowName label) earlier h token = row_named context label earlier h token
@@ -597,16 +616,16 @@ step context (RowLeftRelation partial) earlier h token = item context (OfRow par
 step context (BoundName column) earlier h token =
     bound_name-by (KeepsShape (Some Bounds) earlier) context column (bad context (Some Bounds) earlier)
     (declared context (Some Bounds) earlier Free (bounds_refusals (with_declarations context.earlier (declare_column column ∷ [])) column no_limits.lower no_limits.upper) (InBounds None)
-    (declare_column column ∷ bounds_declared column no_limits.lower no_limits.upper) tt) (λ relation. tt) token
+    (declare_column column ∷ bounds_declared column no_limits.lower no_limits.upper) tt) (λ relation. (refl, h)) token
 step context (BoundSign sign) earlier h token = limit-by (KeepsShape (Some Bounds) earlier) context (λ l t. Goes context (BoundLeft l)) sign (bad context (Some Bounds) earlier) (λ value. tt) tt token
 step context (BoundLeft l) earlier h token = bound_left-by (KeepsShape (Some Bounds) earlier) context l (bad context (Some Bounds) earlier) (λ relation. refl) token
 step context (BoundLeftRelation l relation) earlier h token =
     let limits = limits_by (flip relation) l in
     bound_column-by (KeepsShape (Some Bounds) earlier) context l relation (bad context (Some Bounds) earlier)
     (λ name. declared context (Some Bounds) earlier (Name name) (bounds_refusals (with_declarations context.earlier (declare_column name ∷ [])) name limits.lower limits.upper) (InBounds (Some (name, relation)))
-    (declare_column name ∷ bounds_declared name limits.lower limits.upper) h) token
+    (declare_column name ∷ bounds_declared name limits.lower limits.upper) (h, refl)) token
 step context (AtSide sided) earlier h token =
-    side-by (KeepsShape (section_of_side sided) earlier) context sided (bad context (section_of_side sided) earlier) (λ sign. tt) (λ value. side context sided (limit_of value) earlier (Number value) refl)
+    side-by (KeepsShape (section_of_side sided) earlier) context sided (bad context (section_of_side sided) earlier) (λ sign. h) (λ value. side context sided (limit_of value) earlier (Number value) refl)
     (side context sided PlusInf earlier Infinity refl) token
 step context (SideSign sided sign) earlier h token =
     limit-by (KeepsShape (section_of_side sided) earlier) context (λ l t. take_side context sided l t) sign (bad context (section_of_side sided) earlier)

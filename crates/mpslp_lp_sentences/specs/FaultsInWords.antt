@@ -18,6 +18,7 @@ use Rattle.mpslp_lp_grammar.specs.Terminal.{Terminal, terminals}
 use Rattle.mpslp_lp_grammar.specs.Terminal.Terminal.{Opens, Name, Number, Sign, Compares, Colon, Infinity, Free}
 use Rattle.mpslp_lp_grammar.specs.LexicalFault.{lexical_fault}
 use Rattle.mpslp_lp.specs.FirstFault.{IsFirstLpFault}
+use Rattle.mpslp_lp_sentences.specs.Meaning.{turned}
 
 -- ---- sections
 
@@ -124,10 +125,10 @@ abbrev pub follows_terms : List Terminal → Bool
 follows_terms (Compares relation ∷ earlier) = ends_in_name earlier
 follows_terms _ = false
 
--- at most one sign after tokens of this kind
-abbrev pub after_sign : (List Terminal → Bool) → List Terminal → Bool
-after_sign test (Sign sign ∷ earlier) = test earlier
-after_sign test earlier = test earlier
+-- what is found before at most one sign
+abbrev pub after_sign : {X : Type 0} → (List Terminal → X) → List Terminal → X
+after_sign found (Sign sign ∷ earlier) = found earlier
+after_sign found earlier = found earlier
 
 -- a number after these tokens may be the left side of a row; it is the right side of a row
 abbrev pub may_be_left_side : List Terminal → Bool
@@ -200,6 +201,94 @@ repeats_column earlier _ = false
 
 abbrev pub repeats_entry : List Terminal → Terminal → Bool
 repeats_entry earlier token = (is_under Objective earlier || is_under Rows earlier) && repeats_column earlier token
+
+-- ---- columns that tokens name
+
+-- the columns that tokens name in some way, each given by a token and those before it
+abbrev pub Naming : Type 0
+Naming = List Terminal → Terminal → Option (List ℕ)
+
+abbrev pub collected : Naming → List Terminal → List (List ℕ)
+collected naming [] = []
+collected naming (token ∷ earlier) = cons_option (naming earlier token) (collected naming earlier)
+
+-- a token names in one way a column that an earlier token has named in another
+abbrev pub names_again : Naming → Naming → List Terminal → Terminal → Bool
+names_again naming other earlier token = option_map_or (λ column. is_named column (collected other earlier)) (naming earlier token) false
+
+-- ---- DuplicateRhs: a second constant of the objective, at the sign or the section word that follows its number
+
+abbrev pub ends_in_number : List Terminal → Bool
+ends_in_number (Number value ∷ earlier) = true
+ends_in_number _ = false
+
+abbrev pub may_follow_constant : Terminal → Bool
+may_follow_constant (Sign sign) = true
+may_follow_constant (Opens word) = true
+may_follow_constant _ = false
+
+abbrev pub completes_constant : List Terminal → Terminal → Bool
+completes_constant earlier token = is_under Objective earlier && (may_follow_constant token && ends_in_number earlier)
+
+abbrev pub has_constant_before : List Terminal → Bool
+has_constant_before [] = false
+has_constant_before (token ∷ earlier) = completes_constant earlier token || has_constant_before earlier
+
+abbrev pub repeats_constant : List Terminal → Terminal → Bool
+repeats_constant earlier token = completes_constant earlier token && has_constant_before earlier
+
+-- ---- DuplicateBound: a token that completes a lower bound of a column after another, or an upper one
+
+abbrev pub gives_lower : Relation → Bool
+gives_lower AtMost = false
+gives_lower _ = true
+
+abbrev pub gives_upper : Relation → Bool
+gives_upper AtLeast = false
+gives_upper _ = true
+
+abbrev pub last_name : List Terminal → Option (List ℕ)
+last_name (Name name ∷ earlier) = Some name
+last_name _ = None
+
+-- the column before such a relation
+abbrev pub column_before : (Relation → Bool) → List Terminal → Option (List ℕ)
+column_before gives (Compares relation ∷ earlier) = if gives relation then last_name earlier else None
+column_before gives _ = None
+
+-- `x < v` is complete with the last token of `v`, and `v > x`, which is the same, with the name
+abbrev pub completed : (Relation → Bool) → Naming
+completed gives earlier (Number value) = after_sign (column_before gives) earlier
+completed gives earlier Infinity = after_sign (column_before gives) earlier
+completed gives earlier Free = last_name earlier
+completed gives earlier (Name column) = if option_map_or (λ relation. gives (turned relation)) (last_relation earlier) false then Some column else None
+completed gives earlier _ = None
+
+abbrev pub completes_bound : (Relation → Bool) → Naming
+completes_bound gives earlier token = if is_under Bounds earlier then completed gives earlier token else None
+
+abbrev pub repeats_bound : List Terminal → Terminal → Bool
+repeats_bound earlier token =
+    names_again (completes_bound gives_lower) (completes_bound gives_lower) earlier token
+    || names_again (completes_bound gives_upper) (completes_bound gives_upper) earlier token
+
+-- ---- SemiContinuous: the later of two names of a column, one in Generals or Binaries, the other semi-continuous
+
+abbrev pub ends_in_sign : List Terminal → Bool
+ends_in_sign (Sign sign ∷ earlier) = true
+ends_in_sign _ = false
+
+abbrev pub names_integer : Naming
+names_integer earlier (Name column) = if is_under Generals earlier || is_under Binaries earlier then Some column else None
+names_integer earlier _ = None
+
+-- not the last word of `semi-continuous`
+abbrev pub names_semi : Naming
+names_semi earlier (Name column) = if is_under SemiContinuous earlier && not (ends_in_sign earlier) then Some column else None
+names_semi earlier _ = None
+
+abbrev pub changes_kind : List Terminal → Terminal → Bool
+changes_kind earlier token = names_again names_integer names_semi earlier token || names_again names_semi names_integer earlier token
 
 -- ---- the laws
 
