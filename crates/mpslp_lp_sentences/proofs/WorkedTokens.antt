@@ -6,7 +6,7 @@ use Rattle.std.specs.Str.Lines.{lines}
 use Rattle.mpslp_decimal.specs.Decimal.{trailing_zeros}
 use Rattle.mpslp_lp_grammar.specs.Terminal.{Terminal, terminals}
 use Rattle.mpslp_lp.proofs.WorkedFiles.{text}
-use Rattle.mpslp_lp_sentences.specs.FaultsInWords.{repeats_section, breaks_order, follows_constant, mixes_senses}
+use Rattle.mpslp_lp_sentences.specs.FaultsInWords.{repeats_section, breaks_order, follows_constant, mixes_senses, repeats_constant, repeats_bound, changes_kind}
 
 -- whether a sentence holds for one of the tokens, after earlier ones
 abbrev holds_among : (List Terminal → Terminal → Bool) → List Terminal → List Terminal → Bool
@@ -127,3 +127,62 @@ mixed_in_two_rows = refl
 pub mixed_in_two_bounds : lines_with mixes_senses (codes "min x" ∷ codes "bounds" ∷ codes "1 <= x y >= 2 x >= 4 z = 3" ∷ []) ≡ []
 unfolding trailing_zeros
 mixed_in_two_bounds = refl
+
+-- ---- DuplicateRhs
+
+pub one_constant : lines_with repeats_constant whole ≡ []
+unfolding trailing_zeros
+one_constant = refl
+
+pub two_constants : lines_with repeats_constant (codes "min 3 + 2 x - 4" ∷ codes "st" ∷ codes "x >= 1" ∷ codes "end" ∷ []) ≡ 2 ∷ []
+unfolding trailing_zeros
+two_constants = refl
+
+-- numbers with names after them, and numbers of rows
+pub numbers_of_terms : lines_with repeats_constant (codes "max obj: 3 x + 2 y + 1" ∷ codes "- 4 z" ∷ codes "st" ∷ codes "x >= 2 + y >= 3 - z <= 1" ∷ codes "end" ∷ []) ≡ []
+unfolding trailing_zeros
+numbers_of_terms = refl
+
+-- ---- DuplicateBound
+
+abbrev with_bounds : List (List ℕ) → List (List ℕ)
+with_bounds ls = codes "min x" ∷ codes "st" ∷ codes "x >= 1 x <= 2 x >= 0" ∷ codes "bounds" ∷ (ls ++ codes "end" ∷ [])
+
+pub no_bound_twice : lines_with repeats_bound whole ≡ []
+unfolding trailing_zeros
+no_bound_twice = refl
+
+pub lower_twice : lines_with repeats_bound (with_bounds (codes "x >= 1" ∷ codes "x =" ∷ codes "- 2" ∷ [])) ≡ 7 ∷ []
+unfolding trailing_zeros
+lower_twice = refl
+
+pub upper_from_the_left : lines_with repeats_bound (with_bounds (codes "x <= inf" ∷ codes "4 >=" ∷ codes "x" ∷ [])) ≡ 7 ∷ []
+unfolding trailing_zeros
+upper_from_the_left = refl
+
+pub free_after_a_bound : lines_with repeats_bound (with_bounds (codes "-1 <= x <= 4" ∷ codes "x free" ∷ [])) ≡ 6 ∷ []
+unfolding trailing_zeros
+free_after_a_bound = refl
+
+-- a lower and an upper bound, in each order and form, and bounds of other columns
+pub both_bounds : lines_with repeats_bound (with_bounds (codes "x >= 1 4 >= x y = 3 2 <= z <= 3" ∷ codes "w <= - 1 w >= -inf" ∷ codes "1 <= v v <= 5 u free" ∷ [])) ≡ []
+unfolding trailing_zeros
+both_bounds = refl
+
+-- ---- SemiContinuous
+
+pub no_second_kind : lines_with changes_kind (codes "min x" ∷ codes "gen x continuous" ∷ codes "semi-continuous y" ∷ codes "bin x z" ∷ codes "end" ∷ []) ≡ []
+unfolding trailing_zeros
+no_second_kind = refl
+
+pub integer_then_semi : lines_with changes_kind (codes "min x" ∷ codes "gen" ∷ codes "x" ∷ codes "semi" ∷ codes "y" ∷ codes "x" ∷ codes "end" ∷ []) ≡ 6 ∷ []
+unfolding trailing_zeros
+integer_then_semi = refl
+
+pub semi_then_binary : lines_with changes_kind (codes "min x" ∷ codes "semis x" ∷ codes "bin" ∷ codes "x" ∷ codes "end" ∷ []) ≡ 4 ∷ []
+unfolding trailing_zeros
+semi_then_binary = refl
+
+pub column_named_continuous : lines_with changes_kind (codes "min x" ∷ codes "gen continuous" ∷ codes "semi continuous" ∷ codes "end" ∷ []) ≡ 3 ∷ []
+unfolding trailing_zeros
+column_named_continuous = refl
