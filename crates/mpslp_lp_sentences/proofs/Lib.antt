@@ -22,4 +22,6 @@ pub mod SectionFaults
 pub mod RowShapes
 pub mod Refusals
 pub mod ToldFaults
+pub mod RowNames
+pub mod RowNameFaults
 mod WorkedTokens

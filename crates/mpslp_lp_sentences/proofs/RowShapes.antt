@@ -76,7 +76,7 @@ pub record IsRow (row : PartialRow) (earlier : List Terminal) : Type 0 where
   pub left : HasLeft row.left earlier
   pub terms : HasTerms row.terms earlier
 
-abbrev ends_in_relation : List Terminal → Bool
+abbrev pub ends_in_relation : List Terminal → Bool
 ends_in_relation (Compares relation ∷ earlier) = true
 ends_in_relation _ = false
 
@@ -208,7 +208,7 @@ begins-no_word (Opens words.Such ∷ earlier) h = absurd cc
 begins-no_word (Opens _ ∷ earlier) h = refl
 begins-no_word (_ ∷ earlier) h = refl
 
-begins-left : (earlier : List Terminal) → begins_row earlier ≡ true → may_be_left_side earlier ≡ true
+pub begins-left : (earlier : List Terminal) → begins_row earlier ≡ true → may_be_left_side earlier ≡ true
 begins-left [] h = absurd cc
 begins-left (Sign sign ∷ earlier) h = absurd cc
 begins-left (Opens word ∷ earlier) h = h
@@ -225,7 +225,7 @@ begins-no_relation [] h = refl
 begins-no_relation (Compares relation ∷ earlier) h = absurd cc
 begins-no_relation (_ ∷ earlier) h = refl
 
-left-not_right : (earlier : List Terminal) → may_be_left_side earlier ≡ true → is_right_side earlier ≡ false
+pub left-not_right : (earlier : List Terminal) → may_be_left_side earlier ≡ true → is_right_side earlier ≡ false
 left-not_right [] h = refl
 left-not_right (Sign sign ∷ earlier) h = begins-no_relation earlier h
 left-not_right (Compares relation ∷ earlier) h = absurd cc
@@ -271,7 +271,7 @@ relation-no_word (Opens word ∷ earlier) h = absurd cc
 relation-no_word (_ ∷ earlier) h = refl
 
 -- after the relation of a left side, with or without a sign
-relation-no_side : (earlier : List Terminal) → ends_in_relation earlier ≡ true → follows_terms earlier ≡ false → NoSide earlier
+pub relation-no_side : (earlier : List Terminal) → ends_in_relation earlier ≡ true → follows_terms earlier ≡ false → NoSide earlier
 relation-no_side (Compares relation ∷ earlier) h k = (refl, k)
 relation-no_side [] h k = absurd cc
 relation-no_side (Sign sign ∷ earlier) h k = absurd cc
@@ -523,7 +523,7 @@ last_word context wanted earlier h token =
     by Continuous name k = refl
 
 -- the first sign of a row
-signed-left : (earlier : List Terminal) → SignShape earlier → may_be_left_side earlier ≡ true
+pub signed-left : (earlier : List Terminal) → SignShape earlier → may_be_left_side earlier ≡ true
 signed-left (Sign sign ∷ earlier) h = h
 signed-left [] h = absurd h
 signed-left (_ ∷ earlier) h = absurd h
@@ -568,15 +568,16 @@ row_numbered context label sign value earlier h token =
     (λ relation. left_related label (limit_of (apply_sign sign value)) relation earlier (number-value earlier h))
     (λ more. refused context (Some Rows) earlier (Sign more) kinds.ConstantInRow (refl, number-constant earlier h more)) token
 
+-- a name that is no label, but that of the first term
+pub in-row : (context : Context) (label : List ℕ) (earlier : List Terminal) → NameShape label earlier → PlaceShape (InRow (first_named context label)) earlier
+in-row context label (Name name ∷ earlier) h =
+    subst (λ (n : List ℕ). PlaceShape (InRow (first_named context n)) (Name name ∷ earlier)) h.0
+    (row-longer (record (first_named context name) { terms = [] }) name one earlier (begins-no_word earlier h.1) (record { left = tt; terms = no_terms earlier }))
+in-row context label [] h = absurd h
+in-row context label (_ ∷ earlier) h = absurd h
+
 row_named : (context : Context) (label : List ℕ) (earlier : List Terminal) → NameShape label earlier → (token : Terminal) → KeepsShape (Some Rows) earlier token (take context (RowName label) token)
-row_named context label earlier h token = row_name-by (KeepsShape (Some Rows) earlier) context label refl (first (InRow (first_named context label)) (with_made context []) earlier (by earlier h)) token
-  where
-    by : (xs : List Terminal) → NameShape label xs → PlaceShape (InRow (first_named context label)) xs
-    by (Name name ∷ xs) k =
-        subst (λ (n : List ℕ). PlaceShape (InRow (first_named context n)) (Name name ∷ xs)) k.0
-        (row-longer (record (first_named context name) { terms = [] }) name one xs (begins-no_word xs k.1) (record { left = tt; terms = no_terms xs }))
-    by [] k = absurd k
-    by (_ ∷ xs) k = absurd k
+row_named context label earlier h token = row_name-by (KeepsShape (Some Rows) earlier) context label refl (first (InRow (first_named context label)) (with_made context []) earlier (in-row context label earlier h)) token
 
 item_numbered : (context : Context) (owner : ItemOwner) (sign : SignOf) (value : Decimal) (earlier : List Terminal) → NumberShape owner earlier → (token : Terminal)
     → KeepsShape (section_of_item owner) earlier token (take context (ItemNumber owner sign value) token)

@@ -1,12 +1,14 @@
 -- The sentences of `FaultsInWords` hold for the token with the error, and for no token of a file that is close to it and has
 -- no such error, by computation.
 use Rattle.std.proofs.Common.{◌≡◌, refl}
-use Rattle.std.specs.Prelude.{ℕ, suc, Bool, false, ◌||◌, List, ◌∷◌, [], ◌++◌, codes, reverse, if◌then◌else◌}
+use Rattle.std.specs.Prelude.{ℕ, suc, Bool, true, false, ◌||◌, List, ◌∷◌, [], ◌++◌, codes, reverse, if◌then◌else◌}
 use Rattle.std.specs.Str.Lines.{lines}
+use Rattle.std.specs.Fmt.{digits}
 use Rattle.mpslp_decimal.specs.Decimal.{trailing_zeros}
 use Rattle.mpslp_lp_grammar.specs.Terminal.{Terminal, terminals}
+use Rattle.mpslp_lp.specs.LpText.{is_lp_text}
 use Rattle.mpslp_lp.proofs.WorkedFiles.{text}
-use Rattle.mpslp_lp_sentences.specs.FaultsInWords.{repeats_section, breaks_order, follows_constant, mixes_senses, repeats_constant, repeats_bound, changes_kind}
+use Rattle.mpslp_lp_sentences.specs.FaultsInWords.{repeats_section, breaks_order, follows_constant, mixes_senses, repeats_constant, repeats_bound, repeats_row, changes_kind}
 
 -- whether a sentence holds for one of the tokens, after earlier ones
 abbrev holds_among : (List Terminal → Terminal → Bool) → List Terminal → List Terminal → Bool
@@ -26,8 +28,12 @@ lines_with is_such ls = lines_among is_such 1 [] (lines (text ls))
 -- ---- a file with each section
 
 abbrev whole : List (List ℕ)
-whole = codes "max" ∷ codes "profit: 3 x + 2 y - - 4" ∷ codes "subject to" ∷ codes "c2: x + to <= 4" ∷ codes "-1 <= x + 2 y <= 8 x >= 2" ∷ codes "bounds" ∷ codes "x <= 4 1 <= y <= 5" ∷ codes "to free"
+whole = codes "max" ∷ codes "profit: 3 x + 2 y - - 4" ∷ codes "subject to" ∷ codes "cap: x + to <= 4" ∷ codes "-1 <= x + 2 y <= 8 x >= 2" ∷ codes "bounds" ∷ codes "x <= 4 1 <= y <= 5" ∷ codes "to free"
     ∷ codes "gen x" ∷ codes "bin z" ∷ codes "semi-continuous y" ∷ codes "end" ∷ []
+
+pub whole_is_text : is_lp_text (text whole) ≡ true
+unfolding digits trailing_zeros
+whole_is_text = refl
 
 -- ---- SectionRepeated
 
@@ -186,3 +192,34 @@ semi_then_binary = refl
 pub column_named_continuous : lines_with changes_kind (codes "min x" ∷ codes "gen continuous" ∷ codes "semi continuous" ∷ codes "end" ∷ []) ≡ 3 ∷ []
 unfolding trailing_zeros
 column_named_continuous = refl
+
+-- ---- DuplicateRow
+
+pub no_row_twice : lines_with repeats_row whole ≡ []
+unfolding digits trailing_zeros
+no_row_twice = refl
+
+pub label_twice : lines_with repeats_row (codes "min x" ∷ codes "st" ∷ codes "a: x <= 1 a: 2 <= y" ∷ codes "<= - 3" ∷ codes "end" ∷ []) ≡ 4 ∷ []
+unfolding digits trailing_zeros
+label_twice = refl
+
+pub label_of_a_numbered_row : lines_with repeats_row (codes "min x" ∷ codes "st x <= 1 b: x <= 2" ∷ codes "- x >= inf" ∷ codes "c3: x <= 4" ∷ codes "end" ∷ []) ≡ 4 ∷ []
+unfolding digits trailing_zeros
+label_of_a_numbered_row = refl
+
+pub number_of_a_label : lines_with repeats_row (codes "min x" ∷ codes "st" ∷ codes "c2: x <= 1" ∷ codes "1 <= x" ∷ codes "<= 4" ∷ codes "end" ∷ []) ≡ 5 ∷ []
+unfolding digits trailing_zeros
+number_of_a_label = refl
+
+pub name_of_the_objective : lines_with repeats_row (codes "min cost: x" ∷ codes "such that" ∷ codes "cost: x <= 1" ∷ codes "end" ∷ []) ≡ 3 ∷ []
+unfolding digits trailing_zeros
+name_of_the_objective = refl
+
+pub obj_without_a_label : lines_with repeats_row (codes "min x" ∷ codes "st" ∷ codes "obj: x <= 1" ∷ codes "end" ∷ []) ≡ 3 ∷ []
+unfolding digits trailing_zeros
+obj_without_a_label = refl
+
+-- the objective has another name, and a column has that of a row
+pub other_names : lines_with repeats_row (codes "max cost: x" ∷ codes "st" ∷ codes "obj: a <= 1 a: x + cost <= 2 x: x >= 0" ∷ codes "c9: x <= 1 x <= 3 x <= 4" ∷ codes "bounds a <= 4" ∷ codes "end" ∷ []) ≡ []
+unfolding digits trailing_zeros
+other_names = refl

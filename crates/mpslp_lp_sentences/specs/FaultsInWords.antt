@@ -1,6 +1,6 @@
 -- Errors of LP text that depend on other tokens, each defined by a token and all tokens before it. These are listed from the
 -- last one to the first.
-use Rattle.std.specs.Prelude.{◌≡◌, ℕ, ◌+◌, ◌-◌, ◌^◌, min, nat_lt, Bool, true, false, ◌&&◌, ◌||◌, not, IsTrue, List, [], ◌∷◌, ◌++◌, length, reverse, Option, Some, None, is_none, if◌then◌else◌, codes}
+use Rattle.std.specs.Prelude.{◌≡◌, ℕ, ◌+◌, ◌-◌, ◌^◌, min, nat_lt, Bool, true, false, ◌&&◌, ◌||◌, not, IsTrue, List, [], ◌∷◌, ◌++◌, length, reverse, Option, Some, None, is_none, unwrap_or, if◌then◌else◌, codes}
 use Rattle.std.specs.List.{list_any, list_all, flat_map, cons_option}
 use Rattle.std.specs.Option.{option_map_or}
 use Rattle.std.specs.Str.Lines.{lines}
@@ -18,7 +18,7 @@ use Rattle.mpslp_lp_grammar.specs.Terminal.{Terminal, terminals}
 use Rattle.mpslp_lp_grammar.specs.Terminal.Terminal.{Opens, Name, Number, Sign, Compares, Colon, Infinity, Free}
 use Rattle.mpslp_lp_grammar.specs.LexicalFault.{lexical_fault}
 use Rattle.mpslp_lp.specs.FirstFault.{IsFirstLpFault}
-use Rattle.mpslp_lp_sentences.specs.Meaning.{turned}
+use Rattle.mpslp_lp_sentences.specs.Meaning.{row_name, turned}
 
 -- ---- sections
 
@@ -289,6 +289,43 @@ names_semi earlier _ = None
 
 abbrev pub changes_kind : List Terminal → Terminal → Bool
 changes_kind earlier token = names_again names_integer names_semi earlier token || names_again names_semi names_integer earlier token
+
+-- ---- DuplicateRow: the last token of a row with the name of an earlier row, or of the objective
+
+abbrev pub is_value : Terminal → Bool
+is_value (Number value) = true
+is_value Infinity = true
+is_value _ = false
+
+-- the last token of the right side of a row
+abbrev pub ends_row : List Terminal → Terminal → Bool
+ends_row earlier token = is_value token && (is_under Rows earlier && is_right_side earlier)
+
+abbrev pub rows_before : List Terminal → ℕ
+rows_before [] = 0
+rows_before (token ∷ earlier) = if ends_row earlier token then rows_before earlier + 1 else rows_before earlier
+
+-- the label of the row that has begun, if it has one
+abbrev pub label_before : List Terminal → Option (List ℕ)
+label_before [] = None
+label_before (Colon ∷ earlier) = last_name earlier
+label_before (Opens word ∷ earlier) = None
+label_before (token ∷ earlier) = if ends_row earlier token then None else label_before earlier
+
+abbrev pub names_row : Naming
+names_row earlier token = if ends_row earlier token then Some (row_name (rows_before earlier + 1) (label_before earlier)) else None
+
+-- the label of the objective, or `obj`
+abbrev pub objective_before : List Terminal → List ℕ
+objective_before [] = codes "obj"
+objective_before (Colon ∷ earlier) = if is_under Objective earlier then unwrap_or (last_name earlier) (codes "obj") else objective_before earlier
+objective_before (_ ∷ earlier) = objective_before earlier
+
+abbrev pub names_objective : Naming → List Terminal → Terminal → Bool
+names_objective naming earlier token = option_map_or (same_bytes (objective_before earlier)) (naming earlier token) false
+
+abbrev pub repeats_row : List Terminal → Terminal → Bool
+repeats_row earlier token = names_again names_row names_row earlier token || names_objective names_row earlier token
 
 -- ---- the laws
 
