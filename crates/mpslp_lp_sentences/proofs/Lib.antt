@@ -24,4 +24,5 @@ pub mod Refusals
 pub mod ToldFaults
 pub mod RowNames
 pub mod RowNameFaults
+pub mod EntryFaults
 mod WorkedTokens

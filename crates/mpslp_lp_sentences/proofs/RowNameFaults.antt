@@ -489,20 +489,20 @@ step context AfterEnd earlier r o n sh here v token = bad context earlier token
 
 -- ---- the law
 
-record Known (earlier : Tokens) (context : Context) (state : State) : Type 0 where
-  shaped : Shaped earlier context state
-  rowed : Rowed earlier context.earlier
-  objective : ObjectiveAt state earlier context.earlier
-  name : NameAt state earlier
+pub record Known (earlier : Tokens) (context : Context) (state : State) : Type 0 where
+  pub shaped : Shaped earlier context state
+  pub rowed : Rowed earlier context.earlier
+  pub objective : ObjectiveAt state earlier context.earlier
+  pub name : NameAt state earlier
 
-none-known : Known [] start.context (Between AtStart)
+pub none-known : Known [] start.context (Between AtStart)
 none-known = record { shaped = none-shaped; rowed = record { rows = λ name e. absurd cc; count = refl; sorted = empty_sorted }; objective = (refl, refl); name = tt }
 
 taken : (earlier : Tokens) (context : Context) (state : State) (token : Terminal) → Known earlier context state → KeepsRows earlier token (take context state token)
 taken earlier context state token known =
     step context state earlier known.rowed known.objective known.name known.shaped.shape known.shaped.opened.current (known.shaped.opened.seen Objective) token
 
-known-later : (earlier : Tokens) (context : Context) (state : State) (token : Terminal) (after : Context) (next : State) → Known earlier context state → take context state token ≡ Goes after next → Known (token ∷ earlier) after next
+pub known-later : (earlier : Tokens) (context : Context) (state : State) (token : Terminal) (after : Context) (next : State) → Known earlier context state → take context state token ≡ Goes after next → Known (token ∷ earlier) after next
 known-later earlier context state token after next known h =
     let parts : KeepsRows earlier token (Goes after next) = subst (λ (answer : AfterToken). KeepsRows earlier token answer) h (taken earlier context state token known) in
     record { shaped = shaped-later earlier context state token after next known.shaped h; rowed = parts.0; objective = parts.1; name = parts.2 }

@@ -8,7 +8,7 @@ use Rattle.mpslp_decimal.specs.Decimal.{trailing_zeros}
 use Rattle.mpslp_lp_grammar.specs.Terminal.{Terminal, terminals}
 use Rattle.mpslp_lp.specs.LpText.{is_lp_text}
 use Rattle.mpslp_lp.proofs.WorkedFiles.{text}
-use Rattle.mpslp_lp_sentences.specs.FaultsInWords.{repeats_section, breaks_order, follows_constant, mixes_senses, repeats_constant, repeats_bound, repeats_row, changes_kind}
+use Rattle.mpslp_lp_sentences.specs.FaultsInWords.{repeats_section, breaks_order, follows_constant, mixes_senses, repeats_constant, repeats_bound, repeats_row, repeats_entry, changes_kind}
 
 -- whether a sentence holds for one of the tokens, after earlier ones
 abbrev holds_among : (List Terminal → Terminal → Bool) → List Terminal → List Terminal → Bool
@@ -223,3 +223,26 @@ obj_without_a_label = refl
 pub other_names : lines_with repeats_row (codes "max cost: x" ∷ codes "st" ∷ codes "obj: a <= 1 a: x + cost <= 2 x: x >= 0" ∷ codes "c9: x <= 1 x <= 3 x <= 4" ∷ codes "bounds a <= 4" ∷ codes "end" ∷ []) ≡ []
 unfolding digits trailing_zeros
 other_names = refl
+
+-- ---- DuplicateEntry
+
+pub no_entry_twice : lines_with repeats_entry whole ≡ []
+unfolding trailing_zeros
+no_entry_twice = refl
+
+pub column_twice_in_the_objective : lines_with repeats_entry (codes "min x + 2 y" ∷ codes "- - 3" ∷ codes "x" ∷ codes "end" ∷ []) ≡ 3 ∷ []
+unfolding trailing_zeros
+column_twice_in_the_objective = refl
+
+pub column_twice_in_a_row : lines_with repeats_entry (with_row (codes "c: 1 <= 2 x + to - x <= 4")) ≡ 3 ∷ []
+unfolding trailing_zeros
+column_twice_in_a_row = refl
+
+-- the same column in two rows, a label like a column, and a column like the last word of the heading
+pub columns_of_other_rows : lines_with repeats_entry (with_row (codes "to + x <= 4 x: x - y >= inf x >= 3 y - to = 1 1 <= y + to <= 3")) ≡ []
+unfolding trailing_zeros
+columns_of_other_rows = refl
+
+pub label_of_the_objective : lines_with repeats_entry (codes "max x: x + y" ∷ codes "bounds x <= 4 x >= 1" ∷ codes "gen x bin x" ∷ codes "end" ∷ []) ≡ []
+unfolding trailing_zeros
+label_of_the_objective = refl

@@ -1,7 +1,7 @@
 //! Laws of LP text as a whole. Each is the contract of a function that does nothing: to cite the law, call the function.
 
 ghost use Rattle.mpslp_types.specs.declared.faults.FaultKind.{FaultKind};
-ghost use Rattle.mpslp_lp_sentences.specs.FaultsInWords.{IsInWords, breaks_order, changes_kind, follows_constant, mixes_senses, repeats_bound, repeats_constant, repeats_row, repeats_section};
+ghost use Rattle.mpslp_lp_sentences.specs.FaultsInWords.{IsInWords, breaks_order, changes_kind, follows_constant, mixes_senses, repeats_bound, repeats_constant, repeats_entry, repeats_row, repeats_section};
 ghost use Rattle.mpslp_lp_sentences.specs.Laws.{ReadTextsAreSentences, SentencesAreRead};
 
 /// Bytes whose first lines are, token by token, a file, with no error of a line by itself and no declaration that is
@@ -23,6 +23,7 @@ pub fn faults_are_in_words()
     ensures constant_in_row { IsInWords FaultKind.ConstantInRow follows_constant }
     ensures mixed_senses { IsInWords FaultKind.MixedSenses mixes_senses }
     ensures duplicate_row { IsInWords FaultKind.DuplicateRow repeats_row }
+    ensures duplicate_entry { IsInWords FaultKind.DuplicateEntry repeats_entry }
     ensures duplicate_rhs { IsInWords FaultKind.DuplicateRhs repeats_constant }
     ensures duplicate_bound { IsInWords FaultKind.DuplicateBound repeats_bound }
     ensures semi_continuous { IsInWords FaultKind.SemiContinuous changes_kind }
