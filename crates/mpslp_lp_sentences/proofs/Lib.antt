@@ -15,3 +15,14 @@ pub mod FoundRows
 pub mod FoundSections
 pub mod FoundFile
 pub mod SentenceFound
+pub mod LexicalKinds
+pub mod FaultedTokens
+pub mod TokenCases
+pub mod SectionFaults
+pub mod RowShapes
+pub mod Refusals
+pub mod ToldFaults
+pub mod RowNames
+pub mod RowNameFaults
+pub mod EntryFaults
+mod WorkedTokens

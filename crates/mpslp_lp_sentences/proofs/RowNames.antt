@@ -1,0 +1,427 @@
+-- The rows that were declared are those that tokens have ended, each with the name that its label or its position gives.
+use Rattle.std.proofs.Common.{◌≡◌, refl, sym, ap, ◌∙◌, subst, ℕ, List, [], ◌∷◌, ◌++◌, ◌+◌, Bool, true, false, length}
+use Rattle.std.specs.Prelude.{Option, Some, None, is_some, min, codes, ◌-◌, ◌^◌, ◌||◌, ◌&&◌, not, unwrap_or, if◌then◌else◌}
+use Rattle.std.specs.List.{list_any, list_all, flat_map, cons_option}
+use Rattle.std.specs.Option.{option_map_or}
+use Rattle.std.specs.Cmp.{first_so, second_so}
+use Rattle.std.specs.FinMap.{put}
+use Rattle.std.proofs.lemmas.List.Folds.{list_all-append}
+use Rattle.mpslp_decimal.specs.Decimal.{Number as Decimal}
+use Rattle.mpslp_types.specs.Limit.{limit_of}
+use Rattle.mpslp_types.specs.Name.{same_bytes, bytes_cmp}
+use Rattle.mpslp_types.specs.declared.faults.BuildFault.{BuildFault}
+use Rattle.mpslp_types.specs.declared.faults.BuildFault.TheVariants as builds
+use Rattle.mpslp_types.specs.declared.faults.FaultKind.{FaultKind}
+use Rattle.mpslp_types.specs.declared.faults.FaultKind.TheVariants as kinds
+use Rattle.mpslp_types.specs.declared.kinds.Limit.{Limit}
+use Rattle.mpslp_types.specs.declared.kinds.Sense.{Sense}
+use Rattle.mpslp_types.specs.declared.kinds.Limit.TheVariants.{MinusInf, PlusInf}
+use Rattle.mpslp_types.specs.Limit.{is_plus_infinite, is_minus_infinite}
+use Rattle.mpslp_types.proofs.BoolLemmas.{both_so, or_left, or_right, so_not, either}
+use Rattle.mpslp_model_core.specs.Lists.{those_of}
+use Rattle.mpslp_builder.specs.Consistency.{has_objective_rhs}
+use Rattle.mpslp_builder.specs.Declaration.{RowDefinition, Declaration, Declarations, Draft, by_limits, empty_draft, with_declaration, with_declarations, declare_sense, declare_objective, declare_constant, declare_row, declare_rhs, declare_range, declare_column, declare_coefficient, declare_lower, declare_upper, declare_marked, declare_integer, declare_binary, declare_semi, bounds_declared, has_name, has_column, has_row, is_objective, is_integer, is_semi}
+use Rattle.mpslp_builder.specs.Refusal.{has_constant, refusals_in_turn, bounds_refusals}
+use Rattle.mpslp_builder.proofs.LaterDrafts.{itself_named}
+use Rattle.mpslp_builder.proofs.SlotLemmas.{has-put, same_name}
+use Rattle.mpslp_builder.proofs.SortedDrafts.{IsSortedDraft, empty_sorted, sorted-with_declarations}
+use Rattle.mpslp_lp_grammar.proofs.DeclaresLemmas.{bounds-rows}
+use Rattle.mpslp_lines.specs.Declaring.{kind_of_build_fault}
+use Rattle.mpslp_lp_tokens.specs.Words.{section_of}
+use Rattle.mpslp_lp_tokens.specs.declared.words.Section.{Section}
+use Rattle.mpslp_lp_tokens.specs.declared.words.Section.TheVariants.{Objective, Rows, Bounds, Generals, Binaries, SemiContinuous, End}
+use Rattle.mpslp_lp_tokens.specs.declared.words.SectionWord.{SectionWord}
+use Rattle.mpslp_lp_tokens.specs.declared.words.SectionWord.TheVariants as words
+use Rattle.mpslp_lp_grammar.specs.declared.context.Context.{Context}
+use Rattle.mpslp_lp_grammar.specs.declared.relations.Relation.{Relation}
+use Rattle.mpslp_lp_grammar.specs.declared.relations.Relation.TheVariants.{AtMost, AtLeast, EqualTo}
+use Rattle.mpslp_lp_grammar.specs.declared.sections_seen.SectionsSeen.{SectionsSeen}
+use Rattle.mpslp_lp_grammar.specs.declared.signs.Sign.{Sign as SignOf}
+use Rattle.mpslp_lp_grammar.specs.declared.signs.Sign.TheVariants.{Plus, Minus}
+use Rattle.mpslp_lp_grammar.specs.declared.states.ItemOwner.{ItemOwner}
+use Rattle.mpslp_lp_grammar.specs.declared.states.ItemOwner.TheVariants.{OfObjective, OfRow}
+use Rattle.mpslp_lp_grammar.specs.declared.states.LastWord.{LastWord}
+use Rattle.mpslp_lp_grammar.specs.declared.states.LastWord.TheVariants.{To, That, Continuous}
+use Rattle.mpslp_lp_grammar.specs.declared.states.Place.{Place}
+use Rattle.mpslp_lp_grammar.specs.declared.states.Place.TheVariants.{AtStart, BeforeItems, InObjective, BetweenRows, InRow, InBounds, InGenerals, InBinaries, InSemis}
+use Rattle.mpslp_lp_grammar.specs.declared.states.SideOwner.{SideOwner}
+use Rattle.mpslp_lp_grammar.specs.declared.states.SideOwner.TheVariants.{SideOfRow, SideOfBound}
+use Rattle.mpslp_lp_grammar.specs.declared.states.State.{State}
+use Rattle.mpslp_lp_grammar.specs.declared.states.State.TheVariants.{Between, AtObjective, ObjectiveName, AtLastWord, AtSemi, Signs, ItemNumber, RowName, RowLabel, RowSign, RowNumber, RowLeft, RowLeftRelation, BoundName, BoundSign, BoundLeft, BoundLeftRelation, AtSide, SideSign, AfterEnd}
+use Rattle.mpslp_lp_grammar.specs.AfterToken.{AfterToken, Goes, Refuses, refuse, with_made, declare_unless_refused, take_after_declarations, declare_at, take_term, take_after_signs, begin_item, take_bound, take_side}
+use Rattle.mpslp_lp_grammar.specs.Bounds.{no_limits}
+use Rattle.mpslp_lp_grammar.specs.FirstToken.{after_section_word, open_section, begin_row, begin_bound, take_second_relation, name_taken, begin_phrase, begin}
+use Rattle.mpslp_lp_grammar.specs.Grammar.{opened_by, may_begin_section, is_last_word}
+use Rattle.mpslp_lp_grammar.specs.Items.{one}
+use Rattle.mpslp_lp_grammar.specs.Objective.{term_declared, objective_declared, default_objective, first_item_declared}
+use Rattle.mpslp_lp_grammar.specs.PartialRow.{PartialRow}
+use Rattle.mpslp_lp_grammar.specs.Point.{start, has_seen, with_section, is_out_of_order, section_fault}
+use Rattle.mpslp_lp_grammar.specs.Rows.{default_row, without_terms, fits_left, row_limits, row_declared, numbered_row}
+use Rattle.mpslp_lp_grammar.specs.Sides.{apply_sign, infinity, fits_second, Limits, limits_by, flip}
+use Rattle.mpslp_lp_grammar.specs.Terminal.{Terminal}
+use Rattle.mpslp_lp_grammar.specs.Terminal.Terminal.{Opens, Name, Number, Sign, Compares, Colon, Infinity, Free, Other}
+use Rattle.mpslp_lp_grammar.specs.TokenByToken.{new_column}
+use Rattle.mpslp_lp_grammar.specs.TokenStep.{begin_after, take_lone, take}
+use Rattle.mpslp_lp_sentences.specs.FaultsInWords.{IsInWords, is_section, has_opened, current_section, is_under, is_named, collected, names_again, last_name, begins_row, follows_terms, is_right_side, is_value, ends_row, rows_before, label_before, names_row, objective_before, names_objective, repeats_row}
+use Rattle.mpslp_lp_sentences.specs.Meaning.{row_name}
+use Rattle.mpslp_lp_sentences.proofs.FaultedTokens.{in-words}
+use Rattle.mpslp_lp_sentences.proofs.Refusals.{refuses, first-refused, terms-refuse}
+use Rattle.mpslp_lp_sentences.proofs.RowFacts.{row-adds}
+use Rattle.mpslp_lp_sentences.proofs.RowShapes.{PlaceShape, SideShape, SignedSideShape, SignsShape, NumberShape, NameShape, SignShape, Shape, Shaped, none-shaped, shaped-later, in-row, begins-left, left-not_right, signed-left, relation-no_side}
+use Rattle.mpslp_lp_sentences.proofs.SectionFaults.{section_at_place, section_of_item, section_of_side, section_at}
+use Rattle.mpslp_lp_sentences.proofs.TokenCases.{first_named, signs-by, item-by, limit-by, row-by, bound-by, listed-by, in_objective-by, in_row-by, lone-by, constant-by, last_word-by, left-by, bound_name-by, bound_left-by, bound_column-by, side-by, begin-by, objective-by, objective_name-by, item_number-by, between_rows-by, row_name-by, row_sign-by, row_number-by, in_bounds-by, semi-by}
+
+-- ---- what is known of rows
+
+abbrev pub Tokens : Type 0
+Tokens = List Terminal
+
+pub record Rowed (earlier : Tokens) (all : Draft) : Type 0 where
+  pub rows : (name : List ℕ) → has_name all.rows name ≡ true → is_named name (collected names_row earlier) ≡ true
+  pub count : length all.rows ≡ rows_before earlier
+  pub sorted : IsSortedDraft all
+
+-- after the objective has its name
+pub record HasObjective (earlier : Tokens) (all : Draft) : Type 0 where
+  pub opened : has_opened earlier Objective ≡ true
+  pub name : all.objective ≡ Some (objective_before earlier)
+
+-- before the objective has its name
+pub record IsEmpty (earlier : Tokens) (all : Draft) : Type 0 where
+  pub opened : has_opened earlier Objective ≡ true
+  pub none : all ≡ empty_draft
+  pub name : objective_before earlier ≡ codes "obj"
+
+abbrev pub ObjectiveAt : State → Tokens → Draft → Type 0
+ObjectiveAt (Between AtStart) earlier all = (earlier ≡ []) × (all ≡ empty_draft)
+ObjectiveAt (AtObjective sense) earlier all = IsEmpty earlier all
+ObjectiveAt (ObjectiveName sense label) earlier all = IsEmpty earlier all × (last_name earlier ≡ Some label)
+ObjectiveAt _ earlier all = HasObjective earlier all
+
+-- the name of the row that has begun
+abbrev pub IsNameOf : List ℕ → Tokens → Type 0
+IsNameOf name earlier = name ≡ row_name (rows_before earlier + 1) (label_before earlier)
+
+abbrev pub ItemName : ItemOwner → Tokens → Type 0
+ItemName (OfObjective objective) earlier = Unit {0}
+ItemName (OfRow row) earlier = IsNameOf row.name earlier
+
+abbrev pub SideName : SideOwner → Tokens → Type 0
+SideName (SideOfRow row relation) earlier = IsNameOf row.name earlier
+SideName (SideOfBound is_new column relation) earlier = Unit {0}
+
+abbrev pub PlaceName : Place → Tokens → Type 0
+PlaceName BetweenRows earlier = label_before earlier ≡ None
+PlaceName (InRow row) earlier = IsNameOf row.name earlier
+PlaceName _ earlier = Unit {0}
+
+abbrev pub NameAt : State → Tokens → Type 0
+NameAt (Between place) earlier = PlaceName place earlier
+NameAt (AtLastWord To) earlier = label_before earlier ≡ None
+NameAt (AtLastWord That) earlier = label_before earlier ≡ None
+NameAt (Signs owner sign) earlier = ItemName owner earlier
+NameAt (ItemNumber owner sign value) earlier = ItemName owner earlier
+NameAt (RowName label) earlier = label_before earlier ≡ None
+NameAt (RowLabel label) earlier = IsNameOf label earlier
+NameAt (RowSign label sign) earlier = IsNameOf label earlier
+NameAt (RowNumber label sign value) earlier = IsNameOf label earlier
+NameAt (RowLeft label l) earlier = IsNameOf label earlier
+NameAt (RowLeftRelation row) earlier = IsNameOf row.name earlier
+NameAt (AtSide sided) earlier = SideName sided earlier
+NameAt (SideSign sided sign) earlier = SideName sided earlier
+NameAt _ earlier = Unit {0}
+
+-- ---- what an error says
+
+abbrev pub Says : Tokens → Terminal → FaultKind → Type 0
+Says earlier token kinds.DuplicateRow = repeats_row earlier token ≡ true
+Says earlier token _ = Unit {0}
+
+abbrev pub KeepsRows : Tokens → Terminal → AfterToken → Type 0
+KeepsRows earlier token (Goes after next) = Rowed (token ∷ earlier) after.earlier × ObjectiveAt next (token ∷ earlier) after.earlier × NameAt next (token ∷ earlier)
+KeepsRows earlier token (Refuses kind) = Says earlier token kind
+
+pub refused : (context : Context) (earlier : Tokens) (token : Terminal) (kind : FaultKind) → Says earlier token kind → KeepsRows earlier token (refuse context token kind)
+refused context earlier (Opens word) kind h = by (has_seen context.sections_seen (section_of word)) (is_out_of_order context.sections_seen (section_of word))
+  where
+    by : (a b : Bool) → Says earlier (Opens word) (unwrap_or (if a then Some kinds.SectionRepeated else (if b then Some kinds.SectionOrder else None)) kind)
+    by true b = tt
+    by false true = tt
+    by false false = h
+refused context earlier _ kind h = h
+
+pub bad : (context : Context) (earlier : Tokens) (token : Terminal) → KeepsRows earlier token (refuse context token kinds.BadToken)
+bad context earlier token = refused context earlier token kinds.BadToken tt
+
+pub branch : (earlier : Tokens) (token : Terminal) (b : Bool) (x y : AfterToken) → KeepsRows earlier token x → KeepsRows earlier token y → KeepsRows earlier token (if b then x else y)
+branch earlier token true x y h k = h
+branch earlier token false x y h k = k
+
+pub says-by : (earlier : Tokens) (token : Terminal) (all : Draft) (made : Declarations) → (refuses kinds.DuplicateRow all made ≡ true → repeats_row earlier token ≡ true) → (first : BuildFault)
+    → refuses (kind_of_build_fault first) all made ≡ true → Says earlier token (kind_of_build_fault first)
+says-by earlier token all made h builds.DuplicateSense k = tt
+says-by earlier token all made h builds.SecondObjective k = tt
+says-by earlier token all made h builds.UnknownRow k = tt
+says-by earlier token all made h builds.UnknownColumn k = tt
+says-by earlier token all made h builds.DuplicateRow k = h k
+says-by earlier token all made h builds.DuplicateEntry k = tt
+says-by earlier token all made h builds.DuplicateRhs k = tt
+says-by earlier token all made h builds.DuplicateRange k = tt
+says-by earlier token all made h builds.DuplicateBound k = tt
+says-by earlier token all made h builds.RangeOnFree k = tt
+says-by earlier token all made h builds.SemiContinuous k = tt
+says-by earlier token all made h builds.InfiniteValue k = tt
+says-by earlier token all made h builds.OutOfMemory k = tt
+
+-- ---- one token more
+
+pub named-more : (name : List ℕ) (new : Option (List ℕ)) (names : List (List ℕ)) → is_named name names ≡ true → is_named name (cons_option new names) ≡ true
+named-more name None names h = h
+named-more name (Some other) names h = or_right (same_bytes name other) (is_named name names) h
+
+-- a token that ends no row, and declarations of other things
+pub rowed-later : (token : Terminal) (earlier : Tokens) (all later : Draft) → ends_row earlier token ≡ false → later.rows ≡ all.rows → IsSortedDraft later → Rowed earlier all → Rowed (token ∷ earlier) later
+rowed-later token earlier all later none same sorted h = record {
+  rows = λ name e. named-more name (names_row earlier token) (collected names_row earlier) (h.rows name (ap (λ (entries : List (List ℕ × RowDefinition)). has_name entries name) (sym same) ∙ e));
+  count = ap (λ (entries : List (List ℕ × RowDefinition)). length entries) same ∙ h.count ∙ sym (ap (λ (b : Bool). if b then rows_before earlier + 1 else rows_before earlier) none);
+  sorted = sorted;
+}
+
+-- declarations of other things
+pub rowed-same : (earlier : Tokens) (all later : Draft) → later.rows ≡ all.rows → IsSortedDraft later → Rowed earlier all → Rowed earlier later
+rowed-same earlier all later same sorted h = record {
+  rows = λ name e. h.rows name (ap (λ (entries : List (List ℕ × RowDefinition)). has_name entries name) (sym same) ∙ e);
+  count = ap (λ (entries : List (List ℕ × RowDefinition)). length entries) same ∙ h.count;
+  sorted = sorted;
+}
+
+-- the token is no label, or the section is that of the rows
+abbrev pub is_no_colon : Terminal → Bool
+is_no_colon Colon = false
+is_no_colon _ = true
+
+pub objective-later : (token : Terminal) (earlier : Tokens) (all later : Draft) → is_no_colon token ≡ true → later.objective ≡ all.objective → HasObjective earlier all → HasObjective (token ∷ earlier) later
+objective-later (Opens word) earlier all later h same o = record { opened = or_right (is_section Objective (section_of word)) (has_opened earlier Objective) o.opened; name = same ∙ o.name }
+objective-later (Name name) earlier all later h same o = record { opened = o.opened; name = same ∙ o.name }
+objective-later (Number value) earlier all later h same o = record { opened = o.opened; name = same ∙ o.name }
+objective-later (Sign sign) earlier all later h same o = record { opened = o.opened; name = same ∙ o.name }
+objective-later (Compares relation) earlier all later h same o = record { opened = o.opened; name = same ∙ o.name }
+objective-later Colon earlier all later h same o = absurd cc
+objective-later Infinity earlier all later h same o = record { opened = o.opened; name = same ∙ o.name }
+objective-later Free earlier all later h same o = record { opened = o.opened; name = same ∙ o.name }
+objective-later Other earlier all later h same o = record { opened = o.opened; name = same ∙ o.name }
+
+pub label-later : (earlier : Tokens) (all : Draft) → current_section earlier ≡ Some Rows → HasObjective earlier all → HasObjective (Colon ∷ earlier) all
+label-later earlier all here o = record {
+  opened = o.opened;
+  name = o.name
+      ∙ ap (λ (n : List ℕ). Some n) (sym (ap (λ (s : Option Section). if option_map_or (is_section Objective) s false then unwrap_or (last_name earlier) (codes "obj") else objective_before earlier) here));
+}
+
+-- ---- a value that is no right side of a row
+
+pub not-rows : (earlier : Tokens) (section : Section) → current_section earlier ≡ Some section → is_section Rows section ≡ false → is_under Rows earlier ≡ false
+not-rows earlier section here other = ap (λ (o : Option Section). option_map_or (is_section Rows) o false) here ∙ other
+
+pub ends-none : (earlier : Tokens) (token : Terminal) → is_under Rows earlier ≡ false → ends_row earlier token ≡ false
+ends-none earlier token h = by (is_value token) (is_under Rows earlier) h
+  where
+    by : (a b : Bool) → b ≡ false → (a && (b && is_right_side earlier)) ≡ false
+    by false b e = refl
+    by true false e = refl
+    by true true e = absurd cc
+
+pub ends-no_side : (earlier : Tokens) (token : Terminal) → is_right_side earlier ≡ false → ends_row earlier token ≡ false
+ends-no_side earlier token h = by (is_value token) (is_under Rows earlier) (is_right_side earlier) h
+  where
+    by : (a b c : Bool) → c ≡ false → (a && (b && c)) ≡ false
+    by false b c e = refl
+    by true false c e = refl
+    by true true false e = refl
+    by true true true e = absurd cc
+
+-- what a value that ends no row keeps
+pub name-kept : (name : List ℕ) (earlier : Tokens) (b : Bool) → b ≡ false → IsNameOf name earlier
+    → name ≡ row_name ((if b then rows_before earlier + 1 else rows_before earlier) + 1) (if b then None else label_before earlier)
+name-kept name earlier true e h = absurd cc
+name-kept name earlier false e h = h
+
+-- ---- declarations
+
+-- what is known before a token, once the objective has begun
+pub record Here (earlier : Tokens) (context : Context) : Type 0 where
+  pub rowed : Rowed earlier context.earlier
+  pub objective : HasObjective earlier context.earlier
+  pub seen : context.sections_seen.objective ≡ true
+
+-- a token that ends no row and declares nothing
+pub rowed-on : (token : Terminal) (earlier : Tokens) (context : Context) → ends_row earlier token ≡ false → Here earlier context → Rowed (token ∷ earlier) context.earlier
+rowed-on token earlier context none h = rowed-later token earlier context.earlier context.earlier none refl h.rowed.sorted h.rowed
+
+pub objective-on : (token : Terminal) (earlier : Tokens) (context : Context) → is_no_colon token ≡ true → Here earlier context → HasObjective (token ∷ earlier) context.earlier
+objective-on token earlier context keeps h = objective-later token earlier context.earlier context.earlier keeps refl h.objective
+
+pub never : (b : Bool) {X : Type 0} → b ≡ false → b ≡ true → X
+never b e k = absurd (clash (sym e ∙ k))
+  where
+    clash : false ≡ true → ⊥
+    clash e = cc
+
+pub declared : (context : Context) (earlier : Tokens) (token : Terminal) (place : Place) (made : Declarations) → Here earlier context → ends_row earlier token ≡ false → is_no_colon token ≡ true
+    → (with_declarations context.earlier made).rows ≡ context.earlier.rows → (with_declarations context.earlier made).objective ≡ context.earlier.objective → refuses kinds.DuplicateRow context.earlier made ≡ false
+    → (HasObjective (token ∷ earlier) (with_declarations context.earlier made) → ObjectiveAt (Between place) (token ∷ earlier) (with_declarations context.earlier made)) → PlaceName place (token ∷ earlier)
+    → KeepsRows earlier token (declare_at context token place made)
+declared context earlier token place made h none keeps rows objective unrefused at name = by (refusals_in_turn context.earlier made) refl
+  where
+    by : (refusals : List BuildFault) → refusals_in_turn context.earlier made ≡ refusals → KeepsRows earlier token (declare_unless_refused context token refusals place made)
+    by [] e =
+        (rowed-later token earlier context.earlier (with_declarations context.earlier made) none rows (sorted-with_declarations made context.earlier h.rowed.sorted) h.rowed,
+        at (objective-later token earlier context.earlier (with_declarations context.earlier made) keeps objective h.objective), name)
+    by (first ∷ more) e =
+        refused context earlier token (kind_of_build_fault first)
+        (says-by earlier token context.earlier made (λ k. never (refuses kinds.DuplicateRow context.earlier made) unrefused k) first (first-refused made context.earlier first more e))
+
+pub declared-before : (context : Context) (earlier : Tokens) (token : Terminal) (made : Declarations) (next : AfterToken) → refuses kinds.DuplicateRow context.earlier made ≡ false → KeepsRows earlier token next
+    → KeepsRows earlier token (take_after_declarations context token (refusals_in_turn context.earlier made) made next)
+declared-before context earlier token made next unrefused h = by (refusals_in_turn context.earlier made) refl
+  where
+    by : (refusals : List BuildFault) → refusals_in_turn context.earlier made ≡ refusals → KeepsRows earlier token (take_after_declarations context token refusals made next)
+    by [] e = h
+    by (first ∷ more) e =
+        refused context earlier token (kind_of_build_fault first)
+        (says-by earlier token context.earlier made (λ k. never (refuses kinds.DuplicateRow context.earlier made) unrefused k) first (first-refused made context.earlier first more e))
+
+pub bounds-objective : (all : Draft) (column : List ℕ) (l u : Option Limit) → (with_declarations all (bounds_declared column l u)).objective ≡ all.objective
+bounds-objective all column None None = refl
+bounds-objective all column None (Some u) = refl
+bounds-objective all column (Some l) None = refl
+bounds-objective all column (Some l) (Some u) = refl
+
+pub bound : (context : Context) (is_new : Bool) (column : List ℕ) (limits : Limits) (earlier : Tokens) (token : Terminal) (left : Option (List ℕ × Relation)) → Here earlier context → ends_row earlier token ≡ false
+    → is_no_colon token ≡ true → KeepsRows earlier token (take_bound context (new_column is_new column) column limits token (InBounds left))
+bound context is_new column limits earlier token left h none keeps =
+    by (not (has_column front column)) ((is_some limits.lower && has_name front.lowers column) || (is_some limits.upper && has_name front.uppers column))
+    (option_map_or is_plus_infinite limits.lower false || option_map_or is_minus_infinite limits.upper false)
+  where
+    front : Draft
+    front = with_declarations context.earlier (new_column is_new column)
+
+    made : Bool → Declarations
+    made b = new_column b column ++ bounds_declared column limits.lower limits.upper
+
+    rows : (b : Bool) → (with_declarations context.earlier (new_column b column ++ bounds_declared column limits.lower limits.upper)).rows ≡ context.earlier.rows
+    rows true = bounds-rows (with_declaration context.earlier (declare_column column)) column limits.lower limits.upper
+    rows false = bounds-rows context.earlier column limits.lower limits.upper
+
+    objective : (b : Bool) → (with_declarations context.earlier (new_column b column ++ bounds_declared column limits.lower limits.upper)).objective ≡ context.earlier.objective
+    objective true = bounds-objective (with_declaration context.earlier (declare_column column)) column limits.lower limits.upper
+    objective false = bounds-objective context.earlier column limits.lower limits.upper
+
+    by : (a b c : Bool)
+        → KeepsRows earlier token (declare_unless_refused context token (those_of ((a, builds.UnknownColumn) ∷ (b, builds.DuplicateBound) ∷ (c, builds.InfiniteValue) ∷ [])) (InBounds left)
+        (new_column is_new column ++ bounds_declared column limits.lower limits.upper))
+    by true b c = refused context earlier token kinds.UnknownColumn tt
+    by false true c = refused context earlier token kinds.DuplicateBound tt
+    by false false true = refused context earlier token kinds.InfiniteValue tt
+    by false false false =
+        (rowed-later token earlier context.earlier (with_declarations context.earlier (new_column is_new column ++ bounds_declared column limits.lower limits.upper)) none (rows is_new)
+        (sorted-with_declarations (new_column is_new column ++ bounds_declared column limits.lower limits.upper) context.earlier h.rowed.sorted) h.rowed,
+        objective-later token earlier context.earlier (with_declarations context.earlier (new_column is_new column ++ bounds_declared column limits.lower limits.upper)) keeps (objective is_new) h.objective, tt)
+
+-- ---- the end of a row
+
+pub terms-rows : (name : List ℕ) (terms : List (List ℕ × Decimal)) (all : Draft) → (with_declarations all (flat_map (term_declared name) terms)).rows ≡ all.rows
+terms-rows name [] all = refl
+terms-rows name (term ∷ terms) all = terms-rows name terms (with_declarations all (term_declared name term))
+
+pub terms-objective : (name : List ℕ) (terms : List (List ℕ × Decimal)) (all : Draft) → (with_declarations all (flat_map (term_declared name) terms)).objective ≡ all.objective
+terms-objective name [] all = refl
+terms-objective name (term ∷ terms) all = terms-objective name terms (with_declarations all (term_declared name term))
+
+pub row_ended : (context : Context) (row : PartialRow) (relation : Relation) (l : Limit) (earlier : Tokens) (token : Terminal) → Here earlier context → IsNameOf row.name earlier → is_value token ≡ true
+    → current_section earlier ≡ Some Rows → is_right_side earlier ≡ true → KeepsRows earlier token (take_side context (SideOfRow row relation) l token)
+row_ended context row relation l earlier token h name value here right = by (refusals_in_turn context.earlier made) refl
+  where
+    form : RowDefinition
+    form = by_limits (unwrap_or (row_limits row.left relation l).lower MinusInf) (unwrap_or (row_limits row.left relation l).upper PlusInf)
+
+    made : Declarations
+    made = row_declared row (row_limits row.left relation l)
+
+    ends : ends_row earlier token ≡ true
+    ends = both_so (is_value token) (is_under Rows earlier && is_right_side earlier) value
+        (both_so (is_under Rows earlier) (is_right_side earlier) (ap (λ (o : Option Section). option_map_or (is_section Rows) o false) here) right)
+
+    named : names_row earlier token ≡ Some row.name
+    named = ap (λ (b : Bool). if b then Some (row_name (rows_before earlier + 1) (label_before earlier)) else None) ends ∙ ap (λ (n : List ℕ). Some n) (sym name)
+
+    -- of the objective, or of an earlier row
+    is_objective-named : (o : Option (List ℕ)) → o ≡ Some (objective_before earlier) → option_map_or (same_bytes row.name) o false ≡ true → names_objective names_row earlier token ≡ true
+    is_objective-named None e k = absurd cc
+    is_objective-named (Some n) e k =
+        ap (λ (found : Option (List ℕ)). option_map_or (same_bytes (objective_before earlier)) found false) named
+        ∙ subst (λ (m : List ℕ). same_bytes (objective_before earlier) m ≡ true) (sym (same_name row.name n k ∙ one n (objective_before earlier) e)) (itself_named (objective_before earlier))
+      where
+        one : (a b : List ℕ) → Some a ≡ Some b → a ≡ b
+        one a b m = cc
+
+    repeated : has_row context.earlier row.name ≡ true → repeats_row earlier token ≡ true
+    repeated k =
+        either (is_objective context.earlier row.name) (has_name context.earlier.rows row.name) (repeats_row earlier token)
+        (λ e. or_right (names_again names_row names_row earlier token) (names_objective names_row earlier token) (is_objective-named context.earlier.objective h.objective.name e))
+        (λ e. or_left (names_again names_row names_row earlier token) (names_objective names_row earlier token)
+        (ap (λ (o : Option (List ℕ)). option_map_or (λ c. is_named c (collected names_row earlier)) o false) named ∙ h.rowed.rows row.name e)) k
+
+    only : (b c : Bool) → c ≡ false → ((b || false) || c) ≡ true → b ≡ true
+    only true c e k = refl
+    only false true e k = absurd cc
+    only false false e k = absurd cc
+
+    rowed : refusals_in_turn context.earlier made ≡ [] → Rowed (token ∷ earlier) (with_declarations context.earlier made)
+    rowed none = record {
+      rows = λ other e.
+          found other (same_bytes other row.name) refl
+          (sym (has-put other row.name form context.earlier.rows) ∙ ap (λ (entries : List (List ℕ × RowDefinition)). has_name entries other) (sym (terms-rows row.name row.terms (with_declaration context.earlier (declare_row row.name form)))) ∙ e);
+      count = row-adds context.earlier row.name form row.terms h.rowed.sorted none ∙ ap (λ (n : ℕ). n + 1) h.rowed.count
+          ∙ sym (ap (λ (b : Bool). if b then rows_before earlier + 1 else rows_before earlier) ends);
+      sorted = sorted-with_declarations made context.earlier h.rowed.sorted;
+    }
+      where
+        found : (other : List ℕ) (b : Bool) → same_bytes other row.name ≡ b → (b || has_name context.earlier.rows other) ≡ true → is_named other (cons_option (names_row earlier token) (collected names_row earlier)) ≡ true
+        found other true e k =
+            ap (λ (o : Option (List ℕ)). is_named other (cons_option o (collected names_row earlier))) named ∙ or_left (same_bytes other row.name) (is_named other (collected names_row earlier)) e
+        found other false e k = named-more other (names_row earlier token) (collected names_row earlier) (h.rowed.rows other k)
+
+    keeps : (t : Terminal) → is_value t ≡ true → is_no_colon t ≡ true
+    keeps (Number v) k = refl
+    keeps Infinity k = refl
+    keeps (Opens word) k = refl
+    keeps (Name n) k = refl
+    keeps (Sign sign) k = refl
+    keeps (Compares r) k = refl
+    keeps Colon k = absurd cc
+    keeps Free k = refl
+    keeps Other k = refl
+
+    no_label : (t : Terminal) → is_value t ≡ true → ends_row earlier t ≡ true → label_before (t ∷ earlier) ≡ None
+    no_label (Number v) k e = ap (λ (b : Bool). if b then None else label_before earlier) e
+    no_label Infinity k e = ap (λ (b : Bool). if b then None else label_before earlier) e
+    no_label (Opens word) k e = refl
+    no_label (Name n) k e = absurd cc
+    no_label (Sign sign) k e = absurd cc
+    no_label (Compares r) k e = absurd cc
+    no_label Colon k e = absurd cc
+    no_label Free k e = absurd cc
+    no_label Other k e = absurd cc
+
+    by : (refusals : List BuildFault) → refusals_in_turn context.earlier made ≡ refusals → KeepsRows earlier token (declare_unless_refused context token refusals BetweenRows made)
+    by [] e =
+        (rowed e,
+        objective-later token earlier context.earlier (with_declarations context.earlier made) (keeps token value) (terms-objective row.name row.terms (with_declaration context.earlier (declare_row row.name form))) h.objective,
+        no_label token value ends)
+    by (first ∷ more) e =
+        refused context earlier token (kind_of_build_fault first)
+        (says-by earlier token context.earlier made
+        (λ k. repeated (only (has_row context.earlier row.name) (refuses kinds.DuplicateRow (with_declaration context.earlier (declare_row row.name form)) (flat_map (term_declared row.name) row.terms))
+        (terms-refuse kinds.DuplicateRow refl refl refl row.name row.terms (with_declaration context.earlier (declare_row row.name form))) k)) first (first-refused made context.earlier first more e))
+
