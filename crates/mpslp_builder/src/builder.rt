@@ -21,7 +21,8 @@ use std::marker::Model;
 /// they are used. Contracts see what has been declared.
 ///
 /// A call that is rejected returns the first error that applies, in the order in which the call lists them. Only a call
-/// without such an error may return [`OutOfMemory`](BuildFault::OutOfMemory). In both cases the builder is unchanged.
+/// without such an error may return [`OutOfMemory`](BuildFault::OutOfMemory). In both cases the builder is unchanged, except
+/// that [`next_line`](Self::next_line) and [`first_line`](Self::first_line) without memory may have declared a part.
 ///
 /// Each declaring call has a query, such as [`check_rhs`](Self::check_rhs) for [`rhs`](Self::rhs). It returns the error
 /// that the call would return, allocates nothing and changes nothing.

@@ -237,7 +237,7 @@ impl Builder {
     pub fn has_row(&self, name: &[u8]) -> bool
         ensures { result ≡ has_row self.now name.now }
     {
-        self.tables.has_row(name)
+        self.tables.row_ref(name).is_some()
     }
 
     /// Whether a column has this name.
@@ -282,7 +282,7 @@ impl Builder {
     {
         refuse(&[
             (self.has_objective(), BuildFault::SecondObjective),
-            (self.has_row(name), BuildFault::DuplicateRow),
+            (self.tables.has_row(name), BuildFault::DuplicateRow),
         ])
     }
 
@@ -305,7 +305,7 @@ impl Builder {
     pub fn check_row(&self, name: &[u8]) -> Result<(), BuildFault>
         ensures { result ≡ first_refusal (those_of (row_tests self.now name.now)) }
     {
-        refuse(&[(self.has_row(name), BuildFault::DuplicateRow)])
+        refuse(&[(self.tables.has_row(name), BuildFault::DuplicateRow)])
     }
 
     /// Returns the error that [`row_limits`](Self::row_limits) would return now.
@@ -322,7 +322,7 @@ impl Builder {
         ensures { result ≡ first_refusal (refusals self.now (declare_row name.now (by_limits lower.now upper.now))) }
     {
         refuse(&[
-            (self.has_row(name), BuildFault::DuplicateRow),
+            (self.tables.has_row(name), BuildFault::DuplicateRow),
             (have_infinite_limit(lower, upper), BuildFault::InfiniteValue),
         ])
     }

@@ -118,11 +118,19 @@ impl Tables {
         }
     }
 
-    /// Whether a row, or the objective, has this name.
+    /// Whether a row has this name; the objective does not count.
+    fn is_row(&self, name: &[u8]) -> bool
+        ensures { result ≡ has_name (draft None None self.now).rows name.now }
+    {
+        self.rows.contains_key(name)
+    }
+
+    /// Whether a row, or the objective, has this name. It is looked up by its hash at once, because most names that are asked for
+    /// here are new.
     pub(crate) fn has_row(&self, name: &[u8]) -> bool
         ensures { result ≡ has_row (draft None None self.now) name.now }
     {
-        self.row_ref(name).is_some()
+        self.is_objective(name) || self.is_row(name)
     }
 
     /// Whether a row of this name is declared with type N. The objective does not count.
