@@ -1,38 +1,33 @@
 -- The first token of a text with an error of the grammar: what is known before each token is known before this one.
-use Rattle.std.proofs.Common.{◌≡◌, refl, sym, ap, ◌∙◌, subst, List, [], ◌∷◌, ◌++◌, append_assoc, ℕ, suc, ◌+◌, ◌-◌, ◌^◌, Bool, true, false, cond, map, reverse, arith}
-use Rattle.std.specs.Prelude.{Option, Some, None, ◌||◌, ◌&&◌, nat_le, is_none, filter_map, min, length, if◌then◌else◌, ◌==◌}
-use Rattle.std.specs.List.{list_all, flat_map, enumerate_from, cons_option}
-use Rattle.std.specs.Option.{option_map, option_map_or}
+use Rattle.std.proofs.Common.{◌≡◌, refl, sym, ap, ◌∙◌, subst, List, [], ◌∷◌, ◌++◌, append_assoc, ℕ, suc, ◌+◌, ◌-◌, ◌^◌, Bool, true, false, reverse, arith}
+use Rattle.std.specs.Prelude.{Option, Some, None, is_none, min, length}
+use Rattle.std.specs.List.{list_all, flat_map, enumerate_from}
 use Rattle.std.specs.Str.Lines.{lines}
-use Rattle.std.specs.Cmp.{first_so, second_so}
 use Rattle.std.proofs.lemmas.List.{append-nil, reverse-append}
 use Rattle.std.proofs.lemmas.Grind.{reverse_onto}
-use Rattle.mpslp_types.specs.FaultOrder.{kind_rank, least_kind}
 use Rattle.mpslp_types.specs.declared.faults.Fault.{Fault}
 use Rattle.mpslp_types.specs.declared.faults.FaultKind.{FaultKind}
 use Rattle.mpslp_types.specs.declared.faults.FaultKind.TheVariants as kinds
-use Rattle.mpslp_types.proofs.BoolLemmas.{both_so, true_from}
-use Rattle.mpslp_model_core.specs.Lists.{is_nonempty, head_of}
+use Rattle.mpslp_types.proofs.BoolLemmas.{both_so}
 use Rattle.mpslp_builder.specs.Declaration.{Draft}
-use Rattle.mpslp_builder.specs.Meaning.{named_kinds, whole_fault, names_with, named_faults, file_fault}
+use Rattle.mpslp_builder.specs.Meaning.{whole_fault}
 use Rattle.mpslp_lines.specs.LineAnswer.{fault_on_line}
-use Rattle.mpslp_lp_tokens.specs.Token.{Token, tokens}
 use Rattle.mpslp_lp_grammar.specs.Rules.{Outcome}
 use Rattle.mpslp_lp_grammar.specs.Rules.Outcome.{Finished, Refused, Open}
 use Rattle.mpslp_lp_grammar.specs.Terminal.{Terminal, terminals}
 use Rattle.mpslp_lp_grammar.specs.Point.{start}
 use Rattle.mpslp_lp_grammar.specs.AfterToken.{AfterToken, Goes, Refuses}
 use Rattle.mpslp_lp_grammar.specs.TokenStep.{take, at_end, is_at_end}
-use Rattle.mpslp_lp_grammar.specs.LexicalFault.{token_fault, lexical_fault}
+use Rattle.mpslp_lp_grammar.specs.LexicalFault.{lexical_fault}
 use Rattle.mpslp_lp_grammar.specs.declared.context.Context.{Context}
 use Rattle.mpslp_lp_grammar.specs.declared.states.Place.TheVariants.{AtStart}
 use Rattle.mpslp_lp_grammar.specs.declared.states.State.{State}
 use Rattle.mpslp_lp_grammar.specs.declared.states.State.TheVariants.{Between, AfterEnd}
 use Rattle.mpslp_lp.specs.LineByLine.{take_all, take_line, read_from}
-use Rattle.mpslp_lp.specs.LpText.{numbered_lines, outcome}
-use Rattle.mpslp_lp.specs.FirstFault.{IsFirstLpFault, fault_of}
+use Rattle.mpslp_lp.specs.LpText.{outcome}
+use Rattle.mpslp_lp.specs.FirstFault.{fault_of}
 use Rattle.mpslp_lp.proofs.ReadingLemmas.{outcome-read}
-use Rattle.mpslp_lp_sentences.specs.FaultsInWords.{StandsOn, IsInWords}
+use Rattle.mpslp_lp_sentences.specs.FaultsInWords.{IsAtToken, IsInWords}
 use Rattle.mpslp_lp_sentences.proofs.LexicalKinds.{is_lexical, lexical-kind, is_of_whole, file-kind}
 
 -- What is known of the tokens before one, of the context and of the state, and what follows from it for a kind of errors.
@@ -214,7 +209,7 @@ module _ (kind : FaultKind) (is_such : List Terminal → Terminal → Bool) (Kno
       clash : false ≡ true → ⊥
       clash e = cc
 
-      by : (o : Outcome Fault Draft) → outcome bytes ≡ o → fault_of o ≡ Some fault → StandsOn is_such bytes fault
+      by : (o : Outcome Fault Draft) → outcome bytes ≡ o → fault_of o ≡ Some fault → IsAtToken is_such bytes fault
       by (Finished all) e f = absurd (clash (sym early ∙ ap is_of_whole (sym k) ∙ file-kind all fault f))
       by Open e f = absurd (clash (sym early ∙ ap is_of_whole (sym k) ∙ sym (ap (λ (x : Fault). is_of_whole x.kind) (same f))))
         where

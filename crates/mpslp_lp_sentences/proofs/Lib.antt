@@ -21,7 +21,7 @@ pub mod TokenCases
 pub mod SectionFaults
 pub mod RowShapes
 pub mod Refusals
-pub mod ToldFaults
+pub mod DraftFaults
 pub mod RowNames
 pub mod RowNameFaults
 pub mod EntryFaults

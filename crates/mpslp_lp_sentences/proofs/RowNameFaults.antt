@@ -1,44 +1,30 @@
 -- A row with the name of an earlier row or of the objective is as `FaultsInWords` defines it: in each state, what is known of
 -- the rows before is known after each token.
-use Rattle.std.proofs.Common.{◌≡◌, refl, sym, ap, ◌∙◌, subst, ℕ, List, [], ◌∷◌, ◌++◌, ◌+◌, Bool, true, false, length}
-use Rattle.std.specs.Prelude.{Option, Some, None, is_some, min, codes, ◌-◌, ◌^◌, ◌||◌, ◌&&◌, not, unwrap_or, if◌then◌else◌}
-use Rattle.std.specs.List.{list_any, list_all, flat_map, cons_option}
+use Rattle.std.proofs.Common.{◌≡◌, refl, sym, ap, ◌∙◌, subst, ℕ, List, [], ◌∷◌, ◌++◌, ◌+◌, Bool, true, false}
+use Rattle.std.specs.Prelude.{Option, Some, None, min, codes, ◌-◌, ◌^◌, ◌||◌, not, unwrap_or, if◌then◌else◌}
+use Rattle.std.specs.List.{list_any}
 use Rattle.std.specs.Option.{option_map_or}
-use Rattle.std.specs.Cmp.{first_so, second_so}
-use Rattle.std.specs.FinMap.{put}
-use Rattle.std.proofs.lemmas.List.Folds.{list_all-append}
 use Rattle.mpslp_decimal.specs.Decimal.{Number as Decimal}
 use Rattle.mpslp_types.specs.Limit.{limit_of}
-use Rattle.mpslp_types.specs.Name.{same_bytes, bytes_cmp}
+use Rattle.mpslp_types.specs.Name.{same_bytes}
 use Rattle.mpslp_types.specs.declared.faults.BuildFault.{BuildFault}
-use Rattle.mpslp_types.specs.declared.faults.BuildFault.TheVariants as builds
-use Rattle.mpslp_types.specs.declared.faults.FaultKind.{FaultKind}
 use Rattle.mpslp_types.specs.declared.faults.FaultKind.TheVariants as kinds
 use Rattle.mpslp_types.specs.declared.kinds.Limit.{Limit}
 use Rattle.mpslp_types.specs.declared.kinds.Sense.{Sense}
-use Rattle.mpslp_types.specs.declared.kinds.Limit.TheVariants.{MinusInf, PlusInf}
-use Rattle.mpslp_types.specs.Limit.{is_plus_infinite, is_minus_infinite}
-use Rattle.mpslp_types.proofs.BoolLemmas.{both_so, or_left, or_right, so_not, either}
-use Rattle.mpslp_model_core.specs.Lists.{those_of}
-use Rattle.mpslp_builder.specs.Consistency.{has_objective_rhs}
-use Rattle.mpslp_builder.specs.Declaration.{RowDefinition, Declaration, Declarations, Draft, by_limits, empty_draft, with_declaration, with_declarations, declare_sense, declare_objective, declare_constant, declare_row, declare_rhs, declare_range, declare_column, declare_coefficient, declare_lower, declare_upper, declare_marked, declare_integer, declare_binary, declare_semi, bounds_declared, has_name, has_column, has_row, is_objective, is_integer, is_semi}
-use Rattle.mpslp_builder.specs.Refusal.{has_constant, refusals_in_turn, bounds_refusals}
-use Rattle.mpslp_builder.proofs.LaterDrafts.{itself_named}
-use Rattle.mpslp_builder.proofs.SlotLemmas.{has-put, same_name}
-use Rattle.mpslp_builder.proofs.SortedDrafts.{IsSortedDraft, empty_sorted, sorted-with_declarations}
-use Rattle.mpslp_lp_grammar.proofs.DeclaresLemmas.{bounds-rows}
+use Rattle.mpslp_types.specs.declared.kinds.Limit.TheVariants.{PlusInf}
+use Rattle.mpslp_builder.specs.Declaration.{Declarations, Draft, empty_draft, with_declarations, declare_constant, declare_column, declare_integer, declare_binary, declare_semi}
+use Rattle.mpslp_builder.specs.Refusal.{refusals_in_turn}
+use Rattle.mpslp_builder.proofs.SortedDrafts.{empty_sorted, sorted-with_declarations}
 use Rattle.mpslp_lines.specs.Declaring.{kind_of_build_fault}
-use Rattle.mpslp_lp_tokens.specs.Words.{section_of}
 use Rattle.mpslp_lp_tokens.specs.declared.words.Section.{Section}
 use Rattle.mpslp_lp_tokens.specs.declared.words.Section.TheVariants.{Objective, Rows, Bounds, Generals, Binaries, SemiContinuous, End}
 use Rattle.mpslp_lp_tokens.specs.declared.words.SectionWord.{SectionWord}
 use Rattle.mpslp_lp_tokens.specs.declared.words.SectionWord.TheVariants as words
 use Rattle.mpslp_lp_grammar.specs.declared.context.Context.{Context}
 use Rattle.mpslp_lp_grammar.specs.declared.relations.Relation.{Relation}
-use Rattle.mpslp_lp_grammar.specs.declared.relations.Relation.TheVariants.{AtMost, AtLeast, EqualTo}
 use Rattle.mpslp_lp_grammar.specs.declared.sections_seen.SectionsSeen.{SectionsSeen}
 use Rattle.mpslp_lp_grammar.specs.declared.signs.Sign.{Sign as SignOf}
-use Rattle.mpslp_lp_grammar.specs.declared.signs.Sign.TheVariants.{Plus, Minus}
+use Rattle.mpslp_lp_grammar.specs.declared.signs.Sign.TheVariants.{Minus}
 use Rattle.mpslp_lp_grammar.specs.declared.states.ItemOwner.{ItemOwner}
 use Rattle.mpslp_lp_grammar.specs.declared.states.ItemOwner.TheVariants.{OfObjective, OfRow}
 use Rattle.mpslp_lp_grammar.specs.declared.states.LastWord.{LastWord}
@@ -49,26 +35,24 @@ use Rattle.mpslp_lp_grammar.specs.declared.states.SideOwner.{SideOwner}
 use Rattle.mpslp_lp_grammar.specs.declared.states.SideOwner.TheVariants.{SideOfRow, SideOfBound}
 use Rattle.mpslp_lp_grammar.specs.declared.states.State.{State}
 use Rattle.mpslp_lp_grammar.specs.declared.states.State.TheVariants.{Between, AtObjective, ObjectiveName, AtLastWord, AtSemi, Signs, ItemNumber, RowName, RowLabel, RowSign, RowNumber, RowLeft, RowLeftRelation, BoundName, BoundSign, BoundLeft, BoundLeftRelation, AtSide, SideSign, AfterEnd}
-use Rattle.mpslp_lp_grammar.specs.AfterToken.{AfterToken, Goes, Refuses, refuse, with_made, declare_unless_refused, take_after_declarations, declare_at, take_term, take_after_signs, begin_item, take_bound, take_side}
+use Rattle.mpslp_lp_grammar.specs.AfterToken.{AfterToken, Goes, Refuses, refuse, with_made, declare_unless_refused, take_term, take_after_signs, begin_item, take_side}
 use Rattle.mpslp_lp_grammar.specs.Bounds.{no_limits}
-use Rattle.mpslp_lp_grammar.specs.FirstToken.{after_section_word, open_section, begin_row, begin_bound, take_second_relation, name_taken, begin_phrase, begin}
+use Rattle.mpslp_lp_grammar.specs.FirstToken.{open_section, begin_row, begin_bound, take_second_relation, begin_phrase, begin}
 use Rattle.mpslp_lp_grammar.specs.Grammar.{opened_by, may_begin_section, is_last_word}
 use Rattle.mpslp_lp_grammar.specs.Items.{one}
 use Rattle.mpslp_lp_grammar.specs.Objective.{term_declared, objective_declared, default_objective, first_item_declared}
 use Rattle.mpslp_lp_grammar.specs.PartialRow.{PartialRow}
-use Rattle.mpslp_lp_grammar.specs.Point.{start, has_seen, with_section, is_out_of_order, section_fault}
-use Rattle.mpslp_lp_grammar.specs.Rows.{default_row, without_terms, fits_left, row_limits, row_declared, numbered_row}
-use Rattle.mpslp_lp_grammar.specs.Sides.{apply_sign, infinity, fits_second, Limits, limits_by, flip}
+use Rattle.mpslp_lp_grammar.specs.Point.{start, with_section, is_out_of_order}
+use Rattle.mpslp_lp_grammar.specs.Rows.{default_row, without_terms, fits_left, numbered_row}
+use Rattle.mpslp_lp_grammar.specs.Sides.{apply_sign, infinity, fits_second, limits_by, flip}
 use Rattle.mpslp_lp_grammar.specs.Terminal.{Terminal}
 use Rattle.mpslp_lp_grammar.specs.Terminal.Terminal.{Opens, Name, Number, Sign, Compares, Colon, Infinity, Free, Other}
-use Rattle.mpslp_lp_grammar.specs.TokenByToken.{new_column}
 use Rattle.mpslp_lp_grammar.specs.TokenStep.{begin_after, take_lone, take}
-use Rattle.mpslp_lp_sentences.specs.FaultsInWords.{IsInWords, is_section, has_opened, current_section, is_under, is_named, collected, names_again, last_name, begins_row, follows_terms, is_right_side, is_value, ends_row, rows_before, label_before, names_row, objective_before, names_objective, repeats_row}
+use Rattle.mpslp_lp_sentences.specs.FaultsInWords.{IsInWords, is_section, has_opened, current_section, last_name, begins_row, follows_terms, is_right_side, is_value, ends_row, rows_before, label_before, objective_before, repeats_row}
 use Rattle.mpslp_lp_sentences.specs.Meaning.{row_name}
 use Rattle.mpslp_lp_sentences.proofs.FaultedTokens.{in-words}
-use Rattle.mpslp_lp_sentences.proofs.Refusals.{refuses, first-refused, terms-refuse}
-use Rattle.mpslp_lp_sentences.proofs.RowFacts.{row-adds}
-use Rattle.mpslp_lp_sentences.proofs.RowShapes.{PlaceShape, SideShape, SignedSideShape, SignsShape, NumberShape, NameShape, SignShape, Shape, Shaped, none-shaped, shaped-later, in-row, begins-left, left-not_right, signed-left, relation-no_side}
+use Rattle.mpslp_lp_sentences.proofs.Refusals.{refuses, first-refused}
+use Rattle.mpslp_lp_sentences.proofs.RowShapes.{PlaceShape, SideShape, SignedSideShape, SignsShape, NameShape, SignShape, Shape, Shaped, none-shaped, shaped-later, in-row, begins-left, left-not_right, signed-left, relation-no_side}
 use Rattle.mpslp_lp_sentences.proofs.SectionFaults.{section_at_place, section_of_item, section_of_side, section_at}
 use Rattle.mpslp_lp_sentences.proofs.TokenCases.{first_named, signs-by, item-by, limit-by, row-by, bound-by, listed-by, in_objective-by, in_row-by, lone-by, constant-by, last_word-by, left-by, bound_name-by, bound_left-by, bound_column-by, side-by, begin-by, objective-by, objective_name-by, item_number-by, between_rows-by, row_name-by, row_sign-by, row_number-by, in_bounds-by, semi-by}
 use Rattle.mpslp_lp_sentences.proofs.RowNames.{Tokens, Rowed, HasObjective, IsEmpty, ObjectiveAt, IsNameOf, ItemName, SideName, PlaceName, NameAt, KeepsRows, refused, bad, branch, says-by, rowed-later, rowed-same, is_no_colon, label-later, not-rows, ends-none, ends-no_side, name-kept, Here, rowed-on, objective-on, never, declared, declared-before, bound, row_ended}
@@ -326,9 +310,11 @@ named_objective context sense label earlier rowed empty last seen here token =
 
     by : (refusals : List BuildFault) → refusals_in_turn context.earlier (objective_declared sense label) ≡ refusals
         → KeepsRows earlier Colon (declare_unless_refused context Colon refusals (BeforeItems label) (objective_declared sense label))
-    by [] e =
-        (rowed-later Colon earlier context.earlier (with_declarations context.earlier (objective_declared sense label)) refl refl (sorted-with_declarations (objective_declared sense label) context.earlier rowed.sorted) rowed,
-        record { opened = empty.opened; name = ap (λ (n : List ℕ). Some n) (sym labelled) }, tt)
+    by [] e = (
+      rowed-later Colon earlier context.earlier (with_declarations context.earlier (objective_declared sense label)) refl refl (sorted-with_declarations (objective_declared sense label) context.earlier rowed.sorted) rowed,
+      record { opened = empty.opened; name = ap (λ (n : List ℕ). Some n) (sym labelled) },
+      tt,
+    )
     by (refusal ∷ more) e =
         refused context earlier Colon (kind_of_build_fault refusal)
         (says-by earlier Colon context.earlier (objective_declared sense label)

@@ -1,7 +1,7 @@
 -- What the tokens before one are in each state of a row, and that a constant in a row and a second relation are as
 -- `FaultsInWords` defines them.
 use Rattle.std.proofs.Common.{◌≡◌, refl, sym, ap, ◌∙◌, subst, ℕ, List, [], ◌∷◌, ◌++◌, Bool, true, false}
-use Rattle.std.specs.Prelude.{Option, Some, None, ◌||◌, ◌&&◌, not, unwrap_or, if◌then◌else◌}
+use Rattle.std.specs.Prelude.{Option, Some, None, ◌||◌, not, unwrap_or, if◌then◌else◌}
 use Rattle.std.specs.List.{list_any}
 use Rattle.std.specs.Option.{option_map_or}
 use Rattle.std.proofs.lemmas.List.Folds.{list_any-append}
@@ -20,14 +20,13 @@ use Rattle.mpslp_builder.specs.Refusal.{refusals_in_turn, bounds_refusals}
 use Rattle.mpslp_lines.specs.Declaring.{kind_of_build_fault}
 use Rattle.mpslp_lp_tokens.specs.Words.{section_of}
 use Rattle.mpslp_lp_tokens.specs.declared.words.Section.{Section}
-use Rattle.mpslp_lp_tokens.specs.declared.words.Section.TheVariants.{Objective, Rows, Bounds, Generals, Binaries, SemiContinuous, End}
+use Rattle.mpslp_lp_tokens.specs.declared.words.Section.TheVariants.{Objective, Rows, Bounds, SemiContinuous, End}
 use Rattle.mpslp_lp_tokens.specs.declared.words.SectionWord.{SectionWord}
 use Rattle.mpslp_lp_tokens.specs.declared.words.SectionWord.TheVariants as words
 use Rattle.mpslp_lp_grammar.specs.declared.context.Context.{Context}
 use Rattle.mpslp_lp_grammar.specs.declared.relations.Relation.{Relation}
 use Rattle.mpslp_lp_grammar.specs.declared.relations.Relation.TheVariants.{AtMost, AtLeast, EqualTo}
 use Rattle.mpslp_lp_grammar.specs.declared.signs.Sign.{Sign as SignOf}
-use Rattle.mpslp_lp_grammar.specs.declared.signs.Sign.TheVariants.{Plus, Minus}
 use Rattle.mpslp_lp_grammar.specs.declared.states.ItemOwner.{ItemOwner}
 use Rattle.mpslp_lp_grammar.specs.declared.states.ItemOwner.TheVariants.{OfObjective, OfRow}
 use Rattle.mpslp_lp_grammar.specs.declared.states.LastWord.{LastWord}
@@ -38,22 +37,21 @@ use Rattle.mpslp_lp_grammar.specs.declared.states.SideOwner.{SideOwner}
 use Rattle.mpslp_lp_grammar.specs.declared.states.SideOwner.TheVariants.{SideOfRow, SideOfBound}
 use Rattle.mpslp_lp_grammar.specs.declared.states.State.{State}
 use Rattle.mpslp_lp_grammar.specs.declared.states.State.TheVariants.{Between, AtObjective, ObjectiveName, AtLastWord, AtSemi, Signs, ItemNumber, RowName, RowLabel, RowSign, RowNumber, RowLeft, RowLeftRelation, BoundName, BoundSign, BoundLeft, BoundLeftRelation, AtSide, SideSign, AfterEnd}
-use Rattle.mpslp_lp_grammar.specs.AfterToken.{AfterToken, Goes, Refuses, refuse, with_made, declare_unless_refused, take_after_declarations, declare_at, take_term, take_after_signs, begin_item, take_bound, take_side}
+use Rattle.mpslp_lp_grammar.specs.AfterToken.{AfterToken, Goes, Refuses, refuse, with_made, declare_unless_refused, take_after_declarations, take_term, take_after_signs, begin_item, take_side}
 use Rattle.mpslp_lp_grammar.specs.Bounds.{no_limits}
 use Rattle.mpslp_lp_grammar.specs.FirstToken.{after_section_word, open_section, begin_row, begin_bound, take_second_relation, name_taken, begin_phrase, begin}
 use Rattle.mpslp_lp_grammar.specs.Grammar.{opened_by, may_begin_section, is_last_word}
 use Rattle.mpslp_lp_grammar.specs.Items.{one}
 use Rattle.mpslp_lp_grammar.specs.Objective.{term_declared, objective_declared, default_objective, first_item_declared}
 use Rattle.mpslp_lp_grammar.specs.PartialRow.{PartialRow}
-use Rattle.mpslp_lp_grammar.specs.Phrase.{terminal_fault}
-use Rattle.mpslp_lp_grammar.specs.Point.{start, has_seen, with_section, is_out_of_order, section_fault}
+use Rattle.mpslp_lp_grammar.specs.Point.{start, has_seen, with_section, is_out_of_order}
 use Rattle.mpslp_lp_grammar.specs.Rows.{default_row, without_terms, fits_left, row_limits, row_declared}
-use Rattle.mpslp_lp_grammar.specs.Sides.{apply_sign, infinity, fits_second, Limits, limits_by, flip}
+use Rattle.mpslp_lp_grammar.specs.Sides.{apply_sign, infinity, fits_second, limits_by, flip}
 use Rattle.mpslp_lp_grammar.specs.Terminal.{Terminal}
 use Rattle.mpslp_lp_grammar.specs.Terminal.Terminal.{Opens, Name, Number, Sign, Compares, Colon, Infinity, Free, Other}
 use Rattle.mpslp_lp_grammar.specs.TokenByToken.{new_column}
 use Rattle.mpslp_lp_grammar.specs.TokenStep.{begin_after, take_lone, take}
-use Rattle.mpslp_lp_sentences.specs.FaultsInWords.{IsInWords, is_section, ends_in_number, ends_in_sign, last_name, current_section, is_under, ends_in_name, ends_in_value, ends_in_first_word, begins_row, follows_terms, may_be_left_side, is_right_side, ends_in_constant, follows_constant, left_relation, last_relation, bound_relation, agree, differs_from, mixes_under, mixes_senses, term_columns, is_named}
+use Rattle.mpslp_lp_sentences.specs.FaultsInWords.{IsInWords, is_section, ends_in_number, ends_in_sign, last_name, is_under, ends_in_name, ends_in_value, ends_in_first_word, begins_row, follows_terms, may_be_left_side, is_right_side, ends_in_constant, follows_constant, left_relation, last_relation, bound_relation, agree, differs_from, mixes_under, mixes_senses, term_columns, is_named}
 use Rattle.mpslp_lp_sentences.proofs.FaultedTokens.{in-words}
 use Rattle.mpslp_lp_sentences.proofs.TokenCases.{first_named, signs-by, item-by, limit-by, row-by, bound-by, listed-by, in_objective-by, in_row-by, lone-by, constant-by, last_word-by, left-by, bound_name-by, bound_left-by, bound_column-by, side-by, begin-by, objective-by, objective_name-by, item_number-by, between_rows-by, row_name-by, row_sign-by, row_number-by, in_bounds-by, semi-by}
 use Rattle.mpslp_lp_sentences.proofs.SectionFaults.{section_at_place, section_of_item, section_of_side, section_at, Opened, none-opened, opened-later}

@@ -1,6 +1,6 @@
 -- A section word that is repeated or out of order is as `FaultsInWords` defines it.
 use Rattle.std.proofs.Common.{◌≡◌, refl, sym, ap, ◌∙◌, subst, ℕ, List, [], ◌∷◌, ◌++◌, Bool, true, false}
-use Rattle.std.specs.Prelude.{Option, Some, None, ◌||◌, ◌&&◌, not, nat_lt, unwrap_or, if◌then◌else◌}
+use Rattle.std.specs.Prelude.{Option, Some, None, ◌||◌, not, nat_lt, unwrap_or, if◌then◌else◌}
 use Rattle.std.specs.List.{list_any}
 use Rattle.mpslp_decimal.specs.Decimal.{Number as Decimal}
 use Rattle.mpslp_types.specs.Limit.{limit_of}
@@ -10,8 +10,7 @@ use Rattle.mpslp_types.specs.declared.faults.BuildFault.TheVariants as builds
 use Rattle.mpslp_types.specs.declared.faults.FaultKind.{FaultKind}
 use Rattle.mpslp_types.specs.declared.faults.FaultKind.TheVariants as kinds
 use Rattle.mpslp_types.specs.declared.kinds.Limit.{Limit}
-use Rattle.mpslp_types.specs.declared.kinds.Limit.TheVariants.{MinusInf, PlusInf}
-use Rattle.mpslp_types.specs.declared.kinds.Sense.{Sense}
+use Rattle.mpslp_types.specs.declared.kinds.Limit.TheVariants.{PlusInf}
 use Rattle.mpslp_types.proofs.BoolLemmas.{both_so, or_left, or_right, so_not}
 use Rattle.mpslp_builder.specs.Declaration.{Declaration, Declarations, with_declarations, declare_column, declare_constant, declare_integer, declare_binary, declare_semi, bounds_declared}
 use Rattle.mpslp_builder.specs.Refusal.{refusals_in_turn, bounds_refusals}
@@ -25,7 +24,6 @@ use Rattle.mpslp_lp_grammar.specs.declared.context.Context.{Context}
 use Rattle.mpslp_lp_grammar.specs.declared.relations.Relation.{Relation}
 use Rattle.mpslp_lp_grammar.specs.declared.sections_seen.SectionsSeen.{SectionsSeen}
 use Rattle.mpslp_lp_grammar.specs.declared.signs.Sign.{Sign as SignOf}
-use Rattle.mpslp_lp_grammar.specs.declared.signs.Sign.TheVariants.{Plus, Minus}
 use Rattle.mpslp_lp_grammar.specs.declared.states.ItemOwner.{ItemOwner}
 use Rattle.mpslp_lp_grammar.specs.declared.states.ItemOwner.TheVariants.{OfObjective, OfRow}
 use Rattle.mpslp_lp_grammar.specs.declared.states.LastWord.{LastWord}
@@ -42,13 +40,12 @@ use Rattle.mpslp_lp_grammar.specs.FirstToken.{after_section_word, open_section, 
 use Rattle.mpslp_lp_grammar.specs.Grammar.{opened_by, may_begin_section, is_last_word}
 use Rattle.mpslp_lp_grammar.specs.Items.{one}
 use Rattle.mpslp_lp_grammar.specs.Objective.{term_declared, objective_declared, default_objective, first_item_declared}
-use Rattle.mpslp_lp_grammar.specs.PartialRow.{PartialRow}
 use Rattle.mpslp_lp_grammar.specs.Phrase.{terminal_fault}
 use Rattle.mpslp_lp_grammar.specs.Point.{start, no_section_seen, has_seen, with_section, is_out_of_order, section_fault}
 use Rattle.mpslp_lp_grammar.specs.Rows.{default_row, without_terms, fits_left, row_limits, row_declared}
 use Rattle.mpslp_lp_grammar.specs.Sides.{apply_sign, infinity, fits_second, Limits, limits_by, flip}
 use Rattle.mpslp_lp_grammar.specs.Terminal.{Terminal}
-use Rattle.mpslp_lp_grammar.specs.Terminal.Terminal.{Opens, Name, Number, Sign, Compares, Colon, Infinity, Free, Other}
+use Rattle.mpslp_lp_grammar.specs.Terminal.Terminal.{Opens, Name, Number, Sign, Compares, Colon, Infinity, Free}
 use Rattle.mpslp_lp_grammar.specs.TokenByToken.{new_column}
 use Rattle.mpslp_lp_grammar.specs.TokenStep.{begin_after, take_lone, take}
 use Rattle.mpslp_lp_sentences.specs.FaultsInWords.{IsInWords, is_section, opens, has_opened, current_section, repeats_section, section_rank, opens_later, comes_late, comes_early, breaks_order}

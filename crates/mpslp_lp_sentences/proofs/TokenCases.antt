@@ -1,5 +1,5 @@
 -- What a reader does with a token, by cases on the token: what has to be shown of each token that a state accepts.
-use Rattle.std.proofs.Common.{ℕ, List, [], ◌∷◌, Bool, true}
+use Rattle.std.proofs.Common.{ℕ, List, [], ◌∷◌, true}
 use Rattle.std.specs.Prelude.{Option, Some, None, if◌then◌else◌}
 use Rattle.mpslp_decimal.specs.Decimal.{Number as Decimal}
 use Rattle.mpslp_types.specs.Limit.{limit_of}
@@ -21,7 +21,6 @@ use Rattle.mpslp_lp_grammar.specs.declared.states.Place.{Place}
 use Rattle.mpslp_lp_grammar.specs.declared.states.Place.TheVariants.{BeforeItems, InObjective, BetweenRows, InRow, InBounds, InSemis}
 use Rattle.mpslp_lp_grammar.specs.declared.states.SideOwner.{SideOwner}
 use Rattle.mpslp_lp_grammar.specs.declared.states.SideOwner.TheVariants.{SideOfRow, SideOfBound}
-use Rattle.mpslp_lp_grammar.specs.declared.states.State.{State}
 use Rattle.mpslp_lp_grammar.specs.declared.states.State.TheVariants.{Between, AtObjective, ObjectiveName, AtLastWord, AtSemi, Signs, ItemNumber, RowName, RowLabel, RowSign, RowNumber, RowLeft, RowLeftRelation, BoundName, BoundSign, BoundLeft, BoundLeftRelation, AtSide, SideSign}
 use Rattle.mpslp_lp_grammar.specs.AfterToken.{AfterToken, Goes, refuse, with_made, declare_at, take_term, take_after_signs, begin_item, take_bound, take_side, take_limit}
 use Rattle.mpslp_lp_grammar.specs.Bounds.{no_limits}

@@ -1,5 +1,5 @@
--- Errors of LP text that depend on other tokens, each defined by a token and all tokens before it. These are listed from the
--- last one to the first.
+-- Errors of LP text that depend on earlier tokens, each defined by a token and all tokens before it. The latter are listed from
+-- the last one to the first: `x ∷ earlier` are the tokens before the next one if x is the last of them.
 use Rattle.std.specs.Prelude.{◌≡◌, ℕ, ◌+◌, ◌-◌, ◌^◌, min, nat_lt, Bool, true, false, ◌&&◌, ◌||◌, not, IsTrue, List, [], ◌∷◌, ◌++◌, length, reverse, Option, Some, None, is_none, unwrap_or, if◌then◌else◌, codes}
 use Rattle.std.specs.List.{list_any, list_all, flat_map, cons_option}
 use Rattle.std.specs.Option.{option_map_or}
@@ -13,7 +13,7 @@ use Rattle.mpslp_lp_tokens.specs.declared.words.Section.TheVariants.{Objective, 
 use Rattle.mpslp_lp_tokens.specs.declared.words.SectionWord.{SectionWord}
 use Rattle.mpslp_lp_tokens.specs.declared.words.SectionWord.TheVariants as words
 use Rattle.mpslp_lp_grammar.specs.declared.relations.Relation.{Relation}
-use Rattle.mpslp_lp_grammar.specs.declared.relations.Relation.TheVariants.{AtMost, AtLeast, EqualTo}
+use Rattle.mpslp_lp_grammar.specs.declared.relations.Relation.TheVariants.{AtMost, AtLeast}
 use Rattle.mpslp_lp_grammar.specs.Terminal.{Terminal, terminals}
 use Rattle.mpslp_lp_grammar.specs.Terminal.Terminal.{Opens, Name, Number, Sign, Compares, Colon, Infinity, Free}
 use Rattle.mpslp_lp_grammar.specs.LexicalFault.{lexical_fault}
@@ -86,11 +86,12 @@ breaks_order earlier _ = false
 
 -- ---- rows
 
--- the last token before is a name; or a number or an infinity
+-- the last token before is a name
 abbrev pub ends_in_name : List Terminal → Bool
 ends_in_name (Name name ∷ earlier) = true
 ends_in_name _ = false
 
+-- the last token before is a number or an infinity
 abbrev pub ends_in_value : List Terminal → Bool
 ends_in_value (Number value ∷ earlier) = true
 ends_in_value (Infinity ∷ earlier) = true
@@ -120,24 +121,26 @@ begins_row (Number value ∷ earlier) = true
 begins_row (Infinity ∷ earlier) = true
 begins_row _ = false
 
--- the relation before a right side follows the name of the last term
+-- the relation before a right-hand side follows the name of the last term
 abbrev pub follows_terms : List Terminal → Bool
 follows_terms (Compares relation ∷ earlier) = ends_in_name earlier
 follows_terms _ = false
 
--- what is found before at most one sign
+-- what is found in the tokens, or before the sign that is the last of them
 abbrev pub after_sign : {X : Type 0} → (List Terminal → X) → List Terminal → X
 after_sign found (Sign sign ∷ earlier) = found earlier
 after_sign found earlier = found earlier
 
--- a number after these tokens may be the left side of a row; it is the right side of a row
+-- A number after these tokens may be the left side of a row: at most one sign is between it and the beginning of the row. It is
+-- the right-hand side: at most one sign is between it and the relation after the terms.
 abbrev pub may_be_left_side : List Terminal → Bool
 may_be_left_side earlier = after_sign begins_row earlier
 
 abbrev pub is_right_side : List Terminal → Bool
 is_right_side earlier = after_sign follows_terms earlier
 
--- ---- ConstantInRow: a sign or a relation after a number that no name follows and that is no side of the row
+-- ---- ConstantInRow: a sign or a relation after a number among the terms of a row, which is neither its left side, before a
+-- relation, nor its right-hand side
 
 abbrev pub ends_in_constant : List Terminal → Terminal → Bool
 ends_in_constant (Number value ∷ earlier) (Sign sign) = not (is_right_side earlier)
@@ -147,7 +150,7 @@ ends_in_constant _ _ = false
 abbrev pub follows_constant : List Terminal → Terminal → Bool
 follows_constant earlier token = is_under Rows earlier && ends_in_constant earlier token
 
--- ---- MixedSenses: a second relation of a row or a bound that differs from the first, or a second one after `=`
+-- ---- MixedSenses: a second relation of a row or a bound in another direction than the first, or any after `=`
 
 -- the relation after the left side of a row, which follows a number or an infinity, if only terms come after it
 abbrev pub left_relation : List Terminal → Option Relation
@@ -183,9 +186,9 @@ mixes_under _ earlier _ = false
 abbrev pub mixes_senses : List Terminal → Terminal → Bool
 mixes_senses earlier token = mixes_under (current_section earlier) earlier token
 
--- ---- DuplicateEntry: a name of a term that is also that of an earlier term of the row or the objective
+-- ---- DuplicateEntry: the name of a term, which an earlier term of the row or the objective has too
 
--- the columns of the terms since the last heading, label or relation
+-- the columns of the terms after the last heading, label, relation or infinity
 abbrev pub term_columns : List Terminal → List (List ℕ)
 term_columns (Name column ∷ earlier) = if ends_in_first_word earlier then [] else column ∷ term_columns earlier
 term_columns (Number value ∷ earlier) = term_columns earlier
@@ -202,21 +205,22 @@ repeats_column earlier _ = false
 abbrev pub repeats_entry : List Terminal → Terminal → Bool
 repeats_entry earlier token = (is_under Objective earlier || is_under Rows earlier) && repeats_column earlier token
 
--- ---- columns that tokens name
+-- ---- names that tokens give
 
--- the columns that tokens name in some way, each given by a token and those before it
+-- how a token, after those before it, gives a name
 abbrev pub Naming : Type 0
 Naming = List Terminal → Terminal → Option (List ℕ)
 
+-- the names that the tokens give in this way
 abbrev pub collected : Naming → List Terminal → List (List ℕ)
 collected naming [] = []
 collected naming (token ∷ earlier) = cons_option (naming earlier token) (collected naming earlier)
 
--- a token names in one way a column that an earlier token has named in another
+-- the token gives in one way a name that an earlier token has given in another
 abbrev pub names_again : Naming → Naming → List Terminal → Terminal → Bool
 names_again naming other earlier token = option_map_or (λ column. is_named column (collected other earlier)) (naming earlier token) false
 
--- ---- DuplicateRhs: a second constant of the objective, at the sign or the section word that follows its number
+-- ---- DuplicateRhs: a second constant of the objective. A number is a constant if a sign or a section word follows it
 
 abbrev pub ends_in_number : List Terminal → Bool
 ends_in_number (Number value ∷ earlier) = true
@@ -237,7 +241,7 @@ has_constant_before (token ∷ earlier) = completes_constant earlier token || ha
 abbrev pub repeats_constant : List Terminal → Terminal → Bool
 repeats_constant earlier token = completes_constant earlier token && has_constant_before earlier
 
--- ---- DuplicateBound: a token that completes a lower bound of a column after another, or an upper one
+-- ---- DuplicateBound: a token that completes a second lower bound of a column, or a second upper one
 
 abbrev pub gives_lower : Relation → Bool
 gives_lower AtMost = false
@@ -251,12 +255,12 @@ abbrev pub last_name : List Terminal → Option (List ℕ)
 last_name (Name name ∷ earlier) = Some name
 last_name _ = None
 
--- the column before such a relation
+-- the column before a relation that gives the bound
 abbrev pub column_before : (Relation → Bool) → List Terminal → Option (List ℕ)
 column_before gives (Compares relation ∷ earlier) = if gives relation then last_name earlier else None
 column_before gives _ = None
 
--- `x < v` is complete with the last token of `v`, and `v > x`, which is the same, with the name
+-- `x < v` is complete with the last token of `v`, `v > x` with its name and `x free` with `free`
 abbrev pub completed : (Relation → Bool) → Naming
 completed gives earlier (Number value) = after_sign (column_before gives) earlier
 completed gives earlier Infinity = after_sign (column_before gives) earlier
@@ -272,7 +276,7 @@ repeats_bound earlier token =
     names_again (completes_bound gives_lower) (completes_bound gives_lower) earlier token
     || names_again (completes_bound gives_upper) (completes_bound gives_upper) earlier token
 
--- ---- SemiContinuous: the later of two names of a column, one in Generals or Binaries, the other semi-continuous
+-- ---- SemiContinuous: the later name of a column that is in Generals or Binaries, and in the semi-continuous section
 
 abbrev pub ends_in_sign : List Terminal → Bool
 ends_in_sign (Sign sign ∷ earlier) = true
@@ -282,7 +286,7 @@ abbrev pub names_integer : Naming
 names_integer earlier (Name column) = if is_under Generals earlier || is_under Binaries earlier then Some column else None
 names_integer earlier _ = None
 
--- not the last word of `semi-continuous`
+-- a name after a sign is the last word of `semi-continuous`
 abbrev pub names_semi : Naming
 names_semi earlier (Name column) = if is_under SemiContinuous earlier && not (ends_in_sign earlier) then Some column else None
 names_semi earlier _ = None
@@ -297,7 +301,7 @@ is_value (Number value) = true
 is_value Infinity = true
 is_value _ = false
 
--- the last token of the right side of a row
+-- the last token of the right-hand side of a row
 abbrev pub ends_row : List Terminal → Terminal → Bool
 ends_row earlier token = is_value token && (is_under Rows earlier && is_right_side earlier)
 
@@ -305,7 +309,7 @@ abbrev pub rows_before : List Terminal → ℕ
 rows_before [] = 0
 rows_before (token ∷ earlier) = if ends_row earlier token then rows_before earlier + 1 else rows_before earlier
 
--- the label of the row that has begun, if it has one
+-- the label of the row that the tokens are in, if it has one
 abbrev pub label_before : List Terminal → Option (List ℕ)
 label_before [] = None
 label_before (Colon ∷ earlier) = last_name earlier
@@ -315,7 +319,7 @@ label_before (token ∷ earlier) = if ends_row earlier token then None else labe
 abbrev pub names_row : Naming
 names_row earlier token = if ends_row earlier token then Some (row_name (rows_before earlier + 1) (label_before earlier)) else None
 
--- the label of the objective, or `obj`
+-- the name of the objective: its label, or `obj`
 abbrev pub objective_before : List Terminal → List ℕ
 objective_before [] = codes "obj"
 objective_before (Colon ∷ earlier) = if is_under Objective earlier then unwrap_or (last_name earlier) (codes "obj") else objective_before earlier
@@ -331,7 +335,7 @@ repeats_row earlier token = names_again names_row names_row earlier token || nam
 
 -- The error is on a line of the text that has a token for which this holds, in terms of the tokens before it: those of the
 -- lines before, and of this line. None of these lines has an error by itself.
-pub record StandsOn (is_such : List Terminal → Terminal → Bool) (bytes : List ℕ) (fault : Fault) : Type 0 where
+pub record IsAtToken (is_such : List Terminal → Terminal → Bool) (bytes : List ℕ) (fault : Fault) : Type 0 where
   pub before : List (List ℕ)
   pub line : List ℕ
   pub later : List (List ℕ)
@@ -346,4 +350,4 @@ pub record StandsOn (is_such : List Terminal → Terminal → Bool) (bytes : Lis
 
 -- A first error of this kind is on such a line.
 abbrev pub IsInWords : FaultKind → (List Terminal → Terminal → Bool) → Type 0
-IsInWords kind is_such = (bytes : List ℕ) (fault : Fault) → IsFirstLpFault bytes fault → fault.kind ≡ kind → StandsOn is_such bytes fault
+IsInWords kind is_such = (bytes : List ℕ) (fault : Fault) → IsFirstLpFault bytes fault → fault.kind ≡ kind → IsAtToken is_such bytes fault

@@ -1,4 +1,4 @@
--- What was declared is told by the tokens before, so that a bound, a constant or a kind of a column that was declared before
+-- What was declared is shown by the tokens before, so that a bound, a constant or a kind of a column that was declared before
 -- is as `FaultsInWords` defines it.
 use Rattle.std.proofs.Common.{◌≡◌, refl, sym, ap, ◌∙◌, subst, ℕ, List, [], ◌∷◌, ◌++◌, Bool, true, false}
 use Rattle.std.specs.Prelude.{Option, Some, None, is_some, ◌||◌, ◌&&◌, not, unwrap_or, if◌then◌else◌}
@@ -16,29 +16,27 @@ use Rattle.mpslp_types.specs.declared.faults.FaultKind.{FaultKind}
 use Rattle.mpslp_types.specs.declared.faults.FaultKind.TheVariants as kinds
 use Rattle.mpslp_types.specs.declared.kinds.Limit.{Limit}
 use Rattle.mpslp_types.specs.declared.kinds.Sense.{Sense}
-use Rattle.mpslp_types.specs.declared.kinds.Limit.TheVariants.{MinusInf, PlusInf}
+use Rattle.mpslp_types.specs.declared.kinds.Limit.TheVariants.{PlusInf}
 use Rattle.mpslp_types.specs.Limit.{is_plus_infinite, is_minus_infinite}
 use Rattle.mpslp_types.proofs.BoolLemmas.{both_so, or_left, or_right, so_not, either}
 use Rattle.mpslp_model_core.specs.Lists.{those_of}
 use Rattle.mpslp_builder.specs.Consistency.{has_objective_rhs}
 use Rattle.mpslp_builder.specs.Declaration.{Declaration, Declarations, Draft, empty_draft, with_declaration, with_declarations, declare_sense, declare_objective, declare_constant, declare_row, declare_rhs, declare_range, declare_column, declare_coefficient, declare_lower, declare_upper, declare_marked, declare_integer, declare_binary, declare_semi, bounds_declared, has_name, has_column, is_integer, is_semi}
-use Rattle.mpslp_builder.specs.Refusal.{has_constant, refusals_in_turn, bounds_refusals}
+use Rattle.mpslp_builder.specs.Refusal.{has_constant, refusals_in_turn}
 use Rattle.mpslp_builder.proofs.LaterDrafts.{itself_named}
 use Rattle.mpslp_builder.proofs.SlotLemmas.{has-put, same_name}
 use Rattle.mpslp_lines.specs.Declaring.{kind_of_build_fault}
 use Rattle.mpslp_lp_tokens.specs.Words.{section_of}
 use Rattle.mpslp_lp_tokens.specs.declared.words.Section.{Section}
-use Rattle.mpslp_lp_tokens.specs.declared.words.Section.TheVariants.{Objective, Rows, Bounds, Generals, Binaries, SemiContinuous, End}
+use Rattle.mpslp_lp_tokens.specs.declared.words.Section.TheVariants.{Objective, Bounds, Generals, Binaries, SemiContinuous}
 use Rattle.mpslp_lp_tokens.specs.declared.words.SectionWord.{SectionWord}
 use Rattle.mpslp_lp_tokens.specs.declared.words.SectionWord.TheVariants as words
 use Rattle.mpslp_lp_grammar.specs.declared.context.Context.{Context}
 use Rattle.mpslp_lp_grammar.specs.declared.relations.Relation.{Relation}
 use Rattle.mpslp_lp_grammar.specs.declared.relations.Relation.TheVariants.{AtMost, AtLeast, EqualTo}
 use Rattle.mpslp_lp_grammar.specs.declared.signs.Sign.{Sign as SignOf}
-use Rattle.mpslp_lp_grammar.specs.declared.signs.Sign.TheVariants.{Plus, Minus}
 use Rattle.mpslp_lp_grammar.specs.declared.states.ItemOwner.{ItemOwner}
 use Rattle.mpslp_lp_grammar.specs.declared.states.ItemOwner.TheVariants.{OfObjective, OfRow}
-use Rattle.mpslp_lp_grammar.specs.declared.states.LastWord.{LastWord}
 use Rattle.mpslp_lp_grammar.specs.declared.states.Place.{Place}
 use Rattle.mpslp_lp_grammar.specs.declared.states.Place.TheVariants.{AtStart, BeforeItems, InObjective, BetweenRows, InRow, InBounds, InGenerals, InBinaries, InSemis}
 use Rattle.mpslp_lp_grammar.specs.declared.states.SideOwner.{SideOwner}
@@ -47,16 +45,16 @@ use Rattle.mpslp_lp_grammar.specs.declared.states.State.{State}
 use Rattle.mpslp_lp_grammar.specs.declared.states.State.TheVariants.{Between, AtObjective, ObjectiveName, AtLastWord, AtSemi, Signs, ItemNumber, RowName, RowLabel, RowSign, RowNumber, RowLeft, RowLeftRelation, BoundName, BoundSign, BoundLeft, BoundLeftRelation, AtSide, SideSign, AfterEnd}
 use Rattle.mpslp_lp_grammar.specs.AfterToken.{AfterToken, Goes, Refuses, refuse, with_made, declare_unless_refused, take_after_declarations, declare_at, take_term, take_after_signs, begin_item, take_bound, take_side}
 use Rattle.mpslp_lp_grammar.specs.Bounds.{no_limits}
-use Rattle.mpslp_lp_grammar.specs.FirstToken.{after_section_word, open_section, begin_row, begin_bound, take_second_relation, name_taken, begin_phrase, begin}
+use Rattle.mpslp_lp_grammar.specs.FirstToken.{after_section_word, open_section, begin_row, take_second_relation, begin_phrase, begin}
 use Rattle.mpslp_lp_grammar.specs.Grammar.{opened_by, may_begin_section, is_last_word}
 use Rattle.mpslp_lp_grammar.specs.Items.{one}
 use Rattle.mpslp_lp_grammar.specs.Objective.{term_declared, objective_declared, default_objective, first_item_declared}
 use Rattle.mpslp_lp_grammar.specs.PartialRow.{PartialRow}
-use Rattle.mpslp_lp_grammar.specs.Point.{start, has_seen, with_section, is_out_of_order, section_fault}
+use Rattle.mpslp_lp_grammar.specs.Point.{start, has_seen, with_section, is_out_of_order}
 use Rattle.mpslp_lp_grammar.specs.Rows.{default_row, without_terms, fits_left, row_limits, row_declared}
 use Rattle.mpslp_lp_grammar.specs.Sides.{apply_sign, infinity, fits_second, Limits, limits_by, flip}
 use Rattle.mpslp_lp_grammar.specs.Terminal.{Terminal}
-use Rattle.mpslp_lp_grammar.specs.Terminal.Terminal.{Opens, Name, Number, Sign, Compares, Colon, Infinity, Free, Other}
+use Rattle.mpslp_lp_grammar.specs.Terminal.Terminal.{Opens, Name, Number, Sign, Compares, Colon, Infinity, Free}
 use Rattle.mpslp_lp_grammar.specs.TokenByToken.{new_column}
 use Rattle.mpslp_lp_grammar.specs.TokenStep.{begin_after, take_lone, take}
 use Rattle.mpslp_lp_sentences.specs.FaultsInWords.{IsInWords, is_section, current_section, is_under, is_named, collected, names_again, ends_in_number, ends_in_sign, may_follow_constant, completes_constant, has_constant_before, repeats_constant, gives_lower, gives_upper, last_name, last_relation, column_before, after_sign, completed, completes_bound, repeats_bound, names_integer, names_semi, changes_kind}
@@ -67,9 +65,9 @@ use Rattle.mpslp_lp_sentences.proofs.RowShapes.{PlaceShape, RelatedTo, SideShape
 use Rattle.mpslp_lp_sentences.proofs.SectionFaults.{section_at_place, section_of_item, section_of_side, section_at}
 use Rattle.mpslp_lp_sentences.proofs.TokenCases.{first_named, signs-by, item-by, limit-by, row-by, bound-by, listed-by, in_objective-by, in_row-by, lone-by, constant-by, last_word-by, left-by, bound_name-by, bound_left-by, bound_column-by, side-by, begin-by, objective-by, objective_name-by, item_number-by, between_rows-by, row_name-by, row_sign-by, row_number-by, in_bounds-by, semi-by}
 
--- ---- what was declared is told by the tokens
+-- ---- what was declared is shown by the tokens
 
-pub record Told (earlier : List Terminal) (all : Draft) : Type 0 where
+pub record Shown (earlier : List Terminal) (all : Draft) : Type 0 where
   pub lowers : (name : List ℕ) → has_name all.lowers name ≡ true → is_named name (collected (completes_bound gives_lower) earlier) ≡ true
   pub uppers : (name : List ℕ) → has_name all.uppers name ≡ true → is_named name (collected (completes_bound gives_upper) earlier) ≡ true
   pub integers : (name : List ℕ) → is_integer all name ≡ true → is_named name (collected names_integer earlier) ≡ true
@@ -78,16 +76,16 @@ pub record Told (earlier : List Terminal) (all : Draft) : Type 0 where
   pub no_rhs : all.rhs_values ≡ []
 
 -- the same for one declaration; no right-hand side is declared by itself
-abbrev is_told : List Terminal → Declaration → Bool
-is_told earlier (declare_constant value) = has_constant_before earlier
-is_told earlier (declare_rhs row value) = false
-is_told earlier (declare_lower column limit) = is_named column (collected (completes_bound gives_lower) earlier)
-is_told earlier (declare_upper column limit) = is_named column (collected (completes_bound gives_upper) earlier)
-is_told earlier (declare_marked column) = is_named column (collected names_integer earlier)
-is_told earlier (declare_integer column) = is_named column (collected names_integer earlier)
-is_told earlier (declare_binary column) = is_named column (collected names_integer earlier)
-is_told earlier (declare_semi column) = is_named column (collected names_semi earlier)
-is_told earlier _ = true
+abbrev is_shown : List Terminal → Declaration → Bool
+is_shown earlier (declare_constant value) = has_constant_before earlier
+is_shown earlier (declare_rhs row value) = false
+is_shown earlier (declare_lower column limit) = is_named column (collected (completes_bound gives_lower) earlier)
+is_shown earlier (declare_upper column limit) = is_named column (collected (completes_bound gives_upper) earlier)
+is_shown earlier (declare_marked column) = is_named column (collected names_integer earlier)
+is_shown earlier (declare_integer column) = is_named column (collected names_integer earlier)
+is_shown earlier (declare_binary column) = is_named column (collected names_integer earlier)
+is_shown earlier (declare_semi column) = is_named column (collected names_semi earlier)
+is_shown earlier _ = true
 
 named-put : {X : Type 0} (name new : List ℕ) (value : X) (entries : List (List ℕ × X)) (names : List (List ℕ)) → (has_name entries name ≡ true → is_named name names ≡ true) → is_named new names ≡ true
     → has_name (put bytes_cmp new value entries) name ≡ true → is_named name names ≡ true
@@ -99,16 +97,16 @@ named-put name new value entries names old here h = by (same_bytes name new) ref
 
 -- ---- one declaration more
 
-told-one : (d : Declaration) (all : Draft) (earlier : List Terminal) → Told earlier all → is_told earlier d ≡ true → Told earlier (with_declaration all d)
-told-one (declare_sense sense) all earlier h k = record { lowers = h.lowers; uppers = h.uppers; integers = h.integers; semis = h.semis; constant = h.constant; no_rhs = h.no_rhs }
-told-one (declare_objective name) all earlier h k = record { lowers = h.lowers; uppers = h.uppers; integers = h.integers; semis = h.semis; constant = h.constant; no_rhs = h.no_rhs }
-told-one (declare_constant value) all earlier h k = record { lowers = h.lowers; uppers = h.uppers; integers = h.integers; semis = h.semis; constant = λ e. k; no_rhs = h.no_rhs }
-told-one (declare_row name form) all earlier h k = record { lowers = h.lowers; uppers = h.uppers; integers = h.integers; semis = h.semis; constant = h.constant; no_rhs = h.no_rhs }
-told-one (declare_rhs row value) all earlier h k = absurd cc
-told-one (declare_range row value) all earlier h k = record { lowers = h.lowers; uppers = h.uppers; integers = h.integers; semis = h.semis; constant = h.constant; no_rhs = h.no_rhs }
-told-one (declare_column name) all earlier h k = record { lowers = h.lowers; uppers = h.uppers; integers = h.integers; semis = h.semis; constant = h.constant; no_rhs = h.no_rhs }
-told-one (declare_coefficient key value) all earlier h k = record { lowers = h.lowers; uppers = h.uppers; integers = h.integers; semis = h.semis; constant = h.constant; no_rhs = h.no_rhs }
-told-one (declare_lower column limit) all earlier h k = record {
+shown-one : (d : Declaration) (all : Draft) (earlier : List Terminal) → Shown earlier all → is_shown earlier d ≡ true → Shown earlier (with_declaration all d)
+shown-one (declare_sense sense) all earlier h k = record { lowers = h.lowers; uppers = h.uppers; integers = h.integers; semis = h.semis; constant = h.constant; no_rhs = h.no_rhs }
+shown-one (declare_objective name) all earlier h k = record { lowers = h.lowers; uppers = h.uppers; integers = h.integers; semis = h.semis; constant = h.constant; no_rhs = h.no_rhs }
+shown-one (declare_constant value) all earlier h k = record { lowers = h.lowers; uppers = h.uppers; integers = h.integers; semis = h.semis; constant = λ e. k; no_rhs = h.no_rhs }
+shown-one (declare_row name form) all earlier h k = record { lowers = h.lowers; uppers = h.uppers; integers = h.integers; semis = h.semis; constant = h.constant; no_rhs = h.no_rhs }
+shown-one (declare_rhs row value) all earlier h k = absurd cc
+shown-one (declare_range row value) all earlier h k = record { lowers = h.lowers; uppers = h.uppers; integers = h.integers; semis = h.semis; constant = h.constant; no_rhs = h.no_rhs }
+shown-one (declare_column name) all earlier h k = record { lowers = h.lowers; uppers = h.uppers; integers = h.integers; semis = h.semis; constant = h.constant; no_rhs = h.no_rhs }
+shown-one (declare_coefficient key value) all earlier h k = record { lowers = h.lowers; uppers = h.uppers; integers = h.integers; semis = h.semis; constant = h.constant; no_rhs = h.no_rhs }
+shown-one (declare_lower column limit) all earlier h k = record {
   lowers = λ name e. named-put name column limit all.lowers (collected (completes_bound gives_lower) earlier) (h.lowers name) k e;
   uppers = h.uppers;
   integers = h.integers;
@@ -116,7 +114,7 @@ told-one (declare_lower column limit) all earlier h k = record {
   constant = h.constant;
   no_rhs = h.no_rhs;
 }
-told-one (declare_upper column limit) all earlier h k = record {
+shown-one (declare_upper column limit) all earlier h k = record {
   lowers = h.lowers;
   uppers = λ name e. named-put name column limit all.uppers (collected (completes_bound gives_upper) earlier) (h.uppers name) k e;
   integers = h.integers;
@@ -124,7 +122,7 @@ told-one (declare_upper column limit) all earlier h k = record {
   constant = h.constant;
   no_rhs = h.no_rhs;
 }
-told-one (declare_marked column) all earlier h k = record {
+shown-one (declare_marked column) all earlier h k = record {
   lowers = h.lowers;
   uppers = h.uppers;
   integers = λ name e.
@@ -136,7 +134,7 @@ told-one (declare_marked column) all earlier h k = record {
   constant = h.constant;
   no_rhs = h.no_rhs;
 }
-told-one (declare_integer column) all earlier h k = record {
+shown-one (declare_integer column) all earlier h k = record {
   lowers = h.lowers;
   uppers = h.uppers;
   integers = λ name e.
@@ -152,7 +150,7 @@ told-one (declare_integer column) all earlier h k = record {
   constant = h.constant;
   no_rhs = h.no_rhs;
 }
-told-one (declare_binary column) all earlier h k = record {
+shown-one (declare_binary column) all earlier h k = record {
   lowers = h.lowers;
   uppers = h.uppers;
   integers = λ name e.
@@ -167,7 +165,7 @@ told-one (declare_binary column) all earlier h k = record {
   constant = h.constant;
   no_rhs = h.no_rhs;
 }
-told-one (declare_semi column) all earlier h k = record {
+shown-one (declare_semi column) all earlier h k = record {
   lowers = h.lowers;
   uppers = h.uppers;
   integers = h.integers;
@@ -176,10 +174,10 @@ told-one (declare_semi column) all earlier h k = record {
   no_rhs = h.no_rhs;
 }
 
-told-all : (ds : Declarations) (all : Draft) (earlier : List Terminal) → Told earlier all → list_all (is_told earlier) ds ≡ true → Told earlier (with_declarations all ds)
-told-all [] all earlier h k = h
-told-all (d ∷ ds) all earlier h k =
-    told-all ds (with_declaration all d) earlier (told-one d all earlier h (first_so (is_told earlier d) (list_all (is_told earlier) ds) k)) (second_so (is_told earlier d) (list_all (is_told earlier) ds) k)
+shown-all : (ds : Declarations) (all : Draft) (earlier : List Terminal) → Shown earlier all → list_all (is_shown earlier) ds ≡ true → Shown earlier (with_declarations all ds)
+shown-all [] all earlier h k = h
+shown-all (d ∷ ds) all earlier h k =
+    shown-all ds (with_declaration all d) earlier (shown-one d all earlier h (first_so (is_shown earlier d) (list_all (is_shown earlier) ds) k)) (second_so (is_shown earlier d) (list_all (is_shown earlier) ds) k)
 
 -- ---- one token more
 
@@ -191,8 +189,8 @@ named-more name (Some other) names h = or_right (same_bytes name other) (is_name
 named-now : (name : List ℕ) (new : Option (List ℕ)) (names : List (List ℕ)) → new ≡ Some name → is_named name (cons_option new names) ≡ true
 named-now name new names h = ap (λ (o : Option (List ℕ)). is_named name (cons_option o names)) h ∙ or_left (same_bytes name name) (is_named name names) (itself_named name)
 
-told-later : (token : Terminal) (earlier : List Terminal) (all : Draft) → Told earlier all → Told (token ∷ earlier) all
-told-later token earlier all h = record {
+shown-later : (token : Terminal) (earlier : List Terminal) (all : Draft) → Shown earlier all → Shown (token ∷ earlier) all
+shown-later token earlier all h = record {
   lowers = λ name e. named-more name (completes_bound gives_lower earlier token) (collected (completes_bound gives_lower) earlier) (h.lowers name e);
   uppers = λ name e. named-more name (completes_bound gives_upper earlier token) (collected (completes_bound gives_upper) earlier) (h.uppers name e);
   integers = λ name e. named-more name (names_integer earlier token) (collected names_integer earlier) (h.integers name e);
@@ -209,15 +207,15 @@ Says earlier token kinds.SemiContinuous = changes_kind earlier token ≡ true
 Says earlier token kinds.DuplicateRhs = repeats_constant earlier token ≡ true
 Says earlier token _ = Unit {0}
 
-abbrev KeepsTold : List Terminal → Terminal → AfterToken → Type 0
-KeepsTold earlier token (Goes after next) = Told (token ∷ earlier) after.earlier
-KeepsTold earlier token (Refuses kind) = Says earlier token kind
+abbrev KeepsShown : List Terminal → Terminal → AfterToken → Type 0
+KeepsShown earlier token (Goes after next) = Shown (token ∷ earlier) after.earlier
+KeepsShown earlier token (Refuses kind) = Says earlier token kind
 
--- if what was declared before is told with this token
+-- if what was declared before is shown with this token
 abbrev Steps : List Terminal → Draft → Terminal → AfterToken → Type 0
-Steps earlier all token taken = Told (token ∷ earlier) all → KeepsTold earlier token taken
+Steps earlier all token taken = Shown (token ∷ earlier) all → KeepsShown earlier token taken
 
-refused : (context : Context) (earlier : List Terminal) (token : Terminal) (kind : FaultKind) → Says earlier token kind → KeepsTold earlier token (refuse context token kind)
+refused : (context : Context) (earlier : List Terminal) (token : Terminal) (kind : FaultKind) → Says earlier token kind → KeepsShown earlier token (refuse context token kind)
 refused context earlier (Opens word) kind h = by (has_seen context.sections_seen (section_of word)) (is_out_of_order context.sections_seen (section_of word))
   where
     by : (a b : Bool) → Says earlier (Opens word) (unwrap_or (if a then Some kinds.SectionRepeated else (if b then Some kinds.SectionOrder else None)) kind)
@@ -229,7 +227,7 @@ refused context earlier _ kind h = h
 bad : (context : Context) (earlier : List Terminal) (all : Draft) (token : Terminal) → Steps earlier all token (refuse context token kinds.BadToken)
 bad context earlier all token n = refused context earlier token kinds.BadToken tt
 
-branch : (earlier : List Terminal) (token : Terminal) (b : Bool) (x y : AfterToken) → KeepsTold earlier token x → KeepsTold earlier token y → KeepsTold earlier token (if b then x else y)
+branch : (earlier : List Terminal) (token : Terminal) (b : Bool) (x y : AfterToken) → KeepsShown earlier token x → KeepsShown earlier token y → KeepsShown earlier token (if b then x else y)
 branch earlier token true x y h k = h
 branch earlier token false x y h k = k
 
@@ -257,21 +255,21 @@ says-by earlier token all made h builds.SemiContinuous k = h.semi k
 says-by earlier token all made h builds.InfiniteValue k = tt
 says-by earlier token all made h builds.OutOfMemory k = tt
 
-declared : (context : Context) (earlier : List Terminal) (token : Terminal) (place : Place) (made : Declarations) → list_all (is_told (token ∷ earlier)) made ≡ true → Refused earlier token context.earlier made
+declared : (context : Context) (earlier : List Terminal) (token : Terminal) (place : Place) (made : Declarations) → list_all (is_shown (token ∷ earlier)) made ≡ true → Refused earlier token context.earlier made
     → Steps earlier context.earlier token (declare_at context token place made)
-declared context earlier token place made told refusal n = by (refusals_in_turn context.earlier made) refl
+declared context earlier token place made shown refusal n = by (refusals_in_turn context.earlier made) refl
   where
-    by : (refusals : List BuildFault) → refusals_in_turn context.earlier made ≡ refusals → KeepsTold earlier token (declare_unless_refused context token refusals place made)
-    by [] e = told-all made context.earlier (token ∷ earlier) n told
+    by : (refusals : List BuildFault) → refusals_in_turn context.earlier made ≡ refusals → KeepsShown earlier token (declare_unless_refused context token refusals place made)
+    by [] e = shown-all made context.earlier (token ∷ earlier) n shown
     by (first ∷ more) e =
         refused context earlier token (kind_of_build_fault first) (says-by earlier token context.earlier made refusal first (first-refused made context.earlier first more e))
 
-declared-before : (context : Context) (earlier : List Terminal) (token : Terminal) (made : Declarations) (next : AfterToken) → list_all (is_told (token ∷ earlier)) made ≡ true → Refused earlier token context.earlier made
+declared-before : (context : Context) (earlier : List Terminal) (token : Terminal) (made : Declarations) (next : AfterToken) → list_all (is_shown (token ∷ earlier)) made ≡ true → Refused earlier token context.earlier made
     → Steps earlier (with_declarations context.earlier made) token next → Steps earlier context.earlier token (take_after_declarations context token (refusals_in_turn context.earlier made) made next)
-declared-before context earlier token made next told refusal h n = by (refusals_in_turn context.earlier made) refl
+declared-before context earlier token made next shown refusal h n = by (refusals_in_turn context.earlier made) refl
   where
-    by : (refusals : List BuildFault) → refusals_in_turn context.earlier made ≡ refusals → KeepsTold earlier token (take_after_declarations context token refusals made next)
-    by [] e = h (told-all made context.earlier (token ∷ earlier) n told)
+    by : (refusals : List BuildFault) → refusals_in_turn context.earlier made ≡ refusals → KeepsShown earlier token (take_after_declarations context token refusals made next)
+    by [] e = h (shown-all made context.earlier (token ∷ earlier) n shown)
     by (first ∷ more) e =
         refused context earlier token (kind_of_build_fault first) (says-by earlier token context.earlier made refusal first (first-refused made context.earlier first more e))
 
@@ -284,9 +282,9 @@ term context (OfRow row) column value earlier n =
     branch earlier (Name column) (list_any (λ t. same_bytes column t.0) row.terms) (refuse context (Name column) kinds.DuplicateEntry)
     (Goes (with_made context []) (Between (InRow (record row { terms = row.terms ++ (column, value) ∷ [] })))) (refused context earlier (Name column) kinds.DuplicateEntry tt) n
 
-terms-told : (earlier : List Terminal) (name : List ℕ) (terms : List (List ℕ × Decimal)) → list_all (is_told earlier) (flat_map (term_declared name) terms) ≡ true
-terms-told earlier name [] = refl
-terms-told earlier name (term ∷ terms) = terms-told earlier name terms
+terms-shown : (earlier : List Terminal) (name : List ℕ) (terms : List (List ℕ × Decimal)) → list_all (is_shown earlier) (flat_map (term_declared name) terms) ≡ true
+terms-shown earlier name [] = refl
+terms-shown earlier name (term ∷ terms) = terms-shown earlier name terms
 
 never : (b : Bool) {X : Type 0} → b ≡ false → b ≡ true → X
 never b e k = absurd (clash (sym e ∙ k))
@@ -296,7 +294,7 @@ never b e k = absurd (clash (sym e ∙ k))
 
 row_side : (context : Context) (row : PartialRow) (relation : Relation) (l : Limit) (earlier : List Terminal) (token : Terminal) → Steps earlier context.earlier token (take_side context (SideOfRow row relation) l token)
 row_side context row relation l earlier token n =
-    declared context earlier token BetweenRows (row_declared row (row_limits row.left relation l)) (terms-told (token ∷ earlier) row.name row.terms)
+    declared context earlier token BetweenRows (row_declared row (row_limits row.left relation l)) (terms-shown (token ∷ earlier) row.name row.terms)
     (record {
       bound = λ e. never (refuses kinds.DuplicateBound context.earlier (row_declared row (row_limits row.left relation l))) (terms-refuse kinds.DuplicateBound refl refl refl row.name row.terms _) e;
       semi = λ e. never (refuses kinds.SemiContinuous context.earlier (row_declared row (row_limits row.left relation l))) (terms-refuse kinds.SemiContinuous refl refl refl row.name row.terms _) e;
@@ -315,11 +313,11 @@ again : (naming : List Terminal → Terminal → Option (List ℕ)) (earlier : L
     → names_again naming naming earlier token ≡ true
 again naming earlier token column h k = ap (λ (o : Option (List ℕ)). option_map_or (λ c. is_named c (collected naming earlier)) o false) h ∙ k
 
-bounds-told : (earlier : List Terminal) (token : Terminal) (column : List ℕ) (limits : Limits) → Completes earlier token column limits → list_all (is_told (token ∷ earlier)) (bounds_declared column limits.lower limits.upper) ≡ true
-bounds-told earlier token column limits h = by limits.lower limits.upper h.lower h.upper
+bounds-shown : (earlier : List Terminal) (token : Terminal) (column : List ℕ) (limits : Limits) → Completes earlier token column limits → list_all (is_shown (token ∷ earlier)) (bounds_declared column limits.lower limits.upper) ≡ true
+bounds-shown earlier token column limits h = by limits.lower limits.upper h.lower h.upper
   where
     by : (l u : Option Limit) → (is_some l ≡ true → completes_bound gives_lower earlier token ≡ Some column) → (is_some u ≡ true → completes_bound gives_upper earlier token ≡ Some column)
-        → list_all (is_told (token ∷ earlier)) (bounds_declared column l u) ≡ true
+        → list_all (is_shown (token ∷ earlier)) (bounds_declared column l u) ≡ true
     by None None a b = refl
     by (Some l) None a b = both_so _ true (named-now column (completes_bound gives_lower earlier token) (collected (completes_bound gives_lower) earlier) (a refl)) refl
     by None (Some u) a b = both_so _ true (named-now column (completes_bound gives_upper earlier token) (collected (completes_bound gives_upper) earlier) (b refl)) refl
@@ -327,16 +325,16 @@ bounds-told earlier token column limits h = by limits.lower limits.upper h.lower
         both_so _ _ (named-now column (completes_bound gives_lower earlier token) (collected (completes_bound gives_lower) earlier) (a refl))
         (both_so _ true (named-now column (completes_bound gives_upper earlier token) (collected (completes_bound gives_upper) earlier) (b refl)) refl)
 
-bound : (context : Context) (is_new : Bool) (column : List ℕ) (limits : Limits) (earlier : List Terminal) (token : Terminal) (place : Place) → Told earlier context.earlier → Completes earlier token column limits
-    → KeepsTold earlier token (take_bound context (new_column is_new column) column limits token place)
-bound context is_new column limits earlier token place told h =
+bound : (context : Context) (is_new : Bool) (column : List ℕ) (limits : Limits) (earlier : List Terminal) (token : Terminal) (place : Place) → Shown earlier context.earlier → Completes earlier token column limits
+    → KeepsShown earlier token (take_bound context (new_column is_new column) column limits token place)
+bound context is_new column limits earlier token place shown h =
     by (not (has_column front column)) ((is_some limits.lower && has_name front.lowers column) || (is_some limits.upper && has_name front.uppers column))
     (option_map_or is_plus_infinite limits.lower false || option_map_or is_minus_infinite limits.upper false) (λ e. twice is_new e)
   where
     front : Draft
     front = with_declarations context.earlier (new_column is_new column)
 
-    fine : (b : Bool) → list_all (is_told (token ∷ earlier)) (new_column b column) ≡ true
+    fine : (b : Bool) → list_all (is_shown (token ∷ earlier)) (new_column b column) ≡ true
     fine true = refl
     fine false = refl
 
@@ -350,10 +348,10 @@ bound context is_new column limits earlier token place told h =
         either (is_some limits.lower && has_name context.earlier.lowers column) (is_some limits.upper && has_name context.earlier.uppers column) (repeats_bound earlier token)
         (λ a. let parts = one (is_some limits.lower) (has_name context.earlier.lowers column) a in
         or_left (names_again (completes_bound gives_lower) (completes_bound gives_lower) earlier token) (names_again (completes_bound gives_upper) (completes_bound gives_upper) earlier token)
-        (again (completes_bound gives_lower) earlier token column (h.lower parts.0) (told.lowers column parts.1)))
+        (again (completes_bound gives_lower) earlier token column (h.lower parts.0) (shown.lowers column parts.1)))
         (λ a. let parts = one (is_some limits.upper) (has_name context.earlier.uppers column) a in
         or_right (names_again (completes_bound gives_lower) (completes_bound gives_lower) earlier token) (names_again (completes_bound gives_upper) (completes_bound gives_upper) earlier token)
-        (again (completes_bound gives_upper) earlier token column (h.upper parts.0) (told.uppers column parts.1))) e
+        (again (completes_bound gives_upper) earlier token column (h.upper parts.0) (shown.uppers column parts.1))) e
 
     twice : (b : Bool)
         → ((is_some limits.lower && has_name (with_declarations context.earlier (new_column b column)).lowers column)
@@ -362,15 +360,15 @@ bound context is_new column limits earlier token place told h =
     twice false e = repeated e
 
     by : (a b c : Bool) → (b ≡ true → repeats_bound earlier token ≡ true)
-        → KeepsTold earlier token (declare_unless_refused context token (those_of ((a, builds.UnknownColumn) ∷ (b, builds.DuplicateBound) ∷ (c, builds.InfiniteValue) ∷ [])) place
+        → KeepsShown earlier token (declare_unless_refused context token (those_of ((a, builds.UnknownColumn) ∷ (b, builds.DuplicateBound) ∷ (c, builds.InfiniteValue) ∷ [])) place
         (new_column is_new column ++ bounds_declared column limits.lower limits.upper))
     by true b c k = refused context earlier token kinds.UnknownColumn tt
     by false true c k = refused context earlier token kinds.DuplicateBound (k refl)
     by false false true k = refused context earlier token kinds.InfiniteValue tt
     by false false false k =
-        told-all (new_column is_new column ++ bounds_declared column limits.lower limits.upper) context.earlier (token ∷ earlier) (told-later token earlier context.earlier told)
-        (list_all-append (is_told (token ∷ earlier)) (new_column is_new column) (bounds_declared column limits.lower limits.upper)
-        ∙ both_so (list_all (is_told (token ∷ earlier)) (new_column is_new column)) _ (fine is_new) (bounds-told earlier token column limits h))
+        shown-all (new_column is_new column ++ bounds_declared column limits.lower limits.upper) context.earlier (token ∷ earlier) (shown-later token earlier context.earlier shown)
+        (list_all-append (is_shown (token ∷ earlier)) (new_column is_new column) (bounds_declared column limits.lower limits.upper)
+        ∙ both_so (list_all (is_shown (token ∷ earlier)) (new_column is_new column)) _ (fine is_new) (bounds-shown earlier token column limits h))
 
 -- the relation of a bound gives the limits
 gives-lower : (relation : Relation) (l : Limit) → is_some (limits_by relation l).lower ≡ true → gives_lower relation ≡ true
@@ -450,29 +448,29 @@ integer-named earlier column h = ap (λ (b : Bool). if b then Some column else N
 semi-named : (earlier : List Terminal) (column : List ℕ) → (is_under SemiContinuous earlier && not (ends_in_sign earlier)) ≡ true → names_semi earlier (Name column) ≡ Some column
 semi-named earlier column h = ap (λ (b : Bool). if b then Some column else None) h
 
-integer-refused : (earlier : List Terminal) (column : List ℕ) (all : Draft) (made : Declarations) → (is_under Generals earlier || is_under Binaries earlier) ≡ true → Told earlier all → is_semi all column ≡ true
+integer-refused : (earlier : List Terminal) (column : List ℕ) (all : Draft) (made : Declarations) → (is_under Generals earlier || is_under Binaries earlier) ≡ true → Shown earlier all → is_semi all column ≡ true
     → changes_kind earlier (Name column) ≡ true
-integer-refused earlier column all made under told h =
+integer-refused earlier column all made under shown h =
     or_left (names_again names_integer names_semi earlier (Name column)) (names_again names_semi names_integer earlier (Name column))
-    (ap (λ (o : Option (List ℕ)). option_map_or (λ c. is_named c (collected names_semi earlier)) o false) (integer-named earlier column under) ∙ told.semis column h)
+    (ap (λ (o : Option (List ℕ)). option_map_or (λ c. is_named c (collected names_semi earlier)) o false) (integer-named earlier column under) ∙ shown.semis column h)
 
-integers_listed : (context : Context) (earlier : List Terminal) → (is_under Generals earlier || is_under Binaries earlier) ≡ true → Told earlier context.earlier → (column : List ℕ)
+integers_listed : (context : Context) (earlier : List Terminal) → (is_under Generals earlier || is_under Binaries earlier) ≡ true → Shown earlier context.earlier → (column : List ℕ)
     → Steps earlier context.earlier (Name column) (declare_at context (Name column) InGenerals (declare_column column ∷ declare_integer column ∷ []))
-integers_listed context earlier under told column n =
+integers_listed context earlier under shown column n =
     declared context earlier (Name column) InGenerals (declare_column column ∷ declare_integer column ∷ [])
     (both_so _ true (named-now column (names_integer earlier (Name column)) (collected names_integer earlier) (integer-named earlier column under)) refl)
-    (record { bound = λ e. absurd cc; semi = λ e. integer-refused earlier column context.earlier [] under told (only (is_semi context.earlier column) e); rhs = λ e. absurd cc }) n
+    (record { bound = λ e. absurd cc; semi = λ e. integer-refused earlier column context.earlier [] under shown (only (is_semi context.earlier column) e); rhs = λ e. absurd cc }) n
 
-binaries_listed : (context : Context) (earlier : List Terminal) → (is_under Generals earlier || is_under Binaries earlier) ≡ true → Told earlier context.earlier → (column : List ℕ)
+binaries_listed : (context : Context) (earlier : List Terminal) → (is_under Generals earlier || is_under Binaries earlier) ≡ true → Shown earlier context.earlier → (column : List ℕ)
     → Steps earlier context.earlier (Name column) (declare_at context (Name column) InBinaries (declare_column column ∷ declare_binary column ∷ []))
-binaries_listed context earlier under told column n =
+binaries_listed context earlier under shown column n =
     declared context earlier (Name column) InBinaries (declare_column column ∷ declare_binary column ∷ [])
     (both_so _ true (named-now column (names_integer earlier (Name column)) (collected names_integer earlier) (integer-named earlier column under)) refl)
-    (record { bound = λ e. absurd cc; semi = λ e. integer-refused earlier column context.earlier [] under told (only (is_semi context.earlier column) e); rhs = λ e. absurd cc }) n
+    (record { bound = λ e. absurd cc; semi = λ e. integer-refused earlier column context.earlier [] under shown (only (is_semi context.earlier column) e); rhs = λ e. absurd cc }) n
 
-semis_listed : (context : Context) (earlier : List Terminal) → (is_under SemiContinuous earlier && not (ends_in_sign earlier)) ≡ true → Told earlier context.earlier → (column : List ℕ)
+semis_listed : (context : Context) (earlier : List Terminal) → (is_under SemiContinuous earlier && not (ends_in_sign earlier)) ≡ true → Shown earlier context.earlier → (column : List ℕ)
     → Steps earlier context.earlier (Name column) (declare_at context (Name column) InSemis (declare_column column ∷ declare_semi column ∷ []))
-semis_listed context earlier under told column n =
+semis_listed context earlier under shown column n =
     declared context earlier (Name column) InSemis (declare_column column ∷ declare_semi column ∷ [])
     (both_so _ true (named-now column (names_semi earlier (Name column)) (collected names_semi earlier) (semi-named earlier column under)) refl)
     (record {
@@ -480,7 +478,7 @@ semis_listed context earlier under told column n =
       semi = λ e.
           or_right (names_again names_integer names_semi earlier (Name column)) (names_again names_semi names_integer earlier (Name column))
           (ap (λ (o : Option (List ℕ)). option_map_or (λ c. is_named c (collected names_integer earlier)) o false) (semi-named earlier column under)
-          ∙ told.integers column (only (is_integer context.earlier column) e));
+          ∙ shown.integers column (only (is_integer context.earlier column) e));
       rhs = λ e. absurd cc;
     }) n
 
@@ -493,8 +491,8 @@ constant-completes : (earlier : List Terminal) (token : Terminal) → current_se
 constant-completes earlier token here last may =
     both_so (is_under Objective earlier) (may_follow_constant token && ends_in_number earlier) (under-objective earlier here) (both_so (may_follow_constant token) (ends_in_number earlier) may last)
 
-constant-there : (earlier : List Terminal) (all : Draft) → Told earlier all → has_constant all ≡ true → has_constant_before earlier ≡ true
-constant-there earlier all told h = either (is_some all.constant) (has_objective_rhs all) (has_constant_before earlier) told.constant (λ e. absurd (no_rhs all.objective all.rhs_values told.no_rhs e)) h
+constant-there : (earlier : List Terminal) (all : Draft) → Shown earlier all → has_constant all ≡ true → has_constant_before earlier ≡ true
+constant-there earlier all shown h = either (is_some all.constant) (has_objective_rhs all) (has_constant_before earlier) shown.constant (λ e. absurd (no_rhs all.objective all.rhs_values shown.no_rhs e)) h
   where
     no_rhs : (o : Option (List ℕ)) (values : List (List ℕ × Decimal)) → values ≡ [] → option_map_or (has_name values) o false ≡ true → ⊥
     no_rhs None values none e = cc
@@ -506,7 +504,7 @@ constant-there earlier all told h = either (is_some all.constant) (has_objective
 opened : (context : Context) (earlier : List Terminal) (word : SectionWord) → Steps earlier context.earlier (Opens word) (open_section context word)
 opened context earlier word n = by (has_seen context.sections_seen (section_of word)) (is_out_of_order context.sections_seen (section_of word))
   where
-    goes : (w : SectionWord) (b : Context) → Told (Opens word ∷ earlier) b.earlier → KeepsTold earlier (Opens word) (after_section_word b w)
+    goes : (w : SectionWord) (b : Context) → Shown (Opens word ∷ earlier) b.earlier → KeepsShown earlier (Opens word) (after_section_word b w)
     goes words.Minimize b h = h
     goes words.Maximize b h = h
     goes words.Rows b h = h
@@ -519,7 +517,7 @@ opened context earlier word n = by (has_seen context.sections_seen (section_of w
     goes words.Semis b h = h
     goes words.End b h = h
 
-    by : (a b : Bool) → KeepsTold earlier (Opens word) (elim (if a then Some kinds.SectionRepeated else (if b then Some kinds.SectionOrder else None)) as (λ _. AfterToken) [
+    by : (a b : Bool) → KeepsShown earlier (Opens word) (elim (if a then Some kinds.SectionRepeated else (if b then Some kinds.SectionOrder else None)) as (λ _. AfterToken) [
       | Some kind ↦ Refuses kind
       | None ↦ after_section_word (record context { sections_seen = with_section context.sections_seen (section_of word) }) word
     ])
@@ -547,9 +545,9 @@ second context (Some left) earlier relation n =
 
 -- what is known where names are listed
 abbrev Listed : Place → List Terminal → Draft → Type 0
-Listed InGenerals earlier all = (current_section earlier ≡ Some Generals) × Told earlier all
-Listed InBinaries earlier all = (current_section earlier ≡ Some Binaries) × Told earlier all
-Listed InSemis earlier all = (current_section earlier ≡ Some SemiContinuous) × Told earlier all × (ends_in_sign earlier ≡ false)
+Listed InGenerals earlier all = (current_section earlier ≡ Some Generals) × Shown earlier all
+Listed InBinaries earlier all = (current_section earlier ≡ Some Binaries) × Shown earlier all
+Listed InSemis earlier all = (current_section earlier ≡ Some SemiContinuous) × Shown earlier all × (ends_in_sign earlier ≡ false)
 Listed _ earlier all = Unit {0}
 
 phrase : (place : Place) (context : Context) (earlier : List Terminal) → Listed place earlier context.earlier → (token : Terminal) → Steps earlier context.earlier token (begin_phrase place context token)
@@ -581,9 +579,9 @@ first place context earlier h token =
     (λ word n. branch earlier (Opens word) (may_begin_section place) (open_section context word) (refuse context (Opens word) kinds.BadToken) (opened context earlier word n) (bad context earlier context.earlier (Opens word) n))
     (phrase place context earlier h) token
 
-lone : (context : Context) (owner : ItemOwner) (value : Decimal) (earlier : List Terminal) → Told earlier context.earlier → current_section earlier ≡ section_of_item owner → NumberShape owner earlier → (token : Terminal)
+lone : (context : Context) (owner : ItemOwner) (value : Decimal) (earlier : List Terminal) → Shown earlier context.earlier → current_section earlier ≡ section_of_item owner → NumberShape owner earlier → (token : Terminal)
     → Steps earlier context.earlier token (take_lone context owner value token)
-lone context (OfObjective objective) value earlier told here last token =
+lone context (OfObjective objective) value earlier shown here last token =
     lone-by (Steps earlier context.earlier) context objective value (bad context earlier context.earlier) (λ sign. complete (Sign sign) refl) (λ word. complete (Opens word) refl) token
   where
     complete : (t : Terminal) → may_follow_constant t ≡ true → Steps earlier context.earlier t (begin_after context (declare_constant value ∷ []) (InObjective objective) t)
@@ -594,10 +592,10 @@ lone context (OfObjective objective) value earlier told here last token =
         (record {
           bound = λ e. absurd cc;
           semi = λ e. absurd cc;
-          rhs = λ e. both_so (completes_constant earlier t) (has_constant_before earlier) now (constant-there earlier context.earlier told (only (has_constant context.earlier) e));
+          rhs = λ e. both_so (completes_constant earlier t) (has_constant_before earlier) now (constant-there earlier context.earlier shown (only (has_constant context.earlier) e));
         })
         (first (InObjective objective) (with_made context (declare_constant value ∷ [])) earlier tt t)
-lone context (OfRow partial) value earlier told here last token =
+lone context (OfRow partial) value earlier shown here last token =
     constant-by (Steps earlier context.earlier) context partial value (bad context earlier context.earlier) (λ sign n. refused context earlier (Sign sign) kinds.ConstantInRow tt)
     (λ relation n. refused context earlier (Compares relation) kinds.ConstantInRow tt) token
 
@@ -605,9 +603,9 @@ lone context (OfRow partial) value earlier told here last token =
 
 -- the declarations at the start of the objective
 started : (context : Context) (earlier : List Terminal) (made : Declarations) (place : Place) → Listed place earlier (with_declarations context.earlier made) → (token : Terminal)
-    → list_all (is_told (token ∷ earlier)) made ≡ true → Refused earlier token context.earlier made → Steps earlier context.earlier token (begin_after context made place token)
-started context earlier made place h token told refusal =
-    declared-before context earlier token made (begin place (with_made context made) token) told refusal (first place (with_made context made) earlier h token)
+    → list_all (is_shown (token ∷ earlier)) made ≡ true → Refused earlier token context.earlier made → Steps earlier context.earlier token (begin_after context made place token)
+started context earlier made place h token shown refusal =
+    declared-before context earlier token made (begin place (with_made context made) token) shown refusal (first place (with_made context made) earlier h token)
 
 nothing-refused : (earlier : List Terminal) (token : Terminal) (all : Draft) (sense : Sense) (label : List ℕ) → Refused earlier token all (objective_declared sense label)
 nothing-refused earlier token all sense label = record { bound = λ e. absurd cc; semi = λ e. absurd cc; rhs = λ e. absurd cc }
@@ -615,11 +613,11 @@ nothing-refused earlier token all sense label = record { bound = λ e. absurd cc
 first-refused_none : (earlier : List Terminal) (token : Terminal) (all : Draft) (sense : Sense) (column : List ℕ) → Refused earlier token all (first_item_declared sense column)
 first-refused_none earlier token all sense column = record { bound = λ e. absurd cc; semi = λ e. absurd cc; rhs = λ e. absurd cc }
 
-listed-at : (place : Place) (earlier : List Terminal) (all : Draft) → Told earlier all → current_section earlier ≡ section_at_place place → PlaceShape place earlier → Listed place earlier all
-listed-at InGenerals earlier all told here shape = (here, told)
-listed-at InBinaries earlier all told here shape = (here, told)
-listed-at InSemis earlier all told here shape = (here, told, shape)
-listed-at _ earlier all told here shape = tt
+listed-at : (place : Place) (earlier : List Terminal) (all : Draft) → Shown earlier all → current_section earlier ≡ section_at_place place → PlaceShape place earlier → Listed place earlier all
+listed-at InGenerals earlier all shown here shape = (here, shown)
+listed-at InBinaries earlier all shown here shape = (here, shown)
+listed-at InSemis earlier all shown here shape = (here, shown, shape)
+listed-at _ earlier all shown here shape = tt
 
 number-value : (value : Decimal) → IsValue (Number value)
 number-value value gives earlier = refl
@@ -627,87 +625,87 @@ number-value value gives earlier = refl
 infinite-value : IsValue Infinity
 infinite-value gives earlier = refl
 
-side : (context : Context) (sided : SideOwner) (l : Limit) (earlier : List Terminal) (token : Terminal) → Told earlier context.earlier → current_section earlier ≡ section_of_side sided → SideShape sided earlier → IsValue token
+side : (context : Context) (sided : SideOwner) (l : Limit) (earlier : List Terminal) (token : Terminal) → Shown earlier context.earlier → current_section earlier ≡ section_of_side sided → SideShape sided earlier → IsValue token
     → Steps earlier context.earlier token (take_side context sided l token)
-side context (SideOfRow partial relation) l earlier token told here shape value = row_side context partial relation l earlier token
-side context (SideOfBound is_new column relation) l earlier token told here shape value = λ n.
-    bound context is_new column (limits_by relation l) earlier token (InBounds None) told (side-completes earlier token relation l column value here (λ gives k. side-completed gives earlier relation column shape k))
+side context (SideOfRow partial relation) l earlier token shown here shape value = row_side context partial relation l earlier token
+side context (SideOfBound is_new column relation) l earlier token shown here shape value = λ n.
+    bound context is_new column (limits_by relation l) earlier token (InBounds None) shown (side-completes earlier token relation l column value here (λ gives k. side-completed gives earlier relation column shape k))
 
-signed_side : (context : Context) (sided : SideOwner) (l : Limit) (earlier : List Terminal) (token : Terminal) → Told earlier context.earlier → current_section earlier ≡ section_of_side sided → SignedSideShape sided earlier
+signed_side : (context : Context) (sided : SideOwner) (l : Limit) (earlier : List Terminal) (token : Terminal) → Shown earlier context.earlier → current_section earlier ≡ section_of_side sided → SignedSideShape sided earlier
     → IsValue token → Steps earlier context.earlier token (take_side context sided l token)
-signed_side context (SideOfRow partial relation) l earlier token told here shape value = row_side context partial relation l earlier token
-signed_side context (SideOfBound is_new column relation) l earlier token told here shape value = λ n.
-    bound context is_new column (limits_by relation l) earlier token (InBounds None) told
+signed_side context (SideOfRow partial relation) l earlier token shown here shape value = row_side context partial relation l earlier token
+signed_side context (SideOfBound is_new column relation) l earlier token shown here shape value = λ n.
+    bound context is_new column (limits_by relation l) earlier token (InBounds None) shown
     (side-completes earlier token relation l column value here (λ gives k. signed-completed gives earlier is_new relation column shape k))
 
-step : (context : Context) (state : State) (earlier : List Terminal) → Told earlier context.earlier → current_section earlier ≡ section_at state → Shape state earlier → (token : Terminal)
+step : (context : Context) (state : State) (earlier : List Terminal) → Shown earlier context.earlier → current_section earlier ≡ section_at state → Shape state earlier → (token : Terminal)
     → Steps earlier context.earlier token (take context state token)
-step context (Between place) earlier told here shape token = first place context earlier (listed-at place earlier context.earlier told here shape) token
-step context (AtObjective sense) earlier told here shape token =
+step context (Between place) earlier shown here shape token = first place context earlier (listed-at place earlier context.earlier shown here shape) token
+step context (AtObjective sense) earlier shown here shape token =
     objective-by (Steps earlier context.earlier) context sense (λ name n. n)
     (λ t. started context earlier (objective_declared sense default_objective) (BeforeItems default_objective) tt t refl (nothing-refused earlier t context.earlier sense default_objective)) token
-step context (ObjectiveName sense label) earlier told here shape token =
+step context (ObjectiveName sense label) earlier shown here shape token =
     objective_name-by (Steps earlier context.earlier) context sense label
     (declared context earlier Colon (BeforeItems label) (objective_declared sense label) refl (nothing-refused earlier Colon context.earlier sense label))
     (λ t. started context earlier (first_item_declared sense label) (InObjective default_objective) tt t refl (first-refused_none earlier t context.earlier sense label)) token
-step context (AtLastWord wanted) earlier told here shape token =
+step context (AtLastWord wanted) earlier shown here shape token =
     last_word-by (Steps earlier context.earlier) context wanted (bad context earlier context.earlier)
     (λ name n. branch earlier (Name name) (is_last_word wanted name) (Goes (with_made context []) (Between (opened_by wanted))) (refuse context (Name name) kinds.BadToken) n (bad context earlier context.earlier (Name name) n)) token
-step context AtSemi earlier told here shape token = semi-by (Steps earlier context.earlier) context (λ n. n) (first InSemis (with_made context []) earlier (here, told, shape)) token
-step context (Signs owner sign) earlier told here shape token = signs context owner sign earlier token
-step context (ItemNumber owner sign value) earlier told here shape token =
-    item_number-by (Steps earlier context.earlier) context owner sign value (λ name. term context owner name (apply_sign sign value) earlier) (lone context owner (apply_sign sign value) earlier told here shape) token
-step context (RowName label) earlier told here shape token = row_name-by (Steps earlier context.earlier) context label (λ n. n) (first (InRow (first_named context label)) (with_made context []) earlier tt) token
-step context (RowLabel label) earlier told here shape token = row context label earlier token
-step context (RowSign label sign) earlier told here shape token =
+step context AtSemi earlier shown here shape token = semi-by (Steps earlier context.earlier) context (λ n. n) (first InSemis (with_made context []) earlier (here, shown, shape)) token
+step context (Signs owner sign) earlier shown here shape token = signs context owner sign earlier token
+step context (ItemNumber owner sign value) earlier shown here shape token =
+    item_number-by (Steps earlier context.earlier) context owner sign value (λ name. term context owner name (apply_sign sign value) earlier) (lone context owner (apply_sign sign value) earlier shown here shape) token
+step context (RowName label) earlier shown here shape token = row_name-by (Steps earlier context.earlier) context label (λ n. n) (first (InRow (first_named context label)) (with_made context []) earlier tt) token
+step context (RowLabel label) earlier shown here shape token = row context label earlier token
+step context (RowSign label sign) earlier shown here shape token =
     row_sign-by (Steps earlier context.earlier) context label sign (bad context earlier context.earlier) (λ n. n) (λ value n. n) (λ more n. n)
     (λ name. term context (OfRow (without_terms label None)) name (apply_sign sign one) earlier) token
-step context (RowNumber label sign value) earlier told here shape token =
+step context (RowNumber label sign value) earlier shown here shape token =
     row_number-by (Steps earlier context.earlier) context label sign value (bad context earlier context.earlier) (λ name. term context (OfRow (without_terms label None)) name (apply_sign sign value) earlier) (λ relation n. n)
     (λ more n. refused context earlier (Sign more) kinds.ConstantInRow tt) token
-step context (RowLeft label l) earlier told here shape token = left-by (Steps earlier context.earlier) context label l (bad context earlier context.earlier) (λ relation n. n) token
-step context (RowLeftRelation partial) earlier told here shape token = item context (OfRow partial) earlier token
-step context (BoundName column) earlier told here shape token =
+step context (RowLeft label l) earlier shown here shape token = left-by (Steps earlier context.earlier) context label l (bad context earlier context.earlier) (λ relation n. n) token
+step context (RowLeftRelation partial) earlier shown here shape token = item context (OfRow partial) earlier token
+step context (BoundName column) earlier shown here shape token =
     bound_name-by (Steps earlier context.earlier) context column (bad context earlier context.earlier)
-    (λ n. bound context true column no_limits earlier Free (InBounds None) told (free-completes earlier column here shape)) (λ relation n. n) token
-step context (BoundSign sign) earlier told here shape token = limit-by (Steps earlier context.earlier) context (λ l t. Goes context (BoundLeft l)) sign (bad context earlier context.earlier) (λ value n. n) (λ n. n) token
-step context (BoundLeft l) earlier told here shape token = bound_left-by (Steps earlier context.earlier) context l (bad context earlier context.earlier) (λ relation n. n) token
-step context (BoundLeftRelation l relation) earlier told here shape token =
+    (λ n. bound context true column no_limits earlier Free (InBounds None) shown (free-completes earlier column here shape)) (λ relation n. n) token
+step context (BoundSign sign) earlier shown here shape token = limit-by (Steps earlier context.earlier) context (λ l t. Goes context (BoundLeft l)) sign (bad context earlier context.earlier) (λ value n. n) (λ n. n) token
+step context (BoundLeft l) earlier shown here shape token = bound_left-by (Steps earlier context.earlier) context l (bad context earlier context.earlier) (λ relation n. n) token
+step context (BoundLeftRelation l relation) earlier shown here shape token =
     bound_column-by (Steps earlier context.earlier) context l relation (bad context earlier context.earlier)
-    (λ name n. bound context true name (limits_by (flip relation) l) earlier (Name name) (InBounds (Some (name, relation))) told (name-completes earlier relation l name here shape)) token
-step context (AtSide sided) earlier told here shape token =
-    side-by (Steps earlier context.earlier) context sided (bad context earlier context.earlier) (λ sign n. n) (λ value. side context sided (limit_of value) earlier (Number value) told here shape (number-value value))
-    (side context sided PlusInf earlier Infinity told here shape infinite-value) token
-step context (SideSign sided sign) earlier told here shape token =
+    (λ name n. bound context true name (limits_by (flip relation) l) earlier (Name name) (InBounds (Some (name, relation))) shown (name-completes earlier relation l name here shape)) token
+step context (AtSide sided) earlier shown here shape token =
+    side-by (Steps earlier context.earlier) context sided (bad context earlier context.earlier) (λ sign n. n) (λ value. side context sided (limit_of value) earlier (Number value) shown here shape (number-value value))
+    (side context sided PlusInf earlier Infinity shown here shape infinite-value) token
+step context (SideSign sided sign) earlier shown here shape token =
     limit-by (Steps earlier context.earlier) context (λ l t. take_side context sided l t) sign (bad context earlier context.earlier)
-    (λ value. signed_side context sided (limit_of (apply_sign sign value)) earlier (Number value) told here shape (number-value value))
-    (signed_side context sided (infinity sign) earlier Infinity told here shape infinite-value) token
-step context AfterEnd earlier told here shape token = bad context earlier context.earlier token
+    (λ value. signed_side context sided (limit_of (apply_sign sign value)) earlier (Number value) shown here shape (number-value value))
+    (signed_side context sided (infinity sign) earlier Infinity shown here shape infinite-value) token
+step context AfterEnd earlier shown here shape token = bad context earlier context.earlier token
 
 -- ---- the laws
 
 pub record Known (earlier : List Terminal) (context : Context) (state : State) : Type 0 where
   pub shaped : Shaped earlier context state
-  pub told : Told earlier context.earlier
+  pub shown : Shown earlier context.earlier
 
-none-told : Told [] empty_draft
-none-told = record { lowers = λ name e. absurd cc; uppers = λ name e. absurd cc; integers = λ name e. absurd cc; semis = λ name e. absurd cc; constant = λ e. absurd cc; no_rhs = refl }
+none-shown : Shown [] empty_draft
+none-shown = record { lowers = λ name e. absurd cc; uppers = λ name e. absurd cc; integers = λ name e. absurd cc; semis = λ name e. absurd cc; constant = λ e. absurd cc; no_rhs = refl }
 
 pub none-known : Known [] start.context (Between AtStart)
-none-known = record { shaped = none-shaped; told = none-told }
+none-known = record { shaped = none-shaped; shown = none-shown }
 
-taken : (earlier : List Terminal) (context : Context) (state : State) (token : Terminal) → Known earlier context state → KeepsTold earlier token (take context state token)
-taken earlier context state token known = step context state earlier known.told known.shaped.opened.current known.shaped.shape token (told-later token earlier context.earlier known.told)
+taken : (earlier : List Terminal) (context : Context) (state : State) (token : Terminal) → Known earlier context state → KeepsShown earlier token (take context state token)
+taken earlier context state token known = step context state earlier known.shown known.shaped.opened.current known.shaped.shape token (shown-later token earlier context.earlier known.shown)
 
 pub known-later : (earlier : List Terminal) (context : Context) (state : State) (token : Terminal) (after : Context) (next : State) → Known earlier context state → take context state token ≡ Goes after next
     → Known (token ∷ earlier) after next
 known-later earlier context state token after next known h = record {
   shaped = shaped-later earlier context state token after next known.shaped h;
-  told = subst (λ (answer : AfterToken). KeepsTold earlier token answer) h (taken earlier context state token known);
+  shown = subst (λ (answer : AfterToken). KeepsShown earlier token answer) h (taken earlier context state token known);
 }
 
 says : (kind : FaultKind) (earlier : List Terminal) (context : Context) (state : State) (token : Terminal) → Known earlier context state → take context state token ≡ Refuses kind → Says earlier token kind
-says kind earlier context state token known h = subst (λ (answer : AfterToken). KeepsTold earlier token answer) h (taken earlier context state token known)
+says kind earlier context state token known h = subst (λ (answer : AfterToken). KeepsShown earlier token answer) h (taken earlier context state token known)
 
 pub duplicate-bound : IsInWords kinds.DuplicateBound repeats_bound
 duplicate-bound = in-words kinds.DuplicateBound repeats_bound Known (record { at_start = none-known; goes = known-later; refuses = says kinds.DuplicateBound }) refl refl
