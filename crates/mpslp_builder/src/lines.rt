@@ -213,7 +213,8 @@ impl Builder {
     ///
     /// # Errors
     ///
-    /// Only `OutOfMemory`. Then a first part of these declarations is made.
+    /// Only `OutOfMemory`. Then a first part of these declarations is made: this call is for readers, which return `Failed` from
+    /// then on. So `mpslp_model` does not re-export the types of its argument.
     pub fn next_line(
         &mut self,
         column: &[u8],
@@ -240,7 +241,8 @@ impl Builder {
     ///
     /// # Errors
     ///
-    /// Only `OutOfMemory`. Then a first part of these declarations is made.
+    /// Only `OutOfMemory`. Then a first part of these declarations is made: this call is for readers, which return `Failed` from
+    /// then on. So `mpslp_model` does not re-export the types of its argument.
     pub fn first_line(
         &mut self,
         name: Name,

@@ -13,7 +13,7 @@ pub mod laws;
 mod readers;
 
 pub use formats::Format;
-pub use mpslp_builder::{Builder, Entries, Entry};
+pub use mpslp_builder::Builder;
 pub use mpslp_io::{FromRead, IoFailed, Sink, Source, ToWrite, put_all};
 pub use mpslp_model_core::Model;
 pub use mpslp_types::{

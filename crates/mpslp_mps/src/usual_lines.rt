@@ -17,9 +17,10 @@ ghost use Rattle.mpslp_mps_fields.specs.declared.sections.Section.{Section};
 
 use crate::context::LineContext;
 use crate::values::{RowValue, RowValues, values_of};
+use mpslp_builder::{Entries, Entry};
 use mpslp_lines::LineError;
 use mpslp_model::laws::each_builder_is_made;
-use mpslp_model::{Builder, Entries, Entry, Name, NameFault};
+use mpslp_model::{Builder, Name, NameFault};
 use mpslp_mps_fields::{ValuesLine, column_shape};
 use std::alloc::Global;
 
