@@ -1,8 +1,8 @@
 #!/usr/bin/env python3
 """Proves a crate and all crates below it, in parallel and quietly: scripts/prove.py CRATE
 
-Crates that do not depend on one another are proved side by side. The crate with the longest chain of crates that wait for it comes
-first and gets the idle processors. One line is printed for each crate; the prover's own output goes to build/log/. A second call
+Crates that do not depend on one another are proved side by side. The crate for which the longest chain of crates waits comes first,
+and the others give way to it. One line is printed for each crate; the prover's own output goes to build/log/. A second call
 proves what has changed since, and a call after an interrupted one goes on where that was.
 
 Each crate is proved by one call of the kit's `rattle` over the proved libraries in build/proofs/. Such a library has the statements
@@ -143,7 +143,7 @@ class Prover:
         if status == -signal.SIGKILL and jobs > 1:
             # Most likely for memory, of which one process takes less.
             status = self.runner.run([*rattle, "1"], crate.folder, log)
-        return status == 0 and last_lines(log, 1)[0].startswith("logic=proved ")
+        return status == 0 and "".join(last_lines(log, 1)).startswith("logic=proved ")
 
     def is_linked(self, crate: Crate, log: Path) -> bool:
         """Whether the program is linked."""
@@ -227,9 +227,9 @@ class Proof:
         for place, name in enumerate(ready[:free]):
             is_urgent = place == 0 and all(self.estimate.chain_from(name) >= it for it in chains)
             idle = self.processors - sum(jobs for _, _, jobs in running.values())
-            # Each crate that is ready gets a processor, and the first all that are left, the urgent one at least half of them all.
-            jobs = idle - (min(len(ready), free) - place - 1)
-            jobs = min(MOST_JOBS, max(jobs, self.processors // 2 if is_urgent else 1, 1))
+            # The urgent crate may use all processors, since the others give way. Each of these gets one, and the first all idle ones.
+            jobs = self.processors if is_urgent else max(1, idle - (min(len(ready), free) - place - 1))
+            jobs = min(MOST_JOBS, jobs)
             build = pool.submit(self.prover.build, self.crates[name], jobs, is_urgent)
             running[build] = name, time.monotonic(), jobs
 
