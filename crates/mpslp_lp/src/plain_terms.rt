@@ -89,6 +89,7 @@ fn plain_term<'a>(tokens: &mut Tokens<'a>) -> Option<PlainTerm<'a>>
 
 /// Takes a term of a row. `left` are the tokens after it on its line: their lexical errors are reported before the error of
 /// the term. The term may also be the first one after the label of the row.
+#[inline(always)]
 fn take_plain_term(
     context: &Context,
     row: &mut PartialRow,
@@ -114,6 +115,7 @@ fn take_plain_term(
 }
 
 /// Takes the plain terms of a row that come next. Returns the tokens after them.
+#[inline(never)]
 fn take_plain_terms<'a>(
     context: &Context,
     row: &mut PartialRow,
@@ -135,6 +137,7 @@ fn take_plain_terms<'a>(
 }
 
 /// Takes the plain terms of a row that come next, of which the first is that after its label. Returns the tokens after them.
+#[inline(never)]
 fn take_first_terms<'a>(
     context: &mut Context,
     name: Name,
@@ -159,6 +162,7 @@ fn take_first_terms<'a>(
 
 /// Takes a term of the objective. `left` are the tokens after it on its line: their lexical errors are reported before the
 /// error of the term.
+#[inline(always)]
 fn take_objective_term(
     context: &mut Context,
     objective: &Name,
@@ -182,6 +186,7 @@ fn take_objective_term(
 }
 
 /// Takes the plain terms of the objective that come next. Returns the tokens after them.
+#[inline(never)]
 fn take_objective_terms<'a>(
     context: &mut Context,
     objective: &Name,
@@ -204,6 +209,7 @@ fn take_objective_terms<'a>(
 
 /// Takes the plain terms that come next, if the state is after a label or a term of a row, or after a term of the objective.
 /// Returns the tokens after them.
+#[inline(always)]
 pub(crate) fn take_terms<'a>(
     context: &mut Context,
     state: &mut State,

@@ -65,51 +65,42 @@ pub(crate) fn least_error(kind: FaultKind, tokens: Tokens<'_>) -> LineError
     }
 }
 
-/// Takes a token. `left` are the tokens after it on its line: after a token with an error, only their lexical errors matter.
-#[inline(always)]
-fn take_token(
-    context: &mut Context,
-    state: State,
-    raw_token: Token<'_>,
-    left: Tokens<'_>,
-) -> Result<State, LineError>
-    ensures { MatchResult result
-        (λ next. take_tokens context.new next left.entry ≡ take_tokens context.old state (token_of raw_token.entry ∷ left.entry))
-        (λ error. TakesToken (take_tokens context.old state (token_of raw_token.entry ∷ left.entry)) (Err error) context.new) }
-{
-    let kind = match classify(raw_token.kind, raw_token.text) {
-        Ok(kind) => kind,
-        Err(kind) => return Err(least_error(kind, left)),
-    };
-    let token = TerminalToken {
-        kind,
-        text: raw_token.text,
-    };
-    match take(context, state, &token) {
-        Ok(next) => Ok(next),
-        Err(error) => Err(error_before(error, left)),
-    }
-}
-
 /// Takes a token and the tokens after it on its line. Each is classified once, except where a plain term could begin but does
-/// not.
-fn take_others(
+/// not. After a token with an error, only the lexical errors of the others matter.
+#[inline(never)]
+fn take_others<'a>(
     context: &mut Context,
-    state: State,
-    first: Token<'_>,
-    left: Tokens<'_>,
-) -> Result<State, LineError>
-    ensures { TakesToken (take_tokens context.old state (token_of first.entry ∷ left.entry)) result context.new }
+    state: &mut State,
+    first: Token<'a>,
+    left: Tokens<'a>,
+) -> Result<(), LineError>
+    ensures { MatchResult result
+        (λ _. take_tokens context.old state.old (token_of first.entry ∷ left.entry) ≡ Goes context.new state.new)
+        (λ error. TakesToken (take_tokens context.old state.old (token_of first.entry ∷ left.entry)) (Err error) context.new) }
 {
-    let mut state = state;
+    let mut current = replace(state, State::AfterEnd);
     let mut raw_token = first;
     let mut tokens = left;
     'tokens: loop {
-        state = take_token(context, state, raw_token, tokens.again())?;
-        tokens = take_terms(context, &mut state, tokens)?;
+        let kind = match classify(raw_token.kind, raw_token.text) {
+            Ok(kind) => kind,
+            Err(kind) => return Err(least_error(kind, tokens)),
+        };
+        let token = TerminalToken {
+            kind,
+            text: raw_token.text,
+        };
+        current = match take(context, current, &token) {
+            Ok(next) => next,
+            Err(error) => return Err(error_before(error, tokens)),
+        };
+        tokens = take_terms(context, &mut current, tokens)?;
         match tokens.next() {
             Some(next) => raw_token = next,
-            None => return Ok(state),
+            None => {
+                *state = current;
+                return Ok(());
+            }
         }
     }
 }
@@ -121,11 +112,10 @@ fn take_tokens(context: &mut Context, state: &mut State, line: &[u8]) -> Result<
         (λ error. TakesToken (take_tokens context.old state.old (tokens line.now)) (Err error) context.new) }
 {
     let mut left = take_terms(context, state, tokens_of(line))?;
-    let Some(first) = left.next() else {
-        return Ok(());
-    };
-    *state = take_others(context, replace(state, State::AfterEnd), first, left)?;
-    Ok(())
+    match left.next() {
+        Some(first) => take_others(context, state, first, left),
+        None => Ok(()),
+    }
 }
 
 /// The number of bytes of the line before its comment.

@@ -55,7 +55,8 @@ pub fn row_without_terms(context: &mut Context, name: Name) -> Result<PartialRow
     ensures row { MatchResult result (λ row. row ≡ without_terms name None) (λ error. error ≡ LineError.OutOfMemory) }
     ensures same { context.new ≡ context.old }
 {
-    context.earlier.row_without_terms(name, None)
+    let left = None;
+    context.earlier.row_without_terms(name, left)
 }
 
 /// Takes the first token of a row after its label, or of a row without one.
