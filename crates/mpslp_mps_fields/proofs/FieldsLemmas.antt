@@ -1,5 +1,5 @@
 -- A text is divided into fields from its start.
-use Rattle.std.proofs.Common.{◌≡◌, refl, sym, ap, subst, ◌∙◌, ℕ, zero, suc, ◌+◌, ◌-◌, ◌<◌, ◌≤◌, List, [], ◌∷◌, ◌++◌, map, length, take, drop, Bool, true, false, cond, arith, append_assoc, Bor}
+use Rattle.std.proofs.Common.{◌≡◌, refl, sym, ap, subst, ◌∙◌, ℕ, suc, ◌+◌, ◌-◌, ◌<◌, ◌≤◌, List, [], ◌∷◌, ◌++◌, map, length, take, drop, Bool, true, false, cond, arith, append_assoc, Bor}
 use Rattle.std.specs.Prelude.{Some, None, filter, nat_lt, not, ◌||◌, ◌==◌, codes, slice_index}
 use Rattle.std.specs.List.{slice_split, position, position_or_len}
 use Rattle.std.proofs.lemmas.Bool.{lt-ltb}
@@ -108,24 +108,6 @@ first-blank text at within none here = first-place (is_in (codes " \t")) is_blan
 
 pub no-blank : (text : List ℕ) → NonePasses (is_in (codes " \t")) text (length text) → length text ≡ position_or_len is_blank text
 no-blank text none = no-place (is_in (codes " \t")) is_blank in-blanks text none
-
--- what is found in the first bytes is the first one of all
-pub first-in-front : (p : ℕ → Bool) (n : ℕ) (xs : List ℕ) → position_or_len p (take n xs) < length (take n xs) → position_or_len p xs ≡ position_or_len p (take n xs)
-first-in-front p zero xs within = absurd (omega (arith, within))
-first-in-front p (suc n) [] within = absurd (omega (arith, within))
-first-in-front p (suc n) (x ∷ xs) within = by (p x) refl within (first-in-front p n xs)
-  where
-    -- of a list whose first item passes or not, and whose other items have this number before the first that passes
-    first : Bool → ℕ → ℕ
-    first passes later = cond (not passes) (1 + later) 0
-
-    by : (b : Bool) → p x ≡ b → first (p x) (position_or_len p (take n xs)) < length (x ∷ take n xs)
-        → (position_or_len p (take n xs) < length (take n xs) → position_or_len p xs ≡ position_or_len p (take n xs))
-        → first (p x) (position_or_len p xs) ≡ first (p x) (position_or_len p (take n xs))
-    by true h k more = ap (λ (b : Bool). first b (position_or_len p xs)) h ∙ ap (λ (b : Bool). first b (position_or_len p (take n xs))) (sym h)
-    by false h k more =
-        let below : first false (position_or_len p (take n xs)) < length (x ∷ take n xs) = subst (λ (b : Bool). first b (position_or_len p (take n xs)) < length (x ∷ take n xs)) h k in
-        ap (first (p x)) (more (omega (arith, below)))
 
 pub position-none : {X : Type 0} (p : X → Bool) (xs : List X) → position p xs ≡ None → length xs ≡ position_or_len p xs
 position-none p xs h = by (nat_lt (position_or_len p xs) (length xs)) refl h

@@ -30,8 +30,8 @@ fn blanks_len(text: &[u8]) -> usize
     }
 }
 
-/// The number of bytes before the first space or tab.
-fn len_before_blank(text: &[u8]) -> usize
+/// The length of the field with which a text begins.
+fn field_len(text: &[u8]) -> usize
     ensures len { result ≡ position_or_len is_blank text.now }
     ensures within { result ≤ length text.now }
 {
@@ -39,23 +39,6 @@ fn len_before_blank(text: &[u8]) -> usize
         Some(at) => at,
         None => text.len(),
     }
-}
-
-/// How many bytes are searched first for the end of a field. Most fields are shorter, and bstr finds a byte in so few at less cost
-/// than in the rest of a line.
-const NEAR: usize = 16;
-
-/// The length of the field with which a text begins.
-fn field_len(text: &[u8]) -> usize
-    ensures len { result ≡ position_or_len is_blank text.now }
-    ensures within { result ≤ length text.now }
-{
-    let near = &text[..text.len().min(NEAR)];
-    let len = len_before_blank(near);
-    if len < near.len() {
-        return len;
-    }
-    len_before_blank(text)
 }
 
 /// The text from its first field on.

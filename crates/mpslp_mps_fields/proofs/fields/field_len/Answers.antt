@@ -1,10 +1,10 @@
-use Rattle.std.proofs.Common.{sym, ◌∙◌, subst, take, length, ◌<◌, ℕ}
-use Rattle.mpslp_mps_fields.specs.Line.{is_blank}
-use Rattle.mpslp_mps_fields.proofs.FieldsLemmas.{first-in-front}
+use Rattle.mpslp_mps_fields.proofs.FieldsLemmas.{first-blank, no-blank}
 use Rattle.mpslp_mps_fields.proofs.fields.field_len.Goals as goal
 
-pub returns-then-len-near-clause-len : goal.returns-then-len-near-clause-len
-returns-then-len-near-clause-len c =
-    let near = take c.min.result c.args.text.now in
-    c.len_before_blank-len.ensures.len
-    ∙ sym (first-in-front is_blank c.min.result c.args.text.now (subst (λ (n : ℕ). n < length near) c.len_before_blank-len.ensures.len c.if-len-near.true))
+pub returns-in-Some-clause-len : goal.returns-in-Some-clause-len
+returns-in-Some-clause-len c =
+    let found = c.in-Some.ensures in
+    first-blank c.args.text.now c.in-Some.at found.0.high found.0.before found.1
+
+pub returns-in-None-clause-len : goal.returns-in-None-clause-len
+returns-in-None-clause-len c = no-blank c.args.text.now c.in-None.ensures
