@@ -26,13 +26,10 @@ use mpslp_model_core::{
 use mpslp_types::{Fault, FaultKind, Name, ReadFault, Sense};
 use std::alloc::{AllocError, Global};
 
-/// The entries of a map, in the order in which they were inserted. The map gives back its spare room first, because it and the
-/// entries together are the peak of memory.
+/// The entries of a map, in the order in which they were inserted.
 fn entries_of<V: Drop>(alloc: Global, map: NameMap<V>) -> Result<Vec<(Vec<u8>, V)>, AllocError>
     ensures { IfOk result (λ entries. entries.items ≡ map.entries) }
 {
-    let mut map = map;
-    map.shrink_to_fit();
     map.into_iter().collect(alloc)
 }
 
