@@ -160,13 +160,15 @@ class Commands(unittest.TestCase):
         process = subprocess.Popen(
             [sys.executable, "scripts/prove.py", "mpslp"],
             cwd=self.copy, env=self.environment(STAND_IN_SLOW="mpslp_builder"), stdout=subprocess.PIPE, stderr=subprocess.PIPE, text=True,
+            # In a gate that runs in the background, processes begin with interrupts ignored.
+            preexec_fn=lambda: signal.signal(signal.SIGINT, signal.SIG_DFL),
         )
-        for _ in range(200):
+        for _ in range(600):
             if "build mpslp_builder" in self.calls():
                 break
             time.sleep(0.1)
         process.send_signal(signal.SIGINT)
-        _, said = process.communicate(timeout=20)
+        _, said = process.communicate(timeout=60)
         self.assertNotEqual(process.returncode, 0)
         self.assertIn("interrupted", said)
         before = self.calls()
