@@ -248,7 +248,7 @@ def default_lanes() -> int:
 
 
 @contextmanager
-def alone() -> Iterator[None]:
+def only_run() -> Iterator[None]:
     """Waits until no other call proves in this checkout. SIGTERM then ends what the prover runs, as an interrupt does."""
     LOGS.mkdir(parents=True, exist_ok=True)
     with (ROOT / "build" / "lock").open("w") as lock:
@@ -263,7 +263,7 @@ def alone() -> Iterator[None]:
 
 def prove_all(tops: tuple[str, ...], lanes: int | None = None) -> bool:
     """Proves crates and those below them, as far as they are not proved, and returns whether all are. Prints what it does."""
-    with alone():
+    with only_run():
         proof = Proof(crates_of_repository(), tops, lanes or default_lanes())
         if not proof.to_do:
             return True
@@ -284,7 +284,7 @@ def prove_all(tops: tuple[str, ...], lanes: int | None = None) -> bool:
 def prove_over(top: str, libraries: Path) -> bool:
     """Proves and builds one crate over proved libraries that are in another directory, and returns whether it is proved."""
     crates = crates_of_repository()
-    with alone():
+    with only_run():
         is_built = Prover(crates, libraries).build(crates[top], 2)
     if not is_built:
         report(top)
@@ -295,7 +295,7 @@ def main() -> int:
     parser = argparse.ArgumentParser(description=__doc__.split("\n")[0])
     parser.add_argument("crate", nargs="?", default="mpslp", help="the crate to prove and build (mpslp)")
     parser.add_argument("--lanes", type=int, default=None, help="how many crates are proved side by side")
-    parser.add_argument("--over", type=Path, default=None, help="prove this crate alone, over the proved libraries in this directory")
+    parser.add_argument("--over", type=Path, default=None, help="prove only this crate, over the proved libraries in this directory")
     arguments = parser.parse_args()
     require_kit()
     if arguments.crate not in crates_of_repository():

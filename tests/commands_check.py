@@ -206,7 +206,7 @@ class Commands(unittest.TestCase):
         self.assertIn("mpslp_types is not proved", made.stderr)
         self.assertNotIn("build mpslp_model_core", self.calls())
 
-    def test_a_crate_is_proved_alone_over_libraries_in_another_directory(self) -> None:
+    def test_only_the_crate_is_proved_over_libraries_in_another_directory(self) -> None:
         self.assertEqual(self.make().returncode, 0)
         (self.copy / "build" / "proofs").rename(self.copy / "build" / "others")
         before = len(self.calls())
