@@ -1,10 +1,10 @@
 #!/usr/bin/env python3
 """The merge gate, quietly: scripts/gate.py
 
-First `rt ci` proves every crate and its tests, and runs the tests and programs, on a copy of the crates in build/ci/. Then, side
-by side, scripts/mutants.py checks that the prover rejects each mutant, and the scripts of TESTS test what was built. The copy has
-no mutants, since `rt ci` would check a whole crate for each. One line is printed for each crate, its mutants and each script; all
-of their output goes to build/log/.
+`rt ci` proves every crate and its tests, and runs the tests and programs, on a copy of the crates in build/ci/. The copy has no
+mutants, since `rt ci` would check a whole crate for each: scripts/mutants.py checks that the prover rejects them, those of a
+crate as soon as the crates below it are proved, on processors that `rt ci` leaves idle. At last the scripts of TESTS test what
+was built. One line is printed for each crate, its mutants and each script; all of their output goes to build/log/.
 """
 
 import os
@@ -13,11 +13,12 @@ import shutil
 import subprocess
 import sys
 import time
-from concurrent.futures import Future, ThreadPoolExecutor, as_completed
+from concurrent.futures import FIRST_COMPLETED, Future, ThreadPoolExecutor, wait
 from dataclasses import dataclass
+from enum import Enum, auto
 from pathlib import Path
 
-from crates import below, crates_of_repository, mark, sums_of
+from crates import Crate, below, crates_of_repository, library_folder, mark, sums_of
 from kit import ROOT, require_kit
 from mutants import Outcome, crates_with_mutants, test_crate
 from prove import LOGS
@@ -27,8 +28,11 @@ COPY = ROOT / "build" / "ci"
 # What a crate has that `rt ci` does not read here.
 LEFT_OUT = shutil.ignore_patterns("must-fail", "out")
 
-# Each check takes up to 4 GB of memory, so there are at most so many side by side.
-MOST_CHECKS = 4
+# Each check takes up to 4 GB of memory, so there are at most so many side by side, and fewer while `rt ci` runs.
+MOST_CHECKS, MOST_BESIDE_CI = 4, 2
+MEMORY_OF_A_CHECK = 4_000_000_000
+# How often the gate looks for what `rt ci` has built.
+SECONDS_BETWEEN_LOOKS = 5
 
 
 @dataclass(frozen=True)
@@ -67,6 +71,10 @@ CLOSING = re.compile(r"(\d+) passed, (\d+) failed$")
 SKIPPED = "skipped: "
 
 
+# What a script or the mutants of a crate came to.
+Result = tuple[int, float, Path] | Outcome
+
+
 class Report:
     """What is printed, with the minutes since the beginning."""
 
@@ -83,6 +91,10 @@ class Report:
 
 def processors() -> int:
     return min(MOST_CHECKS, len(os.sched_getaffinity(0)))
+
+
+def free_memory() -> int:
+    return int(re.search(r"MemAvailable:\s+(\d+)", Path("/proc/meminfo").read_text())[1]) * 1024
 
 
 def copy_crates() -> None:
@@ -105,7 +117,6 @@ def take_programs() -> None:
 
 def prove_all(report: Report) -> tuple[bool, str]:
     """Runs `rt ci`, and returns whether it passed, and its closing line."""
-    copy_crates()
     log, closing = LOGS / "rt-ci.log", ""
     # Without RT_JOBS `rt ci` proves as many crates side by side as there are processors and memory for, and gives idle processors
     # to a crate for which others wait.
@@ -159,6 +170,9 @@ class Tally:
     failed: int = 0
     skipped: tuple[str, ...] = ()
 
+    def __add__(self, other: "Tally") -> "Tally":
+        return Tally(self.passed + other.passed, self.failed + other.failed, self.skipped + other.skipped)
+
 
 def report_test(report: Report, test: Test, status: int, seconds: float, log: Path) -> Tally:
     lines = log.read_text(errors="replace").splitlines()
@@ -179,25 +193,83 @@ def report_mutants(report: Report, outcome: Outcome) -> Tally:
     return Tally(outcome.rejected, len(outcome.problems))
 
 
-def test_all(report: Report) -> Tally:
-    """Tests the mutants and runs the scripts, side by side."""
-    crates = crates_of_repository()
-    begun: dict[Future[Outcome] | Future[tuple[int, float, Path]], Test | None] = {}
-    tallies = []
-    with ThreadPoolExecutor(processors()) as pool:
-        # The first test takes longest, and then the mutants of the largest crates.
-        begun |= {pool.submit(run_test, TESTS[0]): TESTS[0]}
-        begun |= {pool.submit(test_crate, crate, crates, COPY / "crates"): None for crate in crates_with_mutants(crates)}
-        begun |= {pool.submit(run_test, test): test for test in TESTS[1:]}
-        for ended in as_completed(begun):
-            test, result = begun[ended], ended.result()
-            if isinstance(result, Outcome):
-                tallies.append(report_mutants(report, result))
-            elif test:
-                tallies.append(report_test(report, test, *result))
-    return Tally(
-        sum(it.passed for it in tallies), sum(it.failed for it in tallies), tuple(what for it in tallies for what in it.skipped)
-    )
+class Ci(Enum):
+    """What is known of `rt ci`."""
+
+    RUNNING = auto()
+    PASSED = auto()
+    FAILED = auto()
+
+
+@dataclass(frozen=True)
+class Job:
+    """The mutants of a crate, or a script."""
+
+    of: Crate | Test
+    # The crates that have to be proved before.
+    needs: tuple[Crate, ...]
+
+    def is_ready(self, ci: Ci) -> bool:
+        """Whether `rt ci` has built what the job needs. Scripts need all of it."""
+        if isinstance(self.of, Test):
+            return ci == Ci.PASSED
+        # `rt ci` writes the stamp of a library last.
+        return all((library_folder(COPY / "crates", it.name) / "stamp").exists() for it in self.needs)
+
+    def run(self, crates: dict[str, Crate]) -> Result:
+        return run_test(self.of) if isinstance(self.of, Test) else test_crate(self.of, crates, COPY / "crates")
+
+    def report(self, report: Report, result: Result) -> Tally:
+        return report_mutants(report, result) if isinstance(result, Outcome) else report_test(report, self.of, *result)
+
+
+def all_jobs(crates: dict[str, Crate]) -> list[Job]:
+    """All jobs, in the order in which they begin: the script that takes longest, the mutants of the largest crates, .."""
+    scripts = [Job(test, ()) for test in TESTS]
+    mutants = [Job(it, tuple(below(crates, *it.uses))) for it in crates_with_mutants(crates)]
+    return [scripts[0], *mutants, *scripts[1:]]
+
+
+class Gate:
+    """`rt ci`, and beside it and after it the jobs."""
+
+    def __init__(self, report: Report) -> None:
+        self.report, self.crates = report, crates_of_repository()
+        self.ci, self.waiting, self.tally = Ci.RUNNING, all_jobs(self.crates), Tally()
+
+    def run(self) -> Tally:
+        """Runs everything, and returns what passed and failed."""
+        copy_crates()
+        with ThreadPoolExecutor(1 + processors()) as pool:
+            running: dict[Future, Job | None] = {pool.submit(prove_all, self.report): None}
+            while running:
+                self.begin(running, pool)
+                for it in wait(running, timeout=SECONDS_BETWEEN_LOOKS, return_when=FIRST_COMPLETED).done:
+                    if job := running.pop(it):
+                        self.tally += job.report(self.report, it.result())
+                    else:
+                        self.end_ci(*it.result())
+        return self.tally
+
+    def begin(self, running: dict[Future, Job | None], pool: ThreadPoolExecutor) -> None:
+        """Starts the jobs that can run now."""
+        room = self.room() - sum(job is not None for job in running.values())
+        for job in [it for it in self.waiting if it.is_ready(self.ci)][: max(0, room)]:
+            self.waiting.remove(job)
+            running[pool.submit(job.run, self.crates)] = job
+
+    def room(self) -> int:
+        """How many jobs may run side by side now."""
+        if self.ci == Ci.RUNNING:
+            return min(MOST_BESIDE_CI, processors() // 2) if free_memory() > MEMORY_OF_A_CHECK else 0
+        return processors() if self.ci == Ci.PASSED else 0
+
+    def end_ci(self, passed: bool, closing: str) -> None:
+        print(closing, flush=True)
+        self.ci = Ci.PASSED if passed else Ci.FAILED
+        self.tally += Tally(*map(int, CLOSING.match(closing).groups()))
+        if passed:
+            mark_program()
 
 
 def mark_program() -> None:
@@ -211,19 +283,12 @@ def main() -> int:
     LOGS.mkdir(parents=True, exist_ok=True)
     report = Report()
     report.say(f"rt ci proves on {processors()} processors; the prover's output is in {LOGS.relative_to(ROOT)}/")
-    passed, closing = prove_all(report)
-    print(closing, flush=True)
-    proved, unproved = map(int, CLOSING.match(closing).groups())
-    tally = Tally()
-    if passed:
-        mark_program()
-        tally = test_all(report)
-        for what in tally.skipped:
-            report.say(f"skipped: {what}")
-    passed = passed and not tally.failed
-    report.say(f"the gate {'passed' if passed else 'FAILED'} in {report.minutes:.0f} minutes: crates, mutants and scripts together:")
-    print(f"{proved + tally.passed} passed, {unproved + tally.failed} failed", flush=True)
-    return 0 if passed else 1
+    tally = Gate(report).run()
+    for what in tally.skipped:
+        report.say(f"skipped: {what}")
+    report.say(f"the gate {'FAILED' if tally.failed else 'passed'} in {report.minutes:.0f} minutes: crates, mutants and scripts together:")
+    print(f"{tally.passed} passed, {tally.failed} failed", flush=True)
+    return 1 if tally.failed else 0
 
 
 if __name__ == "__main__":

@@ -153,7 +153,8 @@ class Prover:
 
     def __init__(self, crate: Crate, crates: dict[str, Crate], libraries: Path, kept: Path, log: Path):
         self.crate, self.log, self.checks = crate, log, 0
-        words = [f"{kit_folder()}/bin/rattle", "check", *words_of(crate, crates, libraries)]
+        # Checks of mutants give way to proofs and scripts, which the gate runs beside them.
+        words = ["nice", "-n", "10", f"{kit_folder()}/bin/rattle", "check", *words_of(crate, crates, libraries)]
         self.words = [*words, "--jobs", "1", "--incremental", str(kept)]
 
     def check(self, mutants: list[Mutant], what: str) -> tuple[int, list[str]]:

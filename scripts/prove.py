@@ -1,8 +1,8 @@
 #!/usr/bin/env python3
 """Proves a crate and all crates below it, in parallel and quietly: scripts/prove.py CRATE
 
-Crates that do not depend on one another are proved side by side. The crate for which the longest chain of crates waits comes first,
-and the others give way to it. One line is printed for each crate; the prover's own output goes to build/log/. A second call
+Crates that do not depend on one another are proved side by side. Those for which the longest chains of crates wait come first, and
+the others give way to them. One line is printed for each crate; the prover's own output goes to build/log/. A second call
 proves what has changed since, and a call after an interrupted one goes on where that was.
 
 Each crate is proved by one call of the kit's `rattle` over the proved libraries in build/proofs/. Such a library has the statements
@@ -32,6 +32,8 @@ LOGS = ROOT / "build" / "log"
 MEMORY_OF_A_LANE = 4_000_000_000
 # More processes seldom help one check.
 MOST_JOBS = 4
+# A crate is urgent if the chain of crates that wait for it is nearly as long as the longest one.
+NEARLY = 0.7
 TARGET = "x86_64-unknown-linux-gnu"
 # What the prover starts ends with it. In a session of its own, `nice` would mean nothing to processes of other sessions.
 OWN_GROUP = {"process_group": 0} if sys.version_info >= (3, 11) else {"start_new_session": True}
@@ -136,7 +138,7 @@ class Prover:
         words = ["build", *words_of(crate, self.crates, self.libraries)]
         words += ["--statements"] if crate.is_library else [*toolchain, "--backend", "llvm"]
         words += ["-o", str(object_of(crate) if crate.is_program else built(crate))]
-        # The others leave the processors to the crate for which the longest chain of crates waits.
+        # The others leave the processors to the crates for which the longest chains of crates wait.
         polite = [] if is_urgent else ["nice", "-n", "10"]
         rattle = [*polite, f"{kit_folder()}/bin/rattle", *words, "--jobs"]
         status = self.runner.run([*rattle, str(jobs)], crate.folder, log)
@@ -222,12 +224,12 @@ class Proof:
             if name not in self.done and name not in at_work and all(use in self.done for use in self.crates[name].uses)
         ]
         ready.sort(key=self.estimate.chain_from, reverse=True)
-        chains = [self.estimate.chain_from(it) for it in at_work]
+        longest = max((self.estimate.chain_from(it) for it in {*ready, *at_work}), default=0.0)
         free = self.lanes - len(running)
         for place, name in enumerate(ready[:free]):
-            is_urgent = place == 0 and all(self.estimate.chain_from(name) >= it for it in chains)
+            is_urgent = self.estimate.chain_from(name) >= NEARLY * longest
             idle = self.processors - sum(jobs for _, _, jobs in running.values())
-            # The urgent crate may use all processors, since the others give way. Each of these gets one, and the first all idle ones.
+            # An urgent crate may use all processors, since the others give way. Each of these gets one, and the first all idle ones.
             jobs = self.processors if is_urgent else max(1, idle - (min(len(ready), free) - place - 1))
             jobs = min(MOST_JOBS, jobs)
             build = pool.submit(self.prover.build, self.crates[name], jobs, is_urgent)
