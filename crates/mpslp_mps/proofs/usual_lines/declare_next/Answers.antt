@@ -5,8 +5,8 @@ use Rattle.mpslp_builder.specs.ColumnLine.{column_line, TakesLine}
 use Rattle.mpslp_mps.proofs.UsualLines.{usual-taken}
 use Rattle.mpslp_mps.proofs.usual_lines.declare_next.Goals as goal
 
-pub returns : goal.returns
-returns c =
+pub returns-clause-taken : goal.returns-clause-taken
+returns-clause-taken c =
     let earlier = c.args.builder.now in
     let column = c.args.column.now in
     let later = c.next_line.new.self in
