@@ -1,6 +1,6 @@
 -- If no declaration of a line of a column is rejected, the tables have room for all of it.
-use Rattle.std.proofs.Common.{◌≡◌, refl, sym, ap, subst, ◌∙◌, ℕ, List, [], ◌∷◌, ◌++◌, Bool, true, false, not}
-use Rattle.std.specs.Prelude.{◌≢◌, ◌&&◌, ◌||◌, Option, Some, None, is_some}
+use Rattle.std.proofs.Common.{◌≡◌, refl, sym, ap, subst, ◌∙◌, ℕ, List, [], ◌∷◌, Bool, true, false, not}
+use Rattle.std.specs.Prelude.{◌≢◌, ◌&&◌, Option, Some, None}
 use Rattle.std.specs.List.{flat_map}
 use Rattle.std.specs.Option.{ForSome}
 use Rattle.std.specs.Ordering.{nat_cmp}
@@ -12,7 +12,7 @@ use Rattle.mpslp_types.specs.declared.kinds.Sense.{Sense}
 use Rattle.mpslp_types.specs.declared.faults.BuildFault.TheVariants.{UnknownRow, UnknownColumn, DuplicateEntry, SemiContinuous}
 use Rattle.mpslp_types.proofs.BoolLemmas.{nor}
 use Rattle.mpslp_model_core.proofs.CellLemmas.{at}
-use Rattle.mpslp_builder.specs.Declaration.{Draft, Declarations, with_declaration, declare_column, declare_marked, declare_coefficient, has_row, has_column, has_coefficient, is_semi}
+use Rattle.mpslp_builder.specs.Declaration.{Draft, with_declaration, declare_column, declare_marked, declare_coefficient, has_row, has_column, has_coefficient, is_semi}
 use Rattle.mpslp_builder.specs.Refusal.{refusals, refusals_in_turn}
 use Rattle.mpslp_builder.specs.Tables.{draft, IsNumbered}
 use Rattle.mpslp_builder.specs.Calls.{row_name, column_name, column_tells, cells_at, IsOnceEach}
@@ -61,9 +61,12 @@ entries_free all column first (Some other) free =
     let own = entry_free all first.row.now column first.value (left_none (refusals all one) (refusals_in_turn next (two ∷ [])) free) in
     let later = entry_free next other.row.now column other.value (left_none (refusals next two) [] (right_none (refusals all one) (refusals_in_turn next (two ∷ [])) free)) in
     let parts = nor (same_bytes other.row.now first.row.now && same_bytes column column) (has_coefficient all (at other.row.now column))
-    (sym (has-put_key (at other.row.now column) (at first.row.now column) first.value all.coefficients) ∙ later.1) in
-    (own.0, own.1, λ entry is. subst (λ (e : Entry). (has_row all e.row.now ≡ true) × (has_coefficient all (at e.row.now column) ≡ false) × (e.row.now ≢ first.row.now)) (unwrapped is)
-    (later.0, parts.1, apart other.row.now first.row.now parts.0))
+    (sym (has-put_key (at other.row.now column) (at first.row.now column) first.value all.coefficients) ∙ later.1) in (
+      own.0,
+      own.1,
+      λ entry is. subst (λ (e : Entry). (has_row all e.row.now ≡ true) × (has_coefficient all (at e.row.now column) ≡ false) × (e.row.now ≢ first.row.now)) (unwrapped is)
+          (later.0, parts.1, apart other.row.now first.row.now parts.0),
+    )
   where
     unwrapped : {x y : Entry} → ◌≡◌ {A = Option Entry} (Some x) (Some y) → x ≡ y
     unwrapped h = cc

@@ -1,4 +1,4 @@
-use Rattle.std.proofs.Common.{◌≡◌, sym, ap, ◌∙◌, Bool, true}
+use Rattle.std.proofs.Common.{sym, ap, ◌∙◌, Bool}
 use Rattle.std.specs.Prelude.{◌&&◌}
 use Rattle.mpslp_builder.specs.Calls.{column_tells}
 use Rattle.mpslp_builder.proofs.LineRefusals.{rows_known, mark_allowed, places_free}
