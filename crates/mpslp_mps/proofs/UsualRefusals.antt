@@ -1,15 +1,14 @@
 -- A line of COLUMNS without an error passes each test of the code that reads usual lines.
-use Rattle.std.proofs.Common.{◌≡◌, refl, sym, ap, subst, ◌∙◌, ℕ, List, [], ◌∷◌, ◌++◌, Bool, true, false, cond, not}
+use Rattle.std.proofs.Common.{◌≡◌, refl, sym, ap, ◌∙◌, ℕ, List, [], ◌∷◌, ◌++◌, Bool, true, false, cond, not}
 use Rattle.std.specs.Prelude.{◌≢◌, ◌&&◌, Option, Some, None, Result, Ok}
 use Rattle.std.specs.List.{list_all}
-use Rattle.std.specs.Option.{option_map, option_map_or, option_or, ForSome}
+use Rattle.std.specs.Option.{option_map, option_map_or, option_or}
 use Rattle.mpslp_decimal.specs.Decimal.{Number}
 use Rattle.mpslp_types.specs.Name.{same_bytes, has_name_length, is_visible, marker, name_refusal}
 use Rattle.mpslp_types.specs.declared.names.NameFault.TheVariants as names
-use Rattle.mpslp_types.specs.declared.faults.FaultKind.{FaultKind}
 use Rattle.mpslp_types.specs.declared.faults.FaultKind.TheVariants as kinds
 use Rattle.mpslp_model_core.specs.Lists.{those_of}
-use Rattle.mpslp_builder.specs.Declaration.{Declarations, Draft, has_column}
+use Rattle.mpslp_builder.specs.Declaration.{Draft, has_column}
 use Rattle.mpslp_builder.specs.Refusal.{refusals_in_turn}
 use Rattle.mpslp_lines.specs.FaultTests.{FaultTests, judged_by, first_held}
 use Rattle.mpslp_lines.specs.Field.{number_tests}
@@ -17,7 +16,6 @@ use Rattle.mpslp_lines.proofs.HeldLemmas.{held-append}
 use Rattle.mpslp_lines.proofs.FirstFaultLemmas.{IsFaultless, faultless}
 use Rattle.mpslp_mps_fields.specs.Line.{Fields, data_line}
 use Rattle.mpslp_mps_fields.specs.DataLine.{ValuesLine, column_shape, is_marker_line}
-use Rattle.mpslp_mps_fields.specs.declared.sections.Section.{Section}
 use Rattle.mpslp_mps_fields.specs.declared.sections.Section.TheVariants.{Columns}
 use Rattle.mpslp_mps.specs.Context.{Context}
 use Rattle.mpslp_mps.specs.DataFault.{is_split, column_tests, data_tests}
@@ -114,7 +112,7 @@ module _ (context : Context) (earlier : Draft) (fields : Fields) (here : context
       where
         by : (there last : Bool) → last ≡ false → (there && not last) ≡ false → there ≡ false
         by true false e h = h
-        by true true e h = sym e
+        by true true e h = e
         by false last e h = refl
 
 -- ---- the builder's result
@@ -124,9 +122,9 @@ pub usual-refused : (earlier : Draft) (marked : Bool) (column : List ℕ) (given
     → refusals_in_turn earlier (usual_declared marked column given) ≢ [] → refusals_in_turn earlier (usual_declared marked column values) ≢ []
 usual-refused earlier marked column given values same refused none = refused (ap (λ (pairs : List (List ℕ × Number)). refusals_in_turn earlier (usual_declared marked column pairs)) same ∙ none)
 
+ok-same : {A E : Type 0} {x y : A} → ◌≡◌ {A = Result A E} (Ok x) (Ok y) → x ≡ y
+ok-same h = cc
+
 -- a result is the same with another type of errors
 pub other-errors : {A E F : Type 0} (x y : A) → ◌≡◌ {A = Result A E} (Ok x) (Ok y) → ◌≡◌ {A = Result A F} (Ok x) (Ok y)
-other-errors x y h = ap Ok (by h)
-  where
-    by : ◌≡◌ {A = Result A E} (Ok x) (Ok y) → x ≡ y
-    by h = cc
+other-errors x y h = ap Ok (ok-same h)
