@@ -30,6 +30,7 @@ pub mod RowDrafts
 pub mod TestLemmas
 pub mod CallLemmas
 pub mod LineLemmas
+pub mod LineRefusals
 pub mod OrderedParts
 pub mod TableParts
 pub mod ModelOfTables

@@ -1,15 +1,16 @@
 -- What is known of tables while a line of a column is declared, by number.
-use Rattle.std.specs.Prelude.{◌≡◌, ◌≢◌, ℕ, Bool, false, ◌&&◌, List, [], ◌∷◌, Option, Some, None}
+use Rattle.std.specs.Prelude.{◌≡◌, ◌≢◌, ℕ, Bool, true, false, ◌&&◌, List, [], ◌∷◌, Option, Some, None}
 use Rattle.std.specs.Option.{ForSome}
 use Rattle.std.specs.Ordering.{nat_cmp}
 use Rattle.std.specs.FinMap.{find}
 use Rattle.mpslp_decimal.specs.Decimal.{Number}
 use Rattle.mpslp_types.specs.declared.kinds.Sense.{Sense}
-use Rattle.mpslp_builder.specs.Declaration.{declare_column, Declarations, with_declarations}
+use Rattle.mpslp_builder.specs.Declaration.{declare_column, Declarations, with_declarations, has_row, has_column}
 use Rattle.mpslp_builder.specs.Refusal.{refusals_in_turn}
 use Rattle.mpslp_builder.specs.Made.{IsMade}
 use Rattle.mpslp_builder.specs.Tables.{draft, IsNumbered}
 use Rattle.mpslp_builder.specs.Calls.{row_name, column_name, column_tells, cells_at}
+use Rattle.mpslp_builder.specs.ColumnLine.{listed, column_line}
 use Rattle.mpslp_builder.specs.declared.lines.Entries.{Entries}
 use Rattle.mpslp_builder.specs.declared.lines.RowNumbers.{RowNumbers}
 use Rattle.mpslp_builder.specs.declared.lines.LinePlace.{LinePlace}
@@ -21,6 +22,12 @@ pub record AreRows (t : Tables) (entries : Entries) (rows : RowNumbers) : Type 0
   pub second : ForSome entries.second (λ entry. row_name t rows.second ≡ Some entry.row.now)
   pub apart : ForSome entries.second (λ entry. rows.second ≢ rows.first)
 
+-- these rows are declared, and they differ
+pub record AreKnownRows (t : Tables) (entries : Entries) : Type 0 where
+  pub first : has_row (draft None None t) entries.first.row.now ≡ true
+  pub second : ForSome entries.second (λ entry. has_row (draft None None t) entry.row.now ≡ true)
+  pub apart : ForSome entries.second (λ entry. entry.row.now ≢ entries.first.row.now)
+
 -- the column has no coefficient in these rows
 pub record AreFree (t : Tables) (column : ℕ) (rows : RowNumbers) : Type 0 where
   pub first : find nat_cmp rows.first (cells_at t column) ≡ None
@@ -31,6 +38,13 @@ pub record IsLinePlace (t : Tables) (name : List ℕ) (is_marked : Bool) (entrie
   pub apart : (is_marked && column_tells t place.column (λ parts. parts.semi)) ≡ false
   pub rows : AreRows t entries place.rows
   pub free : AreFree t place.column place.rows
+
+-- the column is declared, and none of the declarations of another line is rejected
+pub record IsFreeLine (t : Tables) (name : List ℕ) (is_marked : Bool) (entries : Entries) : Type 0 where
+  pub sense : Option Sense
+  pub constant : Option Number
+  pub there : has_column (draft sense constant t) name ≡ true
+  pub free : refusals_in_turn (draft sense constant t) (column_line is_marked name (listed entries)) ≡ []
 
 -- these declarations are made, and none of them is rejected
 pub record IsLaid (t : Tables) (declarations : Declarations) (u : Tables) : Type 0 where

@@ -1,17 +1,18 @@
 //! Lines of a column: one call declares the column, whether it is marked, and its coefficients, so that each name is looked up
 //! only once.
 
-ghost use Rattle.std.specs.Prelude.{◌≡◌, ◌≢◌, ◌&&◌, ◌++◌, ℕ, List, [], ◌∷◌, IsTrue, IfOk, IfSome, OnOk, Ok, None, Some, false, true, is_some};
+ghost use Rattle.std.specs.Prelude.{◌≡◌, ◌≢◌, ◌&&◌, ◌++◌, ℕ, List, [], ◌∷◌, IfOk, IfSome, OnOk, Ok, None, Some, false, true, is_some};
 ghost use Rattle.std.specs.List.{flat_map};
 ghost use Rattle.std.specs.Ordering.{nat_cmp};
 ghost use Rattle.std.specs.FinMap.{find};
 ghost use Rattle.mpslp_types.specs.Name.{is_mps_name};
 ghost use Rattle.mpslp_model_core.specs.Lists.{when};
-ghost use Rattle.mpslp_builder.specs.Declaration.{has_name, has_column, declare_column, declare_marked};
+ghost use Rattle.mpslp_builder.specs.Declaration.{has_name, has_row, has_column, declare_column, declare_marked};
+ghost use Rattle.mpslp_builder.specs.Refusal.{refusals_in_turn};
 ghost use Rattle.mpslp_builder.specs.ColumnLine.{listed, entry_declared, column_line, TakesLine};
 ghost use Rattle.mpslp_builder.specs.Tables.{draft, IsNumbered};
 ghost use Rattle.mpslp_builder.specs.Calls.{row_name, column_name, column_tells, cells_at};
-ghost use Rattle.mpslp_builder.specs.LineTables.{AreRows, AreFree, IsLinePlace, IsLaid, Follows, HasStarted};
+ghost use Rattle.mpslp_builder.specs.LineTables.{AreRows, AreKnownRows, AreFree, IsLinePlace, IsFreeLine, IsLaid, Follows, HasStarted};
 
 use crate::builder::Builder;
 use crate::tables::Tables;
@@ -56,7 +57,8 @@ impl Tables {
     /// The number of the row of this name, or of the objective.
     fn row_number(&self, row: &[u8]) -> Option<u32>
         requires { IsNumbered self.now }
-        ensures { IfSome result (λ number. row_name self.now number ≡ Some row.now) }
+        ensures number { IfSome result (λ number. row_name self.now number ≡ Some row.now) }
+        ensures found { is_some result ≡ has_row (draft None None self.now) row.now }
     {
         match self.row_ref(row) {
             Some(place) => Some(place.number()),
@@ -67,7 +69,9 @@ impl Tables {
     /// The numbers of the rows of these coefficients, if all are declared and no two are the same.
     fn row_numbers(&self, entries: &Entries<'_>) -> Option<RowNumbers>
         requires { IsNumbered self.now }
-        ensures { IfSome result (λ rows. AreRows self.now entries.now rows) }
+        ensures rows { IfSome result (λ rows. AreRows self.now entries.now rows) }
+        ensures single { IfSome result (λ rows. entries.now.second ≡ None → rows.second ≡ rows.first) }
+        ensures found { AreKnownRows self.now entries.now → is_some result ≡ true }
     {
         let Some(first) = self.row_number(entries.first.row) else {
             return None;
@@ -89,7 +93,8 @@ impl Tables {
 
     /// Whether the column of a number has no coefficient in these rows.
     fn are_free(&self, column: usize, rows: RowNumbers) -> bool
-        ensures { result ≡ true → AreFree self.now column rows }
+        ensures free { result ≡ true → AreFree self.now column rows }
+        ensures found { AreFree self.now column rows → result ≡ true }
     {
         if self.has_cell(column, rows.first) {
             return false;
@@ -100,8 +105,10 @@ impl Tables {
     /// Where these coefficients of a declared column belong, if nothing is against their declarations.
     fn next_place(&self, column: &[u8], is_marked: bool, entries: &Entries<'_>) -> Option<LinePlace>
         requires { IsNumbered self.now }
-        ensures { IfSome result (λ place. IsLinePlace self.now column.now is_marked entries.now place) }
+        ensures place { IfSome result (λ place. IsLinePlace self.now column.now is_marked entries.now place) }
+        ensures found { IsFreeLine self.now column.now is_marked entries.now → is_some result ≡ true }
     {
+        self.each_name_stands_once();
         let Some(column) = self.column_number(column) else {
             return None;
         };
@@ -208,8 +215,8 @@ impl Builder {
     /// of an MPS file. It does what [`marked`](Self::marked) and [`coefficient`](Self::coefficient) do, and looks each name up
     /// only once.
     ///
-    /// Returns `false`, and changes nothing, if the column is not declared or one of these calls would be rejected. Those calls
-    /// return the error.
+    /// Returns `false`, and changes nothing, if the column is not declared or one of these calls, made in turn, would be
+    /// rejected, and for no other reason. Those calls return the error.
     ///
     /// # Errors
     ///
@@ -223,6 +230,7 @@ impl Builder {
     ) -> Result<bool, BuildFault>
         ensures taken { TakesLine self.old (column_line is_marked column.now (listed entries.now)) result self.new }
         ensures there { result ≡ Ok true → has_column self.old column.now ≡ true }
+        ensures refused { result ≡ Ok false → has_column self.old column.now ≡ true → refusals_in_turn self.old (column_line is_marked column.now (listed entries.now)) ≢ [] }
     {
         let Some(place) = self.tables.next_place(column, is_marked, entries) else {
             return Ok(false);
@@ -236,8 +244,8 @@ impl Builder {
     /// does what [`column`](Self::column), [`marked`](Self::marked) and [`coefficient`](Self::coefficient) do, and looks each
     /// row up only once.
     ///
-    /// Returns `false`, and changes nothing, if the column is declared already or one of these calls would be rejected. Those
-    /// calls return the error. The name is then dropped.
+    /// Returns `false`, and changes nothing, if the column is declared already or one of these calls, made in turn, would be
+    /// rejected, and for no other reason. Those calls return the error. The name is then dropped.
     ///
     /// # Errors
     ///
@@ -251,6 +259,7 @@ impl Builder {
     ) -> Result<bool, BuildFault>
         ensures taken { TakesLine self.old (column_line is_marked name (listed entries.now)) result self.new }
         ensures absent { result ≡ Ok true → has_column self.old name ≡ false }
+        ensures refused { result ≡ Ok false → has_column self.old name ≡ false → refusals_in_turn self.old (column_line is_marked name (listed entries.now)) ≢ [] }
     {
         let Some(rows) = self.tables.row_numbers(entries) else {
             return Ok(false);

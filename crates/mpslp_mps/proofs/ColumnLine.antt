@@ -48,7 +48,7 @@ field_tests line = name_tests line.name ++ number_tests (literals_of line.pairs)
 abbrev split_test : Context → Draft → List ℕ → FaultTests
 split_test context earlier column = (is_split context earlier column, kinds.ColumnSplit) ∷ []
 
-plain-tests : (context : Context) (earlier : Draft) (fields : Fields) → is_marker_line fields ≡ false
+pub plain-tests : (context : Context) (earlier : Draft) (fields : Fields) → is_marker_line fields ≡ false
     → data_tests context earlier fields (Some Columns) ≡ judged_by (column_tests context earlier) (column_shape fields)
 plain-tests context earlier fields h = ap (λ (b : Bool). cond b (marker_tests context fields) (judged_by (column_tests context earlier) (column_shape fields))) h
 

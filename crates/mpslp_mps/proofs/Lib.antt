@@ -20,6 +20,7 @@ pub mod RowTaking
 pub mod ColumnTaking
 pub mod ColumnLine
 pub mod UsualLines
+pub mod UsualRefusals
 pub mod HeaderTaking
 pub mod RhsLemmas
 pub mod TakenLemmas

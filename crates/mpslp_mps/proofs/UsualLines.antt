@@ -139,7 +139,7 @@ not-split : (there last : Bool) → last ≡ true → (there && not last) ≡ fa
 not-split true last h = ap not h
 not-split false last h = refl
 
-last-is : (o : Option (List ℕ)) (column : List ℕ) → option_map_or (same_bytes column) o false ≡ true → o ≡ Some column
+pub last-is : (o : Option (List ℕ)) (column : List ℕ) → option_map_or (same_bytes column) o false ≡ true → o ≡ Some column
 last-is None column h = cc
 last-is (Some name) column h = ap Some (sym ((bytes_decides column name).0 h))
 

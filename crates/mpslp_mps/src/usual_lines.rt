@@ -1,16 +1,17 @@
 //! Lines of COLUMNS without an error. Each name of such a line is looked up once.
 
-ghost use Rattle.std.specs.Prelude.{◌≡◌, map, IfSome, Ok, Some, None, true, false};
-ghost use Rattle.std.specs.Option.{option_map, option_map_or};
-ghost use Rattle.mpslp_types.specs.Name.{same_bytes};
+ghost use Rattle.std.specs.Prelude.{◌≡◌, ◌≢◌, [], map, IfSome, Ok, Some, None, true, false, is_some};
+ghost use Rattle.std.specs.Option.{option_map, option_map_or, ForSome};
+ghost use Rattle.mpslp_types.specs.Name.{same_bytes, name_refusal};
 ghost use Rattle.mpslp_builder.specs.ColumnLine.{pair_of, listed};
 ghost use Rattle.mpslp_builder.specs.Declaration.{has_column};
+ghost use Rattle.mpslp_builder.specs.Refusal.{refusals_in_turn};
 ghost use Rattle.mpslp_lines.specs.FaultTests.{judged_by, first_held};
 ghost use Rattle.mpslp_lines.specs.Field.{number_tests};
 ghost use Rattle.mpslp_mps.specs.FieldFault.{literals_of};
-ghost use Rattle.mpslp_mps.specs.LineAnswer.{MayRead};
+ghost use Rattle.mpslp_mps.specs.LineAnswer.{item_fault, MayRead};
 ghost use Rattle.mpslp_mps.specs.LineValues.{named_values};
-ghost use Rattle.mpslp_mps.specs.UsualLine.{TakesUsual, MayPass};
+ghost use Rattle.mpslp_mps.specs.UsualLine.{usual_declared, TakesUsual, MayPass};
 ghost use Rattle.mpslp_mps_fields.specs.DataLine.{column_shape, is_marker_line};
 ghost use Rattle.mpslp_mps_fields.specs.Line.{data_line};
 ghost use Rattle.mpslp_mps_fields.specs.declared.sections.Section.{Section};
@@ -53,8 +54,9 @@ fn entries_of<'a>(values: &RowValues<'a>) -> Entries<'a>
 
 /// The column and the values of a line, if its fields and numbers have no error.
 fn usual_parts<'a>(fields: &[&'a [u8]]) -> Option<(&'a [u8], RowValues<'a>)>
-    ensures { let parts = column_shape (map (λ field. field.now) fields.now) in
+    ensures parts { let parts = column_shape (map (λ field. field.now) fields.now) in
         IfSome result (λ line. (first_held (judged_by (λ line. number_tests (literals_of line.pairs)) parts) ≡ None) × (option_map named_values parts ≡ Some (line.0.now, line.1))) }
+    ensures found { first_held (judged_by (λ line. number_tests (literals_of line.pairs)) (column_shape (map (λ field. field.now) fields.now))) ≡ None → is_some result ≡ true }
 {
     let Some(line) = column_shape(fields) else {
         return None;
@@ -76,7 +78,8 @@ fn declare_next(
     is_marked: bool,
     values: &RowValues<'_>,
 ) -> Result<bool, LineError>
-    ensures { TakesUsual builder.old is_marked column.now values.now result builder.new }
+    ensures taken { TakesUsual builder.old is_marked column.now values.now result builder.new }
+    ensures refused { result ≡ Ok false → has_column builder.old column.now ≡ true → refusals_in_turn builder.old (usual_declared is_marked column.now values.now) ≢ [] }
 {
     let Entries { first, second } = entries_of(values);
     let is_done = builder.next_line(column, is_marked, &Entries { first, second })?;
@@ -94,6 +97,7 @@ fn declare_first(
 ) -> Result<bool, LineError>
     ensures taken { TakesUsual builder.old is_marked column.now values.now result builder.new }
     ensures absent { result ≡ Ok true → has_column builder.old column.now ≡ false }
+    ensures refused { result ≡ Ok false → name_refusal column.now ≡ None → has_column builder.old column.now ≡ false → refusals_in_turn builder.old (usual_declared is_marked column.now values.now) ≢ [] }
 {
     let name = match Name::new(alloc, column) {
         Ok(name) => name,
@@ -114,7 +118,8 @@ fn pass_next(
     values: &RowValues<'_>,
 ) -> Result<bool, LineError>
     requires { option_map_or (same_bytes column.now) context.old.last_column false ≡ true }
-    ensures { MayPass context.old builder.old column.now values.now result context.new builder.new }
+    ensures passed { MayPass context.old builder.old column.now values.now result context.new builder.new }
+    ensures refused { result ≡ Ok false → has_column builder.old column.now ≡ true → refusals_in_turn builder.old (usual_declared context.old.in_integer_part column.now values.now) ≢ [] }
 {
     if declare_next(builder, column, context.in_integer_part(), values)? {
         context.pass_data();
@@ -131,7 +136,8 @@ fn pass_first(
     column: &[u8],
     values: &RowValues<'_>,
 ) -> Result<bool, LineError>
-    ensures { MayPass context.old builder.old column.now values.now result context.new builder.new }
+    ensures passed { MayPass context.old builder.old column.now values.now result context.new builder.new }
+    ensures refused { result ≡ Ok false → name_refusal column.now ≡ None → has_column builder.old column.now ≡ false → refusals_in_turn builder.old (usual_declared context.old.in_integer_part column.now values.now) ≢ [] }
 {
     let is_marked = context.in_integer_part();
     if declare_first(builder, alloc, column, is_marked, values)? {
@@ -150,7 +156,8 @@ pub(crate) fn read_usual(
 ) -> Result<bool, LineError>
     requires section { context.old.section ≡ Some Section.Columns }
     requires plain { is_marker_line (map (λ field. field.now) fields.now) ≡ false }
-    ensures { MayRead context.old builder.old (data_line (map (λ field. field.now) fields.now)) result context.new builder.new }
+    ensures read { MayRead context.old builder.old (data_line (map (λ field. field.now) fields.now)) result context.new builder.new }
+    ensures refused { result ≡ Ok false → ForSome context.old.last_column (λ name. has_column builder.old name ≡ true) → item_fault context.old builder.old (data_line (map (λ field. field.now) fields.now)) ≢ None }
 {
     let Some((column, values)) = usual_parts(fields) else {
         return Ok(false);

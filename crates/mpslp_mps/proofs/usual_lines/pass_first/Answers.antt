@@ -4,8 +4,8 @@ use Rattle.mpslp_mps.specs.UsualLine.{TakesUsual}
 use Rattle.mpslp_mps.proofs.UsualLines.{first-split}
 use Rattle.mpslp_mps.proofs.usual_lines.pass_first.Goals as goal
 
-pub returns-then-branch : goal.returns-then-branch
-returns-then-branch c =
+pub returns-then-branch-clause-passed : goal.returns-then-branch-clause-passed
+returns-then-branch-clause-passed c =
     let context = c.args.context.now in
     let earlier = c.args.builder.now in
     let column = c.args.column.now in

@@ -1,4 +1,4 @@
-use Rattle.std.proofs.Common.{◌≡◌, sym, ap, ◌∙◌, ◌++◌, [], ◌∷◌, List, ℕ}
+use Rattle.std.proofs.Common.{◌≡◌, sym, ap, ◌∙◌, ◌++◌, [], ◌∷◌, List, ℕ, true, false}
 use Rattle.std.specs.List.{flat_map}
 use Rattle.mpslp_model_core.specs.Lists.{when}
 use Rattle.mpslp_builder.specs.Declaration.{Draft, with_declarations, declare_column, declare_marked, has_column}
@@ -6,6 +6,7 @@ use Rattle.mpslp_builder.specs.Refusal.{refusals_in_turn}
 use Rattle.mpslp_builder.specs.Tables.{bytes, draft}
 use Rattle.mpslp_builder.specs.ColumnLine.{listed, entry_declared, column_line}
 use Rattle.mpslp_builder.proofs.LineLemmas.{laid_then}
+use Rattle.mpslp_builder.proofs.LineRefusals.{rows_known}
 use Rattle.mpslp_builder.proofs.builder.Builder.first_line.Goals as goal
 
 pub invariant_of-self : goal.invariant_of-self
@@ -41,3 +42,14 @@ returns-clause-taken c =
       laid.laid b.sense b.constant ∙ ap (λ (n : List ℕ). with_declarations inner (column_line marked n entries)) named
           ∙ ap (λ (d : Draft). with_declarations d (column_line marked c.args.name entries)) c.self.view_is,
     )
+
+pub returns-in_default-clause-refused : goal.returns-in_default-clause-refused
+returns-in_default-clause-refused c =
+    let b = c.self.inside in
+    let entries = c.args.entries.now in
+    let line = column_line c.args.is_marked c.args.name (listed entries) in
+    λ _ _ free.
+    not_found (c.in_default.ensures.found (rows_known b.sense b.constant b.tables c.args.is_marked c.args.name entries (ap (λ (d : Draft). refusals_in_turn d line) c.self.view_is ∙ free)))
+  where
+    not_found : false ≡ true → ⊥
+    not_found h = cc

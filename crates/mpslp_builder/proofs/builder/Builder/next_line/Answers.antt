@@ -21,7 +21,7 @@ pub returns-clause-there : goal.returns-clause-there
 returns-clause-there c =
     λ _.
     ap (λ (d : Draft). has_column d c.args.column.now) (sym c.self.view_is)
-    ∙ sym (number_there no_part c.self.inside.tables.columns.entries c.in-Some.place.column c.args.column.now c.in-Some.ensures.column)
+    ∙ sym (number_there no_part c.self.inside.tables.columns.entries c.in-Some.place.column c.args.column.now c.in-Some.ensures.place.column)
 
 pub returns-clause-taken : goal.returns-clause-taken
 returns-clause-taken c =
@@ -29,7 +29,7 @@ returns-clause-taken c =
     let all = c.args.self.now in
     let later = draft b.sense b.constant c.put_line.new.self in
     let column = c.args.column.now in
-    let place = c.in-Some.ensures in
+    let place = c.in-Some.ensures.place in
     let more = when c.args.is_marked (declare_marked column) ++ flat_map (entry_declared column) (listed c.args.entries.now) in
     let laid = c.in_ok-put_line.ensures.ok column place.column in
     let there : has_column all column ≡ true =

@@ -1,0 +1,130 @@
+-- A line of COLUMNS without an error passes each test of the code that reads usual lines.
+use Rattle.std.proofs.Common.{◌≡◌, refl, sym, ap, ◌∙◌, ℕ, List, [], ◌∷◌, ◌++◌, Bool, true, false, cond, not}
+use Rattle.std.specs.Prelude.{◌≢◌, ◌&&◌, Option, Some, None, Result, Ok}
+use Rattle.std.specs.List.{list_all}
+use Rattle.std.specs.Option.{option_map, option_map_or, option_or}
+use Rattle.mpslp_decimal.specs.Decimal.{Number}
+use Rattle.mpslp_types.specs.Name.{same_bytes, has_name_length, is_visible, marker, name_refusal}
+use Rattle.mpslp_types.specs.declared.names.NameFault.TheVariants as names
+use Rattle.mpslp_types.specs.declared.faults.FaultKind.TheVariants as kinds
+use Rattle.mpslp_model_core.specs.Lists.{those_of}
+use Rattle.mpslp_builder.specs.Declaration.{Draft, has_column}
+use Rattle.mpslp_builder.specs.Refusal.{refusals_in_turn}
+use Rattle.mpslp_lines.specs.FaultTests.{FaultTests, judged_by, first_held}
+use Rattle.mpslp_lines.specs.Field.{number_tests}
+use Rattle.mpslp_lines.proofs.HeldLemmas.{held-append}
+use Rattle.mpslp_lines.proofs.FirstFaultLemmas.{IsFaultless, faultless}
+use Rattle.mpslp_mps_fields.specs.Line.{Fields, data_line}
+use Rattle.mpslp_mps_fields.specs.DataLine.{ValuesLine, column_shape, is_marker_line}
+use Rattle.mpslp_mps_fields.specs.declared.sections.Section.TheVariants.{Columns}
+use Rattle.mpslp_mps.specs.Context.{Context}
+use Rattle.mpslp_mps.specs.DataFault.{is_split, column_tests, data_tests}
+use Rattle.mpslp_mps.specs.FieldFault.{literals_of}
+use Rattle.mpslp_mps.specs.LineDeclarations.{data_declared, line_declares}
+use Rattle.mpslp_mps.specs.LineValues.{named_values}
+use Rattle.mpslp_mps.specs.LineAnswer.{item_fault}
+use Rattle.mpslp_mps.specs.UsualLine.{usual_declared}
+use Rattle.mpslp_mps.proofs.ColumnLine.{plain-tests, column-declares}
+
+-- ---- tests
+
+by_test : {X : Type 0} (b : Bool) (x : X) (xs : List X) (o : Option X) → (xs ≡ [] → o ≡ None) → cond b (x ∷ xs) xs ≡ [] → cond b (Some x) o ≡ None
+by_test true x xs o rest h = cc
+by_test false x xs o rest h = rest h
+
+held-none : (tests : FaultTests) → those_of tests ≡ [] → first_held tests ≡ None
+held-none [] h = refl
+held-none (test ∷ more) h = by_test test.0 test.1 (those_of more) (first_held more) (held-none more) h
+
+none-both : {X : Type 0} (o p : Option X) → option_or o p ≡ None → (o ≡ None) × (p ≡ None)
+none-both None p h = (refl, h)
+none-both (Some x) p h = cc
+
+-- the name, the numbers and the place of a line without an error of its form
+fields-fine : (context : Context) (earlier : Draft) (line : ValuesLine) → first_held (column_tests context earlier line) ≡ None
+    → (name_refusal line.name ≡ None) × (first_held (number_tests (literals_of line.pairs)) ≡ None) × (is_split context earlier line.name ≡ false)
+fields-fine context earlier line h =
+    let name = by (has_name_length line.name) (list_all is_visible line.name) (same_bytes line.name marker) h in
+    let numbers = none-both (first_held (number_tests (literals_of line.pairs))) (first_held split) (sym (held-append (number_tests (literals_of line.pairs)) split) ∙ name.1) in
+    (name.0, numbers.0, last (is_split context earlier line.name) numbers.1)
+  where
+    split : FaultTests
+    split = (is_split context earlier line.name, kinds.ColumnSplit) ∷ []
+
+    more : FaultTests
+    more = number_tests (literals_of line.pairs) ++ split
+
+    by : (long visible named : Bool) → first_held ((not long, kinds.NameLength) ∷ (not visible, kinds.NameByte) ∷ (named, kinds.NameMarker) ∷ more) ≡ None
+        → (cond (not long) (Some names.NameLength) (cond (not visible) (Some names.NameByte) (cond named (Some names.NameMarker) None)) ≡ None) × (first_held more ≡ None)
+    by true true false h = (refl, h)
+    by true true true h = cc
+    by true false named h = cc
+    by false visible named h = cc
+
+    last : (b : Bool) → first_held ((b, kinds.ColumnSplit) ∷ []) ≡ None → b ≡ false
+    last true h = cc
+    last false h = refl
+
+numbers-fine : (context : Context) (earlier : Draft) (parts : Option ValuesLine) → first_held (judged_by (column_tests context earlier) parts) ≡ None
+    → first_held (judged_by (λ line. number_tests (literals_of line.pairs)) parts) ≡ None
+numbers-fine context earlier None h = cc
+numbers-fine context earlier (Some line) h = (fields-fine context earlier line h).1
+
+column-fine : (context : Context) (earlier : Draft) (parts : Option ValuesLine) (column : List ℕ) (values : List (List ℕ × Number)) → option_map named_values parts ≡ Some (column, values)
+    → first_held (judged_by (column_tests context earlier) parts) ≡ None → (name_refusal column ≡ None) × (is_split context earlier column ≡ false)
+column-fine context earlier None column values is h = cc
+column-fine context earlier (Some line) column values is h =
+    let same : line.name ≡ column = ap (λ (o : Option (List ℕ × List (List ℕ × Number))). elim o as (λ _. List ℕ) [ None ↦ [] | Some p ↦ p.0 ]) is in
+    let fine = fields-fine context earlier line h in
+    (ap name_refusal (sym same) ∙ fine.0, ap (is_split context earlier) (sym same) ∙ fine.2)
+
+-- ---- the line
+
+module _ (context : Context) (earlier : Draft) (fields : Fields) (here : context.section ≡ Some Columns) (plain : is_marker_line fields ≡ false) (fine : item_fault context earlier (data_line fields) ≡ None) where
+  parts : IsFaultless (data_tests context earlier fields context.section) earlier (line_declares context earlier (data_line fields))
+  parts = faultless (data_tests context earlier fields context.section) earlier (line_declares context earlier (data_line fields)) fine
+
+  form : first_held (judged_by (column_tests context earlier) (column_shape fields)) ≡ None
+  form =
+      held-none (judged_by (column_tests context earlier) (column_shape fields))
+      (ap those_of (sym (ap (data_tests context earlier fields) here ∙ plain-tests context earlier fields plain)) ∙ parts.form)
+
+  -- its values are read
+  pub usual-numbers : first_held (judged_by (λ line. number_tests (literals_of line.pairs)) (column_shape fields)) ≡ None
+  usual-numbers = numbers-fine context earlier (column_shape fields) form
+
+  module _ (column : List ℕ) (values : List (List ℕ × Number)) (is : option_map named_values (column_shape fields) ≡ Some (column, values)) where
+    -- its name is legal
+    pub usual-legal : name_refusal column ≡ None
+    usual-legal = (column-fine context earlier (column_shape fields) column values is form).0
+
+    -- none of its declarations is rejected
+    pub usual-unrefused : refusals_in_turn earlier (usual_declared context.in_integer_part column values) ≡ []
+    usual-unrefused =
+        ap (refusals_in_turn earlier) (sym (ap (data_declared context earlier fields) here ∙ column-declares context earlier fields column values plain is))
+        ∙ parts.unrefused
+
+    -- and its column is new if the last line is of another one
+    pub usual-new : option_map_or (same_bytes column) context.last_column false ≡ false → has_column earlier column ≡ false
+    usual-new other =
+        by (has_column earlier column) (option_map_or (same_bytes column) context.last_column false) other
+        (column-fine context earlier (column_shape fields) column values is form).1
+      where
+        by : (there last : Bool) → last ≡ false → (there && not last) ≡ false → there ≡ false
+        by true false e h = h
+        by true true e h = e
+        by false last e h = refl
+
+-- ---- the builder's result
+
+-- the same for the values as the reader has them
+pub usual-refused : (earlier : Draft) (marked : Bool) (column : List ℕ) (given values : List (List ℕ × Number)) → given ≡ values
+    → refusals_in_turn earlier (usual_declared marked column given) ≢ [] → refusals_in_turn earlier (usual_declared marked column values) ≢ []
+usual-refused earlier marked column given values same refused none = refused (ap (λ (pairs : List (List ℕ × Number)). refusals_in_turn earlier (usual_declared marked column pairs)) same ∙ none)
+
+ok-same : {A E : Type 0} {x y : A} → ◌≡◌ {A = Result A E} (Ok x) (Ok y) → x ≡ y
+ok-same h = cc
+
+-- a result is the same with another type of errors
+pub other-errors : {A E F : Type 0} (x y : A) → ◌≡◌ {A = Result A E} (Ok x) (Ok y) → ◌≡◌ {A = Result A F} (Ok x) (Ok y)
+other-errors x y h = ap Ok (ok-same h)
