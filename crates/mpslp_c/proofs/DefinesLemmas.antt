@@ -19,7 +19,7 @@ use Rattle.mpslp_builder.specs.Consistency.{has_objective}
 use Rattle.mpslp_builder.specs.Meaning.{DraftMeans}
 use Rattle.mpslp_builder.proofs.RefusalLemmas.{left_none, right_none, join_none, first_none, rest_none, pass, are_known_in_turn, consistent-from_none, none-from_consistent}
 use Rattle.mpslp_builder.proofs.MadeDrafts.{with_declarations-append, refusals_in_turn-append, bounds-in_turn}
-use Rattle.mpslp_lines.specs.Declaring.{kind_of_build_fault}
+use Rattle.mpslp_lines.specs.ReportedFault.{kind_of_build_fault}
 use Rattle.mpslp_c.specs.Stored.{Step, fails, declares, bounds, step_faults, step_declared, or_else, first_kind, after_steps, steps_with, name_given, number_given, objective_steps, sense_steps, Item, item_fault, items, first_item_fault, after_items, is_good, is_good_item, declared_by, Defines}
 use Rattle.mpslp_c.specs.declared.arrays.MpslpModel.{MpslpModel}
 use Rattle.mpslp_c.specs.declared.faults.ItemFault.{ItemFault}

@@ -13,7 +13,8 @@ use Rattle.mpslp_types.specs.declared.kinds.Kind.TheVariants.{Continuous, Intege
 use Rattle.mpslp_types.specs.declared.kinds.Limit.{Limit}
 use Rattle.mpslp_types.specs.declared.kinds.Limit.TheVariants.{MinusInf, Finite, PlusInf}
 use Rattle.mpslp_builder.specs.Declaration.{empty_draft, at_name, has_name}
-use Rattle.mpslp_builder.specs.Bounds.{zero_limit, one_limit, column_of}
+use Rattle.mpslp_builder.specs.Bounds.{zero_limit, one_limit}
+use Rattle.mpslp_builder.specs.Meaning.{column_of}
 use Rattle.mpslp_types.proofs.EachLemmas.{Each, Each-weaker}
 use Rattle.mpslp_model_core.proofs.PutsLemmas.{puts}
 use Rattle.mpslp_builder.proofs.BoundsLemmas as kinds

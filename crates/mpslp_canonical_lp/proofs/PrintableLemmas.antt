@@ -9,14 +9,9 @@ use Rattle.std.specs.declared.cmp.Ordering.{Ordering}
 use Rattle.std.specs.FinMap.{entries, find}
 use Rattle.std.proofs.lemmas.Bool.{leb-true, lt-ltb}
 use Rattle.mpslp_decimal.specs.Decimal.{Number, IsDecimal, is_decimal, is_zero, is_negative, is_infinite_size, size_of, zero_number, have_same_value}
-use Rattle.mpslp_types.specs.Name.{marker, same_bytes, has_name_length, is_mps_name, is_lp_byte, is_like_exponent, is_reserved, begins_a_number, is_lp_name}
+use Rattle.mpslp_types.specs.Name.{marker, same_bytes, has_name_length, is_mps_name, is_lp_byte, is_like_exponent, is_reserved, begins_a_number, is_lp_name, is_visible}
 use Rattle.mpslp_model_core.specs.Model.{LinearModel, Row, Column, key_cmp, is_sound_row, is_sound_column, is_sound_coefficient, IsSound, suits}
-use Rattle.mpslp_types.specs.Limit.{is_bounded_decimal}
-use Rattle.mpslp_types.specs.Limit.{is_lower_side}
-use Rattle.mpslp_types.specs.Limit.{is_upper_side}
-use Rattle.mpslp_types.specs.Limit.{is_at_most}
-use Rattle.mpslp_types.specs.Limit.{are_sides}
-use Rattle.mpslp_types.specs.Limit.{has_bounded_distance}
+use Rattle.mpslp_types.specs.Limit.{is_bounded_decimal, is_lower_side, is_upper_side, is_at_most, are_sides, has_bounded_distance}
 use Rattle.mpslp_types.specs.declared.faults.FaultKind.TheVariants as faults
 use Rattle.mpslp_types.specs.declared.faults.NameAt.TheVariants as places
 use Rattle.mpslp_types.specs.declared.kinds.Sense.{Sense}
@@ -30,7 +25,6 @@ use Rattle.mpslp_decimal.proofs.CutLemmas.{Each}
 use Rattle.mpslp_decimal.proofs.CutLemmas.{Each-weaker}
 use Rattle.mpslp_decimal.proofs.CutLemmas.{Each-append}
 use Rattle.mpslp_lp_tokens.specs.Token.{is_word}
-use Rattle.mpslp_types.specs.Name.{is_visible}
 use Rattle.mpslp_lines.specs.FaultTests.{first_held}
 use Rattle.mpslp_lp_grammar.specs.LexicalFault.{name_fault, word_fault, token_fault}
 use Rattle.mpslp_lp_grammar.specs.declared.relations.Relation.{Relation}

@@ -18,7 +18,8 @@ use Rattle.mpslp_lp_grammar.specs.Terminal.Terminal.{Name, Number, Sign, Compare
 use Rattle.mpslp_lp_grammar.specs.Sides.{apply_sign}
 use Rattle.mpslp_lp_grammar.specs.declared.relations.Relation.TheVariants.{AtMost, AtLeast, EqualTo}
 use Rattle.mpslp_lp_tokens.specs.declared.tokens.TokenKind.TheVariants as kinds
-use Rattle.mpslp_canonical_lp.specs.Printed.{Lexeme, PrintedLine, word, label, number, sign, sense, minus_infinity, tokens_in, line_tokens, semi_continuous}
+use Rattle.mpslp_canonical_lp.specs.Printed.{Lexeme, PrintedLine, word, label, number, sign, sense, minus_infinity, semi_continuous}
+use Rattle.mpslp_canonical_lp.specs.PrintedDeclarations.{tokens_in, line_tokens}
 use Rattle.mpslp_canonical_lp.proofs.LineLemmas.{seen_at, IsPrintableLine}
 use Rattle.mpslp_canonical_lp.proofs.LexemeLemmas.{IsPrintable}
 use Rattle.mpslp_canonical_lp.proofs.TextLemmas.{terminals_from}

@@ -7,8 +7,7 @@ use Rattle.mpslp_decimal.specs.Decimal.{is_zero}
 use Rattle.mpslp_model_core.specs.Model.{LinearModel, key_cmp}
 use Rattle.mpslp_types.specs.Name.{bytes_cmp}
 use Rattle.mpslp_builder.specs.Declaration.{Draft}
-use Rattle.mpslp_builder.specs.Bounds.{column_of}
-use Rattle.mpslp_builder.specs.Meaning.{objective_name, constant_of, row_entry, model_of}
+use Rattle.mpslp_builder.specs.Meaning.{column_of, objective_name, constant_of, row_entry, model_of}
 use Rattle.mpslp_types.proofs.BoolLemmas.{T_from}
 use Rattle.mpslp_types.specs.declared.kinds.Sense.TheVariants.{Minimize}
 use Rattle.mpslp_mps.specs.MpsText.{DeclaresMps}

@@ -6,8 +6,7 @@ use Rattle.std.specs.Option.{option_map_or}
 use Rattle.std.proofs.lemmas.List.{append-nil}
 use Rattle.std.proofs.lemmas.List.Concat.{flat_map-append}
 use Rattle.mpslp_types.specs.Name.{same_bytes, bytes_cmp}
-use Rattle.mpslp_model_core.specs.Model.{Column}
-use Rattle.mpslp_model_core.specs.Views as views
+use Rattle.mpslp_model_core.specs.Model.{Column, is_integer_column as has_integer_kind}
 use Rattle.mpslp_builder.specs.Declaration.{declare_objective, at_name, names_in}
 use Rattle.mpslp_model_core.specs.Lists.{are_distinct}
 use Rattle.mpslp_builder.specs.Consistency.{Slot, row_slot, rhs_slot, range_slot, same_slot, slots_of, all_slots}
@@ -87,7 +86,7 @@ kinds_differ m x y found plain there integer = by (same_bytes y.0 x.0) refl
     by false same = refl
     by true same =
         sym integer
-        ∙ ap (λ (o : Option Column). option_map_or views.is_integer_column o false) (sym there ∙ ap (at_name m.columns) (same_name y.0 x.0 same) ∙ found)
+        ∙ ap (λ (o : Option Column). option_map_or has_integer_kind o false) (sym there ∙ ap (at_name m.columns) (same_name y.0 x.0 same) ∙ found)
         ∙ not_so (is_integer_column x) plain
 
 parts-differ : (m : Listing) → IsSoundListing m → Each (λ x. Each (λ y. same_bytes y.0 x.0 ≡ false) (filter is_integer_column m.columns)) (filter is_plain_column m.columns)

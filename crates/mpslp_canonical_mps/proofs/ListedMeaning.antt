@@ -13,8 +13,7 @@ use Rattle.mpslp_types.specs.Name.{bytes_cmp}
 use Rattle.mpslp_types.specs.Limit.{is_bounded_decimal, is_lower_side, is_upper_side, are_sides}
 use Rattle.mpslp_builder.specs.Declaration.{RowDefinition, by_type, Declaration, declare_sense, declare_objective, declare_row, declare_rhs, declare_range, declare_column, declare_coefficient, declare_lower, declare_upper, declare_marked, declare_semi, Declarations, Draft, empty_draft, with_declaration, with_declarations, at_name, has_name}
 use Rattle.mpslp_model_core.specs.Limits.{limits_of, plain_limits, has_infinite_rhs}
-use Rattle.mpslp_builder.specs.Bounds.{column_of}
-use Rattle.mpslp_builder.specs.Meaning.{objective_name, constant_of, rhs_or_zero, row_limits, row_entry, row_passes, DraftMeans}
+use Rattle.mpslp_builder.specs.Meaning.{column_of, objective_name, constant_of, rhs_or_zero, row_limits, row_entry, row_passes, DraftMeans}
 use Rattle.mpslp_types.specs.declared.kinds.Sense.{Sense}
 use Rattle.mpslp_types.specs.declared.kinds.Sense.TheVariants.{Minimize, Maximize}
 use Rattle.mpslp_types.specs.declared.kinds.Limit.{Limit}

@@ -6,8 +6,7 @@ use Rattle.std.specs.FinMap.{find}
 use Rattle.mpslp_decimal.specs.Decimal.{Number, is_zero, negated, zero_number}
 use Rattle.mpslp_decimal.specs.NumberText.{number_text}
 use Rattle.mpslp_types.specs.Name.{marker}
-use Rattle.mpslp_model_core.specs.Model.{LinearModel, Row, Column, CoefficientKey, key_cmp}
-use Rattle.mpslp_model_core.specs.Views as views
+use Rattle.mpslp_model_core.specs.Model.{LinearModel, Row, Column, CoefficientKey, key_cmp, is_integer_column as has_integer_kind}
 use Rattle.mpslp_types.specs.declared.kinds.Sense.{Sense}
 use Rattle.mpslp_types.specs.declared.kinds.Sense.TheVariants.{Minimize, Maximize}
 use Rattle.mpslp_types.specs.declared.kinds.RowType.TheVariants.{Free}
@@ -74,7 +73,7 @@ abbrev pub column_lines : Listing → List ℕ × Column → Lines
 column_lines m column = map (coefficient_line column.0) (printed_coefficients m.objective (column_coefficients m column.0))
 
 abbrev pub is_integer_column : List ℕ × Column → Bool
-is_integer_column column = views.is_integer_column column.1
+is_integer_column column = has_integer_kind column.1
 
 -- a continuous or a semi-continuous column
 abbrev pub is_plain_column : List ℕ × Column → Bool

@@ -20,9 +20,10 @@ use Rattle.mpslp_mps.specs.DataFault.{is_split}
 use Rattle.mpslp_mps_fields.specs.declared.bound_types.BoundType.TheVariants as bounds
 use Rattle.mpslp_mps_fields.specs.declared.sections.Section.{Section}
 use Rattle.mpslp_mps_fields.specs.declared.sections.Section.TheVariants.{ObjSense, Rows, Columns, Rhs, Ranges, Bounds}
-use Rattle.mpslp_canonical_mps.specs.Printed.{PrintedLine, content_in}
+use Rattle.mpslp_canonical_mps.specs.Printed.{PrintedLine, heading, short_line, long_line}
 use Rattle.mpslp_canonical_mps.specs.PrintedValues.{printed_type, bound_without_value, bound_with_value}
 use Rattle.mpslp_canonical_mps.specs.CanonicalMps.{header_line, maximize_line, objective_line, row_line, coefficient_line, marker_line, rhs_line, range_line, bound_line}
+use Rattle.mpslp_mps_fields.specs.Line.{LineContent, header, data_line}
 
 -- The line declares these, and its form has no error.
 pub record IsDerived (context : Context) (earlier : Draft) (line : PrintedLine) (declarations : Declarations) : Type 0 where
@@ -109,3 +110,11 @@ DeriveAllColumns = (context : Context) (earlier : Draft) → context.section ≡
 abbrev pub DeriveAllBounds : Type 0
 DeriveAllBounds =
     (context : Context) (earlier : Draft) (column : List ℕ) → context.section ≡ Some Bounds → is_set_of context.bounds_set (codes "BND") ≡ true → DeriveBounds context earlier column
+
+-- ---- what a reader of MPS sees in a printed line
+
+-- the content of a printed line
+abbrev pub content_in : PrintedLine → LineContent
+content_in (heading keyword) = header keyword []
+content_in (short_line fields) = data_line fields
+content_in (long_line fields) = data_line fields

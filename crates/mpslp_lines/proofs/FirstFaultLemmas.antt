@@ -19,7 +19,8 @@ use Rattle.mpslp_types.specs.declared.faults.FaultKind.{FaultKind}
 use Rattle.mpslp_types.specs.declared.faults.FaultKind.TheVariants as kinds
 use Rattle.mpslp_lines.specs.FaultTests.{FaultTests, first_held}
 use Rattle.mpslp_lines.specs.LegalLine.{has_legal_length, is_legal_byte, legal_tests}
-use Rattle.mpslp_lines.specs.Declaring.{kind_of_build_fault, is_kind_clash, declaring_faults, declared_fault, first_fault}
+use Rattle.mpslp_lines.specs.Declaring.{is_kind_clash, declaring_faults, declared_fault, first_fault}
+use Rattle.mpslp_lines.specs.ReportedFault.{kind_of_build_fault}
 use Rattle.mpslp_lines.proofs.LeastLemmas.{is_from, are_rising, lesser, stays-least, earlier_of, least-those_of, least-append, least-none}
 use Rattle.mpslp_lines.proofs.HeldLemmas.{held-among}
 use Rattle.mpslp_lines.proofs.ClashLemmas.{has_kind_clash}

@@ -12,7 +12,8 @@ use Rattle.mpslp_types.specs.declared.faults.BuildFault.TheVariants as builds
 use Rattle.mpslp_types.specs.declared.faults.FaultKind.{FaultKind}
 use Rattle.mpslp_builder.proofs.MadeDrafts.{refusals_in_turn-append}
 use Rattle.mpslp_lines.specs.FaultTests.{FaultTests, first_held}
-use Rattle.mpslp_lines.specs.Declaring.{kind_of_build_fault, declared_fault}
+use Rattle.mpslp_lines.specs.Declaring.{declared_fault}
+use Rattle.mpslp_lines.specs.ReportedFault.{kind_of_build_fault}
 use Rattle.mpslp_lines.specs.ErrorOf.{error_of_build}
 use Rattle.mpslp_lines.specs.LineAnswer.{IsErrorOf}
 use Rattle.mpslp_lines.proofs.LeastLemmas.{are_rising, earlier_of, least-those_of, least-append}

@@ -1,5 +1,6 @@
 pub mod FaultTests
 pub mod LegalLine
+pub mod ReportedFault
 pub mod Field
 pub mod Declaring
 pub mod ErrorOf

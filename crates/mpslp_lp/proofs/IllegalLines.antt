@@ -15,7 +15,8 @@ use Rattle.mpslp_lines.specs.declared.errors.LineError.TheVariants.{Fault}
 use Rattle.mpslp_lp_tokens.specs.Token.{Token, tokens}
 use Rattle.mpslp_lp_tokens.specs.declared.tokens.TokenKind.{TokenKind}
 use Rattle.mpslp_lp_tokens.specs.declared.tokens.TokenKind.TheVariants as kinds
-use Rattle.mpslp_lp_grammar.specs.Terminal.{Terminal, as_terminal, terminal_of, terminals}
+use Rattle.mpslp_lp_grammar.specs.Terminal.{Terminal, terminal_of}
+use Rattle.mpslp_lp_grammar.specs.TerminalToken.{as_terminal, terminals}
 use Rattle.mpslp_lp_grammar.specs.Terminal.Terminal.{Other}
 use Rattle.mpslp_lp_grammar.specs.AfterToken.{AfterToken, with_made, take_after_declarations, Goes, Refuses}
 use Rattle.mpslp_lp_grammar.specs.FirstToken.{begin}

@@ -5,7 +5,7 @@ use Rattle.std.specs.List.{enumerate_from, list_all}
 use Rattle.std.specs.Str.Lines.{lines}
 use Rattle.mpslp_model_core.specs.Model.{LinearModel}
 use Rattle.mpslp_builder.specs.Finish.{Finishes}
-use Rattle.mpslp_builder.specs.Meaning.{whole_fault}
+use Rattle.mpslp_builder.specs.FileFault.{whole_fault}
 use Rattle.mpslp_types.specs.FaultOrder.{least_kind}
 use Rattle.mpslp_types.specs.declared.faults.FaultKind.{FaultKind}
 use Rattle.mpslp_types.specs.declared.faults.FaultKind.TheVariants.{LineTooLong, BadByte, MissingEnd}
@@ -19,7 +19,7 @@ use Rattle.mpslp_lines.specs.declared.errors.LineError.TheVariants.{Fault, OutOf
 use Rattle.mpslp_lp_grammar.specs.Rules.Outcome.{Finished, Open}
 use Rattle.mpslp_lp_tokens.specs.Line.{outside_comment}
 use Rattle.mpslp_lp_tokens.specs.Token.{tokens}
-use Rattle.mpslp_lp_grammar.specs.Terminal.{terminals}
+use Rattle.mpslp_lp_grammar.specs.TerminalToken.{terminals}
 use Rattle.mpslp_lp_grammar.specs.Point.{start}
 use Rattle.mpslp_lp_grammar.specs.LexicalFault.{lexical_fault}
 use Rattle.mpslp_lp_grammar.specs.AfterToken.{AfterToken, Goes, Refuses}

@@ -9,10 +9,9 @@ use Rattle.std.proofs.Math.Nat.{min-le_right}
 use Rattle.mpslp_decimal.specs.Decimal.{Number as Decimal, is_decimal, negated}
 use Rattle.mpslp_types.specs.Name.{same_bytes, is_mps_name, is_lp_name}
 use Rattle.mpslp_types.proofs.NameLemmas.{mps_name-from_lp}
-use Rattle.mpslp_types.specs.Limit.{limit_of}
+use Rattle.mpslp_types.specs.Limit.{limit_of, is_given}
 use Rattle.mpslp_builder.specs.Declaration.{draft_of, Declaration, declare_sense, declare_objective, declare_constant, declare_row, declare_rhs, declare_range, declare_column, declare_coefficient, declare_lower, declare_upper, declare_marked, declare_integer, declare_binary, declare_semi, Declarations, Draft, empty_draft, with_declarations, bounds_declared}
 use Rattle.mpslp_builder.specs.Refusal.{refusals_in_turn, bounds_refusals}
-use Rattle.mpslp_types.specs.Limit.{is_given}
 use Rattle.mpslp_builder.specs.Made.{are_given, is_legal}
 use Rattle.mpslp_types.specs.declared.kinds.Limit.{Limit}
 use Rattle.mpslp_types.specs.declared.kinds.Limit.TheVariants.{MinusInf, PlusInf}

@@ -15,7 +15,8 @@ use Rattle.mpslp_lp_grammar.specs.declared.signs.Sign.{Sign as SignOf}
 use Rattle.mpslp_lp_grammar.specs.Items.{one}
 use Rattle.mpslp_lp_grammar.specs.PartialRow.{PartialRow}
 use Rattle.mpslp_lp_tokens.specs.Token.{Token}
-use Rattle.mpslp_lp_grammar.specs.Terminal.{Terminal, as_terminal, terminal_of}
+use Rattle.mpslp_lp_grammar.specs.Terminal.{Terminal, terminal_of}
+use Rattle.mpslp_lp_grammar.specs.TerminalToken.{as_terminal}
 use Rattle.mpslp_lp_grammar.specs.Terminal.Terminal.{Sign, Number, Name}
 use Rattle.mpslp_lp_grammar.specs.LexicalFault.{token_fault}
 use Rattle.mpslp_lp_grammar.specs.Sides.{apply_sign}

@@ -21,7 +21,7 @@ use Rattle.mpslp_builder.proofs.SlotLemmas.{at-put}
 use Rattle.mpslp_builder.proofs.SortedDrafts.{sorted-from_made}
 use Rattle.mpslp_builder.proofs.MadeDrafts.{with_declarations-append, refusals_in_turn-append}
 use Rattle.mpslp_lines.specs.declared.errors.LineError.TheVariants.{Fault, OutOfMemory}
-use Rattle.mpslp_lines.specs.Declaring.{kind_of_build_fault}
+use Rattle.mpslp_lines.specs.ReportedFault.{kind_of_build_fault}
 use Rattle.mpslp_lines.specs.ErrorOf.{error_of_build}
 use Rattle.mpslp_lines.specs.LineAnswer.{LineResult}
 use Rattle.mpslp_lines.specs.declared.errors.LineError.{LineError}

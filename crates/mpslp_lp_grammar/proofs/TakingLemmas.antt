@@ -15,7 +15,8 @@ use Rattle.mpslp_types.specs.declared.faults.FaultKind.{FaultKind}
 use Rattle.mpslp_types.specs.declared.faults.FaultKind.TheVariants.{BadToken}
 use Rattle.mpslp_lp_grammar.specs.declared.signs.Sign.{Sign as SignOf}
 use Rattle.mpslp_lp_grammar.specs.declared.signs.Sign.TheVariants.{Plus, Minus}
-use Rattle.mpslp_lp_grammar.specs.Rules.{◌>>=◌, next, ahead, gives, follow, resume}
+use Rattle.mpslp_lp_grammar.specs.Rules.{◌>>=◌, next, ahead, gives}
+use Rattle.mpslp_lp_grammar.specs.WithinPhrase.{follow, resume}
 use Rattle.mpslp_lp_grammar.specs.Rules.Parsed.{Reads}
 use Rattle.mpslp_lp_grammar.specs.Rules.AfterPhrase.{Ends}
 use Rattle.mpslp_lp_tokens.specs.Words.{section_of}

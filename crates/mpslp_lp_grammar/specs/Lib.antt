@@ -1,4 +1,5 @@
 pub mod Rules
+pub mod WithinPhrase
 pub mod Terminal
 pub mod PartialRow
 pub mod Point

@@ -5,14 +5,13 @@ use Rattle.mpslp_builder.specs.Refusal.{refusals_in_turn}
 use Rattle.mpslp_types.specs.declared.faults.BuildFault.{BuildFault}
 use Rattle.mpslp_types.specs.declared.faults.Fault.{Fault}
 use Rattle.mpslp_types.specs.declared.faults.FaultKind.{FaultKind}
-use Rattle.mpslp_lines.specs.LineAnswer.{fault_on_line}
+use Rattle.mpslp_lines.specs.ReportedFault.{fault_on_line, kind_of_build_fault}
 use Rattle.mpslp_lp_grammar.specs.Rules.{Rule as TokenRule, AfterPhrase, gives}
 use Rattle.mpslp_lp_grammar.specs.Rules.Parsed.{Refuses}
 use Rattle.mpslp_lp_grammar.specs.Rules.AfterPhrase.{Goes}
 use Rattle.mpslp_lp_tokens.specs.Words.{section_of}
 use Rattle.mpslp_lp_grammar.specs.Terminal.{Terminal, TerminalAt}
 use Rattle.mpslp_lp_grammar.specs.Terminal.Terminal.{Opens}
-use Rattle.mpslp_lines.specs.Declaring.{kind_of_build_fault}
 use Rattle.mpslp_lp_grammar.specs.Point.{section_fault, Point}
 use Rattle.mpslp_lp_grammar.specs.declared.context.Context.{Context}
 use Rattle.mpslp_lp_grammar.specs.declared.states.Place.{Place}

@@ -44,13 +44,6 @@ terminal_of kinds.Plus text = Sign Plus
 terminal_of kinds.Minus text = Sign Minus
 terminal_of _ text = Other
 
-abbrev pub as_terminal : Token → Terminal
-as_terminal token = terminal_of token.kind token.text
-
--- the terminals of a line
-abbrev pub terminals : List ℕ → List Terminal
-terminals line = map as_terminal (tokens line)
-
 -- a terminal, and the number of its line
 pub record TerminalAt : Type 0 where
   pub line : ℕ

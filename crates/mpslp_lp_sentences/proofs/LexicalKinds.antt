@@ -15,7 +15,7 @@ use Rattle.mpslp_types.specs.declared.faults.FaultKind.{FaultKind}
 use Rattle.mpslp_types.specs.declared.faults.FaultKind.TheVariants as kinds
 use Rattle.mpslp_model_core.specs.Lists.{is_nonempty, head_of}
 use Rattle.mpslp_builder.specs.Declaration.{Draft}
-use Rattle.mpslp_builder.specs.Meaning.{named_kinds, whole_fault, names_with, named_faults, file_fault}
+use Rattle.mpslp_builder.specs.FileFault.{named_kinds, whole_fault, names_with, named_faults, file_fault}
 use Rattle.mpslp_lines.specs.Field.{is_kind, number_fault, kind_of_number_fault}
 use Rattle.mpslp_lines.specs.FaultTests.{FaultTests, first_held}
 use Rattle.mpslp_lines.specs.LegalLine.{has_legal_length, is_legal_byte}

@@ -15,7 +15,7 @@ use Rattle.mpslp_types.specs.declared.kinds.Limit.TheVariants.{PlusInf}
 use Rattle.mpslp_builder.specs.Declaration.{Declarations, Draft, empty_draft, with_declarations, declare_constant, declare_column, declare_integer, declare_binary, declare_semi}
 use Rattle.mpslp_builder.specs.Refusal.{refusals_in_turn}
 use Rattle.mpslp_builder.proofs.SortedDrafts.{empty_sorted, sorted-with_declarations}
-use Rattle.mpslp_lines.specs.Declaring.{kind_of_build_fault}
+use Rattle.mpslp_lines.specs.ReportedFault.{kind_of_build_fault}
 use Rattle.mpslp_lp_tokens.specs.declared.words.Section.{Section}
 use Rattle.mpslp_lp_tokens.specs.declared.words.Section.TheVariants.{Objective, Rows, Bounds, Generals, Binaries, SemiContinuous, End}
 use Rattle.mpslp_lp_tokens.specs.declared.words.SectionWord.{SectionWord}

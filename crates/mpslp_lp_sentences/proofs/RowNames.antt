@@ -20,7 +20,7 @@ use Rattle.mpslp_builder.proofs.LaterDrafts.{itself_named}
 use Rattle.mpslp_builder.proofs.SlotLemmas.{has-put, same_name}
 use Rattle.mpslp_builder.proofs.SortedDrafts.{IsSortedDraft, sorted-with_declarations}
 use Rattle.mpslp_lp_grammar.proofs.DeclaresLemmas.{bounds-rows}
-use Rattle.mpslp_lines.specs.Declaring.{kind_of_build_fault}
+use Rattle.mpslp_lines.specs.ReportedFault.{kind_of_build_fault}
 use Rattle.mpslp_lp_tokens.specs.Words.{section_of}
 use Rattle.mpslp_lp_tokens.specs.declared.words.Section.{Section}
 use Rattle.mpslp_lp_tokens.specs.declared.words.Section.TheVariants.{Objective, Rows}

@@ -17,7 +17,7 @@ use Rattle.mpslp_types.specs.declared.kinds.Limit.TheVariants.{PlusInf}
 use Rattle.mpslp_types.proofs.BoolLemmas.{both_so, or_left, or_right, so_not}
 use Rattle.mpslp_builder.specs.Declaration.{Declaration, Declarations, with_declarations, declare_column, declare_constant, declare_integer, declare_binary, declare_semi, bounds_declared}
 use Rattle.mpslp_builder.specs.Refusal.{refusals_in_turn, bounds_refusals}
-use Rattle.mpslp_lines.specs.Declaring.{kind_of_build_fault}
+use Rattle.mpslp_lines.specs.ReportedFault.{kind_of_build_fault}
 use Rattle.mpslp_lp_tokens.specs.Words.{section_of}
 use Rattle.mpslp_lp_tokens.specs.declared.words.Section.{Section}
 use Rattle.mpslp_lp_tokens.specs.declared.words.Section.TheVariants.{Objective, Rows, Bounds, SemiContinuous, End}

@@ -2,7 +2,7 @@
 use Rattle.std.specs.Prelude.{Bool, ◌&&◌, ◌||◌, not, is_none, unwrap_or, if◌then◌else◌}
 use Rattle.mpslp_decimal.specs.Decimal.{one_number}
 pub use Rattle.mpslp_types.specs.Limit.{zero_limit}
-use Rattle.mpslp_model_core.specs.Model.{Column, suits}
+use Rattle.mpslp_model_core.specs.Model.{Column}
 use Rattle.mpslp_types.specs.Limit.{is_at_most}
 use Rattle.mpslp_model_core.specs.declared.bounds.DeclaredColumn.{DeclaredColumn}
 use Rattle.mpslp_types.specs.declared.kinds.Kind.{Kind}
@@ -49,15 +49,7 @@ declared_column d = record {
 abbrev pub is_negative_upper : DeclaredColumn → Bool
 is_negative_upper d = is_none d.lower && not (is_at_most zero_limit (declared_upper d))
 
--- the lower bound above the upper one
-abbrev pub are_crossed_bounds : DeclaredColumn → Bool
-are_crossed_bounds d = not (is_at_most (declared_lower d) (declared_upper d))
-
 -- binary, and the bounds are not within 0 and 1
 abbrev pub are_no_binary_bounds : DeclaredColumn → Bool
 are_no_binary_bounds d = d.binary
     && not (is_at_most zero_limit (declared_lower d) && is_at_most (declared_upper d) one_limit)
-
--- semi-continuous, and the lower bound is below 0, or the upper bound is infinite or not above 0
-abbrev pub are_no_semi_bounds : DeclaredColumn → Bool
-are_no_semi_bounds d = not (suits (declared_kind d) (declared_lower d) (declared_upper d))

@@ -2,8 +2,6 @@
 use Rattle.std.specs.Prelude.{◌≡◌, ◌<◌, ℕ, Bool, true, false, ◌&&◌, not, IsTrue, List, ◌∷◌, length}
 use Rattle.std.specs.Ordering.{ordering_then}
 use Rattle.std.specs.declared.cmp.Ordering.{Ordering}
-use Rattle.std.specs.Cmp.{IsTotalOrder, then_total, on_total}
-use Rattle.std.specs.Cmp.Lexicographic.{nat_list_cmp_total}
 use Rattle.std.specs.FinMap as maps
 use Rattle.std.specs.FinMap.{FinMap}
 use Rattle.std.specs.List.{list_all}
@@ -24,9 +22,6 @@ pub record CoefficientKey : Type 0 where
 abbrev pub key_cmp : CoefficientKey → CoefficientKey → Ordering
 key_cmp a b = ordering_then (bytes_cmp a.column b.column) (bytes_cmp a.row b.row)
 
-pub key_total : IsTotalOrder key_cmp
-key_total = then_total (on_total (λ (p : CoefficientKey). p.column) nat_list_cmp_total) (on_total (λ (p : CoefficientKey). p.row) nat_list_cmp_total)
-
 -- ---- a model: its rows, columns and coefficients, by their names
 
 pub record Row : Type 0 where
@@ -46,6 +41,14 @@ pub record LinearModel : Type 0 where
   pub rows : FinMap bytes_cmp Row
   pub columns : FinMap bytes_cmp Column
   pub coefficients : FinMap key_cmp Number
+
+abbrev pub is_integer_column : Column → Bool
+is_integer_column column = is_integer_kind column.kind
+  where
+    is_integer_kind : Kind → Bool
+    is_integer_kind Continuous = false
+    is_integer_kind Integer = true
+    is_integer_kind Semi = false
 
 -- ---- well-formed models
 

@@ -21,7 +21,8 @@ use Rattle.mpslp_mps_fields.specs.BoundLine.{BoundLine, bound_type, bound_shape,
 use Rattle.mpslp_mps.specs.LineDeclarations.{declared_if_some, lower_given, upper_given, kind_declared, bound_declared, bound_value, bound_line_declared}
 use Rattle.mpslp_mps.specs.KindClash.{type_clash}
 use Rattle.mpslp_lines.specs.Field.{value_of}
-use Rattle.mpslp_lines.specs.Declaring.{kind_of_build_fault, declared_fault}
+use Rattle.mpslp_lines.specs.Declaring.{declared_fault}
+use Rattle.mpslp_lines.specs.ReportedFault.{kind_of_build_fault}
 use Rattle.mpslp_lines.specs.FaultTests.{first_held}
 use Rattle.mpslp_lines.specs.ErrorOf.{error_of_build}
 use Rattle.mpslp_lines.specs.LineAnswer.{IsErrorOf, IfFault, LineResult, AreDeclared}

@@ -21,7 +21,8 @@ use Rattle.mpslp_mps.specs.Context.{Context}
 use Rattle.mpslp_lines.specs.FaultTests.{judged_by}
 use Rattle.mpslp_mps.specs.DataFault.{marker_tests, marker_word_tests, is_sos_marker, column_tests, data_tests}
 use Rattle.mpslp_mps.specs.LineDeclarations.{data_declared, declared_if_some, column_declared}
-use Rattle.mpslp_lines.specs.Declaring.{kind_of_build_fault, declared_fault}
+use Rattle.mpslp_lines.specs.Declaring.{declared_fault}
+use Rattle.mpslp_lines.specs.ReportedFault.{kind_of_build_fault}
 use Rattle.mpslp_mps.specs.ColumnDeclared.{front_declared, value_declared, has_duplicate}
 use Rattle.mpslp_lines.specs.LineAnswer.{IsErrorOf}
 use Rattle.mpslp_lines.specs.declared.errors.LineError.{LineError}

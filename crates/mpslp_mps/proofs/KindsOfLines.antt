@@ -13,7 +13,7 @@ use Rattle.mpslp_types.specs.declared.faults.FaultKind.{FaultKind}
 use Rattle.mpslp_types.specs.declared.faults.FaultKind.TheVariants as kinds
 use Rattle.mpslp_builder.specs.Declaration.{Declarations, Draft, with_declaration}
 use Rattle.mpslp_builder.specs.Refusal.{refusal_tests}
-use Rattle.mpslp_lines.specs.Declaring.{kind_of_build_fault}
+use Rattle.mpslp_lines.specs.ReportedFault.{kind_of_build_fault}
 use Rattle.mpslp_lines.specs.Field.{is_kind, number_tests}
 use Rattle.mpslp_lines.specs.FaultTests.{FaultTests, judged_by}
 use Rattle.mpslp_mps_fields.specs.Line.{Fields, LineContent}

@@ -3,7 +3,7 @@ use Rattle.std.proofs.Common.{◌≡◌, sym, ap, subst, ◌∙◌, ℕ, List, [
 use Rattle.std.specs.Prelude.{Some, None, Result}
 use Rattle.std.specs.Str.Lines.{lines}
 use Rattle.mpslp_model_core.specs.Model.{LinearModel}
-use Rattle.mpslp_builder.specs.Meaning.{file_fault, whole_fault}
+use Rattle.mpslp_builder.specs.FileFault.{file_fault, whole_fault}
 use Rattle.mpslp_builder.specs.Finish.{Finishes}
 use Rattle.mpslp_types.specs.declared.faults.FaultKind.TheVariants.{MissingEnd}
 use Rattle.mpslp_types.specs.declared.faults.ReadFault.{ReadFault}

@@ -18,7 +18,7 @@ use Rattle.mpslp_lines.specs.Declaring.{declaring_faults}
 use Rattle.mpslp_mps.specs.MpsText.{is_end}
 use Rattle.mpslp_mps.specs.LineAnswer.{item_fault}
 use Rattle.mpslp_mps.specs.FirstFault.{line_fault}
-use Rattle.mpslp_lines.specs.LineAnswer.{fault_on_line}
+use Rattle.mpslp_lines.specs.ReportedFault.{fault_on_line}
 use Rattle.mpslp_mps.specs.LineByLine.{placed_in, context_after, draft_after, fault_from, draft_from}
 use Rattle.mpslp_mps.specs.ReadAnswer.{lines_to_end}
 use Rattle.mpslp_mps_fields.specs.declared.sections.Section.TheVariants.{Columns, EndData}

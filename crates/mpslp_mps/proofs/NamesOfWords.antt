@@ -21,10 +21,10 @@ use Rattle.mpslp_lines.proofs.ObjectiveLemmas.{named-after}
 use Rattle.mpslp_mps_fields.specs.Line.{Fields, LineContent, skipped, header, data_line}
 use Rattle.mpslp_mps_fields.specs.Section.{section_named, begins, is_section}
 use Rattle.mpslp_mps_fields.specs.DataLine.{RowLine, Pair, ValuesLine, word_shape, row_shape, row_type, column_shape, is_marker_line}
-use Rattle.mpslp_mps.specs.Context.{Context, context_of, current_section, objname, objname_word, has_section, fields_under, data_lines}
+use Rattle.mpslp_mps.specs.Context.{Context, context_of, current_section, objname, objname_word, fields_under, data_lines}
+use Rattle.mpslp_mps.specs.TextInWords.{has_section, is_free, word_fields, words_in}
 use Rattle.mpslp_mps.specs.LineDeclarations.{declared_if_some, sense_declared, is_new_objective, row_of_type, row_declared, coefficient_declared, column_declared, columns_line_declared, data_declared, header_declared, line_declares}
 use Rattle.mpslp_mps.specs.DataFault.{data_tests}
-use Rattle.mpslp_mps.specs.TextInWords.{is_free, word_fields, words_in}
 use Rattle.mpslp_mps.specs.FaultsInWords.{row_name, is_named, names_row, is_free_row_line, has_default_objective, has_entry_of, has_its_word}
 use Rattle.mpslp_mps_fields.specs.declared.sections.Section.{Section}
 use Rattle.mpslp_mps_fields.specs.declared.sections.Section.TheVariants.{Name, ObjSense, ObjName, Rows, Columns, Rhs, Ranges, Bounds, EndData}

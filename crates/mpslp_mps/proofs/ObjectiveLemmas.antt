@@ -8,7 +8,8 @@ use Rattle.mpslp_builder.proofs.MadeDrafts.{with_declarations-append}
 use Rattle.mpslp_lines.proofs.ObjectiveLemmas.{named-after}
 use Rattle.mpslp_mps_fields.specs.Line.{Fields, LineContent, skipped, header, data_line, content_of}
 use Rattle.mpslp_mps_fields.specs.Section.{has, section_named, begins, is_section}
-use Rattle.mpslp_mps.specs.Context.{Context, context_of, has_section}
+use Rattle.mpslp_mps.specs.Context.{Context, context_of}
+use Rattle.mpslp_mps.specs.TextInWords.{has_section}
 use Rattle.mpslp_mps.specs.LineDeclarations.{header_declared, line_declares}
 use Rattle.mpslp_mps.specs.HeaderFault.{header_tests}
 use Rattle.mpslp_mps.specs.MpsText.{is_end}

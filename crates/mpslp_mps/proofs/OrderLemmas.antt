@@ -17,7 +17,8 @@ use Rattle.mpslp_mps_fields.specs.Line.{Fields, LineContent, skipped, header, da
 use Rattle.mpslp_mps_fields.specs.Section.{has, section_named, section_of_header, begins, is_section}
 use Rattle.mpslp_mps_fields.specs.DataLine.{Pair, ValuesLine, word_shape, sense_of, column_shape, is_marker_line, vector_shape}
 use Rattle.mpslp_mps_fields.specs.BoundLine.{BoundLine, bound_type, bound_shape}
-use Rattle.mpslp_mps.specs.Context.{Context, context_of, current_section, has_section}
+use Rattle.mpslp_mps.specs.Context.{Context, context_of, current_section}
+use Rattle.mpslp_mps.specs.TextInWords.{has_section}
 use Rattle.mpslp_mps.specs.LineDeclarations.{declared_if_some, sense_declared, coefficient_declared, column_declared, columns_line_declared, rhs_line_declared, ranges_declared, bound_declared, bound_value, bound_line_declared}
 use Rattle.mpslp_lines.specs.Field.{value_of}
 use Rattle.mpslp_lines.specs.FaultTests.{FaultTests}

@@ -11,7 +11,8 @@ use Rattle.mpslp_mps_fields.specs.Section.{is_section, section_named}
 use Rattle.mpslp_mps_fields.specs.DataLine.{ValuesLine, word_shape, column_shape, is_marker_line, marker_shape, opening_word, vector_shape}
 use Rattle.mpslp_mps_fields.specs.BoundLine.{BoundLine, bound_type, bound_shape}
 use Rattle.mpslp_mps.specs.Context.{Context, line_column, vector_set, bound_set}
-use Rattle.mpslp_mps_fields.specs.HeaderLine.{section_of_word_due, header_objname}
+use Rattle.mpslp_mps_fields.specs.HeaderLine.{section_of_word_due}
+use Rattle.mpslp_mps_fields.specs.ObjNameHeader.{header_objname}
 use Rattle.mpslp_mps.specs.NextContext.{next_part, next_set, next_context}
 use Rattle.mpslp_mps.specs.LineValues.{named_values}
 use Rattle.mpslp_mps.specs.ContextStep.{after_header, after_objname, after_data, after_marker, after_column, after_set}

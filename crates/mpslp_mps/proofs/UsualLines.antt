@@ -17,7 +17,8 @@ use Rattle.mpslp_builder.specs.ColumnLine.{column_line, TakesLine}
 use Rattle.mpslp_builder.proofs.AnswerLemmas.{column_is_legal}
 use Rattle.mpslp_builder.proofs.MadeDrafts.{with_declarations-append}
 use Rattle.mpslp_builder.proofs.RefusalLemmas.{first_none, rest_none, left_none}
-use Rattle.mpslp_lines.specs.Declaring.{kind_of_build_fault, declared_fault}
+use Rattle.mpslp_lines.specs.Declaring.{declared_fault}
+use Rattle.mpslp_lines.specs.ReportedFault.{kind_of_build_fault}
 use Rattle.mpslp_lines.specs.FaultTests.{FaultTests, judged_by, first_held}
 use Rattle.mpslp_lines.specs.Field.{number_tests}
 use Rattle.mpslp_lines.specs.declared.errors.LineError.{LineError}

@@ -5,7 +5,7 @@ use Rattle.std.specs.Option.{option_map, option_map_or, option_or}
 use Rattle.mpslp_types.specs.Name.{same_bytes}
 use Rattle.mpslp_model_core.specs.Lists.{head_of, when}
 use Rattle.mpslp_mps_fields.specs.Line.{Fields, LineContent, skipped, header, data_line}
-use Rattle.mpslp_mps_fields.specs.Section.{has, section_named, section_of_header, is_section}
+use Rattle.mpslp_mps_fields.specs.Section.{section_named, section_of_header, is_section}
 use Rattle.mpslp_mps_fields.specs.HeaderLine.{section_of_word_due}
 use Rattle.mpslp_mps_fields.specs.DataLine.{word_shape, column_shape, is_marker_line, marker_shape, opening_word, vector_shape}
 use Rattle.mpslp_mps_fields.specs.BoundLine.{bound_type, bound_shape}
@@ -17,9 +17,6 @@ use Rattle.mpslp_mps_fields.specs.declared.sections.Section.TheVariants.{ObjName
 -- the sections that have begun, in their order
 abbrev pub seen_sections : List LineContent → List Section
 seen_sections before = filter_map section_of_header before
-
-abbrev pub has_section : List LineContent → Section → Bool
-has_section before section = has (seen_sections before) section
 
 -- the section after some lines that begin in `current`: that of the last header
 abbrev pub section_after : Option Section → List LineContent → Option Section

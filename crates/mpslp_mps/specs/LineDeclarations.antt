@@ -6,7 +6,7 @@ use Rattle.mpslp_types.specs.Name.{same_bytes}
 use Rattle.mpslp_types.specs.Limit.{limit_of}
 use Rattle.mpslp_builder.specs.Declaration.{by_type, declare_sense, declare_objective, declare_row, declare_range, declare_column, declare_coefficient, declare_marked, declare_integer, declare_semi, Declarations, Draft, rhs_declared, bounds_declared}
 use Rattle.mpslp_model_core.specs.Lists.{when}
-use Rattle.mpslp_builder.specs.Bounds.{zero_limit, one_limit}
+use Rattle.mpslp_model_core.specs.Columns.{zero_limit, one_limit}
 use Rattle.mpslp_types.specs.declared.kinds.RowType.{RowType}
 use Rattle.mpslp_types.specs.declared.kinds.RowType.TheVariants.{Free}
 use Rattle.mpslp_types.specs.declared.kinds.Limit.{Limit}

@@ -3,7 +3,8 @@
 ghost use Rattle.std.specs.Prelude.{◌≡◌, [], ◌∷◌, ◌++◌, map, not, Some, None, is_some, MatchResult};
 ghost use Rattle.std.specs.Option.{option_map, option_map_or};
 ghost use Rattle.std.specs.Result.{result_err};
-ghost use Rattle.mpslp_types.specs.Name.{name_refusal, same_bytes};
+ghost use Rattle.mpslp_types.specs.Name.{same_bytes};
+ghost use Rattle.mpslp_types.specs.NameTests.{name_refusal};
 ghost use Rattle.mpslp_builder.specs.Declaration.{Draft, declare_sense};
 ghost use Rattle.mpslp_mps_fields.specs.DataLine.{word_shape, row_shape, column_shape, marker_shape, opening_word, vector_shape};
 ghost use Rattle.mpslp_mps_fields.specs.BoundLine.{bound_type, bound_shape};

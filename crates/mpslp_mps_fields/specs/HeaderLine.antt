@@ -5,8 +5,6 @@ use Rattle.mpslp_types.specs.declared.faults.FaultKind.{FaultKind}
 use Rattle.mpslp_types.specs.declared.faults.FaultKind.TheVariants as kinds
 use Rattle.mpslp_model_core.specs.Lists.{is_nonempty}
 use Rattle.mpslp_mps_fields.specs.Line.{Fields}
-use Rattle.mpslp_mps_fields.specs.Section.{is_section}
-use Rattle.mpslp_mps_fields.specs.DataLine.{word_shape}
 use Rattle.mpslp_mps_fields.specs.declared.sections.Section.{Section}
 use Rattle.mpslp_mps_fields.specs.declared.sections.Section.TheVariants.{Name, ObjSense, ObjName}
 
@@ -36,7 +34,3 @@ takes_word _ = false
 abbrev pub section_of_word_due : Section → Fields → Option Section
 section_of_word_due section [] = if takes_word section then Some section else None
 section_of_word_due section more = None
-
--- the name of the objective after the keyword OBJNAME
-abbrev pub header_objname : Section → Fields → Option (List ℕ)
-header_objname section more = if is_section ObjName (Some section) then word_shape more else None

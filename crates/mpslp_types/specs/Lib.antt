@@ -1,4 +1,5 @@
 pub mod Name
+pub mod NameTests
 pub mod Limit
 pub mod FaultName
 pub mod FaultOrder
