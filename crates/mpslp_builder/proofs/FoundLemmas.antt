@@ -15,10 +15,9 @@ use Rattle.std.proofs.lemmas.List.{drop_more}
 use Rattle.mpslp_decimal.specs.Decimal.{Number, zero_number}
 use Rattle.mpslp_types.specs.Name.{bytes_cmp}
 use Rattle.mpslp_types.proofs.BoolLemmas.{both_so, nor, true_from, T_from}
-use Rattle.mpslp_model_core.specs.Limits.{RowDefinition, limits_of, has_infinite_rhs}
+use Rattle.mpslp_model_core.specs.Limits.{RowDefinition, limits_of, has_infinite_rhs, is_negative_upper, are_no_binary_bounds}
 use Rattle.mpslp_model_core.specs.WrongParts.{is_inexact, is_too_large, is_crossed, are_crossed_bounds, are_no_semi_bounds}
-use Rattle.mpslp_model_core.specs.Columns.{is_negative_upper, are_no_binary_bounds}
-use Rattle.mpslp_model_core.specs.Lists.{head_of, is_nonempty}
+use Rattle.mpslp_types.specs.Lists.{head_of, is_nonempty}
 use Rattle.mpslp_model_core.specs.Numbered.{sorted_of, each_part, IsOnce}
 use Rattle.mpslp_model_core.specs.declared.limits.RowFault.{RowFault}
 use Rattle.mpslp_model_core.specs.declared.limits.RowFault.TheVariants as rows

@@ -12,7 +12,7 @@ use Rattle.mpslp_builder.specs.Declaration.{RowDefinition, by_type, by_limits, D
 use Rattle.mpslp_types.specs.Name.{same_bytes}
 use Rattle.mpslp_types.specs.Limit.{is_plus_infinite, is_minus_infinite, is_given}
 use Rattle.mpslp_builder.specs.Consistency.{has_objective, AreConsistent}
-use Rattle.mpslp_model_core.specs.Lists.{those_of}
+use Rattle.mpslp_types.specs.Lists.{those_of}
 use Rattle.mpslp_builder.specs.Refusal.{refusals, refusals_in_turn, bounds_refusals}
 use Rattle.mpslp_builder.specs.Made.{is_legal, HasNoFreeRhs, IsMade}
 use Rattle.mpslp_builder.specs.Meaning.{model_of, DraftMeans}

@@ -20,7 +20,7 @@ use Rattle.mpslp_model_core.specs.WrongParts.{is_inexact, is_too_large, is_cross
 use Rattle.mpslp_builder.specs.Bounds.{zero_limit, one_limit, lower_bound, upper_bound, has_no_side, kind_of, has_crossed_bounds, has_semi_bounds}
 use Rattle.mpslp_builder.specs.Meaning.{column_of, rhs_or_zero, row_limits, row_entry, model_of, objective_name, DraftMeans, Means}
 use Rattle.mpslp_builder.specs.Made.{are_given, is_legal}
-use Rattle.mpslp_model_core.specs.Lists.{is_nonempty}
+use Rattle.mpslp_types.specs.Lists.{is_nonempty}
 use Rattle.mpslp_builder.specs.FileFault.{file_fault}
 use Rattle.mpslp_builder.specs.Consistency.{AreConsistent}
 use Rattle.mpslp_types.specs.declared.kinds.Limit.{Limit}

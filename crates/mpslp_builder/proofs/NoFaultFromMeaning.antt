@@ -16,7 +16,7 @@ use Rattle.mpslp_model_core.specs.WrongParts.{is_inexact, is_too_large, is_large
 use Rattle.mpslp_builder.specs.Bounds.{lower_bound, upper_bound, kind_of, has_crossed_bounds, has_semi_bounds}
 use Rattle.mpslp_builder.specs.Meaning.{column_of, rhs_or_zero, row_limits, row_entry, model_of, DraftMeans, Means}
 use Rattle.mpslp_builder.specs.Made.{is_legal}
-use Rattle.mpslp_model_core.specs.Lists.{is_nonempty}
+use Rattle.mpslp_types.specs.Lists.{is_nonempty}
 use Rattle.mpslp_builder.specs.FileFault.{file_fault}
 use Rattle.mpslp_types.specs.declared.kinds.Limit.{Limit}
 use Rattle.mpslp_types.specs.declared.kinds.Limit.TheVariants.{MinusInf, Finite, PlusInf}

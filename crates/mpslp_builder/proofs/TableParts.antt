@@ -10,8 +10,7 @@ use Rattle.mpslp_types.specs.Name.{bytes_cmp}
 use Rattle.mpslp_types.specs.declared.kinds.Sense.{Sense}
 use Rattle.mpslp_types.specs.declared.kinds.RowType.TheVariants.{Free}
 use Rattle.mpslp_types.proofs.EachLemmas.{Each, Each-both, Each-weaker}
-use Rattle.mpslp_model_core.specs.Limits.{limits_of, plain_limits}
-use Rattle.mpslp_model_core.specs.Columns.{declared_column}
+use Rattle.mpslp_model_core.specs.Limits.{limits_of, plain_limits, declared_column}
 use Rattle.mpslp_model_core.specs.Numbered.{sorted_of, each_part, given_parts, IsOnce, TellsApart}
 use Rattle.mpslp_model_core.proofs.KeyLemmas.{bytes_total}
 use Rattle.mpslp_model_core.proofs.SortedLemmas.{find-sorted_of}

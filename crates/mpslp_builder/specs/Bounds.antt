@@ -1,7 +1,8 @@
 -- The type and bounds of a column of a draft.
 use Rattle.std.specs.Prelude.{ℕ, Bool, List}
-pub use Rattle.mpslp_model_core.specs.Columns.{zero_limit, one_limit}
-use Rattle.mpslp_model_core.specs.Columns.{no_side_declared, upper_by_default, declared_lower, declared_upper, declared_kind}
+pub use Rattle.mpslp_types.specs.Limit.{zero_limit}
+pub use Rattle.mpslp_model_core.specs.Limits.{one_limit}
+use Rattle.mpslp_model_core.specs.Limits.{no_side_declared, upper_by_default, declared_lower, declared_upper, declared_kind}
 use Rattle.mpslp_model_core.specs.WrongParts.{are_crossed_bounds, are_no_semi_bounds}
 use Rattle.mpslp_builder.specs.Declaration.{Draft}
 use Rattle.mpslp_types.specs.declared.kinds.Kind.{Kind}

@@ -7,7 +7,7 @@ use Rattle.mpslp_model_core.specs.Limits.{limits_of, has_infinite_rhs}
 use Rattle.mpslp_model_core.specs.WrongParts.{is_inexact, is_too_large, is_crossed}
 use Rattle.mpslp_builder.specs.Meaning.{has_negative_upper, has_binary_bounds, row_passes}
 use Rattle.mpslp_builder.specs.Bounds.{has_crossed_bounds, has_semi_bounds}
-use Rattle.mpslp_model_core.specs.Lists.{is_nonempty, head_of}
+use Rattle.mpslp_types.specs.Lists.{is_nonempty, head_of}
 use Rattle.mpslp_types.specs.declared.faults.Fault.{Fault}
 use Rattle.mpslp_types.specs.declared.faults.FaultKind.{FaultKind}
 use Rattle.mpslp_types.specs.declared.faults.FaultKind.TheVariants.{NoColumns, InfiniteLimit, RangeInexact, LimitTooLarge, LimitsCrossed, NegativeUpper, BoundsCrossed, BinaryBounds, SemiBounds}

@@ -5,11 +5,10 @@ use Rattle.std.specs.List.{list_all}
 use Rattle.mpslp_decimal.specs.Decimal.{Number, zero_number, is_zero, negated}
 use Rattle.mpslp_model_core.specs.Model.{LinearModel, Row, IsSound, Column}
 use Rattle.mpslp_builder.specs.Declaration.{RowDefinition, Declarations, Draft, draft_of, at_name, names_in, has_name, is_semi}
-use Rattle.mpslp_model_core.specs.Limits.{limits_of, plain_limits, has_infinite_rhs}
+use Rattle.mpslp_model_core.specs.Limits.{limits_of, plain_limits, has_infinite_rhs, declared_column, is_negative_upper, are_no_binary_bounds}
 use Rattle.mpslp_builder.specs.Consistency.{AreConsistent}
 use Rattle.mpslp_types.specs.declared.kinds.Sense.TheVariants.{Minimize}
 use Rattle.mpslp_types.specs.declared.kinds.RowType.TheVariants.{Free}
-use Rattle.mpslp_model_core.specs.Columns.{declared_column, is_negative_upper, are_no_binary_bounds}
 use Rattle.mpslp_model_core.specs.declared.bounds.DeclaredColumn.{DeclaredColumn}
 
 -- ---- the model of a draft

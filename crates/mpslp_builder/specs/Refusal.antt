@@ -4,7 +4,7 @@ use Rattle.std.specs.Option.{option_map_or}
 use Rattle.mpslp_decimal.specs.Decimal.{is_infinite_size}
 use Rattle.mpslp_builder.specs.Declaration.{Declaration, declare_sense, declare_objective, declare_constant, declare_row, declare_rhs, declare_range, declare_column, declare_coefficient, declare_lower, declare_upper, declare_marked, declare_integer, declare_binary, declare_semi, Declarations, Draft, with_declaration, has_name, is_objective, has_row, has_column, has_coefficient, is_integer, is_semi, is_free_row, is_row_by_limits, have_infinite_side}
 use Rattle.mpslp_model_core.specs.Model.{CoefficientKey}
-use Rattle.mpslp_model_core.specs.Lists.{those_of}
+use Rattle.mpslp_types.specs.Lists.{those_of}
 use Rattle.mpslp_types.specs.Limit.{is_plus_infinite, is_minus_infinite}
 use Rattle.mpslp_builder.specs.Consistency.{has_objective_rhs}
 use Rattle.mpslp_types.specs.declared.kinds.Limit.{Limit}

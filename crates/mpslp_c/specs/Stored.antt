@@ -18,11 +18,11 @@ use Rattle.mpslp_types.specs.declared.kinds.Limit.{Limit}
 use Rattle.mpslp_types.specs.declared.kinds.Limit.TheVariants.{MinusInf, PlusInf}
 use Rattle.mpslp_types.specs.declared.kinds.Sense.TheVariants.{Minimize, Maximize}
 use Rattle.mpslp_model_core.specs.Model.{LinearModel}
-use Rattle.mpslp_model_core.specs.Lists.{head_of}
+use Rattle.mpslp_types.specs.Lists.{head_of}
 use Rattle.mpslp_builder.specs.Declaration.{Declaration, declare_sense, declare_objective, declare_constant, declare_row, declare_column, declare_coefficient, declare_integer, declare_semi, by_limits, Declarations, Draft, with_declarations, bounds_declared}
 use Rattle.mpslp_builder.specs.Refusal.{refusals, bounds_refusals}
 use Rattle.mpslp_builder.specs.Meaning.{Means}
-use Rattle.mpslp_lines.specs.ReportedFault.{kind_of_build_fault}
+use Rattle.mpslp_lines.specs.FaultTests.{kind_of_build_fault}
 use Rattle.mpslp_lines.specs.declared.errors.LineError.{LineError}
 use Rattle.mpslp_lines.specs.declared.errors.LineError.TheVariants.{Fault, OutOfMemory}
 use Rattle.mpslp_c.specs.declared.faults.TheConstants.{AT_OBJECTIVE, AT_ROW, AT_COLUMN, AT_ELEMENT}

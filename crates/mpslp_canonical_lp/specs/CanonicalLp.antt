@@ -5,7 +5,7 @@ use Rattle.std.specs.Option.{option_map}
 use Rattle.std.specs.FinMap.{find}
 use Rattle.mpslp_decimal.specs.Decimal.{Number, is_zero, is_negative, size_of, zero_number, have_same_value}
 use Rattle.mpslp_types.specs.Name.{same_bytes}
-use Rattle.mpslp_model_core.specs.Model.{LinearModel, Row, Column, CoefficientKey, key_cmp}
+use Rattle.mpslp_model_core.specs.Model.{LinearModel, Row, Column, CoefficientKey, key_cmp, Listing, listing_of}
 use Rattle.mpslp_types.specs.declared.kinds.Sense.{Sense}
 use Rattle.mpslp_types.specs.declared.kinds.Sense.TheVariants.{Minimize, Maximize}
 use Rattle.mpslp_types.specs.declared.kinds.Kind.{Kind}
@@ -15,7 +15,6 @@ use Rattle.mpslp_types.specs.declared.kinds.Limit.TheVariants.{MinusInf, Finite}
 use Rattle.mpslp_lp_grammar.specs.declared.relations.Relation.{Relation}
 use Rattle.mpslp_lp_grammar.specs.declared.relations.Relation.TheVariants.{AtMost, AtLeast, EqualTo}
 use Rattle.mpslp_canonical_lp.specs.Printed.{PrintedLine, Lexeme, word, label, number, sign, sense, minus_infinity, text_of, semi_continuous}
-use Rattle.mpslp_model_core.specs.Listing.{Listing, listing_of}
 
 abbrev pub Lines : Type 0
 Lines = List PrintedLine

@@ -5,7 +5,7 @@ use Rattle.mpslp_decimal.specs.Decimal.{Number}
 use Rattle.mpslp_decimal.specs.NumberText.{number_text}
 use Rattle.mpslp_lp_grammar.specs.declared.relations.Relation.{Relation}
 use Rattle.mpslp_lp_grammar.specs.declared.relations.Relation.TheVariants.{AtMost, AtLeast, EqualTo}
-use Rattle.mpslp_lines.specs.WrittenLines.{with_line_feeds}
+use Rattle.mpslp_types.specs.Lists.{with_line_feeds}
 
 pub data Lexeme : Type 0 where
   -- a name, or a word of the language

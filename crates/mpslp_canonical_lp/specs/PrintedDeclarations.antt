@@ -7,14 +7,14 @@ use Rattle.mpslp_types.specs.Limit.{are_sides}
 use Rattle.mpslp_types.specs.declared.kinds.Sense.{Sense}
 use Rattle.mpslp_types.specs.declared.kinds.Limit.{Limit}
 use Rattle.mpslp_types.specs.declared.kinds.Limit.TheVariants.{Finite, PlusInf}
-use Rattle.mpslp_model_core.specs.Lists.{is_nonempty}
-use Rattle.mpslp_model_core.specs.Model.{Row, Column}
+use Rattle.mpslp_types.specs.Lists.{is_nonempty}
+use Rattle.mpslp_model_core.specs.Model.{Row, Column, Listing}
 use Rattle.mpslp_builder.specs.Declaration.{by_limits, declare_constant, declare_row, declare_column, declare_lower, declare_upper, declare_integer, declare_semi, Declarations, Draft, draft_of, with_declarations}
 use Rattle.mpslp_builder.specs.Refusal.{refusals_in_turn}
 use Rattle.mpslp_lp_grammar.specs.Rules.{phrases, made_by}
 use Rattle.mpslp_lp_grammar.specs.Rules.Outcome.{Finished}
 use Rattle.mpslp_lp_grammar.specs.Terminal.{TerminalAt, line_terminals}
-use Rattle.mpslp_lp_grammar.specs.Point.{Point, start, no_section_seen, with_section, section_fault}
+use Rattle.mpslp_lp_grammar.specs.Phrase.{Point, start, no_section_seen, with_section, section_fault}
 use Rattle.mpslp_lp_grammar.specs.Grammar.{phrase_at, may_begin_section}
 use Rattle.mpslp_lp_grammar.specs.LexicalFault.{lexical_fault}
 use Rattle.mpslp_lp_grammar.specs.Objective.{objective_declared, term_declared}
@@ -22,7 +22,6 @@ use Rattle.mpslp_lp_grammar.specs.declared.sections_seen.SectionsSeen.{SectionsS
 use Rattle.mpslp_lp_grammar.specs.declared.states.Place.{Place}
 use Rattle.mpslp_lp_grammar.specs.declared.states.Place.TheVariants.{BeforeItems, InObjective, BetweenRows, InBounds, InGenerals, InSemis}
 use Rattle.mpslp_lp_tokens.specs.declared.words.Section.TheVariants as sections
-use Rattle.mpslp_model_core.specs.Listing.{Listing}
 use Rattle.mpslp_canonical_lp.specs.Printed.{line_text, Lexeme, word, label, number, sign, sense, minus_infinity, semi_continuous, PrintedLine, sign_bytes, sense_bytes}
 use Rattle.mpslp_canonical_lp.specs.CanonicalLp.{Lines, Term, heading, label_line, sense_word, term_line, constant_lines, row_terms, row_lines, bound_lines, name_line, semi_heading}
 use Rattle.mpslp_decimal.specs.NumberText.{number_text}

@@ -7,7 +7,7 @@ use Rattle.std.specs.FinMap.{is_sorted}
 use Rattle.std.proofs.lemmas.List.{append-nil}
 use Rattle.mpslp_decimal.specs.Decimal.{Number, IsDecimal, is_decimal, is_zero, negated}
 use Rattle.mpslp_types.specs.Name.{is_mps_name, is_one_of, bytes_cmp}
-use Rattle.mpslp_model_core.specs.Model.{Column, CoefficientKey, key_cmp, suits, is_sound_row, is_sound_column, is_integer_column as has_integer_kind}
+use Rattle.mpslp_model_core.specs.Model.{Column, CoefficientKey, key_cmp, suits, is_sound_row, is_sound_column, is_integer_column as has_integer_kind, Listing}
 use Rattle.mpslp_types.specs.Limit.{zero_limit, is_at_most}
 use Rattle.mpslp_types.specs.declared.kinds.Kind.{Kind}
 use Rattle.mpslp_types.specs.declared.kinds.Kind.TheVariants.{Continuous, Integer, Semi}
@@ -22,7 +22,6 @@ use Rattle.mpslp_builder.proofs.PartedLemmas.{parted-give}
 use Rattle.mpslp_builder.proofs.DraftLemmas.{rows-all, rhs_values-all, ranges-all, columns-all, lowers-all, uppers-all, marked-all, integers-all, binaries-all, semis-all}
 use Rattle.mpslp_builder.proofs.SortedDrafts.{bytes_total, tied_names}
 use Rattle.mpslp_builder.proofs.NamedEntries.{names_sorted, at-mapped, named}
-use Rattle.mpslp_model_core.specs.Listing.{Listing}
 use Rattle.mpslp_canonical_mps.specs.CanonicalMps.{column_coefficients, printed_coefficients, is_integer_column, is_plain_column}
 use Rattle.mpslp_canonical_mps.proofs.CanonicalContents.{to_cell, cells_in}
 use Rattle.mpslp_builder.proofs.EntryLemmas.{first_there, then_told, told, all_told, sorted-kept, find-puts, puts-own, find-kept, sorted-told, find-told, filter-not_not}

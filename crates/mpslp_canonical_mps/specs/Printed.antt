@@ -2,7 +2,7 @@
 use Rattle.std.specs.Prelude.{ℕ, List, ◌++◌, map, codes}
 use Rattle.std.specs.List.{join_by}
 use Rattle.mpslp_mps_fields.specs.Line.{Fields}
-use Rattle.mpslp_lines.specs.WrittenLines.{with_line_feeds}
+use Rattle.mpslp_types.specs.Lists.{with_line_feeds}
 
 -- a header; a data line after one space; a data line after four spaces
 pub data PrintedLine : Type 0 where

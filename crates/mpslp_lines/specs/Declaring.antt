@@ -1,14 +1,13 @@
 -- The errors of what a line declares, and the first error of a line.
 use Rattle.std.specs.Prelude.{Bool, true, false, List, ◌++◌, map, Option}
 use Rattle.mpslp_builder.specs.Declaration.{Declarations, Draft}
-use Rattle.mpslp_model_core.specs.Lists.{those_of}
+use Rattle.mpslp_types.specs.Lists.{those_of}
 use Rattle.mpslp_builder.specs.Refusal.{refusals_in_turn}
 use Rattle.mpslp_types.specs.FaultOrder.{least_kind}
 use Rattle.mpslp_types.specs.declared.faults.BuildFault.{BuildFault}
 use Rattle.mpslp_types.specs.declared.faults.BuildFault.TheVariants as builds
 use Rattle.mpslp_types.specs.declared.faults.FaultKind.{FaultKind}
-use Rattle.mpslp_lines.specs.FaultTests.{FaultTests}
-use Rattle.mpslp_lines.specs.ReportedFault.{kind_of_build_fault}
+use Rattle.mpslp_lines.specs.FaultTests.{FaultTests, kind_of_build_fault}
 
 -- the error of a column that would be both integer and semi-continuous: its kind comes before those of a line's form
 abbrev pub is_kind_clash : BuildFault → Bool

@@ -16,8 +16,8 @@ use Rattle.mpslp_builder.proofs.Acceptance.{means-from_none}
 use Rattle.mpslp_builder.proofs.NoFaultFromMeaning.{no_fault-from_means}
 use Rattle.mpslp_lp_grammar.specs.Rules.{Outcome}
 use Rattle.mpslp_lp_grammar.specs.Rules.Outcome.{Finished, Refused, Open}
-use Rattle.mpslp_lp_grammar.specs.Point.{start}
-use Rattle.mpslp_lines.specs.ReportedFault.{fault_on_line}
+use Rattle.mpslp_lp_grammar.specs.Phrase.{start}
+use Rattle.mpslp_lines.specs.FaultTests.{fault_on_line}
 use Rattle.mpslp_lp_grammar.specs.Grammar.{text_says, text_declares}
 use Rattle.mpslp_lp_grammar.specs.LexicalFault.{lexical_fault}
 use Rattle.mpslp_lp.specs.LpText.{numbered_lines, sound_terminals, first_own_fault, or_else, lines_say, outcome, is_finished, declarations_of, DeclaresLp}

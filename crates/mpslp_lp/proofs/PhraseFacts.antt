@@ -33,16 +33,14 @@ use Rattle.mpslp_lp_grammar.specs.Rules.AfterPhrase.{Goes, Ends}
 use Rattle.mpslp_lp_tokens.specs.Words.{section_of}
 use Rattle.mpslp_lp_grammar.specs.Terminal.{Terminal, TerminalAt}
 use Rattle.mpslp_lp_grammar.specs.Terminal.Terminal.{Opens, Name, Number, Sign, Compares, Colon, Infinity, Free, Other}
-use Rattle.mpslp_lp_grammar.specs.Point.{Point, start, with_section, section_fault}
+use Rattle.mpslp_lp_grammar.specs.Phrase.{Point, start, with_section, section_fault, PhraseRule, Follows, fails, refuses, goes_to, unless_refused, declares}
 use Rattle.mpslp_lp_grammar.specs.declared.context.Context.{Context}
 use Rattle.mpslp_lp_grammar.specs.PartialRow.{PartialRow}
 use Rattle.mpslp_lp_grammar.specs.declared.states.Place.{Place}
 use Rattle.mpslp_lp_grammar.specs.declared.states.Place.TheVariants.{AtStart, BeforeItems, InObjective, BetweenRows, InRow, InBounds, InGenerals, InBinaries, InSemis}
-use Rattle.mpslp_lp_grammar.specs.Phrase.{PhraseRule, Follows, fails, refuses, goes_to, unless_refused, declares}
 use Rattle.mpslp_lp_grammar.specs.declared.states.LastWord.{LastWord}
 use Rattle.mpslp_lp_grammar.specs.declared.states.LastWord.TheVariants.{To, That, Continuous}
-use Rattle.mpslp_lp_grammar.specs.Sides.{Side, Limits, apply_sign, infinity, unsigned_side, side_from, side, next_relation, fits_second, limits_by, flip}
-use Rattle.mpslp_lp_grammar.specs.Items.{Item, one, product, number_item, signed_item, item_from, colon}
+use Rattle.mpslp_lp_grammar.specs.Items.{Side, Limits, apply_sign, infinity, unsigned_side, side_from, side, next_relation, fits_second, limits_by, flip, Item, one, product, number_item, signed_item, item_from, colon}
 use Rattle.mpslp_lp_grammar.specs.Items.Item.{Term, Lone}
 use Rattle.mpslp_lp_grammar.specs.Objective.{term_declared, objective_item, objective_declared, default_objective, first_item_declared, objective_named, objective_from, objective}
 use Rattle.mpslp_lp_grammar.specs.Rows.{default_row, without_terms, row_item, row_first, row_after_left, row_number, row_signed, row_from, row_named, row, fits_left, row_limits, row_declared, row_whole, row_end}

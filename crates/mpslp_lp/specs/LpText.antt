@@ -9,7 +9,7 @@ use Rattle.mpslp_types.specs.declared.faults.Fault.{Fault}
 use Rattle.mpslp_lp_grammar.specs.Rules.{Outcome}
 use Rattle.mpslp_lp_grammar.specs.Rules.Outcome.{Finished, Refused, Open}
 use Rattle.mpslp_lp_grammar.specs.Terminal.{TerminalAt, line_terminals}
-use Rattle.mpslp_lines.specs.ReportedFault.{fault_on_line}
+use Rattle.mpslp_lines.specs.FaultTests.{fault_on_line}
 use Rattle.mpslp_lp_grammar.specs.Grammar.{text_says, text_declares}
 use Rattle.mpslp_lp_grammar.specs.LexicalFault.{lexical_fault}
 

@@ -12,8 +12,7 @@ use Rattle.mpslp_lp_grammar.specs.LexicalFault.{token_fault}
 use Rattle.mpslp_lp.specs.LineByLine.{take_tokens}
 use Rattle.mpslp_lp_grammar.specs.Declares.{TakesToken}
 use Rattle.mpslp_decimal.specs.Decimal.{Number as Decimal}
-use Rattle.mpslp_lp_grammar.specs.Items.{one}
-use Rattle.mpslp_lp_grammar.specs.Sides.{apply_sign}
+use Rattle.mpslp_lp_grammar.specs.Items.{one, apply_sign}
 use Rattle.mpslp_lp_grammar.specs.AfterToken.{AfterToken, Goes}
 use Rattle.mpslp_lp_grammar.specs.TokenStep.{take}
 use Rattle.mpslp_lp_grammar.specs.declared.context.Context.{Context}

@@ -12,7 +12,7 @@ use Rattle.mpslp_lp_grammar.specs.declared.context.Context.{Context}
 use Rattle.mpslp_lp_grammar.specs.declared.states.Place.{Place}
 use Rattle.mpslp_lp_grammar.specs.Phrase.{PhraseRule, Follows, refuses, unless_refused}
 use Rattle.mpslp_lp_grammar.specs.declared.states.Place.TheVariants.{InBounds}
-use Rattle.mpslp_lp_grammar.specs.Sides.{Side, Limits, limits_by, flip, fits_second, side, side_from, next_relation}
+use Rattle.mpslp_lp_grammar.specs.Items.{Side, Limits, limits_by, flip, fits_second, side, side_from, next_relation}
 use Rattle.mpslp_lp_grammar.specs.declared.relations.Relation.{Relation}
 
 -- a token completes bounds of a column, after these declarations

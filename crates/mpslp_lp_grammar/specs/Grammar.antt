@@ -12,10 +12,9 @@ use Rattle.mpslp_lp_grammar.specs.Rules.AfterPhrase.{Ends}
 use Rattle.mpslp_lp_tokens.specs.Words.{section_of}
 use Rattle.mpslp_lp_grammar.specs.Terminal.{TerminalAt}
 use Rattle.mpslp_lp_grammar.specs.Terminal.Terminal.{Opens, Name, Sign, Compares}
-use Rattle.mpslp_lp_grammar.specs.Point.{section_fault, with_section, Point, start}
+use Rattle.mpslp_lp_grammar.specs.Phrase.{section_fault, with_section, Point, start, PhraseRule, Follows, fails, refuses, goes_to, declares}
 use Rattle.mpslp_lp_grammar.specs.declared.context.Context.{Context}
 use Rattle.mpslp_lp_grammar.specs.declared.states.Place.{Place}
-use Rattle.mpslp_lp_grammar.specs.Phrase.{PhraseRule, Follows, fails, refuses, goes_to, declares}
 use Rattle.mpslp_lp_grammar.specs.declared.states.Place.TheVariants.{AtStart, BeforeItems, InObjective, BetweenRows, InRow, InBounds, InGenerals, InBinaries, InSemis}
 use Rattle.mpslp_lp_grammar.specs.declared.states.LastWord.{LastWord}
 use Rattle.mpslp_lp_grammar.specs.declared.states.LastWord.TheVariants.{To, That, Continuous}

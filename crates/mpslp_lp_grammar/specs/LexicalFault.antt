@@ -4,11 +4,8 @@ use Rattle.mpslp_types.specs.Name.{is_like_exponent}
 use Rattle.mpslp_types.specs.FaultOrder.{least_kind}
 use Rattle.mpslp_types.specs.declared.faults.FaultKind.{FaultKind}
 use Rattle.mpslp_types.specs.declared.faults.FaultKind.TheVariants as kinds
-use Rattle.mpslp_lines.specs.FaultTests.{first_held}
-use Rattle.mpslp_lines.specs.LegalLine.{legal_tests}
-use Rattle.mpslp_lines.specs.Field.{name_tests, number_fault}
-use Rattle.mpslp_lp_tokens.specs.Line.{outside_comment}
-use Rattle.mpslp_lp_tokens.specs.Token.{Token, tokens}
+use Rattle.mpslp_lines.specs.FaultTests.{first_held, legal_tests, name_tests, number_fault}
+use Rattle.mpslp_lp_tokens.specs.Token.{outside_comment, Token, tokens}
 use Rattle.mpslp_lp_tokens.specs.Words.{class_of}
 use Rattle.mpslp_lp_tokens.specs.declared.tokens.TokenKind.{TokenKind}
 use Rattle.mpslp_lp_tokens.specs.declared.tokens.TokenKind.TheVariants.{Word, Number, DoubleColon, Arrow, OpenBracket, CloseBracket, Caret, Star}

@@ -1,5 +1,5 @@
 -- Rows: optionally `name :`, optionally a side and a relation, terms, a relation and a side.
-use Rattle.std.specs.Prelude.{ℕ, ◌+◌, ◌-◌, ◌^◌, min, Bool, true, false, if◌then◌else◌, List, [], ◌∷◌, ◌++◌, length, codes, Option, Some, None, unwrap_or}
+use Rattle.std.specs.Prelude.{ℕ, ◌+◌, ◌-◌, ◌^◌, min, Bool, true, if◌then◌else◌, List, [], ◌∷◌, ◌++◌, length, codes, Option, Some, None, unwrap_or}
 use Rattle.std.specs.List.{list_any, flat_map}
 use Rattle.std.specs.Fmt.{decimal}
 use Rattle.mpslp_types.specs.Name.{same_bytes}
@@ -17,8 +17,7 @@ use Rattle.mpslp_lp_grammar.specs.declared.context.Context.{Context}
 use Rattle.mpslp_lp_grammar.specs.PartialRow.{PartialRow}
 use Rattle.mpslp_lp_grammar.specs.Phrase.{PhraseRule, Follows, refuses, goes_to, declares}
 use Rattle.mpslp_lp_grammar.specs.declared.states.Place.TheVariants.{BetweenRows, InRow}
-use Rattle.mpslp_lp_grammar.specs.Sides.{Side, Limits, limits_by, fits_second, infinity, side, next_relation}
-use Rattle.mpslp_lp_grammar.specs.Items.{Item, one, number_item, signed_item, item_from, colon}
+use Rattle.mpslp_lp_grammar.specs.Items.{Side, Limits, limits_by, fits_second, infinity, side, next_relation, Item, one, number_item, signed_item, item_from, colon}
 use Rattle.mpslp_lp_grammar.specs.Items.Item.{Term, Lone}
 use Rattle.mpslp_lp_grammar.specs.Objective.{term_declared}
 use Rattle.mpslp_lp_grammar.specs.declared.relations.Relation.{Relation}

@@ -4,9 +4,9 @@ use Rattle.mpslp_types.specs.Name.{IsMpsName}
 use Rattle.mpslp_types.specs.Limit.{limit_of}
 use Rattle.mpslp_types.specs.declared.kinds.Limit.{Limit}
 use Rattle.mpslp_lp_grammar.specs.declared.signs.Sign.{Sign as SignOf}
-use Rattle.mpslp_lp_grammar.specs.Sides.{apply_sign, infinity}
+use Rattle.mpslp_lp_grammar.specs.Items.{apply_sign, infinity}
 use Rattle.mpslp_types.specs.declared.faults.FaultKind.{FaultKind}
-use Rattle.mpslp_lines.specs.Field.{value_of, number_fault}
+use Rattle.mpslp_lines.specs.FaultTests.{value_of, number_fault}
 use Rattle.mpslp_lp_tokens.specs.Words.{class_of}
 use Rattle.mpslp_lp_grammar.specs.Terminal.{Terminal, word_terminal, terminal_of}
 use Rattle.mpslp_lp_grammar.specs.LexicalFault.{word_fault, token_fault}

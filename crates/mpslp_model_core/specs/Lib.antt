@@ -1,11 +1,8 @@
 -- ---- what public laws and contracts say
-pub mod Lists
 pub mod Model
 pub mod KeyOrder
-pub mod Listing
 pub mod Limits
 pub mod RowForms
-pub mod Columns
 pub mod WrongParts
 pub mod Views
 pub mod ModelParts

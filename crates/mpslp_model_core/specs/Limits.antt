@@ -1,12 +1,15 @@
--- The limits of a row, from its type, right-hand side and range value.
-use Rattle.std.specs.Prelude.{Bool, true, false, ◌&&◌, ◌||◌, not, Option, Some, None, is_some, if◌then◌else◌}
-use Rattle.mpslp_decimal.specs.Decimal.{Number, is_negative, is_infinite_size, size_of, sum_of, difference_of}
-use Rattle.mpslp_model_core.specs.Model.{Row}
-use Rattle.mpslp_types.specs.Limit.{limit_of, is_plus_infinite, is_minus_infinite}
+-- The limits of a row, and the type and bounds of a column, from what is declared of them.
+use Rattle.std.specs.Prelude.{Bool, true, false, ◌&&◌, ◌||◌, not, Option, Some, None, is_some, if◌then◌else◌, is_none, unwrap_or}
+use Rattle.mpslp_decimal.specs.Decimal.{Number, is_negative, is_infinite_size, size_of, sum_of, difference_of, one_number}
+use Rattle.mpslp_model_core.specs.Model.{Row, Column}
+use Rattle.mpslp_types.specs.Limit.{limit_of, is_plus_infinite, is_minus_infinite, zero_limit, is_at_most}
 use Rattle.mpslp_types.specs.declared.kinds.Limit.{Limit}
 use Rattle.mpslp_types.specs.declared.kinds.Limit.TheVariants.{MinusInf, Finite, PlusInf}
 use Rattle.mpslp_types.specs.declared.kinds.RowType.{RowType}
 use Rattle.mpslp_types.specs.declared.kinds.RowType.TheVariants.{Free, AtMost, AtLeast, Equal}
+use Rattle.mpslp_model_core.specs.declared.bounds.DeclaredColumn.{DeclaredColumn}
+use Rattle.mpslp_types.specs.declared.kinds.Kind.{Kind}
+use Rattle.mpslp_types.specs.declared.kinds.Kind.TheVariants.{Continuous, Integer, Semi}
 
 -- how a row is declared: by its type, or by both limits
 pub data RowDefinition : Type 0 where
@@ -61,3 +64,49 @@ has_infinite_rhs (by_type AtMost) b r = is_infinite_size b && (is_some r || is_n
 has_infinite_rhs (by_type AtLeast) b r = is_infinite_size b && (is_some r || not (is_negative b))
 has_infinite_rhs (by_type Equal) b r = is_infinite_size b
 has_infinite_rhs (by_limits _ _) b r = false
+
+-- ---- the type and bounds of a column
+
+abbrev pub one_limit : Limit
+one_limit = Finite one_number
+
+-- neither bound is declared
+abbrev pub no_side_declared : DeclaredColumn → Bool
+no_side_declared d = is_none d.lower && is_none d.upper
+
+-- the upper bound if none is declared: 1 for a binary column, and for a marked one without any declared bound
+abbrev pub upper_by_default : DeclaredColumn → Limit
+upper_by_default d = if d.binary || (d.marked && no_side_declared d) then one_limit else PlusInf
+
+-- 0 if none is declared
+abbrev pub declared_lower : DeclaredColumn → Limit
+declared_lower d = unwrap_or d.lower zero_limit
+
+abbrev pub declared_upper : DeclaredColumn → Limit
+declared_upper d = unwrap_or d.upper (upper_by_default d)
+
+-- whether the column is integer
+abbrev pub is_declared_integer : DeclaredColumn → Bool
+is_declared_integer d = d.marked || (d.integer || d.binary)
+
+-- no column is declared both integer and semi-continuous
+abbrev pub declared_kind : DeclaredColumn → Kind
+declared_kind d = if is_declared_integer d then Integer else (if d.semi then Semi else Continuous)
+
+abbrev pub declared_column : DeclaredColumn → Column
+declared_column d = record {
+  kind = declared_kind d;
+  lower = declared_lower d;
+  upper = declared_upper d;
+}
+
+-- ---- columns that no model has
+
+-- an upper bound below 0, without a declared lower bound
+abbrev pub is_negative_upper : DeclaredColumn → Bool
+is_negative_upper d = is_none d.lower && not (is_at_most zero_limit (declared_upper d))
+
+-- binary, and the bounds are not within 0 and 1
+abbrev pub are_no_binary_bounds : DeclaredColumn → Bool
+are_no_binary_bounds d = d.binary
+    && not (is_at_most zero_limit (declared_lower d) && is_at_most (declared_upper d) one_limit)

@@ -1,9 +1,9 @@
--- Models as values.
+-- Models as values, and as lists of their parts.
 use Rattle.std.specs.Prelude.{◌≡◌, ◌<◌, ℕ, Bool, true, false, ◌&&◌, not, IsTrue, List, ◌∷◌, length}
 use Rattle.std.specs.Ordering.{ordering_then}
 use Rattle.std.specs.declared.cmp.Ordering.{Ordering}
 use Rattle.std.specs.FinMap as maps
-use Rattle.std.specs.FinMap.{FinMap}
+use Rattle.std.specs.FinMap.{FinMap, entries}
 use Rattle.std.specs.List.{list_all}
 use Rattle.mpslp_decimal.specs.Decimal.{Number, IsDecimal, is_decimal, is_zero}
 use Rattle.mpslp_types.specs.Name.{IsMpsName, bytes_cmp, is_mps_name, is_one_of}
@@ -80,3 +80,23 @@ pub record IsSound (m : LinearModel) : Type 0 where
   pub rows : IsTrue (list_all is_sound_row (maps.entries m.rows))
   pub columns : IsTrue (list_all is_sound_column (maps.entries m.columns))
   pub coefficients : IsTrue (list_all (is_sound_coefficient m) (maps.entries m.coefficients))
+
+-- ---- the listing of a model: each of its maps as the list of its entries, in byte order
+
+pub record Listing : Type 0 where
+  pub sense : Sense
+  pub objective : List ℕ
+  pub constant : Number
+  pub rows : List (List ℕ × Row)
+  pub columns : List (List ℕ × Column)
+  pub coefficients : List (CoefficientKey × Number)
+
+abbrev pub listing_of : LinearModel → Listing
+listing_of m = record {
+  sense = m.sense;
+  objective = m.objective;
+  constant = m.constant;
+  rows = entries m.rows;
+  columns = entries m.columns;
+  coefficients = entries m.coefficients;
+}

@@ -2,8 +2,7 @@
 use Rattle.std.specs.Prelude.{◌||◌, Bool, Option, true, false, not, Some, None, is_none}
 use Rattle.std.specs.Option.{option_map_or}
 use Rattle.mpslp_decimal.specs.Decimal.{Number, is_infinite_size, difference_of}
-use Rattle.mpslp_model_core.specs.Limits.{RowDefinition, limits_of, has_infinite_rhs}
-use Rattle.mpslp_model_core.specs.Columns.{is_negative_upper, are_no_binary_bounds, declared_lower, declared_upper, declared_kind}
+use Rattle.mpslp_model_core.specs.Limits.{RowDefinition, limits_of, has_infinite_rhs, is_negative_upper, are_no_binary_bounds, declared_lower, declared_upper, declared_kind}
 use Rattle.mpslp_model_core.specs.declared.bounds.DeclaredColumn.{DeclaredColumn}
 use Rattle.mpslp_types.specs.declared.faults.FaultKind.{FaultKind}
 use Rattle.mpslp_types.specs.declared.faults.FaultKind.TheVariants as kinds

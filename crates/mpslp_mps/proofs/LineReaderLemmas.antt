@@ -11,7 +11,7 @@ use Rattle.mpslp_lines.specs.LinesRead.{RefusesLines}
 use Rattle.mpslp_lines.specs.LineAnswer.{IsErrorOf, IsFaultOn}
 use Rattle.mpslp_lines.specs.declared.errors.LineError.{LineError}
 use Rattle.mpslp_lines.specs.declared.errors.LineError.TheVariants as errors
-use Rattle.mpslp_mps_fields.specs.Section.{is_section}
+use Rattle.mpslp_mps_fields.specs.Line.{is_section}
 use Rattle.mpslp_mps.specs.FirstFault.{line_fault, first_mps_fault}
 use Rattle.mpslp_mps.specs.LineByLine.{placed_in}
 use Rattle.mpslp_mps.specs.ReadAnswer.{ReadsMps}

@@ -3,12 +3,9 @@ use Rattle.std.specs.Prelude.{ℕ, Bool, true, false, List, [], ◌∷◌, ◌++
 use Rattle.std.specs.List.{last_or, cons_option}
 use Rattle.std.specs.Option.{option_map, option_map_or, option_or}
 use Rattle.mpslp_types.specs.Name.{same_bytes}
-use Rattle.mpslp_model_core.specs.Lists.{head_of, when}
-use Rattle.mpslp_mps_fields.specs.Line.{Fields, LineContent, skipped, header, data_line}
-use Rattle.mpslp_mps_fields.specs.Section.{section_named, section_of_header, is_section}
-use Rattle.mpslp_mps_fields.specs.HeaderLine.{section_of_word_due}
-use Rattle.mpslp_mps_fields.specs.DataLine.{word_shape, column_shape, is_marker_line, marker_shape, opening_word, vector_shape}
-use Rattle.mpslp_mps_fields.specs.BoundLine.{bound_type, bound_shape}
+use Rattle.mpslp_types.specs.Lists.{head_of, when}
+use Rattle.mpslp_mps_fields.specs.Line.{Fields, LineContent, skipped, header, data_line, section_named, section_of_header, is_section, section_of_word_due}
+use Rattle.mpslp_mps_fields.specs.DataLine.{word_shape, column_shape, is_marker_line, marker_shape, opening_word, vector_shape, bound_type, bound_shape}
 use Rattle.mpslp_mps_fields.specs.declared.sections.Section.{Section}
 use Rattle.mpslp_mps_fields.specs.declared.sections.Section.TheVariants.{ObjName, Columns, Rhs, Ranges, Bounds}
 

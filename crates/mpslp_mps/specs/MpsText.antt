@@ -5,10 +5,9 @@ use Rattle.std.specs.Str.Lines.{lines}
 use Rattle.mpslp_model_core.specs.Model.{LinearModel}
 use Rattle.mpslp_builder.specs.Declaration.{Declarations, Draft, empty_draft, with_declarations}
 use Rattle.mpslp_builder.specs.Meaning.{Means}
-use Rattle.mpslp_model_core.specs.Lists.{is_nonempty, those_of}
+use Rattle.mpslp_types.specs.Lists.{is_nonempty, those_of}
 use Rattle.mpslp_lines.specs.FaultTests.{FaultTests}
-use Rattle.mpslp_mps_fields.specs.Line.{LineContent, content_of}
-use Rattle.mpslp_mps_fields.specs.Section.{begins}
+use Rattle.mpslp_mps_fields.specs.Line.{LineContent, content_of, begins}
 use Rattle.mpslp_mps.specs.Context.{Context, context_of}
 use Rattle.mpslp_mps.specs.LineDeclarations.{line_declares}
 use Rattle.mpslp_mps.specs.LineFault.{line_tests}

@@ -1,4 +1,5 @@
 pub mod Name
+pub mod Lists
 pub mod NameTests
 pub mod Limit
 pub mod FaultName

@@ -9,7 +9,7 @@ use Rattle.std.proofs.lemmas.List.Quantifiers.{position-Some}
 use Rattle.std.proofs.lemmas.Option.{slice_get-map, slice_get-get_or, get_or_from_slice_get}
 use Rattle.mpslp_decimal.specs.Decimal.{Number, is_decimal, is_zero, zero_number}
 use Rattle.mpslp_types.specs.Name.{same_bytes}
-use Rattle.mpslp_model_core.specs.Model.{LinearModel, CoefficientKey, Column, key_cmp, IsSound, is_integer_column as has_integer_kind}
+use Rattle.mpslp_model_core.specs.Model.{LinearModel, CoefficientKey, Column, key_cmp, IsSound, is_integer_column as has_integer_kind, listing_of}
 use Rattle.mpslp_model_core.specs.Views.{coefficient_at, column_elements}
 use Rattle.mpslp_model_core.specs.Views as views
 use Rattle.mpslp_types.specs.declared.kinds.Kind.{Kind}
@@ -18,7 +18,6 @@ use Rattle.mpslp_types.proofs.BoolLemmas.{not_so}
 use Rattle.mpslp_builder.proofs.DraftEntries.{same_key}
 use Rattle.mpslp_builder.proofs.SlotLemmas.{same_name}
 use Rattle.mpslp_builder.proofs.SortedDrafts.{key_total}
-use Rattle.mpslp_model_core.specs.Listing.{listing_of}
 use Rattle.mpslp_canonical_mps.specs.CanonicalMps.{Lines, bound_line, column_bound_lines, coefficient_line, column_coefficients, printed_coefficients, is_integer_column}
 use Rattle.mpslp_output.specs.LinesAt.{lines_at}
 use Rattle.mpslp_write_mps.specs.MpsLinesAt.{is_wanted, of_part, element_lines, objective_line_at, objective_lines}
