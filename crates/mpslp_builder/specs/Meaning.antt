@@ -1,14 +1,10 @@
 -- The model that declarations mean.
-use Rattle.std.specs.Prelude.{◌≡◌, ℕ, Bool, not, IsTrue, List, [], map, filter, Option, is_some, unwrap_or}
-use Rattle.std.specs.FinMap as maps
-use Rattle.std.specs.List.{list_all}
-use Rattle.mpslp_decimal.specs.Decimal.{Number, zero_number, is_zero, negated}
-use Rattle.mpslp_model_core.specs.Model.{LinearModel, Row, IsSound, Column}
-use Rattle.mpslp_builder.specs.Declaration.{RowDefinition, Declarations, Draft, draft_of, at_name, names_in, has_name, is_semi}
+use Rattle.mpslp_types.specs.Basics.{◌≡◌, ℕ, Bool, not, IsTrue, List, [], map, filter, Option, is_some, unwrap_or, list_all, from_sorted, Number, is_zero, zero_number, negated}
+pub use Rattle.mpslp_model_core.specs.Model.{Row, IsSound, Column, LinearModel}
+pub use Rattle.mpslp_builder.specs.Declaration.{RowDefinition, draft_of, at_name, names_in, has_name, is_semi, Declarations, Draft, empty_draft, with_declarations}
 use Rattle.mpslp_model_core.specs.Limits.{limits_of, plain_limits, has_infinite_rhs, declared_column, is_negative_upper, are_no_binary_bounds}
 use Rattle.mpslp_builder.specs.Consistency.{AreConsistent}
-use Rattle.mpslp_types.specs.declared.kinds.Sense.TheVariants.{Minimize}
-use Rattle.mpslp_types.specs.declared.kinds.RowType.TheVariants.{Free}
+use Rattle.mpslp_types.specs.declared.kinds.{Sense.TheVariants.Minimize, RowType.TheVariants.Free}
 use Rattle.mpslp_model_core.specs.declared.bounds.DeclaredColumn.{DeclaredColumn}
 
 -- ---- the model of a draft
@@ -50,9 +46,9 @@ model_of all = record {
   sense = unwrap_or all.sense Minimize;
   objective = objective_name all;
   constant = constant_of all;
-  rows = maps.from_sorted (map (row_entry all) all.rows);
-  columns = maps.from_sorted (map (λ column. (column.0, column_of all column.0)) all.columns);
-  coefficients = maps.from_sorted (filter (λ entry. not (is_zero entry.1)) all.coefficients);
+  rows = from_sorted (map (row_entry all) all.rows);
+  columns = from_sorted (map (λ column. (column.0, column_of all column.0)) all.columns);
+  coefficients = from_sorted (filter (λ entry. not (is_zero entry.1)) all.coefficients);
 }
 
 -- a test of a row's definition, right-hand side and range

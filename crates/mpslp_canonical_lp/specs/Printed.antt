@@ -1,11 +1,7 @@
 -- Printed lines: their pieces, and how they are printed.
-use Rattle.std.specs.Prelude.{ℕ, Bool, List, ◌++◌, map, replicate, codes, if◌then◌else◌}
-use Rattle.std.specs.List.{join_by}
-use Rattle.mpslp_decimal.specs.Decimal.{Number}
+use Rattle.mpslp_types.specs.Basics.{ℕ, Bool, if◌then◌else◌, List, ◌++◌, map, replicate, codes, join_by, with_line_feeds, Number}
 use Rattle.mpslp_decimal.specs.NumberText.{number_text}
-use Rattle.mpslp_lp_grammar.specs.declared.relations.Relation.{Relation}
-use Rattle.mpslp_lp_grammar.specs.declared.relations.Relation.TheVariants.{AtMost, AtLeast, EqualTo}
-use Rattle.mpslp_types.specs.Lists.{with_line_feeds}
+use Rattle.mpslp_lp_grammar.specs.declared.relations.Relation.{Relation, TheVariants.AtMost, TheVariants.AtLeast, TheVariants.EqualTo}
 
 pub data Lexeme : Type 0 where
   -- a name, or a word of the language

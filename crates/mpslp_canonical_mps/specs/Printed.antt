@@ -1,8 +1,6 @@
 -- Printed lines: their fields, and how they are printed.
-use Rattle.std.specs.Prelude.{ℕ, List, ◌++◌, map, codes}
-use Rattle.std.specs.List.{join_by}
+use Rattle.mpslp_types.specs.Basics.{ℕ, List, ◌++◌, map, codes, join_by, with_line_feeds}
 use Rattle.mpslp_mps_fields.specs.Line.{Fields}
-use Rattle.mpslp_types.specs.Lists.{with_line_feeds}
 
 -- a header; a data line after one space; a data line after four spaces
 pub data PrintedLine : Type 0 where

@@ -3,8 +3,7 @@ use Rattle.std.specs.Prelude.{ℕ, ◌+◌, ◌-◌, ◌*◌, ◌^◌, ℤ, pos,
 use Rattle.std.specs.List.{list_any, list_all, before_first, after_first}
 use Rattle.mpslp_decimal.specs.Decimal.{Number, normal, has_few_digits, has_small_exponent}
 use Rattle.mpslp_decimal.specs.declared.literal.TheConstants.{MAX_LITERAL_LEN}
-use Rattle.mpslp_decimal.specs.declared.literal.NumberFault.{NumberFault}
-use Rattle.mpslp_decimal.specs.declared.literal.NumberFault.TheVariants.{BadNumber, LongNumber, TooManyDigits, ExponentRange}
+use Rattle.mpslp_decimal.specs.declared.literal.NumberFault.{NumberFault, TheVariants.BadNumber, TheVariants.LongNumber, TheVariants.TooManyDigits, TheVariants.ExponentRange}
 
 abbrev pub is_digit : ℕ → Bool
 is_digit byte = nat_le 48 byte && nat_le byte 57

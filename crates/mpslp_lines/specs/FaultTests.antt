@@ -1,21 +1,11 @@
 -- Tests of a line in the order of the kinds of errors: of its bytes, names and number literals; and how errors are reported.
-use Rattle.std.specs.Prelude.{Bool, true, List, [], ◌∷◌, Option, Some, None, if◌then◌else◌, ℕ, not, ◌&&◌, ◌||◌, ◌==◌, nat_le, length, filter_map, Result, Ok, Err, ◌-◌, ◌^◌, min}
-use Rattle.std.specs.Option.{option_map_or}
-use Rattle.std.specs.List.{list_all, list_any}
-use Rattle.std.specs.Result.{result_unwrap_or}
-use Rattle.mpslp_types.specs.declared.faults.FaultKind.{FaultKind}
-use Rattle.mpslp_types.specs.declared.faults.FaultKind.TheVariants.{FieldCount, LineTooLong, BadByte}
+use Rattle.mpslp_types.specs.Basics.{ℕ, ◌-◌, ◌^◌, min, nat_le, ◌==◌, Bool, true, ◌&&◌, ◌||◌, not, if◌then◌else◌, List, [], ◌∷◌, length, filter_map, Option, Some, None, Result, Ok, Err, list_all, list_any, option_map_or, result_unwrap_or, Number, zero_number, number_of, same_bytes, has_name_length, is_visible, marker, kind_rank}
+use Rattle.mpslp_types.specs.declared.faults.{FaultKind.FaultKind, BuildFault.BuildFault, Fault.Fault}
 use Rattle.mpslp_lines.specs.declared.legal_line.TheConstants.{MAX_LINE_LEN}
-use Rattle.mpslp_decimal.specs.Decimal.{Number, zero_number}
-use Rattle.mpslp_decimal.specs.Literal.{number_of}
 use Rattle.mpslp_decimal.specs.declared.literal.NumberFault.{NumberFault}
 use Rattle.mpslp_decimal.specs.declared.literal.NumberFault.TheVariants as numbers
-use Rattle.mpslp_types.specs.Name.{same_bytes, has_name_length, is_visible, marker}
-use Rattle.mpslp_types.specs.FaultOrder.{kind_rank}
 use Rattle.mpslp_types.specs.declared.faults.FaultKind.TheVariants as kinds
-use Rattle.mpslp_types.specs.declared.faults.BuildFault.{BuildFault}
 use Rattle.mpslp_types.specs.declared.faults.BuildFault.TheVariants as builds
-use Rattle.mpslp_types.specs.declared.faults.Fault.{Fault}
 
 -- kinds, each with the test whether a line has this error
 abbrev pub FaultTests : Type 0
@@ -28,7 +18,7 @@ first_held (test ∷ more) = if test.0 then Some test.1 else first_held more
 
 -- the tests of a line of this shape; a line of another shape has a wrong number of fields and is not tested further
 abbrev pub judged_by : {X : Type 0} → (X → FaultTests) → Option X → FaultTests
-judged_by tests shape = option_map_or tests shape ((true, FieldCount) ∷ [])
+judged_by tests shape = option_map_or tests shape ((true, kinds.FieldCount) ∷ [])
 
 -- ---- length and bytes
 
@@ -41,7 +31,7 @@ is_legal_byte byte = byte == 9 || (nat_le 32 byte && nat_le byte 126)
 
 -- length and bytes are tested first; `outside` is the part of the line outside comments
 abbrev pub legal_tests : (line outside : List ℕ) → FaultTests
-legal_tests line outside = (not (has_legal_length line), LineTooLong) ∷ (not (list_all is_legal_byte outside), BadByte) ∷ []
+legal_tests line outside = (not (has_legal_length line), kinds.LineTooLong) ∷ (not (list_all is_legal_byte outside), kinds.BadByte) ∷ []
 
 -- ---- names
 

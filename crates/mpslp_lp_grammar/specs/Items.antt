@@ -1,20 +1,7 @@
 -- Sides, relations and items: the parts of the objective, of rows and of bounds.
-use Rattle.std.specs.Prelude.{ℕ, pos, Bool, true, false, List, [], ◌∷◌, Option, Some, None}
-use Rattle.mpslp_decimal.specs.Decimal.{Number as Decimal, negated}
-use Rattle.mpslp_types.specs.declared.faults.FaultKind.TheVariants.{BadToken}
-use Rattle.mpslp_lp_grammar.specs.declared.signs.Sign.{Sign as SignOf}
-use Rattle.mpslp_lp_grammar.specs.declared.signs.Sign.TheVariants.{Plus, Minus}
-use Rattle.mpslp_lp_grammar.specs.Rules.{after_taking, gives, ◌>>=◌, next}
-use Rattle.mpslp_lp_grammar.specs.Rules.Parsed.{Reads, Unfinished}
-use Rattle.mpslp_lp_grammar.specs.Terminal.{TerminalAt}
-use Rattle.mpslp_lp_grammar.specs.Terminal.Terminal.{Name, Number, Sign, Colon, Compares, Infinity}
-use Rattle.mpslp_lp_grammar.specs.declared.context.Context.{Context}
-use Rattle.mpslp_lp_grammar.specs.Phrase.{PhraseRule, refuses}
-use Rattle.mpslp_types.specs.Limit.{limit_of}
-use Rattle.mpslp_types.specs.declared.kinds.Limit.{Limit}
-use Rattle.mpslp_types.specs.declared.kinds.Limit.TheVariants.{MinusInf, PlusInf}
-use Rattle.mpslp_lp_grammar.specs.declared.relations.Relation.{Relation}
-use Rattle.mpslp_lp_grammar.specs.declared.relations.Relation.TheVariants.{AtMost, AtLeast, EqualTo}
+use Rattle.mpslp_types.specs.Basics.{ℕ, pos, Bool, true, false, List, [], ◌∷◌, Option, Some, None, Number as Decimal, negated, limit_of}
+use Rattle.mpslp_types.specs.declared.{faults.FaultKind.TheVariants.BadToken, kinds.Limit.Limit, kinds.Limit.TheVariants.MinusInf, kinds.Limit.TheVariants.PlusInf}
+use Rattle.mpslp_lp_grammar.specs.Phrase.{PhraseRule, refuses, SignOf, Plus, Minus, TerminalAt, Name, Number, Sign, Colon, Compares, Infinity, Relation, AtMost, AtLeast, EqualTo, after_taking, gives, ◌>>=◌, next, Reads, Unfinished, Context}
 
 -- ---- sides: an optional sign, and a number, `inf` or `infinity`
 

@@ -1,24 +1,15 @@
 -- Where a phrase begins, and the results of the rules of the grammar: the error of a token, or what follows a phrase.
-use Rattle.std.specs.Prelude.{List, [], ◌∷◌, Option, None, unwrap_or, Bool, true, false, ◌||◌, not, Some, if◌then◌else◌}
+use Rattle.mpslp_types.specs.Basics.{Bool, true, false, ◌||◌, not, if◌then◌else◌, List, [], ◌∷◌, Option, Some, None, unwrap_or}
 use Rattle.mpslp_builder.specs.Declaration.{Declaration, Declarations, Draft, with_declarations, empty_draft}
 use Rattle.mpslp_builder.specs.Refusal.{refusals_in_turn}
-use Rattle.mpslp_types.specs.declared.faults.BuildFault.{BuildFault}
-use Rattle.mpslp_types.specs.declared.faults.Fault.{Fault}
-use Rattle.mpslp_types.specs.declared.faults.FaultKind.{FaultKind}
+use Rattle.mpslp_types.specs.declared.faults.{BuildFault.BuildFault, Fault.Fault, FaultKind.FaultKind, FaultKind.TheVariants.SectionOrder, FaultKind.TheVariants.SectionRepeated}
 use Rattle.mpslp_lines.specs.FaultTests.{fault_on_line, kind_of_build_fault}
-use Rattle.mpslp_lp_grammar.specs.Rules.{Rule as TokenRule, AfterPhrase, gives}
-use Rattle.mpslp_lp_grammar.specs.Rules.Parsed.{Refuses}
-use Rattle.mpslp_lp_grammar.specs.Rules.AfterPhrase.{Goes}
+pub use Rattle.mpslp_lp_grammar.specs.Rules.{Rule as TokenRule, AfterPhrase, Refuses, Goes, after_taking, gives, ◌>>=◌, next, Reads, Unfinished, ahead, Outcome, phrases, made_by, Ends, Finished, Refused, Open}
 use Rattle.mpslp_lp_tokens.specs.Words.{section_of}
-use Rattle.mpslp_lp_grammar.specs.Terminal.{Terminal, TerminalAt}
-use Rattle.mpslp_lp_grammar.specs.Terminal.Terminal.{Opens}
-use Rattle.mpslp_lp_grammar.specs.declared.context.Context.{Context}
-use Rattle.mpslp_lp_grammar.specs.declared.states.Place.{Place}
-use Rattle.mpslp_types.specs.declared.faults.FaultKind.TheVariants.{SectionOrder, SectionRepeated}
+pub use Rattle.mpslp_lp_grammar.specs.Terminal.{Terminal, SignOf, Plus, Minus, TerminalAt, Name, Number, Sign, Colon, Compares, Infinity, Relation, AtMost, AtLeast, EqualTo, Opens, Free, line_terminals}
 use Rattle.mpslp_lp_grammar.specs.declared.sections_seen.SectionsSeen.{SectionsSeen}
-use Rattle.mpslp_lp_grammar.specs.declared.states.Place.TheVariants.{AtStart}
-use Rattle.mpslp_lp_tokens.specs.declared.words.Section.{Section}
-use Rattle.mpslp_lp_tokens.specs.declared.words.Section.TheVariants.{Objective, Rows, Bounds, Generals, Binaries, SemiContinuous, End}
+use Rattle.mpslp_lp_tokens.specs.declared.words.Section.{Section, TheVariants.Objective, TheVariants.Rows, TheVariants.Bounds, TheVariants.Generals, TheVariants.Binaries, TheVariants.SemiContinuous, TheVariants.End}
+pub use Rattle.mpslp_lp_grammar.specs.declared.{context.Context.Context, states.Place.Place, states.Place.TheVariants.BeforeItems, states.Place.TheVariants.InObjective, states.Place.TheVariants.BetweenRows, states.Place.TheVariants.InRow, states.Place.TheVariants.InBounds, states.Place.TheVariants.AtStart, states.Place.TheVariants.InGenerals, states.Place.TheVariants.InBinaries, states.Place.TheVariants.InSemis}
 
 -- ---- the sections that were opened
 

@@ -1,9 +1,5 @@
 -- The tokens of a line of LP text.
-use Rattle.std.specs.Prelude.{ℕ, zero, suc, ◌+◌, ◌-◌, Bool, true, false, ◌==◌, ◌&&◌, List, [], ◌∷◌, length, take, codes, Option, Some, None, zip, ◌||◌, not}
-use Rattle.std.specs.List.{list_all, find, before_first}
-use Rattle.std.specs.Option.{option_map}
-use Rattle.mpslp_decimal.specs.Literal.{is_literal}
-use Rattle.mpslp_types.specs.Name.{same_bytes, begins_a_number, is_letter, is_lp_symbol, is_lp_byte}
+use Rattle.mpslp_types.specs.Basics.{ℕ, zero, suc, ◌+◌, ◌-◌, ◌==◌, Bool, true, false, ◌&&◌, ◌||◌, not, List, [], ◌∷◌, length, take, zip, codes, Option, Some, None, list_all, find, before_first, option_map, is_literal, same_bytes, begins_a_number, is_letter, is_lp_symbol, is_lp_byte}
 use Rattle.mpslp_lp_tokens.specs.declared.tokens.TokenKind.{TokenKind}
 use Rattle.mpslp_lp_tokens.specs.declared.tokens.TokenKind.TheVariants.{Word, Number, Less, Greater, Equal, DoubleColon, Colon, Arrow, Plus, Minus, OpenBracket, CloseBracket, Caret, Star, Period, Unknown}
 

@@ -1,15 +1,8 @@
 -- The limits of a row, and the type and bounds of a column, from what is declared of them.
-use Rattle.std.specs.Prelude.{Bool, true, false, ◌&&◌, ◌||◌, not, Option, Some, None, is_some, if◌then◌else◌, is_none, unwrap_or}
-use Rattle.mpslp_decimal.specs.Decimal.{Number, is_negative, is_infinite_size, size_of, sum_of, difference_of, one_number}
+use Rattle.mpslp_types.specs.Basics.{Bool, true, false, ◌&&◌, ◌||◌, not, if◌then◌else◌, Option, Some, None, is_some, is_none, unwrap_or, Number, is_negative, is_infinite_size, size_of, sum_of, difference_of, one_number, limit_of, is_plus_infinite, is_minus_infinite, zero_limit, is_at_most}
 use Rattle.mpslp_model_core.specs.Model.{Row, Column}
-use Rattle.mpslp_types.specs.Limit.{limit_of, is_plus_infinite, is_minus_infinite, zero_limit, is_at_most}
-use Rattle.mpslp_types.specs.declared.kinds.Limit.{Limit}
-use Rattle.mpslp_types.specs.declared.kinds.Limit.TheVariants.{MinusInf, Finite, PlusInf}
-use Rattle.mpslp_types.specs.declared.kinds.RowType.{RowType}
-use Rattle.mpslp_types.specs.declared.kinds.RowType.TheVariants.{Free, AtMost, AtLeast, Equal}
+use Rattle.mpslp_types.specs.declared.kinds.{Limit.Limit, Limit.TheVariants.MinusInf, Limit.TheVariants.Finite, Limit.TheVariants.PlusInf, RowType.RowType, RowType.TheVariants.Free, RowType.TheVariants.AtMost, RowType.TheVariants.AtLeast, RowType.TheVariants.Equal, Kind.Kind, Kind.TheVariants.Continuous, Kind.TheVariants.Integer, Kind.TheVariants.Semi}
 use Rattle.mpslp_model_core.specs.declared.bounds.DeclaredColumn.{DeclaredColumn}
-use Rattle.mpslp_types.specs.declared.kinds.Kind.{Kind}
-use Rattle.mpslp_types.specs.declared.kinds.Kind.TheVariants.{Continuous, Integer, Semi}
 
 -- how a row is declared: by its type, or by both limits
 pub data RowDefinition : Type 0 where

@@ -1,17 +1,12 @@
 -- The errors of the form of a line of MPS text, after the lines before it, as tests in the order of their kinds.
-use Rattle.std.specs.Prelude.{ℕ, List, [], ◌++◌, Bool, true, false, ◌&&◌, not, ◌∷◌, Option, Some, None, is_some, is_none, if◌then◌else◌, codes, map, ◌||◌}
-use Rattle.std.specs.Option.{option_map_or}
+use Rattle.mpslp_types.specs.Basics.{ℕ, Bool, true, false, ◌&&◌, ◌||◌, not, if◌then◌else◌, List, [], ◌∷◌, ◌++◌, map, codes, Option, Some, None, is_some, is_none, option_map_or, is_one_of, same_bytes}
 use Rattle.mpslp_builder.specs.Declaration.{Draft, has_column}
-use Rattle.mpslp_lines.specs.FaultTests.{FaultTests, judged_by, legal_tests, name_tests, number_tests}
+pub use Rattle.mpslp_lines.specs.FaultTests.{judged_by, legal_tests, name_tests, number_tests, FaultTests}
 use Rattle.mpslp_mps_fields.specs.Line.{LineContent, skipped, header, data_line, outside_comment, content_of, Fields, section_named, has, unknown_section, may_follow}
 use Rattle.mpslp_mps.specs.Context.{Context}
-use Rattle.mpslp_types.specs.Name.{same_bytes, is_one_of}
 use Rattle.mpslp_types.specs.declared.faults.FaultKind.TheVariants as kinds
 use Rattle.mpslp_mps_fields.specs.DataLine.{RowLine, ValuesLine, word_shape, row_shape, row_type, column_shape, is_marker_line, third_field, marker_shape, opening_word, closing_word, vector_shape, Pair, sense_of, BoundLine, bound_type, bound_shape}
-use Rattle.mpslp_mps_fields.specs.declared.sections.Section.{Section}
-use Rattle.mpslp_mps_fields.specs.declared.sections.Section.TheVariants.{ObjSense, ObjName, Rows, Columns, Rhs, Ranges, Bounds, Name}
-use Rattle.mpslp_mps_fields.specs.declared.bound_types.BoundType.{BoundType}
-use Rattle.mpslp_types.specs.declared.faults.FaultKind.TheVariants.{SecondSet}
+use Rattle.mpslp_mps_fields.specs.declared.{sections.Section.Section, sections.Section.TheVariants.ObjSense, sections.Section.TheVariants.ObjName, sections.Section.TheVariants.Rows, sections.Section.TheVariants.Columns, sections.Section.TheVariants.Rhs, sections.Section.TheVariants.Ranges, sections.Section.TheVariants.Bounds, sections.Section.TheVariants.Name, bound_types.BoundType.BoundType}
 
 -- ---- headers
 
@@ -56,7 +51,7 @@ literals_of pairs = map (λ pair. pair.literal) pairs
 
 -- all lines of a section have the set name of its first line
 abbrev pub set_tests : Option (List ℕ) → List ℕ → FaultTests
-set_tests first set = (option_map_or (λ name. not (same_bytes name set)) first false, SecondSet) ∷ []
+set_tests first set = (option_map_or (λ name. not (same_bytes name set)) first false, kinds.SecondSet) ∷ []
 
 -- ---- data lines
 

@@ -1,14 +1,9 @@
 -- The shapes of data lines: which fields they have. A line of another shape has a wrong number of fields.
-use Rattle.std.specs.Prelude.{ℕ, Bool, false, List, [], ◌∷◌, Option, Some, None, if◌then◌else◌, codes, true}
-use Rattle.std.specs.List.{find}
-use Rattle.mpslp_types.specs.Name.{same_bytes, is_one_of, marker}
-use Rattle.mpslp_types.specs.declared.kinds.Sense.{Sense}
-use Rattle.mpslp_types.specs.declared.kinds.Sense.TheVariants.{Minimize, Maximize}
-use Rattle.mpslp_types.specs.declared.kinds.RowType.{RowType}
+use Rattle.mpslp_types.specs.Basics.{ℕ, Bool, true, false, if◌then◌else◌, List, [], ◌∷◌, codes, Option, Some, None, find, is_one_of, same_bytes, marker}
+use Rattle.mpslp_types.specs.declared.kinds.{Sense.Sense, Sense.TheVariants.Minimize, Sense.TheVariants.Maximize, RowType.RowType}
 use Rattle.mpslp_mps_fields.specs.Line.{Fields}
 use Rattle.mpslp_types.specs.declared.kinds.RowType.TheVariants as types
-use Rattle.mpslp_mps_fields.specs.declared.bound_types.BoundType.{BoundType}
-use Rattle.mpslp_mps_fields.specs.declared.bound_types.BoundType.TheVariants.{Lower, Upper, Fixed, Free, NoLower, NoUpper, Binary, IntegerLower, IntegerUpper, SemiUpper}
+use Rattle.mpslp_mps_fields.specs.declared.bound_types.BoundType.{BoundType, TheVariants.Lower, TheVariants.Upper, TheVariants.Fixed, TheVariants.Free, TheVariants.NoLower, TheVariants.NoUpper, TheVariants.Binary, TheVariants.IntegerLower, TheVariants.IntegerUpper, TheVariants.SemiUpper}
 
 -- ---- OBJSENSE and OBJNAME: a word, after the keyword or on a line of its own
 

@@ -1,12 +1,7 @@
 -- Lines of MPS text: their fields, and the headers of sections.
-use Rattle.std.specs.Prelude.{ℕ, Bool, false, ◌||◌, ◌==◌, nat_lt, List, [], ◌∷◌, filter, length, if◌then◌else◌, Option, Some, None, codes, true, not}
-use Rattle.std.specs.List.{list_all, slice_split, find, list_any}
-use Rattle.mpslp_types.specs.Name.{same_bytes, is_one_of}
-use Rattle.mpslp_mps_fields.specs.declared.sections.Section.{Section}
-use Rattle.mpslp_mps_fields.specs.declared.sections.Section.TheVariants.{Name, ObjSense, ObjName, Rows, Columns, Rhs, Ranges, Bounds, EndData}
-use Rattle.mpslp_types.specs.declared.faults.FaultKind.{FaultKind}
-use Rattle.mpslp_types.specs.declared.faults.FaultKind.TheVariants as kinds
-use Rattle.mpslp_types.specs.Lists.{is_nonempty}
+use Rattle.mpslp_types.specs.Basics.{ℕ, nat_lt, ◌==◌, Bool, true, false, ◌||◌, not, if◌then◌else◌, List, [], ◌∷◌, length, filter, codes, Option, Some, None, list_all, list_any, slice_split, find, is_nonempty, is_one_of, same_bytes}
+use Rattle.mpslp_mps_fields.specs.declared.sections.Section.{Section, TheVariants.Name, TheVariants.ObjSense, TheVariants.ObjName, TheVariants.Rows, TheVariants.Columns, TheVariants.Rhs, TheVariants.Ranges, TheVariants.Bounds, TheVariants.EndData}
+use Rattle.mpslp_types.specs.declared.faults.FaultKind.{FaultKind, TheVariants.Quadratic, TheVariants.Sos, TheVariants.Indicator, TheVariants.UnknownSection}
 
 -- the fields of a line, in order
 abbrev pub Fields : Type 0
@@ -98,9 +93,9 @@ has set section = list_any (λ other. is_section section (Some other)) set
 -- a header that is not a section of this profile
 abbrev pub unknown_section : List ℕ → FaultKind
 unknown_section keyword =
-    if is_one_of (codes "QSECTION" ∷ codes "QMATRIX" ∷ codes "QUADOBJ" ∷ codes "QCMATRIX" ∷ codes "CSECTION" ∷ []) keyword then kinds.Quadratic
-    else (if is_one_of (codes "SOS" ∷ codes "SOS1" ∷ codes "SOS2" ∷ []) keyword then kinds.Sos
-    else (if is_one_of (codes "INDICATORS" ∷ []) keyword then kinds.Indicator else kinds.UnknownSection))
+    if is_one_of (codes "QSECTION" ∷ codes "QMATRIX" ∷ codes "QUADOBJ" ∷ codes "QCMATRIX" ∷ codes "CSECTION" ∷ []) keyword then Quadratic
+    else (if is_one_of (codes "SOS" ∷ codes "SOS1" ∷ codes "SOS2" ∷ []) keyword then Sos
+    else (if is_one_of (codes "INDICATORS" ∷ []) keyword then Indicator else UnknownSection))
 
 -- what may follow the keyword: anything after NAME, one word after OBJSENSE and OBJNAME
 abbrev pub may_follow : Section → Fields → Bool

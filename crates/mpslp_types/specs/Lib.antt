@@ -4,4 +4,5 @@ pub mod NameTests
 pub mod Limit
 pub mod FaultName
 pub mod FaultOrder
+pub mod Basics
 pub mod Laws
