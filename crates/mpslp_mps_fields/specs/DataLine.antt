@@ -110,16 +110,11 @@ abbrev pub bound_type : List ℕ → Option BoundType
 bound_type letters = find (λ type. same_bytes letters (letters_of type)) bound_types
 
 abbrev pub takes_value : BoundType → Bool
-takes_value Lower = true
-takes_value Upper = true
-takes_value Fixed = true
 takes_value Free = false
 takes_value NoLower = false
 takes_value NoUpper = false
 takes_value Binary = false
-takes_value IntegerLower = true
-takes_value IntegerUpper = true
-takes_value SemiUpper = true
+takes_value _ = true
 
 -- whether the type declares the column integer, or semi-continuous
 abbrev pub is_integer_type : BoundType → Bool
