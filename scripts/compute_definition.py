@@ -90,7 +90,7 @@ use Rattle.std.proofs.Common.{{◌≡◌, ◌∙◌, ap, refl, List, ℕ, true}}
 use Rattle.std.specs.Fmt.{{digits}}
 use Rattle.mpslp_decimal.specs.Decimal.{{trailing_zeros}}
 use Rattle.mpslp_model_core.specs.Model.{{LinearModel}}
-use Rattle.mpslp_model_core.specs.Listing.{{Listing}}
+use Rattle.mpslp_model_core.specs.Model.{{Listing}}
 use Rattle.mpslp_builder.specs.Declaration.{{Draft, draft_of}}
 use Rattle.mpslp_builder.specs.Meaning.{{model_of}}
 use Rattle.mpslp_builder.proofs.Acceptance.{{means-from_none}}

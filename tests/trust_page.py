@@ -90,7 +90,9 @@ def imported(text: str) -> Iterator[tuple[str, str, Name]]:
             yield "prefix", prefix, Name(path, origin, "")
         for each in filter(None, map(str.strip, names.split(","))):
             name, _, own = each.partition(" as ")
-            yield "name", own or name, Name(path, origin, name)
+            # a name may have a path before it: `Limit.TheVariants.Finite`
+            *inner, name = name.split(".")
+            yield "name", own or name, Name(path, ".".join((origin, *inner)), name)
 
 
 def counted(text: str) -> list[str]:

@@ -7,7 +7,8 @@ use Rattle.mpslp_builder.specs.Declaration.{Declarations, empty_draft, draft_of}
 use Rattle.mpslp_builder.specs.Consistency.{has_objective}
 use Rattle.mpslp_builder.specs.Refusal.{refusals_in_turn}
 use Rattle.mpslp_builder.specs.Made.{is_legal}
-use Rattle.mpslp_builder.specs.Meaning.{model_of, file_fault, Means}
+use Rattle.mpslp_builder.specs.Meaning.{model_of, Means}
+use Rattle.mpslp_builder.specs.FileFault.{file_fault}
 use Rattle.mpslp_builder.proofs.RefusalLemmas.{are_known_in_turn, consistent-from_none, none-from_consistent}
 use Rattle.mpslp_builder.proofs.MeaningFromNoFault.{means-from_no_fault}
 use Rattle.mpslp_builder.proofs.NoFaultFromMeaning.{no_fault-from_means}

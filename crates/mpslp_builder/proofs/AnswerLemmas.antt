@@ -16,7 +16,7 @@ use Rattle.mpslp_model_core.proofs.KeyLemmas.{same_key}
 use Rattle.mpslp_model_core.proofs.PutsLemmas.{equal_from}
 use Rattle.mpslp_builder.specs.Calls.{CoefficientsAreKnown}
 use Rattle.mpslp_builder.specs.Declaration.{Declaration, Draft, with_declaration, has_name, is_objective, has_row, has_column, with_declarations, bounds_declared}
-use Rattle.mpslp_model_core.specs.Lists.{those_of}
+use Rattle.mpslp_types.specs.Lists.{those_of}
 use Rattle.mpslp_builder.specs.Refusal.{refusals, bounds_refusals}
 use Rattle.mpslp_types.specs.Limit.{is_given, is_plus_infinite, is_minus_infinite}
 use Rattle.mpslp_builder.specs.Made.{is_legal, IsMade}

@@ -4,7 +4,8 @@ use Rattle.std.specs.Prelude.{Option, Some, None, is_none, unwrap_or, ◌&&◌, 
 use Rattle.mpslp_decimal.specs.Decimal.{Number, is_zero, zero_number}
 use Rattle.mpslp_model_core.specs.Model.{Column}
 use Rattle.mpslp_types.specs.Limit.{is_lower_side, is_upper_side}
-use Rattle.mpslp_builder.specs.Bounds.{zero_limit, one_limit, kind_of, lower_bound, upper_bound, column_of}
+use Rattle.mpslp_builder.specs.Bounds.{zero_limit, one_limit, kind_of, lower_bound, upper_bound}
+use Rattle.mpslp_builder.specs.Meaning.{column_of}
 use Rattle.mpslp_builder.specs.Declaration.{Draft, at_name, has_name, is_integer, is_semi}
 use Rattle.mpslp_types.specs.declared.kinds.Kind.{Kind}
 use Rattle.mpslp_types.specs.declared.kinds.Kind.TheVariants.{Continuous, Integer, Semi}

@@ -16,7 +16,8 @@ use Rattle.std.proofs.lemmas.Option.{same_Some, slice_get-get_or}
 use Rattle.std.proofs.lemmas.List.Edits.{length-remove, get_or-remove_below, get_or-remove_above}
 use Rattle.std.proofs.Math.ListN.{drop_of_length-le}
 use Rattle.mpslp_types.specs.Name.{same_bytes, bytes_cmp}
-use Rattle.mpslp_model_core.specs.Model.{CoefficientKey, key_cmp, key_total}
+use Rattle.mpslp_model_core.specs.Model.{CoefficientKey, key_cmp}
+use Rattle.mpslp_model_core.specs.KeyOrder.{key_total}
 use Rattle.mpslp_model_core.proofs.PutsLemmas.{equal_from}
 use Rattle.mpslp_types.proofs.BoolLemmas.{true_from, T_from}
 use Rattle.mpslp_maps.proofs.SearchLemmas.{less_from, suc_of}

@@ -12,7 +12,8 @@ use Rattle.std.specs.FinMap.{put, is_sorted}
 use Rattle.std.specs.FinMap.Entries.{by_order, is_sorted-put}
 use Rattle.mpslp_decimal.specs.Decimal.{Number, is_decimal}
 use Rattle.mpslp_types.specs.Name.{is_mps_name, bytes_cmp}
-use Rattle.mpslp_model_core.specs.Model.{CoefficientKey, key_cmp, key_total}
+use Rattle.mpslp_model_core.specs.Model.{CoefficientKey, key_cmp}
+use Rattle.mpslp_model_core.specs.KeyOrder.{key_total}
 pub use Rattle.mpslp_model_core.proofs.KeyLemmas.{same_key}
 use Rattle.mpslp_model_core.proofs.KeyLemmas.{tied_names}
 use Rattle.mpslp_builder.specs.Declaration.{RowDefinition, Declaration, declare_objective, declare_constant, declare_row, declare_rhs, declare_column, declare_coefficient, declare_lower, declare_upper, Declarations, Draft, empty_draft, with_declaration, with_declarations, has_row, has_column, have_infinite_side}

@@ -8,10 +8,12 @@ use Rattle.std.specs.Ordering.{eq_by_cmp}
 use Rattle.mpslp_decimal.specs.Decimal.{Number}
 use Rattle.mpslp_types.specs.Name.{bytes_cmp}
 use Rattle.mpslp_builder.specs.Declaration.{RowDefinition, Draft, at_name, names_in}
-use Rattle.mpslp_model_core.specs.Limits.{limits_of, has_infinite_rhs, is_inexact, is_too_large, is_crossed}
-use Rattle.mpslp_builder.specs.Bounds.{has_negative_upper, has_crossed_bounds, has_binary_bounds, has_semi_bounds}
-use Rattle.mpslp_model_core.specs.Lists.{is_nonempty, head_of}
-use Rattle.mpslp_builder.specs.Meaning.{whole_fault, row_passes, rows_where, names_with, named_faults, file_fault}
+use Rattle.mpslp_model_core.specs.Limits.{limits_of, has_infinite_rhs}
+use Rattle.mpslp_model_core.specs.WrongParts.{is_inexact, is_too_large, is_crossed}
+use Rattle.mpslp_builder.specs.Bounds.{has_crossed_bounds, has_semi_bounds}
+use Rattle.mpslp_builder.specs.Meaning.{has_negative_upper, has_binary_bounds, row_passes}
+use Rattle.mpslp_types.specs.Lists.{is_nonempty, head_of}
+use Rattle.mpslp_builder.specs.FileFault.{whole_fault, rows_where, names_with, named_faults, file_fault}
 use Rattle.mpslp_types.specs.declared.faults.Fault.{Fault}
 use Rattle.mpslp_types.specs.declared.faults.FaultKind.{FaultKind}
 use Rattle.mpslp_types.specs.declared.faults.FaultKind.TheVariants.{NoColumns, InfiniteLimit, RangeInexact, LimitTooLarge, LimitsCrossed, NegativeUpper, BoundsCrossed, BinaryBounds, SemiBounds}

@@ -27,8 +27,8 @@ use Rattle.mpslp_model_core.proofs.OnceLemmas.{is_sorted-filter}
 use Rattle.mpslp_model_core.proofs.MovingLemmas.{each-kept}
 use Rattle.mpslp_builder.specs.Declaration.{Draft}
 use Rattle.mpslp_builder.specs.Made.{IsMade}
-use Rattle.mpslp_builder.specs.Bounds.{column_of}
-use Rattle.mpslp_builder.specs.Meaning.{objective_name, constant_of, row_limits, row_entry, model_of, file_fault, DraftMeans}
+use Rattle.mpslp_builder.specs.Meaning.{column_of, objective_name, constant_of, row_limits, row_entry, model_of, DraftMeans}
+use Rattle.mpslp_builder.specs.FileFault.{file_fault}
 use Rattle.mpslp_builder.specs.Tables.{bytes, definition_of, cells_of, no_part, name_of_row_key, cells_by_name, draft_from, AreNumbered}
 use Rattle.mpslp_builder_parts.specs.Ordered.{entries_at}
 use Rattle.mpslp_builder_parts.specs.Parts.{moved_in}

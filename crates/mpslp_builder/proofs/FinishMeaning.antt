@@ -8,7 +8,8 @@ use Rattle.mpslp_types.specs.declared.faults.ReadFault.TheVariants.{File, Failed
 use Rattle.mpslp_builder.specs.Declaration.{Draft}
 use Rattle.mpslp_builder.specs.Finish.{Finishes}
 use Rattle.mpslp_builder.specs.Made.{IsMade}
-use Rattle.mpslp_builder.specs.Meaning.{file_fault, DraftMeans, Means}
+use Rattle.mpslp_builder.specs.Meaning.{DraftMeans, Means}
+use Rattle.mpslp_builder.specs.FileFault.{file_fault}
 use Rattle.mpslp_builder.specs.Laws.{IsAnswerOf}
 use Rattle.mpslp_builder.proofs.MadeDrafts.{consistent-from_made, no_fault-from_made}
 

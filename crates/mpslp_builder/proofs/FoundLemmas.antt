@@ -15,9 +15,9 @@ use Rattle.std.proofs.lemmas.List.{drop_more}
 use Rattle.mpslp_decimal.specs.Decimal.{Number, zero_number}
 use Rattle.mpslp_types.specs.Name.{bytes_cmp}
 use Rattle.mpslp_types.proofs.BoolLemmas.{both_so, nor, true_from, T_from}
-use Rattle.mpslp_model_core.specs.Limits.{RowDefinition, limits_of, has_infinite_rhs, is_inexact, is_too_large, is_crossed}
-use Rattle.mpslp_model_core.specs.Columns.{is_negative_upper, are_crossed_bounds, are_no_binary_bounds, are_no_semi_bounds}
-use Rattle.mpslp_model_core.specs.Lists.{head_of, is_nonempty}
+use Rattle.mpslp_model_core.specs.Limits.{RowDefinition, limits_of, has_infinite_rhs, is_negative_upper, are_no_binary_bounds}
+use Rattle.mpslp_model_core.specs.WrongParts.{is_inexact, is_too_large, is_crossed, are_crossed_bounds, are_no_semi_bounds}
+use Rattle.mpslp_types.specs.Lists.{head_of, is_nonempty}
 use Rattle.mpslp_model_core.specs.Numbered.{sorted_of, each_part, IsOnce}
 use Rattle.mpslp_model_core.specs.declared.limits.RowFault.{RowFault}
 use Rattle.mpslp_model_core.specs.declared.limits.RowFault.TheVariants as rows
@@ -26,8 +26,8 @@ use Rattle.mpslp_model_core.specs.declared.bounds.ColumnFault.TheVariants as col
 use Rattle.mpslp_model_core.proofs.KeyLemmas.{bytes_total}
 use Rattle.mpslp_model_core.proofs.SortedLemmas.{find-sorted_of, is_sorted-sorted_of}
 use Rattle.mpslp_builder.specs.Declaration.{Draft, names_in, has_name, is_objective}
-use Rattle.mpslp_builder.specs.Bounds.{declared_of}
-use Rattle.mpslp_builder.specs.Meaning.{whole_fault, row_passes, named_faults, file_fault}
+use Rattle.mpslp_builder.specs.Meaning.{declared_of, row_passes}
+use Rattle.mpslp_builder.specs.FileFault.{whole_fault, named_faults, file_fault}
 use Rattle.mpslp_builder.specs.Tables.{bytes, definition_of, no_part, cells_of, draft, IsNumbered}
 use Rattle.mpslp_builder.specs.Calls.{IsOnceEach}
 use Rattle.mpslp_builder.specs.FaultFound.{row_test, bounds_test, kind_of_row_fault, kind_of_column_fault, row_fails, column_fails, is_wrong_row, is_wrong_column, declared_in, lesser, is_below, least_name, entry_name, named_fault, HaveLegalNames}

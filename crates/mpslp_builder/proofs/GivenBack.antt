@@ -12,8 +12,8 @@ use Rattle.mpslp_types.specs.Limit.{is_at_most}
 use Rattle.mpslp_types.specs.declared.kinds.Sense.TheVariants.{Minimize}
 use Rattle.mpslp_types.specs.declared.kinds.Limit.{Limit}
 use Rattle.mpslp_builder.specs.Declaration.{Draft, at_name, has_name, names_in}
-use Rattle.mpslp_builder.specs.Bounds.{zero_limit, one_limit, lower_bound, upper_bound, column_of, has_negative_upper, has_binary_bounds}
-use Rattle.mpslp_builder.specs.Meaning.{objective_name, constant_of, row_entry, model_of}
+use Rattle.mpslp_builder.specs.Bounds.{zero_limit, one_limit, lower_bound, upper_bound}
+use Rattle.mpslp_builder.specs.Meaning.{column_of, has_negative_upper, has_binary_bounds, objective_name, constant_of, row_entry, model_of}
 use Rattle.mpslp_types.proofs.EachLemmas.{Each, Each-both, Each-map, Each-all, list_all-from_Each}
 use Rattle.mpslp_builder.proofs.NamedEntries.{named}
 use Rattle.mpslp_builder.proofs.SoundParts.{column_sides, straight_of}

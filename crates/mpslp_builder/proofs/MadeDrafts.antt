@@ -12,10 +12,11 @@ use Rattle.mpslp_builder.specs.Declaration.{RowDefinition, by_type, by_limits, D
 use Rattle.mpslp_types.specs.Name.{same_bytes}
 use Rattle.mpslp_types.specs.Limit.{is_plus_infinite, is_minus_infinite, is_given}
 use Rattle.mpslp_builder.specs.Consistency.{has_objective, AreConsistent}
-use Rattle.mpslp_model_core.specs.Lists.{those_of}
+use Rattle.mpslp_types.specs.Lists.{those_of}
 use Rattle.mpslp_builder.specs.Refusal.{refusals, refusals_in_turn, bounds_refusals}
 use Rattle.mpslp_builder.specs.Made.{is_legal, HasNoFreeRhs, IsMade}
-use Rattle.mpslp_builder.specs.Meaning.{model_of, file_fault, DraftMeans}
+use Rattle.mpslp_builder.specs.Meaning.{model_of, DraftMeans}
+use Rattle.mpslp_builder.specs.FileFault.{file_fault}
 use Rattle.mpslp_types.specs.declared.kinds.Limit.{Limit}
 use Rattle.mpslp_types.specs.declared.faults.BuildFault.{BuildFault}
 use Rattle.mpslp_types.specs.declared.faults.BuildFault.TheVariants.{UnknownRow, UnknownColumn, DuplicateRow, DuplicateRhs, DuplicateBound, InfiniteValue}

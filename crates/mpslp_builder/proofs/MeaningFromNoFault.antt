@@ -15,11 +15,13 @@ use Rattle.mpslp_types.specs.Name.{same_bytes, is_mps_name, is_one_of, bytes_cmp
 use Rattle.mpslp_model_core.specs.Model.{LinearModel, Row, Column, CoefficientKey, key_cmp, is_sound_row, is_sound_column, is_sound_coefficient, suits}
 use Rattle.mpslp_types.specs.Limit.{are_sides, is_at_most, is_lower_side, is_upper_side, has_bounded_distance, is_bounded_decimal, is_plus_infinite, is_minus_infinite, is_given}
 use Rattle.mpslp_builder.specs.Declaration.{RowDefinition, by_type, by_limits, Declarations, Draft, draft_of, at_name, has_name, has_row, has_column, names_in, have_infinite_side}
-use Rattle.mpslp_model_core.specs.Limits.{limits_of, plain_limits, has_infinite_rhs, is_inexact, is_too_large, is_crossed}
-use Rattle.mpslp_builder.specs.Bounds.{zero_limit, one_limit, lower_bound, upper_bound, has_no_side, kind_of, column_of, has_crossed_bounds, has_semi_bounds}
+use Rattle.mpslp_model_core.specs.Limits.{limits_of, plain_limits, has_infinite_rhs}
+use Rattle.mpslp_model_core.specs.WrongParts.{is_inexact, is_too_large, is_crossed}
+use Rattle.mpslp_builder.specs.Bounds.{zero_limit, one_limit, lower_bound, upper_bound, has_no_side, kind_of, has_crossed_bounds, has_semi_bounds}
+use Rattle.mpslp_builder.specs.Meaning.{column_of, rhs_or_zero, row_limits, row_entry, model_of, objective_name, DraftMeans, Means}
 use Rattle.mpslp_builder.specs.Made.{are_given, is_legal}
-use Rattle.mpslp_model_core.specs.Lists.{is_nonempty}
-use Rattle.mpslp_builder.specs.Meaning.{rhs_or_zero, row_limits, row_entry, model_of, objective_name, file_fault, DraftMeans, Means}
+use Rattle.mpslp_types.specs.Lists.{is_nonempty}
+use Rattle.mpslp_builder.specs.FileFault.{file_fault}
 use Rattle.mpslp_builder.specs.Consistency.{AreConsistent}
 use Rattle.mpslp_types.specs.declared.kinds.Limit.{Limit}
 use Rattle.mpslp_types.specs.declared.kinds.Limit.TheVariants.{MinusInf, Finite, PlusInf}

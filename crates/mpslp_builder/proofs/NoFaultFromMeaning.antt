@@ -11,11 +11,13 @@ use Rattle.mpslp_types.specs.Name.{is_mps_name, bytes_cmp}
 use Rattle.mpslp_model_core.specs.Model.{LinearModel, Row, Column, IsSound, is_sound_row, is_sound_column, suits}
 use Rattle.mpslp_types.specs.Limit.{are_sides, is_at_most, is_lower_side, is_upper_side, has_bounded_distance, is_bounded_decimal, limit_of}
 use Rattle.mpslp_builder.specs.Declaration.{RowDefinition, by_type, by_limits, Declarations, Draft, draft_of, at_name, names_in}
-use Rattle.mpslp_model_core.specs.Limits.{sides, plain_limits, limits_of, has_infinite_rhs, is_inexact, is_too_large, is_large_limit, is_crossed}
-use Rattle.mpslp_builder.specs.Bounds.{lower_bound, upper_bound, kind_of, column_of, has_crossed_bounds, has_semi_bounds}
+use Rattle.mpslp_model_core.specs.Limits.{sides, plain_limits, limits_of, has_infinite_rhs}
+use Rattle.mpslp_model_core.specs.WrongParts.{is_inexact, is_too_large, is_large_limit, is_crossed}
+use Rattle.mpslp_builder.specs.Bounds.{lower_bound, upper_bound, kind_of, has_crossed_bounds, has_semi_bounds}
+use Rattle.mpslp_builder.specs.Meaning.{column_of, rhs_or_zero, row_limits, row_entry, model_of, DraftMeans, Means}
 use Rattle.mpslp_builder.specs.Made.{is_legal}
-use Rattle.mpslp_model_core.specs.Lists.{is_nonempty}
-use Rattle.mpslp_builder.specs.Meaning.{rhs_or_zero, row_limits, row_entry, model_of, file_fault, DraftMeans, Means}
+use Rattle.mpslp_types.specs.Lists.{is_nonempty}
+use Rattle.mpslp_builder.specs.FileFault.{file_fault}
 use Rattle.mpslp_types.specs.declared.kinds.Limit.{Limit}
 use Rattle.mpslp_types.specs.declared.kinds.Limit.TheVariants.{MinusInf, Finite, PlusInf}
 use Rattle.mpslp_types.specs.declared.kinds.RowType.TheVariants.{Free, AtMost, AtLeast, Equal}

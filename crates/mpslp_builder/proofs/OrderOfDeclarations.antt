@@ -7,9 +7,10 @@ use Rattle.std.specs.Cmp.Lexicographic.{texts_ties, nat_list_cmp_total, nat_list
 use Rattle.std.specs.FinMap.{put}
 use Rattle.std.proofs.lemmas.List.Folds.{list_all-append}
 use Rattle.mpslp_types.specs.Name.{same_bytes, bytes_cmp}
-use Rattle.mpslp_model_core.specs.Model.{LinearModel, CoefficientKey, key_cmp, key_total}
+use Rattle.mpslp_model_core.specs.Model.{LinearModel, CoefficientKey, key_cmp}
+use Rattle.mpslp_model_core.specs.KeyOrder.{key_total}
 use Rattle.mpslp_builder.specs.Declaration.{RowDefinition, Declaration, declare_sense, declare_objective, declare_constant, declare_row, declare_rhs, declare_range, declare_column, declare_coefficient, declare_lower, declare_upper, declare_marked, declare_integer, declare_binary, declare_semi, Declarations, Draft, empty_draft, with_declaration, with_declarations, draft_of, is_definition_by_limits}
-use Rattle.mpslp_model_core.specs.Lists.{are_distinct}
+use Rattle.mpslp_types.specs.Lists.{are_distinct}
 use Rattle.mpslp_builder.specs.Consistency.{Slot, sense_slot, objective_slot, constant_slot, row_slot, rhs_slot, range_slot, coefficient_slot, lower_slot, upper_slot, same_slot, slots_of, all_slots, declares_objective, is_known, is_allowed, has_one_constant, AreConsistent}
 use Rattle.mpslp_builder.specs.Meaning.{DraftMeans, Means}
 use Rattle.mpslp_types.proofs.BoolLemmas.{all_true, not_so, nor}

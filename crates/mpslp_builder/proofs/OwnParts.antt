@@ -6,7 +6,7 @@ use Rattle.mpslp_decimal.specs.Decimal.{Number}
 use Rattle.mpslp_types.specs.declared.kinds.Sense.{Sense}
 use Rattle.mpslp_model_core.specs.Limits.{RowDefinition}
 use Rattle.mpslp_builder.specs.Declaration.{at_name}
-use Rattle.mpslp_builder.specs.Bounds.{declared_of}
+use Rattle.mpslp_builder.specs.Meaning.{declared_of}
 use Rattle.mpslp_builder.specs.Tables.{bytes, definition_of, rhs_of, range_of, lower_of, upper_of, draft, IsNumbered}
 use Rattle.mpslp_builder.specs.Calls.{IsOnceEach}
 use Rattle.mpslp_builder.specs.FaultFound.{declared_in}

@@ -10,7 +10,7 @@ use Rattle.mpslp_decimal.specs.Decimal.{Number, is_infinite_size}
 use Rattle.mpslp_types.specs.Name.{same_bytes, bytes_cmp}
 use Rattle.mpslp_builder.specs.Declaration.{RowDefinition, by_type, by_limits, Declaration, declare_sense, declare_objective, declare_constant, declare_row, declare_rhs, declare_range, declare_column, declare_coefficient, declare_lower, declare_upper, declare_marked, declare_integer, declare_binary, declare_semi, Declarations, Draft, empty_draft, with_declaration, with_declarations, at_name, has_name, has_row, has_column, has_coefficient, is_objective, is_integer, is_semi, is_free_definition, is_free_row, is_row_by_limits, have_infinite_side}
 use Rattle.mpslp_types.specs.Limit.{is_plus_infinite, is_minus_infinite}
-use Rattle.mpslp_model_core.specs.Lists.{are_distinct, those_of}
+use Rattle.mpslp_types.specs.Lists.{are_distinct, those_of}
 use Rattle.mpslp_builder.specs.Consistency.{Slot, sense_slot, rhs_slot, range_slot, slots_of, all_slots, same_slot, is_known, is_allowed, has_objective_rhs, has_one_constant, has_objective, AreConsistent}
 use Rattle.mpslp_builder.specs.Refusal.{has_constant, refusals, refusals_in_turn}
 use Rattle.mpslp_types.specs.declared.faults.BuildFault.{BuildFault}

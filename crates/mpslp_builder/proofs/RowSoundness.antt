@@ -7,7 +7,8 @@ use Rattle.mpslp_decimal.specs.Decimal.{Number, is_decimal, is_negative, is_infi
 use Rattle.mpslp_model_core.specs.Model.{Row}
 use Rattle.mpslp_types.specs.Limit.{limit_of, is_at_most, is_bounded_decimal, is_lower_side, is_upper_side, are_sides, has_bounded_distance, is_given, is_plus_infinite, is_minus_infinite}
 use Rattle.mpslp_builder.specs.Declaration.{RowDefinition, by_type, by_limits, have_infinite_side}
-use Rattle.mpslp_model_core.specs.Limits.{sides, limits_of, has_infinite_rhs, is_inexact, is_too_large, is_large_limit, is_crossed}
+use Rattle.mpslp_model_core.specs.Limits.{sides, limits_of, has_infinite_rhs}
+use Rattle.mpslp_model_core.specs.WrongParts.{is_inexact, is_too_large, is_large_limit, is_crossed}
 use Rattle.mpslp_types.specs.declared.kinds.Limit.{Limit}
 use Rattle.mpslp_types.specs.declared.kinds.Limit.TheVariants.{MinusInf, Finite, PlusInf}
 use Rattle.mpslp_types.specs.declared.kinds.RowType.TheVariants.{Free, AtMost, AtLeast, Equal}

@@ -10,15 +10,13 @@ use Rattle.mpslp_types.specs.Name.{bytes_cmp}
 use Rattle.mpslp_types.specs.declared.kinds.Sense.{Sense}
 use Rattle.mpslp_types.specs.declared.kinds.RowType.TheVariants.{Free}
 use Rattle.mpslp_types.proofs.EachLemmas.{Each, Each-both, Each-weaker}
-use Rattle.mpslp_model_core.specs.Limits.{limits_of, plain_limits}
-use Rattle.mpslp_model_core.specs.Columns.{declared_column}
+use Rattle.mpslp_model_core.specs.Limits.{limits_of, plain_limits, declared_column}
 use Rattle.mpslp_model_core.specs.Numbered.{sorted_of, each_part, given_parts, IsOnce, TellsApart}
 use Rattle.mpslp_model_core.proofs.KeyLemmas.{bytes_total}
 use Rattle.mpslp_model_core.proofs.SortedLemmas.{find-sorted_of}
 use Rattle.mpslp_model_core.proofs.CellLemmas.{or_else, find-two, name_same}
 use Rattle.mpslp_builder.specs.Declaration.{Draft, at_name}
-use Rattle.mpslp_builder.specs.Bounds.{declared_of, column_of}
-use Rattle.mpslp_builder.specs.Meaning.{row_entry}
+use Rattle.mpslp_builder.specs.Meaning.{declared_of, column_of, row_entry}
 use Rattle.mpslp_builder.specs.Tables.{bytes, definition_of, rhs_of, range_of, no_part, lower_of, upper_of, as_part, mark_of, integer_of, binary_of, semi_of, objective_rhs, name_of_row_key, draft_from}
 use Rattle.mpslp_builder.specs.FaultFound.{declared_in}
 use Rattle.mpslp_builder_parts.specs.Parts.{limits_in, bounds_of}

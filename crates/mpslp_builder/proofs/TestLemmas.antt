@@ -8,7 +8,7 @@ use Rattle.mpslp_decimal.specs.Decimal.{Number, is_infinite_size}
 use Rattle.mpslp_types.specs.Limit.{is_plus_infinite, is_minus_infinite}
 use Rattle.mpslp_types.specs.declared.kinds.Limit.{Limit}
 use Rattle.mpslp_types.specs.declared.faults.BuildFault.TheVariants.{UnknownRow, UnknownColumn, DuplicateRhs, DuplicateRange, RangeOnFree, InfiniteValue, DuplicateEntry, DuplicateBound, SemiContinuous}
-use Rattle.mpslp_model_core.specs.Lists.{those_of}
+use Rattle.mpslp_types.specs.Lists.{those_of}
 use Rattle.mpslp_model_core.specs.Limits.{is_free_definition, is_definition_by_limits}
 use Rattle.mpslp_model_core.proofs.CellLemmas.{at}
 use Rattle.mpslp_builder.specs.Declaration.{declare_range, has_row, has_column}

@@ -5,7 +5,7 @@ use Rattle.std.specs.List.{list_all}
 use Rattle.std.specs.Cmp.{first_so, second_so}
 use Rattle.mpslp_types.specs.Name.{same_bytes}
 use Rattle.mpslp_builder.specs.Declaration.{Declaration, declare_objective, declare_row, Declarations, Draft, empty_draft, with_declaration, with_declarations, draft_of, has_name, has_row, is_objective}
-use Rattle.mpslp_model_core.specs.Lists.{are_distinct}
+use Rattle.mpslp_types.specs.Lists.{are_distinct}
 use Rattle.mpslp_builder.specs.Consistency.{slots_of, has_objective, AreConsistent, all_slots, same_slot}
 use Rattle.mpslp_builder.specs.Made.{is_legal}
 use Rattle.mpslp_types.proofs.BoolLemmas.{both_so, or_left, or_right, not_so, back}

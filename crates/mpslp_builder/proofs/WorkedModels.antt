@@ -7,10 +7,11 @@ use Rattle.mpslp_model_core.specs.Model.{CoefficientKey, key_cmp}
 use Rattle.mpslp_types.specs.Name.{bytes_cmp}
 use Rattle.mpslp_types.specs.Limit.{limit_of}
 use Rattle.mpslp_builder.specs.Declaration.{by_type, by_limits, Declaration, declare_sense, declare_objective, declare_constant, declare_row, declare_rhs, declare_range, declare_column, declare_coefficient, declare_lower, declare_upper, declare_marked, declare_integer, declare_binary, declare_semi, Declarations, Draft, empty_draft, with_declaration, with_declarations, draft_of, rhs_declared, bounds_declared}
-use Rattle.mpslp_builder.specs.Bounds.{zero_limit, one_limit, column_of}
-use Rattle.mpslp_model_core.specs.Lists.{is_nonempty, head_of}
+use Rattle.mpslp_builder.specs.Bounds.{zero_limit, one_limit}
+use Rattle.mpslp_builder.specs.Meaning.{column_of, model_of}
+use Rattle.mpslp_types.specs.Lists.{is_nonempty, head_of}
 use Rattle.mpslp_builder.specs.Refusal.{refusals, refusals_in_turn, bounds_refusals}
-use Rattle.mpslp_builder.specs.Meaning.{whole_fault, file_fault, model_of}
+use Rattle.mpslp_builder.specs.FileFault.{whole_fault, file_fault}
 use Rattle.mpslp_types.specs.declared.kinds.Sense.TheVariants.{Maximize}
 use Rattle.mpslp_types.specs.declared.kinds.Kind.TheVariants.{Continuous, Integer, Semi}
 use Rattle.mpslp_types.specs.declared.kinds.Limit.{Limit}

@@ -4,7 +4,8 @@ use Rattle.std.specs.Prelude.{ℤ, pos, negsuc, Option, Some, None}
 use Rattle.mpslp_decimal.specs.Decimal.{Number, trailing_zeros}
 use Rattle.mpslp_model_core.specs.Model.{Row}
 use Rattle.mpslp_builder.specs.Declaration.{by_type, by_limits}
-use Rattle.mpslp_model_core.specs.Limits.{limits_of, has_infinite_rhs, is_inexact, is_too_large, is_crossed}
+use Rattle.mpslp_model_core.specs.Limits.{limits_of, has_infinite_rhs}
+use Rattle.mpslp_model_core.specs.WrongParts.{is_inexact, is_too_large, is_crossed}
 use Rattle.mpslp_types.specs.declared.kinds.Limit.{Limit}
 use Rattle.mpslp_types.specs.declared.kinds.Limit.TheVariants.{MinusInf, Finite, PlusInf}
 use Rattle.mpslp_types.specs.declared.kinds.RowType.TheVariants.{Free, AtMost, AtLeast, Equal}

@@ -1,13 +1,8 @@
 -- What the parts of a file, or the calls of a builder, declare.
-use Rattle.std.specs.Prelude.{ℕ, Bool, false, ◌||◌, List, [], ◌∷◌, ◌++◌, map, Option, Some, None, is_some, if◌then◌else◌}
-use Rattle.std.specs.Option.{option_map_or}
-use Rattle.std.specs.FinMap.{find, put}
-use Rattle.mpslp_decimal.specs.Decimal.{Number}
-use Rattle.mpslp_types.specs.Name.{same_bytes, bytes_cmp}
-use Rattle.mpslp_model_core.specs.Model.{CoefficientKey, key_cmp}
+use Rattle.mpslp_types.specs.Basics.{ℕ, Bool, false, ◌||◌, if◌then◌else◌, List, [], ◌∷◌, ◌++◌, map, Option, Some, None, is_some, option_map_or, find_entry as find, put, Number, bytes_cmp, same_bytes}
+pub use Rattle.mpslp_model_core.specs.Model.{key_cmp, CoefficientKey}
 pub use Rattle.mpslp_model_core.specs.Limits.{RowDefinition, by_type, by_limits, is_free_definition, is_definition_by_limits, have_infinite_side}
-use Rattle.mpslp_types.specs.declared.kinds.Sense.{Sense}
-use Rattle.mpslp_types.specs.declared.kinds.Limit.{Limit}
+use Rattle.mpslp_types.specs.declared.kinds.{Sense.Sense, Limit.Limit}
 
 -- A right-hand side of the objective is its negated constant. `marked` applies to a column in an integer block of an MPS
 -- file, `semi` to a semi-continuous column, which is 0 or within its bounds.

@@ -7,11 +7,11 @@ use Rattle.mpslp_decimal.specs.Decimal.{zero_number}
 use Rattle.mpslp_types.specs.Name.{IsMpsName, bytes_cmp}
 use Rattle.mpslp_builder.specs.Declaration.{Draft}
 pub use Rattle.mpslp_model_core.specs.WrongParts.{is_faulty_row, row_test, bounds_test, are_faulty_bounds, kind_of_row_fault, kind_of_column_fault}
-use Rattle.mpslp_model_core.specs.Lists.{head_of}
+use Rattle.mpslp_types.specs.Lists.{head_of}
 use Rattle.mpslp_model_core.specs.declared.limits.RowFault.{RowFault}
 use Rattle.mpslp_model_core.specs.declared.bounds.ColumnFault.{ColumnFault}
 pub use Rattle.mpslp_builder_parts.specs.Parts.{declared_in}
-use Rattle.mpslp_builder.specs.Meaning.{names_with, whole_fault}
+use Rattle.mpslp_builder.specs.FileFault.{names_with, whole_fault}
 use Rattle.mpslp_builder.specs.Tables.{bytes, definition_of, rhs_of, range_of}
 use Rattle.mpslp_types.specs.declared.faults.Fault.{Fault}
 use Rattle.mpslp_types.specs.declared.faults.FaultKind.{FaultKind}

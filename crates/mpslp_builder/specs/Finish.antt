@@ -2,7 +2,8 @@
 use Rattle.std.specs.Prelude.{◌≡◌, Some, None, Result, Ok, Err}
 use Rattle.mpslp_model_core.specs.Model.{LinearModel}
 use Rattle.mpslp_builder.specs.Declaration.{Draft}
-use Rattle.mpslp_builder.specs.Meaning.{file_fault, DraftMeans}
+use Rattle.mpslp_builder.specs.FileFault.{file_fault}
+use Rattle.mpslp_builder.specs.Meaning.{DraftMeans}
 use Rattle.mpslp_types.specs.declared.faults.ReadFault.{ReadFault}
 use Rattle.mpslp_types.specs.declared.faults.ReadFault.TheVariants.{File, Failed, OutOfMemory}
 

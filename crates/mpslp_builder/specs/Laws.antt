@@ -8,7 +8,8 @@ use Rattle.mpslp_types.specs.declared.faults.ReadFault.TheVariants.{OutOfMemory}
 use Rattle.mpslp_builder.specs.Consistency.{AreConsistent}
 use Rattle.mpslp_builder.specs.Finish.{Finishes}
 use Rattle.mpslp_builder.specs.Made.{IsMade}
-use Rattle.mpslp_builder.specs.Meaning.{file_fault, DraftMeans, Means}
+use Rattle.mpslp_builder.specs.FileFault.{file_fault}
+use Rattle.mpslp_builder.specs.Meaning.{DraftMeans, Means}
 
 -- The same declarations mean at most one model.
 abbrev pub MeanOneModel : Type 0

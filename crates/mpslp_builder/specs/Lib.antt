@@ -5,6 +5,7 @@ pub mod Consistency
 pub mod Refusal
 pub mod Made
 pub mod Meaning
+pub mod FileFault
 pub mod Answer
 pub mod Finish
 pub mod Laws

@@ -6,7 +6,7 @@ ghost use Rattle.std.specs.List.{flat_map};
 ghost use Rattle.std.specs.Ordering.{nat_cmp};
 ghost use Rattle.std.specs.FinMap.{find};
 ghost use Rattle.mpslp_types.specs.Name.{is_mps_name};
-ghost use Rattle.mpslp_model_core.specs.Lists.{when};
+ghost use Rattle.mpslp_types.specs.Lists.{when};
 ghost use Rattle.mpslp_builder.specs.Declaration.{has_name, has_row, has_column, declare_column, declare_marked};
 ghost use Rattle.mpslp_builder.specs.Refusal.{refusals_in_turn};
 ghost use Rattle.mpslp_builder.specs.ColumnLine.{listed, entry_declared, column_line, TakesLine};

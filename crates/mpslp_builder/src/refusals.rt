@@ -8,7 +8,7 @@ ghost use Rattle.std.specs.Option.{option_map_or};
 ghost use Rattle.std.specs.Ordering.{nat_cmp};
 ghost use Rattle.std.specs.FinMap.{find};
 ghost use Rattle.mpslp_types.specs.Limit.{is_plus_infinite, is_minus_infinite};
-ghost use Rattle.mpslp_model_core.specs.Lists.{those_of};
+ghost use Rattle.mpslp_types.specs.Lists.{those_of};
 ghost use Rattle.mpslp_builder.specs.Declaration.{by_limits, declare_objective, declare_row, declare_range, declare_marked, declare_integer, declare_binary, declare_semi, have_infinite_side, has_row, has_column, has_coefficient, is_free_row, is_definition_by_limits};
 ghost use Rattle.mpslp_builder.specs.Refusal.{has_constant, sense_tests, constant_tests, row_tests, rhs_tests, integer_tests, semi_tests, coefficient_tests, refusals, bounds_refusals};
 ghost use Rattle.mpslp_builder.specs.Answer.{first_refusal};

@@ -5,8 +5,7 @@ use Rattle.mpslp_decimal.specs.Decimal.{Number, zero_number}
 use Rattle.mpslp_types.specs.declared.kinds.Limit.{Limit}
 use Rattle.mpslp_types.specs.declared.kinds.RowType.TheVariants.{Free}
 use Rattle.mpslp_model_core.specs.Model.{Row, Column}
-use Rattle.mpslp_model_core.specs.Limits.{RowDefinition, limits_of, plain_limits}
-use Rattle.mpslp_model_core.specs.Columns.{declared_column}
+use Rattle.mpslp_model_core.specs.Limits.{RowDefinition, limits_of, plain_limits, declared_column}
 use Rattle.mpslp_model_core.specs.Numbered.{moved_cells}
 use Rattle.mpslp_model_core.specs.declared.bounds.DeclaredColumn.{DeclaredColumn}
 use Rattle.mpslp_builder_parts.specs.DeclaredBounds.{no_sides, sides_put}

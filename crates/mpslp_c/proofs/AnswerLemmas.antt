@@ -5,7 +5,8 @@ use Rattle.std.specs.declared.alloc.Global.{Global}
 use Rattle.mpslp_model_core.specs.Model.{LinearModel}
 use Rattle.mpslp_types.specs.declared.faults.Fault.{Fault}
 use Rattle.mpslp_types.specs.declared.faults.NameAt.{NameAt}
-use Rattle.mpslp_conversions.specs.Conversions.{Declares, HasFirstFault, Unfit, TextOf, IsConversion, IsComparison, IsTestOfText, IsErrUnless}
+use Rattle.mpslp_conversions.specs.Conversions.{HasFirstFault, IsConversion, IsComparison, IsTestOfText, IsErrUnless}
+use Rattle.mpslp_conversions.specs.Laws.{Declares, Unfit, TextOf}
 use Rattle.mpslp_conversions.specs.declared.faults.ConvertFault.{ConvertFault}
 use Rattle.mpslp_conversions.specs.declared.faults.ConvertFault.TheVariants.{First, Second, NotLp, OutOfMemory}
 use Rattle.mpslp_c.specs.Answers.{IsLoading, IsTextTold, IsTruthTold, IsModelTold, IsUnless, IsTruthUnless, IsConverted, IsCompared, IsTested, IsLoaded, fault_status, HasFault, IsStoring, IsStoreTold, IsStored, store_status, IsNormalizing, AreArraysGiven, IsNormalized}

@@ -6,7 +6,7 @@ use Rattle.std.specs.Option.{option_map_or}
 use Rattle.std.specs.Cmp.{first_so, second_so}
 use Rattle.std.proofs.lemmas.List.{append-nil}
 use Rattle.mpslp_model_core.specs.Model.{LinearModel}
-use Rattle.mpslp_model_core.specs.Lists.{head_of}
+use Rattle.mpslp_types.specs.Lists.{head_of}
 use Rattle.mpslp_types.proofs.BoolLemmas.{both_so, both_false}
 use Rattle.mpslp_types.specs.Limit.{is_plus_infinite, is_minus_infinite}
 use Rattle.mpslp_types.specs.declared.kinds.Limit.{Limit}
@@ -19,7 +19,7 @@ use Rattle.mpslp_builder.specs.Consistency.{has_objective}
 use Rattle.mpslp_builder.specs.Meaning.{DraftMeans}
 use Rattle.mpslp_builder.proofs.RefusalLemmas.{left_none, right_none, join_none, first_none, rest_none, pass, are_known_in_turn, consistent-from_none, none-from_consistent}
 use Rattle.mpslp_builder.proofs.MadeDrafts.{with_declarations-append, refusals_in_turn-append, bounds-in_turn}
-use Rattle.mpslp_lines.specs.Declaring.{kind_of_build_fault}
+use Rattle.mpslp_lines.specs.FaultTests.{kind_of_build_fault}
 use Rattle.mpslp_c.specs.Stored.{Step, fails, declares, bounds, step_faults, step_declared, or_else, first_kind, after_steps, steps_with, name_given, number_given, objective_steps, sense_steps, Item, item_fault, items, first_item_fault, after_items, is_good, is_good_item, declared_by, Defines}
 use Rattle.mpslp_c.specs.declared.arrays.MpslpModel.{MpslpModel}
 use Rattle.mpslp_c.specs.declared.faults.ItemFault.{ItemFault}

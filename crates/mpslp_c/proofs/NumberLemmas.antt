@@ -15,7 +15,7 @@ use Rattle.mpslp_decimal.specs.declared.literal.NumberFault.TheVariants.{BadNumb
 use Rattle.mpslp_decimal.proofs.CutLemmas.{Each, Each-weaker, before-at, after-at, after-none, before-none, AreDigits, digit-no_mark, digit-no_point, digit-no_sign, digit-no_minus, decimal-spells}
 use Rattle.mpslp_decimal.proofs.NumberTextLemmas.{are-digits}
 use Rattle.mpslp_types.specs.declared.faults.FaultKind.{FaultKind}
-use Rattle.mpslp_lines.specs.Field.{kind_of_number_fault}
+use Rattle.mpslp_lines.specs.FaultTests.{kind_of_number_fault}
 use Rattle.mpslp_c.specs.Stored.{decimal_given, literal_text}
 
 -- ---- a sign and digits

@@ -4,8 +4,8 @@ use Rattle.std.specs.Prelude.{◌⊎◌, pos, slice_get, slice_range, get_or, na
 use Rattle.std.specs.Option.{option_map_or}
 use Rattle.std.proofs.lemmas.Option.{slice_get-get_or}
 use Rattle.mpslp_decimal.specs.Decimal.{Number}
-use Rattle.mpslp_model_core.specs.Lists.{head_of}
-use Rattle.mpslp_types.specs.Name.{name_refusal}
+use Rattle.mpslp_types.specs.Lists.{head_of}
+use Rattle.mpslp_types.specs.NameTests.{name_refusal}
 use Rattle.mpslp_types.specs.declared.kinds.Limit.{Limit}
 use Rattle.mpslp_types.specs.declared.names.NameFault.{NameFault}
 use Rattle.mpslp_types.specs.declared.faults.FaultKind.TheVariants.{NameLength}
@@ -14,7 +14,7 @@ use Rattle.mpslp_types.specs.declared.faults.BuildFault.TheVariants as builds
 use Rattle.mpslp_types.specs.declared.faults.FaultKind.{FaultKind}
 use Rattle.mpslp_builder.specs.Answer.{Answer, Answers}
 use Rattle.mpslp_builder.specs.Declaration.{declare_objective, declare_constant, declare_row, declare_column, declare_coefficient, by_limits, Draft, with_declarations}
-use Rattle.mpslp_lines.specs.Declaring.{kind_of_build_fault}
+use Rattle.mpslp_lines.specs.FaultTests.{kind_of_build_fault}
 use Rattle.mpslp_lines.specs.ErrorOf.{error_of_build}
 use Rattle.mpslp_lines.specs.declared.errors.LineError.{LineError}
 use Rattle.mpslp_lines.specs.declared.errors.LineError.TheVariants.{Fault, OutOfMemory}

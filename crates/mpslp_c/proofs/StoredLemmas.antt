@@ -5,7 +5,8 @@ use Rattle.mpslp_model_core.specs.Model.{LinearModel}
 use Rattle.mpslp_types.specs.declared.faults.Fault.{Fault}
 use Rattle.mpslp_builder.specs.Declaration.{Draft, empty_draft}
 use Rattle.mpslp_builder.specs.Made.{IsMade}
-use Rattle.mpslp_builder.specs.Meaning.{file_fault, DraftMeans}
+use Rattle.mpslp_builder.specs.Meaning.{DraftMeans}
+use Rattle.mpslp_builder.specs.FileFault.{file_fault}
 use Rattle.mpslp_builder.proofs.MadeDrafts.{no_fault-from_made}
 use Rattle.mpslp_c.specs.Answers.{TakesItems}
 use Rattle.mpslp_c.specs.Stored.{items, first_item_fault, after_items, Defines}

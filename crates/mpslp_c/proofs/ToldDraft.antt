@@ -25,8 +25,8 @@ use Rattle.mpslp_model_core.specs.Views.{is_element, column_elements}
 use Rattle.mpslp_model_core.proofs.KeyLemmas.{bytes_total, key_total, same_key, tied_names}
 use Rattle.mpslp_model_core.proofs.PutsLemmas.{puts, finds_own, find-front, some_cons, some_append_left, some_append_right}
 use Rattle.mpslp_builder.specs.Declaration.{RowDefinition, by_limits, Declaration, declare_row, declare_column, declare_coefficient, declare_lower, declare_upper, declare_integer, declare_semi, Draft, empty_draft, draft_of, at_name, has_name, names_in, is_integer, is_semi}
-use Rattle.mpslp_builder.specs.Bounds.{one_limit, column_of}
-use Rattle.mpslp_builder.specs.Meaning.{objective_name, constant_of, row_limits, row_entry, row_passes, DraftMeans}
+use Rattle.mpslp_builder.specs.Bounds.{one_limit}
+use Rattle.mpslp_builder.specs.Meaning.{column_of, objective_name, constant_of, row_limits, row_entry, row_passes, DraftMeans}
 use Rattle.mpslp_builder.proofs.BoundsLemmas.{is_integer_kind, is_semi_kind, column_of-is}
 use Rattle.mpslp_builder.proofs.CoefficientLemmas.{flat_map-flat_map, flat_map-none}
 use Rattle.mpslp_builder.proofs.DraftLemmas.{row_part, rhs_part, column_part, coefficient_part, lower_part, upper_part, marked_part, integer_part, binary_part, semi_part, rows-all, rhs_values-all, columns-all, coefficients-all, lowers-all, uppers-all, marked-all, integers-all, binaries-all, semis-all}

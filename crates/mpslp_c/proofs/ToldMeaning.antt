@@ -18,7 +18,7 @@ use Rattle.mpslp_types.specs.declared.kinds.Limit.TheVariants.{MinusInf, Finite,
 use Rattle.mpslp_types.proofs.BoolLemmas.{both_so, both_false, so_not, not_so, nor, or_left, true_from}
 use Rattle.mpslp_types.proofs.EachLemmas.{Each, Each-both, Each-map, Each-all, Each-weaker, Each-append, Each-filter, Each-flat_map, Each-from_list_all, list_all-from_Each}
 use Rattle.mpslp_model_core.specs.Model.{LinearModel, Row, Column, CoefficientKey, key_cmp, IsSound, is_sound_row, is_sound_column, is_sound_coefficient}
-use Rattle.mpslp_model_core.specs.Lists.{are_distinct}
+use Rattle.mpslp_types.specs.Lists.{are_distinct}
 use Rattle.mpslp_model_core.specs.Views.{is_element, column_elements}
 use Rattle.mpslp_model_core.proofs.KeyLemmas.{key_total}
 use Rattle.mpslp_builder.specs.Declaration.{by_limits, Declaration, Declarations, at_name, has_name, has_row, has_column, names_in, is_integer, is_semi}

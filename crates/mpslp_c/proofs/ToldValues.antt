@@ -11,7 +11,8 @@ use Rattle.mpslp_decimal.specs.Literal.{to_signed}
 use Rattle.mpslp_decimal.proofs.NormalLemmas.{normal-tens}
 use Rattle.mpslp_decimal.proofs.NumberTextLemmas.{signed-size, nonzero-ends, zero-is}
 use Rattle.mpslp_types.specs.Limit.{is_given, is_lower_side, is_upper_side}
-use Rattle.mpslp_types.specs.Name.{is_mps_name, has_name_length, is_visible, same_bytes, marker, name_refusal}
+use Rattle.mpslp_types.specs.Name.{is_mps_name, has_name_length, is_visible, same_bytes, marker}
+use Rattle.mpslp_types.specs.NameTests.{name_refusal}
 use Rattle.mpslp_types.specs.declared.faults.FaultKind.{FaultKind}
 use Rattle.mpslp_types.specs.declared.faults.FaultKind.TheVariants.{TooManyDigits, ExponentRange, BadNumber, NameLength}
 use Rattle.mpslp_types.specs.declared.kinds.Limit.{Limit}

@@ -6,13 +6,14 @@ use Rattle.mpslp_types.specs.declared.faults.Fault.{Fault}
 use Rattle.mpslp_types.specs.declared.faults.NameAt.{NameAt}
 use Rattle.mpslp_jobs.specs.declared.jobs.Form.{Form}
 use Rattle.mpslp_jobs.specs.declared.jobs.Form.TheVariants.{Mps, Lp}
-use Rattle.mpslp_conversions.specs.Conversions.{Declares, HasFirstFault, Unfit, TextOf, IsConversion, IsComparison, IsTestOfText}
+use Rattle.mpslp_conversions.specs.Laws.{Declares, Unfit, TextOf}
+use Rattle.mpslp_conversions.specs.Conversions.{HasFirstFault, IsConversion, IsComparison, IsTestOfText}
 use Rattle.mpslp_convert.specs.Performed.{declares_in, first_fault_in, unfit_in, text_in}
 use Rattle.mpslp_conversions.specs.declared.faults.ConvertFault.{ConvertFault}
 use Rattle.mpslp_conversions.specs.declared.faults.ConvertFault.TheVariants.{First, Second, NotLp, OutOfMemory}
 use Rattle.mpslp_c.specs.Arrays.{TellsModel}
 use Rattle.mpslp_builder.specs.Declaration.{Draft, empty_draft}
-use Rattle.mpslp_builder.specs.Meaning.{file_fault}
+use Rattle.mpslp_builder.specs.FileFault.{file_fault}
 use Rattle.mpslp_c.specs.Faults.{IsFaultTold, IsStoreFaultTold}
 use Rattle.mpslp_c.specs.Stored.{Item, items, first_item_fault, after_items, Defines}
 use Rattle.mpslp_c.specs.declared.answers.TheConstants.{OK, DIFFERS, REFUSED, SECOND_REFUSED, NOT_LP, OUT_OF_MEMORY, UNKNOWN_FORMAT}

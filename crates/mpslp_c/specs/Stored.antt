@@ -9,7 +9,7 @@ use Rattle.std.specs.Fmt.{signed_decimal}
 use Rattle.std.specs.Ordering.{int_eq}
 use Rattle.mpslp_decimal.specs.Decimal.{Number, normal, has_few_digits, has_small_exponent}
 use Rattle.mpslp_types.specs.Limit.{limit_of}
-use Rattle.mpslp_types.specs.Name.{name_refusal}
+use Rattle.mpslp_types.specs.NameTests.{name_refusal}
 use Rattle.mpslp_types.specs.declared.names.NameFault.{NameFault}
 use Rattle.mpslp_types.specs.declared.names.NameFault.TheVariants as names
 use Rattle.mpslp_types.specs.declared.faults.FaultKind.{FaultKind}
@@ -18,11 +18,11 @@ use Rattle.mpslp_types.specs.declared.kinds.Limit.{Limit}
 use Rattle.mpslp_types.specs.declared.kinds.Limit.TheVariants.{MinusInf, PlusInf}
 use Rattle.mpslp_types.specs.declared.kinds.Sense.TheVariants.{Minimize, Maximize}
 use Rattle.mpslp_model_core.specs.Model.{LinearModel}
-use Rattle.mpslp_model_core.specs.Lists.{head_of}
+use Rattle.mpslp_types.specs.Lists.{head_of}
 use Rattle.mpslp_builder.specs.Declaration.{Declaration, declare_sense, declare_objective, declare_constant, declare_row, declare_column, declare_coefficient, declare_integer, declare_semi, by_limits, Declarations, Draft, with_declarations, bounds_declared}
 use Rattle.mpslp_builder.specs.Refusal.{refusals, bounds_refusals}
 use Rattle.mpslp_builder.specs.Meaning.{Means}
-use Rattle.mpslp_lines.specs.Declaring.{kind_of_build_fault}
+use Rattle.mpslp_lines.specs.FaultTests.{kind_of_build_fault}
 use Rattle.mpslp_lines.specs.declared.errors.LineError.{LineError}
 use Rattle.mpslp_lines.specs.declared.errors.LineError.TheVariants.{Fault, OutOfMemory}
 use Rattle.mpslp_c.specs.declared.faults.TheConstants.{AT_OBJECTIVE, AT_ROW, AT_COLUMN, AT_ELEMENT}

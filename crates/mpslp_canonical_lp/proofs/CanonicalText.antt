@@ -1,7 +1,7 @@
 -- The outcome of the canonical text of a model, and what it declares, if none of that is rejected.
 use Rattle.std.proofs.Common.{◌≡◌, ap, subst, sym, ◌∙◌, []}
 use Rattle.std.specs.Prelude.{None}
-use Rattle.mpslp_model_core.specs.Model.{LinearModel, IsSound}
+use Rattle.mpslp_model_core.specs.Model.{LinearModel, IsSound, listing_of}
 use Rattle.mpslp_builder.specs.Declaration.{Draft, empty_draft, Declarations, with_declarations}
 use Rattle.mpslp_builder.specs.Refusal.{refusals_in_turn}
 use Rattle.mpslp_builder.specs.Meaning.{Means}
@@ -11,7 +11,6 @@ use Rattle.mpslp_lp_grammar.specs.Rules.{Outcome}
 use Rattle.mpslp_lp_grammar.specs.Rules.Outcome.{Finished}
 use Rattle.mpslp_lp_grammar.specs.Grammar.{text_says, text_declares}
 use Rattle.mpslp_lp.specs.LpText.{numbered_lines, first_own_fault, or_else, outcome, is_finished, declarations_of, DeclaresLp}
-use Rattle.mpslp_model_core.specs.Listing.{listing_of}
 use Rattle.mpslp_canonical_lp.specs.CanonicalLp.{row_terms, canonical_lp}
 use Rattle.mpslp_canonical_lp.specs.Unfit.{unfit}
 use Rattle.mpslp_canonical_lp.proofs.PrintableLemmas.{fit-from_sound}

@@ -17,10 +17,8 @@ use Rattle.mpslp_decimal.specs.Decimal.{zero_number}
 use Rattle.mpslp_types.specs.declared.kinds.RowType.TheVariants.{Free}
 use Rattle.mpslp_model_core.specs.Limits.{plain_limits}
 use Rattle.mpslp_model_core.specs.Model.{LinearModel, Row as Limits, Column as ColumnOf}
-use Rattle.mpslp_builder.specs.Declaration.{Declaration, declare_objective, declare_row, declare_column, Declarations, Draft, draft_of, empty_draft, with_declaration, with_declarations}
-use Rattle.mpslp_builder.specs.Declaration.{RowDefinition}
-use Rattle.mpslp_builder.specs.Bounds.{column_of}
-use Rattle.mpslp_builder.specs.Meaning.{objective_name, row_limits, model_of}
+use Rattle.mpslp_builder.specs.Declaration.{Declaration, declare_objective, declare_row, declare_column, Declarations, Draft, draft_of, empty_draft, with_declaration, with_declarations, RowDefinition}
+use Rattle.mpslp_builder.specs.Meaning.{column_of, objective_name, row_limits, model_of}
 use Rattle.mpslp_builder.proofs.SortedDrafts.{IsSortedDraft, sorted-draft_of}
 use Rattle.mpslp_builder.proofs.MeaningFromNoFault.{sorted-mapped}
 use Rattle.mpslp_lp.specs.Laws.{has_lp_name}

@@ -17,10 +17,10 @@ use Rattle.mpslp_builder.specs.Declaration.{RowDefinition, declare_row, declare_
 use Rattle.mpslp_builder.proofs.SoundParts.{lower_of, upper_of, bounded_so, bounded_finite}
 use Rattle.mpslp_lp_grammar.specs.Rules.{phrases, made_by}
 use Rattle.mpslp_lp_grammar.specs.Terminal.{TerminalAt}
-use Rattle.mpslp_lp_grammar.specs.Point.{Point, start}
+use Rattle.mpslp_lp_grammar.specs.Phrase.{Point, start}
 use Rattle.mpslp_lp_grammar.specs.Grammar.{phrase_at}
 use Rattle.mpslp_lp_grammar.specs.Objective.{objective_declared, term_declared}
-use Rattle.mpslp_lp_grammar.specs.Sides.{limits_by}
+use Rattle.mpslp_lp_grammar.specs.Items.{limits_by}
 use Rattle.mpslp_lp_grammar.specs.declared.relations.Relation.TheVariants.{AtLeast, EqualTo}
 use Rattle.mpslp_lp_grammar.specs.declared.states.Place.TheVariants.{BeforeItems, InObjective, BetweenRows, InBounds}
 use Rattle.mpslp_canonical_lp.specs.Printed.{PrintedLine, word, semi_continuous}

@@ -10,16 +10,15 @@ use Rattle.mpslp_types.specs.Limit.{limit_of}
 use Rattle.mpslp_types.specs.declared.kinds.Limit.{Limit}
 use Rattle.mpslp_types.specs.declared.kinds.Limit.TheVariants.{MinusInf, Finite, PlusInf}
 use Rattle.mpslp_types.proofs.BoolLemmas.{both_so, or_left, or_right}
-use Rattle.mpslp_model_core.specs.Model.{Column, CoefficientKey}
+use Rattle.mpslp_model_core.specs.Model.{Column, CoefficientKey, Listing}
 use Rattle.mpslp_builder.specs.Declaration.{RowDefinition, declare_sense, declare_objective, declare_constant, declare_row, declare_column, declare_coefficient, declare_lower, bounds_declared, Declarations, Draft, empty_draft, with_declaration, with_declarations, has_name, has_row, has_column, is_objective}
 use Rattle.mpslp_builder.specs.Consistency.{is_known}
 use Rattle.mpslp_builder.proofs.SlotLemmas.{has-put}
 use Rattle.mpslp_builder.proofs.LaterDrafts.{itself_named}
 use Rattle.mpslp_builder.proofs.RefusalLemmas.{are_known_in_turn}
-use Rattle.mpslp_lp_grammar.specs.Sides.{Limits, limits_by}
+use Rattle.mpslp_lp_grammar.specs.Items.{Limits, limits_by}
 use Rattle.mpslp_lp_grammar.specs.Bounds.{no_limits}
 use Rattle.mpslp_lp_grammar.specs.declared.relations.Relation.TheVariants.{AtLeast, EqualTo}
-use Rattle.mpslp_model_core.specs.Listing.{Listing}
 use Rattle.mpslp_canonical_lp.specs.CanonicalLp.{Term, row_terms, objective_terms, is_integer_column, is_semi_column}
 use Rattle.mpslp_canonical_lp.proofs.PhraseLemmas.{column_and}
 use Rattle.mpslp_canonical_lp.proofs.ObjectiveWalk.{terms_declared, constant_declared, objective_made}

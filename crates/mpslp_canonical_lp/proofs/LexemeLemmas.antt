@@ -10,15 +10,15 @@ use Rattle.mpslp_decimal.specs.NumberText.{scaled_text, number_text}
 use Rattle.std.specs.Fmt.{decimal}
 use Rattle.mpslp_types.specs.Name.{begins_a_number}
 use Rattle.mpslp_decimal.proofs.CutLemmas.{Each}
-use Rattle.mpslp_lp_tokens.specs.Line.{begins_word, continues_word}
-use Rattle.mpslp_lp_tokens.specs.Token.{is_word, tokens}
+use Rattle.mpslp_lp_tokens.specs.Token.{begins_word, continues_word, is_word, tokens}
 use Rattle.mpslp_lp_tokens.specs.Words.{class_of}
 use Rattle.mpslp_lp_grammar.specs.LexicalFault.{token_fault}
 use Rattle.mpslp_lp_grammar.specs.declared.relations.Relation.{Relation}
 use Rattle.mpslp_lp_grammar.specs.declared.relations.Relation.TheVariants.{AtMost, AtLeast, EqualTo}
 use Rattle.mpslp_lp_tokens.specs.declared.tokens.TokenKind.TheVariants as kinds
 use Rattle.mpslp_lp_tokens.specs.declared.words.WordClass.TheVariants as meanings
-use Rattle.mpslp_canonical_lp.specs.Printed.{Lexeme, PrintedLine, word, label, number, sign, sense, minus_infinity, sign_bytes, sense_bytes, lexeme_text, line_text, sign_kind, sense_kind, SeenToken, tokens_in, line_tokens, semi_continuous}
+use Rattle.mpslp_canonical_lp.specs.Printed.{Lexeme, PrintedLine, word, label, number, sign, sense, minus_infinity, sign_bytes, sense_bytes, lexeme_text, line_text, semi_continuous}
+use Rattle.mpslp_canonical_lp.specs.PrintedDeclarations.{sign_kind, sense_kind, SeenToken, tokens_in, line_tokens}
 use Rattle.mpslp_canonical_lp.proofs.TokenLemmas.{seen, Reads, Stops, StopsAt, IsToken, reads-nil, reads-blank, reads-token}
 use Rattle.mpslp_canonical_lp.proofs.StopLemmas.{stops-blank, stops-colon, stops-minus}
 use Rattle.mpslp_canonical_lp.proofs.TokenTexts.{word-token, unsigned-begins, unsigned-token}

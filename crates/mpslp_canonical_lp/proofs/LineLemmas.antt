@@ -20,19 +20,16 @@ use Rattle.mpslp_decimal.proofs.CutLemmas.{Each}
 use Rattle.mpslp_decimal.proofs.CutLemmas.{Each-weaker}
 use Rattle.mpslp_decimal.proofs.CutLemmas.{Each-append}
 use Rattle.mpslp_lp.specs.Laws.{has_legal_bytes}
-use Rattle.mpslp_lp_tokens.specs.Line.{begins_comment, begins_word, continues_word}
-use Rattle.mpslp_lines.specs.LegalLine.{is_legal_byte}
-use Rattle.mpslp_lines.specs.LegalLine.{has_legal_length}
-use Rattle.mpslp_lp_tokens.specs.Token.{is_word, Token, tokens}
+use Rattle.mpslp_lp_tokens.specs.Token.{begins_comment, begins_word, continues_word, is_word, Token, tokens}
+use Rattle.mpslp_lines.specs.FaultTests.{is_legal_byte, has_legal_length, first_held, number_fault}
 use Rattle.mpslp_lp_grammar.specs.Terminal.{TerminalAt, terminal_of, line_terminals}
-use Rattle.mpslp_lines.specs.FaultTests.{first_held}
 use Rattle.mpslp_lp_grammar.specs.LexicalFault.{token_fault, lexical_fault}
-use Rattle.mpslp_lines.specs.Field.{number_fault}
 use Rattle.mpslp_lines.specs.declared.legal_line.TheConstants.{MAX_LINE_LEN}
 use Rattle.mpslp_lp_grammar.specs.declared.relations.Relation.TheVariants.{AtMost, AtLeast, EqualTo}
 use Rattle.mpslp_lp_tokens.specs.declared.tokens.TokenKind.TheVariants as kinds
 use Rattle.mpslp_lp_tokens.proofs.NameTokens.{begins-lp}
-use Rattle.mpslp_canonical_lp.specs.Printed.{Lexeme, PrintedLine, word, label, number, sign, sense, minus_infinity, lexeme_text, line_text, SeenToken, tokens_in, line_tokens, semi_continuous}
+use Rattle.mpslp_canonical_lp.specs.Printed.{Lexeme, PrintedLine, word, label, number, sign, sense, minus_infinity, lexeme_text, line_text, semi_continuous}
+use Rattle.mpslp_canonical_lp.specs.PrintedDeclarations.{SeenToken, tokens_in, line_tokens}
 use Rattle.mpslp_canonical_lp.proofs.LiteralBytes.{literal-each}
 use Rattle.mpslp_canonical_lp.proofs.TokenLemmas.{seen}
 use Rattle.mpslp_canonical_lp.proofs.TokenTexts.{text-literal}

@@ -9,13 +9,12 @@ use Rattle.mpslp_types.specs.declared.kinds.Limit.{Limit}
 use Rattle.mpslp_types.specs.declared.kinds.Limit.TheVariants.{MinusInf, Finite, PlusInf}
 use Rattle.mpslp_types.proofs.BoolLemmas.{both_false}
 use Rattle.mpslp_types.proofs.EachLemmas.{Each, Each-weaker, Each-append, Each-flat_map, Each-all}
-use Rattle.mpslp_model_core.specs.Model.{CoefficientKey}
+use Rattle.mpslp_model_core.specs.Model.{CoefficientKey, Listing}
 use Rattle.mpslp_builder.specs.Declaration.{RowDefinition, by_limits, Declaration, declare_sense, declare_objective, declare_constant, declare_row, declare_column, declare_coefficient, declare_lower, declare_upper, declare_integer, declare_semi, bounds_declared}
-use Rattle.mpslp_lp_grammar.specs.Sides.{limits_by}
+use Rattle.mpslp_lp_grammar.specs.Items.{limits_by}
 use Rattle.mpslp_lp_grammar.specs.Rows.{row_limits}
 use Rattle.mpslp_lp_grammar.specs.declared.relations.Relation.{Relation}
 use Rattle.mpslp_lp_grammar.specs.declared.relations.Relation.TheVariants.{AtLeast, EqualTo}
-use Rattle.mpslp_model_core.specs.Listing.{Listing}
 use Rattle.mpslp_canonical_lp.specs.CanonicalLp.{Term, row_terms, objective_terms, is_integer_column, is_semi_column}
 use Rattle.mpslp_canonical_lp.proofs.PhraseLemmas.{column_and}
 use Rattle.mpslp_canonical_lp.proofs.RowWalk.{left_of}

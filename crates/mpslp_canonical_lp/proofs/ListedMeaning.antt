@@ -1,14 +1,13 @@
 -- The draft of what the canonical text of a well-formed model declares means the model.
 use Rattle.std.proofs.Common.{ap, List, [], ℕ}
 use Rattle.std.specs.Prelude.{Option, unwrap_or}
-use Rattle.mpslp_model_core.specs.Model.{LinearModel, IsSound}
+use Rattle.mpslp_model_core.specs.Model.{LinearModel, IsSound, listing_of}
 use Rattle.mpslp_types.specs.declared.kinds.Sense.{Sense}
 use Rattle.mpslp_types.specs.declared.kinds.Sense.TheVariants.{Minimize}
 use Rattle.mpslp_builder.specs.Declaration.{draft_of}
 use Rattle.mpslp_builder.specs.Consistency.{AreConsistent}
 use Rattle.mpslp_builder.specs.Meaning.{DraftMeans, Means}
 use Rattle.mpslp_builder.proofs.GivenBack.{model-back, columns-back, no-negative_upper, binary-within}
-use Rattle.mpslp_model_core.specs.Listing.{listing_of}
 use Rattle.mpslp_canonical_lp.proofs.TextWalk.{listed_declarations}
 use Rattle.mpslp_canonical_lp.proofs.SoundListing.{sound-listing}
 use Rattle.mpslp_canonical_lp.proofs.ListedParts.{drafted}

@@ -5,7 +5,7 @@ use Rattle.std.specs.List.{flat_map}
 use Rattle.std.proofs.lemmas.List.{append-nil}
 use Rattle.std.proofs.lemmas.List.Concat.{flat_map-append}
 use Rattle.mpslp_decimal.specs.Decimal.{Number, is_zero, have_same_value}
-use Rattle.mpslp_model_core.specs.Model.{Row, Column}
+use Rattle.mpslp_model_core.specs.Model.{Row, Column, Listing}
 use Rattle.mpslp_types.specs.Limit.{limit_of}
 use Rattle.mpslp_builder.specs.Declaration.{RowDefinition, by_limits, Declaration, declare_sense, declare_objective, declare_constant, declare_row, Declarations, Draft, draft_of}
 use Rattle.mpslp_types.specs.declared.kinds.Sense.{Sense}
@@ -14,10 +14,9 @@ use Rattle.mpslp_types.specs.declared.kinds.Limit.TheVariants.{MinusInf, Finite,
 use Rattle.mpslp_builder.proofs.CoefficientLemmas.{flat_map-flat_map, flat_map-none}
 use Rattle.mpslp_builder.proofs.FlatLemmas.{flat-same}
 use Rattle.mpslp_builder.proofs.NamedEntries.{named}
-use Rattle.mpslp_lp_grammar.specs.Sides.{Limits}
+use Rattle.mpslp_lp_grammar.specs.Items.{Limits}
 use Rattle.mpslp_lp_grammar.specs.Rows.{row_limits}
 use Rattle.mpslp_lp_grammar.specs.Objective.{term_declared, objective_declared}
-use Rattle.mpslp_model_core.specs.Listing.{Listing}
 use Rattle.mpslp_canonical_lp.specs.CanonicalLp.{Term, objective_terms, row_terms, is_integer_column, is_semi_column}
 use Rattle.mpslp_canonical_lp.proofs.ObjectiveWalk.{terms_declared, constant_declared, objective_made}
 use Rattle.mpslp_canonical_lp.proofs.TailWalk.{general_made, semi_made}

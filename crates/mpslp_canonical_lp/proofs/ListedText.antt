@@ -3,14 +3,13 @@ use Rattle.std.proofs.Common.{◌≡◌, ◌∙◌, ap, subst, List, ℕ, Bool, 
 use Rattle.std.specs.Prelude.{◌&&◌, Some, None}
 use Rattle.std.specs.Cmp.{first_so, second_so}
 use Rattle.std.specs.FinMap.{is_sorted, from_sorted, entries-from_sorted}
-use Rattle.mpslp_model_core.specs.Model.{LinearModel, key_cmp}
+use Rattle.mpslp_model_core.specs.Model.{LinearModel, key_cmp, Listing, listing_of}
 use Rattle.mpslp_types.specs.Name.{bytes_cmp}
 use Rattle.mpslp_types.specs.declared.faults.NameAt.{NameAt}
 use Rattle.mpslp_types.proofs.BoolLemmas.{T_from}
 use Rattle.mpslp_lp.specs.LpText.{DeclaresLp}
 use Rattle.mpslp_lp.proofs.WorkedFiles.{Passes, declares-from_passes}
 use Rattle.mpslp_canonical_lp.specs.Printed.{text_of}
-use Rattle.mpslp_model_core.specs.Listing.{Listing, listing_of}
 use Rattle.mpslp_canonical_lp.specs.CanonicalLp.{listed_lines, canonical_lp}
 use Rattle.mpslp_canonical_lp.specs.Unfit.{unfit_in, unfit}
 

@@ -6,7 +6,7 @@ use Rattle.std.specs.Option.{option_map}
 use Rattle.std.specs.Cmp.{first_so, second_so}
 use Rattle.std.specs.FinMap.{find}
 use Rattle.mpslp_decimal.specs.Decimal.{Number, is_decimal, is_zero, zero_number}
-use Rattle.mpslp_model_core.specs.Model.{Row, Column, CoefficientKey, key_cmp}
+use Rattle.mpslp_model_core.specs.Model.{Row, Column, CoefficientKey, key_cmp, Listing}
 use Rattle.mpslp_builder.specs.Declaration.{empty_draft}
 use Rattle.mpslp_types.proofs.EachLemmas.{Each, Each-weaker, Each-append, Each-flat_map, Each-all}
 use Rattle.mpslp_model_core.proofs.PutsLemmas.{puts}
@@ -14,7 +14,6 @@ use Rattle.mpslp_builder.proofs.DraftLemmas.{coefficients-all}
 use Rattle.mpslp_builder.proofs.DraftEntries.{same_key}
 use Rattle.mpslp_builder.proofs.LaterDrafts.{value_in}
 use Rattle.mpslp_builder.proofs.SortedDrafts.{key_total}
-use Rattle.mpslp_model_core.specs.Listing.{Listing}
 use Rattle.mpslp_canonical_lp.specs.CanonicalLp.{Term, term_in, has_coefficients, objective_term, objective_terms, some_term, row_terms}
 use Rattle.mpslp_canonical_lp.proofs.PrintableLemmas.{Holds, each-filter_map}
 use Rattle.mpslp_canonical_lp.proofs.TextWalk.{listed_declarations}

@@ -5,7 +5,7 @@ use Rattle.std.specs.Ordering.{eq_by_cmp}
 use Rattle.mpslp_decimal.specs.Decimal.{Number, is_zero, have_same_value}
 use Rattle.mpslp_decimal.proofs.NumberTextLemmas.{zero-is}
 use Rattle.mpslp_decimal.proofs.OrderLemmas.{same_decimal}
-use Rattle.mpslp_model_core.specs.Model.{Column}
+use Rattle.mpslp_model_core.specs.Model.{Column, Listing}
 use Rattle.mpslp_types.specs.Name.{bytes_cmp}
 use Rattle.mpslp_types.specs.Limit.{limit_of, is_bounded_decimal, is_lower_side, is_upper_side}
 use Rattle.mpslp_types.specs.declared.kinds.Kind.{Kind}
@@ -13,7 +13,8 @@ use Rattle.mpslp_types.specs.declared.kinds.Kind.TheVariants.{Continuous, Intege
 use Rattle.mpslp_types.specs.declared.kinds.Limit.{Limit}
 use Rattle.mpslp_types.specs.declared.kinds.Limit.TheVariants.{MinusInf, Finite, PlusInf}
 use Rattle.mpslp_builder.specs.Declaration.{empty_draft, at_name, has_name}
-use Rattle.mpslp_builder.specs.Bounds.{zero_limit, one_limit, column_of}
+use Rattle.mpslp_builder.specs.Bounds.{zero_limit, one_limit}
+use Rattle.mpslp_builder.specs.Meaning.{column_of}
 use Rattle.mpslp_types.proofs.EachLemmas.{Each, Each-weaker}
 use Rattle.mpslp_model_core.proofs.PutsLemmas.{puts}
 use Rattle.mpslp_builder.proofs.BoundsLemmas as kinds
@@ -21,7 +22,6 @@ use Rattle.mpslp_builder.proofs.BoundsLemmas.{column_of-is}
 use Rattle.mpslp_builder.proofs.DraftLemmas.{lowers-all, uppers-all, marked-all, integers-all, binaries-all, semis-all}
 use Rattle.mpslp_builder.proofs.MeaningFromNoFault.{sorted-mapped}
 use Rattle.mpslp_builder.proofs.SortedDrafts.{bytes_total, tied_names}
-use Rattle.mpslp_model_core.specs.Listing.{Listing}
 use Rattle.mpslp_canonical_lp.specs.CanonicalLp.{is_integer_kind, is_semi_kind, is_integer_column, is_semi_column}
 use Rattle.mpslp_canonical_lp.proofs.TextWalk.{listed_declarations}
 use Rattle.mpslp_builder.proofs.EntryLemmas.{then_told, all_told, puts-own, find-kept, find-told, sorted-told, sorted-kept}

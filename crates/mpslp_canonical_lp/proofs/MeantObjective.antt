@@ -4,7 +4,7 @@ use Rattle.std.specs.Prelude.{Option, Some, None, filter, unwrap_or, ifâ—Œthenâ—
 use Rattle.std.specs.List.{flat_map}
 use Rattle.mpslp_decimal.specs.Decimal.{Number, IsDecimal, is_zero, zero_number, negated, have_same_value}
 use Rattle.mpslp_decimal.proofs.NumberTextLemmas.{zero-is}
-use Rattle.mpslp_model_core.specs.Model.{Row, CoefficientKey}
+use Rattle.mpslp_model_core.specs.Model.{Row, CoefficientKey, Listing}
 use Rattle.mpslp_types.specs.Name.{bytes_cmp}
 use Rattle.mpslp_types.specs.Limit.{limit_of}
 use Rattle.mpslp_types.specs.declared.kinds.Limit.{Limit}
@@ -16,10 +16,9 @@ use Rattle.mpslp_model_core.proofs.PutsLemmas.{puts}
 use Rattle.mpslp_builder.proofs.DraftLemmas.{rhs_values-all}
 use Rattle.mpslp_builder.proofs.KeptParts.{Stays, stays-all}
 use Rattle.mpslp_builder.proofs.MadeDrafts.{with_declarations-append}
-use Rattle.mpslp_lp_grammar.specs.Sides.{limits_by}
+use Rattle.mpslp_lp_grammar.specs.Items.{limits_by}
 use Rattle.mpslp_lp_grammar.specs.Objective.{term_declared, objective_declared}
 use Rattle.mpslp_lp_grammar.specs.declared.relations.Relation.TheVariants.{AtLeast, EqualTo}
-use Rattle.mpslp_model_core.specs.Listing.{Listing}
 use Rattle.mpslp_canonical_lp.specs.CanonicalLp.{Term, objective_terms, row_terms, is_integer_column, is_semi_column}
 use Rattle.mpslp_canonical_lp.proofs.PhraseLemmas.{column_and}
 use Rattle.mpslp_canonical_lp.proofs.ObjectiveWalk.{terms_declared, constant_declared}

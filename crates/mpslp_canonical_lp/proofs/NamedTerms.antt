@@ -9,8 +9,7 @@ use Rattle.mpslp_decimal.specs.Decimal.{Number, zero_number}
 use Rattle.mpslp_types.specs.Name.{same_bytes}
 use Rattle.mpslp_types.proofs.BoolLemmas.{both_false}
 use Rattle.mpslp_types.proofs.EachLemmas.{Each, Each-both, Each-all}
-use Rattle.mpslp_model_core.specs.Model.{Column, key_cmp}
-use Rattle.mpslp_model_core.specs.Listing.{Listing}
+use Rattle.mpslp_model_core.specs.Model.{Column, key_cmp, Listing}
 use Rattle.mpslp_canonical_lp.specs.CanonicalLp.{Term, term_in, has_coefficients, objective_term, objective_terms, some_term, row_terms}
 use Rattle.mpslp_canonical_lp.proofs.PrintableLemmas.{IsTerm, IsFit, terms-fit, some-fits}
 use Rattle.mpslp_canonical_lp.proofs.RowWalk.{AreNew}

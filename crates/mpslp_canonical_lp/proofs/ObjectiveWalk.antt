@@ -12,17 +12,17 @@ use Rattle.mpslp_builder.proofs.MadeDrafts.{with_declarations-append, refusals_i
 use Rattle.mpslp_decimal.proofs.CutLemmas.{Each}
 use Rattle.mpslp_lp_grammar.specs.Terminal.{TerminalAt, word_terminal}
 use Rattle.mpslp_lp_grammar.specs.Terminal.Terminal.{Opens, Name, Number, Sign, Colon}
-use Rattle.mpslp_lp_grammar.specs.Point.{no_section_seen, with_section, section_fault, start}
+use Rattle.mpslp_lp_grammar.specs.Phrase.{no_section_seen, with_section, section_fault, start}
 use Rattle.mpslp_lp_grammar.specs.declared.sections_seen.SectionsSeen.{SectionsSeen}
 use Rattle.mpslp_lp_grammar.specs.declared.states.Place.{Place}
 use Rattle.mpslp_lp_grammar.specs.declared.states.Place.TheVariants.{AtStart, BeforeItems, InObjective, BetweenRows}
-use Rattle.mpslp_lp_grammar.specs.Sides.{apply_sign}
+use Rattle.mpslp_lp_grammar.specs.Items.{apply_sign}
 use Rattle.mpslp_lp_grammar.specs.Grammar.{may_begin_section}
 use Rattle.mpslp_lp_grammar.specs.Objective.{term_declared, objective_declared}
 use Rattle.mpslp_lp_tokens.specs.declared.words.Section.TheVariants as sections
 use Rattle.mpslp_lp_tokens.specs.declared.words.SectionWord.TheVariants as section_words
 use Rattle.mpslp_canonical_lp.specs.Printed.{PrintedLine}
-use Rattle.mpslp_model_core.specs.Listing.{Listing}
+use Rattle.mpslp_model_core.specs.Model.{Listing}
 use Rattle.mpslp_canonical_lp.specs.CanonicalLp.{Lines, Term, heading, long_line, signed_lexemes, label_line, sense_word, term_line, objective_terms, constant_lines, objective_section}
 pub use Rattle.mpslp_canonical_lp.specs.PrintedDeclarations.{constant_declared}
 use Rattle.mpslp_canonical_lp.proofs.PrintableLemmas.{IsTerm, IsFit, objective-fits}

@@ -24,14 +24,13 @@ use Rattle.mpslp_lp_grammar.specs.Rules.{Parsed, after_taking, ◌>>=◌, Outcom
 use Rattle.mpslp_lp_grammar.specs.Rules.Parsed.{Reads, Refuses, Unfinished}
 use Rattle.mpslp_lp_grammar.specs.Rules.AfterPhrase.{Goes, Ends}
 use Rattle.mpslp_lp_grammar.specs.Rules.Outcome.{Finished, Refused, Open}
-use Rattle.mpslp_lp_grammar.specs.Point.{no_section_seen, with_section, section_fault, Point, start}
+use Rattle.mpslp_lp_grammar.specs.Phrase.{no_section_seen, with_section, section_fault, Point, start, PhraseRule, fails, refuses, Follows, goes_to, unless_refused}
 use Rattle.mpslp_lp_grammar.specs.declared.sections_seen.SectionsSeen.{SectionsSeen}
 use Rattle.mpslp_lp_grammar.specs.declared.context.Context.{Context}
 use Rattle.mpslp_lp_grammar.specs.PartialRow.{PartialRow}
 use Rattle.mpslp_lp_grammar.specs.declared.states.Place.{Place}
 use Rattle.mpslp_lp_grammar.specs.declared.states.Place.TheVariants.{BeforeItems, InObjective, BetweenRows, InRow, InBounds, InGenerals, InSemis}
-use Rattle.mpslp_lp_grammar.specs.Phrase.{PhraseRule, fails, refuses, Follows, goes_to, unless_refused}
-use Rattle.mpslp_lp_grammar.specs.Sides.{apply_sign, side, Limits, limits_by, flip}
+use Rattle.mpslp_lp_grammar.specs.Items.{apply_sign, side, Limits, limits_by, flip}
 use Rattle.mpslp_lp_grammar.specs.Objective.{term_declared, objective_declared}
 use Rattle.mpslp_lp_grammar.specs.Rows.{fits_left, row_limits, row_declared, row_whole}
 use Rattle.mpslp_lp_grammar.specs.Bounds.{no_limits}

@@ -9,14 +9,9 @@ use Rattle.std.specs.declared.cmp.Ordering.{Ordering}
 use Rattle.std.specs.FinMap.{entries, find}
 use Rattle.std.proofs.lemmas.Bool.{leb-true, lt-ltb}
 use Rattle.mpslp_decimal.specs.Decimal.{Number, IsDecimal, is_decimal, is_zero, is_negative, is_infinite_size, size_of, zero_number, have_same_value}
-use Rattle.mpslp_types.specs.Name.{marker, same_bytes, has_name_length, is_mps_name, is_lp_byte, is_like_exponent, is_reserved, begins_a_number, is_lp_name}
-use Rattle.mpslp_model_core.specs.Model.{LinearModel, Row, Column, key_cmp, is_sound_row, is_sound_column, is_sound_coefficient, IsSound, suits}
-use Rattle.mpslp_types.specs.Limit.{is_bounded_decimal}
-use Rattle.mpslp_types.specs.Limit.{is_lower_side}
-use Rattle.mpslp_types.specs.Limit.{is_upper_side}
-use Rattle.mpslp_types.specs.Limit.{is_at_most}
-use Rattle.mpslp_types.specs.Limit.{are_sides}
-use Rattle.mpslp_types.specs.Limit.{has_bounded_distance}
+use Rattle.mpslp_types.specs.Name.{marker, same_bytes, has_name_length, is_mps_name, is_lp_byte, is_like_exponent, is_reserved, begins_a_number, is_lp_name, is_visible}
+use Rattle.mpslp_model_core.specs.Model.{LinearModel, Row, Column, key_cmp, is_sound_row, is_sound_column, is_sound_coefficient, IsSound, suits, Listing, listing_of}
+use Rattle.mpslp_types.specs.Limit.{is_bounded_decimal, is_lower_side, is_upper_side, is_at_most, are_sides, has_bounded_distance}
 use Rattle.mpslp_types.specs.declared.faults.FaultKind.TheVariants as faults
 use Rattle.mpslp_types.specs.declared.faults.NameAt.TheVariants as places
 use Rattle.mpslp_types.specs.declared.kinds.Sense.{Sense}
@@ -30,7 +25,6 @@ use Rattle.mpslp_decimal.proofs.CutLemmas.{Each}
 use Rattle.mpslp_decimal.proofs.CutLemmas.{Each-weaker}
 use Rattle.mpslp_decimal.proofs.CutLemmas.{Each-append}
 use Rattle.mpslp_lp_tokens.specs.Token.{is_word}
-use Rattle.mpslp_types.specs.Name.{is_visible}
 use Rattle.mpslp_lines.specs.FaultTests.{first_held}
 use Rattle.mpslp_lp_grammar.specs.LexicalFault.{name_fault, word_fault, token_fault}
 use Rattle.mpslp_lp_grammar.specs.declared.relations.Relation.{Relation}
@@ -38,7 +32,6 @@ use Rattle.mpslp_lp_grammar.specs.declared.relations.Relation.TheVariants.{AtMos
 use Rattle.mpslp_lp_tokens.specs.declared.tokens.TokenKind.TheVariants as kinds
 use Rattle.mpslp_lp_tokens.proofs.WordLemmas.{word_class-name}
 use Rattle.mpslp_canonical_lp.specs.Printed.{Lexeme, word, label, number, sign, sense, minus_infinity, semi_continuous}
-use Rattle.mpslp_model_core.specs.Listing.{Listing, listing_of}
 use Rattle.mpslp_canonical_lp.specs.CanonicalLp.{Lines, heading, long_line, under_heading, label_line, signed_lexemes, Term, term_line, sense_word, term_in, has_coefficients, objective_term, objective_terms, constant_lines, objective_section, left_lines, right_line, minus_large, last_line, some_term, row_terms, row_lines, rows_section, bound_lexemes, line_of_some, bound_lines, bounds_section, is_integer_column, name_line, generals_section, listed_lines, canonical_lines, is_semi_column, semis_section, under_semi_heading}
 use Rattle.mpslp_canonical_lp.specs.Unfit.{is_no_lp_name, first_unfit, or_else, unfit_in, unfit}
 use Rattle.mpslp_canonical_lp.proofs.TokenTexts.{name-word}

@@ -10,7 +10,7 @@ use Rattle.std.specs.declared.cmp.Ordering.TheVariants.{Equal}
 use Rattle.std.specs.FinMap.{find}
 use Rattle.mpslp_decimal.specs.Decimal.{Number, is_decimal, is_zero, zero_number}
 use Rattle.mpslp_types.specs.Name.{same_bytes, is_one_of}
-use Rattle.mpslp_model_core.specs.Model.{Row, Column, CoefficientKey, key_cmp}
+use Rattle.mpslp_model_core.specs.Model.{Row, Column, CoefficientKey, key_cmp, Listing}
 use Rattle.mpslp_builder.specs.Declaration.{names_in}
 use Rattle.mpslp_types.proofs.BoolLemmas.{or_left, or_right}
 use Rattle.mpslp_model_core.proofs.PutsLemmas.{equal_from, find-front, some_cons, some_append_left, some_append_right}
@@ -19,7 +19,6 @@ use Rattle.mpslp_builder.proofs.LaterDrafts.{itself_named}
 use Rattle.mpslp_builder.proofs.NamedEntries.{any-name}
 use Rattle.mpslp_builder.proofs.SlotLemmas.{same_name}
 use Rattle.mpslp_builder.proofs.SortedDrafts.{key_total}
-use Rattle.mpslp_model_core.specs.Listing.{Listing}
 use Rattle.mpslp_canonical_lp.specs.CanonicalLp.{Term, term_in, has_coefficients, objective_term, objective_terms, some_term, row_terms}
 use Rattle.mpslp_builder.proofs.EntryLemmas.{found-each}
 use Rattle.mpslp_canonical_lp.proofs.SoundListing.{is_sound_entry, IsSoundListing}

@@ -4,12 +4,11 @@ use Rattle.std.specs.Prelude.{Some, ◌&&◌}
 use Rattle.std.specs.FinMap.{is_sorted, entries, entries_sorted}
 use Rattle.mpslp_decimal.specs.Decimal.{Number, IsDecimal, is_decimal, is_zero}
 use Rattle.mpslp_types.specs.Name.{is_one_of, bytes_cmp}
-use Rattle.mpslp_model_core.specs.Model.{LinearModel, Column, CoefficientKey, key_cmp, is_sound_row, is_sound_column, is_sound_coefficient, IsSound}
+use Rattle.mpslp_model_core.specs.Model.{LinearModel, Column, CoefficientKey, key_cmp, is_sound_row, is_sound_column, is_sound_coefficient, IsSound, Listing, listing_of}
 use Rattle.mpslp_builder.specs.Declaration.{at_name, names_in}
 use Rattle.mpslp_types.proofs.BoolLemmas.{true_from}
 use Rattle.mpslp_types.proofs.EachLemmas.{Each, Each-both, Each-from_list_all}
 use Rattle.mpslp_builder.proofs.NamedEntries.{own-found}
-use Rattle.mpslp_model_core.specs.Listing.{Listing, listing_of}
 
 -- a decimal other than 0, of a row or the objective and of a column that exist
 abbrev pub is_sound_entry : Listing → CoefficientKey × Number → Bool

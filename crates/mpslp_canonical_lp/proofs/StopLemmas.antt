@@ -10,8 +10,7 @@ use Rattle.mpslp_decimal.specs.Literal.{is_digit, is_literal}
 use Rattle.mpslp_types.specs.Name.{same_bytes, begins_a_number, is_letter, is_lp_symbol}
 use Rattle.mpslp_types.proofs.BoolLemmas.{not_so, nor}
 use Rattle.mpslp_decimal.proofs.CutLemmas.{Each}
-use Rattle.mpslp_lp_tokens.specs.Line.{begins_word, continues_word, is_period}
-use Rattle.mpslp_lp_tokens.specs.Token.{is_word, is_number, two_byte_operators, operator_kind, kind_of}
+use Rattle.mpslp_lp_tokens.specs.Token.{begins_word, continues_word, is_period, is_word, is_number, two_byte_operators, operator_kind, kind_of}
 use Rattle.mpslp_lp_tokens.specs.declared.tokens.TokenKind.{TokenKind}
 use Rattle.mpslp_lp_tokens.specs.declared.tokens.TokenKind.TheVariants as kinds
 use Rattle.mpslp_lp_tokens.proofs.NameTokens.{begins-no_number}

@@ -7,7 +7,7 @@ use Rattle.mpslp_model_core.specs.Model.{Column}
 use Rattle.mpslp_builder.specs.Declaration.{Draft, Declarations, declare_column, declare_integer, bounds_declared, with_declarations, has_column, has_name, declare_semi}
 use Rattle.mpslp_types.specs.Limit.{is_plus_infinite, is_minus_infinite}
 use Rattle.mpslp_builder.specs.Refusal.{refusals_in_turn, bounds_refusals}
-use Rattle.mpslp_model_core.specs.Lists.{those_of}
+use Rattle.mpslp_types.specs.Lists.{those_of}
 use Rattle.mpslp_types.specs.declared.faults.BuildFault.TheVariants.{UnknownColumn, DuplicateBound, InfiniteValue}
 use Rattle.mpslp_types.specs.declared.kinds.Limit.{Limit}
 use Rattle.mpslp_builder.proofs.MadeDrafts.{with_declarations-append}
@@ -17,7 +17,7 @@ use Rattle.mpslp_lp_grammar.specs.Terminal.{TerminalAt, word_terminal}
 use Rattle.mpslp_lp_grammar.specs.Terminal.Terminal.{Opens, Name, Sign}
 use Rattle.mpslp_lp_grammar.specs.Rules.{phrases, made_by}
 use Rattle.mpslp_lp_grammar.specs.Rules.Outcome.{Finished}
-use Rattle.mpslp_lp_grammar.specs.Point.{with_section, section_fault, Point}
+use Rattle.mpslp_lp_grammar.specs.Phrase.{with_section, section_fault, Point}
 use Rattle.mpslp_lp_grammar.specs.declared.sections_seen.SectionsSeen.{SectionsSeen}
 use Rattle.mpslp_lp_grammar.specs.declared.states.Place.{Place}
 use Rattle.mpslp_lp_grammar.specs.declared.states.Place.TheVariants.{InGenerals, InSemis}

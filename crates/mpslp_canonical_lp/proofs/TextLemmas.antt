@@ -11,7 +11,8 @@ use Rattle.mpslp_lp_grammar.specs.Terminal.{TerminalAt, line_terminals}
 use Rattle.mpslp_lp_grammar.specs.LexicalFault.{lexical_fault}
 use Rattle.mpslp_lp.specs.LpText.{sound_terminals}
 use Rattle.mpslp_lines.proofs.WrittenLineLemmas.{IsPlain, lines-with_line_feeds}
-use Rattle.mpslp_canonical_lp.specs.Printed.{PrintedLine, line_text, text_of, line_tokens}
+use Rattle.mpslp_canonical_lp.specs.Printed.{PrintedLine, line_text, text_of}
+use Rattle.mpslp_canonical_lp.specs.PrintedDeclarations.{line_tokens}
 use Rattle.mpslp_canonical_lp.specs.Laws.{tokens_seen}
 use Rattle.mpslp_canonical_lp.proofs.LexemeLemmas.{line-read}
 use Rattle.mpslp_canonical_lp.proofs.LineLemmas.{is_plain, each-line_text, IsPrintableLine, line-faultless, line-terminals, seen_at}

@@ -15,8 +15,7 @@ use Rattle.mpslp_decimal.proofs.SpellsLemmas.{spells-from_number}
 use Rattle.mpslp_types.specs.Name.{marker, same_bytes, has_name_length, is_letter, is_lp_symbol, is_lp_byte, is_like_exponent, is_reserved, begins_a_number, is_lp_name}
 use Rattle.mpslp_types.proofs.BoolLemmas.{both_so, not_so, nor}
 use Rattle.mpslp_decimal.proofs.CutLemmas.{Each-append}
-use Rattle.mpslp_lp_tokens.specs.Line.{is_blank, begins_comment, is_period, begins_word, continues_word}
-use Rattle.mpslp_lp_tokens.specs.Token.{is_word, is_number, operator_kind, kind_of}
+use Rattle.mpslp_lp_tokens.specs.Token.{is_blank, begins_comment, is_period, begins_word, continues_word, is_word, is_number, operator_kind, kind_of}
 use Rattle.mpslp_lp_tokens.specs.declared.tokens.TokenKind.{TokenKind}
 use Rattle.mpslp_lp_tokens.specs.declared.tokens.TokenKind.TheVariants as kinds
 use Rattle.mpslp_lp_tokens.proofs.NameTokens.{begins-no_number}

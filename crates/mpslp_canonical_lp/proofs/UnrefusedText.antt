@@ -14,7 +14,7 @@ use Rattle.mpslp_types.specs.declared.kinds.Limit.{Limit}
 use Rattle.mpslp_types.specs.declared.kinds.Limit.TheVariants.{MinusInf, Finite, PlusInf}
 use Rattle.mpslp_types.proofs.BoolLemmas.{both_false, so_not, nor}
 use Rattle.mpslp_types.proofs.EachLemmas.{Each, Each-weaker, Each-filter, Each-all, list_all-from_Each}
-use Rattle.mpslp_model_core.specs.Model.{LinearModel, Column, is_sound_row, is_sound_column, IsSound}
+use Rattle.mpslp_model_core.specs.Model.{LinearModel, Column, is_sound_row, is_sound_column, IsSound, Listing, listing_of}
 use Rattle.mpslp_model_core.proofs.PutsLemmas.{puts}
 use Rattle.mpslp_builder.specs.Declaration.{Declaration, declare_marked, declare_integer, declare_binary, declare_semi, bounds_declared, Declarations, Draft, draft_of, empty_draft, with_declaration, with_declarations, at_name, has_name, names_in, is_integer, is_semi, have_infinite_side}
 use Rattle.mpslp_builder.specs.Refusal.{refusals_in_turn}
@@ -23,9 +23,8 @@ use Rattle.mpslp_builder.proofs.DraftLemmas.{rhs_part, rhs_values-all}
 use Rattle.mpslp_builder.proofs.SlotLemmas.{has-put, same_name}
 use Rattle.mpslp_builder.proofs.WellFormed.{fresh-from_once}
 use Rattle.mpslp_builder.proofs.RefusalLemmas.{consistent-from_none, none-from_fine_in_turn}
-use Rattle.mpslp_lp_grammar.specs.Sides.{limits_by}
+use Rattle.mpslp_lp_grammar.specs.Items.{limits_by}
 use Rattle.mpslp_lp_grammar.specs.declared.relations.Relation.TheVariants.{AtMost, AtLeast, EqualTo}
-use Rattle.mpslp_model_core.specs.Listing.{Listing, listing_of}
 use Rattle.mpslp_canonical_lp.specs.CanonicalLp.{row_terms, is_integer_kind, is_semi_kind, is_integer_column, is_semi_column}
 use Rattle.mpslp_canonical_lp.specs.Unfit.{unfit}
 use Rattle.mpslp_canonical_lp.proofs.PrintableLemmas.{fit-from_sound}

@@ -3,7 +3,7 @@ use Rattle.std.proofs.Common.{◌≡◌, refl}
 use Rattle.std.specs.Prelude.{ℕ, ℤ, pos, negsuc, Some, List, ◌∷◌, [], codes, length}
 use Rattle.std.specs.Fmt.{digits}
 use Rattle.mpslp_decimal.specs.Decimal.{Number, trailing_zeros, zero_number}
-use Rattle.mpslp_model_core.specs.Model.{CoefficientKey, Row, Column}
+use Rattle.mpslp_model_core.specs.Model.{CoefficientKey, Row, Column, Listing}
 use Rattle.mpslp_types.specs.declared.faults.NameAt.TheVariants as places
 use Rattle.mpslp_types.specs.declared.kinds.Sense.{Sense}
 use Rattle.mpslp_types.specs.declared.kinds.Sense.TheVariants.{Minimize, Maximize}
@@ -12,7 +12,6 @@ use Rattle.mpslp_types.specs.declared.kinds.Kind.TheVariants.{Continuous, Intege
 use Rattle.mpslp_types.specs.declared.kinds.Limit.{Limit}
 use Rattle.mpslp_types.specs.declared.kinds.Limit.TheVariants.{MinusInf, Finite, PlusInf}
 use Rattle.mpslp_lp.proofs.WorkedFiles.{text}
-use Rattle.mpslp_model_core.specs.Listing.{Listing}
 use Rattle.mpslp_canonical_lp.specs.Unfit.{unfit}
 use Rattle.mpslp_canonical_lp.proofs.ListedText.{model_in, IsPrinted, line_text-from_passes, unfit-listed}
 

@@ -1,21 +1,9 @@
 -- The canonical LP text of a model.
-use Rattle.std.specs.Prelude.{ℕ, negsuc, pos, Bool, true, false, List, [], ◌∷◌, ◌++◌, map, filter, filter_map, Option, Some, if◌then◌else◌, codes}
-use Rattle.std.specs.List.{flat_map, list_any}
-use Rattle.std.specs.Option.{option_map}
-use Rattle.std.specs.FinMap.{find}
-use Rattle.mpslp_decimal.specs.Decimal.{Number, is_zero, is_negative, size_of, zero_number, have_same_value}
-use Rattle.mpslp_types.specs.Name.{same_bytes}
-use Rattle.mpslp_model_core.specs.Model.{LinearModel, Row, Column, CoefficientKey, key_cmp}
-use Rattle.mpslp_types.specs.declared.kinds.Sense.{Sense}
-use Rattle.mpslp_types.specs.declared.kinds.Sense.TheVariants.{Minimize, Maximize}
-use Rattle.mpslp_types.specs.declared.kinds.Kind.{Kind}
-use Rattle.mpslp_types.specs.declared.kinds.Kind.TheVariants.{Continuous, Integer, Semi}
-use Rattle.mpslp_types.specs.declared.kinds.Limit.{Limit}
-use Rattle.mpslp_types.specs.declared.kinds.Limit.TheVariants.{MinusInf, Finite}
-use Rattle.mpslp_lp_grammar.specs.declared.relations.Relation.{Relation}
-use Rattle.mpslp_lp_grammar.specs.declared.relations.Relation.TheVariants.{AtMost, AtLeast, EqualTo}
+use Rattle.mpslp_types.specs.Basics.{ℕ, pos, negsuc, Bool, true, false, if◌then◌else◌, List, [], ◌∷◌, ◌++◌, map, filter, filter_map, codes, Option, Some, list_any, flat_map, option_map, find_entry as find, Number, is_zero, is_negative, size_of, zero_number, have_same_value, same_bytes}
+use Rattle.mpslp_model_core.specs.Model.{LinearModel, Row, Column, CoefficientKey, key_cmp, Listing, listing_of}
+use Rattle.mpslp_types.specs.declared.kinds.{Sense.Sense, Sense.TheVariants.Minimize, Sense.TheVariants.Maximize, Kind.Kind, Kind.TheVariants.Continuous, Kind.TheVariants.Integer, Kind.TheVariants.Semi, Limit.Limit, Limit.TheVariants.MinusInf, Limit.TheVariants.Finite}
+use Rattle.mpslp_lp_grammar.specs.declared.relations.Relation.{Relation, TheVariants.AtMost, TheVariants.AtLeast, TheVariants.EqualTo}
 use Rattle.mpslp_canonical_lp.specs.Printed.{PrintedLine, Lexeme, word, label, number, sign, sense, minus_infinity, text_of, semi_continuous}
-use Rattle.mpslp_model_core.specs.Listing.{Listing, listing_of}
 
 abbrev pub Lines : Type 0
 Lines = List PrintedLine

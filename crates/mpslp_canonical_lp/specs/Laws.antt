@@ -6,7 +6,8 @@ use Rattle.mpslp_model_core.specs.Model.{LinearModel, IsSound}
 use Rattle.mpslp_lp_tokens.specs.Token.{Token, tokens}
 use Rattle.mpslp_lp_grammar.specs.LexicalFault.{lexical_fault}
 use Rattle.mpslp_lp.specs.LpText.{DeclaresLp}
-use Rattle.mpslp_canonical_lp.specs.Printed.{SeenToken, line_text, line_tokens}
+use Rattle.mpslp_canonical_lp.specs.PrintedDeclarations.{SeenToken, line_tokens}
+use Rattle.mpslp_canonical_lp.specs.Printed.{line_text}
 use Rattle.mpslp_canonical_lp.specs.CanonicalLp.{canonical_lines, canonical_lp}
 use Rattle.mpslp_canonical_lp.specs.Unfit.{unfit}
 

@@ -1,13 +1,7 @@
--- Printed lines: their pieces, how they are printed, and the tokens that a reader of LP sees in them.
-use Rattle.std.specs.Prelude.{ℕ, Bool, List, [], ◌∷◌, ◌++◌, map, replicate, codes, if◌then◌else◌}
-use Rattle.std.specs.List.{flat_map, join_by}
-use Rattle.mpslp_decimal.specs.Decimal.{Number, is_negative, size_of}
+-- Printed lines: their pieces, and how they are printed.
+use Rattle.mpslp_types.specs.Basics.{ℕ, Bool, if◌then◌else◌, List, ◌++◌, map, replicate, codes, join_by, with_line_feeds, Number}
 use Rattle.mpslp_decimal.specs.NumberText.{number_text}
-use Rattle.mpslp_lp_grammar.specs.declared.relations.Relation.{Relation}
-use Rattle.mpslp_lp_grammar.specs.declared.relations.Relation.TheVariants.{AtMost, AtLeast, EqualTo}
-use Rattle.mpslp_lp_tokens.specs.declared.tokens.TokenKind.{TokenKind}
-use Rattle.mpslp_lp_tokens.specs.declared.tokens.TokenKind.TheVariants as kinds
-use Rattle.mpslp_lines.specs.WrittenLines.{with_line_feeds}
+use Rattle.mpslp_lp_grammar.specs.declared.relations.Relation.{Relation, TheVariants.AtMost, TheVariants.AtLeast, TheVariants.EqualTo}
 
 pub data Lexeme : Type 0 where
   -- a name, or a word of the language
@@ -54,29 +48,3 @@ abbrev pub text_of : List PrintedLine → List ℕ
 text_of lines = with_line_feeds (map line_text lines)
 
 -- ---- what is read in them
-
-abbrev pub sign_kind : Bool → TokenKind
-sign_kind minus = if minus then kinds.Minus else kinds.Plus
-
-abbrev pub sense_kind : Relation → TokenKind
-sense_kind AtMost = kinds.Less
-sense_kind AtLeast = kinds.Greater
-sense_kind EqualTo = kinds.Equal
-
--- a token's kind and its text
-abbrev pub SeenToken : Type 0
-SeenToken = TokenKind × List ℕ
-
-abbrev pub tokens_in : Lexeme → List SeenToken
-tokens_in (word text) = (kinds.Word, text) ∷ []
-tokens_in (label name) = (kinds.Word, name) ∷ (kinds.Colon, codes ":") ∷ []
-tokens_in (number value) =
-    if is_negative value then (kinds.Minus, codes "-") ∷ (kinds.Number, number_text (size_of value)) ∷ []
-    else (kinds.Number, number_text value) ∷ []
-tokens_in (sign minus) = (sign_kind minus, sign_bytes minus) ∷ []
-tokens_in (sense relation) = (sense_kind relation, sense_bytes relation) ∷ []
-tokens_in minus_infinity = (kinds.Minus, codes "-") ∷ (kinds.Word, codes "infinity") ∷ []
-tokens_in semi_continuous = (kinds.Word, codes "Semi") ∷ (kinds.Minus, codes "-") ∷ (kinds.Word, codes "Continuous") ∷ []
-
-abbrev pub line_tokens : PrintedLine → List SeenToken
-line_tokens line = flat_map tokens_in line.lexemes

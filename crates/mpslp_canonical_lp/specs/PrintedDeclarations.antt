@@ -1,20 +1,20 @@
 -- What each printed phrase declares, at any point where it is allowed, if nothing that it declares is rejected.
 use Rattle.std.specs.Prelude.{◌≡◌, ℕ, Bool, true, false, ◌&&◌, IsTrue, List, [], ◌∷◌, ◌++◌, map, None, is_none, if◌then◌else◌, codes}
 use Rattle.std.specs.List.{flat_map, list_all, list_any, enumerate_from}
-use Rattle.mpslp_decimal.specs.Decimal.{Number, IsDecimal, is_decimal, is_zero}
+use Rattle.mpslp_decimal.specs.Decimal.{Number, IsDecimal, is_decimal, is_zero, is_negative, size_of}
 use Rattle.mpslp_types.specs.Name.{is_lp_name, same_bytes}
 use Rattle.mpslp_types.specs.Limit.{are_sides}
 use Rattle.mpslp_types.specs.declared.kinds.Sense.{Sense}
 use Rattle.mpslp_types.specs.declared.kinds.Limit.{Limit}
 use Rattle.mpslp_types.specs.declared.kinds.Limit.TheVariants.{Finite, PlusInf}
-use Rattle.mpslp_model_core.specs.Lists.{is_nonempty}
-use Rattle.mpslp_model_core.specs.Model.{Row, Column}
+use Rattle.mpslp_types.specs.Lists.{is_nonempty}
+use Rattle.mpslp_model_core.specs.Model.{Row, Column, Listing}
 use Rattle.mpslp_builder.specs.Declaration.{by_limits, declare_constant, declare_row, declare_column, declare_lower, declare_upper, declare_integer, declare_semi, Declarations, Draft, draft_of, with_declarations}
 use Rattle.mpslp_builder.specs.Refusal.{refusals_in_turn}
 use Rattle.mpslp_lp_grammar.specs.Rules.{phrases, made_by}
 use Rattle.mpslp_lp_grammar.specs.Rules.Outcome.{Finished}
 use Rattle.mpslp_lp_grammar.specs.Terminal.{TerminalAt, line_terminals}
-use Rattle.mpslp_lp_grammar.specs.Point.{Point, start, no_section_seen, with_section, section_fault}
+use Rattle.mpslp_lp_grammar.specs.Phrase.{Point, start, no_section_seen, with_section, section_fault}
 use Rattle.mpslp_lp_grammar.specs.Grammar.{phrase_at, may_begin_section}
 use Rattle.mpslp_lp_grammar.specs.LexicalFault.{lexical_fault}
 use Rattle.mpslp_lp_grammar.specs.Objective.{objective_declared, term_declared}
@@ -22,9 +22,13 @@ use Rattle.mpslp_lp_grammar.specs.declared.sections_seen.SectionsSeen.{SectionsS
 use Rattle.mpslp_lp_grammar.specs.declared.states.Place.{Place}
 use Rattle.mpslp_lp_grammar.specs.declared.states.Place.TheVariants.{BeforeItems, InObjective, BetweenRows, InBounds, InGenerals, InSemis}
 use Rattle.mpslp_lp_tokens.specs.declared.words.Section.TheVariants as sections
-use Rattle.mpslp_model_core.specs.Listing.{Listing}
-use Rattle.mpslp_canonical_lp.specs.Printed.{line_text}
+use Rattle.mpslp_canonical_lp.specs.Printed.{line_text, Lexeme, word, label, number, sign, sense, minus_infinity, semi_continuous, PrintedLine, sign_bytes, sense_bytes}
 use Rattle.mpslp_canonical_lp.specs.CanonicalLp.{Lines, Term, heading, label_line, sense_word, term_line, constant_lines, row_terms, row_lines, bound_lines, name_line, semi_heading}
+use Rattle.mpslp_decimal.specs.NumberText.{number_text}
+use Rattle.mpslp_lp_grammar.specs.declared.relations.Relation.{Relation}
+use Rattle.mpslp_lp_grammar.specs.declared.relations.Relation.TheVariants.{AtMost, AtLeast, EqualTo}
+use Rattle.mpslp_lp_tokens.specs.declared.tokens.TokenKind.{TokenKind}
+use Rattle.mpslp_lp_tokens.specs.declared.tokens.TokenKind.TheVariants as kinds
 
 -- ---- lines from a point of the grammar on
 
@@ -147,3 +151,31 @@ pub record DeriveHeadings (place : Place) (sections_seen : SectionsSeen) (earlie
 
 abbrev pub DeriveAllHeadings : Type 0
 DeriveAllHeadings = (place : Place) (sections_seen : SectionsSeen) (earlier : Draft) (n : ℕ) → may_begin_section place ≡ true → DeriveHeadings place sections_seen earlier n
+
+-- ---- the tokens that a reader of LP sees in a printed line
+
+abbrev pub sign_kind : Bool → TokenKind
+sign_kind minus = if minus then kinds.Minus else kinds.Plus
+
+abbrev pub sense_kind : Relation → TokenKind
+sense_kind AtMost = kinds.Less
+sense_kind AtLeast = kinds.Greater
+sense_kind EqualTo = kinds.Equal
+
+-- a token's kind and its text
+abbrev pub SeenToken : Type 0
+SeenToken = TokenKind × List ℕ
+
+abbrev pub tokens_in : Lexeme → List SeenToken
+tokens_in (word text) = (kinds.Word, text) ∷ []
+tokens_in (label name) = (kinds.Word, name) ∷ (kinds.Colon, codes ":") ∷ []
+tokens_in (number value) =
+    if is_negative value then (kinds.Minus, codes "-") ∷ (kinds.Number, number_text (size_of value)) ∷ []
+    else (kinds.Number, number_text value) ∷ []
+tokens_in (sign minus) = (sign_kind minus, sign_bytes minus) ∷ []
+tokens_in (sense relation) = (sense_kind relation, sense_bytes relation) ∷ []
+tokens_in minus_infinity = (kinds.Minus, codes "-") ∷ (kinds.Word, codes "infinity") ∷ []
+tokens_in semi_continuous = (kinds.Word, codes "Semi") ∷ (kinds.Minus, codes "-") ∷ (kinds.Word, codes "Continuous") ∷ []
+
+abbrev pub line_tokens : PrintedLine → List SeenToken
+line_tokens line = flat_map tokens_in line.lexemes

@@ -1,11 +1,7 @@
 -- The first name of a model that is not legal in LP.
-use Rattle.std.specs.Prelude.{ℕ, Bool, not, List, map, Option, Some, None, position, if◌then◌else◌}
-use Rattle.std.specs.Option.{option_map}
-use Rattle.mpslp_types.specs.Name.{is_lp_name}
-use Rattle.mpslp_model_core.specs.Model.{LinearModel}
-use Rattle.mpslp_types.specs.declared.faults.NameAt.{NameAt}
-use Rattle.mpslp_types.specs.declared.faults.NameAt.TheVariants.{Objective, Row, Column}
-use Rattle.mpslp_model_core.specs.Listing.{Listing, listing_of}
+use Rattle.mpslp_types.specs.Basics.{ℕ, Bool, not, if◌then◌else◌, List, map, position, Option, Some, None, option_map, is_lp_name}
+use Rattle.mpslp_model_core.specs.Model.{LinearModel, Listing, listing_of}
+use Rattle.mpslp_types.specs.declared.faults.NameAt.{NameAt, TheVariants.Objective, TheVariants.Row, TheVariants.Column}
 
 abbrev pub is_no_lp_name : List ℕ → Bool
 is_no_lp_name name = not (is_lp_name name)

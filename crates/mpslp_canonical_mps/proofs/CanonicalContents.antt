@@ -6,7 +6,7 @@ use Rattle.std.specs.Option.{option_map_or}
 use Rattle.std.proofs.lemmas.List.{map-append}
 use Rattle.mpslp_decimal.specs.Decimal.{Number, is_zero, negated, zero_number}
 use Rattle.mpslp_decimal.specs.NumberText.{number_text}
-use Rattle.mpslp_model_core.specs.Model.{Row, Column}
+use Rattle.mpslp_model_core.specs.Model.{Row, Column, Listing}
 use Rattle.mpslp_mps_fields.specs.Line.{LineContent}
 use Rattle.mpslp_mps_fields.specs.declared.sections.Section.{Section}
 use Rattle.mpslp_mps_fields.specs.declared.bound_types.BoundType.{BoundType}
@@ -15,8 +15,7 @@ use Rattle.mpslp_canonical_mps.proofs.RowsWalk.{RowItem, row_item, Side, side_it
 use Rattle.mpslp_canonical_mps.proofs.ColumnsWalk.{Cell, cell_item, Group, cells_of}
 use Rattle.mpslp_canonical_mps.proofs.BoundsWalk.{BoundForm, fixed, lower, upper, free, no_lower, no_upper, semi_upper, Bound}
 use Rattle.mpslp_canonical_mps.proofs.HeaderWalk.{header_item}
-use Rattle.mpslp_canonical_mps.specs.Printed.{content_in}
-use Rattle.mpslp_model_core.specs.Listing.{Listing}
+use Rattle.mpslp_canonical_mps.specs.PrintedDeclarations.{content_in}
 use Rattle.mpslp_canonical_mps.specs.PrintedValues.{printed_type, printed_rhs, printed_range, PrintedBound, printed_bounds}
 use Rattle.mpslp_canonical_mps.specs.CanonicalMps.{Lines, under_header, row_line, vector_line, coefficient_line, column_coefficients, printed_coefficients, column_lines, rhs_lines, row_rhs_lines, range_lines}
 

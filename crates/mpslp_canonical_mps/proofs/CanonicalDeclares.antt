@@ -1,7 +1,7 @@
 -- The canonical text of a well-formed model declares it.
 use Rattle.std.proofs.Common.{◌≡◌, sym, ap, subst, ◌∙◌, List, [], ℕ, map}
 use Rattle.std.specs.List.{list_all}
-use Rattle.mpslp_model_core.specs.Model.{LinearModel, IsSound}
+use Rattle.mpslp_model_core.specs.Model.{LinearModel, IsSound, listing_of}
 use Rattle.mpslp_builder.specs.Declaration.{Declarations, empty_draft}
 use Rattle.mpslp_builder.specs.Meaning.{Means}
 use Rattle.mpslp_builder.specs.Consistency.{AreConsistent}
@@ -11,7 +11,6 @@ use Rattle.mpslp_mps.specs.LegalLine.{is_legal_line}
 use Rattle.mpslp_mps.specs.MpsText.{read_lines, has_end, declarations_of, DeclaresMps}
 use Rattle.mpslp_mps.proofs.ContextLineLemmas.{declared_items, are_well_formed, lines-declare, lines-good}
 use Rattle.mpslp_canonical_mps.proofs.ContentsWalk.{Walk}
-use Rattle.mpslp_model_core.specs.Listing.{listing_of}
 use Rattle.mpslp_canonical_mps.specs.CanonicalMps.{canonical_mps}
 use Rattle.mpslp_canonical_mps.specs.Laws.{IsReadAsPrinted, DeclareTheirModels, TellModelsApart}
 use Rattle.mpslp_canonical_mps.proofs.ReadLemmas.{read-as-line_text}

@@ -5,9 +5,9 @@ use Rattle.std.specs.List.{flat_map}
 use Rattle.std.proofs.lemmas.List.{append-nil}
 use Rattle.mpslp_builder.specs.Declaration.{Declarations, Draft, is_free_row}
 use Rattle.mpslp_types.proofs.EachLemmas.{Each}
-use Rattle.mpslp_mps_fields.specs.Line.{LineContent}
-use Rattle.mpslp_mps_fields.specs.Section.{begins}
-use Rattle.mpslp_mps.specs.Context.{context_of, has_section, is_read, data_lines}
+use Rattle.mpslp_mps_fields.specs.Line.{LineContent, begins}
+use Rattle.mpslp_mps.specs.Context.{context_of, is_read, data_lines}
+use Rattle.mpslp_mps.specs.TextInWords.{has_section}
 use Rattle.mpslp_canonical_mps.proofs.HeaderWalk.{is_bare, wants_word, header_item, MayStand, header-good, header-says, current-header, no-lines, settled-after}
 use Rattle.mpslp_mps_fields.specs.declared.sections.Section.{Section}
 use Rattle.mpslp_mps_fields.specs.declared.sections.Section.TheVariants.{Columns, Rhs, Ranges, Bounds, EndData}

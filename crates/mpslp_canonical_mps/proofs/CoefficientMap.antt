@@ -7,7 +7,7 @@ use Rattle.std.specs.Cmp.{first_so, second_so}
 use Rattle.std.specs.FinMap.{find}
 use Rattle.mpslp_decimal.specs.Decimal.{Number, is_decimal, is_zero}
 use Rattle.mpslp_types.specs.Name.{same_bytes, is_one_of}
-use Rattle.mpslp_model_core.specs.Model.{Column, CoefficientKey, key_cmp}
+use Rattle.mpslp_model_core.specs.Model.{Column, CoefficientKey, key_cmp, Listing}
 use Rattle.mpslp_builder.specs.Declaration.{empty_draft, names_in}
 use Rattle.mpslp_types.proofs.EachLemmas.{Each, Each-append, Each-flat_map, Each-all}
 use Rattle.mpslp_model_core.proofs.PutsLemmas.{puts, find-front, some_cons, some_append_left, some_append_right}
@@ -17,7 +17,6 @@ use Rattle.mpslp_builder.proofs.LaterDrafts.{value_in}
 use Rattle.mpslp_builder.proofs.SlotLemmas.{same_name}
 use Rattle.mpslp_builder.proofs.SortedDrafts.{key_total}
 use Rattle.mpslp_builder.proofs.NamedEntries.{any-name}
-use Rattle.mpslp_model_core.specs.Listing.{Listing}
 use Rattle.mpslp_canonical_mps.specs.CanonicalMps.{cell_at, column_coefficients, printed_coefficients, is_integer_column, is_plain_column}
 use Rattle.mpslp_canonical_mps.proofs.CanonicalContents.{to_cell, cells_in}
 use Rattle.mpslp_builder.proofs.EntryLemmas.{puts-kept, found-each, filter-not_not, found-either}

@@ -9,7 +9,7 @@ use Rattle.mpslp_decimal.specs.Decimal.{Number}
 use Rattle.mpslp_decimal.specs.Literal.{number_of}
 use Rattle.mpslp_types.specs.Name.{is_mps_name, same_bytes, marker}
 use Rattle.mpslp_builder.specs.Declaration.{declare_column, declare_marked, declare_coefficient, Declarations, Draft, with_declarations, has_column}
-use Rattle.mpslp_model_core.specs.Lists.{those_of, when, is_nonempty}
+use Rattle.mpslp_types.specs.Lists.{those_of, when, is_nonempty}
 use Rattle.mpslp_types.specs.declared.faults.FaultKind.TheVariants as kinds
 use Rattle.mpslp_types.proofs.BoolLemmas.{both_false}
 use Rattle.mpslp_builder.proofs.LaterDrafts.{itself_named}
@@ -20,8 +20,7 @@ use Rattle.mpslp_mps_fields.specs.Line.{Fields, LineContent, data_line}
 use Rattle.mpslp_mps_fields.specs.DataLine.{opening_word, closing_word}
 use Rattle.mpslp_mps.specs.Context.{Context, context_of, current_section, data_lines, marker_word, in_integer_part, line_column, last_column}
 use Rattle.mpslp_mps.specs.LineDeclarations.{line_declares}
-use Rattle.mpslp_lines.specs.FaultTests.{FaultTests}
-use Rattle.mpslp_lines.specs.Field.{name_tests, number_tests}
+use Rattle.mpslp_lines.specs.FaultTests.{FaultTests, name_tests, number_tests}
 use Rattle.mpslp_mps.proofs.ContextLineLemmas.{form_faults}
 use Rattle.mpslp_mps_fields.specs.declared.sections.Section.TheVariants.{Columns}
 use Rattle.mpslp_mps.proofs.SectionLemmas.{last_or-append}

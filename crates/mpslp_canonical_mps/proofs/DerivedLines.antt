@@ -5,8 +5,8 @@ use Rattle.mpslp_decimal.specs.Decimal.{Number, IsDecimal, zero_number}
 use Rattle.mpslp_decimal.specs.NumberText.{number_text}
 use Rattle.mpslp_decimal.proofs.NumberTextLemmas.{number-text}
 use Rattle.mpslp_types.specs.Name.{same_bytes, is_mps_name, marker}
-use Rattle.mpslp_model_core.specs.Lists.{those_of}
-use Rattle.mpslp_mps.specs.FieldFault.{set_tests}
+use Rattle.mpslp_types.specs.Lists.{those_of}
+use Rattle.mpslp_mps.specs.LineFault.{set_tests}
 use Rattle.mpslp_mps_fields.specs.Line.{data_line}
 use Rattle.mpslp_mps.specs.LineDeclarations.{line_declares}
 use Rattle.mpslp_mps.proofs.ContextLineLemmas.{form_faults}

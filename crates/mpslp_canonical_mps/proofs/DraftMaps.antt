@@ -7,8 +7,7 @@ use Rattle.std.specs.FinMap.{is_sorted}
 use Rattle.std.proofs.lemmas.List.{append-nil}
 use Rattle.mpslp_decimal.specs.Decimal.{Number, IsDecimal, is_decimal, is_zero, negated}
 use Rattle.mpslp_types.specs.Name.{is_mps_name, is_one_of, bytes_cmp}
-use Rattle.mpslp_model_core.specs.Model.{Column, CoefficientKey, key_cmp, suits, is_sound_row, is_sound_column}
-use Rattle.mpslp_model_core.specs.Views as views
+use Rattle.mpslp_model_core.specs.Model.{Column, CoefficientKey, key_cmp, suits, is_sound_row, is_sound_column, is_integer_column as has_integer_kind, Listing}
 use Rattle.mpslp_types.specs.Limit.{zero_limit, is_at_most}
 use Rattle.mpslp_types.specs.declared.kinds.Kind.{Kind}
 use Rattle.mpslp_types.specs.declared.kinds.Kind.TheVariants.{Continuous, Integer, Semi}
@@ -23,7 +22,6 @@ use Rattle.mpslp_builder.proofs.PartedLemmas.{parted-give}
 use Rattle.mpslp_builder.proofs.DraftLemmas.{rows-all, rhs_values-all, ranges-all, columns-all, lowers-all, uppers-all, marked-all, integers-all, binaries-all, semis-all}
 use Rattle.mpslp_builder.proofs.SortedDrafts.{bytes_total, tied_names}
 use Rattle.mpslp_builder.proofs.NamedEntries.{names_sorted, at-mapped, named}
-use Rattle.mpslp_model_core.specs.Listing.{Listing}
 use Rattle.mpslp_canonical_mps.specs.CanonicalMps.{column_coefficients, printed_coefficients, is_integer_column, is_plain_column}
 use Rattle.mpslp_canonical_mps.proofs.CanonicalContents.{to_cell, cells_in}
 use Rattle.mpslp_builder.proofs.EntryLemmas.{first_there, then_told, told, all_told, sorted-kept, find-puts, puts-own, find-kept, sorted-told, find-told, filter-not_not}
@@ -181,12 +179,12 @@ plain-alone m columns h =
     ap (λ (es : List (List ℕ × Unit {0})). puts bytes_cmp es []) (one-part (λ column. flat_map own_column (cells_in m column)) columns)
     ∙ columns-parted m (λ _. true) columns h
 
-pub marked-at : (m : Listing) → IsSoundListing m → (q : List ℕ) (column : Column) → at_name m.columns q ≡ Some column → has_name (drafted m).marked q ≡ views.is_integer_column column
+pub marked-at : (m : Listing) → IsSoundListing m → (q : List ℕ) (column : Column) → at_name m.columns q ≡ Some column → has_name (drafted m).marked q ≡ has_integer_kind column
 marked-at m h q column is =
     ap (λ (es : List (List ℕ × Unit {0})). has_name es q) (marked-drafted m h)
     ∙ ap is_some (at-mapped (λ _. tt) q (filter is_integer_column m.columns))
-    ∙ ap (λ (o : Option Column). is_some (then_told (λ _. Some tt) o)) (find-kept bytes_cmp bytes_total tied_names (λ c. views.is_integer_column c) q m.columns h.columns_sorted ∙ ap (then_told (λ c. cond (views.is_integer_column c) (Some c) None)) is)
-    ∙ by (views.is_integer_column column)
+    ∙ ap (λ (o : Option Column). is_some (then_told (λ _. Some tt) o)) (find-kept bytes_cmp bytes_total tied_names (λ c. has_integer_kind c) q m.columns h.columns_sorted ∙ ap (then_told (λ c. cond (has_integer_kind c) (Some c) None)) is)
+    ∙ by (has_integer_kind column)
   where
     by : (b : Bool) → is_some (then_told {V = Unit {0}} (λ _. Some tt) (cond b (Some column) None)) ≡ b
     by true = refl

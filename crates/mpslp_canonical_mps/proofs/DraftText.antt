@@ -4,17 +4,15 @@ use Rattle.std.specs.Prelude.{◌&&◌, not, filter, unwrap_or}
 use Rattle.std.specs.Cmp.{first_so, second_so}
 use Rattle.std.specs.FinMap.{is_sorted, entries-from_sorted}
 use Rattle.mpslp_decimal.specs.Decimal.{is_zero}
-use Rattle.mpslp_model_core.specs.Model.{LinearModel, key_cmp}
+use Rattle.mpslp_model_core.specs.Model.{LinearModel, key_cmp, Listing, listing_of}
 use Rattle.mpslp_types.specs.Name.{bytes_cmp}
 use Rattle.mpslp_builder.specs.Declaration.{Draft}
-use Rattle.mpslp_builder.specs.Bounds.{column_of}
-use Rattle.mpslp_builder.specs.Meaning.{objective_name, constant_of, row_entry, model_of}
+use Rattle.mpslp_builder.specs.Meaning.{column_of, objective_name, constant_of, row_entry, model_of}
 use Rattle.mpslp_types.proofs.BoolLemmas.{T_from}
 use Rattle.mpslp_types.specs.declared.kinds.Sense.TheVariants.{Minimize}
 use Rattle.mpslp_mps.specs.MpsText.{DeclaresMps}
 use Rattle.mpslp_mps.proofs.WorkedFiles.{draft_in, Passes, declares-from_passes}
 use Rattle.mpslp_canonical_mps.specs.Printed.{text_of}
-use Rattle.mpslp_model_core.specs.Listing.{Listing, listing_of}
 use Rattle.mpslp_canonical_mps.specs.CanonicalMps.{listed_lines, canonical_mps}
 
 -- the bytes declare a model whose canonical text is this

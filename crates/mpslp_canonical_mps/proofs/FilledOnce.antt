@@ -6,10 +6,9 @@ use Rattle.std.specs.Option.{option_map_or}
 use Rattle.std.proofs.lemmas.List.{append-nil}
 use Rattle.std.proofs.lemmas.List.Concat.{flat_map-append}
 use Rattle.mpslp_types.specs.Name.{same_bytes, bytes_cmp}
-use Rattle.mpslp_model_core.specs.Model.{Column}
-use Rattle.mpslp_model_core.specs.Views as views
+use Rattle.mpslp_model_core.specs.Model.{Column, is_integer_column as has_integer_kind, Listing}
 use Rattle.mpslp_builder.specs.Declaration.{declare_objective, at_name, names_in}
-use Rattle.mpslp_model_core.specs.Lists.{are_distinct}
+use Rattle.mpslp_types.specs.Lists.{are_distinct}
 use Rattle.mpslp_builder.specs.Consistency.{Slot, row_slot, rhs_slot, range_slot, same_slot, slots_of, all_slots}
 use Rattle.mpslp_types.specs.declared.kinds.Sense.{Sense}
 use Rattle.mpslp_types.specs.declared.kinds.Sense.TheVariants.{Minimize, Maximize}
@@ -19,7 +18,6 @@ use Rattle.mpslp_builder.proofs.CoefficientLemmas.{flat_map-flat_map}
 use Rattle.mpslp_builder.proofs.SlotLemmas.{same_name}
 use Rattle.mpslp_canonical_mps.proofs.ColumnsWalk.{Cell, cell_decl, cells_of}
 use Rattle.mpslp_canonical_mps.proofs.BoundsWalk.{bound_decl}
-use Rattle.mpslp_model_core.specs.Listing.{Listing}
 use Rattle.mpslp_canonical_mps.specs.CanonicalMps.{is_integer_column, is_plain_column}
 use Rattle.mpslp_canonical_mps.proofs.CanonicalContents.{group_in, cells_in, bounds_in}
 use Rattle.mpslp_canonical_mps.proofs.EarlyWalk.{sense_decl}
@@ -87,7 +85,7 @@ kinds_differ m x y found plain there integer = by (same_bytes y.0 x.0) refl
     by false same = refl
     by true same =
         sym integer
-        ∙ ap (λ (o : Option Column). option_map_or views.is_integer_column o false) (sym there ∙ ap (at_name m.columns) (same_name y.0 x.0 same) ∙ found)
+        ∙ ap (λ (o : Option Column). option_map_or has_integer_kind o false) (sym there ∙ ap (at_name m.columns) (same_name y.0 x.0 same) ∙ found)
         ∙ not_so (is_integer_column x) plain
 
 parts-differ : (m : Listing) → IsSoundListing m → Each (λ x. Each (λ y. same_bytes y.0 x.0 ≡ false) (filter is_integer_column m.columns)) (filter is_plain_column m.columns)

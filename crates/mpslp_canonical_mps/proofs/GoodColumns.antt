@@ -9,10 +9,9 @@ use Rattle.std.specs.FinMap.Entries.{below_all}
 use Rattle.mpslp_decimal.specs.Decimal.{Number, IsDecimal, is_decimal}
 use Rattle.mpslp_decimal.proofs.NumberTextLemmas.{number-text}
 use Rattle.mpslp_types.specs.Name.{same_bytes, marker, bytes_cmp}
-use Rattle.mpslp_model_core.specs.Model.{Column, CoefficientKey, key_cmp, is_sound_row, is_sound_column}
-use Rattle.mpslp_model_core.specs.Views as views
+use Rattle.mpslp_model_core.specs.Model.{Column, CoefficientKey, key_cmp, is_sound_row, is_sound_column, is_integer_column as has_integer_kind, Listing}
 use Rattle.mpslp_builder.specs.Declaration.{Declaration, declare_objective, Draft, empty_draft, with_declaration, with_declarations, at_name, has_name, has_column}
-use Rattle.mpslp_model_core.specs.Lists.{is_nonempty}
+use Rattle.mpslp_types.specs.Lists.{is_nonempty}
 use Rattle.mpslp_types.specs.declared.kinds.Sense.{Sense}
 use Rattle.mpslp_types.specs.declared.kinds.Sense.TheVariants.{Minimize, Maximize}
 use Rattle.mpslp_types.proofs.EachLemmas.{Each, Each-weaker, Each-map, Each-flat_map, Each-filter, Each-all}
@@ -23,7 +22,6 @@ use Rattle.mpslp_builder.proofs.DraftEntries.{same_key}
 use Rattle.mpslp_builder.proofs.SortedDrafts.{bytes_total, key_total, tied_names}
 use Rattle.mpslp_canonical_mps.proofs.RowsWalk.{row_decl}
 use Rattle.mpslp_canonical_mps.proofs.ColumnsWalk.{cell_decl, GoodCell, AreOf, Group, cells_of, IsGroup, AreApart, AreAbsent}
-use Rattle.mpslp_model_core.specs.Listing.{Listing}
 use Rattle.mpslp_canonical_mps.specs.CanonicalMps.{cell_at, column_coefficients, printed_coefficients, is_integer_column, is_plain_column}
 use Rattle.mpslp_canonical_mps.proofs.CanonicalContents.{to_row, to_cell, cells_in, group_in}
 use Rattle.mpslp_canonical_mps.proofs.EarlyWalk.{sense_decl, AreColumns}
@@ -126,8 +124,8 @@ integer-absent : (m : Listing) → IsSoundListing m → (column : List ℕ × Co
     → has_name (map named (filter is_plain_column m.columns)) column.0 ≡ false
 integer-absent m h column is integer =
     ap is_some (at-mapped (λ _. tt) column.0 (filter is_plain_column m.columns))
-    ∙ ap (λ (o : Option Column). is_some (then_told {V = Unit {0}} (λ _. Some tt) o)) (find-kept bytes_cmp bytes_total tied_names (λ c. not (views.is_integer_column c)) column.0 m.columns h.columns_sorted
-    ∙ ap (then_told (λ c. cond (not (views.is_integer_column c)) (Some c) None)) is ∙ ap (λ (b : Bool). cond (not b) (Some column.1) None) integer)
+    ∙ ap (λ (o : Option Column). is_some (then_told {V = Unit {0}} (λ _. Some tt) o)) (find-kept bytes_cmp bytes_total tied_names (λ c. not (has_integer_kind c)) column.0 m.columns h.columns_sorted
+    ∙ ap (then_told (λ c. cond (not (has_integer_kind c)) (Some c) None)) is ∙ ap (λ (b : Bool). cond (not b) (Some column.1) None) integer)
 
 integers-absent : (m : Listing) → IsSoundListing m → (all : Draft) → all.columns ≡ map named (filter is_plain_column m.columns) → AreAbsent all (map (group_in m) (filter is_integer_column m.columns))
 integers-absent m h all are =

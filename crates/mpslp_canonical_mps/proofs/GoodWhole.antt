@@ -6,7 +6,7 @@ use Rattle.std.specs.Option.{option_map_or}
 use Rattle.mpslp_decimal.specs.Decimal.{Number, IsDecimal, is_zero, zero_number, negated, have_same_value}
 use Rattle.mpslp_decimal.proofs.NumberTextLemmas.{number-text}
 use Rattle.mpslp_types.specs.Name.{is_mps_name, bytes_cmp}
-use Rattle.mpslp_model_core.specs.Model.{Row, Column, is_sound_row, is_sound_column}
+use Rattle.mpslp_model_core.specs.Model.{Row, Column, is_sound_row, is_sound_column, Listing}
 use Rattle.mpslp_types.specs.Limit.{is_bounded_decimal, is_lower_side, is_upper_side}
 use Rattle.mpslp_builder.specs.Declaration.{RowDefinition, by_type, Declaration, declare_objective, Draft, empty_draft, with_declaration, with_declarations, at_name, is_free_definition, is_free_row}
 use Rattle.mpslp_types.specs.declared.kinds.Sense.{Sense}
@@ -24,7 +24,6 @@ use Rattle.mpslp_builder.proofs.SortedDrafts.{bytes_total, tied_names}
 use Rattle.mpslp_canonical_mps.proofs.RowsWalk.{RowItem, row_decl, Side, ReadsAs}
 use Rattle.mpslp_canonical_mps.proofs.ColumnsWalk.{Cell, cell_decl, cells_of}
 use Rattle.mpslp_canonical_mps.proofs.BoundsWalk.{GoodBound}
-use Rattle.mpslp_model_core.specs.Listing.{Listing}
 use Rattle.mpslp_canonical_mps.specs.PrintedValues.{is_fixed, bound_with_value, printed_type, printed_rhs, printed_range, PrintedBound, printed_lower, printed_upper, printed_bounds}
 use Rattle.mpslp_mps_fields.specs.declared.bound_types.BoundType.TheVariants as bounds
 use Rattle.mpslp_canonical_mps.proofs.CanonicalContents.{to_row, to_side, side_unless_zero, row_side, sides_in, row_range, to_bound, bounds_in}

@@ -6,11 +6,11 @@ use Rattle.std.proofs.lemmas.List.{append-nil}
 use Rattle.mpslp_builder.specs.Declaration.{declare_sense, Draft}
 use Rattle.mpslp_types.specs.declared.kinds.Sense.TheVariants.{Maximize}
 use Rattle.mpslp_types.proofs.BoolLemmas.{nor}
-use Rattle.mpslp_mps_fields.specs.Line.{Fields, LineContent, skipped, header, data_line}
-use Rattle.mpslp_mps_fields.specs.Section.{keyword_of, section_of_header, section_named, begins, is_section, has}
-use Rattle.mpslp_mps.specs.Context.{Context, context_of, current_section, has_section, fields_under, data_lines_after, data_lines, is_read, word_due_after, word_due}
+use Rattle.mpslp_mps_fields.specs.Line.{Fields, LineContent, skipped, header, data_line, keyword_of, section_of_header, section_named, begins, is_section, has}
+use Rattle.mpslp_mps.specs.Context.{Context, context_of, current_section, fields_under, data_lines_after, data_lines, is_read, word_due_after, word_due}
+use Rattle.mpslp_mps.specs.TextInWords.{has_section}
 use Rattle.mpslp_mps.specs.LineDeclarations.{line_declares}
-use Rattle.mpslp_mps.specs.HeaderFault.{may_begin, is_out_of_order}
+use Rattle.mpslp_mps.specs.LineFault.{may_begin, is_out_of_order}
 use Rattle.mpslp_mps.proofs.ContextLineLemmas.{form_faults}
 use Rattle.mpslp_mps_fields.specs.declared.sections.Section.{Section}
 use Rattle.mpslp_mps_fields.specs.declared.sections.Section.TheVariants.{Name, ObjSense, ObjName, Rows, Columns, Rhs, Ranges, Bounds, EndData}

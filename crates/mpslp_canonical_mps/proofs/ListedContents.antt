@@ -4,7 +4,7 @@ use Rattle.std.specs.Prelude.{Option, Some, None, filter, codes}
 use Rattle.std.specs.List.{flat_map}
 use Rattle.std.proofs.lemmas.List.{map-append}
 use Rattle.mpslp_decimal.specs.Decimal.{Number, is_zero, negated}
-use Rattle.mpslp_model_core.specs.Model.{Column}
+use Rattle.mpslp_model_core.specs.Model.{Column, Listing}
 use Rattle.mpslp_types.specs.declared.kinds.Sense.{Sense}
 use Rattle.mpslp_types.specs.declared.kinds.Sense.TheVariants.{Minimize, Maximize}
 use Rattle.mpslp_types.specs.declared.kinds.Kind.{Kind}
@@ -20,8 +20,7 @@ use Rattle.mpslp_mps_fields.specs.declared.bound_types.BoundType.TheVariants as 
 use Rattle.mpslp_canonical_mps.proofs.ColumnsWalk.{Cell, cell_item, cells_of}
 use Rattle.mpslp_canonical_mps.proofs.BoundsWalk.{bound_item}
 use Rattle.mpslp_canonical_mps.proofs.HeaderWalk.{header_item}
-use Rattle.mpslp_canonical_mps.specs.Printed.{content_in}
-use Rattle.mpslp_model_core.specs.Listing.{Listing}
+use Rattle.mpslp_canonical_mps.specs.PrintedDeclarations.{content_in}
 use Rattle.mpslp_canonical_mps.specs.PrintedValues.{is_fixed, PrintedBound, printed_lower, printed_upper, printed_bounds}
 use Rattle.mpslp_canonical_mps.specs.CanonicalMps.{Lines, sense_lines, rows_section, column_lines, is_integer_column, is_plain_column, marker_line, integer_part, columns_section, rhs_lines, row_rhs_lines, rhs_section, range_lines, ranges_section, bound_line, column_bound_lines, bounds_section, header_line, listed_lines}
 use Rattle.mpslp_canonical_mps.proofs.CanonicalContents.{items_in, flat-items, to_row, row-items, group_in, column-items, sides_in, sides-items, row_range, ranges-items, to_bound, is_fit, bounds_in, under, under-items}

@@ -8,13 +8,12 @@ use Rattle.std.specs.Cmp.{first_so, second_so, tied_itself}
 use Rattle.mpslp_decimal.specs.Decimal.{Number, IsDecimal, is_decimal, is_infinite_size, zero_number, negated, difference_of, have_same_value}
 use Rattle.mpslp_decimal.proofs.NumberTextLemmas.{zero-is}
 use Rattle.mpslp_decimal.proofs.OrderLemmas.{same_decimal}
-use Rattle.mpslp_model_core.specs.Model.{LinearModel, Row, Column, is_sound_row, is_sound_column, IsSound}
+use Rattle.mpslp_model_core.specs.Model.{LinearModel, Row, Column, is_sound_row, is_sound_column, IsSound, Listing, listing_of}
 use Rattle.mpslp_types.specs.Name.{bytes_cmp}
 use Rattle.mpslp_types.specs.Limit.{is_bounded_decimal, is_lower_side, is_upper_side, are_sides}
 use Rattle.mpslp_builder.specs.Declaration.{RowDefinition, by_type, Declaration, declare_sense, declare_objective, declare_row, declare_rhs, declare_range, declare_column, declare_coefficient, declare_lower, declare_upper, declare_marked, declare_semi, Declarations, Draft, empty_draft, with_declaration, with_declarations, at_name, has_name}
 use Rattle.mpslp_model_core.specs.Limits.{limits_of, plain_limits, has_infinite_rhs}
-use Rattle.mpslp_builder.specs.Bounds.{column_of}
-use Rattle.mpslp_builder.specs.Meaning.{objective_name, constant_of, rhs_or_zero, row_limits, row_entry, row_passes, DraftMeans}
+use Rattle.mpslp_builder.specs.Meaning.{column_of, objective_name, constant_of, rhs_or_zero, row_limits, row_entry, row_passes, DraftMeans}
 use Rattle.mpslp_types.specs.declared.kinds.Sense.{Sense}
 use Rattle.mpslp_types.specs.declared.kinds.Sense.TheVariants.{Minimize, Maximize}
 use Rattle.mpslp_types.specs.declared.kinds.Limit.{Limit}
@@ -32,7 +31,6 @@ use Rattle.mpslp_canonical_mps.proofs.RowsWalk.{RowItem, row_decl, Side, side_de
 use Rattle.mpslp_canonical_mps.proofs.ColumnsWalk.{Cell, cell_decl, cells_of}
 use Rattle.mpslp_canonical_mps.proofs.BoundsWalk.{BoundForm, fixed, free, no_lower, no_upper, semi_upper, Bound, bound_decl, decl_at}
 use Rattle.mpslp_canonical_mps.proofs.BoundsWalk as forms
-use Rattle.mpslp_model_core.specs.Listing.{Listing, listing_of}
 use Rattle.mpslp_canonical_mps.specs.PrintedValues.{printed_type, printed_rhs, printed_range}
 use Rattle.mpslp_canonical_mps.proofs.PrintableLemmas.{side-decimal, negated-decimal}
 use Rattle.mpslp_canonical_mps.proofs.EarlyWalk.{sense_decl}

@@ -8,9 +8,9 @@ use Rattle.std.specs.FinMap.{is_sorted}
 use Rattle.std.specs.FinMap.Entries.{below_all}
 use Rattle.mpslp_decimal.specs.Decimal.{Number}
 use Rattle.mpslp_types.specs.Name.{same_bytes, is_one_of, bytes_cmp}
-use Rattle.mpslp_model_core.specs.Model.{Column}
+use Rattle.mpslp_model_core.specs.Model.{Column, Listing}
 use Rattle.mpslp_builder.specs.Declaration.{names_in}
-use Rattle.mpslp_model_core.specs.Lists.{are_distinct}
+use Rattle.mpslp_types.specs.Lists.{are_distinct}
 use Rattle.mpslp_builder.specs.Consistency.{Slot, same_slot}
 use Rattle.mpslp_types.proofs.BoolLemmas.{both_so, so_not}
 use Rattle.mpslp_types.proofs.EachLemmas.{Each, Each-weaker, Each-append, Each-map, Each-flat_map, Each-all}
@@ -18,7 +18,6 @@ use Rattle.mpslp_builder.proofs.DistinctLemmas.{IsNew, Apart, distinct-flat_map,
 use Rattle.mpslp_builder.proofs.SlotLemmas.{same_name}
 use Rattle.mpslp_builder.proofs.SortedDrafts.{bytes_total}
 use Rattle.mpslp_canonical_mps.proofs.ColumnsWalk.{Cell}
-use Rattle.mpslp_model_core.specs.Listing.{Listing}
 use Rattle.mpslp_canonical_mps.specs.CanonicalMps.{column_coefficients, printed_coefficients}
 use Rattle.mpslp_canonical_mps.proofs.CanonicalContents.{to_cell, cells_in}
 use Rattle.mpslp_canonical_mps.proofs.DraftMaps.{IsSoundListing}

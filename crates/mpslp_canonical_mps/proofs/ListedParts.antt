@@ -6,7 +6,7 @@ use Rattle.std.specs.Option.{option_map_or}
 use Rattle.std.proofs.lemmas.List.{append-nil}
 use Rattle.std.proofs.lemmas.List.Concat.{flat_map-append}
 use Rattle.mpslp_decimal.specs.Decimal.{Number, is_zero, negated, have_same_value}
-use Rattle.mpslp_model_core.specs.Model.{Row, Column, CoefficientKey}
+use Rattle.mpslp_model_core.specs.Model.{Row, Column, CoefficientKey, Listing}
 use Rattle.mpslp_builder.specs.Declaration.{RowDefinition, by_type, Declaration, declare_sense, declare_objective, declare_row, declare_rhs, declare_range, declare_lower, declare_upper, declare_semi, Declarations}
 use Rattle.mpslp_types.specs.declared.kinds.Sense.{Sense}
 use Rattle.mpslp_types.specs.declared.kinds.Kind.{Kind}
@@ -20,7 +20,6 @@ use Rattle.mpslp_mps_fields.specs.declared.bound_types.BoundType.TheVariants as 
 use Rattle.mpslp_canonical_mps.proofs.RowsWalk.{row_decl, Side, side_decl, range_decl}
 use Rattle.mpslp_canonical_mps.proofs.ColumnsWalk.{Cell, cell_decl, cells_of}
 use Rattle.mpslp_canonical_mps.proofs.BoundsWalk.{bound_decl}
-use Rattle.mpslp_model_core.specs.Listing.{Listing}
 use Rattle.mpslp_canonical_mps.specs.PrintedValues.{is_fixed, bound_with_value, printed_type, printed_rhs, printed_range, PrintedBound, printed_lower, printed_upper, printed_bounds}
 use Rattle.mpslp_canonical_mps.specs.CanonicalMps.{is_integer_column, is_plain_column}
 use Rattle.mpslp_canonical_mps.proofs.CanonicalContents.{to_row, cells_in, group_in, to_side, side_unless_zero, row_side, sides_in, row_range, to_bound, bounds_in}

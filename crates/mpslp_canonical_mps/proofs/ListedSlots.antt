@@ -9,7 +9,7 @@ use Rattle.mpslp_decimal.specs.Decimal.{Number}
 use Rattle.mpslp_types.specs.Name.{same_bytes, bytes_cmp}
 use Rattle.mpslp_model_core.specs.Model.{CoefficientKey, key_cmp}
 use Rattle.mpslp_builder.specs.Declaration.{Declarations, names_in}
-use Rattle.mpslp_model_core.specs.Lists.{are_distinct}
+use Rattle.mpslp_types.specs.Lists.{are_distinct}
 use Rattle.mpslp_builder.specs.Consistency.{Slot, sense_slot, objective_slot, constant_slot, row_slot, rhs_slot, range_slot, coefficient_slot, lower_slot, upper_slot, same_slot, slots_of, all_slots}
 use Rattle.mpslp_types.proofs.BoolLemmas.{both_so, both_false, not_so, so_not, nor}
 use Rattle.mpslp_types.proofs.EachLemmas.{Each, Each-weaker}

@@ -4,16 +4,15 @@ use Rattle.std.specs.Prelude.{Option, Some, None, is_some}
 use Rattle.std.specs.List.{flat_map, list_any}
 use Rattle.mpslp_decimal.specs.Decimal.{Number, negated}
 use Rattle.mpslp_types.specs.Name.{same_bytes, bytes_cmp}
-use Rattle.mpslp_model_core.specs.Model.{Row}
+use Rattle.mpslp_model_core.specs.Model.{Row, Listing}
 use Rattle.mpslp_builder.specs.Declaration.{names_in, at_name}
-use Rattle.mpslp_model_core.specs.Lists.{are_distinct}
+use Rattle.mpslp_types.specs.Lists.{are_distinct}
 use Rattle.mpslp_builder.specs.Consistency.{Slot, objective_slot, row_slot, rhs_slot, range_slot, same_slot, slots_of}
 use Rattle.mpslp_types.proofs.BoolLemmas.{both_so, so_not}
 use Rattle.mpslp_builder.proofs.DistinctLemmas.{distinct-sorted}
 use Rattle.mpslp_builder.proofs.SlotLemmas.{same_name}
 use Rattle.mpslp_builder.proofs.SortedDrafts.{bytes_total, tied_names}
 use Rattle.mpslp_canonical_mps.proofs.RowsWalk.{row_decl, Side, side_decl, range_decl}
-use Rattle.mpslp_model_core.specs.Listing.{Listing}
 use Rattle.mpslp_canonical_mps.proofs.CanonicalContents.{to_row, sides_in, row_range}
 use Rattle.mpslp_builder.proofs.EntryLemmas.{then_told, told, all_told, sorted-told, find-told}
 use Rattle.mpslp_canonical_mps.proofs.WholeParts.{made_of}

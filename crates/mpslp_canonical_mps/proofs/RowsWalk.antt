@@ -6,7 +6,7 @@ use Rattle.mpslp_decimal.specs.Decimal.{Number}
 use Rattle.mpslp_decimal.specs.Literal.{number_of}
 use Rattle.mpslp_types.specs.Name.{is_mps_name, has_name_length, is_visible, same_bytes, marker}
 use Rattle.mpslp_builder.specs.Declaration.{by_type, declare_row, declare_rhs, declare_range, Declarations, Draft, is_free_row}
-use Rattle.mpslp_model_core.specs.Lists.{those_of}
+use Rattle.mpslp_types.specs.Lists.{those_of}
 use Rattle.mpslp_types.specs.declared.kinds.RowType.{RowType}
 use Rattle.mpslp_types.specs.declared.kinds.RowType.TheVariants.{Free, AtMost, AtLeast, Equal}
 use Rattle.mpslp_types.proofs.EachLemmas.{Each, Each-append}
@@ -15,8 +15,8 @@ use Rattle.mpslp_mps_fields.specs.Line.{Fields, LineContent, data_line}
 use Rattle.mpslp_mps_fields.specs.DataLine.{letter_of}
 use Rattle.mpslp_mps.specs.Context.{Context, context_of, current_section, data_lines, fields_under, vector_set, first_set}
 use Rattle.mpslp_mps.specs.LineDeclarations.{line_declares}
-use Rattle.mpslp_lines.specs.Field.{name_tests, number_tests}
-use Rattle.mpslp_mps.specs.FieldFault.{set_tests}
+use Rattle.mpslp_lines.specs.FaultTests.{name_tests, number_tests}
+use Rattle.mpslp_mps.specs.LineFault.{set_tests}
 use Rattle.mpslp_mps.proofs.ContextLineLemmas.{form_faults}
 use Rattle.mpslp_mps_fields.specs.declared.sections.Section.{Section}
 use Rattle.mpslp_mps_fields.specs.declared.sections.Section.TheVariants.{Rows, Rhs, Ranges}

@@ -11,10 +11,11 @@ use Rattle.mpslp_types.proofs.BoolLemmas.{both_so}
 use Rattle.mpslp_types.proofs.EachLemmas.{Each, Each-weaker, Each-append, list_all-from_Each}
 use Rattle.mpslp_mps_fields.specs.Line.{Fields, skipped, header, data_line, header_of, content_of, fields, is_blank, is_comment, is_skipped, is_data, outside_comment}
 use Rattle.mpslp_mps.specs.LegalLine.{is_legal_line}
-use Rattle.mpslp_lines.specs.LegalLine.{is_legal_byte, has_legal_length}
+use Rattle.mpslp_lines.specs.FaultTests.{is_legal_byte, has_legal_length}
 use Rattle.mpslp_lines.specs.declared.legal_line.TheConstants.{MAX_LINE_LEN}
 use Rattle.mpslp_lines.proofs.WrittenLineLemmas.{IsPlain, lines-with_line_feeds}
-use Rattle.mpslp_canonical_mps.specs.Printed.{PrintedLine, heading, short_line, long_line, fields_text, line_text, content_in, text_of}
+use Rattle.mpslp_canonical_mps.specs.Printed.{PrintedLine, heading, short_line, long_line, fields_text, line_text, text_of}
+use Rattle.mpslp_canonical_mps.specs.PrintedDeclarations.{content_in}
 
 -- ---- fields
 

@@ -8,9 +8,9 @@ use Rattle.mpslp_builder.specs.Declaration.{declare_objective, Declarations, Dra
 use Rattle.mpslp_types.specs.declared.kinds.Sense.{Sense}
 use Rattle.mpslp_types.specs.declared.kinds.Sense.TheVariants.{Minimize, Maximize}
 use Rattle.mpslp_types.proofs.EachLemmas.{Each}
-use Rattle.mpslp_mps_fields.specs.Line.{LineContent}
-use Rattle.mpslp_mps_fields.specs.Section.{begins, section_of_header}
-use Rattle.mpslp_mps.specs.Context.{has_section, is_read}
+use Rattle.mpslp_mps_fields.specs.Line.{LineContent, begins, section_of_header}
+use Rattle.mpslp_mps.specs.Context.{is_read}
+use Rattle.mpslp_mps.specs.TextInWords.{has_section}
 use Rattle.mpslp_canonical_mps.proofs.HeaderWalk.{is_bare, wants_word, header_item, MayStand, has_section-data, settled-after}
 use Rattle.mpslp_mps_fields.specs.declared.sections.Section.{Section}
 use Rattle.mpslp_mps_fields.specs.declared.sections.Section.TheVariants.{Name, ObjSense, Rows, Columns, Rhs, Ranges, Bounds, EndData}

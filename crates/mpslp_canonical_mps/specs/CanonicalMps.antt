@@ -1,23 +1,12 @@
 -- The canonical MPS text of a model.
-use Rattle.std.specs.Prelude.{ℕ, Bool, not, List, [], ◌∷◌, ◌++◌, map, filter, filter_map, Option, if◌then◌else◌, codes}
-use Rattle.std.specs.List.{flat_map}
-use Rattle.std.specs.Option.{option_map, option_map_or}
-use Rattle.std.specs.FinMap.{find}
-use Rattle.mpslp_decimal.specs.Decimal.{Number, is_zero, negated, zero_number}
+use Rattle.mpslp_types.specs.Basics.{ℕ, Bool, not, if◌then◌else◌, List, [], ◌∷◌, ◌++◌, map, filter, filter_map, codes, Option, flat_map, option_map_or, option_map, find_entry as find, Number, is_zero, zero_number, negated, marker}
 use Rattle.mpslp_decimal.specs.NumberText.{number_text}
-use Rattle.mpslp_types.specs.Name.{marker}
-use Rattle.mpslp_model_core.specs.Model.{LinearModel, Row, Column, CoefficientKey, key_cmp}
-use Rattle.mpslp_model_core.specs.Views as views
-use Rattle.mpslp_types.specs.declared.kinds.Sense.{Sense}
-use Rattle.mpslp_types.specs.declared.kinds.Sense.TheVariants.{Minimize, Maximize}
-use Rattle.mpslp_types.specs.declared.kinds.RowType.TheVariants.{Free}
-use Rattle.mpslp_mps_fields.specs.Section.{keyword_of}
-use Rattle.mpslp_mps_fields.specs.DataLine.{letter_of, opening_word, closing_word}
-use Rattle.mpslp_mps_fields.specs.BoundLine.{letters_of}
-use Rattle.mpslp_mps_fields.specs.declared.sections.Section.{Section}
-use Rattle.mpslp_mps_fields.specs.declared.sections.Section.TheVariants.{Name, ObjSense, Rows, Columns, Rhs, Ranges, Bounds, EndData}
+use Rattle.mpslp_model_core.specs.Model.{LinearModel, Row, Column, CoefficientKey, key_cmp, is_integer_column as has_integer_kind, Listing, listing_of}
+use Rattle.mpslp_types.specs.declared.kinds.{Sense.Sense, Sense.TheVariants.Minimize, Sense.TheVariants.Maximize, RowType.TheVariants.Free}
+use Rattle.mpslp_mps_fields.specs.Line.{keyword_of}
+use Rattle.mpslp_mps_fields.specs.DataLine.{letter_of, opening_word, closing_word, letters_of}
+use Rattle.mpslp_mps_fields.specs.declared.sections.Section.{Section, TheVariants.Name, TheVariants.ObjSense, TheVariants.Rows, TheVariants.Columns, TheVariants.Rhs, TheVariants.Ranges, TheVariants.Bounds, TheVariants.EndData}
 use Rattle.mpslp_canonical_mps.specs.Printed.{PrintedLine, heading, short_line, long_line, text_of}
-use Rattle.mpslp_model_core.specs.Listing.{Listing, listing_of}
 use Rattle.mpslp_canonical_mps.specs.PrintedValues.{printed_type, printed_rhs, printed_range, PrintedBound, printed_bounds}
 
 abbrev pub Lines : Type 0
@@ -74,7 +63,7 @@ abbrev pub column_lines : Listing → List ℕ × Column → Lines
 column_lines m column = map (coefficient_line column.0) (printed_coefficients m.objective (column_coefficients m column.0))
 
 abbrev pub is_integer_column : List ℕ × Column → Bool
-is_integer_column column = views.is_integer_column column.1
+is_integer_column column = has_integer_kind column.1
 
 -- a continuous or a semi-continuous column
 abbrev pub is_plain_column : List ℕ × Column → Bool

@@ -1,8 +1,6 @@
--- Printed lines: their fields, how they are printed, and what a reader of MPS sees in them.
-use Rattle.std.specs.Prelude.{ℕ, List, [], ◌∷◌, ◌++◌, map, codes}
-use Rattle.std.specs.List.{join_by}
-use Rattle.mpslp_mps_fields.specs.Line.{Fields, LineContent, header, data_line}
-use Rattle.mpslp_lines.specs.WrittenLines.{with_line_feeds}
+-- Printed lines: their fields, and how they are printed.
+use Rattle.mpslp_types.specs.Basics.{ℕ, List, ◌++◌, map, codes, join_by, with_line_feeds}
+use Rattle.mpslp_mps_fields.specs.Line.{Fields}
 
 -- a header; a data line after one space; a data line after four spaces
 pub data PrintedLine : Type 0 where
@@ -21,9 +19,3 @@ line_text (long_line fields) = codes "    " ++ fields_text fields
 
 abbrev pub text_of : List PrintedLine → List ℕ
 text_of lines = with_line_feeds (map line_text lines)
-
--- the content of a printed line
-abbrev pub content_in : PrintedLine → LineContent
-content_in (heading keyword) = header keyword []
-content_in (short_line fields) = data_line fields
-content_in (long_line fields) = data_line fields

@@ -6,21 +6,19 @@ use Rattle.mpslp_types.specs.Limit.{limit_of}
 use Rattle.mpslp_types.specs.Name.{IsMpsName, same_bytes, marker}
 use Rattle.mpslp_types.specs.declared.kinds.Limit.TheVariants.{MinusInf, Finite, PlusInf}
 use Rattle.mpslp_types.specs.declared.kinds.Sense.TheVariants.{Maximize}
-use Rattle.mpslp_model_core.specs.Lists.{those_of, when}
+use Rattle.mpslp_types.specs.Lists.{those_of, when}
 use Rattle.mpslp_model_core.specs.Model.{Row}
 use Rattle.mpslp_builder.specs.Declaration.{by_type, declare_sense, declare_objective, declare_row, declare_rhs, declare_range, declare_column, declare_coefficient, declare_marked, declare_lower, declare_upper, declare_semi, Declarations, Draft, is_free_row}
 use Rattle.mpslp_mps_fields.specs.DataLine.{opening_word, closing_word}
-use Rattle.mpslp_mps_fields.specs.Section.{has, is_section}
+use Rattle.mpslp_mps_fields.specs.Line.{has, is_section, LineContent, header, data_line}
 use Rattle.mpslp_mps.specs.Context.{Context}
 use Rattle.mpslp_mps.specs.NextContext.{next_context}
 use Rattle.mpslp_mps.specs.LineDeclarations.{line_declares}
-use Rattle.mpslp_mps.specs.LineFault.{item_tests}
-use Rattle.mpslp_mps.specs.HeaderFault.{is_out_of_order}
-use Rattle.mpslp_mps.specs.DataFault.{is_split}
+use Rattle.mpslp_mps.specs.LineFault.{item_tests, is_out_of_order, is_split}
 use Rattle.mpslp_mps_fields.specs.declared.bound_types.BoundType.TheVariants as bounds
 use Rattle.mpslp_mps_fields.specs.declared.sections.Section.{Section}
 use Rattle.mpslp_mps_fields.specs.declared.sections.Section.TheVariants.{ObjSense, Rows, Columns, Rhs, Ranges, Bounds}
-use Rattle.mpslp_canonical_mps.specs.Printed.{PrintedLine, content_in}
+use Rattle.mpslp_canonical_mps.specs.Printed.{PrintedLine, heading, short_line, long_line}
 use Rattle.mpslp_canonical_mps.specs.PrintedValues.{printed_type, bound_without_value, bound_with_value}
 use Rattle.mpslp_canonical_mps.specs.CanonicalMps.{header_line, maximize_line, objective_line, row_line, coefficient_line, marker_line, rhs_line, range_line, bound_line}
 
@@ -109,3 +107,11 @@ DeriveAllColumns = (context : Context) (earlier : Draft) → context.section ≡
 abbrev pub DeriveAllBounds : Type 0
 DeriveAllBounds =
     (context : Context) (earlier : Draft) (column : List ℕ) → context.section ≡ Some Bounds → is_set_of context.bounds_set (codes "BND") ≡ true → DeriveBounds context earlier column
+
+-- ---- what a reader of MPS sees in a printed line
+
+-- the content of a printed line
+abbrev pub content_in : PrintedLine → LineContent
+content_in (heading keyword) = header keyword []
+content_in (short_line fields) = data_line fields
+content_in (long_line fields) = data_line fields

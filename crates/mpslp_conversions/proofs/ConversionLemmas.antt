@@ -6,7 +6,8 @@ use Rattle.std.specs.declared.alloc.Global.{Global}
 use Rattle.std.proofs.lemmas.Bool.Decides.{not_from_Decides}
 use Rattle.mpslp_model_core.specs.Model.{LinearModel}
 use Rattle.mpslp_types.specs.declared.faults.NameAt.{NameAt}
-use Rattle.mpslp_conversions.specs.Conversions.{Declares, HasFirstFault, Unfit, TextOf, IsText, IsConversion, IsComparison, IsTestOfText, IsErrUnless}
+use Rattle.mpslp_conversions.specs.Conversions.{HasFirstFault, IsText, IsConversion, IsComparison, IsTestOfText, IsErrUnless}
+use Rattle.mpslp_conversions.specs.Laws.{Declares, Unfit, TextOf}
 use Rattle.mpslp_conversions.specs.declared.faults.ConvertFault.{ConvertFault}
 use Rattle.mpslp_conversions.specs.declared.faults.ConvertFault.TheVariants.{First, Second, NotLp, OutOfMemory}
 

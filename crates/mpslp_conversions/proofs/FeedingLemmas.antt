@@ -6,7 +6,8 @@ use Rattle.std.specs.Prelude.{is_some, is_err, OnOk}
 use Rattle.std.specs.Io.KnownBytes.{Consumes, IsAtEnd}
 use Rattle.mpslp_model_core.specs.Model.{LinearModel}
 use Rattle.mpslp_types.specs.declared.faults.Fault.{Fault}
-use Rattle.mpslp_conversions.specs.Conversions.{Declares, HasFirstFault}
+use Rattle.mpslp_conversions.specs.Conversions.{HasFirstFault}
+use Rattle.mpslp_conversions.specs.Laws.{Declares}
 use Rattle.mpslp_conversions.specs.Runs.{IsAll, SourceGave}
 use Rattle.mpslp_conversions.specs.Feeding.{IsFoundIn, IsFedOn, IsModelOf, IsReading, IsModelOrFault, IsTextRead}
 use Rattle.mpslp_conversions.specs.declared.faults.RunFault.{RunFault}

@@ -3,7 +3,8 @@ use Rattle.std.proofs.Common.{◌≡◌, sym, ap, ◌∙◌, ℕ, List, Bool, tr
 use Rattle.std.specs.Prelude.{IsOkUnless}
 use Rattle.mpslp_types.specs.declared.faults.NameAt.{NameAt}
 use Rattle.mpslp_model_core.specs.Model.{LinearModel}
-use Rattle.mpslp_conversions.specs.Conversions.{Declares, HasFirstFault, Unfit, TextOf, IsErrUnless}
+use Rattle.mpslp_conversions.specs.Conversions.{HasFirstFault, IsErrUnless}
+use Rattle.mpslp_conversions.specs.Laws.{Declares, Unfit, TextOf}
 use Rattle.mpslp_conversions.specs.Runs.{SourceGave, SourceHeld, IsPut, IsRun}
 use Rattle.mpslp_conversions.specs.declared.faults.RunFault.{RunFault}
 use Rattle.mpslp_conversions.specs.declared.faults.RunFault.TheVariants.{Read, TooLong, File, NotLp, Write, OutOfMemory}

@@ -1,25 +1,14 @@
 -- The results of the conversions and comparisons of whole texts, for any formats.
-use Rattle.std.specs.Prelude.{◌≡◌, ◌≢◌, ◌⊎◌, ℕ, List, Bool, true, false, Option, None, Some, Result, Ok, Err, Vec}
+use Rattle.std.specs.Prelude.{◌≡◌, ◌≢◌, ◌⊎◌, ℕ, List, Bool, true, false, None, Some, Result, Ok, Err, Vec}
 use Rattle.std.specs.declared.alloc.Global.{Global}
 use Rattle.mpslp_model_core.specs.Model.{LinearModel}
 use Rattle.mpslp_types.specs.declared.faults.Fault.{Fault}
-use Rattle.mpslp_types.specs.declared.faults.NameAt.{NameAt}
 use Rattle.mpslp_conversions.specs.declared.faults.ConvertFault.{ConvertFault}
 use Rattle.mpslp_conversions.specs.declared.faults.ConvertFault.TheVariants.{First, Second, NotLp, OutOfMemory}
-
--- Which model bytes declare in a format, which first error they have, the first name of a model that is not legal in a format,
--- and the text of a model.
-abbrev pub Declares : Type 1
-Declares = List ℕ → LinearModel → Type 0
+use Rattle.mpslp_conversions.specs.Laws.{Declares, Unfit, TextOf}
 
 abbrev pub HasFirstFault : Type 1
 HasFirstFault = List ℕ → Fault → Type 0
-
-abbrev pub Unfit : Type 0
-Unfit = LinearModel → Option NameAt
-
-abbrev pub TextOf : Type 0
-TextOf = LinearModel → List ℕ
 
 -- The result is this error, or out of memory.
 abbrev pub IsErrUnless : {T E : Type 0} → Result T E → E → E → Type 0

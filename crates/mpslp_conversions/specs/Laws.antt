@@ -1,11 +1,18 @@
--- What follows from the laws of formats together.
-use Rattle.std.specs.Prelude.{◌≡◌, ◌↔◌, List, ℕ, None}
-use Rattle.mpslp_model_core.specs.Model.{LinearModel, IsSound}
-use Rattle.mpslp_conversions.specs.Conversions.{Declares, Unfit, TextOf}
+-- What formats give, and what follows from their laws together.
+use Rattle.mpslp_types.specs.Basics.{◌≡◌, ◌↔◌, ℕ, List, Option, None}
+use Rattle.mpslp_model_core.specs.Model.{LinearModel}
+use Rattle.mpslp_types.specs.declared.faults.NameAt.{NameAt}
 
--- Two well-formed models whose names are legal in a format have the same text if and only if they are the same.
-abbrev pub TextsAreInjective : Unfit → TextOf → Type 0
-TextsAreInjective unfit text = (m n : LinearModel) → IsSound m → IsSound n → unfit m ≡ None → unfit n ≡ None → (text m ≡ text n) ↔ (m ≡ n)
+-- Which model bytes declare in a format, which first error they have, the first name of a model that is not legal in a format,
+-- and the text of a model.
+abbrev pub Declares : Type 1
+Declares = List ℕ → LinearModel → Type 0
+
+abbrev pub Unfit : Type 0
+Unfit = LinearModel → Option NameAt
+
+abbrev pub TextOf : Type 0
+TextOf = LinearModel → List ℕ
 
 -- For accepted texts x and y, each in its own format, and their canonical texts in a third one.
 pub record Headline (declares_x : Declares) (unfit_x : Unfit) (text_x : TextOf) (declares_y declares : Declares) (unfit : Unfit) (text : TextOf) : Type 0 where

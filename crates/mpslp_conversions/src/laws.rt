@@ -1,6 +1,7 @@
 //! Laws that follow from the laws of all formats. Each law is the contract of a function that does nothing.
 
-ghost use Rattle.mpslp_conversions.specs.Laws.{Headline, TextsAreInjective};
+ghost use Rattle.mpslp_conversions.specs.Laws.{Headline};
+ghost use Rattle.mpslp_conversions.specs.InjectiveTexts.{TextsAreInjective};
 
 use mpslp_model::Format;
 

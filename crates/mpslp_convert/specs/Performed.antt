@@ -18,7 +18,8 @@ use Rattle.mpslp_jobs.specs.declared.jobs.Job.{Job}
 use Rattle.mpslp_jobs.specs.declared.jobs.Job.TheVariants.{Canon, Same, Show}
 use Rattle.mpslp_jobs.specs.declared.jobs.JobFault.{JobFault}
 use Rattle.mpslp_jobs.specs.declared.jobs.JobFault.TheVariants as refused
-use Rattle.mpslp_conversions.specs.Conversions.{Declares, HasFirstFault, Unfit, TextOf, IsComparison}
+use Rattle.mpslp_conversions.specs.Laws.{Declares, Unfit, TextOf}
+use Rattle.mpslp_conversions.specs.Conversions.{HasFirstFault, IsComparison}
 use Rattle.mpslp_conversions.specs.FaultLine.{fault_line, status_of}
 use Rattle.mpslp_conversions.specs.Runs.{IsHandedOn, IsCutShort, IsLoad, IsRun}
 use Rattle.mpslp_conversions.specs.ShownText.{shown_text}

@@ -5,7 +5,8 @@ use Rattle.std.specs.Ordering.{int_cmp}
 use Rattle.std.specs.declared.cmp.Ordering.TheVariants.{Less}
 use Rattle.std.specs.Cmp.{int_cmp_is}
 use Rattle.std.proofs.lemmas.Cmp.{int_ranked}
-use Rattle.mpslp_decimal.specs.Decimal.{Number, IsDecimal, is_decimal, IsBelow, surplus, mantissa_beside, height, scaled, at_scale, normal, decimal_cmp, order_of, sum_of}
+use Rattle.mpslp_decimal.specs.Decimal.{Number, IsDecimal, is_decimal, height, scaled, at_scale, normal, decimal_cmp, sum_of}
+use Rattle.mpslp_decimal.specs.Values.{IsBelow, surplus, mantissa_beside, order_of}
 use Rattle.mpslp_decimal.proofs.NormalLemmas.{pow_positive}
 use Rattle.mpslp_decimal.proofs.ScaleLemmas.{normal-scaled, scaled-normal}
 use Rattle.mpslp_decimal.proofs.ValueLemmas.{surplus-heights, least-exponent, scaled-beside}

@@ -8,7 +8,8 @@ use Rattle.std.specs.Cmp.{int_cmp_is}
 use Rattle.std.proofs.lemmas.Cmp.{int_ranked}
 use Rattle.std.proofs.lemmas.Int.{ints}
 use Rattle.std.proofs.Math.Nat.{pow-le-pow_right}
-use Rattle.mpslp_decimal.specs.Decimal.{Number, IsDecimal, natural_part, surplus, mantissa_beside, height, scaled, decimal_cmp, order_of}
+use Rattle.mpslp_decimal.specs.Decimal.{Number, IsDecimal, height, scaled, decimal_cmp}
+use Rattle.mpslp_decimal.specs.Values.{natural_part, surplus, mantissa_beside, order_of}
 use Rattle.mpslp_decimal.proofs.NormalLemmas.{pow_positive}
 use Rattle.mpslp_decimal.proofs.ScaleLemmas.{signed_times, one_form}
 use Rattle.mpslp_decimal.proofs.ValueLemmas.{surplus-heights, least-exponent, scaled-beside}

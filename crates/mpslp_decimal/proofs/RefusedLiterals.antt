@@ -5,8 +5,9 @@ use Rattle.std.proofs.lemmas.Int.{unsigned_abs-mul}
 use Rattle.std.proofs.lemmas.Nat.{pow-add}
 use Rattle.std.proofs.lemmas.Bool.{lt-ltb, le-ltb, ltb-true, ltb-false, eqb-true}
 use Rattle.std.proofs.lemmas.Bool.Decides.{nat_tests}
-use Rattle.mpslp_decimal.specs.Decimal.{Number, surplus, HasSameValue, normal, zero_number, has_few_digits, has_small_exponent}
-use Rattle.mpslp_decimal.specs.Literal.{digits_sum, to_signed, signed_value, is_minus, fraction_digits, mantissa_digits, exponent_part, is_literal, literal_value, number_of, HasTooManyDigits, HasExponentOutOfRange}
+use Rattle.mpslp_decimal.specs.Decimal.{Number, normal, zero_number, has_few_digits, has_small_exponent}
+use Rattle.mpslp_decimal.specs.Values.{surplus, HasSameValue, HasTooManyDigits, HasExponentOutOfRange}
+use Rattle.mpslp_decimal.specs.Literal.{digits_sum, to_signed, signed_value, is_minus, fraction_digits, mantissa_digits, exponent_part, is_literal, literal_value, number_of}
 use Rattle.mpslp_decimal.specs.Scan.{IsStripped}
 use Rattle.mpslp_decimal.specs.declared.literal.NumberFault.{NumberFault}
 use Rattle.mpslp_decimal.specs.declared.literal.NumberFault.TheVariants.{BadNumber, LongNumber, TooManyDigits, ExponentRange}

@@ -7,8 +7,9 @@ use Rattle.std.proofs.lemmas.List.{length-take}
 use Rattle.std.proofs.lemmas.Int.{ints, unsigned_abs-mul}
 use Rattle.std.proofs.lemmas.Bool.{le-ltb, ltb-false, eqb-true}
 use Rattle.std.proofs.lemmas.Bool.Decides.{nat_tests}
-use Rattle.mpslp_decimal.specs.Decimal.{Number, IsDecimal, is_zero, is_normal, zero_number, natural_part, surplus, mantissa_beside, HasSameValue, normal, has_few_digits, has_small_exponent}
-use Rattle.mpslp_decimal.specs.Literal.{is_digit, is_sign, is_point, is_exponent_mark, is_minus, without_sign, unsigned_part, digits_sum, are_digits, to_signed, signed_value, fraction_digits, mantissa_digits, exponent_part, is_literal, literal_value, number_of, Spells}
+use Rattle.mpslp_decimal.specs.Decimal.{Number, IsDecimal, is_zero, is_normal, zero_number, normal, has_few_digits, has_small_exponent}
+use Rattle.mpslp_decimal.specs.Values.{natural_part, surplus, mantissa_beside, HasSameValue, Spells}
+use Rattle.mpslp_decimal.specs.Literal.{is_digit, is_sign, is_point, is_exponent_mark, is_minus, without_sign, unsigned_part, digits_sum, are_digits, to_signed, signed_value, fraction_digits, mantissa_digits, exponent_part, is_literal, literal_value, number_of}
 use Rattle.mpslp_decimal.specs.Scan.{IsStripped}
 use Rattle.mpslp_decimal.specs.declared.literal.NumberFault.{NumberFault}
 use Rattle.mpslp_decimal.specs.declared.literal.NumberFault.TheVariants.{BadNumber, LongNumber, TooManyDigits, ExponentRange}

@@ -9,7 +9,8 @@ use Rattle.std.proofs.lemmas.Int.{ints, unsigned_abs-mul}
 use Rattle.std.proofs.lemmas.Nat.{pow-add}
 use Rattle.std.proofs.lemmas.Bool.{ltb-true, ltb-false, lt-ltb, le-ltb, leb-true}
 use Rattle.std.proofs.lemmas.Bool.Decides.{nat_tests}
-use Rattle.mpslp_decimal.specs.Decimal.{Number, IsDecimal, is_decimal, is_zero, is_normal, zero_number, surplus, mantissa_beside, normal, decimal_of, height, scaled, at_scale, sum_of, has_few_digits, has_small_exponent}
+use Rattle.mpslp_decimal.specs.Decimal.{Number, IsDecimal, is_decimal, is_zero, is_normal, zero_number, normal, decimal_of, height, scaled, at_scale, sum_of, has_few_digits, has_small_exponent}
+use Rattle.mpslp_decimal.specs.Values.{surplus, mantissa_beside}
 use Rattle.mpslp_decimal.specs.Literal.{to_signed}
 use Rattle.mpslp_decimal.specs.Scan.{IsStripped, in_range}
 use Rattle.mpslp_decimal.specs.declared.literal.NumberFault.TheVariants.{ExponentRange}

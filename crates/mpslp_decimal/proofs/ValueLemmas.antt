@@ -5,7 +5,8 @@ use Rattle.std.specs.Cmp.{first_so, second_so}
 use Rattle.std.proofs.lemmas.Int.{ints}
 use Rattle.std.proofs.lemmas.Nat.{pow-add}
 use Rattle.std.proofs.lemmas.Bool.{leb-true}
-use Rattle.mpslp_decimal.specs.Decimal.{Number, IsDecimal, natural_part, surplus, mantissa_beside, HasSameValue, height, scaled, has_few_digits, has_small_exponent, is_normal}
+use Rattle.mpslp_decimal.specs.Decimal.{Number, IsDecimal, height, scaled, has_few_digits, has_small_exponent, is_normal}
+use Rattle.mpslp_decimal.specs.Values.{natural_part, surplus, mantissa_beside, HasSameValue}
 use Rattle.mpslp_decimal.specs.Literal.{to_signed}
 use Rattle.mpslp_decimal.proofs.NumberTextLemmas.{signed-size}
 use Rattle.mpslp_decimal.proofs.ScaleLemmas.{signed_times, one_form}

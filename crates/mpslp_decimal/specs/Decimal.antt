@@ -1,18 +1,13 @@
 -- Decimals and their values.
-use Rattle.std.specs.Prelude.{◌≡◌, ℕ, zero, suc, ◌+◌, ◌-◌, ◌/◌, ◌%◌, ◌^◌, ℤ, pos, negsuc, ◌+ℤ◌, ◌-ℤ◌, ◌*ℤ◌, ◌<ℤ◌, neg_ℤ, unsigned_abs, int_le, int_div, Bool, ◌&&◌, not, nat_lt, ◌==◌, if◌then◌else◌, IsTrue, Option, Some, None, refl}
-use Rattle.std.specs.Ordering.{int_cmp, int_eq, is_eq, on, then_cmp}
+use Rattle.std.specs.Prelude.{ℕ, zero, suc, ◌+◌, ◌-◌, ◌/◌, ◌%◌, ◌^◌, ℤ, pos, negsuc, ◌+ℤ◌, ◌*ℤ◌, neg_ℤ, unsigned_abs, int_le, int_div, Bool, ◌&&◌, not, nat_lt, ◌==◌, if◌then◌else◌, IsTrue, Option, Some, None}
+use Rattle.std.specs.Ordering.{int_cmp, int_eq, is_eq, on}
 use Rattle.std.specs.declared.cmp.Ordering.{Ordering}
-use Rattle.std.specs.Coded.{Coded, code_by, coded×, coded_ℤ}
 use Rattle.mpslp_decimal.specs.declared.number.TheConstants.{MAX_DIGITS, MIN_EXPONENT, MAX_EXPONENT}
 
 -- mantissa times ten to the exponent
 pub record Number : Type 0 where
   pub mantissa : ℤ
   pub exponent : ℤ
-
--- a number is stored as the pair of its fields
-abbrev pub number_code : Coded Number
-number_code = code_by (ℤ × ℤ) (coded× coded_ℤ coded_ℤ) (λ d. (d.mantissa, d.exponent)) (λ p. record { mantissa = p.0; exponent = p.1 }) (λ _. refl)
 
 abbrev pub zero_number : Number
 zero_number = record { mantissa = pos 0; exponent = pos 0 }
@@ -25,27 +20,6 @@ is_zero d = unsigned_abs d.mantissa == 0
 
 abbrev pub is_negative : Number → Bool
 is_negative d = int_le d.mantissa (negsuc 0)
-
--- ---- the value of a number
-
--- a number that is not negative, and 0 for a negative one
-abbrev pub natural_part : ℤ → ℕ
-natural_part (pos n) = n
-natural_part (negsuc _) = 0
-
--- the first exponent minus the second, or 0 if that is negative
-abbrev pub surplus : ℤ → ℤ → ℕ
-surplus e f = natural_part (e -ℤ f)
-
--- the mantissa of a number at the smaller one of its own exponent and another number's
-abbrev pub mantissa_beside : Number → Number → ℤ
-mantissa_beside a b = a.mantissa *ℤ pos (10 ^ surplus a.exponent b.exponent)
-
-abbrev pub HasSameValue : Number → Number → Type 0
-HasSameValue a b = mantissa_beside a b ≡ mantissa_beside b a
-
-abbrev pub IsBelow : Number → Number → Type 0
-IsBelow a b = mantissa_beside a b <ℤ mantissa_beside b a
 
 -- ---- decimals: the numbers that a `Decimal` can have
 
@@ -112,10 +86,6 @@ decimal_cmp = on scaled int_cmp
 
 abbrev pub have_same_value : Number → Number → Bool
 have_same_value a b = is_eq (decimal_cmp a b)
-
--- by value; if the values are equal, which those of different decimals never are, by the parts
-abbrev pub order_of : Number → Number → Ordering
-order_of = then_cmp decimal_cmp (then_cmp (on (λ d. d.mantissa) int_cmp) (on (λ d. d.exponent) int_cmp))
 
 abbrev pub negated : Number → Number
 negated d = record d { mantissa = neg_ℤ d.mantissa }

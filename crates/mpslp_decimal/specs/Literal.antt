@@ -1,10 +1,9 @@
 -- Number literals and their values.
-use Rattle.std.specs.Prelude.{ℕ, ◌+◌, ◌-◌, ◌*◌, ◌^◌, ◌≤◌, ℤ, pos, neg_ℤ, ◌-ℤ◌, Bool, false, ◌&&◌, ◌||◌, not, nat_lt, nat_le, ◌==◌, if◌then◌else◌, IsTrue, List, [], ◌∷◌, ◌++◌, length, Result, Ok, Err}
+use Rattle.std.specs.Prelude.{ℕ, ◌+◌, ◌-◌, ◌*◌, ◌^◌, ℤ, pos, neg_ℤ, ◌-ℤ◌, Bool, false, ◌&&◌, ◌||◌, not, nat_lt, nat_le, ◌==◌, if◌then◌else◌, List, [], ◌∷◌, ◌++◌, length, Result, Ok, Err}
 use Rattle.std.specs.List.{list_any, list_all, before_first, after_first}
-use Rattle.mpslp_decimal.specs.Decimal.{Number, HasSameValue, IsDecimal, normal, has_few_digits, has_small_exponent}
+use Rattle.mpslp_decimal.specs.Decimal.{Number, normal, has_few_digits, has_small_exponent}
 use Rattle.mpslp_decimal.specs.declared.literal.TheConstants.{MAX_LITERAL_LEN}
-use Rattle.mpslp_decimal.specs.declared.literal.NumberFault.{NumberFault}
-use Rattle.mpslp_decimal.specs.declared.literal.NumberFault.TheVariants.{BadNumber, LongNumber, TooManyDigits, ExponentRange}
+use Rattle.mpslp_decimal.specs.declared.literal.NumberFault.{NumberFault, TheVariants.BadNumber, TheVariants.LongNumber, TheVariants.TooManyDigits, TheVariants.ExponentRange}
 
 abbrev pub is_digit : ℕ → Bool
 is_digit byte = nat_le 48 byte && nat_le byte 57
@@ -71,13 +70,6 @@ literal_value text = record {
   exponent = signed_value (exponent_part text) -ℤ pos (length (fraction_digits text));
 }
 
--- The text is a literal within the limit of its length, and the decimal has its value.
-pub record Spells (text : List ℕ) (d : Number) : Type 0 where
-  pub literal : IsTrue (is_literal text)
-  pub short : length text ≤ MAX_LITERAL_LEN
-  pub decimal : IsDecimal d
-  pub value : HasSameValue (literal_value text) d
-
 -- the decimal with the value of a text, or its first error
 abbrev pub number_of : List ℕ → Result Number NumberFault
 number_of text =
@@ -87,18 +79,3 @@ number_of text =
     else (if not (has_few_digits value) then Err TooManyDigits
     else (if not (has_small_exponent value) then Err ExponentRange
     else Ok value)))
-
--- ---- literals whose value is not that of a decimal
-
--- No number of at most 36 digits has the value of the literal, whatever the exponent of the number.
-pub record HasTooManyDigits (text : List ℕ) : Type 0 where
-  pub literal : IsTrue (is_literal text)
-  pub short : length text ≤ MAX_LITERAL_LEN
-  pub many : (d : Number) → IsTrue (has_few_digits d) → HasSameValue (literal_value text) d → ⊥
-
--- A number of at most 36 digits has the value of the literal, but no decimal does.
-pub record HasExponentOutOfRange (text : List ℕ) : Type 0 where
-  pub literal : IsTrue (is_literal text)
-  pub short : length text ≤ MAX_LITERAL_LEN
-  pub few : (d : Number) × (IsTrue (has_few_digits d) × HasSameValue (literal_value text) d)
-  pub out : (d : Number) → IsDecimal d → HasSameValue (literal_value text) d → ⊥

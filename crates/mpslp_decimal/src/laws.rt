@@ -2,8 +2,9 @@
 
 ghost use Rattle.std.specs.Prelude.{◌≡◌, ◌↔◌, ◌+ℤ◌, ℕ, List, Ok, Err, Some};
 ghost use Rattle.std.specs.declared.cmp.Ordering.{Ordering};
-ghost use Rattle.mpslp_decimal.specs.Decimal.{Number, HasSameValue, IsBelow, IsDecimal, order_of, scaled, sum_of};
-ghost use Rattle.mpslp_decimal.specs.Literal.{Spells, HasTooManyDigits, HasExponentOutOfRange, number_of};
+ghost use Rattle.mpslp_decimal.specs.Decimal.{Number, IsDecimal, scaled, sum_of};
+ghost use Rattle.mpslp_decimal.specs.Values.{HasSameValue, IsBelow, order_of, Spells, HasTooManyDigits, HasExponentOutOfRange};
+ghost use Rattle.mpslp_decimal.specs.Literal.{number_of};
 ghost use Rattle.mpslp_decimal.specs.NumberText.{number_text};
 ghost use Rattle.mpslp_decimal.specs.declared.literal.NumberFault.TheVariants.{TooManyDigits, ExponentRange};
 

@@ -37,7 +37,8 @@ pub struct Decimal {
 
 impl Model for Decimal {
     ghost use Rattle.mpslp_decimal.specs.Literal.{number_of};
-    ghost use Rattle.mpslp_decimal.specs.Decimal.{Number, number_code, IsDecimal};
+    ghost use Rattle.mpslp_decimal.specs.Decimal.{Number, IsDecimal};
+    ghost use Rattle.mpslp_decimal.specs.NumberCode.{number_code};
 
     ghost Value = { Number };
 

@@ -7,7 +7,8 @@ use Rattle.mpslp_builder.specs.Refusal.{refusals_in_turn}
 use Rattle.mpslp_types.specs.FaultOrder.{kind_rank}
 use Rattle.mpslp_types.specs.declared.faults.BuildFault.{BuildFault}
 use Rattle.mpslp_types.specs.declared.faults.FaultKind.{FaultKind}
-use Rattle.mpslp_lines.specs.Declaring.{kind_of_build_fault, declaring_faults, declared_fault}
+use Rattle.mpslp_lines.specs.Declaring.{declaring_faults, declared_fault}
+use Rattle.mpslp_lines.specs.FaultTests.{kind_of_build_fault}
 use Rattle.mpslp_lines.proofs.LeastLemmas.{is_from, earlier_of}
 use Rattle.mpslp_lines.proofs.RefusedLemmas.{declared-append}
 

@@ -9,12 +9,11 @@ use Rattle.mpslp_decimal.specs.declared.literal.NumberFault.{NumberFault}
 use Rattle.mpslp_decimal.proofs.SpellsLemmas.{spells-from_number}
 use Rattle.mpslp_types.specs.Name.{is_mps_name, has_name_length, is_visible, same_bytes, marker}
 use Rattle.mpslp_types.specs.Limit.{limit_of, is_given}
-use Rattle.mpslp_model_core.specs.Lists.{those_of}
+use Rattle.mpslp_types.specs.Lists.{those_of}
 use Rattle.mpslp_types.specs.declared.kinds.Limit.TheVariants.{MinusInf, Finite, PlusInf}
 use Rattle.mpslp_types.specs.declared.faults.FaultKind.TheVariants as kinds
 use Rattle.mpslp_types.proofs.BoolLemmas.{both_so, so_not}
-use Rattle.mpslp_lines.specs.FaultTests.{FaultTests}
-use Rattle.mpslp_lines.specs.Field.{name_tests, value_of}
+use Rattle.mpslp_lines.specs.FaultTests.{FaultTests, name_tests, value_of}
 
 -- the tests of a name come before others
 pub name-legal : (name : List ℕ) (more : FaultTests) → those_of (name_tests name ++ more) ≡ [] → is_mps_name name ≡ true

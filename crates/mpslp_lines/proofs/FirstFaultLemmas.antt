@@ -10,16 +10,15 @@ use Rattle.std.proofs.lemmas.Bool.Decides.{nat_tests}
 use Rattle.mpslp_types.proofs.BoolLemmas.{both_so, nor}
 use Rattle.mpslp_builder.proofs.RefusalLemmas.{left_none, right_none}
 use Rattle.mpslp_builder.specs.Declaration.{Declarations, Draft}
-use Rattle.mpslp_model_core.specs.Lists.{those_of}
+use Rattle.mpslp_types.specs.Lists.{those_of}
 use Rattle.mpslp_builder.specs.Refusal.{refusals_in_turn}
 use Rattle.mpslp_types.specs.FaultOrder.{kind_rank, least_kind}
 use Rattle.mpslp_types.specs.declared.faults.BuildFault.{BuildFault}
 use Rattle.mpslp_types.specs.declared.faults.BuildFault.TheVariants as builds
 use Rattle.mpslp_types.specs.declared.faults.FaultKind.{FaultKind}
 use Rattle.mpslp_types.specs.declared.faults.FaultKind.TheVariants as kinds
-use Rattle.mpslp_lines.specs.FaultTests.{FaultTests, first_held}
-use Rattle.mpslp_lines.specs.LegalLine.{has_legal_length, is_legal_byte, legal_tests}
-use Rattle.mpslp_lines.specs.Declaring.{kind_of_build_fault, is_kind_clash, declaring_faults, declared_fault, first_fault}
+use Rattle.mpslp_lines.specs.FaultTests.{FaultTests, first_held, has_legal_length, is_legal_byte, legal_tests, kind_of_build_fault}
+use Rattle.mpslp_lines.specs.Declaring.{is_kind_clash, declaring_faults, declared_fault, first_fault}
 use Rattle.mpslp_lines.proofs.LeastLemmas.{is_from, are_rising, lesser, stays-least, earlier_of, least-those_of, least-append, least-none}
 use Rattle.mpslp_lines.proofs.HeldLemmas.{held-among}
 use Rattle.mpslp_lines.proofs.ClashLemmas.{has_kind_clash}

@@ -4,7 +4,7 @@ use Rattle.std.specs.Prelude.{Option, Some, None}
 use Rattle.std.specs.List.{list_all}
 use Rattle.std.specs.Option.{option_or}
 use Rattle.std.specs.Cmp.{first_so, second_so}
-use Rattle.mpslp_model_core.specs.Lists.{those_of}
+use Rattle.mpslp_types.specs.Lists.{those_of}
 use Rattle.mpslp_types.specs.declared.faults.FaultKind.{FaultKind}
 use Rattle.mpslp_lines.specs.FaultTests.{FaultTests, first_held}
 

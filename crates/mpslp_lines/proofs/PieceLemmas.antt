@@ -9,7 +9,7 @@ use Rattle.mpslp_types.specs.declared.faults.ReadFault.TheVariants.{File, Failed
 use Rattle.mpslp_model.specs.Readers.{IsFedBy}
 use Rattle.mpslp_model.specs.CompleteLines.{complete_lines, open_tail, HasNoFeed}
 use Rattle.mpslp_model.proofs.CompleteLineLemmas.{complete-more, complete-same, open_tail-on, complete-ended, open_tail-ended, complete-from, open_tail-from, lines-are, last_line}
-use Rattle.mpslp_lines.specs.LegalLine.{has_legal_length}
+use Rattle.mpslp_lines.specs.FaultTests.{has_legal_length}
 use Rattle.mpslp_lines.specs.declared.legal_line.TheConstants.{MAX_LINE_LEN}
 use Rattle.mpslp_lines.specs.OpenLine.{KeptLine, Keeps, is_beyond}
 use Rattle.mpslp_lines.specs.LinesRead.{IsReader, RefusesLines, ReadsOn}

@@ -4,15 +4,15 @@ use Rattle.std.specs.Prelude.{Option, Some, None, Ok, Err}
 use Rattle.std.proofs.lemmas.List.{append-nil, map-append}
 use Rattle.mpslp_builder.specs.Answer.{Answers, first_refusal}
 use Rattle.mpslp_builder.specs.Declaration.{Declaration, Declarations, Draft, with_declarations}
-use Rattle.mpslp_model_core.specs.Lists.{those_of}
+use Rattle.mpslp_types.specs.Lists.{those_of}
 use Rattle.mpslp_builder.specs.Refusal.{refusals, refusal_tests, refusals_in_turn}
 use Rattle.mpslp_types.specs.FaultOrder.{least_kind}
 use Rattle.mpslp_types.specs.declared.faults.BuildFault.{BuildFault}
 use Rattle.mpslp_types.specs.declared.faults.BuildFault.TheVariants as builds
 use Rattle.mpslp_types.specs.declared.faults.FaultKind.{FaultKind}
 use Rattle.mpslp_builder.proofs.MadeDrafts.{refusals_in_turn-append}
-use Rattle.mpslp_lines.specs.FaultTests.{FaultTests, first_held}
-use Rattle.mpslp_lines.specs.Declaring.{kind_of_build_fault, declared_fault}
+use Rattle.mpslp_lines.specs.FaultTests.{FaultTests, first_held, kind_of_build_fault}
+use Rattle.mpslp_lines.specs.Declaring.{declared_fault}
 use Rattle.mpslp_lines.specs.ErrorOf.{error_of_build}
 use Rattle.mpslp_lines.specs.LineAnswer.{IsErrorOf}
 use Rattle.mpslp_lines.proofs.LeastLemmas.{are_rising, earlier_of, least-those_of, least-append}

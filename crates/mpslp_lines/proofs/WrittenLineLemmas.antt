@@ -4,7 +4,7 @@ use Rattle.std.specs.Prelude.{◌==◌, slice_index}
 use Rattle.std.specs.List.{slice_split}
 use Rattle.std.specs.Str.Lines.{lines, lines_of_parts, strip_carriage_return}
 use Rattle.mpslp_types.proofs.EachLemmas.{Each}
-use Rattle.mpslp_lines.specs.WrittenLines.{with_line_feeds}
+use Rattle.mpslp_types.specs.Lists.{with_line_feeds}
 
 abbrev pub is_feed : ℕ → Bool
 is_feed b = b == 10

@@ -1,31 +1,13 @@
 -- The errors of what a line declares, and the first error of a line.
 use Rattle.std.specs.Prelude.{Bool, true, false, List, ◌++◌, map, Option}
 use Rattle.mpslp_builder.specs.Declaration.{Declarations, Draft}
-use Rattle.mpslp_model_core.specs.Lists.{those_of}
+use Rattle.mpslp_types.specs.Lists.{those_of}
 use Rattle.mpslp_builder.specs.Refusal.{refusals_in_turn}
 use Rattle.mpslp_types.specs.FaultOrder.{least_kind}
 use Rattle.mpslp_types.specs.declared.faults.BuildFault.{BuildFault}
 use Rattle.mpslp_types.specs.declared.faults.BuildFault.TheVariants as builds
 use Rattle.mpslp_types.specs.declared.faults.FaultKind.{FaultKind}
-use Rattle.mpslp_types.specs.declared.faults.FaultKind.TheVariants as kinds
-use Rattle.mpslp_lines.specs.FaultTests.{FaultTests}
-
--- The kind of an error of the builder. No well-formed line declares a second sense or objective, and out of memory is not an
--- error of the line: the kinds given here for these three do not matter.
-abbrev pub kind_of_build_fault : BuildFault → FaultKind
-kind_of_build_fault builds.DuplicateSense = kinds.DuplicateEntry
-kind_of_build_fault builds.SecondObjective = kinds.DuplicateEntry
-kind_of_build_fault builds.UnknownRow = kinds.UnknownRow
-kind_of_build_fault builds.UnknownColumn = kinds.UnknownColumn
-kind_of_build_fault builds.DuplicateRow = kinds.DuplicateRow
-kind_of_build_fault builds.DuplicateEntry = kinds.DuplicateEntry
-kind_of_build_fault builds.DuplicateRhs = kinds.DuplicateRhs
-kind_of_build_fault builds.DuplicateRange = kinds.DuplicateRange
-kind_of_build_fault builds.DuplicateBound = kinds.DuplicateBound
-kind_of_build_fault builds.RangeOnFree = kinds.RangeOnFree
-kind_of_build_fault builds.SemiContinuous = kinds.SemiContinuous
-kind_of_build_fault builds.InfiniteValue = kinds.InfiniteValue
-kind_of_build_fault builds.OutOfMemory = kinds.DuplicateEntry
+use Rattle.mpslp_lines.specs.FaultTests.{FaultTests, kind_of_build_fault}
 
 -- the error of a column that would be both integer and semi-continuous: its kind comes before those of a line's form
 abbrev pub is_kind_clash : BuildFault → Bool

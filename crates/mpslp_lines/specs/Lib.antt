@@ -1,11 +1,8 @@
 pub mod FaultTests
-pub mod LegalLine
-pub mod Field
 pub mod Declaring
 pub mod ErrorOf
 pub mod LineAnswer
 pub mod OpenLine
 pub mod LinesRead
 pub mod Pieces
-pub mod WrittenLines
 pub mod TextReading

@@ -1,5 +1,5 @@
 -- What the code returns for a line and for its declarations, and how the error of a line is reported.
-use Rattle.std.specs.Prelude.{◌≡◌, ℕ, ◌-◌, ◌^◌, min, Option, Some, None, Result, Err, MatchResult}
+use Rattle.std.specs.Prelude.{◌≡◌, ℕ, Option, Some, None, Result, Err, MatchResult}
 use Rattle.mpslp_builder.specs.Declaration.{Declarations, Draft, with_declarations}
 use Rattle.mpslp_types.specs.declared.faults.Fault.{Fault}
 use Rattle.mpslp_types.specs.declared.faults.FaultKind.{FaultKind}
@@ -31,10 +31,6 @@ AreDeclared earlier declarations answer later =
     MatchResult answer (λ _. (first_fault ≡ None) × (later ≡ with_declarations earlier declarations)) (IsErrorOf first_fault)
 
 -- ---- the result for a text
-
--- lines are counted from 1 to at most 2^64 - 1; the error of a line has no name
-abbrev pub fault_on_line : ℕ → FaultKind → Fault
-fault_on_line n kind = record { kind = kind; line = min n (2 ^ 64 - 1); name = None }
 
 -- the error of a line is reported as an error on this line
 abbrev pub IsFaultOn : ℕ → LineError → ReadFault → Type 0

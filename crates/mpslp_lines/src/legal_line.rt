@@ -2,7 +2,7 @@
 
 ghost use Rattle.std.specs.Prelude.{◌≡◌};
 ghost use Rattle.std.specs.List.{list_all};
-ghost use Rattle.mpslp_lines.specs.LegalLine.{has_legal_length, is_legal_byte};
+ghost use Rattle.mpslp_lines.specs.FaultTests.{has_legal_length, is_legal_byte};
 
 /// The most bytes of a line, including comments but not its LF or CRLF.
 pub const MAX_LINE_LEN: usize = 1_048_576;

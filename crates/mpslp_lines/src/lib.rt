@@ -2,8 +2,8 @@
 //! error of a line in its context, why a line is rejected, and texts that come in pieces.
 //!
 //! Each format has its own lines, tokens and grammar. The definitions are in `specs/`: tests in the order of the kinds of
-//! errors (`FaultTests`), lines of legal length and bytes (`LegalLine`), names and literals (`Field`), the errors of what is
-//! declared (`Declaring`), the result of reading a line (`LineAnswer`) and further lines (`LinesRead`), what is kept of an
+//! errors, for the length and the bytes of a line, names and literals (`FaultTests`), the errors of what is declared
+//! (`Declaring`), the result of reading a line (`LineAnswer`) and further lines (`LinesRead`), what is kept of an
 //! incomplete line (`OpenLine`), what was read of a text in pieces (`Pieces`), and by a reader that may have failed
 //! (`TextReading`).
 //!

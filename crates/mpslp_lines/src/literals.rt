@@ -2,8 +2,7 @@
 
 ghost use Rattle.std.specs.Prelude.{◌≡◌, [], ◌∷◌, nat_lt, if◌then◌else◌, Some, None, MatchResult};
 ghost use Rattle.mpslp_types.specs.FaultOrder.{kind_rank};
-ghost use Rattle.mpslp_lines.specs.FaultTests.{first_held};
-ghost use Rattle.mpslp_lines.specs.Field.{kind_of_number_fault, number_tests, value_of};
+ghost use Rattle.mpslp_lines.specs.FaultTests.{first_held, kind_of_number_fault, number_tests, value_of};
 
 use mpslp_decimal::{Decimal, NumberFault};
 use mpslp_model::FaultKind;

@@ -5,7 +5,7 @@ ghost use Rattle.std.specs.Str.Lines.{lines};
 ghost use Rattle.mpslp_model_core.specs.Model.{LinearModel};
 ghost use Rattle.mpslp_types.specs.declared.faults.Fault.{Fault};
 ghost use Rattle.mpslp_model.specs.Formats.{IsAnswerTo};
-ghost use Rattle.mpslp_lines.specs.LegalLine.{has_legal_length};
+ghost use Rattle.mpslp_lines.specs.FaultTests.{has_legal_length};
 ghost use Rattle.mpslp_lines.specs.LinesRead.{IsReader, RefusesLines, ReadsOn};
 
 use bstr::ByteSlice;

@@ -8,19 +8,19 @@ use Rattle.mpslp_types.specs.declared.faults.FaultKind.{FaultKind}
 use Rattle.mpslp_types.specs.declared.faults.FaultKind.TheVariants.{LineTooLong, BadByte}
 use Rattle.mpslp_builder.specs.Declaration.{Declarations}
 use Rattle.mpslp_builder.specs.Refusal.{refusals_in_turn}
-use Rattle.mpslp_lines.specs.FaultTests.{first_held}
-use Rattle.mpslp_lines.specs.LegalLine.{has_legal_length}
+use Rattle.mpslp_lines.specs.FaultTests.{first_held, has_legal_length}
 use Rattle.mpslp_lines.specs.declared.errors.LineError.{LineError}
 use Rattle.mpslp_lines.specs.declared.errors.LineError.TheVariants.{Fault}
 use Rattle.mpslp_lp_tokens.specs.Token.{Token, tokens}
 use Rattle.mpslp_lp_tokens.specs.declared.tokens.TokenKind.{TokenKind}
 use Rattle.mpslp_lp_tokens.specs.declared.tokens.TokenKind.TheVariants as kinds
-use Rattle.mpslp_lp_grammar.specs.Terminal.{Terminal, as_terminal, terminal_of, terminals}
+use Rattle.mpslp_lp_grammar.specs.Terminal.{Terminal, terminal_of}
+use Rattle.mpslp_lp_grammar.specs.TerminalToken.{as_terminal, terminals}
 use Rattle.mpslp_lp_grammar.specs.Terminal.Terminal.{Other}
 use Rattle.mpslp_lp_grammar.specs.AfterToken.{AfterToken, with_made, take_after_declarations, Goes, Refuses}
 use Rattle.mpslp_lp_grammar.specs.FirstToken.{begin}
 use Rattle.mpslp_lp_grammar.specs.Objective.{objective_declared, first_item_declared, default_objective}
-use Rattle.mpslp_lp_grammar.specs.Sides.{apply_sign}
+use Rattle.mpslp_lp_grammar.specs.Items.{apply_sign}
 use Rattle.mpslp_lp_grammar.specs.TokenStep.{begin_after, take_lone, take}
 use Rattle.mpslp_lp_grammar.specs.Declares.{TakesToken}
 use Rattle.mpslp_decimal.specs.Decimal.{Number as Decimal}

@@ -9,9 +9,8 @@ use Rattle.mpslp_decimal.specs.Literal.{is_digit, is_point, is_sign, is_exponent
 use Rattle.mpslp_decimal.proofs.GrammarLemmas.{before-here, before-past}
 use Rattle.mpslp_types.specs.Name.{is_letter, is_lp_symbol, same_bytes}
 use Rattle.mpslp_builder.proofs.CoefficientLemmas.{same_bytes-true}
-use Rattle.mpslp_lines.specs.LegalLine.{is_legal_byte}
-use Rattle.mpslp_lp_tokens.specs.Line.{is_blank, begins_comment, is_period, begins_word, continues_word}
-use Rattle.mpslp_lp_tokens.specs.Token.{is_word, is_number, one_byte_operators, two_byte_operators, operator_kind, kind_of, Front, longest_within, longest_token, token_at, Token, tokens_from, tokens}
+use Rattle.mpslp_lines.specs.FaultTests.{is_legal_byte}
+use Rattle.mpslp_lp_tokens.specs.Token.{is_blank, begins_comment, is_period, begins_word, continues_word, is_word, is_number, one_byte_operators, two_byte_operators, operator_kind, kind_of, Front, longest_within, longest_token, token_at, Token, tokens_from, tokens}
 use Rattle.mpslp_lp.specs.Laws.{has_legal_bytes, is_known}
 use Rattle.mpslp_lp_tokens.proofs.NameTokens.{front-kind}
 use Rattle.mpslp_lp_tokens.proofs.SliceLemmas.{token-within}

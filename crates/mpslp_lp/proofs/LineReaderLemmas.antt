@@ -5,22 +5,20 @@ use Rattle.std.specs.List.{enumerate_from, list_all}
 use Rattle.std.specs.Str.Lines.{lines}
 use Rattle.mpslp_model_core.specs.Model.{LinearModel}
 use Rattle.mpslp_builder.specs.Finish.{Finishes}
-use Rattle.mpslp_builder.specs.Meaning.{whole_fault}
+use Rattle.mpslp_builder.specs.FileFault.{whole_fault}
 use Rattle.mpslp_types.specs.FaultOrder.{least_kind}
 use Rattle.mpslp_types.specs.declared.faults.FaultKind.{FaultKind}
 use Rattle.mpslp_types.specs.declared.faults.FaultKind.TheVariants.{LineTooLong, BadByte, MissingEnd}
 use Rattle.mpslp_types.specs.declared.faults.ReadFault.{ReadFault}
-use Rattle.mpslp_lines.specs.LegalLine.{has_legal_length, is_legal_byte}
+use Rattle.mpslp_lines.specs.FaultTests.{has_legal_length, is_legal_byte, first_held}
 use Rattle.mpslp_lines.specs.LineAnswer.{IsFaultOn}
 use Rattle.mpslp_lines.specs.LinesRead.{RefusesLines}
-use Rattle.mpslp_lines.specs.FaultTests.{first_held}
 use Rattle.mpslp_lines.specs.declared.errors.LineError.{LineError}
 use Rattle.mpslp_lines.specs.declared.errors.LineError.TheVariants.{Fault, OutOfMemory}
 use Rattle.mpslp_lp_grammar.specs.Rules.Outcome.{Finished, Open}
-use Rattle.mpslp_lp_tokens.specs.Line.{outside_comment}
-use Rattle.mpslp_lp_tokens.specs.Token.{tokens}
-use Rattle.mpslp_lp_grammar.specs.Terminal.{terminals}
-use Rattle.mpslp_lp_grammar.specs.Point.{start}
+use Rattle.mpslp_lp_tokens.specs.Token.{outside_comment, tokens}
+use Rattle.mpslp_lp_grammar.specs.TerminalToken.{terminals}
+use Rattle.mpslp_lp_grammar.specs.Phrase.{start}
 use Rattle.mpslp_lp_grammar.specs.LexicalFault.{lexical_fault}
 use Rattle.mpslp_lp_grammar.specs.AfterToken.{AfterToken, Goes, Refuses}
 use Rattle.mpslp_lp.specs.LineByLine.{take_all, token_faults, take_line, read_from}

@@ -9,10 +9,9 @@ use Rattle.std.proofs.Math.Nat.{min-le_right}
 use Rattle.mpslp_decimal.specs.Decimal.{Number as Decimal, is_decimal, negated}
 use Rattle.mpslp_types.specs.Name.{same_bytes, is_mps_name, is_lp_name}
 use Rattle.mpslp_types.proofs.NameLemmas.{mps_name-from_lp}
-use Rattle.mpslp_types.specs.Limit.{limit_of}
+use Rattle.mpslp_types.specs.Limit.{limit_of, is_given}
 use Rattle.mpslp_builder.specs.Declaration.{draft_of, Declaration, declare_sense, declare_objective, declare_constant, declare_row, declare_rhs, declare_range, declare_column, declare_coefficient, declare_lower, declare_upper, declare_marked, declare_integer, declare_binary, declare_semi, Declarations, Draft, empty_draft, with_declarations, bounds_declared}
 use Rattle.mpslp_builder.specs.Refusal.{refusals_in_turn, bounds_refusals}
-use Rattle.mpslp_types.specs.Limit.{is_given}
 use Rattle.mpslp_builder.specs.Made.{are_given, is_legal}
 use Rattle.mpslp_types.specs.declared.kinds.Limit.{Limit}
 use Rattle.mpslp_types.specs.declared.kinds.Limit.TheVariants.{MinusInf, PlusInf}
@@ -34,16 +33,14 @@ use Rattle.mpslp_lp_grammar.specs.Rules.AfterPhrase.{Goes, Ends}
 use Rattle.mpslp_lp_tokens.specs.Words.{section_of}
 use Rattle.mpslp_lp_grammar.specs.Terminal.{Terminal, TerminalAt}
 use Rattle.mpslp_lp_grammar.specs.Terminal.Terminal.{Opens, Name, Number, Sign, Compares, Colon, Infinity, Free, Other}
-use Rattle.mpslp_lp_grammar.specs.Point.{Point, start, with_section, section_fault}
+use Rattle.mpslp_lp_grammar.specs.Phrase.{Point, start, with_section, section_fault, PhraseRule, Follows, fails, refuses, goes_to, unless_refused, declares}
 use Rattle.mpslp_lp_grammar.specs.declared.context.Context.{Context}
 use Rattle.mpslp_lp_grammar.specs.PartialRow.{PartialRow}
 use Rattle.mpslp_lp_grammar.specs.declared.states.Place.{Place}
 use Rattle.mpslp_lp_grammar.specs.declared.states.Place.TheVariants.{AtStart, BeforeItems, InObjective, BetweenRows, InRow, InBounds, InGenerals, InBinaries, InSemis}
-use Rattle.mpslp_lp_grammar.specs.Phrase.{PhraseRule, Follows, fails, refuses, goes_to, unless_refused, declares}
 use Rattle.mpslp_lp_grammar.specs.declared.states.LastWord.{LastWord}
 use Rattle.mpslp_lp_grammar.specs.declared.states.LastWord.TheVariants.{To, That, Continuous}
-use Rattle.mpslp_lp_grammar.specs.Sides.{Side, Limits, apply_sign, infinity, unsigned_side, side_from, side, next_relation, fits_second, limits_by, flip}
-use Rattle.mpslp_lp_grammar.specs.Items.{Item, one, product, number_item, signed_item, item_from, colon}
+use Rattle.mpslp_lp_grammar.specs.Items.{Side, Limits, apply_sign, infinity, unsigned_side, side_from, side, next_relation, fits_second, limits_by, flip, Item, one, product, number_item, signed_item, item_from, colon}
 use Rattle.mpslp_lp_grammar.specs.Items.Item.{Term, Lone}
 use Rattle.mpslp_lp_grammar.specs.Objective.{term_declared, objective_item, objective_declared, default_objective, first_item_declared, objective_named, objective_from, objective}
 use Rattle.mpslp_lp_grammar.specs.Rows.{default_row, without_terms, row_item, row_first, row_after_left, row_number, row_signed, row_from, row_named, row, fits_left, row_limits, row_declared, row_whole, row_end}

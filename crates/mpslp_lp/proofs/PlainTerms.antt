@@ -6,19 +6,19 @@ use Rattle.std.specs.List.{cons_option}
 use Rattle.std.proofs.lemmas.Option.{none-some}
 use Rattle.mpslp_types.specs.declared.faults.FaultKind.{FaultKind}
 use Rattle.mpslp_types.specs.declared.faults.FaultKind.TheVariants.{DuplicateEntry}
-use Rattle.mpslp_lines.specs.Field.{value_of, number_fault}
+use Rattle.mpslp_lines.specs.FaultTests.{value_of, number_fault}
 use Rattle.mpslp_lines.specs.declared.errors.LineError.{LineError}
 use Rattle.mpslp_lines.specs.declared.errors.LineError.TheVariants.{Fault, OutOfMemory}
 use Rattle.mpslp_decimal.specs.Decimal.{Number as Decimal, zero_number, trailing_zeros}
 use Rattle.mpslp_decimal.specs.declared.literal.NumberFault.{NumberFault}
 use Rattle.mpslp_lp_grammar.specs.declared.signs.Sign.{Sign as SignOf}
-use Rattle.mpslp_lp_grammar.specs.Items.{one}
+use Rattle.mpslp_lp_grammar.specs.Items.{one, apply_sign}
 use Rattle.mpslp_lp_grammar.specs.PartialRow.{PartialRow}
 use Rattle.mpslp_lp_tokens.specs.Token.{Token}
-use Rattle.mpslp_lp_grammar.specs.Terminal.{Terminal, as_terminal, terminal_of}
+use Rattle.mpslp_lp_grammar.specs.Terminal.{Terminal, terminal_of}
+use Rattle.mpslp_lp_grammar.specs.TerminalToken.{as_terminal}
 use Rattle.mpslp_lp_grammar.specs.Terminal.Terminal.{Sign, Number, Name}
 use Rattle.mpslp_lp_grammar.specs.LexicalFault.{token_fault}
-use Rattle.mpslp_lp_grammar.specs.Sides.{apply_sign}
 use Rattle.mpslp_lp.specs.LineByLine.{take_tokens, token_faults}
 use Rattle.mpslp_lp_grammar.specs.Declares.{TakesToken, AddsTerm, IsLeastError, error_before}
 use Rattle.mpslp_lp.specs.PlainTerm.{Begins, BeginsWithNumber, IsPlainTerm, LeadsTo}

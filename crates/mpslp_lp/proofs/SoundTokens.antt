@@ -6,11 +6,9 @@ use Rattle.mpslp_decimal.specs.Decimal.{is_decimal}
 use Rattle.mpslp_types.specs.Name.{is_lp_name}
 use Rattle.mpslp_types.specs.FaultOrder.{least_kind}
 use Rattle.mpslp_types.specs.declared.faults.FaultKind.{FaultKind}
-use Rattle.mpslp_lines.specs.LegalLine.{legal_tests}
-use Rattle.mpslp_lines.specs.FaultTests.{first_held}
+use Rattle.mpslp_lines.specs.FaultTests.{legal_tests, first_held}
 use Rattle.mpslp_lines.proofs.FieldLemmas.{value-decimal}
-use Rattle.mpslp_lp_tokens.specs.Line.{outside_comment}
-use Rattle.mpslp_lp_tokens.specs.Token.{is_word, Token, tokens}
+use Rattle.mpslp_lp_tokens.specs.Token.{outside_comment, is_word, Token, tokens}
 use Rattle.mpslp_lp_tokens.specs.Words.{class_of}
 use Rattle.mpslp_lp_grammar.specs.Terminal.{Terminal, TerminalAt, word_terminal, terminal_of, line_terminals}
 use Rattle.mpslp_lp_grammar.specs.Terminal.Terminal.{Name, Number}

@@ -3,12 +3,12 @@ use Rattle.std.proofs.Common.{◌≡◌, refl}
 use Rattle.std.specs.Prelude.{ℕ, Option, Some, None, List, ◌∷◌, [], ◌++◌, codes}
 use Rattle.std.specs.Fmt.{digits}
 use Rattle.mpslp_decimal.specs.Decimal.{trailing_zeros}
-use Rattle.mpslp_builder.specs.Meaning.{whole_fault}
+use Rattle.mpslp_builder.specs.FileFault.{whole_fault}
 use Rattle.mpslp_types.specs.declared.faults.Fault.{Fault}
 use Rattle.mpslp_types.specs.declared.faults.FaultKind.{FaultKind}
 use Rattle.mpslp_types.specs.declared.faults.FaultKind.TheVariants.{BadToken, BinaryBounds, BoundsCrossed, ConstantInRow, DuplicateBound, DuplicateEntry, DuplicateRhs, DuplicateRow, Indicator, InfiniteValue, LimitsCrossed, LimitTooLarge, MissingEnd, MixedSenses, NameLikeExponent, NegativeUpper, Quadratic, RangeInexact, SectionOrder, SectionRepeated, SemiBounds, SemiContinuous, Sos}
 use Rattle.mpslp_lp_tokens.specs.Token.{Token, tokens}
-use Rattle.mpslp_lines.specs.LineAnswer.{fault_on_line}
+use Rattle.mpslp_lines.specs.FaultTests.{fault_on_line}
 use Rattle.mpslp_lp.specs.FirstFault.{first_lp_fault}
 use Rattle.mpslp_lp_tokens.specs.declared.tokens.TokenKind.{TokenKind}
 use Rattle.mpslp_lp_tokens.specs.declared.tokens.TokenKind.TheVariants.{Word, Number, Greater}

@@ -5,9 +5,8 @@ use Rattle.mpslp_types.specs.Name.{is_lp_name}
 use Rattle.mpslp_builder.specs.Declaration.{Declaration, declare_objective, declare_row, declare_column}
 use Rattle.mpslp_model_core.specs.Model.{LinearModel}
 use Rattle.mpslp_types.specs.declared.faults.Fault.{Fault}
-use Rattle.mpslp_lines.specs.LegalLine.{is_legal_byte}
-use Rattle.mpslp_lp_tokens.specs.Line.{outside_comment}
-use Rattle.mpslp_lp_tokens.specs.Token.{Token, tokens}
+use Rattle.mpslp_lines.specs.FaultTests.{is_legal_byte}
+use Rattle.mpslp_lp_tokens.specs.Token.{outside_comment, Token, tokens}
 use Rattle.mpslp_lp_tokens.specs.declared.tokens.TokenKind.{TokenKind}
 use Rattle.mpslp_lp_tokens.specs.declared.tokens.TokenKind.TheVariants.{Unknown}
 use Rattle.mpslp_lp.specs.LpText.{declarations_of, DeclaresLp}

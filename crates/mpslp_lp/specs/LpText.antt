@@ -1,15 +1,9 @@
 -- The outcome of LP text, and what it declares.
-use Rattle.std.specs.Prelude.{ℕ, Bool, true, false, IsTrue, List, [], ◌∷◌, ◌++◌, Some, None}
-use Rattle.std.specs.List.{enumerate_from}
-use Rattle.std.specs.Str.Lines.{lines}
-use Rattle.mpslp_model_core.specs.Model.{LinearModel}
-use Rattle.mpslp_builder.specs.Declaration.{Declarations, Draft}
-use Rattle.mpslp_builder.specs.Meaning.{Means}
+use Rattle.mpslp_types.specs.Basics.{ℕ, Bool, true, false, IsTrue, List, [], ◌∷◌, ◌++◌, Some, None, enumerate_from, lines}
+use Rattle.mpslp_builder.specs.Meaning.{Means, LinearModel, Declarations, Draft}
 use Rattle.mpslp_types.specs.declared.faults.Fault.{Fault}
-use Rattle.mpslp_lp_grammar.specs.Rules.{Outcome}
-use Rattle.mpslp_lp_grammar.specs.Rules.Outcome.{Finished, Refused, Open}
-use Rattle.mpslp_lp_grammar.specs.Terminal.{TerminalAt, line_terminals}
-use Rattle.mpslp_lines.specs.LineAnswer.{fault_on_line}
+use Rattle.mpslp_lp_grammar.specs.Phrase.{Outcome, Finished, Refused, Open, TerminalAt, line_terminals}
+use Rattle.mpslp_lines.specs.FaultTests.{fault_on_line}
 use Rattle.mpslp_lp_grammar.specs.Grammar.{text_says, text_declares}
 use Rattle.mpslp_lp_grammar.specs.LexicalFault.{lexical_fault}
 

@@ -3,8 +3,7 @@
 ghost use Rattle.std.specs.Prelude.{◌≡◌, ◌≤◌, ◌∷◌, length, not, if◌then◌else◌, Err, MatchResult};
 ghost use Rattle.std.specs.List.{prefix_len};
 ghost use Rattle.mpslp_types.specs.FaultOrder.{least_kind};
-ghost use Rattle.mpslp_lp_tokens.specs.Line.{begins_comment, outside_comment};
-ghost use Rattle.mpslp_lp_tokens.specs.Token.{tokens};
+ghost use Rattle.mpslp_lp_tokens.specs.Token.{begins_comment, outside_comment, tokens};
 ghost use Rattle.mpslp_lp_tokens.specs.Scan.{token_of};
 ghost use Rattle.mpslp_lp_grammar.specs.AfterToken.{Goes};
 ghost use Rattle.mpslp_lp_grammar.specs.Declares.{error_before, lesser_of, IsLeastError, TakesToken};

@@ -10,7 +10,7 @@ use Rattle.mpslp_types.specs.Name.{bytes_cmp}
 use Rattle.mpslp_types.specs.declared.faults.BuildFault.{BuildFault}
 use Rattle.mpslp_types.specs.declared.faults.BuildFault.TheVariants as builds
 use Rattle.mpslp_types.specs.declared.kinds.Limit.{Limit}
-use Rattle.mpslp_model_core.specs.Lists.{head_of, those_of}
+use Rattle.mpslp_types.specs.Lists.{head_of, those_of}
 use Rattle.mpslp_builder.specs.Answer.{Answer, Answers}
 use Rattle.mpslp_builder.specs.Declaration.{Declaration, declare_row, declare_column, declare_coefficient, has_row, has_column, has_coefficient, at_name, RowDefinition, Declarations, Draft, with_declaration, with_declarations, bounds_declared, has_name, is_objective, have_infinite_side}
 use Rattle.mpslp_builder.specs.Refusal.{refusals, refusals_in_turn}
@@ -21,7 +21,7 @@ use Rattle.mpslp_builder.proofs.SlotLemmas.{at-put}
 use Rattle.mpslp_builder.proofs.SortedDrafts.{sorted-from_made}
 use Rattle.mpslp_builder.proofs.MadeDrafts.{with_declarations-append, refusals_in_turn-append}
 use Rattle.mpslp_lines.specs.declared.errors.LineError.TheVariants.{Fault, OutOfMemory}
-use Rattle.mpslp_lines.specs.Declaring.{kind_of_build_fault}
+use Rattle.mpslp_lines.specs.FaultTests.{kind_of_build_fault}
 use Rattle.mpslp_lines.specs.ErrorOf.{error_of_build}
 use Rattle.mpslp_lines.specs.LineAnswer.{LineResult}
 use Rattle.mpslp_lines.specs.declared.errors.LineError.{LineError}

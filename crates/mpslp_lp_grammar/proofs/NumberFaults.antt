@@ -7,8 +7,7 @@ use Rattle.mpslp_decimal.specs.declared.literal.NumberFault.{NumberFault}
 use Rattle.mpslp_decimal.specs.declared.literal.NumberFault.TheVariants as numbers
 use Rattle.mpslp_types.specs.declared.faults.FaultKind.{FaultKind}
 use Rattle.mpslp_types.specs.declared.faults.FaultKind.TheVariants as kinds
-use Rattle.mpslp_lines.specs.FaultTests.{first_held}
-use Rattle.mpslp_lines.specs.Field.{number_fault, number_tests, kind_of_number_fault, is_kind}
+use Rattle.mpslp_lines.specs.FaultTests.{first_held, number_fault, number_tests, kind_of_number_fault, is_kind}
 use Rattle.std.specs.List.{list_any, cons_option}
 
 -- the tests of one literal give its error

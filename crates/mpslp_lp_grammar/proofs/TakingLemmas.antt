@@ -15,13 +15,14 @@ use Rattle.mpslp_types.specs.declared.faults.FaultKind.{FaultKind}
 use Rattle.mpslp_types.specs.declared.faults.FaultKind.TheVariants.{BadToken}
 use Rattle.mpslp_lp_grammar.specs.declared.signs.Sign.{Sign as SignOf}
 use Rattle.mpslp_lp_grammar.specs.declared.signs.Sign.TheVariants.{Plus, Minus}
-use Rattle.mpslp_lp_grammar.specs.Rules.{◌>>=◌, next, ahead, gives, follow, resume}
+use Rattle.mpslp_lp_grammar.specs.Rules.{◌>>=◌, next, ahead, gives}
+use Rattle.mpslp_lp_grammar.specs.WithinPhrase.{follow, resume}
 use Rattle.mpslp_lp_grammar.specs.Rules.Parsed.{Reads}
 use Rattle.mpslp_lp_grammar.specs.Rules.AfterPhrase.{Ends}
 use Rattle.mpslp_lp_tokens.specs.Words.{section_of}
 use Rattle.mpslp_lp_grammar.specs.Terminal.{Terminal, TerminalAt}
 use Rattle.mpslp_lp_grammar.specs.Terminal.Terminal.{Opens, Name, Number, Sign, Compares, Colon, Infinity, Free, Other}
-use Rattle.mpslp_lp_grammar.specs.Point.{section_fault, with_section}
+use Rattle.mpslp_lp_grammar.specs.Phrase.{section_fault, with_section, PhraseRule, Follows, fails, refuses, unless_refused, declares}
 use Rattle.mpslp_lp_grammar.specs.declared.context.Context.{Context}
 use Rattle.mpslp_lp_grammar.specs.PartialRow.{PartialRow}
 use Rattle.mpslp_lp_grammar.specs.declared.states.Place.{Place}
@@ -29,9 +30,7 @@ use Rattle.mpslp_lp_grammar.specs.declared.states.Place.TheVariants.{AtStart, Be
 use Rattle.mpslp_lp_grammar.specs.declared.states.LastWord.{LastWord}
 use Rattle.mpslp_lp_grammar.specs.declared.states.LastWord.TheVariants.{Continuous}
 use Rattle.std.proofs.lemmas.Bool.{eq-eqb}
-use Rattle.mpslp_lp_grammar.specs.Phrase.{PhraseRule, Follows, fails, refuses, unless_refused, declares}
-use Rattle.mpslp_lp_grammar.specs.Sides.{Side, apply_sign, infinity, fits_second, next_relation, unsigned_side, side_from, side}
-use Rattle.mpslp_lp_grammar.specs.Items.{Item, colon, item_from, signed_item, number_item, product, one}
+use Rattle.mpslp_lp_grammar.specs.Items.{Side, apply_sign, infinity, fits_second, next_relation, unsigned_side, side_from, side, Item, colon, item_from, signed_item, number_item, product, one}
 use Rattle.mpslp_lp_grammar.specs.Items.Item.{Term, Lone}
 use Rattle.mpslp_lp_grammar.specs.Objective.{default_objective, objective_declared, objective_from, objective_named, first_item_declared}
 use Rattle.mpslp_lp_grammar.specs.Rows.{default_row, without_terms, fits_left, row_after_left, row_from, row_first, row_named, row_signed, row_number, row_whole}

@@ -13,13 +13,12 @@ use Rattle.mpslp_types.specs.declared.faults.FaultKind.TheVariants.{BadToken, Du
 use Rattle.mpslp_lp_grammar.specs.declared.signs.Sign.{Sign as SignOf}
 use Rattle.mpslp_lp_grammar.specs.declared.signs.Sign.TheVariants.{Plus}
 use Rattle.mpslp_lp_grammar.specs.Terminal.{Terminal}
-use Rattle.mpslp_lines.specs.Declaring.{kind_of_build_fault}
+use Rattle.mpslp_lines.specs.FaultTests.{kind_of_build_fault}
 use Rattle.mpslp_lp_grammar.specs.declared.context.Context.{Context}
 use Rattle.mpslp_lp_grammar.specs.declared.states.Place.{Place}
 use Rattle.mpslp_lp_grammar.specs.declared.states.Place.TheVariants.{InObjective, BetweenRows, InRow, InBounds}
 use Rattle.mpslp_lp_grammar.specs.Phrase.{terminal_fault}
-use Rattle.mpslp_lp_grammar.specs.Sides.{Limits, apply_sign, infinity, limits_by}
-use Rattle.mpslp_lp_grammar.specs.Items.{one, product}
+use Rattle.mpslp_lp_grammar.specs.Items.{Limits, apply_sign, infinity, limits_by, one, product}
 use Rattle.mpslp_lp_grammar.specs.Objective.{term_declared}
 use Rattle.mpslp_lp_grammar.specs.Rows.{row_limits, row_declared}
 use Rattle.mpslp_lp_grammar.specs.declared.states.ItemOwner.{ItemOwner}

@@ -1,19 +1,10 @@
 -- Bounds: `x relation side`, `x free`, `side relation x`, `side relation x relation side`.
-use Rattle.std.specs.Prelude.{ℕ, if◌then◌else◌, List, [], ◌∷◌, ◌++◌, Option, Some, None}
+use Rattle.mpslp_types.specs.Basics.{ℕ, if◌then◌else◌, List, [], ◌∷◌, ◌++◌, Option, Some, None}
 use Rattle.mpslp_builder.specs.Declaration.{declare_column, Declarations, with_declarations, bounds_declared}
 use Rattle.mpslp_builder.specs.Refusal.{bounds_refusals}
-use Rattle.mpslp_types.specs.declared.kinds.Limit.{Limit}
-use Rattle.mpslp_types.specs.declared.kinds.Limit.TheVariants.{MinusInf, PlusInf}
-use Rattle.mpslp_types.specs.declared.faults.FaultKind.TheVariants.{BadToken, MixedSenses}
-use Rattle.mpslp_lp_grammar.specs.Rules.{◌>>=◌, next}
-use Rattle.mpslp_lp_grammar.specs.Terminal.{TerminalAt}
-use Rattle.mpslp_lp_grammar.specs.Terminal.Terminal.{Name, Compares, Free}
-use Rattle.mpslp_lp_grammar.specs.declared.context.Context.{Context}
-use Rattle.mpslp_lp_grammar.specs.declared.states.Place.{Place}
-use Rattle.mpslp_lp_grammar.specs.Phrase.{PhraseRule, Follows, refuses, unless_refused}
-use Rattle.mpslp_lp_grammar.specs.declared.states.Place.TheVariants.{InBounds}
-use Rattle.mpslp_lp_grammar.specs.Sides.{Side, Limits, limits_by, flip, fits_second, side, side_from, next_relation}
-use Rattle.mpslp_lp_grammar.specs.declared.relations.Relation.{Relation}
+use Rattle.mpslp_types.specs.declared.{kinds.Limit.Limit, kinds.Limit.TheVariants.MinusInf, kinds.Limit.TheVariants.PlusInf, faults.FaultKind.TheVariants.BadToken, faults.FaultKind.TheVariants.MixedSenses}
+use Rattle.mpslp_lp_grammar.specs.Phrase.{PhraseRule, Follows, refuses, unless_refused, ◌>>=◌, next, TerminalAt, Name, Compares, Free, Relation, Context, Place, InBounds}
+use Rattle.mpslp_lp_grammar.specs.Items.{Side, Limits, limits_by, flip, fits_second, side, side_from, next_relation}
 
 -- a token completes bounds of a column, after these declarations
 abbrev pub bound_sides : Context → Declarations → List ℕ → Limits → TerminalAt → Place → PhraseRule Follows

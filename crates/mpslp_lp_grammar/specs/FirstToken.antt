@@ -7,13 +7,12 @@ use Rattle.mpslp_types.specs.declared.faults.FaultKind.TheVariants.{BadToken, Mi
 use Rattle.mpslp_lp_tokens.specs.Words.{section_of}
 use Rattle.mpslp_lp_grammar.specs.declared.signs.Sign.TheVariants.{Plus}
 use Rattle.mpslp_lp_grammar.specs.Terminal.{Terminal}
-use Rattle.mpslp_lp_grammar.specs.Point.{section_fault, with_section}
+use Rattle.mpslp_lp_grammar.specs.Phrase.{section_fault, with_section}
 use Rattle.mpslp_lp_grammar.specs.declared.context.Context.{Context}
 use Rattle.mpslp_lp_grammar.specs.declared.states.Place.{Place}
 use Rattle.mpslp_lp_grammar.specs.declared.states.Place.TheVariants.{AtStart, BeforeItems, InObjective, BetweenRows, InRow, InBounds, InGenerals, InBinaries, InSemis}
 use Rattle.mpslp_lp_grammar.specs.declared.states.LastWord.TheVariants.{To, That}
-use Rattle.mpslp_lp_grammar.specs.Sides.{fits_second}
-use Rattle.mpslp_lp_grammar.specs.Items.{one}
+use Rattle.mpslp_lp_grammar.specs.Items.{fits_second, one}
 use Rattle.mpslp_lp_grammar.specs.Rows.{default_row, without_terms, fits_left}
 use Rattle.mpslp_lp_grammar.specs.Grammar.{may_begin_section}
 use Rattle.mpslp_lp_grammar.specs.declared.states.ItemOwner.TheVariants.{OfObjective, OfRow}

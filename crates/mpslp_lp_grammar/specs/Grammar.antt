@@ -1,30 +1,16 @@
 -- The grammar of LP text: which phrase begins with a token at a place, and the outcome of a whole text.
-use Rattle.std.specs.Prelude.{ℕ, Bool, true, false, ◌==◌, if◌then◌else◌, List, [], ◌∷◌, map, codes, Some, None}
-use Rattle.mpslp_types.specs.Name.{same_bytes, lower_byte}
+use Rattle.mpslp_types.specs.Basics.{ℕ, ◌==◌, Bool, true, false, if◌then◌else◌, List, [], ◌∷◌, map, codes, Some, None, same_bytes, lower_byte}
 use Rattle.mpslp_builder.specs.Declaration.{Declaration, declare_column, declare_integer, declare_binary, declare_semi, Declarations, Draft}
 use Rattle.mpslp_types.specs.declared.kinds.Sense.TheVariants as senses
-use Rattle.mpslp_types.specs.declared.faults.Fault.{Fault}
-use Rattle.mpslp_types.specs.declared.faults.FaultKind.TheVariants.{BadToken}
-use Rattle.mpslp_lp_grammar.specs.declared.signs.Sign.TheVariants.{Plus, Minus}
-use Rattle.mpslp_lp_grammar.specs.Rules.{◌>>=◌, next, ahead, Outcome, phrases, made_by}
-use Rattle.mpslp_lp_grammar.specs.Rules.Parsed.{Reads}
-use Rattle.mpslp_lp_grammar.specs.Rules.AfterPhrase.{Ends}
+use Rattle.mpslp_types.specs.declared.faults.{Fault.Fault, FaultKind.TheVariants.BadToken}
 use Rattle.mpslp_lp_tokens.specs.Words.{section_of}
-use Rattle.mpslp_lp_grammar.specs.Terminal.{TerminalAt}
-use Rattle.mpslp_lp_grammar.specs.Terminal.Terminal.{Opens, Name, Sign, Compares}
-use Rattle.mpslp_lp_grammar.specs.Point.{section_fault, with_section, Point, start}
-use Rattle.mpslp_lp_grammar.specs.declared.context.Context.{Context}
-use Rattle.mpslp_lp_grammar.specs.declared.states.Place.{Place}
-use Rattle.mpslp_lp_grammar.specs.Phrase.{PhraseRule, Follows, fails, refuses, goes_to, declares}
-use Rattle.mpslp_lp_grammar.specs.declared.states.Place.TheVariants.{AtStart, BeforeItems, InObjective, BetweenRows, InRow, InBounds, InGenerals, InBinaries, InSemis}
-use Rattle.mpslp_lp_grammar.specs.declared.states.LastWord.{LastWord}
-use Rattle.mpslp_lp_grammar.specs.declared.states.LastWord.TheVariants.{To, That, Continuous}
+use Rattle.mpslp_lp_grammar.specs.Phrase.{section_fault, with_section, Point, start, PhraseRule, Follows, fails, refuses, goes_to, declares, Plus, Minus, TerminalAt, Opens, Name, Sign, Compares, ◌>>=◌, next, ahead, Outcome, phrases, made_by, Reads, Ends, Context, Place, AtStart, BeforeItems, InObjective, BetweenRows, InRow, InBounds, InGenerals, InBinaries, InSemis}
+use Rattle.mpslp_lp_grammar.specs.declared.states.LastWord.{LastWord, TheVariants.To, TheVariants.That, TheVariants.Continuous}
 use Rattle.mpslp_lp_grammar.specs.Items.{signed_item, item_from}
 use Rattle.mpslp_lp_grammar.specs.Objective.{objective, objective_item}
 use Rattle.mpslp_lp_grammar.specs.Rows.{row, row_item, row_end}
 use Rattle.mpslp_lp_grammar.specs.Bounds.{bound, second_side}
-use Rattle.mpslp_lp_tokens.specs.declared.words.SectionWord.{SectionWord}
-use Rattle.mpslp_lp_tokens.specs.declared.words.SectionWord.TheVariants.{Minimize, Maximize, Rows, Subject, Such, Bounds, Generals, Binaries, Semi, Semis, End}
+use Rattle.mpslp_lp_tokens.specs.declared.words.SectionWord.{SectionWord, TheVariants.Minimize, TheVariants.Maximize, TheVariants.Rows, TheVariants.Subject, TheVariants.Such, TheVariants.Bounds, TheVariants.Generals, TheVariants.Binaries, TheVariants.Semi, TheVariants.Semis, TheVariants.End}
 
 -- ---- sections
 

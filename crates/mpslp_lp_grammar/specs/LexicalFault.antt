@@ -1,19 +1,11 @@
 -- The errors of a line on its own, whatever comes before it.
-use Rattle.std.specs.Prelude.{ℕ, List, [], ◌∷◌, ◌++◌, filter_map, Option, Some, None}
-use Rattle.mpslp_types.specs.Name.{is_like_exponent}
-use Rattle.mpslp_types.specs.FaultOrder.{least_kind}
+use Rattle.mpslp_types.specs.Basics.{ℕ, List, [], ◌∷◌, ◌++◌, filter_map, Option, Some, None, is_like_exponent, least_kind}
 use Rattle.mpslp_types.specs.declared.faults.FaultKind.{FaultKind}
 use Rattle.mpslp_types.specs.declared.faults.FaultKind.TheVariants as kinds
-use Rattle.mpslp_lines.specs.FaultTests.{first_held}
-use Rattle.mpslp_lines.specs.LegalLine.{legal_tests}
-use Rattle.mpslp_lines.specs.Field.{name_tests, number_fault}
-use Rattle.mpslp_lp_tokens.specs.Line.{outside_comment}
-use Rattle.mpslp_lp_tokens.specs.Token.{Token, tokens}
+use Rattle.mpslp_lines.specs.FaultTests.{first_held, legal_tests, name_tests, number_fault}
+use Rattle.mpslp_lp_tokens.specs.Token.{outside_comment, Token, tokens}
 use Rattle.mpslp_lp_tokens.specs.Words.{class_of}
-use Rattle.mpslp_lp_tokens.specs.declared.tokens.TokenKind.{TokenKind}
-use Rattle.mpslp_lp_tokens.specs.declared.tokens.TokenKind.TheVariants.{Word, Number, DoubleColon, Arrow, OpenBracket, CloseBracket, Caret, Star}
-use Rattle.mpslp_lp_tokens.specs.declared.words.WordClass.{WordClass}
-use Rattle.mpslp_lp_tokens.specs.declared.words.WordClass.TheVariants.{Sos, Name}
+use Rattle.mpslp_lp_tokens.specs.declared.{tokens.TokenKind.TokenKind, tokens.TokenKind.TheVariants.Word, tokens.TokenKind.TheVariants.Number, tokens.TokenKind.TheVariants.DoubleColon, tokens.TokenKind.TheVariants.Arrow, tokens.TokenKind.TheVariants.OpenBracket, tokens.TokenKind.TheVariants.CloseBracket, tokens.TokenKind.TheVariants.Caret, tokens.TokenKind.TheVariants.Star, words.WordClass.WordClass, words.WordClass.TheVariants.Sos, words.WordClass.TheVariants.Name}
 
 -- a name is legal in MPS and is not like an exponent; each byte of a word is legal in a name
 abbrev pub name_fault : List ℕ → Option FaultKind

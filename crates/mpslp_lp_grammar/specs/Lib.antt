@@ -1,9 +1,8 @@
 pub mod Rules
+pub mod WithinPhrase
 pub mod Terminal
 pub mod PartialRow
-pub mod Point
 pub mod Phrase
-pub mod Sides
 pub mod Items
 pub mod Objective
 pub mod Rows

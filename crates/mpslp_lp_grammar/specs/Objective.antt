@@ -1,17 +1,9 @@
 -- The objective: optionally `name :`, and any number of items, of which one may be a constant.
-use Rattle.std.specs.Prelude.{ℕ, List, [], ◌∷◌, ◌++◌, codes}
-use Rattle.mpslp_decimal.specs.Decimal.{Number as Decimal}
+use Rattle.mpslp_types.specs.Basics.{ℕ, List, [], ◌∷◌, ◌++◌, codes, Number as Decimal}
 use Rattle.mpslp_builder.specs.Declaration.{declare_sense, declare_objective, declare_column, declare_coefficient, declare_constant, Declarations}
-use Rattle.mpslp_types.specs.declared.kinds.Sense.{Sense}
-use Rattle.mpslp_types.specs.declared.faults.FaultKind.TheVariants.{BadToken}
-use Rattle.mpslp_lp_grammar.specs.Rules.{◌>>=◌, next, ahead}
-use Rattle.mpslp_lp_grammar.specs.Terminal.{TerminalAt}
-use Rattle.mpslp_lp_grammar.specs.Terminal.Terminal.{Opens, Name, Sign, Colon}
-use Rattle.mpslp_lp_grammar.specs.declared.context.Context.{Context}
-use Rattle.mpslp_lp_grammar.specs.Phrase.{PhraseRule, Follows, refuses, declares}
-use Rattle.mpslp_lp_grammar.specs.declared.states.Place.TheVariants.{BeforeItems, InObjective}
-use Rattle.mpslp_lp_grammar.specs.Items.{Item, one}
-use Rattle.mpslp_lp_grammar.specs.Items.Item.{Term, Lone}
+use Rattle.mpslp_types.specs.declared.{kinds.Sense.Sense, faults.FaultKind.TheVariants.BadToken}
+use Rattle.mpslp_lp_grammar.specs.Phrase.{PhraseRule, Follows, refuses, declares, ◌>>=◌, next, ahead, TerminalAt, Opens, Name, Sign, Colon, Context, BeforeItems, InObjective}
+use Rattle.mpslp_lp_grammar.specs.Items.{Item, one, Term, Lone}
 
 -- a coefficient and its column
 abbrev pub term_declared : List ℕ → List ℕ × Decimal → Declarations

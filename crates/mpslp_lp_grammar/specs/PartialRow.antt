@@ -1,6 +1,5 @@
 -- An incomplete row.
-use Rattle.std.specs.Prelude.{ℕ, List, Option}
-use Rattle.mpslp_decimal.specs.Decimal.{Number}
+use Rattle.mpslp_types.specs.Basics.{ℕ, List, Option, Number}
 use Rattle.mpslp_types.specs.declared.kinds.Limit.{Limit}
 use Rattle.mpslp_lp_grammar.specs.declared.relations.Relation.{Relation}
 

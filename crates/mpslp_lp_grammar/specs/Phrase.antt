@@ -1,21 +1,62 @@
--- The results of the rules of the grammar: the error of a token, or what follows a phrase.
-use Rattle.std.specs.Prelude.{List, [], ◌∷◌, Option, None, unwrap_or}
-use Rattle.mpslp_builder.specs.Declaration.{Declaration, Declarations, Draft, with_declarations}
+-- Where a phrase begins, and the results of the rules of the grammar: the error of a token, or what follows a phrase.
+use Rattle.mpslp_types.specs.Basics.{Bool, true, false, ◌||◌, not, if◌then◌else◌, List, [], ◌∷◌, Option, Some, None, unwrap_or}
+use Rattle.mpslp_builder.specs.Declaration.{Declaration, Declarations, Draft, with_declarations, empty_draft}
 use Rattle.mpslp_builder.specs.Refusal.{refusals_in_turn}
-use Rattle.mpslp_types.specs.declared.faults.BuildFault.{BuildFault}
-use Rattle.mpslp_types.specs.declared.faults.Fault.{Fault}
-use Rattle.mpslp_types.specs.declared.faults.FaultKind.{FaultKind}
-use Rattle.mpslp_lines.specs.LineAnswer.{fault_on_line}
-use Rattle.mpslp_lp_grammar.specs.Rules.{Rule as TokenRule, AfterPhrase, gives}
-use Rattle.mpslp_lp_grammar.specs.Rules.Parsed.{Refuses}
-use Rattle.mpslp_lp_grammar.specs.Rules.AfterPhrase.{Goes}
+use Rattle.mpslp_types.specs.declared.faults.{BuildFault.BuildFault, Fault.Fault, FaultKind.FaultKind, FaultKind.TheVariants.SectionOrder, FaultKind.TheVariants.SectionRepeated}
+use Rattle.mpslp_lines.specs.FaultTests.{fault_on_line, kind_of_build_fault}
+pub use Rattle.mpslp_lp_grammar.specs.Rules.{Rule as TokenRule, AfterPhrase, Refuses, Goes, after_taking, gives, ◌>>=◌, next, Reads, Unfinished, ahead, Outcome, phrases, made_by, Ends, Finished, Refused, Open}
 use Rattle.mpslp_lp_tokens.specs.Words.{section_of}
-use Rattle.mpslp_lp_grammar.specs.Terminal.{Terminal, TerminalAt}
-use Rattle.mpslp_lp_grammar.specs.Terminal.Terminal.{Opens}
-use Rattle.mpslp_lines.specs.Declaring.{kind_of_build_fault}
-use Rattle.mpslp_lp_grammar.specs.Point.{section_fault, Point}
-use Rattle.mpslp_lp_grammar.specs.declared.context.Context.{Context}
-use Rattle.mpslp_lp_grammar.specs.declared.states.Place.{Place}
+pub use Rattle.mpslp_lp_grammar.specs.Terminal.{Terminal, SignOf, Plus, Minus, TerminalAt, Name, Number, Sign, Colon, Compares, Infinity, Relation, AtMost, AtLeast, EqualTo, Opens, Free, line_terminals}
+use Rattle.mpslp_lp_grammar.specs.declared.sections_seen.SectionsSeen.{SectionsSeen}
+use Rattle.mpslp_lp_tokens.specs.declared.words.Section.{Section, TheVariants.Objective, TheVariants.Rows, TheVariants.Bounds, TheVariants.Generals, TheVariants.Binaries, TheVariants.SemiContinuous, TheVariants.End}
+pub use Rattle.mpslp_lp_grammar.specs.declared.{context.Context.Context, states.Place.Place, states.Place.TheVariants.BeforeItems, states.Place.TheVariants.InObjective, states.Place.TheVariants.BetweenRows, states.Place.TheVariants.InRow, states.Place.TheVariants.InBounds, states.Place.TheVariants.AtStart, states.Place.TheVariants.InGenerals, states.Place.TheVariants.InBinaries, states.Place.TheVariants.InSemis}
+
+-- ---- the sections that were opened
+
+abbrev pub no_section_seen : SectionsSeen
+no_section_seen = record { objective = false; rows = false; bounds = false; generals = false; binaries = false; semis = false; end = false }
+
+abbrev pub has_seen : SectionsSeen → Section → Bool
+has_seen sections_seen Objective = sections_seen.objective
+has_seen sections_seen Rows = sections_seen.rows
+has_seen sections_seen Bounds = sections_seen.bounds
+has_seen sections_seen Generals = sections_seen.generals
+has_seen sections_seen Binaries = sections_seen.binaries
+has_seen sections_seen SemiContinuous = sections_seen.semis
+has_seen sections_seen End = sections_seen.end
+
+abbrev pub with_section : SectionsSeen → Section → SectionsSeen
+with_section sections_seen Objective = record sections_seen { objective = true }
+with_section sections_seen Rows = record sections_seen { rows = true }
+with_section sections_seen Bounds = record sections_seen { bounds = true }
+with_section sections_seen Generals = record sections_seen { generals = true }
+with_section sections_seen Binaries = record sections_seen { binaries = true }
+with_section sections_seen SemiContinuous = record sections_seen { semis = true }
+with_section sections_seen End = record sections_seen { end = true }
+
+-- The objective is first. Bounds, Generals, Binaries and the semi-continuous section come after the rows, in any order.
+-- `end` is last.
+abbrev pub is_out_of_order : SectionsSeen → Section → Bool
+is_out_of_order sections_seen Objective = false
+is_out_of_order sections_seen Rows = not sections_seen.objective || (sections_seen.bounds || (sections_seen.generals || (sections_seen.binaries || (sections_seen.semis || sections_seen.end))))
+is_out_of_order sections_seen End = not sections_seen.objective
+is_out_of_order sections_seen _ = not sections_seen.objective || sections_seen.end
+
+abbrev pub section_fault : SectionsSeen → Section → Option FaultKind
+section_fault sections_seen section =
+    if has_seen sections_seen section then Some SectionRepeated
+    else (if is_out_of_order sections_seen section then Some SectionOrder else None)
+
+-- ---- where a phrase begins
+
+pub record Point : Type 0 where
+  pub place : Place
+  pub context : Context
+
+abbrev pub start : Point
+start = record { place = AtStart; context = record { sections_seen = no_section_seen; earlier = empty_draft } }
+
+-- ---- the rules of the grammar
 
 abbrev pub PhraseRule : Type 0 → Type 0
 PhraseRule A = TokenRule TerminalAt Fault A

@@ -1,28 +1,11 @@
 -- Rows: optionally `name :`, optionally a side and a relation, terms, a relation and a side.
-use Rattle.std.specs.Prelude.{ℕ, ◌+◌, ◌-◌, ◌^◌, min, Bool, true, false, if◌then◌else◌, List, [], ◌∷◌, ◌++◌, length, codes, Option, Some, None, unwrap_or}
-use Rattle.std.specs.List.{list_any, flat_map}
-use Rattle.std.specs.Fmt.{decimal}
-use Rattle.mpslp_types.specs.Name.{same_bytes}
-use Rattle.mpslp_types.specs.Limit.{limit_of}
+use Rattle.mpslp_types.specs.Basics.{ℕ, ◌+◌, ◌-◌, ◌^◌, min, Bool, true, if◌then◌else◌, List, [], ◌∷◌, ◌++◌, length, codes, Option, Some, None, unwrap_or, list_any, flat_map, decimal, same_bytes, limit_of}
 use Rattle.mpslp_builder.specs.Declaration.{by_limits, declare_row, Declarations}
-use Rattle.mpslp_types.specs.declared.kinds.Limit.{Limit}
-use Rattle.mpslp_types.specs.declared.kinds.Limit.TheVariants.{MinusInf, PlusInf}
-use Rattle.mpslp_types.specs.declared.faults.FaultKind.TheVariants.{BadToken, DuplicateEntry, ConstantInRow, MixedSenses}
-use Rattle.mpslp_lp_grammar.specs.declared.signs.Sign.{Sign as SignOf}
-use Rattle.mpslp_lp_grammar.specs.declared.signs.Sign.TheVariants.{Plus}
-use Rattle.mpslp_lp_grammar.specs.Rules.{◌>>=◌, next, ahead}
-use Rattle.mpslp_lp_grammar.specs.Terminal.{TerminalAt}
-use Rattle.mpslp_lp_grammar.specs.Terminal.Terminal.{Name, Number, Sign, Compares, Infinity}
-use Rattle.mpslp_lp_grammar.specs.declared.context.Context.{Context}
+use Rattle.mpslp_types.specs.declared.{kinds.Limit.Limit, kinds.Limit.TheVariants.MinusInf, kinds.Limit.TheVariants.PlusInf, faults.FaultKind.TheVariants.BadToken, faults.FaultKind.TheVariants.DuplicateEntry, faults.FaultKind.TheVariants.ConstantInRow, faults.FaultKind.TheVariants.MixedSenses}
 use Rattle.mpslp_lp_grammar.specs.PartialRow.{PartialRow}
-use Rattle.mpslp_lp_grammar.specs.Phrase.{PhraseRule, Follows, refuses, goes_to, declares}
-use Rattle.mpslp_lp_grammar.specs.declared.states.Place.TheVariants.{BetweenRows, InRow}
-use Rattle.mpslp_lp_grammar.specs.Sides.{Side, Limits, limits_by, fits_second, infinity, side, next_relation}
-use Rattle.mpslp_lp_grammar.specs.Items.{Item, one, number_item, signed_item, item_from, colon}
-use Rattle.mpslp_lp_grammar.specs.Items.Item.{Term, Lone}
+use Rattle.mpslp_lp_grammar.specs.Phrase.{PhraseRule, Follows, refuses, goes_to, declares, SignOf, Plus, TerminalAt, Name, Number, Sign, Compares, Infinity, Relation, AtMost, ◌>>=◌, next, ahead, Context, BetweenRows, InRow}
+use Rattle.mpslp_lp_grammar.specs.Items.{Side, Limits, limits_by, fits_second, infinity, side, next_relation, Item, one, number_item, signed_item, item_from, colon, Term, Lone}
 use Rattle.mpslp_lp_grammar.specs.Objective.{term_declared}
-use Rattle.mpslp_lp_grammar.specs.declared.relations.Relation.{Relation}
-use Rattle.mpslp_lp_grammar.specs.declared.relations.Relation.TheVariants.{AtMost}
 
 -- a row without a label is named `c` and its position among all rows, from 1 to at most 2^64 - 1
 abbrev pub numbered_row : (position : ℕ) → List ℕ

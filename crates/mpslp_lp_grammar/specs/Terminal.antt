@@ -1,17 +1,11 @@
 -- What the grammar of LP text sees of a token.
-use Rattle.std.specs.Prelude.{ℕ, List, map}
-use Rattle.mpslp_decimal.specs.Decimal.{Number as Decimal}
-use Rattle.mpslp_lines.specs.Field.{value_of}
+use Rattle.mpslp_types.specs.Basics.{ℕ, List, map, Number as Decimal}
+use Rattle.mpslp_lines.specs.FaultTests.{value_of}
 use Rattle.mpslp_lp_tokens.specs.Token.{Token, tokens}
 use Rattle.mpslp_lp_tokens.specs.Words.{class_of}
-use Rattle.mpslp_lp_grammar.specs.declared.signs.Sign.{Sign as SignOf}
-use Rattle.mpslp_lp_grammar.specs.declared.signs.Sign.TheVariants.{Plus, Minus}
-use Rattle.mpslp_lp_grammar.specs.declared.relations.Relation.{Relation}
-use Rattle.mpslp_lp_grammar.specs.declared.relations.Relation.TheVariants.{AtMost, AtLeast, EqualTo}
-use Rattle.mpslp_lp_tokens.specs.declared.tokens.TokenKind.{TokenKind}
+pub use Rattle.mpslp_lp_grammar.specs.declared.{signs.Sign.Sign as SignOf, signs.Sign.TheVariants.Plus, signs.Sign.TheVariants.Minus, relations.Relation.Relation, relations.Relation.TheVariants.AtMost, relations.Relation.TheVariants.AtLeast, relations.Relation.TheVariants.EqualTo}
+use Rattle.mpslp_lp_tokens.specs.declared.{tokens.TokenKind.TokenKind, words.SectionWord.SectionWord, words.WordClass.WordClass}
 use Rattle.mpslp_lp_tokens.specs.declared.tokens.TokenKind.TheVariants as kinds
-use Rattle.mpslp_lp_tokens.specs.declared.words.SectionWord.{SectionWord}
-use Rattle.mpslp_lp_tokens.specs.declared.words.WordClass.{WordClass}
 use Rattle.mpslp_lp_tokens.specs.declared.words.WordClass.TheVariants as words
 
 pub data Terminal : Type 0 where
@@ -43,13 +37,6 @@ terminal_of kinds.Colon text = Colon
 terminal_of kinds.Plus text = Sign Plus
 terminal_of kinds.Minus text = Sign Minus
 terminal_of _ text = Other
-
-abbrev pub as_terminal : Token → Terminal
-as_terminal token = terminal_of token.kind token.text
-
--- the terminals of a line
-abbrev pub terminals : List ℕ → List Terminal
-terminals line = map as_terminal (tokens line)
 
 -- a terminal, and the number of its line
 pub record TerminalAt : Type 0 where

@@ -1,12 +1,12 @@
 -- What the code sees of a token: a terminal, or the lexical error of the token.
-use Rattle.std.specs.Prelude.{◌≡◌, ℕ, List, Option, None, Some, Result, MatchResult}
+use Rattle.std.specs.Prelude.{◌≡◌, ℕ, List, Option, None, Some, Result, MatchResult, map}
 use Rattle.mpslp_types.specs.Name.{IsMpsName}
 use Rattle.mpslp_types.specs.Limit.{limit_of}
 use Rattle.mpslp_types.specs.declared.kinds.Limit.{Limit}
 use Rattle.mpslp_lp_grammar.specs.declared.signs.Sign.{Sign as SignOf}
-use Rattle.mpslp_lp_grammar.specs.Sides.{apply_sign, infinity}
+use Rattle.mpslp_lp_grammar.specs.Items.{apply_sign, infinity}
 use Rattle.mpslp_types.specs.declared.faults.FaultKind.{FaultKind}
-use Rattle.mpslp_lines.specs.Field.{value_of, number_fault}
+use Rattle.mpslp_lines.specs.FaultTests.{value_of, number_fault}
 use Rattle.mpslp_lp_tokens.specs.Words.{class_of}
 use Rattle.mpslp_lp_grammar.specs.Terminal.{Terminal, word_terminal, terminal_of}
 use Rattle.mpslp_lp_grammar.specs.LexicalFault.{word_fault, token_fault}
@@ -14,6 +14,7 @@ use Rattle.mpslp_lp_grammar.specs.declared.terminals.TerminalToken.{TerminalToke
 use Rattle.mpslp_lp_grammar.specs.declared.terminals.TerminalKind.{TerminalKind}
 use Rattle.mpslp_lp_grammar.specs.declared.terminals.TerminalKind.TheVariants.{Opens, Name, Number, Sign, Compares, Colon, Infinity, Free, Other}
 use Rattle.mpslp_lp_tokens.specs.declared.tokens.TokenKind.{TokenKind}
+use Rattle.mpslp_lp_tokens.specs.Token.{Token, tokens}
 
 -- the terminal; a name has this text
 abbrev pub terminal_with_text : TerminalKind → List ℕ → Terminal
@@ -61,3 +62,10 @@ IsTerminalOf kind text answer =
     MatchResult answer
     (λ token. (token_fault kind text ≡ None) × (terminal_with_text token text ≡ terminal_of kind text) × HasLegalNameKind token text)
     (λ fault. token_fault kind text ≡ Some fault)
+
+abbrev pub as_terminal : Token → Terminal
+as_terminal token = terminal_of token.kind token.text
+
+-- the terminals of a line
+abbrev pub terminals : List ℕ → List Terminal
+terminals line = map as_terminal (tokens line)

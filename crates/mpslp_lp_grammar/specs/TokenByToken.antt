@@ -9,12 +9,12 @@ use Rattle.mpslp_lp_grammar.specs.declared.states.SideOwner.{SideOwner}
 use Rattle.mpslp_lp_grammar.specs.declared.states.SideOwner.TheVariants.{SideOfRow, SideOfBound}
 use Rattle.mpslp_lp_grammar.specs.declared.states.State.{State}
 use Rattle.mpslp_lp_grammar.specs.declared.states.State.TheVariants.{Between, AtObjective, ObjectiveName, AtLastWord, AtSemi, Signs, ItemNumber, RowName, RowLabel, RowSign, RowNumber, RowLeft, RowLeftRelation, BoundName, BoundSign, BoundLeft, BoundLeftRelation, AtSide, SideSign, AfterEnd}
-use Rattle.mpslp_lp_grammar.specs.Rules.{◌>>=◌, next, ahead, Outcome, phrases, resume}
+use Rattle.mpslp_lp_grammar.specs.Rules.{◌>>=◌, next, ahead, Outcome, phrases}
+use Rattle.mpslp_lp_grammar.specs.WithinPhrase.{resume}
 use Rattle.mpslp_lp_grammar.specs.Terminal.{TerminalAt}
 use Rattle.mpslp_lp_grammar.specs.declared.context.Context.{Context}
 use Rattle.mpslp_lp_grammar.specs.Phrase.{PhraseRule, Follows}
-use Rattle.mpslp_lp_grammar.specs.Sides.{unsigned_side, side, next_relation}
-use Rattle.mpslp_lp_grammar.specs.Items.{Item, number_item, signed_item, colon}
+use Rattle.mpslp_lp_grammar.specs.Items.{unsigned_side, side, next_relation, Item, number_item, signed_item, colon}
 use Rattle.mpslp_lp_grammar.specs.Objective.{objective_item, objective_named, objective}
 use Rattle.mpslp_lp_grammar.specs.Rows.{row_item, row_first, row_after_left, row_number, row_signed, row_from, row_named, row_whole}
 use Rattle.mpslp_lp_grammar.specs.Bounds.{bound_right, bound_after, bound_column, bound_left}

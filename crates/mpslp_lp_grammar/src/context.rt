@@ -1,7 +1,7 @@
 //! The context of a phrase: what earlier tokens mean for it.
 
 ghost use Rattle.std.specs.Prelude.{◌≡◌};
-ghost use Rattle.mpslp_lp_grammar.specs.Point.{start};
+ghost use Rattle.mpslp_lp_grammar.specs.Phrase.{start};
 
 use crate::lp_builder::LpBuilder;
 use crate::sections_seen::SectionsSeen;

@@ -1,13 +1,12 @@
 //! The first token of a phrase.
 
-ghost use Rattle.std.specs.Prelude.{◌≡◌};
+ghost use Rattle.std.specs.Prelude.{◌≡◌, List};
 ghost use Rattle.mpslp_types.specs.Name.{IsMpsName};
 ghost use Rattle.mpslp_builder.specs.Declaration.{Declarations, Draft};
 ghost use Rattle.mpslp_types.specs.declared.faults.BuildFault.{BuildFault};
 ghost use Rattle.mpslp_lp_grammar.specs.declared.context.Context.{Context};
 ghost use Rattle.mpslp_lp_grammar.specs.declared.states.Place.{Place};
 ghost use Rattle.mpslp_lp_grammar.specs.Grammar.{may_begin_section};
-ghost use Rattle.std.specs.Prelude.{List};
 ghost use Rattle.mpslp_lp_grammar.specs.Rows.{default_row};
 ghost use Rattle.mpslp_lp_grammar.specs.TerminalToken.{HasLegalName, terminal_of_token};
 ghost use Rattle.mpslp_lp_grammar.specs.Declares.{DeclaresUnless, TakesToken};

@@ -2,7 +2,7 @@
 
 ghost use Rattle.std.specs.Prelude.{◌≡◌, IsTrue};
 ghost use Rattle.mpslp_types.specs.Limit.{is_given, limit_of};
-ghost use Rattle.mpslp_lp_grammar.specs.Sides.{infinity};
+ghost use Rattle.mpslp_lp_grammar.specs.Items.{infinity};
 
 use crate::signs::Sign;
 use mpslp_decimal::Decimal;

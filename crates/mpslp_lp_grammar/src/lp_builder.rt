@@ -13,7 +13,7 @@ ghost use Rattle.mpslp_lp_grammar.specs.Objective.{default_objective, term_decla
 ghost use Rattle.mpslp_lp_grammar.specs.Rows.{numbered_row, without_terms};
 ghost use Rattle.std.specs.List.{flat_map};
 ghost use Rattle.mpslp_lp_grammar.specs.TokenByToken.{new_column};
-ghost use Rattle.mpslp_lp_grammar.specs.Sides.{limits_by};
+ghost use Rattle.mpslp_lp_grammar.specs.Items.{limits_by};
 ghost use Rattle.mpslp_lp_grammar.specs.Declares.{Declares, DeclaresBounds, DeclaresSides};
 
 use crate::given_limit::GivenLimit;

@@ -1,12 +1,11 @@
 //! Rows, token by token.
 
-ghost use Rattle.std.specs.Prelude.{◌≡◌, None, MatchResult};
+ghost use Rattle.std.specs.Prelude.{◌≡◌, None, MatchResult, IsTrue, unwrap_or};
 ghost use Rattle.mpslp_lp_grammar.specs.Rows.{fits_left, row_limits, row_declared, without_terms};
 ghost use Rattle.mpslp_lines.specs.declared.errors.LineError.{LineError};
-ghost use Rattle.mpslp_lp_grammar.specs.Sides.{fits_second};
+ghost use Rattle.mpslp_lp_grammar.specs.Items.{fits_second};
 ghost use Rattle.mpslp_lp_grammar.specs.TerminalToken.{HasLegalName, terminal_of_token};
 ghost use Rattle.mpslp_lp_grammar.specs.Declares.{TakesToken};
-ghost use Rattle.std.specs.Prelude.{IsTrue, unwrap_or};
 ghost use Rattle.mpslp_types.specs.Limit.{is_given};
 ghost use Rattle.mpslp_types.specs.declared.kinds.Limit.{Limit};
 ghost use Rattle.mpslp_lp_grammar.specs.Phrase.{terminal_fault};

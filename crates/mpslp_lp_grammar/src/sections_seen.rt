@@ -1,7 +1,7 @@
 //! The sections that were opened.
 
 ghost use Rattle.std.specs.Prelude.{◌≡◌};
-ghost use Rattle.mpslp_lp_grammar.specs.Point.{has_seen, with_section, is_out_of_order, section_fault};
+ghost use Rattle.mpslp_lp_grammar.specs.Phrase.{has_seen, with_section, is_out_of_order, section_fault};
 
 use mpslp_lp_tokens::Section;
 use mpslp_model::FaultKind;

@@ -1,7 +1,7 @@
 //! The left-hand and right-hand sides of rows and bounds, token by token.
 
 ghost use Rattle.std.specs.Prelude.{◌≡◌};
-ghost use Rattle.mpslp_lp_grammar.specs.Sides.{Limits, limits_by, flip};
+ghost use Rattle.mpslp_lp_grammar.specs.Items.{Limits, limits_by, flip};
 ghost use Rattle.mpslp_lp_grammar.specs.Bounds.{no_limits};
 ghost use Rattle.mpslp_lp_grammar.specs.TerminalToken.{limit_of_terminal, terminal_of_token};
 

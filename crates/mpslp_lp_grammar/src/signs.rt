@@ -1,8 +1,7 @@
 //! Signs of items and sides.
 
 ghost use Rattle.std.specs.Prelude.{◌≡◌};
-ghost use Rattle.mpslp_lp_grammar.specs.Items.{product};
-ghost use Rattle.mpslp_lp_grammar.specs.Sides.{apply_sign};
+ghost use Rattle.mpslp_lp_grammar.specs.Items.{product, apply_sign};
 
 use mpslp_decimal::Decimal;
 

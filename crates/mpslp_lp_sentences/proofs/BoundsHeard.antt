@@ -16,7 +16,7 @@ use Rattle.mpslp_lp_grammar.specs.declared.relations.Relation.TheVariants.{AtMos
 use Rattle.mpslp_lp_grammar.specs.declared.states.Place.{Place}
 use Rattle.mpslp_lp_grammar.specs.declared.states.Place.TheVariants.{InBounds}
 use Rattle.mpslp_lp_grammar.specs.Phrase.{declares}
-use Rattle.mpslp_lp_grammar.specs.Sides.{Limits, limits_by, flip, side_from}
+use Rattle.mpslp_lp_grammar.specs.Items.{Limits, limits_by, flip, side_from}
 use Rattle.mpslp_lp_grammar.specs.Bounds.{bound_sides, no_limits, bound_right, bound_after, bound_column, bound_left}
 use Rattle.mpslp_lp_grammar.specs.Grammar.{may_begin_section, phrase_at}
 use Rattle.mpslp_canonical_lp.specs.PrintedDeclarations.{point_at}

@@ -8,7 +8,7 @@ use Rattle.std.specs.Cmp.{first_so, second_so}
 use Rattle.std.specs.FinMap.{put}
 use Rattle.std.proofs.lemmas.List.Folds.{list_all-append}
 use Rattle.mpslp_decimal.specs.Decimal.{Number as Decimal}
-use Rattle.mpslp_types.specs.Limit.{limit_of}
+use Rattle.mpslp_types.specs.Limit.{limit_of, is_plus_infinite, is_minus_infinite}
 use Rattle.mpslp_types.specs.Name.{same_bytes, bytes_cmp}
 use Rattle.mpslp_types.specs.declared.faults.BuildFault.{BuildFault}
 use Rattle.mpslp_types.specs.declared.faults.BuildFault.TheVariants as builds
@@ -17,15 +17,14 @@ use Rattle.mpslp_types.specs.declared.faults.FaultKind.TheVariants as kinds
 use Rattle.mpslp_types.specs.declared.kinds.Limit.{Limit}
 use Rattle.mpslp_types.specs.declared.kinds.Sense.{Sense}
 use Rattle.mpslp_types.specs.declared.kinds.Limit.TheVariants.{PlusInf}
-use Rattle.mpslp_types.specs.Limit.{is_plus_infinite, is_minus_infinite}
 use Rattle.mpslp_types.proofs.BoolLemmas.{both_so, or_left, or_right, so_not, either}
-use Rattle.mpslp_model_core.specs.Lists.{those_of}
+use Rattle.mpslp_types.specs.Lists.{those_of}
 use Rattle.mpslp_builder.specs.Consistency.{has_objective_rhs}
 use Rattle.mpslp_builder.specs.Declaration.{Declaration, Declarations, Draft, empty_draft, with_declaration, with_declarations, declare_sense, declare_objective, declare_constant, declare_row, declare_rhs, declare_range, declare_column, declare_coefficient, declare_lower, declare_upper, declare_marked, declare_integer, declare_binary, declare_semi, bounds_declared, has_name, has_column, is_integer, is_semi}
 use Rattle.mpslp_builder.specs.Refusal.{has_constant, refusals_in_turn}
 use Rattle.mpslp_builder.proofs.LaterDrafts.{itself_named}
 use Rattle.mpslp_builder.proofs.SlotLemmas.{has-put, same_name}
-use Rattle.mpslp_lines.specs.Declaring.{kind_of_build_fault}
+use Rattle.mpslp_lines.specs.FaultTests.{kind_of_build_fault}
 use Rattle.mpslp_lp_tokens.specs.Words.{section_of}
 use Rattle.mpslp_lp_tokens.specs.declared.words.Section.{Section}
 use Rattle.mpslp_lp_tokens.specs.declared.words.Section.TheVariants.{Objective, Bounds, Generals, Binaries, SemiContinuous}
@@ -47,12 +46,11 @@ use Rattle.mpslp_lp_grammar.specs.AfterToken.{AfterToken, Goes, Refuses, refuse,
 use Rattle.mpslp_lp_grammar.specs.Bounds.{no_limits}
 use Rattle.mpslp_lp_grammar.specs.FirstToken.{after_section_word, open_section, begin_row, take_second_relation, begin_phrase, begin}
 use Rattle.mpslp_lp_grammar.specs.Grammar.{opened_by, may_begin_section, is_last_word}
-use Rattle.mpslp_lp_grammar.specs.Items.{one}
+use Rattle.mpslp_lp_grammar.specs.Items.{one, apply_sign, infinity, fits_second, Limits, limits_by, flip}
 use Rattle.mpslp_lp_grammar.specs.Objective.{term_declared, objective_declared, default_objective, first_item_declared}
 use Rattle.mpslp_lp_grammar.specs.PartialRow.{PartialRow}
-use Rattle.mpslp_lp_grammar.specs.Point.{start, has_seen, with_section, is_out_of_order}
+use Rattle.mpslp_lp_grammar.specs.Phrase.{start, has_seen, with_section, is_out_of_order}
 use Rattle.mpslp_lp_grammar.specs.Rows.{default_row, without_terms, fits_left, row_limits, row_declared}
-use Rattle.mpslp_lp_grammar.specs.Sides.{apply_sign, infinity, fits_second, Limits, limits_by, flip}
 use Rattle.mpslp_lp_grammar.specs.Terminal.{Terminal}
 use Rattle.mpslp_lp_grammar.specs.Terminal.Terminal.{Opens, Name, Number, Sign, Compares, Colon, Infinity, Free}
 use Rattle.mpslp_lp_grammar.specs.TokenByToken.{new_column}

@@ -6,7 +6,7 @@ use Rattle.std.specs.Option.{option_map_or}
 use Rattle.std.proofs.lemmas.List.{append-nil}
 use Rattle.std.proofs.lemmas.List.Folds.{list_any-append}
 use Rattle.mpslp_decimal.specs.Decimal.{Number as Decimal}
-use Rattle.mpslp_types.specs.Limit.{limit_of}
+use Rattle.mpslp_types.specs.Limit.{limit_of, is_plus_infinite, is_minus_infinite}
 use Rattle.mpslp_types.specs.Name.{same_bytes}
 use Rattle.mpslp_types.specs.declared.faults.BuildFault.{BuildFault}
 use Rattle.mpslp_types.specs.declared.faults.BuildFault.TheVariants as builds
@@ -15,15 +15,14 @@ use Rattle.mpslp_types.specs.declared.faults.FaultKind.TheVariants as kinds
 use Rattle.mpslp_types.specs.declared.kinds.Limit.{Limit}
 use Rattle.mpslp_types.specs.declared.kinds.Sense.{Sense}
 use Rattle.mpslp_types.specs.declared.kinds.Limit.TheVariants.{MinusInf, PlusInf}
-use Rattle.mpslp_types.specs.Limit.{is_plus_infinite, is_minus_infinite}
 use Rattle.mpslp_types.proofs.BoolLemmas.{both_so, or_left, or_right}
-use Rattle.mpslp_model_core.specs.Lists.{those_of}
+use Rattle.mpslp_types.specs.Lists.{those_of}
 use Rattle.mpslp_builder.specs.Declaration.{RowDefinition, Declaration, Declarations, Draft, by_limits, empty_draft, with_declaration, with_declarations, declare_constant, declare_row, declare_column, declare_integer, declare_binary, declare_semi, bounds_declared, has_name, has_coefficient, has_column, has_row, is_objective, have_infinite_side}
 use Rattle.mpslp_builder.specs.Refusal.{refusals_in_turn}
 use Rattle.mpslp_builder.proofs.LaterDrafts.{itself_named}
 use Rattle.mpslp_builder.proofs.SlotLemmas.{has-put, has-put_key, same_name}
 use Rattle.mpslp_model_core.specs.Model.{CoefficientKey}
-use Rattle.mpslp_lines.specs.Declaring.{kind_of_build_fault}
+use Rattle.mpslp_lines.specs.FaultTests.{kind_of_build_fault}
 use Rattle.mpslp_lp_tokens.specs.Words.{section_of}
 use Rattle.mpslp_lp_tokens.specs.declared.words.Section.{Section}
 use Rattle.mpslp_lp_tokens.specs.declared.words.Section.TheVariants.{Objective, Rows}
@@ -46,12 +45,11 @@ use Rattle.mpslp_lp_grammar.specs.AfterToken.{AfterToken, Goes, Refuses, refuse,
 use Rattle.mpslp_lp_grammar.specs.Bounds.{no_limits}
 use Rattle.mpslp_lp_grammar.specs.FirstToken.{after_section_word, open_section, begin_row, take_second_relation, name_taken, begin_phrase, begin}
 use Rattle.mpslp_lp_grammar.specs.Grammar.{opened_by, may_begin_section, is_last_word}
-use Rattle.mpslp_lp_grammar.specs.Items.{one}
+use Rattle.mpslp_lp_grammar.specs.Items.{one, apply_sign, infinity, fits_second, Limits, limits_by, flip}
 use Rattle.mpslp_lp_grammar.specs.Objective.{term_declared, objective_declared, default_objective, first_item_declared}
 use Rattle.mpslp_lp_grammar.specs.PartialRow.{PartialRow}
-use Rattle.mpslp_lp_grammar.specs.Point.{start, has_seen, with_section, is_out_of_order}
+use Rattle.mpslp_lp_grammar.specs.Phrase.{start, has_seen, with_section, is_out_of_order}
 use Rattle.mpslp_lp_grammar.specs.Rows.{default_row, without_terms, fits_left, row_limits, row_declared}
-use Rattle.mpslp_lp_grammar.specs.Sides.{apply_sign, infinity, fits_second, Limits, limits_by, flip}
 use Rattle.mpslp_lp_grammar.specs.Terminal.{Terminal}
 use Rattle.mpslp_lp_grammar.specs.Terminal.Terminal.{Opens, Name, Number, Sign, Compares, Colon, Infinity, Free, Other}
 use Rattle.mpslp_lp_grammar.specs.TokenByToken.{new_column}

@@ -10,12 +10,13 @@ use Rattle.mpslp_types.specs.declared.faults.FaultKind.{FaultKind}
 use Rattle.mpslp_types.specs.declared.faults.FaultKind.TheVariants as kinds
 use Rattle.mpslp_types.proofs.BoolLemmas.{both_so}
 use Rattle.mpslp_builder.specs.Declaration.{Draft}
-use Rattle.mpslp_builder.specs.Meaning.{whole_fault}
-use Rattle.mpslp_lines.specs.LineAnswer.{fault_on_line}
+use Rattle.mpslp_builder.specs.FileFault.{whole_fault}
+use Rattle.mpslp_lines.specs.FaultTests.{fault_on_line}
 use Rattle.mpslp_lp_grammar.specs.Rules.{Outcome}
 use Rattle.mpslp_lp_grammar.specs.Rules.Outcome.{Finished, Refused, Open}
-use Rattle.mpslp_lp_grammar.specs.Terminal.{Terminal, terminals}
-use Rattle.mpslp_lp_grammar.specs.Point.{start}
+use Rattle.mpslp_lp_grammar.specs.Terminal.{Terminal}
+use Rattle.mpslp_lp_grammar.specs.TerminalToken.{terminals}
+use Rattle.mpslp_lp_grammar.specs.Phrase.{start}
 use Rattle.mpslp_lp_grammar.specs.AfterToken.{AfterToken, Goes, Refuses}
 use Rattle.mpslp_lp_grammar.specs.TokenStep.{take, at_end, is_at_end}
 use Rattle.mpslp_lp_grammar.specs.LexicalFault.{lexical_fault}

@@ -12,13 +12,10 @@ use Rattle.mpslp_lp_grammar.specs.declared.relations.Relation.{Relation}
 use Rattle.mpslp_lp_grammar.specs.Rules.{◌>>=◌, gives, next, ahead}
 use Rattle.mpslp_lp_grammar.specs.Terminal.{Terminal, TerminalAt}
 use Rattle.mpslp_lp_grammar.specs.Terminal.Terminal.{Name, Number, Sign, Compares, Infinity}
-use Rattle.mpslp_lp_grammar.specs.Point.{Point}
+use Rattle.mpslp_lp_grammar.specs.Phrase.{Point, PhraseRule, Follows, goes_to, unless_refused}
 use Rattle.mpslp_lp_grammar.specs.declared.context.Context.{Context}
 use Rattle.mpslp_lp_grammar.specs.declared.states.Place.{Place}
-use Rattle.mpslp_lp_grammar.specs.Phrase.{PhraseRule, Follows, goes_to, unless_refused}
-use Rattle.mpslp_lp_grammar.specs.Sides.{Side as SideOf, apply_sign, unsigned_side, side_from, side as side_rule, next_relation}
-use Rattle.mpslp_lp_grammar.specs.Items.{Item, product, number_item, signed_item, item_from}
-use Rattle.mpslp_lp_grammar.specs.Items.{Item as items}
+use Rattle.mpslp_lp_grammar.specs.Items.{Side as SideOf, apply_sign, unsigned_side, side_from, side as side_rule, next_relation, Item, product, number_item, signed_item, item_from, Item as items}
 use Rattle.mpslp_lp_grammar.specs.Grammar.{phrase_at}
 use Rattle.mpslp_canonical_lp.specs.PrintedDeclarations.{point_at}
 use Rattle.mpslp_canonical_lp.proofs.TerminalLemmas.{at}

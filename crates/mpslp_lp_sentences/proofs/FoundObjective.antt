@@ -10,12 +10,11 @@ use Rattle.mpslp_lp_grammar.specs.declared.signs.Sign.{Sign as SignOf}
 use Rattle.mpslp_lp_grammar.specs.Rules.{ahead, ◌>>=◌}
 use Rattle.mpslp_lp_grammar.specs.Terminal.{Terminal, TerminalAt}
 use Rattle.mpslp_lp_grammar.specs.Terminal.Terminal.{Opens, Name, Number, Sign, Colon}
-use Rattle.mpslp_lp_grammar.specs.Point.{start}
+use Rattle.mpslp_lp_grammar.specs.Phrase.{start, declares}
 use Rattle.mpslp_lp_grammar.specs.declared.sections_seen.SectionsSeen.{SectionsSeen}
 use Rattle.mpslp_lp_grammar.specs.declared.context.Context.{Context}
 use Rattle.mpslp_lp_grammar.specs.declared.states.Place.{Place}
 use Rattle.mpslp_lp_grammar.specs.declared.states.Place.TheVariants.{BeforeItems, InObjective}
-use Rattle.mpslp_lp_grammar.specs.Phrase.{declares}
 use Rattle.mpslp_lp_grammar.specs.Items.{Item as items}
 use Rattle.mpslp_lp_grammar.specs.Objective.{objective_item, objective_declared, default_objective, first_item_declared, objective_named, objective_from, objective as objective_rule}
 use Rattle.mpslp_lp_grammar.specs.Grammar.{may_begin_section}

@@ -16,7 +16,7 @@ use Rattle.mpslp_lp_grammar.specs.declared.relations.Relation.{Relation}
 use Rattle.mpslp_lp_grammar.specs.declared.relations.Relation.TheVariants.{AtMost, AtLeast, EqualTo}
 use Rattle.mpslp_lp_grammar.specs.declared.states.Place.{Place}
 use Rattle.mpslp_lp_grammar.specs.declared.states.Place.TheVariants.{InBounds}
-use Rattle.mpslp_lp_grammar.specs.Sides.{Limits, limits_by, flip, side as side_rule}
+use Rattle.mpslp_lp_grammar.specs.Items.{Limits, limits_by, flip, side as side_rule}
 use Rattle.mpslp_lp_grammar.specs.Bounds.{bound_sides, no_limits, bound_right, bound_after, bound_column, bound_left}
 use Rattle.mpslp_lp_grammar.specs.Grammar.{name_in_section, phrase_at}
 use Rattle.mpslp_lp_tokens.specs.declared.words.SectionWord.{SectionWord}

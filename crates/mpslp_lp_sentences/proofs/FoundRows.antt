@@ -24,10 +24,8 @@ use Rattle.mpslp_lp_grammar.specs.declared.states.Place.{Place}
 use Rattle.mpslp_lp_grammar.specs.declared.states.Place.TheVariants.{BetweenRows, InRow}
 use Rattle.mpslp_lp_grammar.specs.PartialRow.{PartialRow}
 use Rattle.mpslp_lp_grammar.specs.Phrase.{refuses, goes_to}
-use Rattle.mpslp_lp_grammar.specs.Sides.{side as side_rule}
-use Rattle.mpslp_lp_grammar.specs.Sides as rules
-use Rattle.mpslp_lp_grammar.specs.Items.{number_item, colon}
-use Rattle.mpslp_lp_grammar.specs.Items.{Item as items}
+use Rattle.mpslp_lp_grammar.specs.Items.{side as side_rule, number_item, colon, Item as items}
+use Rattle.mpslp_lp_grammar.specs.Items as rules
 use Rattle.mpslp_lp_grammar.specs.Rows.{default_row, without_terms, row_item, row_first, row_after_left, row_number, row_signed, row_from, row_named, fits_left, row_limits, row_declared, row_whole, row_end}
 use Rattle.mpslp_canonical_lp.specs.PrintedDeclarations.{point_at}
 use Rattle.mpslp_canonical_lp.proofs.TerminalLemmas.{at}

@@ -13,10 +13,8 @@ use Rattle.mpslp_lp_grammar.specs.Terminal.Terminal.{Opens, Name, Number, Sign, 
 use Rattle.mpslp_lp_grammar.specs.declared.context.Context.{Context}
 use Rattle.mpslp_lp_grammar.specs.declared.relations.Relation.{Relation}
 use Rattle.mpslp_lp_grammar.specs.Phrase.{PhraseRule, Follows}
-use Rattle.mpslp_lp_grammar.specs.Sides.{Side as SideOf, apply_sign, unsigned_side, side_from, side as side_rule, next_relation}
-use Rattle.mpslp_lp_grammar.specs.Sides as rules
-use Rattle.mpslp_lp_grammar.specs.Items.{Item, product, number_item, signed_item, item_from}
-use Rattle.mpslp_lp_grammar.specs.Items.{Item as items}
+use Rattle.mpslp_lp_grammar.specs.Items.{Side as SideOf, apply_sign, unsigned_side, side_from, side as side_rule, next_relation, Item, product, number_item, signed_item, item_from, Item as items}
+use Rattle.mpslp_lp_grammar.specs.Items as rules
 use Rattle.mpslp_lp_tokens.specs.declared.words.SectionWord.TheVariants as words
 use Rattle.mpslp_canonical_lp.proofs.TerminalLemmas.{at}
 use Rattle.mpslp_lp_sentences.specs.Phrases.{Side}

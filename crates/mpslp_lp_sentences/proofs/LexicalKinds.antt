@@ -13,14 +13,11 @@ use Rattle.mpslp_types.specs.FaultOrder.{kind_rank, least_kind}
 use Rattle.mpslp_types.specs.declared.faults.Fault.{Fault}
 use Rattle.mpslp_types.specs.declared.faults.FaultKind.{FaultKind}
 use Rattle.mpslp_types.specs.declared.faults.FaultKind.TheVariants as kinds
-use Rattle.mpslp_model_core.specs.Lists.{is_nonempty, head_of}
+use Rattle.mpslp_types.specs.Lists.{is_nonempty, head_of}
 use Rattle.mpslp_builder.specs.Declaration.{Draft}
-use Rattle.mpslp_builder.specs.Meaning.{named_kinds, whole_fault, names_with, named_faults, file_fault}
-use Rattle.mpslp_lines.specs.Field.{is_kind, number_fault, kind_of_number_fault}
-use Rattle.mpslp_lines.specs.FaultTests.{FaultTests, first_held}
-use Rattle.mpslp_lines.specs.LegalLine.{has_legal_length, is_legal_byte}
-use Rattle.mpslp_lp_tokens.specs.Line.{outside_comment}
-use Rattle.mpslp_lp_tokens.specs.Token.{Token, tokens}
+use Rattle.mpslp_builder.specs.FileFault.{named_kinds, whole_fault, names_with, named_faults, file_fault}
+use Rattle.mpslp_lines.specs.FaultTests.{is_kind, number_fault, kind_of_number_fault, FaultTests, first_held, has_legal_length, is_legal_byte}
+use Rattle.mpslp_lp_tokens.specs.Token.{outside_comment, Token, tokens}
 use Rattle.mpslp_lp_tokens.specs.Words.{class_of}
 use Rattle.mpslp_lp_tokens.specs.declared.tokens.TokenKind.{TokenKind}
 use Rattle.mpslp_lp_tokens.specs.declared.tokens.TokenKind.TheVariants.{Word, Number as ANumber, DoubleColon, Arrow, OpenBracket, CloseBracket, Caret, Star}

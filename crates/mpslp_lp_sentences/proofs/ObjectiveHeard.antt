@@ -14,13 +14,11 @@ use Rattle.mpslp_lp_grammar.specs.declared.signs.Sign.TheVariants.{Plus}
 use Rattle.mpslp_lp_grammar.specs.Rules.{◌>>=◌, ahead}
 use Rattle.mpslp_lp_grammar.specs.Terminal.{Terminal}
 use Rattle.mpslp_lp_grammar.specs.Terminal.Terminal.{Opens, Name, Number, Sign, Colon}
-use Rattle.mpslp_lp_grammar.specs.Point.{start, no_section_seen, with_section}
+use Rattle.mpslp_lp_grammar.specs.Phrase.{start, no_section_seen, with_section, declares}
 use Rattle.mpslp_lp_grammar.specs.declared.sections_seen.SectionsSeen.{SectionsSeen}
 use Rattle.mpslp_lp_grammar.specs.declared.context.Context.{Context}
 use Rattle.mpslp_lp_grammar.specs.declared.states.Place.TheVariants.{AtStart, BeforeItems, InObjective}
-use Rattle.mpslp_lp_grammar.specs.Phrase.{declares}
-use Rattle.mpslp_lp_grammar.specs.Items.{signed_item}
-use Rattle.mpslp_lp_grammar.specs.Items.{Item as items}
+use Rattle.mpslp_lp_grammar.specs.Items.{signed_item, Item as items}
 use Rattle.mpslp_lp_grammar.specs.Objective.{objective_item, objective_declared, default_objective, first_item_declared, objective_named, objective_from, objective as objective_rule}
 use Rattle.mpslp_lp_tokens.specs.declared.words.Section.TheVariants as sections
 use Rattle.mpslp_lp_tokens.specs.declared.words.SectionWord.TheVariants as words

@@ -11,11 +11,10 @@ use Rattle.mpslp_types.specs.declared.faults.BuildFault.{BuildFault}
 use Rattle.mpslp_types.specs.declared.faults.FaultKind.{FaultKind}
 use Rattle.mpslp_types.specs.declared.faults.FaultKind.TheVariants as kinds
 use Rattle.mpslp_types.proofs.BoolLemmas.{true_from}
-use Rattle.mpslp_model_core.specs.Lists.{those_of}
+use Rattle.mpslp_types.specs.Lists.{those_of}
 use Rattle.mpslp_builder.specs.Declaration.{Declarations, Draft, with_declaration, with_declarations}
 use Rattle.mpslp_builder.specs.Refusal.{refusal_tests, refusals, refusals_in_turn}
-use Rattle.mpslp_lines.specs.Declaring.{kind_of_build_fault}
-use Rattle.mpslp_lines.specs.Field.{is_kind}
+use Rattle.mpslp_lines.specs.FaultTests.{kind_of_build_fault, is_kind}
 use Rattle.mpslp_lp_grammar.specs.Objective.{term_declared}
 
 -- one of the tests of this kind fails

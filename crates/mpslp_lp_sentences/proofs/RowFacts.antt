@@ -8,7 +8,7 @@ use Rattle.std.specs.FinMap.Entries.{length-put}
 use Rattle.mpslp_decimal.specs.Decimal.{Number as Decimal}
 use Rattle.mpslp_types.specs.Name.{same_bytes, bytes_cmp}
 use Rattle.mpslp_types.proofs.BoolLemmas.{nor}
-use Rattle.mpslp_model_core.specs.Lists.{those_of}
+use Rattle.mpslp_types.specs.Lists.{those_of}
 use Rattle.mpslp_builder.specs.Declaration.{RowDefinition, Draft, declare_row, declare_column, with_declaration, with_declarations, has_name, has_row, has_column, has_coefficient, is_objective, have_infinite_side}
 use Rattle.mpslp_builder.specs.Refusal.{refusals_in_turn}
 use Rattle.mpslp_types.specs.declared.faults.BuildFault.TheVariants as builds

@@ -15,7 +15,7 @@ use Rattle.mpslp_types.specs.declared.kinds.Limit.TheVariants.{PlusInf}
 use Rattle.mpslp_builder.specs.Declaration.{Declarations, Draft, empty_draft, with_declarations, declare_constant, declare_column, declare_integer, declare_binary, declare_semi}
 use Rattle.mpslp_builder.specs.Refusal.{refusals_in_turn}
 use Rattle.mpslp_builder.proofs.SortedDrafts.{empty_sorted, sorted-with_declarations}
-use Rattle.mpslp_lines.specs.Declaring.{kind_of_build_fault}
+use Rattle.mpslp_lines.specs.FaultTests.{kind_of_build_fault}
 use Rattle.mpslp_lp_tokens.specs.declared.words.Section.{Section}
 use Rattle.mpslp_lp_tokens.specs.declared.words.Section.TheVariants.{Objective, Rows, Bounds, Generals, Binaries, SemiContinuous, End}
 use Rattle.mpslp_lp_tokens.specs.declared.words.SectionWord.{SectionWord}
@@ -39,12 +39,11 @@ use Rattle.mpslp_lp_grammar.specs.AfterToken.{AfterToken, Goes, Refuses, refuse,
 use Rattle.mpslp_lp_grammar.specs.Bounds.{no_limits}
 use Rattle.mpslp_lp_grammar.specs.FirstToken.{open_section, begin_row, begin_bound, take_second_relation, begin_phrase, begin}
 use Rattle.mpslp_lp_grammar.specs.Grammar.{opened_by, may_begin_section, is_last_word}
-use Rattle.mpslp_lp_grammar.specs.Items.{one}
+use Rattle.mpslp_lp_grammar.specs.Items.{one, apply_sign, infinity, fits_second, limits_by, flip}
 use Rattle.mpslp_lp_grammar.specs.Objective.{term_declared, objective_declared, default_objective, first_item_declared}
 use Rattle.mpslp_lp_grammar.specs.PartialRow.{PartialRow}
-use Rattle.mpslp_lp_grammar.specs.Point.{start, with_section, is_out_of_order}
+use Rattle.mpslp_lp_grammar.specs.Phrase.{start, with_section, is_out_of_order}
 use Rattle.mpslp_lp_grammar.specs.Rows.{default_row, without_terms, fits_left, numbered_row}
-use Rattle.mpslp_lp_grammar.specs.Sides.{apply_sign, infinity, fits_second, limits_by, flip}
 use Rattle.mpslp_lp_grammar.specs.Terminal.{Terminal}
 use Rattle.mpslp_lp_grammar.specs.Terminal.Terminal.{Opens, Name, Number, Sign, Compares, Colon, Infinity, Free, Other}
 use Rattle.mpslp_lp_grammar.specs.TokenStep.{begin_after, take_lone, take}

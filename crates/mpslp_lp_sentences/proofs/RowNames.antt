@@ -13,14 +13,14 @@ use Rattle.mpslp_types.specs.declared.kinds.Limit.{Limit}
 use Rattle.mpslp_types.specs.declared.kinds.Limit.TheVariants.{MinusInf, PlusInf}
 use Rattle.mpslp_types.specs.Limit.{is_plus_infinite, is_minus_infinite}
 use Rattle.mpslp_types.proofs.BoolLemmas.{both_so, or_left, or_right, either}
-use Rattle.mpslp_model_core.specs.Lists.{those_of}
+use Rattle.mpslp_types.specs.Lists.{those_of}
 use Rattle.mpslp_builder.specs.Declaration.{RowDefinition, Declarations, Draft, by_limits, empty_draft, with_declaration, with_declarations, declare_row, declare_column, bounds_declared, has_name, has_column, has_row, is_objective}
 use Rattle.mpslp_builder.specs.Refusal.{refusals_in_turn}
 use Rattle.mpslp_builder.proofs.LaterDrafts.{itself_named}
 use Rattle.mpslp_builder.proofs.SlotLemmas.{has-put, same_name}
 use Rattle.mpslp_builder.proofs.SortedDrafts.{IsSortedDraft, sorted-with_declarations}
 use Rattle.mpslp_lp_grammar.proofs.DeclaresLemmas.{bounds-rows}
-use Rattle.mpslp_lines.specs.Declaring.{kind_of_build_fault}
+use Rattle.mpslp_lines.specs.FaultTests.{kind_of_build_fault}
 use Rattle.mpslp_lp_tokens.specs.Words.{section_of}
 use Rattle.mpslp_lp_tokens.specs.declared.words.Section.{Section}
 use Rattle.mpslp_lp_tokens.specs.declared.words.Section.TheVariants.{Objective, Rows}
@@ -38,9 +38,9 @@ use Rattle.mpslp_lp_grammar.specs.declared.states.State.TheVariants.{Between, At
 use Rattle.mpslp_lp_grammar.specs.AfterToken.{AfterToken, Goes, Refuses, refuse, declare_unless_refused, take_after_declarations, declare_at, take_bound, take_side}
 use Rattle.mpslp_lp_grammar.specs.Objective.{term_declared}
 use Rattle.mpslp_lp_grammar.specs.PartialRow.{PartialRow}
-use Rattle.mpslp_lp_grammar.specs.Point.{has_seen, is_out_of_order}
+use Rattle.mpslp_lp_grammar.specs.Phrase.{has_seen, is_out_of_order}
 use Rattle.mpslp_lp_grammar.specs.Rows.{row_limits, row_declared}
-use Rattle.mpslp_lp_grammar.specs.Sides.{Limits}
+use Rattle.mpslp_lp_grammar.specs.Items.{Limits}
 use Rattle.mpslp_lp_grammar.specs.Terminal.{Terminal}
 use Rattle.mpslp_lp_grammar.specs.Terminal.Terminal.{Opens, Name, Number, Sign, Compares, Colon, Infinity, Free, Other}
 use Rattle.mpslp_lp_grammar.specs.TokenByToken.{new_column}

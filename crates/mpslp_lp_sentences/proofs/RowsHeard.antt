@@ -17,18 +17,15 @@ use Rattle.mpslp_lp_grammar.specs.declared.signs.Sign.TheVariants.{Plus}
 use Rattle.mpslp_lp_grammar.specs.Rules.{◌>>=◌, next}
 use Rattle.mpslp_lp_grammar.specs.Terminal.{Terminal}
 use Rattle.mpslp_lp_grammar.specs.Terminal.Terminal.{Name, Number, Sign, Compares, Colon, Infinity}
-use Rattle.mpslp_lp_grammar.specs.Point.{Point}
+use Rattle.mpslp_lp_grammar.specs.Phrase.{Point, refuses, goes_to}
 use Rattle.mpslp_lp_grammar.specs.declared.sections_seen.SectionsSeen.{SectionsSeen}
 use Rattle.mpslp_lp_grammar.specs.declared.context.Context.{Context}
 use Rattle.mpslp_lp_grammar.specs.declared.relations.Relation.{Relation}
 use Rattle.mpslp_lp_grammar.specs.declared.relations.Relation.TheVariants.{AtMost, AtLeast, EqualTo}
 use Rattle.mpslp_lp_grammar.specs.declared.states.Place.TheVariants.{BetweenRows, InRow}
 use Rattle.mpslp_lp_grammar.specs.PartialRow.{PartialRow}
-use Rattle.mpslp_lp_grammar.specs.Phrase.{refuses, goes_to}
-use Rattle.mpslp_lp_grammar.specs.Sides.{Limits, limits_by as sides_by, next_relation, side as side_rule}
-use Rattle.mpslp_lp_grammar.specs.Sides as rules
-use Rattle.mpslp_lp_grammar.specs.Items.{number_item, colon}
-use Rattle.mpslp_lp_grammar.specs.Items.{Item as items}
+use Rattle.mpslp_lp_grammar.specs.Items.{Limits, limits_by as sides_by, next_relation, side as side_rule, number_item, colon, Item as items}
+use Rattle.mpslp_lp_grammar.specs.Items as rules
 use Rattle.mpslp_lp_grammar.specs.Objective.{term_declared}
 use Rattle.mpslp_lp_grammar.specs.Rows.{default_row, without_terms, row_item, row_first, row_after_left, row_number, row_signed, row_from, row_named, fits_left, row_limits, row_declared, row_whole}
 use Rattle.mpslp_lp_grammar.specs.Grammar.{phrase_at}

@@ -13,14 +13,13 @@ use Rattle.mpslp_lp_grammar.specs.declared.signs.Sign.TheVariants.{Minus}
 use Rattle.mpslp_lp_grammar.specs.Rules.{◌>>=◌, next}
 use Rattle.mpslp_lp_grammar.specs.Terminal.{Terminal}
 use Rattle.mpslp_lp_grammar.specs.Terminal.Terminal.{Opens, Name, Sign}
-use Rattle.mpslp_lp_grammar.specs.Point.{section_fault, with_section, has_seen, start}
+use Rattle.mpslp_lp_grammar.specs.Phrase.{section_fault, with_section, has_seen, start, refuses, goes_to}
 use Rattle.mpslp_lp_grammar.specs.declared.sections_seen.SectionsSeen.{SectionsSeen}
 use Rattle.mpslp_lp_grammar.specs.declared.context.Context.{Context}
 use Rattle.mpslp_lp_grammar.specs.declared.states.Place.{Place}
 use Rattle.mpslp_lp_grammar.specs.declared.states.Place.TheVariants.{BetweenRows, InBounds, InGenerals, InBinaries, InSemis}
 use Rattle.mpslp_lp_grammar.specs.declared.states.LastWord.{LastWord}
 use Rattle.mpslp_lp_grammar.specs.declared.states.LastWord.TheVariants.{To, That, Continuous}
-use Rattle.mpslp_lp_grammar.specs.Phrase.{refuses, goes_to}
 use Rattle.mpslp_lp_grammar.specs.Grammar.{opened_by, is_last_word, last_word, semi_from, may_begin_section}
 use Rattle.mpslp_lp_tokens.specs.declared.words.Section.{Section as Kind}
 use Rattle.mpslp_lp_tokens.specs.declared.words.Section.TheVariants as kinds

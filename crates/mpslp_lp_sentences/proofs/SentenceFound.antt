@@ -9,14 +9,15 @@ use Rattle.mpslp_types.proofs.BoolLemmas.{both_so}
 use Rattle.mpslp_types.specs.declared.faults.Fault.{Fault}
 use Rattle.mpslp_types.specs.declared.faults.FaultKind.{FaultKind}
 use Rattle.mpslp_builder.specs.Declaration.{Draft}
-use Rattle.mpslp_lines.specs.LineAnswer.{fault_on_line}
+use Rattle.mpslp_lines.specs.FaultTests.{fault_on_line}
 use Rattle.mpslp_lp_tokens.specs.Token.{Token, tokens}
 use Rattle.mpslp_lp_tokens.specs.declared.words.SectionWord.TheVariants as words
 use Rattle.mpslp_lp_grammar.specs.Rules.{Outcome}
 use Rattle.mpslp_lp_grammar.specs.Rules.Outcome.{Finished, Refused, Open}
-use Rattle.mpslp_lp_grammar.specs.Terminal.{Terminal, TerminalAt, terminal_of, terminals, line_terminals}
+use Rattle.mpslp_lp_grammar.specs.Terminal.{Terminal, TerminalAt, terminal_of, line_terminals}
+use Rattle.mpslp_lp_grammar.specs.TerminalToken.{terminals}
 use Rattle.mpslp_lp_grammar.specs.Terminal.Terminal.{Opens}
-use Rattle.mpslp_lp_grammar.specs.Point.{start}
+use Rattle.mpslp_lp_grammar.specs.Phrase.{start}
 use Rattle.mpslp_lp_grammar.specs.Grammar.{text_says}
 use Rattle.mpslp_lp_grammar.specs.LexicalFault.{lexical_fault}
 use Rattle.mpslp_lp.specs.LpText.{numbered_lines, sound_terminals, first_own_fault, or_else, is_finished, declarations_of}

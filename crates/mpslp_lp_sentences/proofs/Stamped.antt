@@ -11,11 +11,10 @@ use Rattle.mpslp_lp_grammar.specs.Rules.Parsed.{Reads}
 use Rattle.mpslp_lp_grammar.specs.Rules.AfterPhrase.{Ends}
 use Rattle.mpslp_lp_grammar.specs.Terminal.{Terminal, TerminalAt}
 use Rattle.mpslp_lp_grammar.specs.Terminal.Terminal.{Opens}
-use Rattle.mpslp_lp_grammar.specs.Point.{Point, section_fault, with_section}
+use Rattle.mpslp_lp_grammar.specs.Phrase.{Point, section_fault, with_section, PhraseRule, Follows, fails, refuses, goes_to, unless_refused, declares}
 use Rattle.mpslp_lp_grammar.specs.declared.sections_seen.SectionsSeen.{SectionsSeen}
 use Rattle.mpslp_lp_grammar.specs.declared.context.Context.{Context}
 use Rattle.mpslp_lp_grammar.specs.declared.states.Place.{Place}
-use Rattle.mpslp_lp_grammar.specs.Phrase.{PhraseRule, Follows, fails, refuses, goes_to, unless_refused, declares}
 use Rattle.mpslp_lp_grammar.specs.Grammar.{line_end, section_start, section_from, may_begin_section, phrase_at}
 use Rattle.mpslp_lp_tokens.specs.Words.{section_of}
 use Rattle.mpslp_lp_tokens.specs.declared.words.Section.TheVariants as sections

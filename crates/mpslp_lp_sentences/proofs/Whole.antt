@@ -8,8 +8,7 @@ use Rattle.mpslp_lp_grammar.specs.Rules.Parsed.{Reads, Refuses, Unfinished}
 use Rattle.mpslp_lp_grammar.specs.Rules.AfterPhrase.{Goes, Ends}
 use Rattle.mpslp_lp_grammar.specs.Rules.Outcome.{Finished, Refused, Open}
 use Rattle.mpslp_lp_grammar.specs.Terminal.{TerminalAt}
-use Rattle.mpslp_lp_grammar.specs.Point.{Point}
-use Rattle.mpslp_lp_grammar.specs.Phrase.{PhraseRule, Follows}
+use Rattle.mpslp_lp_grammar.specs.Phrase.{Point, PhraseRule, Follows}
 use Rattle.mpslp_lp_grammar.specs.Grammar.{phrase_at}
 use Rattle.mpslp_lp.specs.LpText.{is_finished}
 

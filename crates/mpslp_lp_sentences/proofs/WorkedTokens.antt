@@ -7,8 +7,9 @@ use Rattle.std.specs.Fmt.{digits}
 use Rattle.mpslp_decimal.specs.Decimal.{trailing_zeros}
 use Rattle.mpslp_types.specs.declared.faults.FaultKind.{FaultKind}
 use Rattle.mpslp_types.specs.declared.faults.FaultKind.TheVariants.{ConstantInRow, DuplicateBound, DuplicateEntry, DuplicateRhs, DuplicateRow, MixedSenses, SectionOrder, SectionRepeated, SemiContinuous}
-use Rattle.mpslp_lp_grammar.specs.Terminal.{Terminal, terminals}
-use Rattle.mpslp_lines.specs.LineAnswer.{fault_on_line}
+use Rattle.mpslp_lp_grammar.specs.Terminal.{Terminal}
+use Rattle.mpslp_lp_grammar.specs.TerminalToken.{terminals}
+use Rattle.mpslp_lines.specs.FaultTests.{fault_on_line}
 use Rattle.mpslp_lp.specs.FirstFault.{first_lp_fault}
 use Rattle.mpslp_lp.specs.LpText.{is_lp_text}
 use Rattle.mpslp_lp.proofs.WorkedFiles.{text}

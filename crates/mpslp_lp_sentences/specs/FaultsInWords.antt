@@ -14,7 +14,8 @@ use Rattle.mpslp_lp_tokens.specs.declared.words.SectionWord.{SectionWord}
 use Rattle.mpslp_lp_tokens.specs.declared.words.SectionWord.TheVariants as words
 use Rattle.mpslp_lp_grammar.specs.declared.relations.Relation.{Relation}
 use Rattle.mpslp_lp_grammar.specs.declared.relations.Relation.TheVariants.{AtMost, AtLeast}
-use Rattle.mpslp_lp_grammar.specs.Terminal.{Terminal, terminals}
+use Rattle.mpslp_lp_grammar.specs.Terminal.{Terminal}
+use Rattle.mpslp_lp_grammar.specs.TerminalToken.{terminals}
 use Rattle.mpslp_lp_grammar.specs.Terminal.Terminal.{Opens, Name, Number, Sign, Compares, Colon, Infinity, Free}
 use Rattle.mpslp_lp_grammar.specs.LexicalFault.{lexical_fault}
 use Rattle.mpslp_lp.specs.FirstFault.{IsFirstLpFault}

@@ -2,8 +2,7 @@
 use Rattle.std.proofs.Common.{◌≡◌, refl, sym, ap, subst, ◌∙◌, List, [], ◌∷◌, length, take, drop, get_or, ℕ, suc, true, false, arith, ◌<◌, ◌≤◌, ◌+◌, ◌-◌}
 use Rattle.std.specs.Prelude.{Some, None}
 use Rattle.std.specs.List.{prefix_len}
-use Rattle.mpslp_lp_tokens.specs.Line.{begins_word, continues_word}
-use Rattle.mpslp_lp_tokens.specs.Token.{is_number, operator_kind, token_at}
+use Rattle.mpslp_lp_tokens.specs.Token.{begins_word, continues_word, is_number, operator_kind, token_at}
 use Rattle.mpslp_lp_tokens.specs.Scan.{IsLongestFront, pair_operator}
 use Rattle.mpslp_lp_tokens.proofs.FrontLemmas.{NoPair, word-at, number-at, pair-at, byte-at, unknown-at}
 use Rattle.mpslp_lp_tokens.proofs.NumberSize.{number-longest}

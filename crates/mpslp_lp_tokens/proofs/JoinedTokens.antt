@@ -3,8 +3,7 @@ use Rattle.std.proofs.Common.{◌≡◌, ◌<◌, refl, ap, subst, ◌∙◌, �
 use Rattle.std.specs.Prelude.{◌&&◌}
 use Rattle.std.specs.List.{list_all}
 use Rattle.mpslp_types.proofs.BoolLemmas.{both_so}
-use Rattle.mpslp_lp_tokens.specs.Line.{begins_comment, is_blank}
-use Rattle.mpslp_lp_tokens.specs.Token.{token_at, Token, tokens_from}
+use Rattle.mpslp_lp_tokens.specs.Token.{begins_comment, is_blank, token_at, Token, tokens_from}
 use Rattle.mpslp_lp_tokens.specs.Laws.{SpacedToken, joined, are_blank, IsMadeOf, LinesAreTokens}
 use Rattle.mpslp_lp_tokens.proofs.SliceLemmas.{token-within}
 

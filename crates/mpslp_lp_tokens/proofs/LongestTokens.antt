@@ -4,8 +4,7 @@ use Rattle.std.specs.Prelude.{◌⊎◌, ◌==◌, Option, Some, None}
 use Rattle.std.specs.List.{prefix_len}
 use Rattle.std.proofs.lemmas.Bool.{eqb-true}
 use Rattle.std.proofs.lemmas.List.{length-take-le}
-use Rattle.mpslp_lp_tokens.specs.Line.{begins_comment, is_blank}
-use Rattle.mpslp_lp_tokens.specs.Token.{kind_of, Front, longest_within, longest_token, token_at, Token, tokens_from}
+use Rattle.mpslp_lp_tokens.specs.Token.{begins_comment, is_blank, kind_of, Front, longest_within, longest_token, token_at, Token, tokens_from}
 use Rattle.mpslp_lp_tokens.specs.Laws.{is_comment, IsNoLonger, BeginWith, AreLongest, TokensAreLongest, LongestAreTokens}
 use Rattle.mpslp_lp_tokens.specs.declared.tokens.TokenKind.{TokenKind}
 use Rattle.mpslp_lp_tokens.specs.declared.tokens.TokenKind.TheVariants.{Unknown}

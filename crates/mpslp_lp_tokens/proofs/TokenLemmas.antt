@@ -6,8 +6,7 @@ use Rattle.std.proofs.lemmas.Bool.{eqb-true}
 use Rattle.std.proofs.lemmas.Bool.Decides.{nat_tests}
 use Rattle.std.proofs.lemmas.List.{length-take-le, take_rest, length-drop}
 use Rattle.std.proofs.Math.Seq.{drop-drop, drop-length}
-use Rattle.mpslp_lp_tokens.specs.Line.{is_blank, begins_comment}
-use Rattle.mpslp_lp_tokens.specs.Token.{token_at, Token, tokens_from}
+use Rattle.mpslp_lp_tokens.specs.Token.{is_blank, begins_comment, token_at, Token, tokens_from}
 use Rattle.mpslp_lp_tokens.specs.Scan.{tokens_after, IsNext}
 use Rattle.mpslp_lp_tokens.proofs.SliceLemmas.{token-within}
 use Rattle.mpslp_lp_tokens.specs.declared.tokens.Token.{Token as Found}

@@ -1,8 +1,7 @@
 -- Laws of the tokens of a line.
 use Rattle.std.specs.Prelude.{◌≡◌, ◌⊎◌, ℕ, ◌+◌, ◌≤◌, ◌<◌, Bool, true, false, IsTrue, List, [], ◌∷◌, ◌++◌, length, map, take, drop, Some, None}
 use Rattle.std.specs.List.{list_all, prefix_len}
-use Rattle.mpslp_lp_tokens.specs.Line.{is_blank, begins_comment}
-use Rattle.mpslp_lp_tokens.specs.Token.{kind_of, Token, tokens}
+use Rattle.mpslp_lp_tokens.specs.Token.{is_blank, begins_comment, kind_of, Token, tokens}
 use Rattle.mpslp_lp_tokens.specs.declared.tokens.TokenKind.TheVariants.{Unknown}
 
 -- From a place of a line on, each text is the slice of the line at its start and has a byte at least, and no token begins

@@ -1,12 +1,30 @@
 -- The tokens of a line of LP text.
-use Rattle.std.specs.Prelude.{ℕ, zero, suc, ◌+◌, ◌-◌, Bool, true, false, ◌==◌, ◌&&◌, List, [], ◌∷◌, length, take, codes, Option, Some, None, zip}
-use Rattle.std.specs.List.{list_all, find}
-use Rattle.std.specs.Option.{option_map}
-use Rattle.mpslp_decimal.specs.Literal.{is_literal}
-use Rattle.mpslp_types.specs.Name.{same_bytes, begins_a_number}
-use Rattle.mpslp_lp_tokens.specs.Line.{is_blank, begins_comment, begins_word, continues_word}
+use Rattle.mpslp_types.specs.Basics.{ℕ, zero, suc, ◌+◌, ◌-◌, ◌==◌, Bool, true, false, ◌&&◌, ◌||◌, not, List, [], ◌∷◌, length, take, zip, codes, Option, Some, None, list_all, find, before_first, option_map, is_literal, same_bytes, begins_a_number, is_letter, is_lp_symbol, is_lp_byte}
 use Rattle.mpslp_lp_tokens.specs.declared.tokens.TokenKind.{TokenKind}
 use Rattle.mpslp_lp_tokens.specs.declared.tokens.TokenKind.TheVariants.{Word, Number, Less, Greater, Equal, DoubleColon, Colon, Arrow, Plus, Minus, OpenBracket, CloseBracket, Caret, Star, Period, Unknown}
+
+-- a space or a tab
+abbrev pub is_blank : ℕ → Bool
+is_blank byte = byte == 32 || byte == 9
+
+-- a backslash begins a comment, up to the end of the line
+abbrev pub begins_comment : ℕ → Bool
+begins_comment byte = byte == 92
+
+abbrev pub is_period : ℕ → Bool
+is_period byte = byte == 46
+
+-- a word begins with a letter or a symbol of LP names other than the period
+abbrev pub begins_word : ℕ → Bool
+begins_word byte = is_letter byte || (is_lp_symbol byte && not (is_period byte))
+
+-- it continues with letters, digits and all symbols of LP names
+abbrev pub continues_word : ℕ → Bool
+continues_word byte = is_lp_byte byte
+
+-- what stands before a comment
+abbrev pub outside_comment : List ℕ → List ℕ
+outside_comment line = before_first begins_comment line
 
 -- ---- the kind of a whole text
 

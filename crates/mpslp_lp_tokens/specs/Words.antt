@@ -1,14 +1,7 @@
 -- Reserved words and their meanings.
-use Rattle.std.specs.Prelude.{ℕ, List, [], ◌∷◌, ◌++◌, map, codes}
-use Rattle.std.specs.List.{find}
-use Rattle.std.specs.Option.{option_map_or}
-use Rattle.mpslp_types.specs.Name.{same_bytes, lower_byte}
-use Rattle.mpslp_lp_tokens.specs.declared.words.Section.{Section}
+use Rattle.mpslp_types.specs.Basics.{ℕ, List, [], ◌∷◌, ◌++◌, map, codes, find, option_map_or, same_bytes, lower_byte}
+use Rattle.mpslp_lp_tokens.specs.declared.words.{Section.Section, SectionWord.SectionWord, SectionWord.TheVariants.Minimize, SectionWord.TheVariants.Maximize, SectionWord.TheVariants.Rows, SectionWord.TheVariants.Subject, SectionWord.TheVariants.Such, SectionWord.TheVariants.Bounds, SectionWord.TheVariants.Generals, SectionWord.TheVariants.Binaries, SectionWord.TheVariants.Semi, SectionWord.TheVariants.Semis, SectionWord.TheVariants.End, WordClass.WordClass, WordClass.TheVariants.Opens, WordClass.TheVariants.Infinity, WordClass.TheVariants.Free, WordClass.TheVariants.Sos, WordClass.TheVariants.Name}
 use Rattle.mpslp_lp_tokens.specs.declared.words.Section.TheVariants as sections
-use Rattle.mpslp_lp_tokens.specs.declared.words.SectionWord.{SectionWord}
-use Rattle.mpslp_lp_tokens.specs.declared.words.SectionWord.TheVariants.{Minimize, Maximize, Rows, Subject, Such, Bounds, Generals, Binaries, Semi, Semis, End}
-use Rattle.mpslp_lp_tokens.specs.declared.words.WordClass.{WordClass}
-use Rattle.mpslp_lp_tokens.specs.declared.words.WordClass.TheVariants.{Opens, Infinity, Free, Sos, Name}
 
 abbrev all_of_class : WordClass → List (List ℕ) → List (List ℕ × WordClass)
 all_of_class word_class words = map (λ word. (word, word_class)) words

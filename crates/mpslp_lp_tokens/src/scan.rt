@@ -3,8 +3,7 @@
 ghost use Rattle.std.specs.Prelude.{◌≡◌, ◌≤◌, [], ◌∷◌, length};
 ghost use Rattle.std.specs.List.{prefix_len};
 ghost use Rattle.mpslp_decimal.specs.Literal.{is_digit};
-ghost use Rattle.mpslp_lp_tokens.specs.Line.{begins_word, continues_word};
-ghost use Rattle.mpslp_lp_tokens.specs.Token.{is_number, operator_kind, token_at};
+ghost use Rattle.mpslp_lp_tokens.specs.Token.{begins_word, continues_word, is_number, operator_kind, token_at};
 ghost use Rattle.mpslp_lp_tokens.specs.Scan.{sign_size, exponent_size, number_size, IsLongestFront, pair_operator};
 
 use crate::tokens::TokenKind;

@@ -2,8 +2,7 @@
 
 ghost use Rattle.std.specs.Prelude.{◌≡◌, ◌≤◌, [], length, MatchOption};
 ghost use Rattle.std.specs.List.{prefix_len};
-ghost use Rattle.mpslp_lp_tokens.specs.Line.{is_blank};
-ghost use Rattle.mpslp_lp_tokens.specs.Token.{tokens};
+ghost use Rattle.mpslp_lp_tokens.specs.Token.{is_blank, tokens};
 ghost use Rattle.std.specs.Iterator.{YieldsFirstBy, item_count};
 ghost use Rattle.mpslp_lp_tokens.specs.Scan.{token_of, tokens_after, IsNext};
 

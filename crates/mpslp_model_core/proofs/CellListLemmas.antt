@@ -1,7 +1,6 @@
 -- The coefficients of a column by row number: the first is the objective's, or the objective has none.
 use Rattle.std.proofs.Common.{◌≡◌, refl, sym, ap, ◌∙◌, ℕ, zero, suc, ◌≤◌, ◌<◌, ◌-◌, List, [], ◌∷◌, length, take, drop, true, cond, arith}
-use Rattle.std.specs.Prelude.{Some, None, slice_get}
-use Rattle.std.specs.Prelude.{get_or}
+use Rattle.std.specs.Prelude.{Some, None, slice_get, get_or}
 use Rattle.std.proofs.lemmas.List.{take_all}
 use Rattle.std.specs.Ordering.{is_eq, is_lt, nat_cmp, MatchOrdering}
 use Rattle.std.specs.Cmp.{first_so, second_so, ranks, nat_cmp_is}

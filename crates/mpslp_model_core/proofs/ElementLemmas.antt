@@ -10,8 +10,7 @@ use Rattle.std.specs.declared.cmp.Ordering.TheVariants.{Less, Equal, Greater}
 use Rattle.std.specs.FinMap.{find, is_sorted}
 use Rattle.std.specs.FinMap.Entries.{below_all, same_entries, is_sorted-where_key, find-where_key}
 use Rattle.mpslp_decimal.specs.Decimal.{Number}
-use Rattle.mpslp_types.specs.Name.{same_bytes}
-use Rattle.mpslp_types.specs.Name.{bytes_cmp}
+use Rattle.mpslp_types.specs.Name.{same_bytes, bytes_cmp}
 use Rattle.mpslp_model_core.specs.Model.{CoefficientKey, key_cmp}
 use Rattle.mpslp_types.proofs.BoolLemmas.{both_so, T_from}
 use Rattle.mpslp_model_core.proofs.PutsLemmas.{equal_from}

@@ -8,7 +8,7 @@ use Rattle.std.specs.declared.cmp.Ordering.TheVariants as orders
 use Rattle.std.specs.FinMap.{slice_cmp-IsAntisymmetric, nat_cmp-IsAntisymmetric}
 use Rattle.mpslp_types.specs.Name.{bytes_cmp}
 use Rattle.mpslp_model_core.specs.Model.{CoefficientKey, key_cmp}
-pub use Rattle.mpslp_model_core.specs.Model.{key_total}
+pub use Rattle.mpslp_model_core.specs.KeyOrder.{key_total}
 
 pub bytes_total : IsTotalOrder bytes_cmp
 bytes_total = nat_list_cmp_total

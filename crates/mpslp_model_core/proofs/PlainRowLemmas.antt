@@ -12,8 +12,9 @@ use Rattle.mpslp_types.specs.declared.kinds.Limit.{Limit}
 use Rattle.mpslp_types.specs.declared.kinds.Limit.TheVariants.{MinusInf, Finite, PlusInf}
 use Rattle.mpslp_types.specs.declared.kinds.RowType.TheVariants.{Free, AtMost, AtLeast, Equal}
 use Rattle.mpslp_model_core.specs.Model.{Row}
-use Rattle.mpslp_model_core.specs.Limits.{RowDefinition, by_type, by_limits, is_plain, has_infinite_rhs, is_inexact, is_too_large, is_crossed, is_large_limit}
-use Rattle.mpslp_model_core.specs.WrongParts.{is_faulty_row}
+use Rattle.mpslp_model_core.specs.Limits.{RowDefinition, by_type, by_limits, has_infinite_rhs}
+use Rattle.mpslp_model_core.specs.RowForms.{is_plain}
+use Rattle.mpslp_model_core.specs.WrongParts.{is_inexact, is_too_large, is_crossed, is_large_limit, is_faulty_row}
 
 given_small : (b : Number) → is_large_limit (limit_of b) ≡ false
 given_small b = by (is_infinite_size b) refl

@@ -1,9 +1,8 @@
 -- ---- what public laws and contracts say
-pub mod Lists
 pub mod Model
-pub mod Listing
+pub mod KeyOrder
 pub mod Limits
-pub mod Columns
+pub mod RowForms
 pub mod WrongParts
 pub mod Views
 pub mod ModelParts

@@ -1,25 +1,13 @@
--- The limits of a row, from its type, right-hand side and range value.
-use Rattle.std.specs.Prelude.{Bool, true, false, ◌&&◌, ◌||◌, not, Option, Some, None, is_none, is_some, if◌then◌else◌}
-use Rattle.std.specs.Option.{option_map_or}
-use Rattle.mpslp_decimal.specs.Decimal.{Number, is_negative, is_infinite_size, size_of, sum_of, difference_of}
-use Rattle.mpslp_model_core.specs.Model.{Row}
-use Rattle.mpslp_types.specs.Limit.{limit_of, is_at_most, is_plus_infinite, is_minus_infinite}
-use Rattle.mpslp_types.specs.declared.kinds.Limit.{Limit}
-use Rattle.mpslp_types.specs.declared.kinds.Limit.TheVariants.{MinusInf, Finite, PlusInf}
-use Rattle.mpslp_types.specs.declared.kinds.RowType.{RowType}
-use Rattle.mpslp_types.specs.declared.kinds.RowType.TheVariants.{Free, AtMost, AtLeast, Equal}
-use Rattle.mpslp_model_core.specs.declared.limits.UnpackedRowDefinition.{UnpackedRowDefinition}
-use Rattle.mpslp_model_core.specs.declared.limits.UnpackedRowDefinition.TheVariants.{ByType, ByLimits}
+-- The limits of a row, and the type and bounds of a column, from what is declared of them.
+use Rattle.mpslp_types.specs.Basics.{Bool, true, false, ◌&&◌, ◌||◌, not, if◌then◌else◌, Option, Some, None, is_some, is_none, unwrap_or, Number, is_negative, is_infinite_size, size_of, sum_of, difference_of, one_number, limit_of, is_plus_infinite, is_minus_infinite, zero_limit, is_at_most}
+use Rattle.mpslp_model_core.specs.Model.{Row, Column}
+use Rattle.mpslp_types.specs.declared.kinds.{Limit.Limit, Limit.TheVariants.MinusInf, Limit.TheVariants.Finite, Limit.TheVariants.PlusInf, RowType.RowType, RowType.TheVariants.Free, RowType.TheVariants.AtMost, RowType.TheVariants.AtLeast, RowType.TheVariants.Equal, Kind.Kind, Kind.TheVariants.Continuous, Kind.TheVariants.Integer, Kind.TheVariants.Semi}
+use Rattle.mpslp_model_core.specs.declared.bounds.DeclaredColumn.{DeclaredColumn}
 
 -- how a row is declared: by its type, or by both limits
 pub data RowDefinition : Type 0 where
   by_type : RowType → RowDefinition
   by_limits : Limit → Limit → RowDefinition
-
--- the definition in its form in the code
-abbrev pub row_definition : UnpackedRowDefinition → RowDefinition
-row_definition (ByType type) = by_type type
-row_definition (ByLimits lower upper) = by_limits lower upper
 
 -- true for a row of type N, false for a row by limits
 abbrev pub is_free_definition : RowDefinition → Bool
@@ -29,11 +17,6 @@ is_free_definition _ = false
 abbrev pub is_definition_by_limits : RowDefinition → Bool
 is_definition_by_limits (by_type _) = false
 is_definition_by_limits (by_limits _ _) = true
-
--- a row by its type, without a range
-abbrev pub is_plain : RowDefinition → Option Number → Bool
-is_plain (by_type _) None = true
-is_plain _ _ = false
 
 -- a lower limit of plus infinity, or an upper one of minus infinity
 abbrev pub have_infinite_side : RowDefinition → Bool
@@ -75,29 +58,48 @@ has_infinite_rhs (by_type AtLeast) b r = is_infinite_size b && (is_some r || not
 has_infinite_rhs (by_type Equal) b r = is_infinite_size b
 has_infinite_rhs (by_limits _ _) b r = false
 
--- a test of upper minus lower, if both are finite; the difference may not be a decimal
-abbrev pub distance_passes : (Option Number → Bool) → Row → Bool
-distance_passes test row = between row.lower row.upper
-  where
-    between : Limit → Limit → Bool
-    between (Finite a) (Finite b) = test (difference_of b a)
-    between _ _ = false
+-- ---- the type and bounds of a column
 
-abbrev pub is_large_limit : Limit → Bool
-is_large_limit (Finite d) = is_infinite_size d
-is_large_limit _ = false
+abbrev pub one_limit : Limit
+one_limit = Finite one_number
 
--- a computed limit or the distance is not a decimal
-abbrev pub is_inexact : Option Row → Bool
-is_inexact None = true
-is_inexact (Some row) = distance_passes is_none row
+-- neither bound is declared
+abbrev pub no_side_declared : DeclaredColumn → Bool
+no_side_declared d = is_none d.lower && is_none d.upper
 
--- a computed limit or the distance has a magnitude of 10^20 or more
-abbrev pub is_too_large : Option Row → Bool
-is_too_large None = false
-is_too_large (Some row) = is_large_limit row.lower || (is_large_limit row.upper || distance_passes (λ d. option_map_or is_infinite_size d false) row)
+-- the upper bound if none is declared: 1 for a binary column, and for a marked one without any declared bound
+abbrev pub upper_by_default : DeclaredColumn → Limit
+upper_by_default d = if d.binary || (d.marked && no_side_declared d) then one_limit else PlusInf
 
--- the lower limit above the upper one
-abbrev pub is_crossed : Option Row → Bool
-is_crossed None = false
-is_crossed (Some row) = not (is_at_most row.lower row.upper)
+-- 0 if none is declared
+abbrev pub declared_lower : DeclaredColumn → Limit
+declared_lower d = unwrap_or d.lower zero_limit
+
+abbrev pub declared_upper : DeclaredColumn → Limit
+declared_upper d = unwrap_or d.upper (upper_by_default d)
+
+-- whether the column is integer
+abbrev pub is_declared_integer : DeclaredColumn → Bool
+is_declared_integer d = d.marked || (d.integer || d.binary)
+
+-- no column is declared both integer and semi-continuous
+abbrev pub declared_kind : DeclaredColumn → Kind
+declared_kind d = if is_declared_integer d then Integer else (if d.semi then Semi else Continuous)
+
+abbrev pub declared_column : DeclaredColumn → Column
+declared_column d = record {
+  kind = declared_kind d;
+  lower = declared_lower d;
+  upper = declared_upper d;
+}
+
+-- ---- columns that no model has
+
+-- an upper bound below 0, without a declared lower bound
+abbrev pub is_negative_upper : DeclaredColumn → Bool
+is_negative_upper d = is_none d.lower && not (is_at_most zero_limit (declared_upper d))
+
+-- binary, and the bounds are not within 0 and 1
+abbrev pub are_no_binary_bounds : DeclaredColumn → Bool
+are_no_binary_bounds d = d.binary
+    && not (is_at_most zero_limit (declared_lower d) && is_at_most (declared_upper d) one_limit)

@@ -1,19 +1,6 @@
--- Models as values.
-use Rattle.std.specs.Prelude.{◌≡◌, ◌<◌, ℕ, Bool, true, false, ◌&&◌, not, IsTrue, List, ◌∷◌, length}
-use Rattle.std.specs.Ordering.{ordering_then}
-use Rattle.std.specs.declared.cmp.Ordering.{Ordering}
-use Rattle.std.specs.Cmp.{IsTotalOrder, then_total, on_total}
-use Rattle.std.specs.Cmp.Lexicographic.{nat_list_cmp_total}
-use Rattle.std.specs.FinMap as maps
-use Rattle.std.specs.FinMap.{FinMap}
-use Rattle.std.specs.List.{list_all}
-use Rattle.mpslp_decimal.specs.Decimal.{Number, IsDecimal, is_decimal, is_zero}
-use Rattle.mpslp_types.specs.Name.{IsMpsName, bytes_cmp, is_mps_name, is_one_of}
-use Rattle.mpslp_types.specs.Limit.{are_sides, are_semi_bounds, has_bounded_distance}
-use Rattle.mpslp_types.specs.declared.kinds.Sense.{Sense}
-use Rattle.mpslp_types.specs.declared.kinds.Kind.{Kind}
-use Rattle.mpslp_types.specs.declared.kinds.Kind.TheVariants.{Continuous, Integer, Semi}
-use Rattle.mpslp_types.specs.declared.kinds.Limit.{Limit}
+-- Models as values, and as lists of their parts.
+use Rattle.mpslp_types.specs.Basics.{◌≡◌, ◌<◌, ℕ, Bool, true, false, ◌&&◌, not, IsTrue, List, ◌∷◌, length, list_all, ordering_then, Ordering, FinMap, entries, keys, Number, IsDecimal, is_decimal, is_zero, IsMpsName, bytes_cmp, is_mps_name, is_one_of, are_sides, are_semi_bounds, has_bounded_distance}
+use Rattle.mpslp_types.specs.declared.kinds.{Sense.Sense, Kind.Kind, Kind.TheVariants.Continuous, Kind.TheVariants.Integer, Kind.TheVariants.Semi, Limit.Limit}
 
 -- the place of a coefficient: a row, or the objective, and a column
 pub record CoefficientKey : Type 0 where
@@ -23,9 +10,6 @@ pub record CoefficientKey : Type 0 where
 -- By column, then by row. So the coefficients of a column are adjacent, in the order of their rows.
 abbrev pub key_cmp : CoefficientKey → CoefficientKey → Ordering
 key_cmp a b = ordering_then (bytes_cmp a.column b.column) (bytes_cmp a.row b.row)
-
-pub key_total : IsTotalOrder key_cmp
-key_total = then_total (on_total (λ (p : CoefficientKey). p.column) nat_list_cmp_total) (on_total (λ (p : CoefficientKey). p.row) nat_list_cmp_total)
 
 -- ---- a model: its rows, columns and coefficients, by their names
 
@@ -47,6 +31,14 @@ pub record LinearModel : Type 0 where
   pub columns : FinMap bytes_cmp Column
   pub coefficients : FinMap key_cmp Number
 
+abbrev pub is_integer_column : Column → Bool
+is_integer_column column = is_integer_kind column.kind
+  where
+    is_integer_kind : Kind → Bool
+    is_integer_kind Continuous = false
+    is_integer_kind Integer = true
+    is_integer_kind Semi = false
+
 -- ---- well-formed models
 
 -- a semi-continuous column, which is 0 or within its bounds, requires such bounds
@@ -66,14 +58,34 @@ abbrev pub is_sound_coefficient : LinearModel → CoefficientKey × Number → B
 is_sound_coefficient m coefficient =
     let key = coefficient.0 in
     is_decimal coefficient.1 && (not (is_zero coefficient.1)
-    && (is_one_of (maps.keys m.columns) key.column && is_one_of (m.objective ∷ maps.keys m.rows) key.row))
+    && (is_one_of (keys m.columns) key.column && is_one_of (m.objective ∷ keys m.rows) key.row))
 
 -- Properties of every model.
 pub record IsSound (m : LinearModel) : Type 0 where
   pub objective : IsMpsName m.objective
-  pub objective_is_no_row : is_one_of (maps.keys m.rows) m.objective ≡ false
+  pub objective_is_no_row : is_one_of (keys m.rows) m.objective ≡ false
   pub constant : IsDecimal m.constant
-  pub has_column : 0 < length (maps.keys m.columns)
-  pub rows : IsTrue (list_all is_sound_row (maps.entries m.rows))
-  pub columns : IsTrue (list_all is_sound_column (maps.entries m.columns))
-  pub coefficients : IsTrue (list_all (is_sound_coefficient m) (maps.entries m.coefficients))
+  pub has_column : 0 < length (keys m.columns)
+  pub rows : IsTrue (list_all is_sound_row (entries m.rows))
+  pub columns : IsTrue (list_all is_sound_column (entries m.columns))
+  pub coefficients : IsTrue (list_all (is_sound_coefficient m) (entries m.coefficients))
+
+-- ---- the listing of a model: each of its maps as the list of its entries, in byte order
+
+pub record Listing : Type 0 where
+  pub sense : Sense
+  pub objective : List ℕ
+  pub constant : Number
+  pub rows : List (List ℕ × Row)
+  pub columns : List (List ℕ × Column)
+  pub coefficients : List (CoefficientKey × Number)
+
+abbrev pub listing_of : LinearModel → Listing
+listing_of m = record {
+  sense = m.sense;
+  objective = m.objective;
+  constant = m.constant;
+  rows = entries m.rows;
+  columns = entries m.columns;
+  coefficients = entries m.coefficients;
+}

@@ -3,7 +3,8 @@ use Rattle.std.specs.Prelude.{ℕ, List, refl}
 use Rattle.std.specs.Coded.{Coded, code_by, coded×, coded_list, coded_ℕ}
 use Rattle.std.specs.FinMap as maps
 use Rattle.std.specs.FinMap.{FinMap}
-use Rattle.mpslp_decimal.specs.Decimal.{Number, number_code}
+use Rattle.mpslp_decimal.specs.Decimal.{Number}
+use Rattle.mpslp_decimal.specs.NumberCode.{number_code}
 use Rattle.mpslp_model_core.specs.Model.{CoefficientKey, Row, Column, LinearModel, key_cmp}
 use Rattle.mpslp_types.specs.Name.{bytes_cmp}
 use Rattle.mpslp_types.specs.declared.kinds.Sense.{Sense}

@@ -1,10 +1,9 @@
 -- The tests of equality decide whether two values are equal.
 use Rattle.std.proofs.Common.{◌≡◌, refl, sym, ap, ◌∙◌, List, Bool}
 use Rattle.std.specs.Prelude.{◌&&◌, ℕ}
-use Rattle.std.specs.Bool.{nat_eq}
+use Rattle.std.specs.Bool.{nat_eq, Decides, one_answer}
 use Rattle.std.proofs.lemmas.Bool.Decides.{Decides-eqb}
 use Rattle.std.specs.Ordering.{int_eq}
-use Rattle.std.specs.Bool.{Decides, one_answer}
 use Rattle.std.specs.Cmp.{signed_Decides, IsPartialEquivalence}
 use Rattle.std.proofs.lemmas.Bool.Decides.{Decides-and}
 use Rattle.std.specs.Cmp.Lexicographic.{pointwise, pointwise_decides, same_text, nat_list_eq_equiv}

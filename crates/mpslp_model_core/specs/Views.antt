@@ -1,13 +1,11 @@
 -- The results of a model's accessors. Rows and columns are numbered from 0, in byte order of their names.
-use Rattle.std.specs.Prelude.{ℕ, Bool, true, false, ◌&&◌, not, List, [], length, map, filter, position, Option, is_some, unwrap_or, slice_index_or, if◌then◌else◌}
+use Rattle.std.specs.Prelude.{ℕ, Bool, ◌&&◌, not, List, [], length, map, filter, position, Option, is_some, unwrap_or, slice_index_or, if◌then◌else◌}
 use Rattle.std.specs.List.{range_with_len}
 use Rattle.std.specs.Ordering.{is_eq}
 use Rattle.std.specs.FinMap as maps
 use Rattle.mpslp_decimal.specs.Decimal.{Number, zero_number, decimal_cmp, difference_of}
 use Rattle.mpslp_types.specs.Name.{same_bytes}
 use Rattle.mpslp_model_core.specs.Model.{CoefficientKey, key_cmp, Row, Column, LinearModel}
-use Rattle.mpslp_types.specs.declared.kinds.Kind.{Kind}
-use Rattle.mpslp_types.specs.declared.kinds.Kind.TheVariants.{Continuous, Integer, Semi}
 use Rattle.mpslp_types.specs.declared.kinds.Limit.{Limit}
 use Rattle.mpslp_types.specs.declared.kinds.Limit.TheVariants.{MinusInf, Finite, PlusInf}
 
@@ -43,14 +41,6 @@ row_index m name = position (same_bytes name) (row_names m)
 
 abbrev pub column_index : LinearModel → List ℕ → Option ℕ
 column_index m name = position (same_bytes name) (column_names m)
-
-abbrev pub is_integer_column : Column → Bool
-is_integer_column column = is_integer_kind column.kind
-  where
-    is_integer_kind : Kind → Bool
-    is_integer_kind Continuous = false
-    is_integer_kind Integer = true
-    is_integer_kind Semi = false
 
 -- ---- the sense, right-hand side and range of a row
 

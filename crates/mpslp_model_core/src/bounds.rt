@@ -3,8 +3,8 @@
 ghost use Rattle.std.specs.Prelude.{◌≡◌};
 ghost use Rattle.mpslp_types.specs.Limit.{is_finite_above_zero, are_semi_bounds};
 ghost use Rattle.mpslp_model_core.specs.Model.{suits};
-ghost use Rattle.mpslp_model_core.specs.Columns.{no_side_declared, upper_by_default, declared_lower, declared_upper, is_declared_integer, declared_kind, declared_column, is_negative_upper, are_crossed_bounds, are_no_binary_bounds, are_no_semi_bounds};
-ghost use Rattle.mpslp_model_core.specs.WrongParts.{bounds_test, are_faulty_bounds, kind_of_column_fault};
+ghost use Rattle.mpslp_model_core.specs.Limits.{no_side_declared, upper_by_default, declared_lower, declared_upper, is_declared_integer, declared_kind, declared_column, is_negative_upper, are_no_binary_bounds};
+ghost use Rattle.mpslp_model_core.specs.WrongParts.{are_crossed_bounds, are_no_semi_bounds, bounds_test, are_faulty_bounds, kind_of_column_fault};
 
 use crate::sides::ColumnBounds;
 use mpslp_decimal::Decimal;

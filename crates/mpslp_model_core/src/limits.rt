@@ -5,8 +5,9 @@ ghost use Rattle.std.specs.Ordering.{is_lt};
 ghost use Rattle.std.specs.Option.{option_map_or};
 ghost use Rattle.mpslp_decimal.specs.Decimal.{decimal_cmp, is_infinite_size, size_of, sum_of, difference_of};
 ghost use Rattle.mpslp_types.specs.Limit.{is_at_most};
-ghost use Rattle.mpslp_model_core.specs.Limits.{row_definition, is_plain, sides, plain_limits, ranged_limits, limits_of, has_infinite_rhs, is_large_limit, distance_passes, is_inexact, is_too_large, is_crossed};
-ghost use Rattle.mpslp_model_core.specs.WrongParts.{is_faulty_row, row_test, kind_of_row_fault};
+ghost use Rattle.mpslp_model_core.specs.Limits.{sides, plain_limits, ranged_limits, limits_of, has_infinite_rhs};
+ghost use Rattle.mpslp_model_core.specs.RowForms.{row_definition, is_plain};
+ghost use Rattle.mpslp_model_core.specs.WrongParts.{is_large_limit, distance_passes, is_inexact, is_too_large, is_crossed, is_faulty_row, row_test, kind_of_row_fault};
 
 use crate::sides::RowLimits;
 use mpslp_decimal::Decimal;

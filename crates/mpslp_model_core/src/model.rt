@@ -9,7 +9,8 @@ ghost use Rattle.std.specs.FinMap.{is_sorted};
 ghost use Rattle.mpslp_types.specs.Name.{same_bytes, bytes_cmp};
 ghost use Rattle.mpslp_model_core.specs.Same.{IsSameObjective};
 ghost use Rattle.mpslp_model_core.specs.ModelParts.{linear_model, AreModelParts};
-ghost use Rattle.mpslp_model_core.specs.Views.{letter_E, letter_R, row_names, column_names, rows_of, columns_of, num_rows, num_columns, num_elements, row_name, column_name, row_index, column_index, row_sense, right_hand_side, row_range, is_integer_column, coefficient_at, column_elements, numbered_elements, row_columns};
+ghost use Rattle.mpslp_model_core.specs.Views.{letter_E, letter_R, row_names, column_names, rows_of, columns_of, num_rows, num_columns, num_elements, row_name, column_name, row_index, column_index, row_sense, right_hand_side, row_range, coefficient_at, column_elements, numbered_elements, row_columns};
+ghost use Rattle.mpslp_model_core.specs.Model.{is_integer_column};
 
 use crate::by_row::{RowLists, columns_by_row, list_of};
 use crate::columns::{

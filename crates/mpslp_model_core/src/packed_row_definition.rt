@@ -1,7 +1,8 @@
 //! The declaration of a row, in a small form.
 
 ghost use Rattle.std.specs.Prelude.{◌≡◌, IfOk};
-ghost use Rattle.mpslp_model_core.specs.Limits.{row_definition, by_type, by_limits, is_free_definition, is_definition_by_limits};
+ghost use Rattle.mpslp_model_core.specs.Limits.{by_type, by_limits, is_free_definition, is_definition_by_limits};
+ghost use Rattle.mpslp_model_core.specs.RowForms.{row_definition};
 
 use crate::limits::UnpackedRowDefinition;
 use crate::packed::PackedRow;

@@ -6,12 +6,11 @@ use Rattle.std.specs.List.{list_any, last_or, flat_map, cons_option}
 use Rattle.std.specs.Option.{option_map, option_map_or}
 use Rattle.mpslp_types.specs.Name.{same_bytes}
 use Rattle.mpslp_types.proofs.BoolLemmas.{or_left, or_right}
-use Rattle.mpslp_model_core.specs.Lists.{when}
+use Rattle.mpslp_types.specs.Lists.{when}
 use Rattle.mpslp_builder.specs.Declaration.{Declaration, declare_column, declare_marked, declare_coefficient, Draft, with_declaration, with_declarations, has_name}
 use Rattle.mpslp_builder.proofs.SlotLemmas.{has-put}
-use Rattle.mpslp_lines.specs.Field.{value_of}
-use Rattle.mpslp_mps_fields.specs.Line.{Fields, LineContent, skipped, header, data_line}
-use Rattle.mpslp_mps_fields.specs.Section.{section_named, is_section}
+use Rattle.mpslp_lines.specs.FaultTests.{value_of}
+use Rattle.mpslp_mps_fields.specs.Line.{Fields, LineContent, skipped, header, data_line, section_named, is_section}
 use Rattle.mpslp_mps_fields.specs.DataLine.{Pair, ValuesLine, column_shape, is_marker_line, marker_shape, opening_word}
 use Rattle.mpslp_mps.specs.Context.{context_of, current_section, fields_under, data_lines, marker_word, line_column}
 use Rattle.mpslp_mps.specs.LineDeclarations.{declared_if_some, coefficient_declared, column_declared, data_declared, line_declares}

@@ -8,7 +8,7 @@ use Rattle.mpslp_types.specs.Limit.{limit_of, is_plus_infinite, is_minus_infinit
 use Rattle.std.proofs.lemmas.List.{append-nil}
 use Rattle.mpslp_builder.specs.Bounds.{zero_limit, one_limit}
 use Rattle.mpslp_builder.specs.Declaration.{Declaration, declare_integer, declare_semi, declare_lower, declare_upper, Draft, with_declaration, with_declarations, has_name, has_column, is_integer, is_semi, bounds_declared}
-use Rattle.mpslp_model_core.specs.Lists.{those_of, when}
+use Rattle.mpslp_types.specs.Lists.{those_of, when}
 use Rattle.mpslp_types.specs.FaultOrder.{least_kind}
 use Rattle.mpslp_builder.specs.Refusal.{refusals, bounds_refusals, bounds_tests}
 use Rattle.mpslp_types.specs.declared.kinds.Limit.{Limit}
@@ -17,12 +17,11 @@ use Rattle.mpslp_types.specs.declared.faults.BuildFault.TheVariants.{UnknownColu
 use Rattle.mpslp_types.specs.declared.faults.FaultKind.{FaultKind}
 use Rattle.mpslp_types.specs.declared.faults.FaultKind.TheVariants as kinds
 use Rattle.mpslp_mps_fields.specs.Line.{Fields}
-use Rattle.mpslp_mps_fields.specs.BoundLine.{BoundLine, bound_type, bound_shape, is_integer_type, is_semi_type}
+use Rattle.mpslp_mps_fields.specs.DataLine.{BoundLine, bound_type, bound_shape, is_integer_type, is_semi_type}
 use Rattle.mpslp_mps.specs.LineDeclarations.{declared_if_some, lower_given, upper_given, kind_declared, bound_declared, bound_value, bound_line_declared}
 use Rattle.mpslp_mps.specs.KindClash.{type_clash}
-use Rattle.mpslp_lines.specs.Field.{value_of}
-use Rattle.mpslp_lines.specs.Declaring.{kind_of_build_fault, declared_fault}
-use Rattle.mpslp_lines.specs.FaultTests.{first_held}
+use Rattle.mpslp_lines.specs.FaultTests.{value_of, kind_of_build_fault, first_held}
+use Rattle.mpslp_lines.specs.Declaring.{declared_fault}
 use Rattle.mpslp_lines.specs.ErrorOf.{error_of_build}
 use Rattle.mpslp_lines.specs.LineAnswer.{IsErrorOf, IfFault, LineResult, AreDeclared}
 use Rattle.mpslp_lines.specs.declared.errors.LineError.{LineError}

@@ -8,7 +8,7 @@ use Rattle.mpslp_decimal.specs.Decimal.{Number}
 use Rattle.mpslp_builder.specs.Answer.{Answer, first_refusal}
 use Rattle.mpslp_builder.specs.Declaration.{Declaration, declare_objective, declare_row, by_type, declare_column, declare_marked, declare_integer, declare_semi, Declarations, Draft, with_declaration, has_column, is_integer, is_semi, bounds_declared}
 use Rattle.mpslp_builder.specs.Bounds.{zero_limit, one_limit}
-use Rattle.mpslp_model_core.specs.Lists.{those_of, when}
+use Rattle.mpslp_types.specs.Lists.{those_of, when}
 use Rattle.mpslp_builder.specs.Made.{IsMade}
 use Rattle.mpslp_builder.specs.Refusal.{refusals, refusals_in_turn}
 use Rattle.mpslp_types.specs.declared.kinds.Limit.{Limit}
@@ -19,8 +19,7 @@ use Rattle.mpslp_builder.proofs.MadeDrafts.{declared_names-from_made}
 use Rattle.mpslp_lines.specs.Declaring.{is_kind_clash}
 use Rattle.mpslp_lines.proofs.ClashLemmas.{has_kind_clash, says_no_kind, no-clash}
 use Rattle.mpslp_mps_fields.specs.Line.{Fields}
-use Rattle.mpslp_mps_fields.specs.DataLine.{ValuesLine, word_shape, row_shape, row_type, column_shape, is_marker_line}
-use Rattle.mpslp_mps_fields.specs.BoundLine.{BoundLine, bound_type, bound_shape}
+use Rattle.mpslp_mps_fields.specs.DataLine.{ValuesLine, word_shape, row_shape, row_type, column_shape, is_marker_line, BoundLine, bound_type, bound_shape}
 use Rattle.mpslp_mps.specs.Context.{Context}
 use Rattle.mpslp_mps.specs.LineDeclarations.{declared_if_some, sense_declared, is_new_objective, row_of_type, row_declared, coefficient_declared, column_declared, bound_declared, bound_value, bound_line_declared, default_objective, data_declared, header_declared}
 use Rattle.mpslp_mps.specs.LineValues.{named_values}

@@ -7,18 +7,16 @@ use Rattle.std.proofs.lemmas.Bool.Decides.{nat_tests}
 use Rattle.mpslp_decimal.specs.Decimal.{Number}
 use Rattle.mpslp_types.specs.Name.{same_bytes, has_name_length, is_visible, marker, is_mps_name}
 use Rattle.mpslp_builder.specs.Declaration.{Declarations, Draft, with_declarations, has_column}
-use Rattle.mpslp_model_core.specs.Lists.{those_of}
+use Rattle.mpslp_types.specs.Lists.{those_of}
 use Rattle.mpslp_types.specs.FaultOrder.{kind_rank, least_kind}
 use Rattle.mpslp_types.specs.declared.faults.FaultKind.{FaultKind}
 use Rattle.mpslp_types.specs.declared.faults.FaultKind.TheVariants as kinds
 use Rattle.mpslp_mps_fields.specs.Line.{Fields, data_line}
 use Rattle.mpslp_mps_fields.specs.DataLine.{Pair, ValuesLine, column_shape, is_marker_line}
 use Rattle.mpslp_mps.specs.Context.{Context}
-use Rattle.mpslp_lines.specs.FaultTests.{FaultTests, judged_by, first_held}
-use Rattle.mpslp_lines.specs.Field.{name_tests, number_tests}
-use Rattle.mpslp_mps.specs.FieldFault.{literals_of}
+use Rattle.mpslp_lines.specs.FaultTests.{FaultTests, judged_by, first_held, name_tests, number_tests}
+use Rattle.mpslp_mps.specs.LineFault.{literals_of, is_split, marker_tests, column_tests, data_tests}
 use Rattle.mpslp_mps.specs.LineValues.{row_value, named_values}
-use Rattle.mpslp_mps.specs.DataFault.{is_split, marker_tests, column_tests, data_tests}
 use Rattle.mpslp_mps.specs.LineDeclarations.{coefficient_declared, data_declared, declared_if_some, column_declared}
 use Rattle.mpslp_lines.specs.Declaring.{declaring_faults, declared_fault}
 use Rattle.mpslp_mps.specs.LineAnswer.{item_fault}

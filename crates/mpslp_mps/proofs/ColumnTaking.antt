@@ -8,7 +8,7 @@ use Rattle.mpslp_decimal.specs.Decimal.{Number}
 use Rattle.mpslp_types.specs.Name.{same_bytes}
 use Rattle.mpslp_model_core.specs.Model.{CoefficientKey, key_cmp}
 use Rattle.mpslp_builder.specs.Declaration.{declare_column, declare_coefficient, Declarations, Draft, with_declaration, with_declarations, has_row, has_column, has_coefficient, is_semi}
-use Rattle.mpslp_model_core.specs.Lists.{those_of}
+use Rattle.mpslp_types.specs.Lists.{those_of}
 use Rattle.mpslp_types.specs.FaultOrder.{least_kind}
 use Rattle.mpslp_types.specs.declared.faults.BuildFault.TheVariants.{UnknownColumn, SemiContinuous}
 use Rattle.mpslp_builder.proofs.SlotLemmas.{has-put, has-put_key}
@@ -18,10 +18,10 @@ use Rattle.mpslp_types.specs.declared.faults.FaultKind.TheVariants as kinds
 use Rattle.mpslp_mps_fields.specs.Line.{Fields}
 use Rattle.mpslp_mps_fields.specs.DataLine.{column_shape, is_marker_line, marker_shape}
 use Rattle.mpslp_mps.specs.Context.{Context}
-use Rattle.mpslp_lines.specs.FaultTests.{judged_by}
-use Rattle.mpslp_mps.specs.DataFault.{marker_tests, marker_word_tests, is_sos_marker, column_tests, data_tests}
+use Rattle.mpslp_lines.specs.FaultTests.{judged_by, kind_of_build_fault}
+use Rattle.mpslp_mps.specs.LineFault.{marker_tests, marker_word_tests, is_sos_marker, column_tests, data_tests}
 use Rattle.mpslp_mps.specs.LineDeclarations.{data_declared, declared_if_some, column_declared}
-use Rattle.mpslp_lines.specs.Declaring.{kind_of_build_fault, declared_fault}
+use Rattle.mpslp_lines.specs.Declaring.{declared_fault}
 use Rattle.mpslp_mps.specs.ColumnDeclared.{front_declared, value_declared, has_duplicate}
 use Rattle.mpslp_lines.specs.LineAnswer.{IsErrorOf}
 use Rattle.mpslp_lines.specs.declared.errors.LineError.{LineError}

@@ -8,14 +8,13 @@ use Rattle.std.proofs.lemmas.List.Folds.{list_any-append}
 use Rattle.mpslp_types.specs.Name.{same_bytes}
 use Rattle.mpslp_types.proofs.BoolLemmas.{or_left, or_right}
 use Rattle.mpslp_builder.specs.Declaration.{declare_column, declare_marked, Draft, with_declaration, with_declarations, has_column}
-use Rattle.mpslp_model_core.specs.Lists.{when}
+use Rattle.mpslp_types.specs.Lists.{when}
 use Rattle.mpslp_builder.proofs.SlotLemmas.{has-put}
-use Rattle.mpslp_mps_fields.specs.Line.{Fields, LineContent, skipped, header, data_line}
-use Rattle.mpslp_mps_fields.specs.Section.{section_named, is_section}
+use Rattle.mpslp_mps_fields.specs.Line.{Fields, LineContent, skipped, header, data_line, section_named, is_section}
 use Rattle.mpslp_mps_fields.specs.DataLine.{ValuesLine, column_shape, is_marker_line}
 use Rattle.mpslp_mps.specs.Context.{Context, context_of, current_section, fields_under, data_lines, line_column, last_column}
 use Rattle.mpslp_mps.specs.LineDeclarations.{declared_if_some, coefficient_declared, column_declared, columns_line_declared, data_declared, line_declares}
-use Rattle.mpslp_mps.specs.DataFault.{is_split}
+use Rattle.mpslp_mps.specs.LineFault.{is_split}
 use Rattle.mpslp_mps.specs.TextInWords.{same_column}
 use Rattle.mpslp_mps_fields.specs.declared.sections.Section.TheVariants.{Columns}
 use Rattle.mpslp_mps.proofs.OrderLemmas.{declares_column, no_columns, columns-kept, each-flat}

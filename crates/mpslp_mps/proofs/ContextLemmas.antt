@@ -6,9 +6,8 @@ use Rattle.std.specs.Option.{option_map_or, option_or}
 use Rattle.std.proofs.lemmas.List.{append-nil}
 use Rattle.std.proofs.lemmas.List.Elements.{filter_map-append, filter-append}
 use Rattle.mpslp_types.specs.Name.{same_bytes}
-use Rattle.mpslp_model_core.specs.Lists.{head_of}
-use Rattle.mpslp_mps_fields.specs.Line.{Fields, LineContent, skipped, header, data_line}
-use Rattle.mpslp_mps_fields.specs.Section.{section_of_header, is_section}
+use Rattle.mpslp_types.specs.Lists.{head_of}
+use Rattle.mpslp_mps_fields.specs.Line.{Fields, LineContent, skipped, header, data_line, section_of_header, is_section}
 use Rattle.mpslp_mps_fields.specs.DataLine.{opening_word}
 use Rattle.mpslp_mps.specs.Context.{is_read, word_due_after, word_due, said_after, objname_word, objname, marker_word, line_column, vector_set, bound_set, first_set, current_section, fields_under, data_lines, context_of}
 use Rattle.mpslp_mps.specs.NextContext.{changed_under, next_part, next_set, next_context}

@@ -4,11 +4,11 @@ use Rattle.std.specs.Prelude.{◌&&◌, not}
 use Rattle.std.specs.List.{flat_map, list_all}
 use Rattle.std.specs.Cmp.{first_so, second_so}
 use Rattle.mpslp_builder.specs.Declaration.{Declarations, Draft, with_declarations}
-use Rattle.mpslp_model_core.specs.Lists.{is_nonempty, those_of}
+use Rattle.mpslp_types.specs.Lists.{is_nonempty, those_of}
 use Rattle.mpslp_types.specs.declared.faults.FaultKind.{FaultKind}
 use Rattle.mpslp_types.specs.declared.faults.FaultKind.TheVariants.{LineTooLong, BadByte}
 use Rattle.mpslp_types.proofs.BoolLemmas.{both_so}
-use Rattle.mpslp_lines.specs.LegalLine.{has_legal_length, is_legal_byte}
+use Rattle.mpslp_lines.specs.FaultTests.{has_legal_length, is_legal_byte}
 use Rattle.mpslp_lines.proofs.HeldLemmas.{later_tests}
 use Rattle.mpslp_lines.proofs.FirstFaultLemmas.{legal-only}
 use Rattle.mpslp_mps_fields.specs.Line.{LineContent, content_of, outside_comment}

@@ -9,12 +9,11 @@ use Rattle.mpslp_types.specs.Name.{same_bytes}
 use Rattle.mpslp_types.specs.declared.kinds.Sense.{Sense}
 use Rattle.mpslp_types.specs.declared.faults.FaultKind.TheVariants as kinds
 use Rattle.mpslp_builder.specs.Declaration.{Draft}
-use Rattle.mpslp_model_core.specs.Lists.{those_of, is_nonempty, when, head_of}
-use Rattle.mpslp_mps_fields.specs.Line.{Fields, LineContent, data_line}
-use Rattle.mpslp_mps_fields.specs.Section.{is_section}
+use Rattle.mpslp_types.specs.Lists.{those_of, is_nonempty, when, head_of}
+use Rattle.mpslp_mps_fields.specs.Line.{Fields, LineContent, data_line, is_section}
 use Rattle.mpslp_mps_fields.specs.DataLine.{opening_word, closing_word, sense_of}
 use Rattle.mpslp_mps.specs.Context.{context_of, current_section, said_after, data_lines, fields_under, marker_word, line_column, vector_set, bound_set, word_due}
-use Rattle.mpslp_mps.specs.DataFault.{data_tests, is_split}
+use Rattle.mpslp_mps.specs.LineFault.{data_tests, is_split}
 use Rattle.mpslp_mps.specs.TextInWords.{strays, stray_lines, takes_data, word_fields, words_in, has_word_at_most, is_sense, is_row_line, is_columns_line, is_vector_line, is_bound_line, alternate, stand_together, is_one_set}
 use Rattle.mpslp_mps_fields.specs.declared.sections.Section.{Section}
 use Rattle.mpslp_mps_fields.specs.declared.sections.Section.TheVariants.{Name, ObjSense, ObjName, Rows, Columns, Rhs, Ranges, Bounds, EndData}

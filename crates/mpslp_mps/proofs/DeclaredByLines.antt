@@ -12,10 +12,9 @@ use Rattle.mpslp_types.specs.declared.kinds.RowType.TheVariants.{Free, AtMost, A
 use Rattle.mpslp_types.specs.declared.faults.FaultKind.{FaultKind}
 use Rattle.mpslp_types.proofs.BoolLemmas.{both_so, or_left, or_right}
 use Rattle.mpslp_model_core.specs.Model.{CoefficientKey}
-use Rattle.mpslp_model_core.specs.Lists.{when}
+use Rattle.mpslp_types.specs.Lists.{when}
 use Rattle.mpslp_builder.specs.Declaration.{by_type, Declaration, declare_sense, declare_objective, declare_constant, declare_row, declare_rhs, declare_range, declare_column, declare_coefficient, declare_lower, declare_upper, declare_marked, declare_integer, declare_binary, declare_semi, Declarations, Draft, with_declaration, with_declarations}
-use Rattle.mpslp_mps_fields.specs.Line.{Fields, LineContent, skipped, header, data_line}
-use Rattle.mpslp_mps_fields.specs.Section.{section_named, is_section}
+use Rattle.mpslp_mps_fields.specs.Line.{Fields, LineContent, skipped, header, data_line, section_named, is_section}
 use Rattle.mpslp_mps_fields.specs.DataLine.{ValuesLine, row_shape, row_type, column_shape, is_marker_line}
 use Rattle.mpslp_mps.specs.Context.{Context, context_of, current_section, fields_under, data_lines}
 use Rattle.mpslp_mps.specs.LineDeclarations.{declared_if_some, is_new_objective, row_of_type, row_declared, coefficient_declared, column_declared, data_declared, header_declared, line_declares}

@@ -3,8 +3,7 @@ use Rattle.std.proofs.Common.{◌≡◌, refl, ℕ, suc, List, [], ◌∷◌, ta
 use Rattle.std.specs.Prelude.{Option, Some, None}
 use Rattle.std.specs.List.{position_or_len}
 use Rattle.std.specs.Option.{option_or}
-use Rattle.mpslp_mps_fields.specs.Line.{LineContent}
-use Rattle.mpslp_mps_fields.specs.Section.{section_of_header, is_section, begins}
+use Rattle.mpslp_mps_fields.specs.Line.{LineContent, section_of_header, is_section, begins}
 use Rattle.mpslp_mps.specs.Context.{Context}
 use Rattle.mpslp_mps.specs.NextContext.{next_context}
 use Rattle.mpslp_mps.specs.MpsText.{is_end}

@@ -14,15 +14,12 @@ use Rattle.mpslp_types.specs.declared.faults.Fault.{Fault}
 use Rattle.mpslp_types.specs.declared.faults.FaultKind.{FaultKind}
 use Rattle.mpslp_types.specs.declared.faults.FaultKind.TheVariants.{LineTooLong, BadByte, MissingEnd, NoColumns}
 use Rattle.mpslp_types.proofs.BoolLemmas.{true_from, both_so, or_left, or_right}
-use Rattle.mpslp_model_core.specs.Lists.{is_nonempty, head_of, those_of}
+use Rattle.mpslp_types.specs.Lists.{is_nonempty, head_of, those_of}
 use Rattle.mpslp_builder.specs.Declaration.{Declarations, Draft, with_declaration, with_declarations, empty_draft, draft_of}
-use Rattle.mpslp_builder.specs.Meaning.{named_kinds, whole_fault, names_with, named_faults, file_fault}
+use Rattle.mpslp_builder.specs.FileFault.{named_kinds, whole_fault, names_with, named_faults, file_fault}
 use Rattle.mpslp_builder.specs.Refusal.{refusal_tests, refusals, refusals_in_turn}
-use Rattle.mpslp_lines.specs.Declaring.{kind_of_build_fault, declaring_faults, first_fault}
-use Rattle.mpslp_lines.specs.Field.{is_kind}
-use Rattle.mpslp_lines.specs.LegalLine.{has_legal_length, is_legal_byte}
-use Rattle.mpslp_lines.specs.LineAnswer.{fault_on_line}
-use Rattle.mpslp_lines.specs.FaultTests.{FaultTests}
+use Rattle.mpslp_lines.specs.Declaring.{declaring_faults, first_fault}
+use Rattle.mpslp_lines.specs.FaultTests.{kind_of_build_fault, fault_on_line, is_kind, has_legal_length, is_legal_byte, FaultTests}
 use Rattle.mpslp_lines.proofs.LeastLemmas.{lesser, earlier_of, least-append, least-none}
 use Rattle.mpslp_lines.proofs.FirstFaultLemmas.{faultless}
 use Rattle.mpslp_mps_fields.specs.Line.{LineContent, content_of, outside_comment}

@@ -10,17 +10,13 @@ use Rattle.mpslp_types.specs.declared.faults.FaultKind.{FaultKind}
 use Rattle.mpslp_types.specs.declared.faults.FaultKind.TheVariants as kinds
 use Rattle.mpslp_types.proofs.BoolLemmas.{both_false, either, either_more}
 use Rattle.mpslp_builder.specs.Declaration.{Declaration, declare_sense, declare_objective, declare_column, declare_coefficient, declare_lower, declare_upper, declare_marked, declare_row, declare_rhs, declare_range, Draft, with_declaration, has_name, is_integer, is_semi}
-use Rattle.mpslp_lines.specs.Field.{value_of}
-use Rattle.mpslp_mps_fields.specs.Line.{Fields, LineContent, skipped, header, data_line}
-use Rattle.mpslp_mps_fields.specs.Section.{has, section_named, is_section}
-use Rattle.mpslp_mps_fields.specs.DataLine.{Pair, ValuesLine, column_shape, is_marker_line}
-use Rattle.mpslp_mps_fields.specs.BoundLine.{BoundLine, bound_type, bound_shape, is_integer_type, is_semi_type}
-use Rattle.mpslp_mps.specs.Context.{Context, context_of, current_section, seen_sections, has_section, data_lines}
+use Rattle.mpslp_lines.specs.FaultTests.{value_of}
+use Rattle.mpslp_mps_fields.specs.Line.{Fields, LineContent, skipped, header, data_line, has, section_named, is_section}
+use Rattle.mpslp_mps_fields.specs.DataLine.{Pair, ValuesLine, column_shape, is_marker_line, BoundLine, bound_type, bound_shape, is_integer_type, is_semi_type}
+use Rattle.mpslp_mps.specs.Context.{Context, context_of, current_section, seen_sections, data_lines}
+use Rattle.mpslp_mps.specs.TextInWords.{has_section, section_rank}
 use Rattle.mpslp_mps.specs.LineDeclarations.{declared_if_some, coefficient_declared, column_declared, columns_line_declared, bound_declared, bound_value, bound_line_declared, data_declared, line_declares}
-use Rattle.mpslp_mps.specs.LineFault.{item_tests}
-use Rattle.mpslp_mps.specs.HeaderFault.{header_tests}
-use Rattle.mpslp_mps.specs.DataFault.{data_tests}
-use Rattle.mpslp_mps.specs.TextInWords.{section_rank}
+use Rattle.mpslp_mps.specs.LineFault.{item_tests, header_tests, data_tests}
 use Rattle.mpslp_mps.specs.FaultsInWords.{IsInWords}
 use Rattle.mpslp_mps.specs.ValueFaultsInWords.{gives_lower, gives_upper, is_such_bound, has_bound, repeats_bound_of, repeats_bound, is_in_block, is_integer_column, clashes_with, makes_both_kinds}
 use Rattle.mpslp_mps_fields.specs.declared.bound_types.BoundType.{BoundType}

@@ -14,24 +14,18 @@ use Rattle.mpslp_types.specs.declared.kinds.Limit.{Limit}
 use Rattle.mpslp_types.specs.declared.kinds.RowType.{RowType}
 use Rattle.mpslp_types.specs.declared.kinds.RowType.TheVariants.{Free, AtMost, AtLeast, Equal}
 use Rattle.mpslp_types.proofs.BoolLemmas.{both_so, or_left, or_right, not_so, so_not}
-use Rattle.mpslp_model_core.specs.Lists.{head_of}
+use Rattle.mpslp_types.specs.Lists.{head_of}
 use Rattle.mpslp_builder.specs.Declaration.{by_type, Declaration, declare_sense, declare_objective, declare_constant, declare_row, declare_rhs, declare_range, declare_column, declare_coefficient, declare_lower, declare_upper, declare_marked, declare_integer, declare_binary, declare_semi, Declarations, Draft, with_declaration, empty_draft, has_row, has_column, is_free_row, rhs_declared}
 use Rattle.mpslp_builder.specs.Refusal.{refusal_tests}
 use Rattle.mpslp_builder.proofs.LaterDrafts.{itself_named}
 use Rattle.mpslp_builder.proofs.SlotLemmas.{same_name, has-put}
-use Rattle.mpslp_lines.specs.Declaring.{kind_of_build_fault}
-use Rattle.mpslp_lines.specs.Field.{is_kind, value_of}
-use Rattle.mpslp_lines.specs.FaultTests.{FaultTests}
-use Rattle.mpslp_mps_fields.specs.Line.{Fields, LineContent, skipped, header, data_line}
-use Rattle.mpslp_mps_fields.specs.Section.{section_named, is_section}
-use Rattle.mpslp_mps_fields.specs.DataLine.{Pair, ValuesLine, word_shape, row_shape, row_type, column_shape, is_marker_line, vector_shape}
-use Rattle.mpslp_mps_fields.specs.BoundLine.{BoundLine, bound_type, bound_shape}
-use Rattle.mpslp_mps.specs.Context.{Context, context_of, current_section, has_section, seen_sections, objname}
-use Rattle.mpslp_mps.specs.HeaderFault.{lacks_objective, section_tests, header_tests}
-use Rattle.mpslp_mps.specs.DataFault.{data_tests}
-use Rattle.mpslp_mps.specs.LineFault.{item_tests}
+use Rattle.mpslp_lines.specs.FaultTests.{kind_of_build_fault, is_kind, value_of, FaultTests}
+use Rattle.mpslp_mps_fields.specs.Line.{Fields, LineContent, skipped, header, data_line, section_named, is_section}
+use Rattle.mpslp_mps_fields.specs.DataLine.{Pair, ValuesLine, word_shape, row_shape, row_type, column_shape, is_marker_line, vector_shape, BoundLine, bound_type, bound_shape}
+use Rattle.mpslp_mps.specs.Context.{Context, context_of, current_section, seen_sections, objname}
+use Rattle.mpslp_mps.specs.TextInWords.{has_section, section_rank, words_in, has_free_row, has_named_objective}
+use Rattle.mpslp_mps.specs.LineFault.{lacks_objective, section_tests, header_tests, data_tests, item_tests}
 use Rattle.mpslp_mps.specs.LineDeclarations.{declared_if_some, is_new_objective, row_of_type, row_declared, coefficient_declared, column_declared, columns_line_declared, rhs_line_declared, ranges_declared, bound_declared, bound_value, bound_line_declared, data_declared, header_declared}
-use Rattle.mpslp_mps.specs.TextInWords.{section_rank, words_in, has_free_row, has_named_objective}
 use Rattle.mpslp_mps.specs.FaultsInWords.{IsInWords, names_row, has_default_objective, is_row, pairs_in, names_unknown_row, bound_column, names_column, names_unknown_column}
 use Rattle.mpslp_mps_fields.specs.declared.bound_types.BoundType.{BoundType}
 use Rattle.mpslp_mps_fields.specs.declared.bound_types.BoundType.TheVariants as bounds

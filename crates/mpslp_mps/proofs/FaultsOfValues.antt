@@ -14,15 +14,14 @@ use Rattle.mpslp_builder.specs.Refusal.{refusals_in_turn}
 use Rattle.mpslp_builder.proofs.LaterDrafts.{extends-in_turn}
 use Rattle.mpslp_builder.proofs.RefusalLemmas.{HasDeclaredNames, HasKindsApart, none-fine, empty_declared_names, empty_kinds_apart}
 use Rattle.mpslp_builder.proofs.SlotLemmas.{has-put}
-use Rattle.mpslp_lines.specs.Field.{value_of}
+use Rattle.mpslp_lines.specs.FaultTests.{value_of}
 use Rattle.mpslp_mps_fields.specs.Line.{Fields, LineContent}
-use Rattle.mpslp_mps_fields.specs.DataLine.{Pair, ValuesLine, vector_shape}
+use Rattle.mpslp_mps_fields.specs.DataLine.{Pair, ValuesLine, vector_shape, is_integer_type, is_semi_type}
 use Rattle.mpslp_mps.specs.Context.{context_of, data_lines}
 use Rattle.mpslp_mps.specs.LineDeclarations.{declared_if_some, rhs_line_declared, ranges_declared, line_declares}
 use Rattle.mpslp_mps.specs.FaultsInWords.{IsInWords, has_row_twice}
 use Rattle.mpslp_mps.specs.TextInWords.{has_free_row}
 use Rattle.mpslp_mps.specs.ValueFaultsInWords.{is_without_limits, ranges_free_row, vector_pairs, has_value_of, repeats_row_of, repeats_range, takes_side, repeats_side, names_objective, gives_lower, gives_upper}
-use Rattle.mpslp_mps_fields.specs.BoundLine.{is_integer_type, is_semi_type}
 use Rattle.mpslp_mps_fields.specs.declared.sections.Section.{Section}
 use Rattle.mpslp_mps_fields.specs.declared.sections.Section.TheVariants.{Rhs, Ranges}
 use Rattle.mpslp_mps.proofs.OrderLemmas.{IsGood}

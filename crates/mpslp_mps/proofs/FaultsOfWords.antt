@@ -6,24 +6,17 @@ use Rattle.std.specs.Option.{option_map, option_map_or}
 use Rattle.mpslp_types.specs.Name.{same_bytes, is_one_of}
 use Rattle.mpslp_types.specs.declared.faults.FaultKind.TheVariants as kinds
 use Rattle.mpslp_types.proofs.BoolLemmas.{both_so, or_left, or_right, nor, so_not}
-use Rattle.mpslp_model_core.specs.Lists.{head_of, is_nonempty}
+use Rattle.mpslp_types.specs.Lists.{head_of, is_nonempty}
 use Rattle.mpslp_builder.specs.Declaration.{Draft}
-use Rattle.mpslp_lines.specs.Field.{number_tests}
-use Rattle.mpslp_lines.specs.FaultTests.{judged_by}
-use Rattle.mpslp_mps_fields.specs.Line.{Fields, LineContent, skipped, header, data_line}
-use Rattle.mpslp_mps_fields.specs.Section.{has, section_named, is_section}
-use Rattle.mpslp_mps_fields.specs.DataLine.{word_shape, ValuesLine, column_shape, is_marker_line, marker_shape, opening_word, closing_word, vector_shape}
-use Rattle.mpslp_mps_fields.specs.BoundLine.{BoundLine, bound_type, bound_shape}
-use Rattle.mpslp_mps.specs.Context.{context_of, current_section, has_section, seen_sections, data_lines, word_due, marker_word, line_column, vector_set, bound_set}
-use Rattle.mpslp_mps_fields.specs.HeaderLine.{takes_word}
-use Rattle.mpslp_mps.specs.FieldFault.{set_tests}
-use Rattle.mpslp_mps.specs.HeaderFault.{may_begin, is_out_of_order, word_tests, section_tests, header_tests}
-use Rattle.mpslp_mps.specs.DataFault.{marker_word_tests, marker_tests, is_split, column_tests, vector_tests, bound_tests, typed_bound_tests, bound_line_tests, data_tests}
-use Rattle.mpslp_mps.specs.LineFault.{item_tests}
+use Rattle.mpslp_lines.specs.FaultTests.{number_tests, judged_by}
+use Rattle.mpslp_mps_fields.specs.Line.{Fields, LineContent, skipped, header, data_line, has, section_named, is_section, takes_word}
+use Rattle.mpslp_mps_fields.specs.DataLine.{word_shape, ValuesLine, column_shape, is_marker_line, marker_shape, opening_word, closing_word, vector_shape, BoundLine, bound_type, bound_shape}
+use Rattle.mpslp_mps.specs.Context.{context_of, current_section, seen_sections, data_lines, word_due, marker_word, line_column, vector_set, bound_set}
+use Rattle.mpslp_mps.specs.TextInWords.{has_section, section_rank, is_sense, words_in, is_one_word, alternate, stand_together}
+use Rattle.mpslp_mps.specs.LineFault.{set_tests, may_begin, is_out_of_order, word_tests, section_tests, header_tests, marker_word_tests, marker_tests, is_split, column_tests, vector_tests, bound_tests, typed_bound_tests, bound_line_tests, data_tests, item_tests}
 use Rattle.mpslp_mps_fields.specs.declared.bound_types.BoundType.{BoundType}
 use Rattle.mpslp_mps_fields.specs.declared.sections.Section.{Section}
 use Rattle.mpslp_mps_fields.specs.declared.sections.Section.TheVariants.{Name, ObjSense, ObjName, Rows, Columns, Rhs, Ranges, Bounds, EndData}
-use Rattle.mpslp_mps.specs.TextInWords.{section_rank, is_sense, words_in, is_one_word, alternate, stand_together}
 use Rattle.mpslp_mps.specs.FaultsInWords.{IsInWords, repeats_section, comes_early, comes_late, has_its_word, is_without_word, is_closed, stands_out_of_order, breaks_turn, is_wrong_marker, differs_from, has_second_set, is_of_second_set, splits_column}
 use Rattle.mpslp_mps.proofs.OrderLemmas.{never}
 use Rattle.mpslp_mps.proofs.WordsOfColumns.{columns_of}

@@ -8,9 +8,8 @@ use Rattle.std.proofs.lemmas.List.Folds.{list_any-append}
 use Rattle.mpslp_builder.specs.Declaration.{Draft, empty_draft}
 use Rattle.mpslp_types.specs.declared.faults.Fault.{Fault}
 use Rattle.mpslp_types.specs.declared.faults.FaultKind.{FaultKind}
-use Rattle.mpslp_lines.specs.LineAnswer.{fault_on_line}
-use Rattle.mpslp_mps_fields.specs.Section.{is_section}
-use Rattle.mpslp_mps_fields.specs.Line.{content_of}
+use Rattle.mpslp_lines.specs.FaultTests.{fault_on_line}
+use Rattle.mpslp_mps_fields.specs.Line.{is_section, content_of}
 use Rattle.mpslp_mps.specs.Context.{Context, context_of}
 use Rattle.mpslp_mps.specs.NextContext.{without_names, kept_context}
 use Rattle.mpslp_mps.specs.MpsText.{is_end}

@@ -6,8 +6,7 @@ use Rattle.mpslp_mps_fields.specs.Line.{Fields, data_line}
 use Rattle.mpslp_mps.specs.Context.{Context}
 use Rattle.mpslp_mps.specs.NextContext.{next_context}
 use Rattle.mpslp_mps.specs.LineDeclarations.{data_declared, header_declared}
-use Rattle.mpslp_mps.specs.HeaderFault.{header_tests}
-use Rattle.mpslp_mps.specs.DataFault.{data_tests}
+use Rattle.mpslp_mps.specs.LineFault.{header_tests, data_tests}
 use Rattle.mpslp_mps_fields.specs.declared.sections.Section.{Section}
 use Rattle.mpslp_mps_fields.specs.declared.sections.Section.TheVariants.{Name, ObjSense, ObjName, Rows, Columns, Rhs, Ranges, Bounds, EndData}
 

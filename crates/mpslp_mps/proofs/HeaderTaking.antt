@@ -6,12 +6,10 @@ use Rattle.mpslp_types.specs.Name.{is_one_of}
 use Rattle.mpslp_builder.specs.Declaration.{Draft}
 use Rattle.mpslp_types.specs.declared.faults.FaultKind.{FaultKind}
 use Rattle.mpslp_types.specs.declared.faults.FaultKind.TheVariants as kinds
-use Rattle.mpslp_mps_fields.specs.Line.{Fields, header}
-use Rattle.mpslp_mps_fields.specs.Section.{section_named}
+use Rattle.mpslp_mps_fields.specs.Line.{Fields, header, section_named, unknown_section}
 use Rattle.mpslp_mps.specs.Context.{Context}
 use Rattle.mpslp_lines.specs.FaultTests.{first_held}
-use Rattle.mpslp_mps.specs.HeaderFault.{header_tests}
-use Rattle.mpslp_mps_fields.specs.HeaderLine.{unknown_section}
+use Rattle.mpslp_mps.specs.LineFault.{header_tests}
 use Rattle.mpslp_mps.specs.LineDeclarations.{header_declared}
 use Rattle.mpslp_mps.specs.LineAnswer.{item_fault}
 use Rattle.mpslp_lines.specs.Declaring.{declared_fault}

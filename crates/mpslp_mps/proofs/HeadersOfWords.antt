@@ -8,13 +8,11 @@ use Rattle.mpslp_types.specs.declared.faults.FaultKind.{FaultKind}
 use Rattle.mpslp_types.specs.declared.faults.FaultKind.TheVariants as kinds
 use Rattle.mpslp_types.proofs.BoolLemmas.{both_so, both_false, nor, not_so, so_not}
 use Rattle.mpslp_builder.specs.Declaration.{Draft}
-use Rattle.mpslp_model_core.specs.Lists.{those_of, are_distinct}
+use Rattle.mpslp_types.specs.Lists.{those_of, are_distinct}
 use Rattle.mpslp_lines.specs.FaultTests.{FaultTests}
-use Rattle.mpslp_mps_fields.specs.Line.{Fields, LineContent}
-use Rattle.mpslp_mps_fields.specs.Section.{has, is_section}
+use Rattle.mpslp_mps_fields.specs.Line.{Fields, LineContent, has, is_section, may_follow}
 use Rattle.mpslp_mps.specs.Context.{Context, context_of, seen_sections}
-use Rattle.mpslp_mps.specs.HeaderFault.{may_begin, is_out_of_order, section_tests, header_tests}
-use Rattle.mpslp_mps_fields.specs.HeaderLine.{may_follow}
+use Rattle.mpslp_mps.specs.LineFault.{may_begin, is_out_of_order, section_tests, header_tests}
 use Rattle.mpslp_mps.specs.TextInWords.{section_rank, in_order, same_section, are_good_sections}
 use Rattle.mpslp_mps_fields.specs.declared.sections.Section.{Section}
 use Rattle.mpslp_mps_fields.specs.declared.sections.Section.TheVariants.{Name, ObjSense, ObjName, Rows, Columns, Rhs, Ranges, Bounds, EndData}

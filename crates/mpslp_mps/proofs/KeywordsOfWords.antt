@@ -10,14 +10,12 @@ use Rattle.mpslp_types.specs.declared.kinds.Sense.{Sense}
 use Rattle.mpslp_types.specs.declared.faults.FaultKind.TheVariants as kinds
 use Rattle.mpslp_types.proofs.BoolLemmas.{both_false, nor, not_so}
 use Rattle.mpslp_builder.specs.Declaration.{Draft}
-use Rattle.mpslp_model_core.specs.Lists.{those_of, is_nonempty, are_distinct, head_of, when}
-use Rattle.mpslp_mps_fields.specs.Line.{Fields, LineContent, header}
-use Rattle.mpslp_mps_fields.specs.Section.{has, section_named, section_of_header, is_section}
+use Rattle.mpslp_types.specs.Lists.{those_of, is_nonempty, are_distinct, head_of, when}
+use Rattle.mpslp_mps_fields.specs.Line.{Fields, LineContent, header, has, section_named, section_of_header, is_section, may_follow}
 use Rattle.mpslp_mps_fields.specs.DataLine.{sense_of}
-use Rattle.mpslp_mps.specs.Context.{context_of, seen_sections, has_section, current_section, said_after, fields_under, data_lines, data_lines_after, objname_word, objname, word_due}
-use Rattle.mpslp_mps.specs.HeaderFault.{may_begin, lacks_objective, section_tests, header_tests}
-use Rattle.mpslp_mps_fields.specs.HeaderLine.{may_follow}
-use Rattle.mpslp_mps.specs.TextInWords.{in_order, same_section, are_good_sections, may_have_more, is_good_header, word_fields, words_in, has_word_at_most, is_sense, is_free_row_named, has_free_row, has_named_objective}
+use Rattle.mpslp_mps.specs.Context.{context_of, seen_sections, current_section, said_after, fields_under, data_lines, data_lines_after, objname_word, objname, word_due}
+use Rattle.mpslp_mps.specs.TextInWords.{has_section, in_order, same_section, are_good_sections, may_have_more, is_good_header, word_fields, words_in, has_word_at_most, is_sense, is_free_row_named, has_free_row, has_named_objective}
+use Rattle.mpslp_mps.specs.LineFault.{may_begin, lacks_objective, section_tests, header_tests}
 use Rattle.mpslp_mps_fields.specs.declared.sections.Section.{Section}
 use Rattle.mpslp_mps_fields.specs.declared.sections.Section.TheVariants.{Name, ObjSense, ObjName, Rows, Columns, Rhs, Ranges, Bounds, EndData}
 use Rattle.mpslp_mps.proofs.OrderLemmas.{IsGood, never}

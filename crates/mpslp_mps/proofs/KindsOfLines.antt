@@ -13,17 +13,11 @@ use Rattle.mpslp_types.specs.declared.faults.FaultKind.{FaultKind}
 use Rattle.mpslp_types.specs.declared.faults.FaultKind.TheVariants as kinds
 use Rattle.mpslp_builder.specs.Declaration.{Declarations, Draft, with_declaration}
 use Rattle.mpslp_builder.specs.Refusal.{refusal_tests}
-use Rattle.mpslp_lines.specs.Declaring.{kind_of_build_fault}
-use Rattle.mpslp_lines.specs.Field.{is_kind, number_tests}
-use Rattle.mpslp_lines.specs.FaultTests.{FaultTests, judged_by}
+use Rattle.mpslp_lines.specs.FaultTests.{kind_of_build_fault, is_kind, number_tests, FaultTests, judged_by}
 use Rattle.mpslp_mps_fields.specs.Line.{Fields, LineContent}
-use Rattle.mpslp_mps_fields.specs.DataLine.{word_shape, row_shape, column_shape, is_marker_line, marker_shape, vector_shape}
-use Rattle.mpslp_mps_fields.specs.BoundLine.{BoundLine, bound_type, bound_shape}
+use Rattle.mpslp_mps_fields.specs.DataLine.{word_shape, row_shape, column_shape, is_marker_line, marker_shape, vector_shape, BoundLine, bound_type, bound_shape}
 use Rattle.mpslp_mps.specs.Context.{Context, context_of}
-use Rattle.mpslp_mps.specs.FieldFault.{set_tests}
-use Rattle.mpslp_mps.specs.HeaderFault.{word_tests, section_tests, header_tests}
-use Rattle.mpslp_mps.specs.DataFault.{row_line_tests, marker_word_tests, marker_tests, column_tests, vector_tests, bound_tests, typed_bound_tests, bound_line_tests, data_tests}
-use Rattle.mpslp_mps.specs.LineFault.{item_tests}
+use Rattle.mpslp_mps.specs.LineFault.{set_tests, word_tests, section_tests, header_tests, row_line_tests, marker_word_tests, marker_tests, column_tests, vector_tests, bound_tests, typed_bound_tests, bound_line_tests, data_tests, item_tests}
 use Rattle.mpslp_mps.specs.LineDeclarations.{line_declares}
 use Rattle.mpslp_mps_fields.specs.declared.bound_types.BoundType.{BoundType}
 use Rattle.mpslp_mps_fields.specs.declared.sections.Section.{Section}

@@ -9,23 +9,19 @@ use Rattle.mpslp_types.specs.Limit.{limit_of, is_given}
 use Rattle.mpslp_builder.specs.Declaration.{by_type, declare_sense, declare_objective, declare_row, declare_rhs, declare_range, declare_marked, Draft, with_declarations, is_free_row, rhs_declared}
 use Rattle.mpslp_builder.specs.Bounds.{zero_limit}
 use Rattle.mpslp_builder.specs.Made.{is_legal}
-use Rattle.mpslp_model_core.specs.Lists.{those_of}
+use Rattle.mpslp_types.specs.Lists.{those_of}
 use Rattle.mpslp_types.specs.declared.kinds.Limit.{Limit}
 use Rattle.mpslp_types.specs.declared.kinds.RowType.{RowType}
 use Rattle.mpslp_types.specs.declared.kinds.RowType.TheVariants.{Free, AtMost, AtLeast, Equal}
 use Rattle.mpslp_types.specs.declared.faults.FaultKind.TheVariants as kinds
 use Rattle.mpslp_types.proofs.BoolLemmas.{both_so}
 use Rattle.mpslp_lines.proofs.FieldLemmas.{name-legal, value-decimal, limit-given}
-use Rattle.mpslp_mps_fields.specs.Line.{Fields, LineContent, skipped, header, data_line}
-use Rattle.mpslp_mps_fields.specs.Section.{section_named}
-use Rattle.mpslp_mps_fields.specs.DataLine.{RowLine, Pair, ValuesLine, word_shape, sense_of, row_shape, row_type, column_shape, is_marker_line, vector_shape}
-use Rattle.mpslp_mps_fields.specs.BoundLine.{BoundLine, bound_type, bound_shape}
+use Rattle.mpslp_mps_fields.specs.Line.{Fields, LineContent, skipped, header, data_line, section_named}
+use Rattle.mpslp_mps_fields.specs.DataLine.{RowLine, Pair, ValuesLine, word_shape, sense_of, row_shape, row_type, column_shape, is_marker_line, vector_shape, BoundLine, bound_type, bound_shape}
 use Rattle.mpslp_mps.specs.Context.{Context, context_of, current_section}
 use Rattle.mpslp_mps.specs.LineDeclarations.{declared_if_some, sense_declared, is_new_objective, row_of_type, row_declared, coefficient_declared, column_declared, columns_line_declared, rhs_line_declared, ranges_declared, bound_declared, bound_value, bound_line_declared, data_declared, header_declared, line_declares}
-use Rattle.mpslp_lines.specs.Field.{value_of, name_tests, number_tests}
-use Rattle.mpslp_lines.specs.FaultTests.{judged_by}
-use Rattle.mpslp_mps.specs.FieldFault.{literals_of}
-use Rattle.mpslp_mps.specs.DataFault.{row_line_tests, marker_tests, is_split, column_tests, columns_line_tests, data_tests}
+use Rattle.mpslp_lines.specs.FaultTests.{value_of, name_tests, number_tests, judged_by}
+use Rattle.mpslp_mps.specs.LineFault.{literals_of, row_line_tests, marker_tests, is_split, column_tests, columns_line_tests, data_tests}
 use Rattle.mpslp_mps_fields.specs.declared.sections.Section.{Section}
 use Rattle.mpslp_mps_fields.specs.declared.sections.Section.TheVariants.{Name, ObjSense, ObjName, Rows, Columns, Rhs, Ranges, Bounds, EndData}
 use Rattle.mpslp_mps_fields.specs.declared.bound_types.BoundType.{BoundType}

@@ -3,7 +3,7 @@ use Rattle.std.proofs.Common.{◌≡◌, sym, ap, subst, ◌∙◌, ℕ, List, [
 use Rattle.std.specs.Prelude.{Some, None, Result}
 use Rattle.std.specs.Str.Lines.{lines}
 use Rattle.mpslp_model_core.specs.Model.{LinearModel}
-use Rattle.mpslp_builder.specs.Meaning.{file_fault, whole_fault}
+use Rattle.mpslp_builder.specs.FileFault.{file_fault, whole_fault}
 use Rattle.mpslp_builder.specs.Finish.{Finishes}
 use Rattle.mpslp_types.specs.declared.faults.FaultKind.TheVariants.{MissingEnd}
 use Rattle.mpslp_types.specs.declared.faults.ReadFault.{ReadFault}
@@ -11,7 +11,7 @@ use Rattle.mpslp_lines.specs.LinesRead.{RefusesLines}
 use Rattle.mpslp_lines.specs.LineAnswer.{IsErrorOf, IsFaultOn}
 use Rattle.mpslp_lines.specs.declared.errors.LineError.{LineError}
 use Rattle.mpslp_lines.specs.declared.errors.LineError.TheVariants as errors
-use Rattle.mpslp_mps_fields.specs.Section.{is_section}
+use Rattle.mpslp_mps_fields.specs.Line.{is_section}
 use Rattle.mpslp_mps.specs.FirstFault.{line_fault, first_mps_fault}
 use Rattle.mpslp_mps.specs.LineByLine.{placed_in}
 use Rattle.mpslp_mps.specs.ReadAnswer.{ReadsMps}

@@ -4,7 +4,7 @@ use Rattle.std.specs.Prelude.{Some, None}
 use Rattle.std.specs.List.{list_all}
 use Rattle.mpslp_builder.specs.Declaration.{Draft}
 use Rattle.mpslp_types.specs.declared.faults.FaultKind.TheVariants.{LineTooLong, BadByte}
-use Rattle.mpslp_lines.specs.LegalLine.{has_legal_length, is_legal_byte}
+use Rattle.mpslp_lines.specs.FaultTests.{has_legal_length, is_legal_byte}
 use Rattle.mpslp_lines.proofs.LeastLemmas.{are_rising}
 use Rattle.mpslp_lines.proofs.FirstFaultLemmas.{faultless, no_fault, too-long, bad-byte, legal-first}
 use Rattle.mpslp_mps.specs.LineFault.{item_tests, line_tests}

@@ -5,10 +5,11 @@ use Rattle.std.specs.List.{list_all, list_any, flat_map, position_or_len}
 use Rattle.std.specs.Option.{option_map, option_or}
 use Rattle.std.specs.Str.Lines.{lines}
 use Rattle.mpslp_builder.specs.Declaration.{Declarations, Draft, with_declarations, empty_draft, draft_of}
-use Rattle.mpslp_model_core.specs.Lists.{is_nonempty}
+use Rattle.mpslp_types.specs.Lists.{is_nonempty}
 use Rattle.mpslp_builder.specs.Refusal.{refusals_in_turn}
 use Rattle.mpslp_builder.specs.Made.{is_legal}
-use Rattle.mpslp_builder.specs.Meaning.{model_of, whole_fault, file_fault}
+use Rattle.mpslp_builder.specs.Meaning.{model_of}
+use Rattle.mpslp_builder.specs.FileFault.{whole_fault, file_fault}
 use Rattle.mpslp_types.specs.declared.faults.Fault.{Fault}
 use Rattle.mpslp_types.specs.declared.faults.FaultKind.{FaultKind}
 use Rattle.mpslp_types.specs.declared.faults.FaultKind.TheVariants.{MissingEnd}
@@ -16,7 +17,7 @@ use Rattle.mpslp_types.proofs.BoolLemmas.{both_so, or_left, or_right}
 use Rattle.mpslp_builder.proofs.RefusalLemmas.{join_none}
 use Rattle.mpslp_builder.proofs.MadeDrafts.{refusals_in_turn-append}
 use Rattle.mpslp_builder.proofs.Acceptance.{means-from_none}
-use Rattle.mpslp_lines.specs.LineAnswer.{fault_on_line}
+use Rattle.mpslp_lines.specs.FaultTests.{fault_on_line}
 use Rattle.mpslp_lines.proofs.FirstFaultLemmas.{faultless}
 use Rattle.mpslp_lines.proofs.ObjectiveLemmas.{objective-declared}
 use Rattle.mpslp_lines.proofs.AnswerLemmas.{no_fault-unless}

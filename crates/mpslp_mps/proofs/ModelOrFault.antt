@@ -6,14 +6,15 @@ use Rattle.std.specs.Option.{option_map, option_or}
 use Rattle.std.specs.Cmp.{first_so, second_so}
 use Rattle.mpslp_model_core.specs.Model.{LinearModel}
 use Rattle.mpslp_builder.specs.Declaration.{Declarations, Draft, empty_draft, with_declarations, draft_of}
-use Rattle.mpslp_model_core.specs.Lists.{those_of}
+use Rattle.mpslp_types.specs.Lists.{those_of}
 use Rattle.mpslp_builder.specs.Refusal.{refusals_in_turn}
-use Rattle.mpslp_builder.specs.Meaning.{file_fault, Means}
+use Rattle.mpslp_builder.specs.Meaning.{Means}
+use Rattle.mpslp_builder.specs.FileFault.{file_fault}
 use Rattle.mpslp_types.specs.declared.faults.FaultKind.{FaultKind}
 use Rattle.mpslp_builder.proofs.RefusalLemmas.{left_none, right_none}
 use Rattle.mpslp_builder.proofs.MadeDrafts.{refusals_in_turn-append}
 use Rattle.mpslp_builder.proofs.Acceptance.{none-from_means}
-use Rattle.mpslp_lines.specs.LineAnswer.{fault_on_line}
+use Rattle.mpslp_lines.specs.FaultTests.{fault_on_line}
 use Rattle.mpslp_lines.proofs.FirstFaultLemmas.{no_fault}
 use Rattle.mpslp_lines.proofs.AnswerLemmas.{model-or_fault as one_of_both}
 use Rattle.mpslp_mps_fields.specs.Line.{LineContent, content_of}

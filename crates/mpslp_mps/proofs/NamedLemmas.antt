@@ -4,21 +4,20 @@ use Rattle.std.specs.Prelude.{◌||◌, Option, Some, None, is_some}
 use Rattle.std.specs.List.{list_any}
 use Rattle.std.specs.Option.{option_map, option_or}
 use Rattle.mpslp_builder.specs.Declaration.{Draft, with_declarations}
-use Rattle.mpslp_model_core.specs.Lists.{those_of}
+use Rattle.mpslp_types.specs.Lists.{those_of}
 use Rattle.mpslp_lines.proofs.LeastLemmas.{least-none}
 use Rattle.mpslp_types.specs.declared.faults.Fault.{Fault}
 use Rattle.mpslp_types.specs.declared.faults.FaultKind.{FaultKind}
-use Rattle.mpslp_mps_fields.specs.Line.{Fields, LineContent, skipped, header, data_line, content_of}
-use Rattle.mpslp_mps_fields.specs.Section.{has, section_named, section_of_header, begins}
+use Rattle.mpslp_mps_fields.specs.Line.{Fields, LineContent, skipped, header, data_line, content_of, has, section_named, section_of_header, begins}
 use Rattle.mpslp_mps.specs.Context.{Context}
 use Rattle.mpslp_mps.specs.NextContext.{next_context}
-use Rattle.mpslp_mps.specs.HeaderFault.{header_tests}
+use Rattle.mpslp_mps.specs.LineFault.{header_tests}
 use Rattle.mpslp_mps.specs.LineDeclarations.{header_declared, line_declares}
 use Rattle.mpslp_lines.specs.Declaring.{declaring_faults}
 use Rattle.mpslp_mps.specs.MpsText.{is_end}
 use Rattle.mpslp_mps.specs.LineAnswer.{item_fault}
 use Rattle.mpslp_mps.specs.FirstFault.{line_fault}
-use Rattle.mpslp_lines.specs.LineAnswer.{fault_on_line}
+use Rattle.mpslp_lines.specs.FaultTests.{fault_on_line}
 use Rattle.mpslp_mps.specs.LineByLine.{placed_in, context_after, draft_after, fault_from, draft_from}
 use Rattle.mpslp_mps.specs.ReadAnswer.{lines_to_end}
 use Rattle.mpslp_mps_fields.specs.declared.sections.Section.TheVariants.{Columns, EndData}

@@ -9,14 +9,13 @@ use Rattle.mpslp_types.specs.declared.kinds.RowType.{RowType}
 use Rattle.mpslp_types.specs.declared.kinds.RowType.TheVariants.{Free, AtMost, AtLeast, Equal}
 use Rattle.mpslp_types.proofs.BoolLemmas.{nor}
 use Rattle.mpslp_builder.specs.Declaration.{by_type, declare_objective, declare_row, Draft, with_declarations}
-use Rattle.mpslp_model_core.specs.Lists.{when}
+use Rattle.mpslp_types.specs.Lists.{when}
 use Rattle.mpslp_lines.proofs.ObjectiveLemmas.{named-after}
-use Rattle.mpslp_mps_fields.specs.Line.{Fields, LineContent, skipped, header, data_line}
-use Rattle.mpslp_mps_fields.specs.Section.{has, section_named, section_of_header, is_section}
+use Rattle.mpslp_mps_fields.specs.Line.{Fields, LineContent, skipped, header, data_line, has, section_named, section_of_header, is_section}
 use Rattle.mpslp_mps_fields.specs.DataLine.{RowLine, row_shape, row_type}
-use Rattle.mpslp_mps.specs.Context.{context_of, seen_sections, has_section, current_section, fields_under, data_lines, data_lines_after, objname}
+use Rattle.mpslp_mps.specs.Context.{context_of, seen_sections, current_section, fields_under, data_lines, data_lines_after, objname}
+use Rattle.mpslp_mps.specs.TextInWords.{has_section, is_free, is_free_row_named, has_free_row}
 use Rattle.mpslp_mps.specs.LineDeclarations.{declared_if_some, row_of_type, row_declared, data_declared, line_declares}
-use Rattle.mpslp_mps.specs.TextInWords.{is_free, is_free_row_named, has_free_row}
 use Rattle.mpslp_mps_fields.specs.declared.sections.Section.{Section}
 use Rattle.mpslp_mps_fields.specs.declared.sections.Section.TheVariants.{Rows}
 use Rattle.mpslp_mps.proofs.OrderLemmas.{IsGood}

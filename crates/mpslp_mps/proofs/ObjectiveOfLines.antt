@@ -12,18 +12,16 @@ use Rattle.mpslp_types.specs.Name.{same_bytes}
 use Rattle.mpslp_types.specs.declared.kinds.RowType.{RowType}
 use Rattle.mpslp_types.specs.declared.kinds.RowType.TheVariants.{Free, AtMost, AtLeast, Equal}
 use Rattle.mpslp_types.proofs.BoolLemmas.{or_left, or_right, not_so}
-use Rattle.mpslp_model_core.specs.Lists.{when, head_of, is_nonempty, those_of}
+use Rattle.mpslp_types.specs.Lists.{when, head_of, is_nonempty, those_of}
 use Rattle.mpslp_builder.specs.Declaration.{by_type, RowDefinition, Declaration, declare_objective, declare_row, Draft, with_declaration, with_declarations, at_name, is_objective, is_free_definition, is_free_row}
 use Rattle.mpslp_builder.proofs.LaterDrafts.{Extends, value_in, itself_named, is_objective-after}
 use Rattle.mpslp_builder.proofs.SlotLemmas.{at-put, same_name}
-use Rattle.mpslp_mps_fields.specs.Line.{Fields, LineContent, skipped, header, data_line}
-use Rattle.mpslp_mps_fields.specs.Section.{section_named, is_section}
+use Rattle.mpslp_mps_fields.specs.Line.{Fields, LineContent, skipped, header, data_line, section_named, is_section}
 use Rattle.mpslp_mps_fields.specs.DataLine.{RowLine, word_shape, row_shape, row_type}
-use Rattle.mpslp_mps.specs.Context.{Context, context_of, current_section, seen_sections, has_section, fields_under, data_lines, objname}
+use Rattle.mpslp_mps.specs.Context.{Context, context_of, current_section, seen_sections, fields_under, data_lines, objname}
+use Rattle.mpslp_mps.specs.TextInWords.{has_section, is_free, is_free_row_named, has_free_row, is_one_word, word_fields, words_in}
 use Rattle.mpslp_mps.specs.LineDeclarations.{declared_if_some, is_new_objective, row_of_type, row_declared, data_declared, header_declared, line_declares}
-use Rattle.mpslp_mps.specs.HeaderFault.{header_tests}
-use Rattle.mpslp_mps.specs.DataFault.{data_tests}
-use Rattle.mpslp_mps.specs.TextInWords.{is_free, is_free_row_named, has_free_row, is_one_word, word_fields, words_in}
+use Rattle.mpslp_mps.specs.LineFault.{header_tests, data_tests}
 use Rattle.mpslp_mps.specs.FaultsInWords.{is_free_row_line}
 use Rattle.mpslp_mps.specs.ValueFaultsInWords.{free_row_name, names_objective}
 use Rattle.mpslp_mps_fields.specs.declared.sections.Section.{Section}

@@ -4,12 +4,10 @@ use Rattle.std.specs.Prelude.{Option, Some, None, is_some, ◌||◌}
 use Rattle.std.specs.List.{cons_option}
 use Rattle.std.specs.Option.{option_map_or, option_or}
 use Rattle.mpslp_types.proofs.BoolLemmas.{nor}
-use Rattle.mpslp_model_core.specs.Lists.{when}
-use Rattle.mpslp_mps_fields.specs.Line.{Fields, LineContent, skipped, header, data_line}
-use Rattle.mpslp_mps_fields.specs.Section.{has, section_named, section_of_header, is_section}
-use Rattle.mpslp_mps.specs.Context.{seen_sections, has_section, current_section, said_after, is_read, word_due_after, word_due}
-use Rattle.mpslp_mps_fields.specs.HeaderLine.{section_of_word_due}
-use Rattle.mpslp_mps.specs.TextInWords.{word_fields, words_in, is_one_word, has_word_at_most}
+use Rattle.mpslp_types.specs.Lists.{when}
+use Rattle.mpslp_mps_fields.specs.Line.{Fields, LineContent, skipped, header, data_line, has, section_named, section_of_header, is_section, section_of_word_due}
+use Rattle.mpslp_mps.specs.Context.{seen_sections, current_section, said_after, is_read, word_due_after, word_due}
+use Rattle.mpslp_mps.specs.TextInWords.{has_section, word_fields, words_in, is_one_word, has_word_at_most}
 use Rattle.mpslp_mps_fields.specs.declared.sections.Section.{Section}
 use Rattle.mpslp_mps_fields.specs.declared.sections.Section.TheVariants.{Name, ObjSense, ObjName, Rows, Columns, Rhs, Ranges, Bounds, EndData}
 use Rattle.mpslp_mps.proofs.OrderLemmas.{never}

@@ -7,22 +7,19 @@ use Rattle.std.specs.Cmp.{first_so, second_so}
 use Rattle.std.proofs.lemmas.List.Folds.{list_all-append}
 use Rattle.mpslp_decimal.specs.Decimal.{Number}
 use Rattle.mpslp_builder.specs.Declaration.{Declaration, declare_sense, declare_objective, declare_constant, declare_row, declare_rhs, declare_range, declare_column, declare_coefficient, declare_lower, declare_upper, declare_marked, declare_integer, declare_binary, declare_semi, Declarations, Draft, with_declaration, with_declarations, is_free_row, has_row, has_column, rhs_declared}
-use Rattle.mpslp_model_core.specs.Lists.{those_of}
+use Rattle.mpslp_types.specs.Lists.{those_of}
 use Rattle.mpslp_types.specs.declared.kinds.Sense.{Sense}
 use Rattle.mpslp_types.specs.declared.kinds.Limit.{Limit}
 use Rattle.mpslp_types.specs.declared.faults.FaultKind.TheVariants as kinds
 use Rattle.mpslp_types.proofs.BoolLemmas.{both_so, or_left, or_right, nor}
 use Rattle.mpslp_lines.proofs.HeldLemmas.{first_test, later_tests}
-use Rattle.mpslp_mps_fields.specs.Line.{Fields, LineContent, skipped, header, data_line}
-use Rattle.mpslp_mps_fields.specs.Section.{has, section_named, section_of_header, begins, is_section}
-use Rattle.mpslp_mps_fields.specs.DataLine.{Pair, ValuesLine, word_shape, sense_of, column_shape, is_marker_line, vector_shape}
-use Rattle.mpslp_mps_fields.specs.BoundLine.{BoundLine, bound_type, bound_shape}
-use Rattle.mpslp_mps.specs.Context.{Context, context_of, current_section, has_section}
+use Rattle.mpslp_mps_fields.specs.Line.{Fields, LineContent, skipped, header, data_line, has, section_named, section_of_header, begins, is_section, may_follow}
+use Rattle.mpslp_mps_fields.specs.DataLine.{Pair, ValuesLine, word_shape, sense_of, column_shape, is_marker_line, vector_shape, BoundLine, bound_type, bound_shape}
+use Rattle.mpslp_mps.specs.Context.{Context, context_of, current_section}
+use Rattle.mpslp_mps.specs.TextInWords.{has_section}
 use Rattle.mpslp_mps.specs.LineDeclarations.{declared_if_some, sense_declared, coefficient_declared, column_declared, columns_line_declared, rhs_line_declared, ranges_declared, bound_declared, bound_value, bound_line_declared}
-use Rattle.mpslp_lines.specs.Field.{value_of}
-use Rattle.mpslp_lines.specs.FaultTests.{FaultTests}
-use Rattle.mpslp_mps.specs.HeaderFault.{may_begin, is_out_of_order, lacks_objective, section_tests, header_tests}
-use Rattle.mpslp_mps_fields.specs.HeaderLine.{may_follow}
+use Rattle.mpslp_lines.specs.FaultTests.{value_of, FaultTests}
+use Rattle.mpslp_mps.specs.LineFault.{may_begin, is_out_of_order, lacks_objective, section_tests, header_tests}
 use Rattle.mpslp_mps.proofs.ContextLineLemmas.{form_faults}
 use Rattle.mpslp_mps_fields.specs.declared.sections.Section.{Section}
 use Rattle.mpslp_mps_fields.specs.declared.sections.Section.TheVariants.{Name, ObjSense, ObjName, Rows, Columns, Rhs, Ranges, Bounds, EndData}

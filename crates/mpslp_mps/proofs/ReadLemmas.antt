@@ -3,7 +3,8 @@ use Rattle.std.proofs.Common.{◌≡◌, sym, subst, ℕ, List}
 use Rattle.std.specs.Prelude.{Result}
 use Rattle.mpslp_model_core.specs.Model.{LinearModel}
 use Rattle.mpslp_builder.specs.Declaration.{Draft, draft_of}
-use Rattle.mpslp_builder.specs.Meaning.{model_of, file_fault}
+use Rattle.mpslp_builder.specs.Meaning.{model_of}
+use Rattle.mpslp_builder.specs.FileFault.{file_fault}
 use Rattle.mpslp_builder.specs.Finish.{Finishes}
 use Rattle.mpslp_types.specs.declared.faults.ReadFault.{ReadFault}
 use Rattle.mpslp_lines.proofs.AnswerLemmas.{finished-answers}

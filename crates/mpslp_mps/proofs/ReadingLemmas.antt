@@ -11,7 +11,7 @@ use Rattle.mpslp_mps.specs.Context.{Context, context_of}
 use Rattle.mpslp_mps.specs.LineDeclarations.{line_declares}
 use Rattle.mpslp_mps.specs.MpsText.{read_lines, declared_at, lines_in_context_after, declarations_of}
 use Rattle.mpslp_mps.specs.FirstFault.{line_fault, first_line_fault, whole_mps_fault, first_mps_fault}
-use Rattle.mpslp_lines.specs.LineAnswer.{fault_on_line}
+use Rattle.mpslp_lines.specs.FaultTests.{fault_on_line}
 use Rattle.mpslp_mps.specs.LineByLine.{placed_in, fault_from, draft_from}
 use Rattle.mpslp_mps.proofs.ContextLemmas.{context-push}
 

@@ -12,21 +12,17 @@ use Rattle.mpslp_types.specs.declared.kinds.RowType.{RowType}
 use Rattle.mpslp_types.specs.declared.kinds.RowType.TheVariants.{Free, AtMost, AtLeast, Equal}
 use Rattle.mpslp_types.specs.declared.kinds.Sense.{Sense}
 use Rattle.mpslp_types.proofs.BoolLemmas.{both_so, both_false, or_left, or_right, so_not}
-use Rattle.mpslp_model_core.specs.Lists.{head_of, is_nonempty, those_of}
+use Rattle.mpslp_types.specs.Lists.{head_of, is_nonempty, those_of}
 use Rattle.mpslp_model_core.specs.Model.{CoefficientKey}
 use Rattle.mpslp_builder.specs.Declaration.{by_type, declare_sense, declare_objective, declare_row, declare_column, declare_coefficient, declare_marked, Draft, with_declaration, has_row, has_coefficient}
 use Rattle.mpslp_builder.proofs.SlotLemmas.{has-put_key}
-use Rattle.mpslp_lines.specs.Field.{is_kind, value_of}
-use Rattle.mpslp_lines.specs.FaultTests.{FaultTests}
-use Rattle.mpslp_mps_fields.specs.Line.{Fields, LineContent, skipped, header, data_line}
-use Rattle.mpslp_mps_fields.specs.Section.{has, section_named, is_section}
+use Rattle.mpslp_lines.specs.FaultTests.{is_kind, value_of, FaultTests}
+use Rattle.mpslp_mps_fields.specs.Line.{Fields, LineContent, skipped, header, data_line, has, section_named, is_section}
 use Rattle.mpslp_mps_fields.specs.DataLine.{RowLine, Pair, ValuesLine, word_shape, sense_of, row_shape, row_type, column_shape, is_marker_line}
-use Rattle.mpslp_mps.specs.Context.{context_of, current_section, has_section, seen_sections, data_lines, objname, word_due}
-use Rattle.mpslp_mps.specs.HeaderFault.{header_tests}
-use Rattle.mpslp_mps.specs.DataFault.{data_tests}
-use Rattle.mpslp_mps.specs.LineFault.{item_tests}
+use Rattle.mpslp_mps.specs.Context.{context_of, current_section, seen_sections, data_lines, objname, word_due}
+use Rattle.mpslp_mps.specs.TextInWords.{has_section, section_rank, is_sense, is_one_word, in_order, words_in}
+use Rattle.mpslp_mps.specs.LineFault.{header_tests, data_tests, item_tests}
 use Rattle.mpslp_mps.specs.LineDeclarations.{declared_if_some, sense_declared, is_new_objective, row_of_type, row_declared, coefficient_declared, column_declared, data_declared, header_declared, line_declares}
-use Rattle.mpslp_mps.specs.TextInWords.{section_rank, is_sense, is_one_word, in_order, words_in}
 use Rattle.mpslp_mps.specs.FaultsInWords.{IsInWords, has_its_word, names_row, row_name, is_free_row_line, has_default_objective, repeats_row, column_line, has_row_twice, has_entry_of, repeats_entry_of, repeats_entry}
 use Rattle.mpslp_mps_fields.specs.declared.sections.Section.{Section}
 use Rattle.mpslp_mps_fields.specs.declared.sections.Section.TheVariants.{Name, ObjSense, ObjName, Rows, Columns, Rhs, Ranges, Bounds, EndData}

@@ -7,17 +7,11 @@ use Rattle.std.specs.Option.{option_map_or}
 use Rattle.std.specs.Cmp.{second_so}
 use Rattle.mpslp_builder.specs.Declaration.{Draft}
 use Rattle.mpslp_types.specs.declared.faults.FaultKind.TheVariants as kinds
-use Rattle.mpslp_mps_fields.specs.Line.{Fields, LineContent, skipped, header, data_line}
-use Rattle.mpslp_mps_fields.specs.Section.{section_named}
-use Rattle.mpslp_mps.specs.LineFault.{item_tests}
-use Rattle.mpslp_mps_fields.specs.DataLine.{word_shape, row_shape, column_shape, is_marker_line, marker_shape, vector_shape}
-use Rattle.mpslp_mps_fields.specs.BoundLine.{BoundLine, bound_type, bound_shape}
+use Rattle.mpslp_mps_fields.specs.Line.{Fields, LineContent, skipped, header, data_line, section_named}
+use Rattle.mpslp_mps.specs.LineFault.{item_tests, set_tests, header_tests, word_tests, row_line_tests, is_sos_marker, marker_tests, marker_word_tests, typed_bound_tests, column_tests, vector_tests, bound_tests, data_tests}
+use Rattle.mpslp_mps_fields.specs.DataLine.{word_shape, row_shape, column_shape, is_marker_line, marker_shape, vector_shape, BoundLine, bound_type, bound_shape}
 use Rattle.mpslp_mps.specs.Context.{Context}
-use Rattle.mpslp_lines.specs.FaultTests.{FaultTests, judged_by}
-use Rattle.mpslp_lines.specs.Field.{number_tests}
-use Rattle.mpslp_mps.specs.FieldFault.{set_tests}
-use Rattle.mpslp_mps.specs.HeaderFault.{header_tests, word_tests}
-use Rattle.mpslp_mps.specs.DataFault.{row_line_tests, is_sos_marker, marker_tests, marker_word_tests, typed_bound_tests, column_tests, vector_tests, bound_tests, data_tests}
+use Rattle.mpslp_lines.specs.FaultTests.{FaultTests, judged_by, number_tests}
 use Rattle.mpslp_mps_fields.specs.declared.bound_types.BoundType.{BoundType}
 use Rattle.mpslp_mps_fields.specs.declared.sections.Section.{Section}
 use Rattle.mpslp_mps_fields.specs.declared.sections.Section.TheVariants.{Name, ObjSense, ObjName, Rows, Columns, Rhs, Ranges, Bounds, EndData}

@@ -5,8 +5,7 @@ use Rattle.std.specs.List.{list_all}
 use Rattle.mpslp_types.specs.declared.faults.FaultKind.TheVariants as kinds
 use Rattle.mpslp_mps_fields.specs.DataLine.{RowLine}
 use Rattle.mpslp_lines.specs.FaultTests.{judged_by}
-use Rattle.mpslp_mps.specs.HeaderFault.{word_tests}
-use Rattle.mpslp_mps.specs.DataFault.{row_line_tests}
+use Rattle.mpslp_mps.specs.LineFault.{word_tests, row_line_tests}
 use Rattle.mpslp_mps.proofs.TakingLemmas.{is_early}
 
 pub sense-early : (b : Bool) (o : Option (List ℕ)) → list_all is_early ((b, kinds.SectionOrder) ∷ judged_by word_tests o) ≡ true

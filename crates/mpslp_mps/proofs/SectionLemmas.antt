@@ -6,9 +6,9 @@ use Rattle.std.specs.Option.{option_or}
 use Rattle.std.proofs.lemmas.List.{append-nil}
 use Rattle.std.proofs.lemmas.List.Elements.{filter_map-append}
 use Rattle.std.proofs.lemmas.List.Folds.{list_any-append}
-use Rattle.mpslp_mps_fields.specs.Line.{LineContent}
-use Rattle.mpslp_mps_fields.specs.Section.{section_of_header, begins, is_section, has}
-use Rattle.mpslp_mps.specs.Context.{seen_sections, section_after, current_section, has_section, fields_under, said_after, data_lines}
+use Rattle.mpslp_mps_fields.specs.Line.{LineContent, section_of_header, begins, is_section, has}
+use Rattle.mpslp_mps.specs.Context.{seen_sections, section_after, current_section, fields_under, said_after, data_lines}
+use Rattle.mpslp_mps.specs.TextInWords.{has_section}
 use Rattle.mpslp_mps_fields.specs.declared.sections.Section.{Section}
 
 pub last_or-append : {X : Type 0} (o : Option X) (xs ys : List X) → last_or o (xs ++ ys) ≡ last_or (last_or o xs) ys

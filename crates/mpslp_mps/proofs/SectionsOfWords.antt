@@ -7,9 +7,8 @@ use Rattle.std.specs.Cmp.{first_so, second_so}
 use Rattle.std.proofs.lemmas.List.Folds.{list_all-append, list_any-append}
 use Rattle.mpslp_types.specs.Name.{same_bytes}
 use Rattle.mpslp_types.proofs.BoolLemmas.{or_left, or_right, not_so}
-use Rattle.mpslp_model_core.specs.Lists.{head_of, when}
-use Rattle.mpslp_mps_fields.specs.Line.{Fields, LineContent, data_line}
-use Rattle.mpslp_mps_fields.specs.Section.{section_of_header, is_section}
+use Rattle.mpslp_types.specs.Lists.{head_of, when}
+use Rattle.mpslp_mps_fields.specs.Line.{Fields, LineContent, data_line, section_of_header, is_section}
 use Rattle.mpslp_mps_fields.specs.DataLine.{opening_word, closing_word}
 use Rattle.mpslp_mps.specs.Context.{seen_sections, section_after, current_section, fields_under, said_after, data_lines}
 use Rattle.mpslp_mps.specs.TextInWords.{alternate, is_one_set, same_column, entries_after, stand_together}

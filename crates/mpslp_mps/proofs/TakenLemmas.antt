@@ -5,19 +5,16 @@ use Rattle.std.specs.List.{list_all, flat_map}
 use Rattle.std.specs.Option.{option_map, option_map_or}
 use Rattle.mpslp_decimal.specs.Decimal.{Number}
 use Rattle.mpslp_builder.specs.Declaration.{Declarations, Draft, declare_range, rhs_declared}
-use Rattle.mpslp_model_core.specs.Lists.{those_of}
+use Rattle.mpslp_types.specs.Lists.{those_of}
 use Rattle.mpslp_types.specs.FaultOrder.{least_kind}
 use Rattle.mpslp_types.specs.declared.faults.FaultKind.{FaultKind}
 use Rattle.mpslp_types.specs.declared.faults.FaultKind.TheVariants as kinds
 use Rattle.mpslp_mps_fields.specs.Line.{Fields, data_line}
-use Rattle.mpslp_mps_fields.specs.DataLine.{Pair, ValuesLine}
+use Rattle.mpslp_mps_fields.specs.DataLine.{Pair, ValuesLine, BoundLine, bound_type, bound_shape}
 use Rattle.mpslp_mps.specs.Context.{Context}
 use Rattle.mpslp_mps.specs.LineDeclarations.{declared_if_some, rhs_line_declared, ranges_declared, data_declared}
-use Rattle.mpslp_lines.specs.Field.{value_of, number_tests}
-use Rattle.mpslp_mps_fields.specs.BoundLine.{BoundLine, bound_type, bound_shape}
-use Rattle.mpslp_lines.specs.FaultTests.{FaultTests, judged_by, first_held}
-use Rattle.mpslp_mps.specs.FieldFault.{set_tests}
-use Rattle.mpslp_mps.specs.DataFault.{vector_tests, bound_tests, typed_bound_tests, bound_line_tests, data_tests}
+use Rattle.mpslp_lines.specs.FaultTests.{value_of, number_tests, FaultTests, judged_by, first_held}
+use Rattle.mpslp_mps.specs.LineFault.{set_tests, vector_tests, bound_tests, typed_bound_tests, bound_line_tests, data_tests}
 use Rattle.mpslp_mps.specs.LineAnswer.{item_fault}
 use Rattle.mpslp_mps.specs.LineValues.{row_value, named_values}
 use Rattle.mpslp_lines.specs.Declaring.{declaring_faults, declared_fault}

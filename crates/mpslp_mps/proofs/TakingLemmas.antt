@@ -9,7 +9,7 @@ use Rattle.mpslp_mps_fields.specs.Line.{Fields, data_line}
 use Rattle.mpslp_mps.specs.Context.{Context}
 use Rattle.mpslp_mps.specs.NextContext.{next_context}
 use Rattle.mpslp_lines.specs.FaultTests.{first_held}
-use Rattle.mpslp_mps.specs.DataFault.{data_tests}
+use Rattle.mpslp_mps.specs.LineFault.{data_tests}
 use Rattle.mpslp_mps.specs.LineDeclarations.{data_declared}
 use Rattle.mpslp_lines.specs.Declaring.{declared_fault}
 use Rattle.mpslp_lines.specs.LineAnswer.{IsErrorOf}

@@ -4,7 +4,7 @@ use Rattle.std.specs.Prelude.{Option, Some, None}
 use Rattle.std.specs.Option.{option_or}
 use Rattle.std.specs.Str.Lines.{lines}
 use Rattle.mpslp_builder.specs.Declaration.{Draft, empty_draft, draft_of}
-use Rattle.mpslp_builder.specs.Meaning.{whole_fault, file_fault}
+use Rattle.mpslp_builder.specs.FileFault.{whole_fault, file_fault}
 use Rattle.mpslp_types.specs.declared.faults.Fault.{Fault}
 use Rattle.mpslp_types.specs.declared.faults.FaultKind.TheVariants.{MissingEnd}
 use Rattle.mpslp_mps.specs.Context.{context_of}

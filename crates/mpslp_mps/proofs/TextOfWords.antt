@@ -4,7 +4,7 @@ use Rattle.std.specs.Prelude.{not, ◌&&◌}
 use Rattle.std.specs.List.{list_all}
 use Rattle.mpslp_types.proofs.BoolLemmas.{both_so}
 use Rattle.mpslp_builder.specs.Declaration.{Draft, empty_draft, with_declarations}
-use Rattle.mpslp_model_core.specs.Lists.{is_nonempty}
+use Rattle.mpslp_types.specs.Lists.{is_nonempty}
 use Rattle.mpslp_mps_fields.specs.Line.{LineContent, skipped, header, data_line, content_of}
 use Rattle.mpslp_mps.specs.Context.{context_of}
 use Rattle.mpslp_mps.specs.LineDeclarations.{line_declares}

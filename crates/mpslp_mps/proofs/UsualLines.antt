@@ -17,9 +17,8 @@ use Rattle.mpslp_builder.specs.ColumnLine.{column_line, TakesLine}
 use Rattle.mpslp_builder.proofs.AnswerLemmas.{column_is_legal}
 use Rattle.mpslp_builder.proofs.MadeDrafts.{with_declarations-append}
 use Rattle.mpslp_builder.proofs.RefusalLemmas.{first_none, rest_none, left_none}
-use Rattle.mpslp_lines.specs.Declaring.{kind_of_build_fault, declared_fault}
-use Rattle.mpslp_lines.specs.FaultTests.{FaultTests, judged_by, first_held}
-use Rattle.mpslp_lines.specs.Field.{number_tests}
+use Rattle.mpslp_lines.specs.Declaring.{declared_fault}
+use Rattle.mpslp_lines.specs.FaultTests.{kind_of_build_fault, FaultTests, judged_by, first_held, number_tests}
 use Rattle.mpslp_lines.specs.declared.errors.LineError.{LineError}
 use Rattle.mpslp_lines.proofs.LeastLemmas.{earlier_of}
 use Rattle.mpslp_lines.proofs.DeclaringLemmas.{declared-after}
@@ -29,8 +28,7 @@ use Rattle.mpslp_mps_fields.specs.declared.sections.Section.{Section}
 use Rattle.mpslp_mps_fields.specs.declared.sections.Section.TheVariants.{Columns}
 use Rattle.mpslp_mps.specs.Context.{Context}
 use Rattle.mpslp_mps.specs.ContextStep.{after_column, after_data}
-use Rattle.mpslp_mps.specs.DataFault.{is_split}
-use Rattle.mpslp_mps.specs.FieldFault.{literals_of}
+use Rattle.mpslp_mps.specs.LineFault.{is_split, literals_of}
 use Rattle.mpslp_mps.specs.LineDeclarations.{data_declared}
 use Rattle.mpslp_mps.specs.LineValues.{named_values}
 use Rattle.mpslp_mps.specs.LineAnswer.{item_fault, ReadsContent, MayRead}

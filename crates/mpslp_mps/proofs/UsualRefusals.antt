@@ -4,22 +4,21 @@ use Rattle.std.specs.Prelude.{◌≢◌, ◌&&◌, Option, Some, None, Result, O
 use Rattle.std.specs.List.{list_all}
 use Rattle.std.specs.Option.{option_map, option_map_or, option_or}
 use Rattle.mpslp_decimal.specs.Decimal.{Number}
-use Rattle.mpslp_types.specs.Name.{same_bytes, has_name_length, is_visible, marker, name_refusal}
+use Rattle.mpslp_types.specs.Name.{same_bytes, has_name_length, is_visible, marker}
+use Rattle.mpslp_types.specs.NameTests.{name_refusal}
 use Rattle.mpslp_types.specs.declared.names.NameFault.TheVariants as names
 use Rattle.mpslp_types.specs.declared.faults.FaultKind.TheVariants as kinds
-use Rattle.mpslp_model_core.specs.Lists.{those_of}
+use Rattle.mpslp_types.specs.Lists.{those_of}
 use Rattle.mpslp_builder.specs.Declaration.{Draft, has_column}
 use Rattle.mpslp_builder.specs.Refusal.{refusals_in_turn}
-use Rattle.mpslp_lines.specs.FaultTests.{FaultTests, judged_by, first_held}
-use Rattle.mpslp_lines.specs.Field.{number_tests}
+use Rattle.mpslp_lines.specs.FaultTests.{FaultTests, judged_by, first_held, number_tests}
 use Rattle.mpslp_lines.proofs.HeldLemmas.{held-append}
 use Rattle.mpslp_lines.proofs.FirstFaultLemmas.{IsFaultless, faultless}
 use Rattle.mpslp_mps_fields.specs.Line.{Fields, data_line}
 use Rattle.mpslp_mps_fields.specs.DataLine.{ValuesLine, column_shape, is_marker_line}
 use Rattle.mpslp_mps_fields.specs.declared.sections.Section.TheVariants.{Columns}
 use Rattle.mpslp_mps.specs.Context.{Context}
-use Rattle.mpslp_mps.specs.DataFault.{is_split, column_tests, data_tests}
-use Rattle.mpslp_mps.specs.FieldFault.{literals_of}
+use Rattle.mpslp_mps.specs.LineFault.{is_split, literals_of, column_tests, data_tests}
 use Rattle.mpslp_mps.specs.LineDeclarations.{data_declared, line_declares}
 use Rattle.mpslp_mps.specs.LineValues.{named_values}
 use Rattle.mpslp_mps.specs.LineAnswer.{item_fault}

@@ -9,11 +9,9 @@ use Rattle.mpslp_types.specs.declared.kinds.Limit.{Limit}
 use Rattle.mpslp_types.proofs.BoolLemmas.{or_right, not_so}
 use Rattle.mpslp_builder.specs.Declaration.{RowDefinition, Declaration, declare_constant, declare_row, declare_rhs, declare_range, declare_lower, declare_upper, declare_integer, declare_binary, declare_semi, Declarations, Draft, empty_draft, with_declaration, with_declarations, at_name, has_name, is_free_row, is_row_by_limits, is_definition_by_limits, rhs_declared}
 use Rattle.mpslp_builder.proofs.SlotLemmas.{at-put, has-put}
-use Rattle.mpslp_lines.specs.Field.{value_of}
-use Rattle.mpslp_mps_fields.specs.Line.{Fields, LineContent, skipped, header, data_line}
-use Rattle.mpslp_mps_fields.specs.Section.{section_named}
-use Rattle.mpslp_mps_fields.specs.DataLine.{Pair, ValuesLine, vector_shape}
-use Rattle.mpslp_mps_fields.specs.BoundLine.{BoundLine, bound_type, bound_shape, is_integer_type, is_semi_type}
+use Rattle.mpslp_lines.specs.FaultTests.{value_of}
+use Rattle.mpslp_mps_fields.specs.Line.{Fields, LineContent, skipped, header, data_line, section_named}
+use Rattle.mpslp_mps_fields.specs.DataLine.{Pair, ValuesLine, vector_shape, BoundLine, bound_type, bound_shape, is_integer_type, is_semi_type}
 use Rattle.mpslp_mps.specs.Context.{Context, context_of, data_lines}
 use Rattle.mpslp_mps.specs.LineDeclarations.{declared_if_some, rhs_line_declared, ranges_declared, bound_declared, bound_value, bound_line_declared, data_declared, header_declared, line_declares}
 use Rattle.mpslp_mps.specs.ValueFaultsInWords.{has_value_of, gives_lower, gives_upper, is_such_bound, has_bound}

@@ -9,15 +9,14 @@ use Rattle.std.proofs.lemmas.List.Folds.{list_any-append}
 use Rattle.mpslp_types.specs.Name.{same_bytes}
 use Rattle.mpslp_types.proofs.BoolLemmas.{both_so, or_left, not_so, so_not}
 use Rattle.mpslp_builder.specs.Declaration.{Declaration, declare_sense, declare_objective, declare_constant, declare_row, declare_rhs, declare_range, declare_column, declare_coefficient, declare_lower, declare_upper, declare_marked, declare_integer, declare_binary, declare_semi, Declarations, Draft, with_declaration, with_declarations, has_column}
-use Rattle.mpslp_model_core.specs.Lists.{is_nonempty, when}
+use Rattle.mpslp_types.specs.Lists.{is_nonempty, when}
 use Rattle.mpslp_builder.proofs.LaterDrafts.{more_entries, itself_named}
 use Rattle.mpslp_builder.proofs.SlotLemmas.{same_name, has-put}
-use Rattle.mpslp_mps_fields.specs.Line.{Fields, LineContent, skipped, header, data_line}
-use Rattle.mpslp_mps_fields.specs.Section.{is_section}
+use Rattle.mpslp_mps_fields.specs.Line.{Fields, LineContent, skipped, header, data_line, is_section}
 use Rattle.mpslp_mps_fields.specs.DataLine.{ValuesLine, is_marker_line, column_shape}
 use Rattle.mpslp_mps.specs.Context.{Context, context_of, current_section, fields_under, data_lines, line_column, last_column}
 use Rattle.mpslp_mps.specs.LineDeclarations.{declared_if_some, coefficient_declared, column_declared, columns_line_declared, data_declared, line_declares}
-use Rattle.mpslp_mps.specs.DataFault.{is_split}
+use Rattle.mpslp_mps.specs.LineFault.{is_split}
 use Rattle.mpslp_mps.specs.TextInWords.{same_column, entries_after, stand_together}
 use Rattle.mpslp_mps_fields.specs.declared.sections.Section.TheVariants.{Columns}
 use Rattle.mpslp_mps.proofs.OrderLemmas.{IsGood}

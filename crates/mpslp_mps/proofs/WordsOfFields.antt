@@ -13,19 +13,15 @@ use Rattle.mpslp_types.proofs.BoolLemmas.{both_so, nor}
 use Rattle.mpslp_types.specs.declared.faults.FaultKind.{FaultKind}
 use Rattle.mpslp_types.specs.declared.faults.FaultKind.TheVariants as kinds
 use Rattle.mpslp_builder.specs.Declaration.{Draft}
-use Rattle.mpslp_model_core.specs.Lists.{those_of}
+use Rattle.mpslp_types.specs.Lists.{those_of}
 use Rattle.mpslp_builder.proofs.LaterDrafts.{objective_is}
-use Rattle.mpslp_lines.specs.FaultTests.{FaultTests, judged_by}
-use Rattle.mpslp_lines.specs.Field.{name_tests, number_fault, is_kind, has_number_fault, number_tests}
+use Rattle.mpslp_lines.specs.FaultTests.{FaultTests, judged_by, name_tests, number_fault, is_kind, has_number_fault, number_tests}
 use Rattle.mpslp_lines.proofs.FieldLemmas.{name-legal}
 use Rattle.mpslp_lines.proofs.HeldLemmas.{first_test, later_tests}
-use Rattle.mpslp_mps_fields.specs.Line.{Fields}
-use Rattle.mpslp_mps_fields.specs.Section.{keyword_of, section_named, is_section}
-use Rattle.mpslp_mps_fields.specs.DataLine.{Pair, RowLine, ValuesLine, row_shape, row_type, column_shape, is_marker_line, marker_shape, opening_word, closing_word, vector_shape}
-use Rattle.mpslp_mps_fields.specs.BoundLine.{BoundLine, bound_type, bound_shape}
+use Rattle.mpslp_mps_fields.specs.Line.{Fields, keyword_of, section_named, is_section}
+use Rattle.mpslp_mps_fields.specs.DataLine.{Pair, RowLine, ValuesLine, row_shape, row_type, column_shape, is_marker_line, marker_shape, opening_word, closing_word, vector_shape, BoundLine, bound_type, bound_shape}
 use Rattle.mpslp_mps.specs.Context.{Context, marker_word, line_column, vector_set, bound_set}
-use Rattle.mpslp_mps.specs.FieldFault.{literals_of, set_tests}
-use Rattle.mpslp_mps.specs.DataFault.{row_line_tests, is_sos_marker, marker_word_tests, marker_tests, is_split, column_tests, columns_line_tests, vector_tests, bound_tests, typed_bound_tests, bound_line_tests}
+use Rattle.mpslp_mps.specs.LineFault.{literals_of, set_tests, row_line_tests, is_sos_marker, marker_word_tests, marker_tests, is_split, column_tests, columns_line_tests, vector_tests, bound_tests, typed_bound_tests, bound_line_tests}
 use Rattle.mpslp_mps.specs.TextInWords.{is_number, have_numbers, is_row_line, is_columns_line, is_vector_line, is_bound_line}
 use Rattle.mpslp_mps_fields.specs.declared.sections.Section.{Section}
 use Rattle.mpslp_mps_fields.specs.declared.sections.Section.TheVariants.{Name, ObjSense, ObjName, Rows, Columns, Rhs, Ranges, Bounds, EndData}

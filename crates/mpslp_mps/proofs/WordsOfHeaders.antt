@@ -10,15 +10,12 @@ use Rattle.std.proofs.lemmas.List.Elements.{filter_map-append}
 use Rattle.mpslp_types.specs.declared.faults.FaultKind.TheVariants as kinds
 use Rattle.mpslp_types.proofs.BoolLemmas.{both_so, or_left, or_right, back, nor, not_so, so_not}
 use Rattle.mpslp_builder.specs.Declaration.{Draft}
-use Rattle.mpslp_model_core.specs.Lists.{those_of, is_nonempty, are_distinct}
+use Rattle.mpslp_types.specs.Lists.{those_of, is_nonempty, are_distinct}
 use Rattle.mpslp_lines.specs.FaultTests.{FaultTests}
 use Rattle.mpslp_lines.proofs.HeldLemmas.{first_test, later_tests}
-use Rattle.mpslp_mps_fields.specs.Line.{Fields, LineContent, skipped, header, data_line}
-use Rattle.mpslp_mps_fields.specs.Section.{has, section_named, section_of_header, is_section}
+use Rattle.mpslp_mps_fields.specs.Line.{Fields, LineContent, skipped, header, data_line, has, section_named, section_of_header, is_section, may_follow}
 use Rattle.mpslp_mps.specs.Context.{Context, context_of, seen_sections, current_section}
-use Rattle.mpslp_mps.specs.HeaderFault.{may_begin, is_out_of_order, section_tests, header_tests}
-use Rattle.mpslp_mps_fields.specs.HeaderLine.{may_follow}
-use Rattle.mpslp_mps.specs.DataFault.{data_tests}
+use Rattle.mpslp_mps.specs.LineFault.{may_begin, is_out_of_order, section_tests, header_tests, data_tests}
 use Rattle.mpslp_mps.specs.TextInWords.{section_rank, in_order, same_section, may_have_more, is_good_header, strays, stray_lines}
 use Rattle.mpslp_mps_fields.specs.declared.sections.Section.{Section}
 use Rattle.mpslp_mps_fields.specs.declared.sections.Section.TheVariants.{Name, ObjSense, ObjName, Rows, Columns, Rhs, Ranges, Bounds, EndData}

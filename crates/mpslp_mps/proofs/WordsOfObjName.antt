@@ -12,16 +12,13 @@ use Rattle.mpslp_types.specs.declared.kinds.RowType.TheVariants.{Free, AtMost, A
 use Rattle.mpslp_types.proofs.BoolLemmas.{both_so, or_left, or_right, nor, not_so}
 use Rattle.mpslp_builder.specs.Declaration.{by_type, Declaration, declare_sense, declare_objective, declare_constant, declare_row, declare_rhs, declare_range, declare_column, declare_coefficient, declare_lower, declare_upper, declare_marked, declare_integer, declare_binary, declare_semi, Declarations, Draft, with_declaration, with_declarations}
 use Rattle.mpslp_builder.specs.Consistency.{declares_objective}
-use Rattle.mpslp_model_core.specs.Lists.{those_of, head_of, when}
-use Rattle.mpslp_mps_fields.specs.Line.{Fields, LineContent, skipped, header, data_line}
-use Rattle.mpslp_mps_fields.specs.Section.{has, section_named, section_of_header, begins, is_section}
+use Rattle.mpslp_types.specs.Lists.{those_of, head_of, when}
+use Rattle.mpslp_mps_fields.specs.Line.{Fields, LineContent, skipped, header, data_line, has, section_named, section_of_header, begins, is_section, takes_word, section_of_word_due}
 use Rattle.mpslp_mps_fields.specs.DataLine.{RowLine, ValuesLine, word_shape, row_shape, row_type, is_marker_line, column_shape}
-use Rattle.mpslp_mps.specs.Context.{Context, context_of, seen_sections, has_section, current_section, fields_under, said_after, data_lines, is_read, word_due_after, word_due, objname_word, objname}
-use Rattle.mpslp_mps_fields.specs.HeaderLine.{takes_word, section_of_word_due}
+use Rattle.mpslp_mps.specs.Context.{Context, context_of, seen_sections, current_section, fields_under, said_after, data_lines, is_read, word_due_after, word_due, objname_word, objname}
+use Rattle.mpslp_mps.specs.TextInWords.{has_section, word_fields, words_in, has_word_at_most, is_free, is_free_row_named, has_free_row, has_named_objective}
 use Rattle.mpslp_mps.specs.LineDeclarations.{declared_if_some, is_new_objective, row_of_type, row_declared, coefficient_declared, column_declared, columns_line_declared, data_declared, header_declared, line_declares}
-use Rattle.mpslp_mps.specs.HeaderFault.{lacks_objective, header_tests}
-use Rattle.mpslp_mps.specs.DataFault.{data_tests}
-use Rattle.mpslp_mps.specs.TextInWords.{word_fields, words_in, has_word_at_most, is_free, is_free_row_named, has_free_row, has_named_objective}
+use Rattle.mpslp_mps.specs.LineFault.{lacks_objective, header_tests, data_tests}
 use Rattle.mpslp_mps_fields.specs.declared.sections.Section.{Section}
 use Rattle.mpslp_mps_fields.specs.declared.sections.Section.TheVariants.{Name, ObjSense, ObjName, Rows, Columns, Rhs, Ranges, Bounds, EndData}
 use Rattle.mpslp_mps.proofs.OrderLemmas.{IsGood, never, header-begins, header-complete, each-declared, each-flat, sense-passes, sides-passes, ranges-passes, bounds-passes, Passes}

@@ -6,17 +6,14 @@ use Rattle.std.proofs.lemmas.List.{append-nil}
 use Rattle.mpslp_types.specs.declared.faults.FaultKind.TheVariants as kinds
 use Rattle.mpslp_types.proofs.BoolLemmas.{nor, or_right}
 use Rattle.mpslp_builder.specs.Declaration.{Draft}
-use Rattle.mpslp_model_core.specs.Lists.{those_of, is_nonempty, when}
+use Rattle.mpslp_types.specs.Lists.{those_of, is_nonempty, when}
 use Rattle.mpslp_lines.specs.FaultTests.{judged_by}
 use Rattle.mpslp_lines.proofs.HeldLemmas.{first_test, later_tests}
-use Rattle.mpslp_mps_fields.specs.Line.{Fields, LineContent, skipped, header, data_line}
-use Rattle.mpslp_mps_fields.specs.Section.{has, section_named, section_of_header, begins, is_section}
+use Rattle.mpslp_mps_fields.specs.Line.{Fields, LineContent, skipped, header, data_line, has, section_named, section_of_header, begins, is_section, takes_word, section_of_word_due, may_follow}
 use Rattle.mpslp_mps_fields.specs.DataLine.{sense_of, word_shape}
-use Rattle.mpslp_mps.specs.Context.{Context, context_of, seen_sections, has_section, current_section, is_read, word_due_after, word_due}
-use Rattle.mpslp_mps_fields.specs.HeaderLine.{takes_word, section_of_word_due, may_follow}
-use Rattle.mpslp_mps.specs.HeaderFault.{word_tests, may_begin, section_tests, header_tests}
-use Rattle.mpslp_mps.specs.DataFault.{data_tests}
-use Rattle.mpslp_mps.specs.TextInWords.{word_fields, words_in, is_one_word, has_word_at_most, is_sense}
+use Rattle.mpslp_mps.specs.Context.{Context, context_of, seen_sections, current_section, is_read, word_due_after, word_due}
+use Rattle.mpslp_mps.specs.TextInWords.{has_section, word_fields, words_in, is_one_word, has_word_at_most, is_sense}
+use Rattle.mpslp_mps.specs.LineFault.{word_tests, may_begin, section_tests, header_tests, data_tests}
 use Rattle.mpslp_mps_fields.specs.declared.sections.Section.{Section}
 use Rattle.mpslp_mps_fields.specs.declared.sections.Section.TheVariants.{ObjSense, ObjName}
 use Rattle.mpslp_mps.proofs.OrderLemmas.{IsGood, never, header-ordered, header-fresh}

@@ -10,13 +10,12 @@ use Rattle.std.proofs.lemmas.List.Elements.{filter_map-append}
 use Rattle.mpslp_types.specs.Name.{same_bytes}
 use Rattle.mpslp_types.proofs.BoolLemmas.{both_so}
 use Rattle.mpslp_builder.specs.Declaration.{Draft}
-use Rattle.mpslp_model_core.specs.Lists.{those_of, head_of}
+use Rattle.mpslp_types.specs.Lists.{those_of, head_of}
 use Rattle.mpslp_builder.proofs.SlotLemmas.{same_name}
-use Rattle.mpslp_mps_fields.specs.Line.{Fields, LineContent, skipped, header, data_line}
-use Rattle.mpslp_mps_fields.specs.Section.{is_section}
+use Rattle.mpslp_mps_fields.specs.Line.{Fields, LineContent, skipped, header, data_line, is_section}
 use Rattle.mpslp_mps_fields.specs.DataLine.{opening_word, closing_word}
 use Rattle.mpslp_mps.specs.Context.{context_of, current_section, fields_under, data_lines, marker_word}
-use Rattle.mpslp_mps.specs.DataFault.{data_tests}
+use Rattle.mpslp_mps.specs.LineFault.{data_tests}
 use Rattle.mpslp_mps.specs.TextInWords.{alternate, is_one_set}
 use Rattle.mpslp_mps_fields.specs.declared.sections.Section.{Section}
 use Rattle.mpslp_mps.proofs.OrderLemmas.{IsGood}

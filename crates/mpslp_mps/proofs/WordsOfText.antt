@@ -8,20 +8,18 @@ use Rattle.std.specs.Str.Lines.{lines}
 use Rattle.mpslp_types.specs.declared.faults.FaultKind.TheVariants.{LineTooLong, BadByte}
 use Rattle.mpslp_types.proofs.BoolLemmas.{both_so}
 use Rattle.mpslp_builder.specs.Declaration.{Draft, empty_draft, with_declarations}
-use Rattle.mpslp_model_core.specs.Lists.{is_nonempty, those_of}
-use Rattle.mpslp_lines.specs.LegalLine.{has_legal_length, is_legal_byte}
-use Rattle.mpslp_lines.specs.FaultTests.{FaultTests}
+use Rattle.mpslp_types.specs.Lists.{is_nonempty, those_of}
+use Rattle.mpslp_lines.specs.FaultTests.{has_legal_length, is_legal_byte, FaultTests}
 use Rattle.mpslp_lines.proofs.HeldLemmas.{first_test, later_tests}
 use Rattle.std.proofs.lemmas.List.{append-nil}
-use Rattle.mpslp_mps_fields.specs.Line.{Fields, LineContent, content_of, outside_comment}
+use Rattle.mpslp_mps_fields.specs.Line.{Fields, LineContent, content_of, outside_comment, section_of_header, is_section}
 use Rattle.mpslp_mps.specs.LegalLine.{is_legal_line}
-use Rattle.mpslp_mps_fields.specs.Section.{section_of_header, is_section}
 use Rattle.mpslp_mps_fields.specs.DataLine.{opening_word, closing_word}
-use Rattle.mpslp_mps.specs.Context.{context_of, seen_sections, section_after, current_section, has_section, data_lines, marker_word, vector_set, bound_set}
+use Rattle.mpslp_mps.specs.Context.{context_of, seen_sections, section_after, current_section, data_lines, marker_word, vector_set, bound_set}
+use Rattle.mpslp_mps.specs.TextInWords.{has_section, are_good_sections, is_good_header, has_good_headers, in_order, stray_lines, is_sense, words_in, has_word_at_most, has_good_words, has_named_objective, is_row_line, is_columns_line, is_vector_line, is_bound_line, have_good_fields, alternate, has_good_markers, stand_together, has_whole_columns, is_one_set, has_single_sets, are_good_together, is_text_in_words}
 use Rattle.mpslp_mps.specs.LineDeclarations.{line_declares}
 use Rattle.mpslp_mps.specs.LineFault.{item_tests, line_tests}
 use Rattle.mpslp_mps.specs.MpsText.{is_end, read_lines, has_end, is_well_formed, lines_in_context_after, lines_in_context, is_mps_text}
-use Rattle.mpslp_mps.specs.TextInWords.{are_good_sections, is_good_header, has_good_headers, in_order, stray_lines, is_sense, words_in, has_word_at_most, has_good_words, has_named_objective, is_row_line, is_columns_line, is_vector_line, is_bound_line, have_good_fields, alternate, has_good_markers, stand_together, has_whole_columns, is_one_set, has_single_sets, are_good_together, is_text_in_words}
 use Rattle.mpslp_mps_fields.specs.declared.sections.Section.{Section}
 use Rattle.mpslp_mps_fields.specs.declared.sections.Section.TheVariants.{ObjSense, ObjName, Rows, Columns, Rhs, Ranges, Bounds, EndData}
 use Rattle.mpslp_mps.proofs.OrderLemmas.{IsGood}

@@ -3,11 +3,11 @@ use Rattle.std.proofs.Common.{◌≡◌, refl}
 use Rattle.std.specs.Prelude.{ℕ, ◌-◌, Option, Some, None, List, ◌∷◌, [], ◌++◌, take, drop, codes}
 use Rattle.std.specs.List.{flat_map}
 use Rattle.mpslp_decimal.specs.Decimal.{trailing_zeros}
-use Rattle.mpslp_builder.specs.Meaning.{whole_fault}
+use Rattle.mpslp_builder.specs.FileFault.{whole_fault}
 use Rattle.mpslp_types.specs.declared.faults.Fault.{Fault}
 use Rattle.mpslp_types.specs.declared.faults.FaultKind.{FaultKind}
 use Rattle.mpslp_types.specs.declared.faults.FaultKind.TheVariants.{BadMarker, BadNumber, BadType, BoundsCrossed, ColumnSplit, DuplicateBound, DuplicateEntry, DuplicateRhs, DuplicateRow, FieldCount, Indicator, InfiniteLimit, InfiniteValue, LimitTooLarge, MissingEnd, NegativeUpper, NoColumns, Quadratic, RangeOnFree, SecondSet, SectionOrder, SectionRepeated, SemiBounds, SemiContinuous, Sos, UnknownColumn, UnknownRow, UnknownSection}
-use Rattle.mpslp_lines.specs.LineAnswer.{fault_on_line}
+use Rattle.mpslp_lines.specs.FaultTests.{fault_on_line}
 use Rattle.mpslp_mps.specs.FirstFault.{first_mps_fault}
 
 -- lines, each followed by a line feed

@@ -7,7 +7,8 @@ use Rattle.mpslp_builder.specs.Declaration.{Draft, empty_draft, draft_of}
 use Rattle.mpslp_builder.specs.Consistency.{has_objective}
 use Rattle.mpslp_builder.specs.Refusal.{refusals_in_turn}
 use Rattle.mpslp_builder.specs.Made.{is_legal}
-use Rattle.mpslp_builder.specs.Meaning.{model_of, file_fault}
+use Rattle.mpslp_builder.specs.Meaning.{model_of}
+use Rattle.mpslp_builder.specs.FileFault.{file_fault}
 use Rattle.mpslp_builder.proofs.Acceptance.{means-from_none}
 use Rattle.mpslp_mps.specs.MpsText.{is_mps_text, declarations_of, DeclaresMps}
 

@@ -3,7 +3,7 @@ use Rattle.std.proofs.Common.{◌≡◌, refl}
 use Rattle.std.specs.Prelude.{ℕ, Bool, true, false, ◌||◌, List, [], ◌∷◌, ◌++◌, map, Some, codes}
 use Rattle.mpslp_decimal.specs.Decimal.{trailing_zeros}
 use Rattle.mpslp_types.specs.declared.faults.FaultKind.TheVariants.{DuplicateBound, DuplicateRange, DuplicateRhs, RangeOnFree, SemiContinuous}
-use Rattle.mpslp_lines.specs.LineAnswer.{fault_on_line}
+use Rattle.mpslp_lines.specs.FaultTests.{fault_on_line}
 use Rattle.mpslp_mps_fields.specs.Line.{LineContent, content_of}
 use Rattle.mpslp_mps.specs.MpsText.{read_lines}
 use Rattle.mpslp_mps.specs.FirstFault.{first_mps_fault}

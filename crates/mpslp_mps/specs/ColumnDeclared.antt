@@ -2,7 +2,7 @@
 use Rattle.std.specs.Prelude.{ℕ, Bool, false, ◌||◌, List, [], ◌∷◌}
 use Rattle.mpslp_decimal.specs.Decimal.{Number}
 use Rattle.mpslp_builder.specs.Declaration.{declare_column, declare_marked, declare_coefficient, Declarations, Draft, with_declarations, has_coefficient}
-use Rattle.mpslp_model_core.specs.Lists.{when}
+use Rattle.mpslp_types.specs.Lists.{when}
 
 abbrev pub front_declared : Bool → List ℕ → Declarations
 front_declared marked column = declare_column column ∷ when marked (declare_marked column)

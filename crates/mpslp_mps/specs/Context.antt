@@ -1,25 +1,14 @@
 -- What the lines before a line mean for it: each part is defined directly by the list of these lines.
-use Rattle.std.specs.Prelude.{ℕ, Bool, true, false, List, [], ◌∷◌, ◌++◌, filter, filter_map, Option, None, if◌then◌else◌}
-use Rattle.std.specs.List.{last_or, cons_option}
-use Rattle.std.specs.Option.{option_map, option_map_or, option_or}
-use Rattle.mpslp_types.specs.Name.{same_bytes}
-use Rattle.mpslp_model_core.specs.Lists.{head_of, when}
-use Rattle.mpslp_mps_fields.specs.Line.{Fields, LineContent, skipped, header, data_line}
-use Rattle.mpslp_mps_fields.specs.Section.{has, section_named, section_of_header, is_section}
-use Rattle.mpslp_mps_fields.specs.HeaderLine.{section_of_word_due}
-use Rattle.mpslp_mps_fields.specs.DataLine.{word_shape, column_shape, is_marker_line, marker_shape, opening_word, vector_shape}
-use Rattle.mpslp_mps_fields.specs.BoundLine.{bound_type, bound_shape}
-use Rattle.mpslp_mps_fields.specs.declared.sections.Section.{Section}
-use Rattle.mpslp_mps_fields.specs.declared.sections.Section.TheVariants.{ObjName, Columns, Rhs, Ranges, Bounds}
+use Rattle.mpslp_types.specs.Basics.{ℕ, Bool, true, false, if◌then◌else◌, List, [], ◌∷◌, ◌++◌, filter, filter_map, Option, None, last_or, cons_option, option_map_or, option_map, option_or, head_of, when, same_bytes}
+use Rattle.mpslp_mps_fields.specs.Line.{Fields, LineContent, skipped, header, data_line, section_named, section_of_header, is_section, section_of_word_due}
+use Rattle.mpslp_mps_fields.specs.DataLine.{word_shape, column_shape, is_marker_line, marker_shape, opening_word, vector_shape, bound_type, bound_shape}
+use Rattle.mpslp_mps_fields.specs.declared.sections.Section.{Section, TheVariants.ObjName, TheVariants.Columns, TheVariants.Rhs, TheVariants.Ranges, TheVariants.Bounds}
 
 -- ---- sections
 
 -- the sections that have begun, in their order
 abbrev pub seen_sections : List LineContent → List Section
 seen_sections before = filter_map section_of_header before
-
-abbrev pub has_section : List LineContent → Section → Bool
-has_section before section = has (seen_sections before) section
 
 -- the section after some lines that begin in `current`: that of the last header
 abbrev pub section_after : Option Section → List LineContent → Option Section

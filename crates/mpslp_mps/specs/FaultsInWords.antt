@@ -5,16 +5,13 @@ use Rattle.std.specs.Option.{option_map, option_map_or}
 use Rattle.mpslp_types.specs.Name.{same_bytes}
 use Rattle.mpslp_types.specs.declared.faults.Fault.{Fault}
 use Rattle.mpslp_types.specs.declared.faults.FaultKind.{FaultKind}
-use Rattle.mpslp_model_core.specs.Lists.{is_nonempty}
-use Rattle.mpslp_mps_fields.specs.Line.{Fields, LineContent, skipped, header, data_line, content_of}
-use Rattle.mpslp_mps_fields.specs.Section.{section_named, is_section}
-use Rattle.mpslp_mps_fields.specs.DataLine.{Pair, ValuesLine, row_shape, row_type, column_shape, is_marker_line, opening_word, closing_word, vector_shape}
-use Rattle.mpslp_mps_fields.specs.BoundLine.{bound_type, bound_shape}
-use Rattle.mpslp_mps.specs.Context.{current_section, has_section, seen_sections, data_lines, marker_word, line_column, vector_set, bound_set}
-use Rattle.mpslp_mps_fields.specs.HeaderLine.{takes_word}
+use Rattle.mpslp_types.specs.Lists.{is_nonempty}
+use Rattle.mpslp_mps_fields.specs.Line.{Fields, LineContent, skipped, header, data_line, content_of, section_named, is_section, takes_word}
+use Rattle.mpslp_mps_fields.specs.DataLine.{Pair, ValuesLine, row_shape, row_type, column_shape, is_marker_line, opening_word, closing_word, vector_shape, bound_type, bound_shape}
+use Rattle.mpslp_mps.specs.Context.{current_section, seen_sections, data_lines, marker_word, line_column, vector_set, bound_set}
+use Rattle.mpslp_mps.specs.TextInWords.{has_section, section_rank, takes_data, words_in, has_named_objective, alternate, same_column, stand_together, is_free}
 use Rattle.mpslp_mps.specs.MpsText.{read_lines}
 use Rattle.mpslp_mps.specs.FirstFault.{IsFirstMpsFault}
-use Rattle.mpslp_mps.specs.TextInWords.{section_rank, takes_data, words_in, has_named_objective, alternate, same_column, stand_together, is_free}
 use Rattle.mpslp_mps_fields.specs.declared.sections.Section.{Section}
 use Rattle.mpslp_mps_fields.specs.declared.sections.Section.TheVariants.{Rows, Columns, Rhs, Ranges, Bounds, EndData, ObjName}
 

@@ -3,7 +3,7 @@ use Rattle.std.specs.Prelude.{◌≡◌, ℕ, ◌+◌, ◌-◌, ◌^◌, min, Bo
 use Rattle.std.specs.List.{list_any}
 use Rattle.mpslp_builder.specs.Declaration.{Draft, empty_draft}
 use Rattle.mpslp_types.specs.declared.faults.Fault.{Fault}
-use Rattle.mpslp_mps_fields.specs.Section.{is_section}
+use Rattle.mpslp_mps_fields.specs.Line.{is_section}
 use Rattle.mpslp_mps.specs.Context.{Context, context_of}
 use Rattle.mpslp_mps.specs.NextContext.{kept_context}
 use Rattle.mpslp_mps.specs.MpsText.{is_end, lines_in_context_after}

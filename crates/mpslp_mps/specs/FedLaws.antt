@@ -7,7 +7,7 @@ use Rattle.std.specs.Option.{option_or, option_map}
 use Rattle.std.specs.Str.Lines.{lines}
 use Rattle.mpslp_builder.specs.Declaration.{Draft, empty_draft, with_declarations}
 use Rattle.mpslp_types.specs.declared.faults.Fault.{Fault}
-use Rattle.mpslp_lines.specs.LineAnswer.{fault_on_line}
+use Rattle.mpslp_lines.specs.FaultTests.{fault_on_line}
 use Rattle.mpslp_mps_fields.specs.Line.{LineContent, content_of}
 use Rattle.mpslp_mps.specs.Context.{context_of}
 use Rattle.mpslp_mps.specs.NextContext.{kept_context}

@@ -2,12 +2,12 @@
 use Rattle.std.specs.Prelude.{◌≡◌, ℕ, ◌+◌, List, [], ◌∷◌, Option, Some, None, if◌then◌else◌}
 use Rattle.std.specs.Option.{option_map, option_or}
 use Rattle.mpslp_builder.specs.Declaration.{draft_of}
-use Rattle.mpslp_builder.specs.Meaning.{whole_fault, file_fault}
+use Rattle.mpslp_builder.specs.FileFault.{whole_fault, file_fault}
 use Rattle.mpslp_types.specs.declared.faults.Fault.{Fault}
 use Rattle.mpslp_types.specs.declared.faults.FaultKind.{FaultKind}
 use Rattle.mpslp_types.specs.declared.faults.FaultKind.TheVariants.{MissingEnd}
 use Rattle.mpslp_lines.specs.Declaring.{first_fault}
-use Rattle.mpslp_lines.specs.LineAnswer.{fault_on_line}
+use Rattle.mpslp_lines.specs.FaultTests.{fault_on_line}
 use Rattle.mpslp_mps.specs.MpsText.{LineInContext, has_end, tests_at, declared_at, lines_in_context, declarations_of}
 
 -- the kind of a line's error, if it has one: the least

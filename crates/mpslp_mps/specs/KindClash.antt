@@ -3,8 +3,7 @@ use Rattle.std.specs.Prelude.{ℕ, Bool, false, ◌&&◌, ◌||◌, List, [], �
 use Rattle.std.specs.Option.{option_map_or}
 use Rattle.mpslp_builder.specs.Declaration.{Draft, is_integer, is_semi}
 use Rattle.mpslp_mps_fields.specs.Line.{Fields}
-use Rattle.mpslp_mps_fields.specs.DataLine.{column_shape}
-use Rattle.mpslp_mps_fields.specs.BoundLine.{bound_type, bound_shape, is_integer_type, is_semi_type}
+use Rattle.mpslp_mps_fields.specs.DataLine.{column_shape, bound_type, bound_shape, is_integer_type, is_semi_type}
 use Rattle.mpslp_mps.specs.Context.{Context}
 use Rattle.mpslp_mps_fields.specs.declared.bound_types.BoundType.{BoundType}
 

@@ -2,9 +2,6 @@
 pub mod Context
 pub mod NextContext
 pub mod LineDeclarations
-pub mod FieldFault
-pub mod HeaderFault
-pub mod DataFault
 pub mod LegalLine
 pub mod LineFault
 pub mod MpsText

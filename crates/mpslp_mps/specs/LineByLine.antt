@@ -8,7 +8,7 @@ use Rattle.mpslp_mps.specs.Context.{Context}
 use Rattle.mpslp_mps.specs.NextContext.{next_context}
 use Rattle.mpslp_mps.specs.MpsText.{LineInContext, declared_at}
 use Rattle.mpslp_mps.specs.FirstFault.{line_fault}
-use Rattle.mpslp_lines.specs.LineAnswer.{fault_on_line}
+use Rattle.mpslp_lines.specs.FaultTests.{fault_on_line}
 
 abbrev pub placed_in : Context → Draft → List ℕ → LineInContext
 placed_in context earlier line = record { context = context; earlier = earlier; line = line }

@@ -1,25 +1,13 @@
 -- What each line of MPS text declares. A line of a wrong shape declares nothing.
-use Rattle.std.specs.Prelude.{ℕ, Bool, true, ◌&&◌, List, [], ◌∷◌, ◌++◌, map, Option, Some, None, is_none, if◌then◌else◌, codes}
-use Rattle.std.specs.List.{flat_map}
-use Rattle.std.specs.Option.{option_map_or}
-use Rattle.mpslp_types.specs.Name.{same_bytes}
-use Rattle.mpslp_types.specs.Limit.{limit_of}
+use Rattle.mpslp_types.specs.Basics.{ℕ, Bool, true, ◌&&◌, if◌then◌else◌, List, [], ◌∷◌, ◌++◌, map, codes, Option, Some, None, is_none, flat_map, option_map_or, when, same_bytes, limit_of, zero_limit}
 use Rattle.mpslp_builder.specs.Declaration.{by_type, declare_sense, declare_objective, declare_row, declare_range, declare_column, declare_coefficient, declare_marked, declare_integer, declare_semi, Declarations, Draft, rhs_declared, bounds_declared}
-use Rattle.mpslp_model_core.specs.Lists.{when}
-use Rattle.mpslp_builder.specs.Bounds.{zero_limit, one_limit}
-use Rattle.mpslp_types.specs.declared.kinds.RowType.{RowType}
-use Rattle.mpslp_types.specs.declared.kinds.RowType.TheVariants.{Free}
-use Rattle.mpslp_types.specs.declared.kinds.Limit.{Limit}
-use Rattle.mpslp_types.specs.declared.kinds.Limit.TheVariants.{MinusInf, PlusInf}
-use Rattle.mpslp_lines.specs.Field.{value_of}
-use Rattle.mpslp_mps_fields.specs.Line.{Fields, LineContent, skipped, header, data_line}
-use Rattle.mpslp_mps_fields.specs.Section.{section_named}
-use Rattle.mpslp_mps_fields.specs.DataLine.{RowLine, Pair, ValuesLine, word_shape, sense_of, row_shape, row_type, column_shape, is_marker_line, vector_shape}
-use Rattle.mpslp_mps_fields.specs.BoundLine.{BoundLine, bound_type, bound_shape, is_integer_type, is_semi_type}
+use Rattle.mpslp_model_core.specs.Limits.{one_limit}
+use Rattle.mpslp_types.specs.declared.kinds.{RowType.RowType, RowType.TheVariants.Free, Limit.Limit, Limit.TheVariants.MinusInf, Limit.TheVariants.PlusInf}
+use Rattle.mpslp_lines.specs.FaultTests.{value_of}
+use Rattle.mpslp_mps_fields.specs.Line.{Fields, LineContent, skipped, header, data_line, section_named}
+use Rattle.mpslp_mps_fields.specs.DataLine.{RowLine, Pair, ValuesLine, word_shape, sense_of, row_shape, row_type, column_shape, is_marker_line, vector_shape, BoundLine, bound_type, bound_shape, is_integer_type, is_semi_type}
 use Rattle.mpslp_mps.specs.Context.{Context}
-use Rattle.mpslp_mps_fields.specs.declared.sections.Section.{Section}
-use Rattle.mpslp_mps_fields.specs.declared.sections.Section.TheVariants.{ObjSense, Rows, Columns, Rhs, Ranges, Bounds}
-use Rattle.mpslp_mps_fields.specs.declared.bound_types.BoundType.{BoundType}
+use Rattle.mpslp_mps_fields.specs.declared.{sections.Section.Section, sections.Section.TheVariants.ObjSense, sections.Section.TheVariants.Rows, sections.Section.TheVariants.Columns, sections.Section.TheVariants.Rhs, sections.Section.TheVariants.Ranges, sections.Section.TheVariants.Bounds, bound_types.BoundType.BoundType}
 use Rattle.mpslp_mps_fields.specs.declared.bound_types.BoundType.TheVariants as bounds
 
 -- what an optional value declares, if it is present

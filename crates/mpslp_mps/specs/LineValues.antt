@@ -1,7 +1,7 @@
 -- What a line of COLUMNS, RHS or RANGES without an error gives: its name, and its rows with their values.
 use Rattle.std.specs.Prelude.{ℕ, map, List}
 use Rattle.mpslp_decimal.specs.Decimal.{Number}
-use Rattle.mpslp_lines.specs.Field.{value_of}
+use Rattle.mpslp_lines.specs.FaultTests.{value_of}
 use Rattle.mpslp_mps_fields.specs.DataLine.{Pair, ValuesLine}
 
 -- the row of a pair, and its value

@@ -1,17 +1,10 @@
 -- What MPS text declares.
-use Rattle.std.specs.Prelude.{ℕ, suc, Bool, ◌&&◌, not, IsTrue, List, [], ◌∷◌, ◌++◌, take}
-use Rattle.std.specs.List.{list_any, list_all, flat_map, position_or_len}
-use Rattle.std.specs.Str.Lines.{lines}
-use Rattle.mpslp_model_core.specs.Model.{LinearModel}
-use Rattle.mpslp_builder.specs.Declaration.{Declarations, Draft, empty_draft, with_declarations}
-use Rattle.mpslp_builder.specs.Meaning.{Means}
-use Rattle.mpslp_model_core.specs.Lists.{is_nonempty, those_of}
-use Rattle.mpslp_lines.specs.FaultTests.{FaultTests}
-use Rattle.mpslp_mps_fields.specs.Line.{LineContent, content_of}
-use Rattle.mpslp_mps_fields.specs.Section.{begins}
+use Rattle.mpslp_types.specs.Basics.{ℕ, suc, Bool, ◌&&◌, not, IsTrue, List, [], ◌∷◌, ◌++◌, take, list_all, list_any, flat_map, position_or_len, lines, is_nonempty, those_of}
+use Rattle.mpslp_builder.specs.Meaning.{Means, LinearModel, Declarations, Draft, empty_draft, with_declarations}
+use Rattle.mpslp_mps_fields.specs.Line.{LineContent, content_of, begins}
 use Rattle.mpslp_mps.specs.Context.{Context, context_of}
 use Rattle.mpslp_mps.specs.LineDeclarations.{line_declares}
-use Rattle.mpslp_mps.specs.LineFault.{line_tests}
+use Rattle.mpslp_mps.specs.LineFault.{line_tests, FaultTests}
 use Rattle.mpslp_mps_fields.specs.declared.sections.Section.TheVariants.{EndData}
 
 -- ---- the lines that are read

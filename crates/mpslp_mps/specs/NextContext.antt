@@ -3,8 +3,7 @@ use Rattle.std.specs.Prelude.{ℕ, Bool, List, [], ◌++◌, Option, None, if◌
 use Rattle.std.specs.List.{cons_option}
 use Rattle.std.specs.Option.{option_map_or, option_or}
 use Rattle.mpslp_types.specs.Name.{same_bytes}
-use Rattle.mpslp_mps_fields.specs.Line.{Fields, LineContent, data_line}
-use Rattle.mpslp_mps_fields.specs.Section.{section_of_header, is_section}
+use Rattle.mpslp_mps_fields.specs.Line.{Fields, LineContent, data_line, section_of_header, is_section}
 use Rattle.mpslp_mps_fields.specs.DataLine.{opening_word}
 use Rattle.mpslp_mps.specs.Context.{is_read, word_due_after, objname_word, marker_word, line_column, vector_set, bound_set, Context}
 use Rattle.mpslp_mps_fields.specs.declared.sections.Section.{Section}

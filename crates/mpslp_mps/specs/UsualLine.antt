@@ -9,7 +9,7 @@ use Rattle.mpslp_lines.specs.declared.errors.LineError.{LineError}
 use Rattle.mpslp_lines.specs.declared.errors.LineError.TheVariants.{OutOfMemory}
 use Rattle.mpslp_mps.specs.Context.{Context}
 use Rattle.mpslp_mps.specs.ContextStep.{after_column}
-use Rattle.mpslp_mps.specs.DataFault.{is_split}
+use Rattle.mpslp_mps.specs.LineFault.{is_split}
 use Rattle.mpslp_mps.specs.ColumnDeclared.{front_declared, value_declared}
 
 -- the column, that it is marked, and its coefficients

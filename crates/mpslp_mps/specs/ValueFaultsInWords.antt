@@ -3,11 +3,9 @@ use Rattle.std.specs.Prelude.{ℕ, Bool, true, false, ◌&&◌, ◌||◌, not, L
 use Rattle.std.specs.List.{list_any, flat_map}
 use Rattle.std.specs.Option.{option_map_or}
 use Rattle.mpslp_types.specs.Name.{same_bytes}
-use Rattle.mpslp_model_core.specs.Lists.{head_of}
-use Rattle.mpslp_mps_fields.specs.Line.{Fields, LineContent, data_line}
-use Rattle.mpslp_mps_fields.specs.Section.{is_section}
-use Rattle.mpslp_mps_fields.specs.DataLine.{Pair, opening_word, vector_shape}
-use Rattle.mpslp_mps_fields.specs.BoundLine.{bound_type, bound_shape, is_integer_type, is_semi_type}
+use Rattle.mpslp_types.specs.Lists.{head_of}
+use Rattle.mpslp_mps_fields.specs.Line.{Fields, LineContent, data_line, is_section}
+use Rattle.mpslp_mps_fields.specs.DataLine.{Pair, opening_word, vector_shape, bound_type, bound_shape, is_integer_type, is_semi_type}
 use Rattle.mpslp_mps.specs.Context.{current_section, data_lines, marker_word, line_column}
 use Rattle.mpslp_mps.specs.TextInWords.{words_in, has_free_row, same_column}
 use Rattle.mpslp_mps.specs.FaultsInWords.{row_name, is_free_row_line, has_row_twice}

@@ -7,7 +7,7 @@ ghost use Rattle.mpslp_builder.specs.Bounds.{zero_limit, one_limit};
 ghost use Rattle.mpslp_builder.specs.Declaration.{declare_integer, declare_semi, is_integer, is_semi, bounds_declared};
 ghost use Rattle.mpslp_mps_fields.specs.Line.{data_line};
 ghost use Rattle.mpslp_mps.specs.LineDeclarations.{lower_given, upper_given, kind_declared, bound_declared};
-ghost use Rattle.mpslp_mps_fields.specs.BoundLine.{is_integer_type, is_semi_type};
+ghost use Rattle.mpslp_mps_fields.specs.DataLine.{is_integer_type, is_semi_type};
 ghost use Rattle.mpslp_mps.specs.KindClash.{type_clash};
 ghost use Rattle.mpslp_mps.specs.LineAnswer.{ReadsContent};
 ghost use Rattle.mpslp_lines.specs.LineAnswer.{AreDeclared, IfFault, IsErrorOf};

@@ -6,8 +6,7 @@ ghost use Rattle.std.specs.Prelude.{◌≡◌, ◌∷◌, map, false};
 ghost use Rattle.std.specs.Option.{option_map_or};
 ghost use Rattle.mpslp_builder.specs.Declaration.{is_integer, is_semi};
 ghost use Rattle.mpslp_lines.specs.Declaring.{is_kind_clash};
-ghost use Rattle.mpslp_mps_fields.specs.DataLine.{column_shape};
-ghost use Rattle.mpslp_mps_fields.specs.BoundLine.{bound_shape};
+ghost use Rattle.mpslp_mps_fields.specs.DataLine.{column_shape, bound_shape};
 ghost use Rattle.mpslp_mps.specs.KindClash.{column_clash, type_clash, bound_clash};
 
 use crate::context::LineContext;

@@ -4,13 +4,13 @@ ghost use Rattle.std.specs.Prelude.{◌≡◌, ◌&&◌, [], ◌∷◌, map, not
 ghost use Rattle.std.specs.List.{list_all, flat_map};
 ghost use Rattle.mpslp_types.specs.Name.{IsMpsName};
 ghost use Rattle.mpslp_builder.specs.Declaration.{Draft, with_declaration, with_declarations, declare_column, declare_marked, has_row, has_column, is_semi};
-ghost use Rattle.mpslp_model_core.specs.Lists.{when};
+ghost use Rattle.mpslp_types.specs.Lists.{when};
 ghost use Rattle.mpslp_types.specs.declared.faults.FaultKind.{FaultKind};
 ghost use Rattle.mpslp_lines.specs.declared.errors.LineError.{LineError};
 ghost use Rattle.mpslp_mps_fields.specs.declared.sections.Section.{Section};
 ghost use Rattle.mpslp_mps_fields.specs.Line.{data_line};
 ghost use Rattle.mpslp_mps_fields.specs.DataLine.{is_marker_line};
-ghost use Rattle.mpslp_mps.specs.DataFault.{is_split};
+ghost use Rattle.mpslp_mps.specs.LineFault.{is_split};
 ghost use Rattle.mpslp_lines.specs.FaultTests.{first_held};
 ghost use Rattle.mpslp_lines.specs.Declaring.{declared_fault};
 ghost use Rattle.mpslp_lines.specs.LineAnswer.{AreDeclared, IfFault, IsErrorOf};

@@ -3,12 +3,12 @@
 ghost use Rattle.std.specs.Prelude.{◌≡◌, [], true, false, Some, is_some, OnOk};
 ghost use Rattle.std.specs.Option.{option_map, option_map_or, option_or};
 ghost use Rattle.mpslp_types.specs.Name.{same_bytes};
-ghost use Rattle.mpslp_mps_fields.specs.Section.{has, is_section};
+ghost use Rattle.mpslp_mps_fields.specs.Line.{has, is_section};
 ghost use Rattle.mpslp_mps_fields.specs.declared.sections.Section.{Section};
 ghost use Rattle.mpslp_mps.specs.Context.{context_of};
 ghost use Rattle.mpslp_mps.specs.ContextStep.{after_header, after_objname, after_data, after_marker, after_column, after_set};
 ghost use Rattle.mpslp_mps.specs.NextContext.{without_names, kept_context};
-ghost use Rattle.mpslp_mps.specs.HeaderFault.{may_begin, is_out_of_order};
+ghost use Rattle.mpslp_mps.specs.LineFault.{may_begin, is_out_of_order};
 
 use mpslp_mps_fields::Section;
 use std::alloc::{AllocError, Global};

@@ -1,9 +1,9 @@
 //! The errors of headers.
 
 ghost use Rattle.std.specs.Prelude.{◌≡◌, Some, None, map, MatchResult};
-ghost use Rattle.mpslp_mps_fields.specs.Section.{section_named};
+ghost use Rattle.mpslp_mps_fields.specs.Line.{section_named};
 ghost use Rattle.mpslp_lines.specs.FaultTests.{first_held};
-ghost use Rattle.mpslp_mps.specs.HeaderFault.{lacks_objective, section_tests, header_tests};
+ghost use Rattle.mpslp_mps.specs.LineFault.{lacks_objective, section_tests, header_tests};
 
 use crate::context::LineContext;
 use mpslp_model::{Builder, FaultKind};

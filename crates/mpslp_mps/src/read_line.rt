@@ -6,7 +6,7 @@ ghost use Rattle.mpslp_builder.specs.Declaration.{Draft};
 ghost use Rattle.mpslp_mps_fields.specs.declared.sections.Section.{Section};
 ghost use Rattle.mpslp_mps_fields.specs.Line.{data_line, header_of, content_of, outside_comment};
 ghost use Rattle.mpslp_mps.specs.LineDeclarations.{is_new_objective, row_of_type};
-ghost use Rattle.mpslp_lines.specs.LegalLine.{is_legal_byte};
+ghost use Rattle.mpslp_lines.specs.FaultTests.{is_legal_byte};
 ghost use Rattle.mpslp_lines.specs.LineAnswer.{AreDeclared, IfFault};
 ghost use Rattle.mpslp_mps.specs.LineAnswer.{ReadsContent};
 ghost use Rattle.mpslp_mps.specs.ReadAnswer.{ReadsLine};

@@ -2,13 +2,13 @@
 
 ghost use Rattle.std.specs.Prelude.{◌≡◌, ◌≢◌, [], map, IfSome, Ok, Some, None, true, false, is_some};
 ghost use Rattle.std.specs.Option.{option_map, option_map_or, ForSome};
-ghost use Rattle.mpslp_types.specs.Name.{same_bytes, name_refusal};
+ghost use Rattle.mpslp_types.specs.Name.{same_bytes};
+ghost use Rattle.mpslp_types.specs.NameTests.{name_refusal};
 ghost use Rattle.mpslp_builder.specs.ColumnLine.{pair_of, listed};
 ghost use Rattle.mpslp_builder.specs.Declaration.{has_column};
 ghost use Rattle.mpslp_builder.specs.Refusal.{refusals_in_turn};
-ghost use Rattle.mpslp_lines.specs.FaultTests.{judged_by, first_held};
-ghost use Rattle.mpslp_lines.specs.Field.{number_tests};
-ghost use Rattle.mpslp_mps.specs.FieldFault.{literals_of};
+ghost use Rattle.mpslp_lines.specs.FaultTests.{judged_by, first_held, number_tests};
+ghost use Rattle.mpslp_mps.specs.LineFault.{literals_of};
 ghost use Rattle.mpslp_mps.specs.LineAnswer.{item_fault, MayRead};
 ghost use Rattle.mpslp_mps.specs.LineValues.{named_values};
 ghost use Rattle.mpslp_mps.specs.UsualLine.{usual_declared, TakesUsual, MayPass};

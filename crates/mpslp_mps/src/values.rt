@@ -3,9 +3,8 @@
 ghost use Rattle.std.specs.Prelude.{◌≡◌, [], ◌∷◌, map, not, false, Some, None, MatchResult};
 ghost use Rattle.std.specs.Option.{option_map, option_map_or};
 ghost use Rattle.mpslp_types.specs.Name.{same_bytes};
-ghost use Rattle.mpslp_lines.specs.Field.{kind_of_number_fault, number_tests, value_of};
-ghost use Rattle.mpslp_mps.specs.FieldFault.{literals_of};
-ghost use Rattle.mpslp_lines.specs.FaultTests.{first_held};
+ghost use Rattle.mpslp_lines.specs.FaultTests.{kind_of_number_fault, number_tests, value_of, first_held};
+ghost use Rattle.mpslp_mps.specs.LineFault.{literals_of};
 ghost use Rattle.mpslp_mps.specs.LineValues.{row_value};
 
 use mpslp_decimal::Decimal;

@@ -1,6 +1,7 @@
--- Lines of MPS text, and their fields.
-use Rattle.std.specs.Prelude.{ℕ, Bool, false, ◌||◌, ◌==◌, nat_lt, List, [], ◌∷◌, filter, length, if◌then◌else◌}
-use Rattle.std.specs.List.{list_all, slice_split}
+-- Lines of MPS text: their fields, and the headers of sections.
+use Rattle.mpslp_types.specs.Basics.{ℕ, nat_lt, ◌==◌, Bool, true, false, ◌||◌, not, if◌then◌else◌, List, [], ◌∷◌, length, filter, codes, Option, Some, None, list_all, list_any, slice_split, find, is_nonempty, is_one_of, same_bytes}
+use Rattle.mpslp_mps_fields.specs.declared.sections.Section.{Section, TheVariants.Name, TheVariants.ObjSense, TheVariants.ObjName, TheVariants.Rows, TheVariants.Columns, TheVariants.Rhs, TheVariants.Ranges, TheVariants.Bounds, TheVariants.EndData}
+use Rattle.mpslp_types.specs.declared.faults.FaultKind.{FaultKind, TheVariants.Quadratic, TheVariants.Sos, TheVariants.Indicator, TheVariants.UnknownSection}
 
 -- the fields of a line, in order
 abbrev pub Fields : Type 0
@@ -48,3 +49,70 @@ header_of (keyword ∷ more) = header keyword more
 
 abbrev pub content_of : List ℕ → LineContent
 content_of line = if is_skipped line then skipped else (if is_data line then data_line (fields line) else header_of (fields line))
+
+-- ---- sections
+
+-- only upper case
+abbrev pub keyword_of : Section → List ℕ
+keyword_of Name = codes "NAME"
+keyword_of ObjSense = codes "OBJSENSE"
+keyword_of ObjName = codes "OBJNAME"
+keyword_of Rows = codes "ROWS"
+keyword_of Columns = codes "COLUMNS"
+keyword_of Rhs = codes "RHS"
+keyword_of Ranges = codes "RANGES"
+keyword_of Bounds = codes "BOUNDS"
+keyword_of EndData = codes "ENDATA"
+
+abbrev pub sections : List Section
+sections = Name ∷ ObjSense ∷ ObjName ∷ Rows ∷ Columns ∷ Rhs ∷ Ranges ∷ Bounds ∷ EndData ∷ []
+
+-- the section of this keyword
+abbrev pub section_named : List ℕ → Option Section
+section_named keyword = find (λ section. same_bytes keyword (keyword_of section)) sections
+
+-- the section that a line begins
+abbrev pub section_of_header : LineContent → Option Section
+section_of_header (header keyword _) = section_named keyword
+section_of_header _ = None
+
+abbrev pub is_section : Section → Option Section → Bool
+is_section section None = false
+is_section section (Some current) = same_bytes (keyword_of section) (keyword_of current)
+
+-- whether a line is the header of the section
+abbrev pub begins : Section → LineContent → Bool
+begins section item = is_section section (section_of_header item)
+
+-- whether a section is one of these
+abbrev pub has : List Section → Section → Bool
+has set section = list_any (λ other. is_section section (Some other)) set
+
+-- ---- headers
+
+-- a header that is not a section of this profile
+abbrev pub unknown_section : List ℕ → FaultKind
+unknown_section keyword =
+    if is_one_of (codes "QSECTION" ∷ codes "QMATRIX" ∷ codes "QUADOBJ" ∷ codes "QCMATRIX" ∷ codes "CSECTION" ∷ []) keyword then Quadratic
+    else (if is_one_of (codes "SOS" ∷ codes "SOS1" ∷ codes "SOS2" ∷ []) keyword then Sos
+    else (if is_one_of (codes "INDICATORS" ∷ []) keyword then Indicator else UnknownSection))
+
+-- what may follow the keyword: anything after NAME, one word after OBJSENSE and OBJNAME
+abbrev pub may_follow : Section → Fields → Bool
+may_follow Name more = true
+may_follow ObjSense [] = true
+may_follow ObjSense (word ∷ []) = true
+may_follow ObjName [] = true
+may_follow ObjName (word ∷ []) = true
+may_follow _ more = not (is_nonempty more)
+
+-- a section of one word: after the keyword of its header, or on a line of its own
+abbrev pub takes_word : Section → Bool
+takes_word ObjSense = true
+takes_word ObjName = true
+takes_word _ = false
+
+-- the section whose word is missing after its header
+abbrev pub section_of_word_due : Section → Fields → Option Section
+section_of_word_due section [] = if takes_word section then Some section else None
+section_of_word_due section more = None

@@ -2,7 +2,8 @@
 
 ghost use Rattle.std.specs.Prelude.{◌≡◌, map};
 ghost use Rattle.std.specs.Option.{option_map};
-ghost use Rattle.mpslp_mps_fields.specs.HeaderLine.{may_follow, section_of_word_due, header_objname};
+ghost use Rattle.mpslp_mps_fields.specs.Line.{may_follow, section_of_word_due};
+ghost use Rattle.mpslp_mps_fields.specs.ObjNameHeader.{header_objname};
 
 use crate::sections::Section;
 use crate::shapes::word_shape;

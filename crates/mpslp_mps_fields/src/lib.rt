@@ -1,8 +1,8 @@
 //! Lines of MPS text by themselves: their fields, the shapes of data lines, and what words mean.
 //!
 //! The format follows the CPLEX file format reference, with fields separated by spaces and tabs. The definitions are in
-//! `specs/`: lines and their fields (`Line`), headers with their sections (`Section`) and what follows their keywords
-//! (`HeaderLine`), the shapes of data lines (`DataLine`, `BoundLine`).
+//! `specs/`: lines, their fields, and headers with their sections and what follows their keywords (`Line`), and the shapes of
+//! data lines (`DataLine`).
 //!
 //! [`front_fields`] returns the first fields of a line. A function for each section ([`row_shape`], [`column_shape`],
 //! [`vector_shape`], [`bound_shape`]) returns the parts of a data line with these fields, or `None` if the line has another

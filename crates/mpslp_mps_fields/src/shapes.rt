@@ -2,8 +2,7 @@
 
 ghost use Rattle.std.specs.Prelude.{◌≡◌, [], ◌∷◌, map};
 ghost use Rattle.std.specs.Option.{option_map};
-ghost use Rattle.mpslp_mps_fields.specs.DataLine.{pair, word_shape, row_shape, column_shape, is_marker_line, third_field, marker_shape, vector_shape};
-ghost use Rattle.mpslp_mps_fields.specs.BoundLine.{bound_shape};
+ghost use Rattle.mpslp_mps_fields.specs.DataLine.{pair, word_shape, row_shape, column_shape, is_marker_line, third_field, marker_shape, vector_shape, bound_shape};
 
 use crate::bound_types::BoundType;
 use crate::words::is_marker;
@@ -115,7 +114,7 @@ pub struct BoundLine<'a> {
 
 impl<'a> Model for BoundLine<'a> {
     ghost use Rattle.std.specs.Option.{option_map};
-    ghost use Rattle.mpslp_mps_fields.specs.BoundLine.{BoundLine};
+    ghost use Rattle.mpslp_mps_fields.specs.DataLine.{BoundLine};
 
     ghost Value = { BoundLine };
 

@@ -3,10 +3,8 @@
 ghost use Rattle.std.specs.Prelude.{◌≡◌, if◌then◌else◌, codes, [], ◌∷◌};
 ghost use Rattle.std.specs.List.{list_any};
 ghost use Rattle.mpslp_types.specs.Name.{same_bytes, marker, is_one_of};
-ghost use Rattle.mpslp_mps_fields.specs.Section.{keyword_of, section_named};
-ghost use Rattle.mpslp_mps_fields.specs.DataLine.{sense_of, row_type, opening_word, closing_word};
-ghost use Rattle.mpslp_mps_fields.specs.BoundLine.{bound_type, takes_value, is_integer_type, is_semi_type};
-ghost use Rattle.mpslp_mps_fields.specs.HeaderLine.{unknown_section};
+ghost use Rattle.mpslp_mps_fields.specs.Line.{keyword_of, section_named, unknown_section};
+ghost use Rattle.mpslp_mps_fields.specs.DataLine.{sense_of, row_type, opening_word, closing_word, bound_type, takes_value, is_integer_type, is_semi_type};
 
 use crate::bound_types::BoundType;
 use crate::sections::Section;

@@ -6,7 +6,8 @@ use Rattle.std.specs.Cmp.{first_so, second_so}
 use Rattle.std.proofs.lemmas.Bool.Decides.{nat_tests}
 use Rattle.std.proofs.lemmas.Bool.{eqb-true}
 use Rattle.mpslp_decimal.specs.Literal.{is_digit}
-use Rattle.mpslp_types.specs.Name.{same_bytes, has_name_length, is_visible, marker, is_mps_name, name_refusal, is_upper, is_letter, is_lp_symbol, is_lp_byte, begins_a_number, is_like_exponent, is_reserved, is_lp_name}
+use Rattle.mpslp_types.specs.Name.{same_bytes, has_name_length, is_visible, marker, is_mps_name, is_upper, is_letter, is_lp_symbol, is_lp_byte, begins_a_number, is_like_exponent, is_reserved, is_lp_name}
+use Rattle.mpslp_types.specs.NameTests.{name_refusal}
 use Rattle.mpslp_types.specs.declared.names.NameFault.TheVariants.{NameLength, NameByte, NameMarker}
 use Rattle.mpslp_types.proofs.BoolLemmas.{both_so}
 use Rattle.mpslp_types.proofs.EachLemmas.{imp_all}

@@ -6,7 +6,8 @@ use Rattle.std.proofs.lemmas.Bool.{eqb-true, leb-true, leb-false, true≢false}
 use Rattle.std.proofs.lemmas.List.{length-map}
 use Rattle.std.proofs.Math.Dec.{leb}
 use Rattle.std.specs.Cmp.{second_so}
-use Rattle.mpslp_types.specs.Name.{same_bytes, lower_byte, reserved_words, reserved_beginnings, begins_reserved, may_be_reserved, is_reserved}
+use Rattle.mpslp_types.specs.Name.{same_bytes, lower_byte, reserved_words, is_reserved}
+use Rattle.mpslp_types.specs.NameTests.{reserved_beginnings, begins_reserved, may_be_reserved}
 
 -- ---- words that are longer than any reserved one
 

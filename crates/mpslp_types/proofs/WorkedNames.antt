@@ -1,7 +1,8 @@
 -- Worked examples: names, by computation.
 use Rattle.std.proofs.Common.{◌≡◌, refl, true, false}
 use Rattle.std.specs.Prelude.{Some, None, [], ◌∷◌, codes, replicate}
-use Rattle.mpslp_types.specs.Name.{marker, name_refusal, is_lp_name, is_mps_name}
+use Rattle.mpslp_types.specs.Name.{marker, is_lp_name, is_mps_name}
+use Rattle.mpslp_types.specs.NameTests.{name_refusal}
 use Rattle.mpslp_types.specs.declared.names.NameFault.TheVariants.{NameLength, NameByte, NameMarker}
 
 -- ---- length

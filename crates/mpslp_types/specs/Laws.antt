@@ -3,7 +3,8 @@ use Rattle.std.specs.Prelude.{◌≡◌, ℕ, Bool, true, IsTrue, List}
 use Rattle.std.specs.Ordering.{is_le}
 use Rattle.std.specs.declared.cmp.Ordering.{Ordering}
 use Rattle.mpslp_decimal.specs.Decimal.{is_decimal}
-use Rattle.mpslp_types.specs.Name.{IsMpsName, IsLpName}
+use Rattle.mpslp_types.specs.Name.{IsMpsName}
+use Rattle.mpslp_types.specs.NameTests.{IsLpName}
 use Rattle.mpslp_types.specs.Limit.{is_at_most}
 use Rattle.mpslp_types.specs.contracts.kinds.LimitOrd.TheImpl as limit_ord
 use Rattle.mpslp_types.specs.declared.kinds.Limit.{Limit}

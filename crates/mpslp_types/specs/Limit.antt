@@ -3,8 +3,7 @@ use Rattle.std.specs.Prelude.{Bool, true, false, ◌&&◌, not, if◌then◌else
 use Rattle.std.specs.Ordering.{is_lt}
 use Rattle.std.specs.Option.{option_map_or}
 use Rattle.mpslp_decimal.specs.Decimal.{Number, zero_number, is_decimal, is_negative, is_infinite_size, decimal_cmp, difference_of}
-use Rattle.mpslp_types.specs.declared.kinds.Limit.{Limit}
-use Rattle.mpslp_types.specs.declared.kinds.Limit.TheVariants.{MinusInf, Finite, PlusInf}
+use Rattle.mpslp_types.specs.declared.kinds.Limit.{Limit, TheVariants.MinusInf, TheVariants.Finite, TheVariants.PlusInf}
 
 abbrev pub is_plus_infinite : Limit → Bool
 is_plus_infinite PlusInf = true

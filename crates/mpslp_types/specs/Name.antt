@@ -1,13 +1,11 @@
 -- Names of rows, columns and the objective.
-use Rattle.std.specs.Prelude.{ℕ, ◌+◌, Bool, false, ◌&&◌, ◌||◌, not, nat_eq, nat_le, ◌==◌, if◌then◌else◌, IsTrue, List, [], ◌∷◌, length, map, Option, Some, None, codes}
+use Rattle.std.specs.Prelude.{ℕ, ◌+◌, Bool, false, ◌&&◌, ◌||◌, not, nat_eq, nat_le, ◌==◌, if◌then◌else◌, IsTrue, List, [], ◌∷◌, length, map, codes}
 use Rattle.std.specs.List.{list_any, list_all}
 use Rattle.std.specs.Ordering.{nat_cmp}
 use Rattle.std.specs.declared.cmp.Ordering.{Ordering}
 use Rattle.std.specs.Cmp.Lexicographic.{pointwise, slice_cmp}
 use Rattle.mpslp_decimal.specs.Literal.{is_digit}
 use Rattle.mpslp_types.specs.declared.names.TheConstants.{MAX_NAME_LEN}
-use Rattle.mpslp_types.specs.declared.names.NameFault.{NameFault}
-use Rattle.mpslp_types.specs.declared.names.NameFault.TheVariants.{NameLength, NameByte, NameMarker}
 
 -- byte order
 abbrev pub bytes_cmp : List ℕ → List ℕ → Ordering
@@ -37,13 +35,6 @@ is_mps_name name = has_name_length name && (list_all is_visible name && not (sam
 
 abbrev pub IsMpsName : List ℕ → Type 0
 IsMpsName name = IsTrue (is_mps_name name)
-
--- the first error of bytes that are not a legal name
-abbrev pub name_refusal : List ℕ → Option NameFault
-name_refusal name =
-    if not (has_name_length name) then Some NameLength
-    else (if not (list_all is_visible name) then Some NameByte
-    else (if same_bytes name marker then Some NameMarker else None))
 
 -- ---- names in LP
 
@@ -75,21 +66,6 @@ reserved_words =
 abbrev pub is_reserved : List ℕ → Bool
 is_reserved word = is_one_of reserved_words (map lower_byte word)
 
--- the first two letters of reserved words, in lower case
-abbrev pub reserved_beginnings : List (List ℕ)
-reserved_beginnings =
-    codes "bi" ∷ codes "bo" ∷ codes "en" ∷ codes "fr" ∷ codes "ge" ∷ codes "in" ∷ codes "ma" ∷ codes "mi"
-    ∷ codes "s." ∷ codes "se" ∷ codes "so" ∷ codes "st" ∷ codes "su" ∷ []
-
--- two letters with which a reserved word begins, ignoring case
-abbrev pub begins_reserved : ℕ → ℕ → Bool
-begins_reserved first second = list_any (same_bytes (lower_byte first ∷ lower_byte second ∷ [])) reserved_beginnings
-
--- a word that is not longer than the longest reserved word, and begins like one of them
-abbrev pub may_be_reserved : List ℕ → Bool
-may_be_reserved (first ∷ second ∷ rest) = nat_le (length (first ∷ second ∷ rest)) 8 && begins_reserved first second
-may_be_reserved _ = false
-
 -- `e` or `E`, followed by nothing or by a digit
 abbrev pub is_like_exponent : List ℕ → Bool
 is_like_exponent [] = false
@@ -104,6 +80,3 @@ begins_a_number (byte ∷ _) = is_digit byte || byte == 46
 abbrev pub is_lp_name : List ℕ → Bool
 is_lp_name name = has_name_length name && (list_all is_lp_byte name && (not (begins_a_number name)
     && (not (is_like_exponent name) && (not (same_bytes name marker) && not (is_reserved name)))))
-
-abbrev pub IsLpName : List ℕ → Type 0
-IsLpName name = IsTrue (is_lp_name name)

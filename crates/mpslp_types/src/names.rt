@@ -11,7 +11,8 @@ ghost use Rattle.std.specs.Hash as fed;
 ghost use Rattle.std.specs.Cmp.{partial_equiv_from_equiv};
 ghost use Rattle.std.specs.Cmp.Lexicographic.{nat_list_cmp_total, nat_list_eq_equiv, texts_po, texts_ties};
 ghost use Rattle.std.specs.Cmp.Rules.{hashing};
-ghost use Rattle.mpslp_types.specs.Name.{IsMpsName, is_visible, same_bytes, marker, name_refusal, bytes_cmp};
+ghost use Rattle.mpslp_types.specs.Name.{IsMpsName, is_visible, same_bytes, marker, bytes_cmp};
+ghost use Rattle.mpslp_types.specs.NameTests.{name_refusal};
 
 pub use lp::{is_lp_byte, may_be_reserved};
 use std::alloc::Global;

@@ -13,7 +13,7 @@ use Rattle.std.proofs.lemmas.List.FromFn.{length-range_with_len, get_or-range_wi
 use Rattle.std.proofs.lemmas.Option.{slice_get_within, slice_get-get_or, get_or_from_slice_get}
 use Rattle.mpslp_decimal.specs.Decimal.{Number, is_zero, zero_number}
 use Rattle.mpslp_types.specs.Name.{same_bytes}
-use Rattle.mpslp_model_core.specs.Model.{LinearModel, CoefficientKey, Column, key_cmp, IsSound}
+use Rattle.mpslp_model_core.specs.Model.{LinearModel, CoefficientKey, Column, key_cmp, IsSound, Listing, listing_of}
 use Rattle.mpslp_model_core.specs.Views.{num_columns, column_name, coefficient_at, column_elements, has_coefficient, row_columns}
 use Rattle.mpslp_types.proofs.BoolLemmas.{or_left, or_right, both_false}
 use Rattle.mpslp_builder.proofs.DraftEntries.{same_key}
@@ -22,7 +22,6 @@ use Rattle.mpslp_model_core.proofs.ByRowLemmas.{listed_below}
 use Rattle.mpslp_builder.proofs.SlotLemmas.{same_name}
 use Rattle.mpslp_builder.proofs.SortedDrafts.{key_total}
 use Rattle.mpslp_canonical_mps.proofs.CoefficientMap.{place_at}
-use Rattle.mpslp_model_core.specs.Listing.{Listing, listing_of}
 use Rattle.mpslp_canonical_lp.specs.CanonicalLp.{Lines, Term, term_line, some_term}
 use Rattle.mpslp_write.specs.LpLinesAt.{term_lines, row_term_lines, numbered_term_lines, has_lines}
 use Rattle.mpslp_write_mps.proofs.ColumnLemmas.{coefficient-not_zero, named-lines}

@@ -1,14 +1,13 @@
 -- Lines of canonical LP that are printed for one entry after another.
 use Rattle.std.specs.Prelude.{ℕ, Bool, true, false, List, [], ◌∷◌, Option, Some, None, if◌then◌else◌}
 use Rattle.std.specs.FinMap.{entries}
-use Rattle.mpslp_model_core.specs.Model.{LinearModel, Column}
+use Rattle.mpslp_model_core.specs.Model.{LinearModel, Column, Listing, listing_of}
 use Rattle.mpslp_types.specs.declared.kinds.Kind.{Kind}
 use Rattle.mpslp_decimal.specs.Decimal.{Number, have_same_value}
 use Rattle.mpslp_types.specs.declared.kinds.Sense.{Sense}
 use Rattle.mpslp_types.specs.declared.kinds.Limit.TheVariants.{Finite, PlusInf}
 use Rattle.mpslp_lp_grammar.specs.declared.relations.Relation.TheVariants.{AtMost, EqualTo}
 use Rattle.mpslp_canonical_lp.specs.Printed.{number, sense}
-use Rattle.mpslp_model_core.specs.Listing.{Listing, listing_of}
 use Rattle.mpslp_canonical_lp.specs.CanonicalLp.{Lines, heading, long_line, sense_word, Term, term_line, term_in, objective_term, right_line, bound_lexemes, line_of_some, is_integer_kind, is_semi_kind, name_line}
 use Rattle.mpslp_output.specs.LinesAt.{lines_at}
 use Rattle.mpslp_write.specs.declared.lp.kinds.KindSection.{KindSection}

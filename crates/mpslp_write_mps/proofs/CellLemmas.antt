@@ -12,7 +12,7 @@ use Rattle.std.specs.FinMap.{find, is_sorted}
 use Rattle.std.specs.FinMap.Entries.{below_all, is_sorted-where_key, find-where_key, same_entries}
 use Rattle.mpslp_decimal.specs.Decimal.{Number, is_decimal, is_zero}
 use Rattle.mpslp_types.specs.Name.{same_bytes, is_one_of, bytes_cmp}
-use Rattle.mpslp_model_core.specs.Model.{LinearModel, CoefficientKey, key_cmp, IsSound}
+use Rattle.mpslp_model_core.specs.Model.{LinearModel, CoefficientKey, key_cmp, IsSound, Listing, listing_of}
 use Rattle.mpslp_builder.specs.Declaration.{names_in}
 use Rattle.mpslp_model_core.specs.Views.{column_elements}
 use Rattle.mpslp_types.proofs.BoolLemmas.{both_so, T_from, true_from}
@@ -20,7 +20,6 @@ use Rattle.mpslp_types.proofs.EachLemmas.{Each, Each-filter, Each-all}
 use Rattle.mpslp_builder.proofs.DraftEntries.{same_key}
 use Rattle.mpslp_builder.proofs.SlotLemmas.{same_name}
 use Rattle.mpslp_builder.proofs.SortedDrafts.{bytes_total, key_total, tied_names}
-use Rattle.mpslp_model_core.specs.Listing.{Listing, listing_of}
 use Rattle.mpslp_canonical_mps.specs.CanonicalMps.{cell_at, column_coefficients}
 use Rattle.mpslp_builder.proofs.EntryLemmas.{found-each}
 use Rattle.mpslp_canonical_mps.proofs.CoefficientMap.{place_at}

@@ -9,7 +9,7 @@ use Rattle.std.proofs.lemmas.List.Quantifiers.{position-Some}
 use Rattle.std.proofs.lemmas.Option.{slice_get-map, slice_get-get_or, get_or_from_slice_get}
 use Rattle.mpslp_decimal.specs.Decimal.{Number, is_decimal, is_zero, zero_number}
 use Rattle.mpslp_types.specs.Name.{same_bytes}
-use Rattle.mpslp_model_core.specs.Model.{LinearModel, CoefficientKey, Column, key_cmp, IsSound}
+use Rattle.mpslp_model_core.specs.Model.{LinearModel, CoefficientKey, Column, key_cmp, IsSound, is_integer_column as has_integer_kind, listing_of}
 use Rattle.mpslp_model_core.specs.Views.{coefficient_at, column_elements}
 use Rattle.mpslp_model_core.specs.Views as views
 use Rattle.mpslp_types.specs.declared.kinds.Kind.{Kind}
@@ -18,7 +18,6 @@ use Rattle.mpslp_types.proofs.BoolLemmas.{not_so}
 use Rattle.mpslp_builder.proofs.DraftEntries.{same_key}
 use Rattle.mpslp_builder.proofs.SlotLemmas.{same_name}
 use Rattle.mpslp_builder.proofs.SortedDrafts.{key_total}
-use Rattle.mpslp_model_core.specs.Listing.{listing_of}
 use Rattle.mpslp_canonical_mps.specs.CanonicalMps.{Lines, bound_line, column_bound_lines, coefficient_line, column_coefficients, printed_coefficients, is_integer_column}
 use Rattle.mpslp_output.specs.LinesAt.{lines_at}
 use Rattle.mpslp_write_mps.specs.MpsLinesAt.{is_wanted, of_part, element_lines, objective_line_at, objective_lines}
@@ -40,18 +39,18 @@ no_bool : (b : Bool) → ◌≡◌ {A = Option Bool} None (Some b) → ⊥
 no_bool b e = cc
 
 -- whether the column with a number is integer, as an accessor returns it
-at-kind : (es : Columns) (j : ℕ) (b : Bool) → option_map views.is_integer_column (slice_get (map (λ e. e.1) es) j) ≡ Some b
+at-kind : (es : Columns) (j : ℕ) (b : Bool) → option_map has_integer_kind (slice_get (map (λ e. e.1) es) j) ≡ Some b
     → (e : List ℕ × Column) × (slice_get es j ≡ Some e) × (is_integer_column e ≡ b)
-at-kind es j b is = by (slice_get es j) refl (ap (option_map views.is_integer_column) (sym (slice_get-map (λ (e : List ℕ × Column). e.1) es j)) ∙ is)
+at-kind es j b is = by (slice_get es j) refl (ap (option_map has_integer_kind) (sym (slice_get-map (λ (e : List ℕ × Column). e.1) es j)) ∙ is)
   where
-    by : (o : Option (List ℕ × Column)) → slice_get es j ≡ o → option_map views.is_integer_column (option_map (λ (e : List ℕ × Column). e.1) o) ≡ Some b
+    by : (o : Option (List ℕ × Column)) → slice_get es j ≡ o → option_map has_integer_kind (option_map (λ (e : List ℕ × Column). e.1) o) ≡ Some b
         → (e : List ℕ × Column) × (slice_get es j ≡ Some e) × (is_integer_column e ≡ b)
     by None at h = absurd (no_bool b h)
-    by (Some e) at h = let told : views.is_integer_column e.1 ≡ b = cc in (e, at, told)
+    by (Some e) at h = let told : has_integer_kind e.1 ≡ b = cc in (e, at, told)
 
 -- the lines of the column with a number, if it is in the part
 pub part-lines : (part : Part) (f : List ℕ × Column → Lines) (es : Columns) (j : ℕ) (b : Bool)
-    → option_map views.is_integer_column (slice_get (map (λ e. e.1) es) j) ≡ Some b → cond (is_wanted part b) (lines_at f es j) [] ≡ lines_at (of_part part f) es j
+    → option_map has_integer_kind (slice_get (map (λ e. e.1) es) j) ≡ Some b → cond (is_wanted part b) (lines_at f es j) [] ≡ lines_at (of_part part f) es j
 part-lines part f es j b is =
     let (e, at, kind) = at-kind es j b is in
     (λ i. cond (is_wanted part (sym kind i)) (option_map_or f (at i) []) []) ∙ sym (ap (λ (o : Option (List ℕ × Column)). option_map_or (of_part part f) o []) at)

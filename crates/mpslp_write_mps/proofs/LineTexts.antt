@@ -1,7 +1,7 @@
 -- Canonical MPS is not empty, and the text of a section with its header.
 use Rattle.std.proofs.Common.{◌≡◌, refl, ap, ◌<◌, ℕ, List, [], ◌∷◌, ◌++◌, length, arith}
 use Rattle.mpslp_model_core.specs.Model.{LinearModel}
-use Rattle.mpslp_mps_fields.specs.Section.{keyword_of}
+use Rattle.mpslp_mps_fields.specs.Line.{keyword_of}
 use Rattle.mpslp_mps_fields.specs.declared.sections.Section.{Section}
 use Rattle.mpslp_canonical_mps.specs.CanonicalMps.{Lines, canonical_mps, under_header}
 use Rattle.mpslp_canonical_mps.specs.Printed.{line_text, text_of}

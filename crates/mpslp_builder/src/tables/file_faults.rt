@@ -6,8 +6,8 @@
 ghost use Rattle.std.specs.Prelude.{◌≡◌, ◌<◌, Bool, length, filter_map};
 ghost use Rattle.std.specs.List.{list_any};
 ghost use Rattle.std.specs.Option.{option_and_then, option_map, ForSome};
-ghost use Rattle.mpslp_model_core.specs.Lists.{head_of};
-ghost use Rattle.mpslp_builder.specs.Meaning.{file_fault};
+ghost use Rattle.mpslp_types.specs.Lists.{head_of};
+ghost use Rattle.mpslp_builder.specs.FileFault.{file_fault};
 ghost use Rattle.mpslp_builder.specs.Tables.{draft, IsNumbered};
 ghost use Rattle.mpslp_builder.specs.FaultFound.{row_fails, column_fails, is_wrong_row, is_wrong_column, is_below, least_name, entry_name, kind_of_row_fault, kind_of_column_fault, named_fault, fault_found, IsThere};
 

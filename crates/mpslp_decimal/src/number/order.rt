@@ -5,7 +5,8 @@ ghost use Rattle.std.specs.Ordering.{int_cmp, on, then_cmp, as_partial_cmp};
 ghost use Rattle.std.specs.Cmp.{partial_order_from_own_ties};
 ghost use Rattle.std.specs.Cmp.Rules.{comparing};
 ghost use Rattle.std.proofs.Common.{rules};
-ghost use Rattle.mpslp_decimal.specs.Decimal.{IsDecimal, decimal_cmp, scaled, order_of};
+ghost use Rattle.mpslp_decimal.specs.Decimal.{IsDecimal, decimal_cmp, scaled};
+ghost use Rattle.mpslp_decimal.specs.Values.{order_of};
 
 use crate::number::{Decimal, MAX_DIGITS};
 use std::cmp::Ordering;

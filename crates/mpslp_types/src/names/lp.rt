@@ -2,7 +2,8 @@
 
 ghost use Rattle.std.specs.Prelude.{◌≡◌, map};
 ghost use Rattle.std.specs.List.{list_all, list_any};
-ghost use Rattle.mpslp_types.specs.Name.{is_upper, is_lp_byte, lower_byte, same_bytes, begins_reserved, may_be_reserved, is_reserved, is_like_exponent, begins_a_number, is_lp_name};
+ghost use Rattle.mpslp_types.specs.Name.{is_upper, is_lp_byte, lower_byte, same_bytes, is_reserved, is_like_exponent, begins_a_number, is_lp_name};
+ghost use Rattle.mpslp_types.specs.NameTests.{begins_reserved, may_be_reserved};
 ghost use Rattle.mpslp_decimal.specs.Literal.{is_digit};
 
 use crate::laws::each_name_is_legal;

@@ -6,7 +6,7 @@ ghost use Rattle.std.specs.FinMap.{entries};
 ghost use Rattle.mpslp_model_core.specs.Views.{num_columns};
 ghost use Rattle.mpslp_types.specs.declared.kinds.Limit.{Limit};
 ghost use Rattle.mpslp_canonical_lp.specs.Printed.{line_text};
-ghost use Rattle.mpslp_model_core.specs.Listing.{listing_of};
+ghost use Rattle.mpslp_model_core.specs.Model.{listing_of};
 ghost use Rattle.mpslp_canonical_lp.specs.CanonicalLp.{bound_lexemes, line_of_some, bound_lines, bounds_section};
 ghost use Rattle.mpslp_output.specs.LinesAt.{lines_at};
 ghost use Rattle.mpslp_write.specs.LpLinesAt.{lines_between, lines_from};

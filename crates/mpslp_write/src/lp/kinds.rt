@@ -5,7 +5,7 @@ ghost use Rattle.std.specs.List.{flat_map};
 ghost use Rattle.std.specs.FinMap.{entries};
 ghost use Rattle.mpslp_model_core.specs.Views.{num_columns};
 ghost use Rattle.mpslp_canonical_lp.specs.Printed.{line_text};
-ghost use Rattle.mpslp_model_core.specs.Listing.{listing_of};
+ghost use Rattle.mpslp_model_core.specs.Model.{listing_of};
 ghost use Rattle.mpslp_canonical_lp.specs.CanonicalLp.{generals_section, semis_section};
 ghost use Rattle.mpslp_output.specs.LinesAt.{lines_at};
 ghost use Rattle.mpslp_write.specs.LpLinesAt.{is_of_section, name_lines};

@@ -6,7 +6,7 @@ ghost use Rattle.std.specs.FinMap.{entries};
 ghost use Rattle.mpslp_model_core.specs.Views.{num_columns, column_name, column_elements};
 ghost use Rattle.mpslp_canonical_mps.specs.Printed.{line_text};
 ghost use Rattle.mpslp_canonical_mps.specs.CanonicalMps.{column_lines, columns_section, integer_part};
-ghost use Rattle.mpslp_model_core.specs.Listing.{listing_of};
+ghost use Rattle.mpslp_model_core.specs.Model.{listing_of};
 ghost use Rattle.mpslp_output.specs.LinesAt.{lines_at};
 ghost use Rattle.mpslp_write_mps.specs.MpsLinesAt.{is_wanted, of_part, element_lines, objective_lines};
 ghost use Rattle.mpslp_output.specs.Printing.{Prints, PrintsSection};

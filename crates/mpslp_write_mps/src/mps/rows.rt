@@ -8,7 +8,7 @@ ghost use Rattle.mpslp_model_core.specs.Views.{num_rows, rows_of};
 ghost use Rattle.mpslp_canonical_mps.specs.Printed.{line_text};
 ghost use Rattle.mpslp_canonical_mps.specs.PrintedValues.{printed_rhs};
 ghost use Rattle.mpslp_canonical_mps.specs.CanonicalMps.{row_line, rhs_lines, row_rhs_lines, range_lines, rows_section, rhs_section, ranges_section};
-ghost use Rattle.mpslp_model_core.specs.Listing.{listing_of};
+ghost use Rattle.mpslp_model_core.specs.Model.{listing_of};
 ghost use Rattle.mpslp_output.specs.LinesAt.{lines_at};
 ghost use Rattle.mpslp_write_mps.specs.MpsLinesAt.{printed_letter};
 ghost use Rattle.mpslp_output.specs.Printing.{Prints, PrintsSection};

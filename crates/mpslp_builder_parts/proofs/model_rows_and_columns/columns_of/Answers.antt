@@ -6,8 +6,7 @@ use Rattle.mpslp_model_core.specs.Numbered.{each_part}
 use Rattle.mpslp_model_core.specs.ModelParts.{own, bounds_in, cells_in}
 use Rattle.std.specs.Global.{Vec}
 use Rattle.mpslp_builder_parts.specs.declared.parts.ColumnParts.{ColumnParts}
-use Rattle.mpslp_builder_parts.specs.Parts.{bytes}
-use Rattle.mpslp_builder_parts.specs.Parts.{bounds_of, moved_in}
+use Rattle.mpslp_builder_parts.specs.Parts.{bytes, bounds_of, moved_in}
 use Rattle.mpslp_builder_parts.proofs.PassLemmas.{each_part-append, passed_on, holds_first, holds_later}
 use Rattle.mpslp_builder_parts.proofs.model_rows_and_columns.columns_of.Goals as goal
 

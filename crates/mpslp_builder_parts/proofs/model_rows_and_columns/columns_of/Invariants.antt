@@ -4,8 +4,7 @@ use Rattle.std.specs.Vec.Iter.{into_iter_items}
 use Rattle.mpslp_types.specs.Name.{IsMpsName}
 use Rattle.mpslp_model_core.specs.Numbered.{each_part}
 use Rattle.mpslp_model_core.specs.ModelParts.{own, bounds_in, cells_in}
-use Rattle.mpslp_builder_parts.specs.Parts.{bytes}
-use Rattle.mpslp_builder_parts.specs.Parts.{bounds_of, moved_in}
+use Rattle.mpslp_builder_parts.specs.Parts.{bytes, bounds_of, moved_in}
 use Rattle.mpslp_builder_parts.proofs.model_rows_and_columns.columns_of.Given as goal
 
 abbrev pub invariant-loop-name : goal.invariant-loop-name

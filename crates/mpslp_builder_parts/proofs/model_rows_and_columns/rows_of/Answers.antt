@@ -2,8 +2,7 @@ use Rattle.std.proofs.Common.{sym, ap, ◌∙◌, [], ◌∷◌, ◌++◌}
 use Rattle.std.specs.Vec.Iter.{into_iter_items}
 use Rattle.mpslp_types.specs.Name.{IsMpsName}
 use Rattle.mpslp_model_core.specs.Numbered.{each_part}
-use Rattle.mpslp_builder_parts.specs.Parts.{bytes}
-use Rattle.mpslp_builder_parts.specs.Parts.{limits_in}
+use Rattle.mpslp_builder_parts.specs.Parts.{bytes, limits_in}
 use Rattle.mpslp_builder_parts.proofs.PassLemmas.{passed_on, holds_first, holds_later}
 use Rattle.mpslp_builder_parts.proofs.model_rows_and_columns.rows_of.Goals as goal
 

@@ -3,8 +3,7 @@ use Rattle.std.specs.List.{All}
 use Rattle.std.specs.Vec.Iter.{into_iter_items}
 use Rattle.mpslp_types.specs.Name.{IsMpsName}
 use Rattle.mpslp_model_core.specs.Numbered.{each_part}
-use Rattle.mpslp_builder_parts.specs.Parts.{bytes}
-use Rattle.mpslp_builder_parts.specs.Parts.{limits_in}
+use Rattle.mpslp_builder_parts.specs.Parts.{bytes, limits_in}
 use Rattle.mpslp_builder_parts.proofs.model_rows_and_columns.rows_of.Given as goal
 
 abbrev pub invariant-loop-name : goal.invariant-loop-name

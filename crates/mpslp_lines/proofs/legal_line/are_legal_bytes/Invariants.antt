@@ -1,6 +1,6 @@
 use Rattle.std.proofs.Common.{◌≡◌, take}
 use Rattle.std.specs.List.{list_all}
-use Rattle.mpslp_lines.specs.LegalLine.{is_legal_byte}
+use Rattle.mpslp_lines.specs.FaultTests.{is_legal_byte}
 use Rattle.mpslp_lines.proofs.legal_line.are_legal_bytes.Given as goal
 
 -- the bytes so far

@@ -1,13 +1,13 @@
 use Rattle.std.proofs.Common.{◌≡◌, ◌∙◌, sym, subst, ap}
 use Rattle.std.specs.Prelude.{Ok, Err, None}
 use Rattle.mpslp_decimal.specs.Decimal.{Number}
-use Rattle.mpslp_lines.specs.Field.{value_of}
+use Rattle.mpslp_lines.specs.FaultTests.{value_of}
 use Rattle.mpslp_lines.specs.declared.errors.LineError.{LineError}
 use Rattle.mpslp_lp_grammar.specs.AfterToken.{take_term}
 use Rattle.mpslp_lp_grammar.specs.Declares.{AddsTerm, TakesToken}
 use Rattle.mpslp_lp_grammar.specs.PartialRow.{PartialRow}
 use Rattle.mpslp_lp_grammar.specs.Rows.{without_terms}
-use Rattle.mpslp_lp_grammar.specs.Sides.{apply_sign}
+use Rattle.mpslp_lp_grammar.specs.Items.{apply_sign}
 use Rattle.mpslp_lp_grammar.specs.Terminal.Terminal.{Name}
 use Rattle.mpslp_lp.specs.LineByLine.{take_tokens}
 use Rattle.mpslp_lp_grammar.specs.declared.states.ItemOwner.TheVariants.{OfRow}

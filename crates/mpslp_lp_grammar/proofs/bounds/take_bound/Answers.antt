@@ -4,7 +4,7 @@ use Rattle.mpslp_builder.specs.Declaration.{with_declarations, bounds_declared}
 use Rattle.mpslp_builder.specs.Refusal.{bounds_refusals}
 use Rattle.mpslp_lp_grammar.specs.TokenByToken.{new_column}
 use Rattle.mpslp_lp_grammar.specs.TerminalToken.{terminal_of_token}
-use Rattle.mpslp_lp_grammar.specs.Sides.{limits_by}
+use Rattle.mpslp_lp_grammar.specs.Items.{limits_by}
 use Rattle.mpslp_lp_grammar.specs.Declares.{DeclaresSides}
 use Rattle.mpslp_lp_grammar.specs.declared.states.Place.TheVariants.{InBounds}
 use Rattle.mpslp_lp_grammar.proofs.TokenAnswers.{completes}

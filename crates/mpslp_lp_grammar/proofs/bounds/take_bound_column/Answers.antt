@@ -4,7 +4,7 @@ use Rattle.mpslp_builder.specs.Declaration.{declare_column, with_declarations, b
 use Rattle.mpslp_builder.specs.Refusal.{bounds_refusals}
 use Rattle.mpslp_lp_grammar.specs.TokenByToken.{new_column}
 use Rattle.mpslp_lp_grammar.specs.Terminal.{Terminal}
-use Rattle.mpslp_lp_grammar.specs.Sides.{limits_by, flip}
+use Rattle.mpslp_lp_grammar.specs.Items.{limits_by, flip}
 use Rattle.mpslp_lp_grammar.specs.Declares.{DeclaresSides, answer_at}
 use Rattle.mpslp_lp_grammar.specs.declared.relations.Relation.{Relation}
 use Rattle.mpslp_lp_grammar.specs.declared.states.Place.TheVariants.{InBounds}

@@ -1,6 +1,6 @@
 use Rattle.std.proofs.Common.{◌≡◌, ◌+◌, drop}
 use Rattle.std.specs.List.{prefix_len}
-use Rattle.mpslp_lp_tokens.specs.Line.{is_blank}
+use Rattle.mpslp_lp_tokens.specs.Token.{is_blank}
 use Rattle.mpslp_lp_tokens.proofs.tokens.blanks_len.Given as goal
 
 -- the bytes so far are spaces and tabs

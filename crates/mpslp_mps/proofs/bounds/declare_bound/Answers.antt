@@ -3,7 +3,7 @@ use Rattle.std.specs.Prelude.{Option}
 use Rattle.mpslp_types.specs.declared.faults.FaultKind.{FaultKind}
 use Rattle.mpslp_lines.specs.Declaring.{declared_fault}
 use Rattle.mpslp_lines.specs.LineAnswer.{IsErrorOf}
-use Rattle.mpslp_model_core.specs.Lists.{when}
+use Rattle.mpslp_types.specs.Lists.{when}
 use Rattle.mpslp_builder.specs.Declaration.{with_declarations, declare_integer, declare_semi}
 use Rattle.mpslp_mps.specs.LineDeclarations.{kind_declared, bound_declared}
 use Rattle.mpslp_lines.proofs.AnswerLemmas.{ends-by}

@@ -1,7 +1,7 @@
 use Rattle.std.proofs.Common.{sym, ap, subst, ◌∙◌, rules, map, Bor, ℕ, List, ◌∷◌}
 use Rattle.std.specs.Prelude.{Option, Some}
 use Rattle.mpslp_builder.specs.Declaration.{with_declarations}
-use Rattle.mpslp_mps_fields.specs.BoundLine.{BoundLine}
+use Rattle.mpslp_mps_fields.specs.DataLine.{BoundLine}
 use Rattle.mpslp_mps.specs.ContextStep.{after_set}
 use Rattle.mpslp_mps.specs.LineDeclarations.{bound_declared}
 use Rattle.mpslp_types.specs.declared.faults.FaultKind.{FaultKind}

@@ -4,7 +4,7 @@ use Rattle.mpslp_builder.specs.Declaration.{with_declarations}
 use Rattle.mpslp_types.specs.declared.faults.FaultKind.{FaultKind}
 use Rattle.mpslp_mps_fields.specs.DataLine.{vector_shape}
 use Rattle.mpslp_lines.specs.FaultTests.{judged_by, first_held}
-use Rattle.mpslp_mps.specs.DataFault.{vector_tests}
+use Rattle.mpslp_mps.specs.LineFault.{vector_tests}
 use Rattle.mpslp_lines.specs.LineAnswer.{IsErrorOf}
 use Rattle.mpslp_mps.specs.VectorDeclared.{rhs_values_declared}
 use Rattle.mpslp_mps_fields.specs.declared.sections.Section.TheVariants.{Rhs}

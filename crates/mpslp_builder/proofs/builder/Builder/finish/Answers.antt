@@ -2,7 +2,8 @@ use Rattle.std.proofs.Common.{sym, ap, subst, ◌∙◌}
 use Rattle.std.specs.Prelude.{Some}
 use Rattle.std.specs.Option.{option_map}
 use Rattle.mpslp_builder.specs.Declaration.{Draft}
-use Rattle.mpslp_builder.specs.Meaning.{file_fault, DraftMeans}
+use Rattle.mpslp_builder.specs.Meaning.{DraftMeans}
+use Rattle.mpslp_builder.specs.FileFault.{file_fault}
 use Rattle.mpslp_builder.specs.FaultFound.{fault_found}
 use Rattle.mpslp_builder.proofs.FoundLemmas.{legal_names}
 use Rattle.mpslp_builder.proofs.builder.Builder.finish.Goals as goal

@@ -1,6 +1,6 @@
 use Rattle.std.proofs.Common.{◌≡◌, sym, ap, ◌∙◌, ◌++◌, [], ◌∷◌, List, ℕ, true, false}
 use Rattle.std.specs.List.{flat_map}
-use Rattle.mpslp_model_core.specs.Lists.{when}
+use Rattle.mpslp_types.specs.Lists.{when}
 use Rattle.mpslp_builder.specs.Declaration.{Draft, with_declarations, declare_column, declare_marked, has_column}
 use Rattle.mpslp_builder.specs.Refusal.{refusals_in_turn}
 use Rattle.mpslp_builder.specs.Tables.{bytes, draft}

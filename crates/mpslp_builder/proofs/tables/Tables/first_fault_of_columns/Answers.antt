@@ -1,7 +1,7 @@
 use Rattle.std.proofs.Common.{refl, sym, ap, ◌∙◌, List, ℕ}
 use Rattle.std.specs.Prelude.{Some, None, slice_index_or}
 use Rattle.std.specs.Option.{option_map}
-use Rattle.mpslp_builder.specs.Meaning.{whole_fault}
+use Rattle.mpslp_builder.specs.FileFault.{whole_fault}
 use Rattle.mpslp_builder.specs.Tables.{draft}
 use Rattle.mpslp_builder.specs.FaultFound.{column_fails, is_wrong_column, kind_of_column_fault, entry_name, least_name, named_fault, fault_found}
 use Rattle.mpslp_model_core.specs.declared.bounds.ColumnFault.{ColumnFault}

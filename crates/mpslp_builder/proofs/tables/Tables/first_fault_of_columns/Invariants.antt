@@ -1,6 +1,6 @@
 use Rattle.std.proofs.Common.{◌≡◌, drop}
 use Rattle.std.specs.Prelude.{None, filter_map}
-use Rattle.mpslp_model_core.specs.Lists.{head_of}
+use Rattle.mpslp_types.specs.Lists.{head_of}
 use Rattle.mpslp_builder.specs.Tables.{draft}
 use Rattle.mpslp_builder.specs.FaultFound.{kind_of_column_fault, named_fault}
 use Rattle.mpslp_builder.proofs.tables.Tables.first_fault_of_columns.Given as goal

@@ -1,6 +1,6 @@
 use Rattle.std.proofs.Common.{◌≡◌, sym, ap, subst, ◌∙◌, Bool, false}
 use Rattle.std.specs.Prelude.{◌&&◌}
-use Rattle.mpslp_model_core.specs.Lists.{when}
+use Rattle.mpslp_types.specs.Lists.{when}
 use Rattle.mpslp_builder.specs.Declaration.{declare_marked}
 use Rattle.mpslp_builder.specs.Calls.{column_tells}
 use Rattle.mpslp_builder.specs.LineTables.{IsLaid}

@@ -1,5 +1,5 @@
 use Rattle.std.specs.List.{flat_map}
-use Rattle.mpslp_model_core.specs.Lists.{when}
+use Rattle.mpslp_types.specs.Lists.{when}
 use Rattle.mpslp_builder.specs.Declaration.{declare_marked}
 use Rattle.mpslp_builder.specs.ColumnLine.{listed, entry_declared}
 use Rattle.mpslp_builder.proofs.PartLemmas.{on_ok}

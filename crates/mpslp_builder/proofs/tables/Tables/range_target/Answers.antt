@@ -1,7 +1,7 @@
 use Rattle.std.proofs.Common.{refl, sym, ap, ◌∙◌, true, false, Bool, [], ◌∷◌}
 use Rattle.std.specs.Prelude.{None, ◌||◌}
 use Rattle.mpslp_model_core.specs.Limits.{is_free_definition}
-use Rattle.mpslp_model_core.specs.Lists.{those_of}
+use Rattle.mpslp_types.specs.Lists.{those_of}
 use Rattle.mpslp_types.specs.declared.faults.BuildFault.TheVariants.{DuplicateRange, RangeOnFree, InfiniteValue}
 use Rattle.mpslp_builder.specs.Answer.{first_refusal}
 use Rattle.mpslp_builder.specs.Calls.{row_tells, is_objective_ref}

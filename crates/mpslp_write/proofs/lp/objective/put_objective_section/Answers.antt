@@ -1,6 +1,6 @@
 use Rattle.std.proofs.Common.{◌∙◌, ◌++◌, ◌∷◌}
 use Rattle.std.specs.FinMap.{entries}
-use Rattle.mpslp_model_core.specs.Listing.{listing_of}
+use Rattle.mpslp_model_core.specs.Model.{listing_of}
 use Rattle.mpslp_canonical_lp.specs.CanonicalLp.{label_line, constant_lines, objective_term}
 use Rattle.mpslp_write.specs.LpLinesAt.{sense_lines}
 use Rattle.mpslp_write.proofs.LpTerms.{terms-joined}

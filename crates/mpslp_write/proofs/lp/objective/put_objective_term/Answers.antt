@@ -3,7 +3,7 @@ use Rattle.std.specs.FinMap.{entries}
 use Rattle.std.proofs.lemmas.Option.{get_or_from_slice_get}
 use Rattle.mpslp_decimal.specs.Decimal.{is_zero}
 use Rattle.mpslp_model_core.specs.Views.{column_name, column_names, coefficient_at}
-use Rattle.mpslp_model_core.specs.Listing.{listing_of}
+use Rattle.mpslp_model_core.specs.Model.{listing_of}
 use Rattle.mpslp_canonical_lp.specs.CanonicalLp.{term_line}
 use Rattle.mpslp_write_mps.proofs.ColumnLemmas.{named-lines}
 use Rattle.mpslp_write.proofs.LpTerms.{objective_lines_of, objective-needed, objective-alone, objective-left}

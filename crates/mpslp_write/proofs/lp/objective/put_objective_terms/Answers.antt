@@ -1,6 +1,6 @@
 use Rattle.std.proofs.Common.{rules, arith}
 use Rattle.std.specs.FinMap.{entries}
-use Rattle.mpslp_model_core.specs.Listing.{listing_of}
+use Rattle.mpslp_model_core.specs.Model.{listing_of}
 use Rattle.mpslp_write.specs.LpLinesAt.{objective_term_lines}
 use Rattle.mpslp_output.proofs.EachLemmas.{prints_each}
 use Rattle.mpslp_write.proofs.lp.objective.put_objective_terms.Goals as goal

@@ -1,7 +1,7 @@
 use Rattle.std.proofs.Common.{sym, ap, ◌∙◌, ◌++◌, ◌∷◌, [], arith}
 use Rattle.std.specs.Prelude.{filter_map}
 use Rattle.mpslp_model_core.specs.Views.{row_name}
-use Rattle.mpslp_model_core.specs.Listing.{listing_of}
+use Rattle.mpslp_model_core.specs.Model.{listing_of}
 use Rattle.mpslp_canonical_lp.specs.CanonicalLp.{term_in, term_line}
 use Rattle.mpslp_write.specs.LpLinesAt.{has_lines}
 use Rattle.mpslp_write.proofs.LpTerms.{terms-listed, some-listed, none-listed, terms-joined, some-terms, no-terms}

@@ -1,6 +1,6 @@
 use Rattle.std.proofs.Common.{rules, arith}
 use Rattle.std.specs.FinMap.{entries}
-use Rattle.mpslp_model_core.specs.Listing.{listing_of}
+use Rattle.mpslp_model_core.specs.Model.{listing_of}
 use Rattle.mpslp_canonical_lp.specs.CanonicalLp.{row_lines}
 use Rattle.mpslp_output.proofs.EachLemmas.{prints_each}
 use Rattle.mpslp_write.proofs.lp.rows.put_rows.Goals as goal

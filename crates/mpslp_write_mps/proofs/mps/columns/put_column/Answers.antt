@@ -1,7 +1,7 @@
 use Rattle.std.proofs.Common.{◌∙◌, map}
 use Rattle.std.specs.FinMap.{entries}
 use Rattle.mpslp_model_core.specs.Views.{column_name}
-use Rattle.mpslp_model_core.specs.Listing.{listing_of}
+use Rattle.mpslp_model_core.specs.Model.{listing_of}
 use Rattle.mpslp_canonical_mps.specs.CanonicalMps.{coefficient_line, printed_coefficients, column_coefficients}
 use Rattle.mpslp_write_mps.proofs.ColumnLemmas.{column-joined, named-lines}
 use Rattle.mpslp_output.proofs.OutputLemmas.{prints_then, prints_same}

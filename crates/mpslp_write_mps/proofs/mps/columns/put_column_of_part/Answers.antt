@@ -1,5 +1,5 @@
 use Rattle.std.proofs.Common.{sym, ap, ◌∙◌, Bool, cond, []}
-use Rattle.mpslp_model_core.specs.Listing.{listing_of}
+use Rattle.mpslp_model_core.specs.Model.{listing_of}
 use Rattle.mpslp_canonical_mps.specs.CanonicalMps.{column_lines}
 use Rattle.mpslp_output.specs.LinesAt.{lines_at}
 use Rattle.mpslp_write_mps.proofs.ColumnLemmas.{part-lines}

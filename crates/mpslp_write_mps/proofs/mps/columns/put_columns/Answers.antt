@@ -1,7 +1,7 @@
 use Rattle.std.proofs.Common.{rules, arith}
 use Rattle.std.specs.FinMap.{entries}
 use Rattle.mpslp_canonical_mps.specs.CanonicalMps.{column_lines}
-use Rattle.mpslp_model_core.specs.Listing.{listing_of}
+use Rattle.mpslp_model_core.specs.Model.{listing_of}
 use Rattle.mpslp_write_mps.specs.MpsLinesAt.{of_part}
 use Rattle.mpslp_output.proofs.EachLemmas.{prints_each}
 use Rattle.mpslp_write_mps.proofs.mps.columns.put_columns.Goals as goal

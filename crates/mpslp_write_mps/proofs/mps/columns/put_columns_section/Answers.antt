@@ -1,6 +1,6 @@
 use Rattle.std.proofs.Common.{refl, [], ◌∷◌, ◌++◌}
 use Rattle.mpslp_mps_fields.specs.declared.sections.Section.TheVariants.{Columns}
-use Rattle.mpslp_model_core.specs.Listing.{listing_of}
+use Rattle.mpslp_model_core.specs.Model.{listing_of}
 use Rattle.mpslp_canonical_mps.specs.CanonicalMps.{header_line, column_lines, is_plain_column, is_integer_column, integer_part}
 use Rattle.mpslp_output.proofs.LinesAtLemmas.{flat_map-filter}
 use Rattle.mpslp_output.proofs.OutputLemmas.{section_of, section_then, section_same, section_text}

@@ -1,6 +1,6 @@
--- Lists: what passes a test, the first item, and whether all items differ.
-use Rattle.std.specs.Prelude.{Bool, true, false, ◌&&◌, not, List, [], ◌∷◌, Option, Some, None, if◌then◌else◌}
-use Rattle.std.specs.List.{list_any}
+-- Lists: what passes a test, the first item, whether all items differ, and the lines of a text.
+use Rattle.std.specs.Prelude.{Bool, true, false, ◌&&◌, not, List, [], ◌∷◌, Option, Some, None, if◌then◌else◌, ℕ, ◌++◌}
+use Rattle.std.specs.List.{list_any, flat_map}
 
 abbrev pub is_nonempty : {X : Type 0} → List X → Bool
 is_nonempty [] = false
@@ -23,3 +23,6 @@ those_of (tested ∷ more) = if tested.0 then tested.1 ∷ those_of more else th
 abbrev pub are_distinct : {K : Type 0} → (K → K → Bool) → List K → Bool
 are_distinct same [] = true
 are_distinct same (x ∷ xs) = not (list_any (λ later. same later x) xs) && are_distinct same xs
+
+abbrev pub with_line_feeds : List (List ℕ) → List ℕ
+with_line_feeds lines = flat_map (λ line. line ++ 10 ∷ []) lines
