@@ -54,23 +54,17 @@ fn line_of(builder: &mut Builder, alloc: Global, line: Line<'_>) -> Result<bool,
 }
 
 /// Lines in turn, and whether each is taken.
-const LINES: [(Line<'static>, bool); 16] = [
+const LINES: [(Line<'static>, bool); 10] = [
     (Line::First("x", false, ("f", "1"), Some(("r", "2"))), true),
     (Line::Next("x", false, ("s", "3"), None), true),
     (Line::Next("x", false, ("s", "4"), None), false),
-    (Line::Next("x", false, ("q", "4"), None), false),
     (Line::First("x", false, ("r", "5"), None), false),
-    (Line::First("y", true, ("q", "1"), None), false),
     (Line::First("y", true, ("r", "1"), Some(("r", "2"))), false),
     (Line::First("y", true, ("r", "1"), Some(("q", "1"))), false),
     (Line::Next("y", true, ("r", "1"), None), false),
     (Line::First("y", true, ("r", "6"), None), true),
-    (Line::Next("y", true, ("s", "7"), Some(("q", "8"))), false),
-    (Line::Next("y", true, ("s", "7"), Some(("s", "8"))), false),
     (Line::Next("y", true, ("s", "7"), Some(("f", "8"))), true),
     (Line::Next("y", true, ("s", "7"), Some(("f", "8"))), false),
-    (Line::Next("z", true, ("r", "9"), None), false),
-    (Line::Next("z", false, ("r", "9"), None), true),
 ];
 
 /// The index of the first line with another result.
@@ -89,15 +83,12 @@ fn first_other_line(
     Ok(None)
 }
 
-/// A builder with the objective f, the rows r and s, and the semi-continuous column z.
+/// A builder with the objective f and the rows r and s.
 fn with_rows(alloc: Global) -> Result<Builder, BuildFault> {
     let mut builder = Builder::new(alloc);
     call_of(&mut builder, alloc, Call::Objective("f"))?;
     call_of(&mut builder, alloc, Call::Row("r", RowType::AtMost))?;
     call_of(&mut builder, alloc, Call::Row("s", RowType::AtLeast))?;
-    call_of(&mut builder, alloc, Call::Column("z"))?;
-    call_of(&mut builder, alloc, Call::Upper("z", "5"))?;
-    call_of(&mut builder, alloc, Call::Semi("z"))?;
     Ok(builder)
 }
 
@@ -121,6 +112,5 @@ fn declares_lines_of_columns(rt: HostRuntime) -> Result<(), Fail> {
     assert!(rt; tells(text, "column y integer 0 1 objective 8"));
     assert!(rt; tells(text, "entry r 2 2") && tells(text, "entry s 3 3"));
     assert!(rt; tells(text, "entry r 6 6") && tells(text, "entry s 7 7"));
-    assert!(rt; tells(text, "column z semi 0 5 objective 0") && tells(text, "entry r 9 9"));
     Ok(())
 }
