@@ -101,6 +101,31 @@ fn keeps_the_limit_of_length(rt: HostRuntime) -> Result<(), Fail> {
     Ok(())
 }
 
+/// Literals with the mantissa and the exponent of their value.
+const PARTS: [(&str, i128, i32); 9] = [
+    ("-0.0", 0, 0),
+    ("0e999", 0, 0),
+    ("000000000000000000000000000001", 1, 0),
+    ("1234567890123456780", 123456789012345678, 1),
+    ("12.50e-20", 125, -21),
+    ("-15e-18", -15, -18),
+    ("1e500", 1, 500),
+    ("1000e497", 1, 500),
+    ("1000000000000000000", 1, 18),
+];
+
+#[test]
+fn mantissas_do_not_end_with_0(rt: HostRuntime) -> Result<(), Fail> {
+    for (literal, mantissa, exponent) in PARTS {
+        let value = Decimal::parse(literal.as_bytes())?;
+        assert!(rt;
+            value.mantissa() == mantissa && value.exponent() == exponent,
+            "at {literal}"
+        );
+    }
+    Ok(())
+}
+
 #[test]
 fn answers_what_is_asked_of_a_decimal(rt: HostRuntime) -> Result<(), Fail> {
     let value = Decimal::parse(b"-12.50")?;
