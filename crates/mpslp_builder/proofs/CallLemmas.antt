@@ -13,7 +13,7 @@ use Rattle.mpslp_builder.specs.Declaration.{with_declaration, with_declarations,
 use Rattle.mpslp_builder.specs.Tables.{bytes, cells_of, name_of_objective, draft_from, draft, AreNumbered, IsNumbered}
 use Rattle.mpslp_builder.specs.Calls.{row_key_of, row_name, row_tells, column_name, new_column, with_cell, with_bounds, IsOnceEach, IsSameTables, HasObjective, HasRowAdded, HasRowChanged, HasColumnAdded, HasColumnChanged, HasObjectiveChanged, HasRhsPut}
 use Rattle.mpslp_builder_parts.specs.declared.parts.ObjectiveParts.{ObjectiveParts}
-use Rattle.mpslp_builder_parts.specs.declared.parts.RowParts.{RowParts}
+use Rattle.mpslp_builder_parts.specs.RowParts.{RowParts}
 use Rattle.mpslp_builder_parts.specs.declared.parts.ColumnParts.{ColumnParts}
 use Rattle.mpslp_builder.specs.declared.tables.RowRef.{RowRef}
 use Rattle.mpslp_builder.specs.declared.tables.RowRef.TheVariants.{Objective, Row}

@@ -26,7 +26,7 @@ use Rattle.mpslp_builder.specs.Tables.{bytes, no_part, cells_of, lower_of, upper
 use Rattle.mpslp_builder_parts.specs.DeclaredBounds.{side_put}
 use Rattle.mpslp_builder.specs.Calls.{new_column, with_cell, with_bounds}
 use Rattle.mpslp_builder_parts.specs.declared.parts.ObjectiveParts.{ObjectiveParts}
-use Rattle.mpslp_builder_parts.specs.declared.parts.RowParts.{RowParts}
+use Rattle.mpslp_builder_parts.specs.RowParts.{RowParts}
 use Rattle.mpslp_builder_parts.specs.declared.parts.ColumnParts.{ColumnParts}
 use Rattle.mpslp_builder.proofs.NameLemmas.{find_own, once_too}
 use Rattle.mpslp_builder.proofs.PartLemmas.{each_part-append, each_part-kept, given_parts-without, given_parts-kept, find-given_any, absent-each_part, find-put_in_column, none_there}

@@ -3,16 +3,15 @@ use Rattle.std.proofs.Common.{◌≡◌, refl, sym, ap, subst, ◌∙◌, ℕ, z
 use Rattle.std.specs.Prelude.{◌≢◌, Option, Some, None, is_some, unwrap_or, slice_get, slice_index}
 use Rattle.std.specs.Option.{option_map, option_map_or}
 use Rattle.std.specs.Ordering.{is_lt, eq_by_cmp}
-use Rattle.std.specs.Cmp.{first_so, second_so}
 use Rattle.std.specs.FinMap.{find}
 use Rattle.std.specs.Global.{Vec}
-use Rattle.std.specs.List.{All, list_all, range_with_len}
+use Rattle.std.specs.List.{All, range_with_len}
 use Rattle.std.specs.List.Sorted.{IsSortedBy}
 use Rattle.mpslp_decimal.specs.Decimal.{Number, negated, zero_number}
-use Rattle.mpslp_types.specs.Name.{bytes_cmp, is_mps_name, IsMpsName}
+use Rattle.mpslp_types.specs.Name.{bytes_cmp, IsMpsName}
 use Rattle.mpslp_types.specs.declared.kinds.Sense.{Sense}
 use Rattle.mpslp_types.proofs.EachLemmas.{Each, Each-weaker}
-use Rattle.mpslp_model_core.specs.Numbered.{sorted_of, each_part, given_parts, IsOnce, TellsApart}
+use Rattle.mpslp_model_core.specs.Numbered.{sorted_of, each_part, given_parts, TellsApart}
 use Rattle.mpslp_model_core.proofs.KeyLemmas.{bytes_total}
 use Rattle.mpslp_model_core.proofs.SortedLemmas.{find-sorted_of}
 use Rattle.mpslp_model_core.proofs.CellLemmas.{or_else, find-two, name_same, name_tied}
@@ -20,18 +19,19 @@ use Rattle.mpslp_model_core.proofs.MovingLemmas.{all-from_each}
 use Rattle.mpslp_builder.specs.Declaration.{at_name}
 use Rattle.mpslp_builder.specs.Made.{IsMade}
 use Rattle.mpslp_builder.specs.Meaning.{constant_of}
-use Rattle.mpslp_builder.specs.Tables.{bytes, name_of_objective, definition_of, rhs_of, cells_of, objective_rhs, name_of_row_key, draft, draft_from, AreNumbered}
+use Rattle.mpslp_builder.specs.Tables.{bytes, name_of_objective, rhs_of, cells_of, objective_rhs, name_of_row_key, draft, draft_from, AreNumbered}
 use Rattle.mpslp_builder_parts.specs.Ordered.{name_at, entries_at}
-use Rattle.mpslp_builder_parts.specs.Parts.{rhs_in}
+use Rattle.mpslp_builder_parts.specs.Parts.{rhs_in, itself}
+use Rattle.mpslp_model_core.specs.ModelParts.{own}
 use Rattle.mpslp_builder_parts.specs.declared.parts.ObjectiveParts.{ObjectiveParts}
-use Rattle.mpslp_builder_parts.specs.declared.parts.RowParts.{RowParts}
+use Rattle.mpslp_builder_parts.specs.RowParts.{RowParts}
 use Rattle.mpslp_builder_parts.specs.declared.parts.ColumnParts.{ColumnParts}
 use Rattle.mpslp_builder.specs.FaultFound.{entry_name}
 use Rattle.mpslp_builder.specs.declared.tables.Tables.{Tables}
-use Rattle.mpslp_builder.proofs.MadeDrafts.{good-from_made}
 use Rattle.mpslp_builder.proofs.FoundLemmas.{legal_names}
-use Rattle.mpslp_builder.proofs.OrderedParts.{ordered_parts, no_part-found}
+use Rattle.mpslp_builder.proofs.OrderedParts.{no_part-found}
 use Rattle.mpslp_builder_parts.proofs.RankLemmas.{order_length, order_within, order_apart}
+use Rattle.mpslp_builder_parts.proofs.TakenLemmas.{as_many}
 use Rattle.mpslp_builder.proofs.ModelOfTables.{within-all}
 
 -- entries, their indices in the order of their names, and the entries in that order
@@ -42,29 +42,16 @@ pub record AreOrdered {V : Type 0} (entries : List (Vec ℕ × V)) (order : List
 
 -- ---- legal names
 
-legal-each : {V X : Type 0} (f : V → X) (test : List ℕ × X → Bool) (es : List (Vec ℕ × V)) → ((e : List ℕ × X) → test e ≡ true → is_mps_name e.0 ≡ true) → list_all test (each_part bytes f es) ≡ true → Each (λ e. IsMpsName e.0.items) es
-legal-each f test [] t h = tt
-legal-each f test (e ∷ es) t h =
-    (t (e.0.items, f e.1) (first_so (test (e.0.items, f e.1)) (list_all test (each_part bytes f es)) h), legal-each f test es t (second_so (test (e.0.items, f e.1)) (list_all test (each_part bytes f es)) h))
-
-module _ (sense : Option Sense) (constant : Option Number) (objective : Option ObjectiveParts) (rows : List (Vec ℕ × RowParts)) (columns : List (Vec ℕ × ColumnParts))
-    (made : IsMade (draft_from sense constant objective rows columns)) where
-  pub legal_rows : (order : List ℕ) (ordered : List (Vec ℕ × RowParts)) → IsOnce (each_part bytes definition_of rows) → AreOrdered rows order ordered → All (λ row. IsMpsName row.0.items) ordered
-  legal_rows order ordered once o =
-      let good = good-from_made (draft_from sense constant objective rows columns) made in
-      subst (All (λ row. IsMpsName row.0.items)) (sym o.are)
-      (all-from_each (λ row. IsMpsName row.0.items) (entries_at rows order)
-      (legal-each definition_of _ (entries_at rows order) (λ e h. first_so (is_mps_name e.0) _ h)
-      (ap (list_all _) (ordered_parts definition_of rows order once o.permuted o.sorted) ∙ good.rows)))
-
 -- a property of the name at each index
 named_each : {V : Type 0} (P : List ℕ → Type 0) (es : List (Vec ℕ × V)) → ((i : ℕ) (name : List ℕ) → entry_name es i ≡ Some name → P name) → Each (λ e. P e.0.items) es
 named_each P [] h = tt
 named_each P (e ∷ es) h = (h zero e.0.items refl, named_each P es (λ i name is. h (suc i) name is))
 
-pub legal_columns : (sense : Option Sense) (constant : Option Number) (t : Tables) → IsMade (draft sense constant t) → All (λ column. IsMpsName column.0.items) t.columns.entries
-legal_columns sense constant t made =
-    all-from_each (λ column. IsMpsName column.0.items) t.columns.entries (named_each IsMpsName t.columns.entries (legal_names sense constant t made).columns)
+pub legal_rows : (sense : Option Sense) (constant : Option Number) (t : Tables) → IsMade (draft sense constant t) → Each (λ row. IsMpsName row.0.items) t.rows.entries
+legal_rows sense constant t made = named_each IsMpsName t.rows.entries (legal_names sense constant t made).rows
+
+pub legal_columns : (sense : Option Sense) (constant : Option Number) (t : Tables) → IsMade (draft sense constant t) → Each (λ column. IsMpsName column.0.items) t.columns.entries
+legal_columns sense constant t made = named_each IsMpsName t.columns.entries (legal_names sense constant t made).columns
 
 -- ---- numbers of cells
 
@@ -105,9 +92,43 @@ constant_is sense constant (Some o) rows columns there apart = ap (λ (r : Optio
 
 -- ---- the order of entries, as the contracts state it
 
-pub ordered_from : {V : Type 0} (told entries : List (Vec ℕ × V)) (order : List ℕ) (ordered : List (Vec ℕ × V)) → told ≡ entries → IsPermutation (range_with_len 0 (length told)) order
-    → IsSortedBy (λ n k. is_lt (bytes_cmp (name_at told n) (name_at told k))) order → ordered ≡ entries_at told order → AreOrdered entries order ordered
-ordered_from told entries order ordered is permuted sorted are = subst (λ (es : List (Vec ℕ × _)). AreOrdered es order ordered) is (record { permuted = permuted; sorted = sorted; are = are })
+name_of_part : {V X : Type 0} (f : V → X) (es : List (Vec ℕ × V)) (n : ℕ) → name_at es n ≡ option_map_or (λ part. part.0) (slice_get (each_part bytes f es) n) []
+name_of_part f [] n = refl
+name_of_part f (e ∷ es) zero = refl
+name_of_part f (e ∷ es) (suc n) = name_of_part f es n
+
+-- entries with the same parts have the same names
+names_alike : {V W X : Type 0} (f : W → X) (g : V → X) (made : List (Vec ℕ × W)) (entries : List (Vec ℕ × V)) → each_part bytes f made ≡ each_part bytes g entries → (n : ℕ) → name_at made n ≡ name_at entries n
+names_alike f g made entries same n =
+    name_of_part f made n ∙ ap (λ (parts : List (List ℕ × _)). option_map_or (λ part. part.0) (slice_get parts n) []) same ∙ sym (name_of_part g entries n)
+
+-- the order of entries with the same parts
+pub ordered_alike : {V W X : Type 0} (f : W → X) (g : V → X) (made : List (Vec ℕ × W)) (entries : List (Vec ℕ × V)) (order : List ℕ) → each_part bytes f made ≡ each_part bytes g entries
+    → IsPermutation (range_with_len 0 (length made)) order → IsSortedBy (λ n k. is_lt (bytes_cmp (name_at made n) (name_at made k))) order → AreOrdered entries order (entries_at entries order)
+ordered_alike f g made entries order same permuted sorted = record {
+  permuted = subst (λ (n : ℕ). IsPermutation (range_with_len 0 n) order) (as_many bytes f bytes g made entries same) permuted;
+  sorted = subst (λ (name : ℕ → List ℕ). IsSortedBy (λ n k. is_lt (bytes_cmp (name n) (name k))) order) (λ i n. names_alike f g made entries same n i) sorted;
+  are = refl;
+}
+
+parts-each : {V X : Type 0} (P : List ℕ → Type 0) (f : V → X) (es : List (Vec ℕ × V)) → Each (λ e. P e.0.items) es → Each (λ part. P part.0) (each_part bytes f es)
+parts-each P f [] h = tt
+parts-each P f (e ∷ es) h = (h.0, parts-each P f es h.1)
+
+each-parts : {V X : Type 0} (P : List ℕ → Type 0) (f : V → X) (es : List (Vec ℕ × V)) → Each (λ part. P part.0) (each_part bytes f es) → Each (λ e. P e.0.items) es
+each-parts P f [] h = tt
+each-parts P f (e ∷ es) h = (h.0, each-parts P f es h.1)
+
+-- entries with the same parts as others have their names
+pub all_alike : {V W X : Type 0} (P : List ℕ → Type 0) (f : W → X) (g : V → X) (made : List (Vec ℕ × W)) (entries : List (Vec ℕ × V)) → each_part bytes f made ≡ each_part bytes g entries
+    → Each (λ e. P e.0.items) entries → All (λ e. P e.0.items) made
+all_alike P f g made entries same h =
+    all-from_each (λ e. P e.0.items) made (each-parts P f made (subst (Each (λ part. P part.0)) (sym same) (parts-each P g entries h)))
+
+-- the parts of entries that have their own names
+pub parts_of_named : {W X : Type 0} (f : W → X) (es : List (Vec ℕ × W)) → each_part own f (each_part bytes itself es) ≡ each_part bytes f es
+parts_of_named f [] = refl
+parts_of_named {W} {X} f (e ∷ es) = ap (λ (more : List (List ℕ × X)). (e.0.items, f e.1) ∷ more) (parts_of_named f es)
 
 module _ (rows : List (Vec ℕ × RowParts)) (order : List ℕ) (ordered : List (Vec ℕ × RowParts)) (o : AreOrdered rows order ordered) where
   pub few_of : length rows < 4294967295 → length order < 4294967295

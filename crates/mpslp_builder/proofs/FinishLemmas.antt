@@ -33,7 +33,7 @@ use Rattle.mpslp_builder.specs.Tables.{bytes, definition_of, cells_of, no_part, 
 use Rattle.mpslp_builder_parts.specs.Ordered.{entries_at}
 use Rattle.mpslp_builder_parts.specs.Parts.{moved_in}
 use Rattle.mpslp_builder_parts.specs.declared.parts.ObjectiveParts.{ObjectiveParts}
-use Rattle.mpslp_builder_parts.specs.declared.parts.RowParts.{RowParts}
+use Rattle.mpslp_builder_parts.specs.RowParts.{RowParts}
 use Rattle.mpslp_builder_parts.specs.declared.parts.ColumnParts.{ColumnParts}
 use Rattle.mpslp_builder.proofs.MadeDrafts.{meant-from_made}
 use Rattle.mpslp_builder.proofs.SortedDrafts.{sorted-from_made}

@@ -27,7 +27,7 @@ use Rattle.mpslp_builder.specs.Tables.{bytes, cells_of, no_part, name_of_objecti
 use Rattle.mpslp_builder_parts.specs.Ordered.{name_at, entries_at}
 use Rattle.mpslp_builder_parts.specs.Parts.{limits_in, bounds_of, moved_in}
 use Rattle.mpslp_builder_parts.specs.declared.parts.ObjectiveParts.{ObjectiveParts}
-use Rattle.mpslp_builder_parts.specs.declared.parts.RowParts.{RowParts}
+use Rattle.mpslp_builder_parts.specs.RowParts.{RowParts}
 use Rattle.mpslp_builder_parts.specs.declared.parts.ColumnParts.{ColumnParts}
 use Rattle.mpslp_builder.proofs.PartLemmas.{find-each_part}
 use Rattle.mpslp_builder.proofs.OrderedParts.{taken-permutation, parts-permutation, once-part}

@@ -10,7 +10,7 @@ use Rattle.mpslp_builder.specs.Meaning.{declared_of}
 use Rattle.mpslp_builder.specs.Tables.{bytes, definition_of, rhs_of, range_of, lower_of, upper_of, draft, IsNumbered}
 use Rattle.mpslp_builder.specs.Calls.{IsOnceEach}
 use Rattle.mpslp_builder.specs.FaultFound.{declared_in}
-use Rattle.mpslp_builder_parts.specs.declared.parts.RowParts.{RowParts}
+use Rattle.mpslp_builder_parts.specs.RowParts.{RowParts}
 use Rattle.mpslp_builder_parts.specs.declared.parts.ColumnParts.{ColumnParts}
 use Rattle.mpslp_builder.specs.declared.tables.Tables.{Tables}
 use Rattle.mpslp_builder.proofs.ReadingLemmas.{Stands, given_at, flag_at, told_at, rhs_at, range_at}

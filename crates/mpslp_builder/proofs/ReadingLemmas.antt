@@ -21,7 +21,7 @@ use Rattle.mpslp_builder.specs.Consistency.{has_objective_rhs}
 use Rattle.mpslp_builder.specs.Tables.{bytes, definition_of, rhs_of, range_of, cells_of, as_part, name_of_objective, objective_rhs, draft, IsNumbered}
 use Rattle.mpslp_builder.specs.Calls.{row_key_of, row_name, row_tells, column_tells, cells_at, is_objective_ref, IsOnceEach}
 use Rattle.mpslp_builder_parts.specs.declared.parts.ObjectiveParts.{ObjectiveParts}
-use Rattle.mpslp_builder_parts.specs.declared.parts.RowParts.{RowParts}
+use Rattle.mpslp_builder_parts.specs.RowParts.{RowParts}
 use Rattle.mpslp_builder_parts.specs.declared.parts.ColumnParts.{ColumnParts}
 use Rattle.mpslp_builder.specs.declared.tables.RowRef.{RowRef}
 use Rattle.mpslp_builder.specs.declared.tables.RowRef.TheVariants.{Objective, Row}

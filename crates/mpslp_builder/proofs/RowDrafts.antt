@@ -24,7 +24,7 @@ use Rattle.mpslp_model_core.proofs.CellLemmas.{or_else, find-two}
 use Rattle.mpslp_builder.specs.Declaration.{Draft, with_declaration, declare_objective, declare_row, declare_rhs, declare_range, is_objective, has_name, has_row}
 use Rattle.mpslp_builder.specs.Tables.{bytes, definition_of, rhs_of, range_of, name_of_objective, objective_rhs, name_of_row_key, cells_by_name, draft_from, AreNumbered}
 use Rattle.mpslp_builder_parts.specs.declared.parts.ObjectiveParts.{ObjectiveParts}
-use Rattle.mpslp_builder_parts.specs.declared.parts.RowParts.{RowParts}
+use Rattle.mpslp_builder_parts.specs.RowParts.{RowParts}
 use Rattle.mpslp_builder_parts.specs.declared.parts.ColumnParts.{ColumnParts}
 use Rattle.mpslp_builder.proofs.NameLemmas.{there_found, once_too, names-more, old_or_last}
 use Rattle.mpslp_builder.proofs.PartLemmas.{each_part-append, each_part-kept, given_parts-without, given_parts-kept, find-given_any, absent-each_part}

@@ -21,7 +21,7 @@ use Rattle.mpslp_builder.specs.Tables.{bytes, definition_of, rhs_of, range_of, n
 use Rattle.mpslp_builder.specs.FaultFound.{declared_in}
 use Rattle.mpslp_builder_parts.specs.Parts.{limits_in, bounds_of}
 use Rattle.mpslp_builder_parts.specs.declared.parts.ObjectiveParts.{ObjectiveParts}
-use Rattle.mpslp_builder_parts.specs.declared.parts.RowParts.{RowParts}
+use Rattle.mpslp_builder_parts.specs.RowParts.{RowParts}
 use Rattle.mpslp_builder_parts.specs.declared.parts.ColumnParts.{ColumnParts}
 use Rattle.mpslp_builder.proofs.OrderedParts.{own_parts}
 

@@ -1,7 +1,8 @@
 -- The result of a query of tables is the first error of the declaration.
-use Rattle.std.proofs.Common.{◌≡◌, sym, ap, ◌∙◌, ℕ, List, [], ◌∷◌, Bool, true, false, not}
-use Rattle.std.specs.Prelude.{Option, Some, None, is_some, ◌||◌, ◌&&◌}
+use Rattle.std.proofs.Common.{◌≡◌, refl, sym, ap, ◌∙◌, ℕ, List, [], ◌∷◌, Bool, true, false, not}
+use Rattle.std.specs.Prelude.{Option, Some, None, is_some, ◌||◌, ◌&&◌, slice_get}
 use Rattle.std.specs.Option.{option_map_or}
+use Rattle.std.specs.Global.{Vec}
 use Rattle.std.specs.Ordering.{nat_cmp}
 use Rattle.std.specs.FinMap.{find}
 use Rattle.mpslp_decimal.specs.Decimal.{Number, is_infinite_size}
@@ -14,8 +15,11 @@ use Rattle.mpslp_model_core.proofs.CellLemmas.{at}
 use Rattle.mpslp_builder.specs.Declaration.{declare_range, has_row, has_column}
 use Rattle.mpslp_builder.specs.Refusal.{rhs_tests, coefficient_tests, integer_tests, semi_tests, refusals, bounds_refusals}
 use Rattle.mpslp_builder.specs.Tables.{draft, lower_of, upper_of, IsNumbered}
-use Rattle.mpslp_builder.specs.Calls.{row_key_of, row_name, column_name, row_tells, column_tells, cells_at, is_objective_ref, IsOnceEach}
+use Rattle.mpslp_builder.specs.Calls.{row_key_of, row_name, column_name, row_tells, has_limits, column_tells, cells_at, is_objective_ref, IsOnceEach}
+use Rattle.mpslp_builder_parts.specs.RowParts.{RowParts}
+use Rattle.mpslp_builder_parts.specs.declared.parts.ObjectiveParts.{ObjectiveParts}
 use Rattle.mpslp_builder.specs.declared.tables.RowRef.{RowRef}
+use Rattle.mpslp_builder.specs.declared.tables.RowRef.TheVariants.{Objective, Row}
 use Rattle.mpslp_builder.specs.declared.tables.Tables.{Tables}
 use Rattle.mpslp_builder.proofs.ReadingLemmas.{stands, part_at, flag_at, integer_at, cell_at, objective_at, free_at, has_range_at, has_rhs_at}
 
@@ -69,3 +73,24 @@ module _ (constant : Option Number) (t : Tables) (once : IsOnceEach t) where
         let duplicate = has_range_at None constant t once numbered p r is ∙ sym told in
         let no_sides = (λ j. objective_at None constant t once numbered p r is j || free_at None constant t once numbered p r is j) ∙ is_free in
         λ j. those_of ((not (sym there j), UnknownRow) ∷ (duplicate j, DuplicateRange) ∷ (no_sides j, RangeOnFree) ∷ (is_infinite_size value, InfiniteValue) ∷ [])
+
+-- ---- rows by type
+
+second_no : (a b : Bool) → (a || b) ≡ false → b ≡ false
+second_no true b h = cc
+second_no false b h = h
+
+typed_row : (test : RowParts → Bool) (o : Option (Vec ℕ × RowParts)) → option_map_or (λ e. test e.1 || is_definition_by_limits e.1.definition) o false ≡ false
+    → option_map_or (λ e. is_definition_by_limits e.1.definition) o false ≡ false
+typed_row test None h = refl
+typed_row test (Some e) h = second_no (test e.1) (is_definition_by_limits e.1.definition) h
+
+no_row : (o : Option ObjectiveParts) → option_map_or (λ o. false) o false ≡ false
+no_row None = refl
+no_row (Some o) = refl
+
+-- a place whose right-hand side or range may be declared is no row by limits
+pub typed_place : (t : Tables) (of_objective : ObjectiveParts → Bool) (test : RowParts → Bool) (p : RowRef) → row_tells t p of_objective (λ row. test row || is_definition_by_limits row.definition) ≡ false
+    → has_limits t p ≡ false
+typed_place t of_objective test Objective h = no_row t.objective
+typed_place t of_objective test (Row i) h = typed_row test (slice_get t.rows.entries i) h

@@ -9,12 +9,13 @@ use Rattle.mpslp_decimal.specs.Decimal.{Number}
 use Rattle.mpslp_types.specs.declared.faults.BuildFault.{BuildFault}
 use Rattle.mpslp_model_core.specs.Numbered.{IsOnce, each_part}
 use Rattle.mpslp_model_core.specs.Model.{CoefficientKey}
+use Rattle.mpslp_model_core.specs.Limits.{is_definition_by_limits}
 pub use Rattle.mpslp_builder_parts.specs.Parts.{new_column, with_bounds}
 use Rattle.mpslp_builder.specs.Answer.{Answer}
 use Rattle.mpslp_builder.specs.Declaration.{Draft, has_row, has_column, has_coefficient}
 use Rattle.mpslp_builder.specs.Tables.{bytes, definition_of, cells_of, name_of_row_key, cells_by_name}
 use Rattle.mpslp_builder_parts.specs.declared.parts.ObjectiveParts.{ObjectiveParts}
-use Rattle.mpslp_builder_parts.specs.declared.parts.RowParts.{RowParts}
+use Rattle.mpslp_builder_parts.specs.RowParts.{RowParts}
 use Rattle.mpslp_builder_parts.specs.declared.parts.ColumnParts.{ColumnParts}
 use Rattle.mpslp_builder.specs.declared.tables.RowRef.{RowRef}
 use Rattle.mpslp_builder.specs.declared.tables.RowRef.TheVariants.{Objective, Row}
@@ -40,6 +41,10 @@ column_name t i = option_map (λ e. bytes e.0) (slice_get t.columns.entries i)
 abbrev pub row_tells : Tables → RowRef → (ObjectiveParts → Bool) → (RowParts → Bool) → Bool
 row_tells t Objective of_objective of_row = option_map_or of_objective t.objective false
 row_tells t (Row i) of_objective of_row = option_map_or (λ e. of_row e.1) (slice_get t.rows.entries i) false
+
+-- whether it is a row that is declared by its limits
+abbrev pub has_limits : Tables → RowRef → Bool
+has_limits t place = row_tells t place (λ o. false) (λ row. is_definition_by_limits row.definition)
 
 -- whether the column of a number passes a test
 abbrev pub column_tells : Tables → ℕ → (ColumnParts → Bool) → Bool

@@ -13,7 +13,7 @@ ghost use Rattle.mpslp_builder.specs.Declaration.{by_limits, declare_objective, 
 ghost use Rattle.mpslp_builder.specs.Refusal.{has_constant, sense_tests, constant_tests, row_tests, rhs_tests, integer_tests, semi_tests, coefficient_tests, refusals, bounds_refusals};
 ghost use Rattle.mpslp_builder.specs.Answer.{first_refusal};
 ghost use Rattle.mpslp_builder.specs.Tables.{draft, IsNumbered};
-ghost use Rattle.mpslp_builder.specs.Calls.{CoefficientsAreKnown, row_key_of, row_name, column_name, row_tells, column_tells, cells_at, answer_of, IsOnceEach};
+ghost use Rattle.mpslp_builder.specs.Calls.{CoefficientsAreKnown, row_key_of, row_name, column_name, row_tells, has_limits, column_tells, cells_at, answer_of, IsOnceEach};
 
 use crate::builder::Builder;
 use crate::tables::{RowRef, Tables};
@@ -88,6 +88,7 @@ impl Tables {
     pub(crate) fn range_target(&self, row: &[u8], value: Decimal) -> Result<usize, BuildFault>
         requires { IsNumbered self.now }
         ensures place { IfOk result (λ i. row_name self.now (suc i) ≡ Some row.now) }
+        ensures typed { IfOk result (λ i. has_limits self.now (RowRef.Row i) ≡ false) }
         ensures once { IsOnceEach self.now }
         ensures answer { answer_of result ≡ first_refusal (refusals (draft None None self.now) (declare_range row.now value)) }
     {

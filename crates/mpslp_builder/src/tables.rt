@@ -11,7 +11,7 @@ ghost use Rattle.mpslp_types.specs.Name.{same_bytes};
 ghost use Rattle.mpslp_builder.specs.Declaration.{has_row, has_column, has_name, is_objective, is_free_row, is_free_definition, is_definition_by_limits};
 ghost use Rattle.mpslp_builder.specs.Consistency.{has_objective_rhs};
 ghost use Rattle.mpslp_builder.specs.Tables.{draft, IsNumbered};
-ghost use Rattle.mpslp_builder.specs.Calls.{row_key_of, row_name, column_name, row_tells, column_tells, cells_at, new_column, with_cell, with_bounds, IsOnceEach, IsEmptyTables, IsSameTables, HasObjective, HasRowAdded, HasRowChanged, HasColumnAdded, HasColumnChanged, HasRhsPut};
+ghost use Rattle.mpslp_builder.specs.Calls.{row_key_of, row_name, column_name, row_tells, has_limits, column_tells, cells_at, new_column, with_cell, with_bounds, IsOnceEach, IsEmptyTables, IsSameTables, HasObjective, HasRowAdded, HasRowChanged, HasColumnAdded, HasColumnChanged, HasRhsPut};
 
 use crate::name_map::{NameMap, new_map};
 use mpslp_builder_parts::{ColumnParts, ObjectiveParts, RowParts};
@@ -138,7 +138,7 @@ impl Tables {
         ensures { result ≡ is_free_row (draft None None self.now) name.now }
     {
         match self.rows.get(name) {
-            Some(row) => row.definition.is_free(),
+            Some(row) => row.is_free(),
             None => false,
         }
     }
@@ -221,7 +221,7 @@ impl Tables {
                 None => false,
             },
             RowRef::Row(index) => match self.rows.get_index(index) {
-                Some((_key, row)) => row.rhs.is_some() || row.definition.has_limits(),
+                Some((_key, row)) => row.has_rhs() || row.has_limits(),
                 None => false,
             },
         }
@@ -234,7 +234,7 @@ impl Tables {
         match place {
             RowRef::Objective => false,
             RowRef::Row(index) => match self.rows.get_index(index) {
-                Some((_key, row)) => row.range.is_some() || row.definition.has_limits(),
+                Some((_key, row)) => row.has_range() || row.has_limits(),
                 None => false,
             },
         }
@@ -247,7 +247,7 @@ impl Tables {
         match place {
             RowRef::Objective => false,
             RowRef::Row(index) => match self.rows.get_index(index) {
-                Some((_key, row)) => row.definition.is_free(),
+                Some((_key, row)) => row.is_free(),
                 None => false,
             },
         }
@@ -328,14 +328,8 @@ impl Tables {
         ensures err { OnErr result (IsSameTables self.old self.new) }
     {
         self.recent_row = self.rows.len();
-        self.rows.insert(
-            name,
-            RowParts {
-                definition,
-                rhs: None,
-                range: None,
-            },
-        )?;
+        let parts = RowParts::new(&definition);
+        self.rows.insert(name, parts)?;
         Ok(())
     }
 
@@ -369,14 +363,15 @@ impl Tables {
         parts.cells.put(row, value)
     }
 
-    /// Stores the right-hand side of the row at an index.
+    /// Stores the right-hand side of the row at an index, which must be declared by its type.
     fn put_row_rhs(&mut self, index: usize, value: Decimal)
-        requires { is_some (row_name self.old (suc index)) ≡ true }
+        requires there { is_some (row_name self.old (suc index)) ≡ true }
+        requires typed { has_limits self.old (RowRef.Row index) ≡ false }
         ensures { HasRowChanged self.old index (λ row. record row { rhs = Some value }) self.new }
     {
         self.recent_row = index;
         let (_key, row) = self.rows.pair_mut(index);
-        row.rhs = Some(PackedDecimal::of(value));
+        row.put_rhs(value);
     }
 
     /// Stores the right-hand side of the objective.
@@ -389,9 +384,10 @@ impl Tables {
         }
     }
 
-    /// Stores the right-hand side of a row or of the objective.
+    /// Stores the right-hand side of the objective, or of a row, which must be declared by its type.
     pub(crate) fn put_rhs(&mut self, place: RowRef, value: Decimal)
-        requires { is_some (row_name self.old (row_key_of place)) ≡ true }
+        requires there { is_some (row_name self.old (row_key_of place)) ≡ true }
+        requires typed { has_limits self.old place ≡ false }
         ensures { HasRhsPut self.old place value self.new }
     {
         match place {
@@ -400,14 +396,15 @@ impl Tables {
         }
     }
 
-    /// Stores the range of the row at an index.
+    /// Stores the range of the row at an index, which must be declared by its type.
     pub(crate) fn put_range(&mut self, index: usize, value: Decimal)
-        requires { is_some (row_name self.old (suc index)) ≡ true }
+        requires there { is_some (row_name self.old (suc index)) ≡ true }
+        requires typed { has_limits self.old (RowRef.Row index) ≡ false }
         ensures { HasRowChanged self.old index (λ row. record row { range = Some value }) self.new }
     {
         self.recent_row = index;
         let (_key, row) = self.rows.pair_mut(index);
-        row.range = Some(PackedDecimal::of(value));
+        row.put_range(value);
     }
 
     /// Marks a column.

@@ -1,8 +1,8 @@
 -- Parts of entries that are taken in an order.
-use Rattle.std.proofs.Common.{◌≡◌, refl, sym, ap, ◌∙◌, ℕ, zero, suc, List, [], ◌∷◌, length}
+use Rattle.std.proofs.Common.{◌≡◌, refl, sym, ap, subst, ◌∙◌, ℕ, zero, suc, List, [], ◌∷◌, length, arith}
 use Rattle.std.specs.Prelude.{Option, Some, None, slice_get}
 use Rattle.std.specs.Option.{option_map}
-use Rattle.std.specs.List.{cons_option}
+use Rattle.std.specs.List.{All, cons_option}
 use Rattle.mpslp_model_core.specs.Numbered.{each_part}
 use Rattle.mpslp_builder_parts.specs.Ordered.{entries_at}
 
@@ -36,3 +36,21 @@ taken-alike key f name g es ds same ns = each_part-taken key f es ns ∙ ap (λ 
 pub as_many : {K V L W X : Type 0} (key : K → List ℕ) (f : V → X) (name : L → List ℕ) (g : W → X) (es : List (K × V)) (ds : List (L × W))
     → each_part key f es ≡ each_part name g ds → length es ≡ length ds
 as_many key f name g es ds same = sym (length-each_part key f es) ∙ ap length same ∙ length-each_part name g ds
+
+-- what is true of all items is true of those that are taken
+cons-all : {X : Type 0} (P : X → Type 0) (x : X) (xs : List X) → P x → All P xs → All P (x ∷ xs)
+cons-all P x xs here rest zero d below = here
+cons-all P x xs here rest (suc k) d below = rest k d (omega (arith, below))
+
+cons_option-all : {X : Type 0} (P : X → Type 0) (o : Option X) (xs : List X) → ((x : X) → o ≡ Some x → P x) → All P xs → All P (cons_option o xs)
+cons_option-all P None xs here rest = rest
+cons_option-all P (Some x) xs here rest = cons-all P x xs (here x refl) rest
+
+holds_at : {X : Type 0} (P : X → Type 0) (xs : List X) (n : ℕ) (x : X) → All P xs → slice_get xs n ≡ Some x → P x
+holds_at P [] n x all is = cc
+holds_at {X} P (y ∷ ys) zero x all is = let same : ◌≡◌ {A = X} y x = cc in subst P same (all zero y (omega arith))
+holds_at P (y ∷ ys) (suc n) x all is = holds_at P ys n x (λ k d below. all (suc k) d (omega (arith, below))) is
+
+pub taken-all : {X : Type 0} (P : X → Type 0) (xs : List X) (ns : List ℕ) → All P xs → All P (entries_at xs ns)
+taken-all P xs [] all = λ k d below. absurd (omega (arith, below))
+taken-all P xs (n ∷ ns) all = cons_option-all P (slice_get xs n) (entries_at xs ns) (λ x is. holds_at P xs n x all is) (taken-all P xs ns all)

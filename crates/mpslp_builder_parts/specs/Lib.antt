@@ -1,6 +1,8 @@
 -- ---- what public laws and contracts say
 pub mod Ordered
+pub mod RowParts
 pub mod Parts
 pub mod DeclaredBounds
 -- ---- what only the code cites
 pub mod StoredBounds
+pub mod RowForm

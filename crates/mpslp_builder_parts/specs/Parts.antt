@@ -10,7 +10,7 @@ use Rattle.mpslp_model_core.specs.Numbered.{moved_cells}
 use Rattle.mpslp_model_core.specs.declared.bounds.DeclaredColumn.{DeclaredColumn}
 use Rattle.mpslp_builder_parts.specs.DeclaredBounds.{no_sides, sides_put}
 use Rattle.mpslp_builder_parts.specs.declared.parts.ObjectiveParts.{ObjectiveParts}
-use Rattle.mpslp_builder_parts.specs.declared.parts.RowParts.{RowParts}
+use Rattle.mpslp_builder_parts.specs.RowParts.{RowParts}
 use Rattle.mpslp_builder_parts.specs.declared.parts.ColumnParts.{ColumnParts}
 
 -- a name's bytes
@@ -18,6 +18,9 @@ abbrev pub bytes : Vec ℕ → List ℕ
 bytes v = v.items
 
 -- ---- what is declared of a row or of a column
+
+abbrev pub new_row : RowDefinition → RowParts
+new_row definition = record { definition = definition; rhs = None; range = None }
 
 abbrev pub definition_of : RowParts → RowDefinition
 definition_of row = row.definition
@@ -79,6 +82,10 @@ declared_in column = record {
 -- the limits of a row; if they are not decimals, those of a row without limits
 abbrev pub limits_in : RowParts → Row
 limits_in row = unwrap_or (limits_of row.definition (unwrap_or row.rhs zero_number) row.range) (plain_limits Free zero_number)
+
+-- a part as it is
+abbrev pub itself : {X : Type 0} → X → X
+itself part = part
 
 abbrev pub bounds_of : ColumnParts → Column
 bounds_of column = declared_column (declared_in column)

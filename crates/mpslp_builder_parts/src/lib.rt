@@ -11,10 +11,12 @@ mod moving;
 mod order;
 mod parts;
 mod ranks;
+mod row_parts;
 
 pub use cells::Cells;
 pub use declared_bounds::DeclaredBounds;
-pub use model_rows_and_columns::{ordered_columns, rows_of};
+pub use model_rows_and_columns::{column_of, ordered, row_of};
 pub use order::{in_order, order_of};
-pub use parts::{ColumnParts, ObjectiveParts, RowParts};
+pub use parts::{ColumnParts, ObjectiveParts};
 pub use ranks::ranks_of;
+pub use row_parts::RowParts;

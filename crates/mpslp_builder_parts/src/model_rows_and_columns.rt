@@ -1,4 +1,4 @@
-//! The rows and the columns of a model, from what is declared of them, in the order of their names.
+//! The rows and the columns of a model, from what is declared of them, and in the order of their names.
 
 ghost use Rattle.std.specs.Prelude.{◌≡◌, ◌<◌, ℕ, IfOk, length, slice_index, unwrap_or};
 ghost use Rattle.std.specs.List.{All, range_with_len};
@@ -8,16 +8,16 @@ ghost use Rattle.mpslp_types.specs.Name.{IsMpsName, bytes_cmp};
 ghost use Rattle.mpslp_types.specs.declared.kinds.RowType.TheVariants as types;
 ghost use Rattle.mpslp_model_core.specs.Limits.{limits_of, plain_limits};
 ghost use Rattle.mpslp_model_core.specs.RowForms.{row_definition};
-ghost use Rattle.mpslp_model_core.specs.ModelParts.{own, bounds_in, cells_in};
 ghost use Rattle.mpslp_model_core.specs.Numbered.{each_part};
 ghost use Rattle.mpslp_builder_parts.specs.Ordered.{name_at, entries_at};
-ghost use Rattle.mpslp_builder_parts.specs.Parts.{bytes, limits_in, bounds_of, moved_in};
+ghost use Rattle.mpslp_builder_parts.specs.Parts.{bytes, itself, limits_in, bounds_of, moved_in};
 
 use crate::order::{in_order, order_of};
-use crate::parts::{ColumnParts, RowParts};
+use crate::parts::ColumnParts;
+use crate::row_parts::RowParts;
 use mpslp_decimal::Decimal;
 use mpslp_model_core::{
-    ModelColumn, PackedColumn, PackedRow, RowLimits, UnpackedRowDefinition, limits_of, plain_limits,
+    ModelBounds, ModelColumn, ModelRow, RowLimits, UnpackedRowDefinition, limits_of, plain_limits,
 };
 use mpslp_types::{Name, RowType};
 use std::alloc::{AllocError, Global};
@@ -40,87 +40,67 @@ fn limits_or_none(
 fn limits_in(row: &RowParts) -> RowLimits
     ensures { result ≡ limits_in row.now }
 {
-    limits_or_none(
-        &row.definition.kind(),
-        row.rhs_or_zero(),
-        &row.range_value(),
-    )
+    limits_or_none(&row.definition(), row.rhs_or_zero(), &row.range_value())
 }
 
-/// The rows of a model, with their names.
+/// The row of a model, from what is declared of it.
 ///
 /// # Errors
 ///
-/// [`AllocError`] if the allocation fails.
-pub fn rows_of(
-    alloc: Global,
-    rows: Vec<(Vec<u8>, RowParts)>,
-) -> Result<Vec<(Name, PackedRow)>, AllocError>
-    requires { All (λ row. IsMpsName row.0.items) rows.items }
-    ensures { IfOk result (λ made. made.items ≡ each_part bytes limits_in rows.items) }
+/// [`AllocError`] if there is no memory for two different limits.
+pub fn row_of(alloc: Global, row: &RowParts) -> Result<ModelRow, AllocError>
+    ensures { IfOk result (λ made. made ≡ limits_in row.now) }
 {
-    let mut made = Vec::with_capacity(alloc, rows.len())?;
-    for (name, parts) in rows {
-        made.push((Name::from_legal(name), PackedRow::of(limits_in(&parts))))?;
-    }
-    Ok(made)
+    ModelRow::of(alloc, limits_in(row))
 }
 
-/// A column of a model, with the final row numbers.
-fn column_of(column: ColumnParts, ranks: &[u32]) -> Result<ModelColumn, AllocError>
+/// The column of a model, from what is declared of it, with the final row numbers.
+///
+/// # Errors
+///
+/// [`AllocError`] if there is no memory for its bounds, or for one vector of its coefficients.
+pub fn column_of(
+    alloc: Global,
+    column: ColumnParts,
+    ranks: &[u32],
+) -> Result<ModelColumn, AllocError>
     requires within { All (λ cell. cell.0 < length ranks.now) column.cells }
     requires apart { (n m : ℕ) → n < length ranks.now → m < length ranks.now → slice_index ranks.now n ≡ slice_index ranks.now m → n ≡ m }
     ensures bounds { IfOk result (λ made. made.bounds ≡ bounds_of column) }
     ensures cells { IfOk result (λ made. made.cells.items ≡ moved_in ranks.now column) }
 {
-    let bounds = PackedColumn::of(column.declared().bounds());
+    let bounds = ModelBounds::of(alloc, column.declared().bounds())?;
     let cells = column.cells.into_moved(ranks)?;
     Ok(ModelColumn { bounds, cells })
 }
 
-/// The columns of a model, with their names and the final row numbers.
-fn columns_of(
-    alloc: Global,
-    columns: Vec<(Vec<u8>, ColumnParts)>,
-    ranks: &[u32],
-) -> Result<Vec<(Name, ModelColumn)>, AllocError>
-    requires names { All (λ column. IsMpsName column.0.items) columns.items }
-    requires within { All (λ column. All (λ cell. cell.0 < length ranks.now) column.1.cells) columns.items }
-    requires apart { (n m : ℕ) → n < length ranks.now → m < length ranks.now → slice_index ranks.now n ≡ slice_index ranks.now m → n ≡ m }
-    ensures bounds { IfOk result (λ made. each_part own bounds_in made.items ≡ each_part bytes bounds_of columns.items) }
-    ensures cells { IfOk result (λ made. each_part own cells_in made.items ≡ each_part bytes (moved_in ranks.now) columns.items) }
+/// The entries with their names, which must be legal.
+fn named<X: Drop>(alloc: Global, entries: Vec<(Vec<u8>, X)>) -> Result<Vec<(Name, X)>, AllocError>
+    requires { All (λ entry. IsMpsName entry.0.items) entries.items }
+    ensures { IfOk result (λ made. made.items ≡ each_part bytes itself entries.items) }
 {
-    let mut made = Vec::with_capacity(alloc, columns.len())?;
-    for (name, parts) in columns {
-        made.push((Name::from_legal(name), column_of(parts, ranks)?))?;
+    let mut made = Vec::with_capacity(alloc, entries.len())?;
+    for (name, part) in entries {
+        made.push((Name::from_legal(name), part))?;
     }
     Ok(made)
 }
 
-/// Returns the former indices of the columns in byte order of their names, and the columns of the model in that order, with the
-/// final row numbers.
-///
-/// Coefficients are renumbered before the columns are sorted, while they are in memory in the order of their declarations. In
-/// the other order each access would be far from the one before it.
+/// Returns the former indices of rows or columns in byte order of their names, and the rows or columns in that order.
 ///
 /// # Errors
 ///
 /// [`AllocError`] if the allocation fails.
-pub fn ordered_columns(
+pub fn ordered<X: Drop>(
     alloc: Global,
-    entries: Vec<(Vec<u8>, ColumnParts)>,
-    ranks: &[u32],
-) -> Result<(Vec<usize>, Vec<(Name, ModelColumn)>), AllocError>
-    requires names { All (λ column. IsMpsName column.0.items) entries.items }
-    requires within { All (λ column. All (λ cell. cell.0 < length ranks.now) column.1.cells) entries.items }
-    requires apart { (n m : ℕ) → n < length ranks.now → m < length ranks.now → slice_index ranks.now n ≡ slice_index ranks.now m → n ≡ m }
+    entries: Vec<(Vec<u8>, X)>,
+) -> Result<(Vec<usize>, Vec<(Name, X)>), AllocError>
+    requires { All (λ entry. IsMpsName entry.0.items) entries.items }
     ensures permutation { IfOk result (λ r. IsPermutation (range_with_len 0 (length entries.items)) r.0.items) }
     ensures sorted { IfOk result (λ r. IsSortedByKey (name_at entries.items) bytes_cmp r.0.items) }
-    ensures bounds { IfOk result (λ r. each_part own bounds_in r.1.items ≡ each_part bytes bounds_of (entries_at entries.items r.0.items)) }
-    ensures cells { IfOk result (λ r. each_part own cells_in r.1.items ≡ each_part bytes (moved_in ranks.now) (entries_at entries.items r.0.items)) }
+    ensures taken { IfOk result (λ r. r.1.items ≡ each_part bytes itself (entries_at entries.items r.0.items)) }
 {
     let order = order_of(alloc, &entries)?;
-    let columns = columns_of(alloc, entries, ranks)?;
-    let ordered = in_order(alloc, columns, &order)?;
-    Ok((order, ordered))
+    let ordered = in_order(alloc, entries, &order)?;
+    Ok((order, named(alloc, ordered)?))
 }

@@ -1,13 +1,12 @@
-//! What is declared of the objective, of a row and of a column.
+//! What is declared of the objective and of a column.
 
-ghost use Rattle.std.specs.Prelude.{◌≡◌, unwrap_or};
-ghost use Rattle.mpslp_decimal.specs.Decimal.{zero_number};
-ghost use Rattle.mpslp_builder_parts.specs.Parts.{rhs_of, range_of, new_column, declared_in};
+ghost use Rattle.std.specs.Prelude.{◌≡◌};
+ghost use Rattle.mpslp_builder_parts.specs.Parts.{new_column, declared_in};
 
 use crate::cells::Cells;
 use crate::declared_bounds::DeclaredBounds;
-use mpslp_decimal::{Decimal, PackedDecimal};
-use mpslp_model_core::{DeclaredColumn, PackedRowDefinition};
+use mpslp_decimal::PackedDecimal;
+use mpslp_model_core::DeclaredColumn;
 use mpslp_types::Name;
 use std::alloc::Global;
 
@@ -16,14 +15,6 @@ use std::alloc::Global;
 pub struct ObjectiveParts {
     pub name: Name,
     pub rhs: Option<PackedDecimal>,
-}
-
-/// What is declared of a row.
-#[derive(Debug, Drop)]
-pub struct RowParts {
-    pub definition: PackedRowDefinition,
-    pub rhs: Option<PackedDecimal>,
-    pub range: Option<PackedDecimal>,
 }
 
 /// What is declared of a column.
@@ -35,28 +26,6 @@ pub struct ColumnParts {
     pub integer: bool,
     pub binary: bool,
     pub semi: bool,
-}
-
-impl RowParts {
-    /// The right-hand side, or 0 if none is declared.
-    pub fn rhs_or_zero(&self) -> Decimal
-        ensures { result ≡ unwrap_or (rhs_of self.now) zero_number }
-    {
-        match &self.rhs {
-            Some(value) => value.value(),
-            None => Decimal::zero(),
-        }
-    }
-
-    /// The range, if one is declared.
-    pub fn range_value(&self) -> Option<Decimal>
-        ensures { result ≡ range_of self.now }
-    {
-        match &self.range {
-            Some(value) => Some(value.value()),
-            None => None,
-        }
-    }
 }
 
 impl ColumnParts {

@@ -16,3 +16,4 @@ pub mod RowNames
 pub mod ByRow
 pub mod Packed
 pub mod PackedRowDefinition
+pub mod ModelRow

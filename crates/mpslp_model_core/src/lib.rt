@@ -15,6 +15,7 @@ mod joined;
 pub mod laws;
 mod limits;
 mod model;
+mod model_row;
 mod packed;
 mod packed_row_definition;
 mod row_names;
@@ -26,6 +27,7 @@ pub use limits::{
     row_has,
 };
 pub use model::{Model, ModelColumn, ModelParts};
+pub use model_row::{ModelBounds, ModelRow};
 pub use packed::{PackedColumn, PackedLimit, PackedRow};
 pub use packed_row_definition::PackedRowDefinition;
 pub use sides::{ColumnBounds, RowLimits};

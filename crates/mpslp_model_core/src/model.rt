@@ -16,7 +16,7 @@ use crate::by_row::{RowLists, columns_by_row, list_of};
 use crate::columns::{
     cells_at, count_elements, first_value, row_cells, row_of, same_columns, value_at,
 };
-use crate::packed::{PackedColumn, PackedRow};
+use crate::model_row::{ModelBounds, ModelRow};
 use crate::row_names::{RowNames, name_at, names_of};
 use crate::sides::{ColumnBounds, RowLimits};
 use mpslp_decimal::laws::each_value_is_a_decimal;
@@ -28,7 +28,7 @@ use std::cmp::Ordering;
 use std::marker;
 
 /// Whether the rows are the same.
-fn same_rows(a: &[(Name, PackedRow)], b: &[(Name, PackedRow)]) -> bool
+fn same_rows(a: &[(Name, ModelRow)], b: &[(Name, ModelRow)]) -> bool
     ensures { Decides result (a.now ≡ b.now) }
 {
     a == b
@@ -39,7 +39,7 @@ fn same_rows(a: &[(Name, PackedRow)], b: &[(Name, PackedRow)]) -> bool
 #[derive(Debug, Drop)]
 pub struct ModelColumn {
     /// Its type and bounds.
-    pub bounds: PackedColumn,
+    pub bounds: ModelBounds,
     /// Its nonzero coefficients.
     pub cells: Vec<(u32, PackedDecimal)>,
 }
@@ -54,7 +54,7 @@ pub struct ModelParts {
     /// The constant of the objective.
     pub constant: Decimal,
     /// The rows in byte order of their names.
-    pub rows: Vec<(Name, PackedRow)>,
+    pub rows: Vec<(Name, ModelRow)>,
     /// The columns in byte order of their names.
     pub columns: Vec<(Name, ModelColumn)>,
 }

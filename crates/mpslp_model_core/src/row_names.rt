@@ -7,7 +7,7 @@ ghost use Rattle.std.specs.Prelude.{◌≡◌, ◌≤◌, ◌<◌, IfOk, length,
 ghost use Rattle.mpslp_model_core.specs.RowNames.{name_in, AreNames};
 
 use crate::joined::part_at;
-use crate::packed::PackedRow;
+use crate::model_row::ModelRow;
 use mpslp_types::Name;
 use std::alloc::{AllocError, Global};
 
@@ -21,7 +21,7 @@ pub(crate) struct RowNames {
 }
 
 /// How many bytes all names have, or the maximum if that does not fit.
-fn count_bytes(rows: &[(Name, PackedRow)]) -> usize
+fn count_bytes(rows: &[(Name, ModelRow)]) -> usize
     ensures { result ≡ min usize.MAX (sum_by (λ row. length row.0) rows.now) }
 {
     let mut count = 0usize;
@@ -36,7 +36,7 @@ fn count_bytes(rows: &[(Name, PackedRow)]) -> usize
 /// # Errors
 ///
 /// [`AllocError`] if there is no memory for the text.
-pub(crate) fn names_of(alloc: Global, rows: &[(Name, PackedRow)]) -> Result<RowNames, AllocError>
+pub(crate) fn names_of(alloc: Global, rows: &[(Name, ModelRow)]) -> Result<RowNames, AllocError>
     ensures { IfOk result (λ names. AreNames rows.now names) }
 {
     let mut text = Vec::with_capacity(alloc, count_bytes(rows))?;

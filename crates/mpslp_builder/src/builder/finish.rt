@@ -1,17 +1,17 @@
 //! `finish`, which makes the model of a builder's declarations.
 
-ghost use Rattle.std.specs.Prelude.{◌≡◌, ℕ, IsTrue, IfOk, List, None, Some, is_some, length, unwrap_or};
-ghost use Rattle.std.specs.List.{range_with_len};
-ghost use Rattle.std.specs.List.Sorted.{IsPermutation, IsSortedByKey};
+ghost use Rattle.std.specs.Prelude.{◌≡◌, ◌<◌, ℕ, IsTrue, IfOk, List, None, Some, is_some, length, slice_index, unwrap_or};
+ghost use Rattle.std.specs.List.{All};
 ghost use Rattle.mpslp_decimal.specs.Decimal.{negated, zero_number};
-ghost use Rattle.mpslp_types.specs.Name.{IsMpsName, bytes_cmp};
+ghost use Rattle.mpslp_types.specs.Name.{IsMpsName};
 ghost use Rattle.mpslp_builder.specs.Made.{IsMade};
 ghost use Rattle.mpslp_builder.specs.Meaning.{DraftMeans};
 ghost use Rattle.mpslp_builder.specs.FileFault.{file_fault};
 ghost use Rattle.mpslp_builder.specs.FaultFound.{HaveLegalNames, entry_name, fault_found};
 ghost use Rattle.mpslp_builder.specs.Finish.{Finishes};
-ghost use Rattle.mpslp_builder_parts.specs.Ordered.{name_at, entries_at};
-ghost use Rattle.mpslp_builder_parts.specs.Parts.{rhs_in};
+ghost use Rattle.mpslp_model_core.specs.Numbered.{each_part};
+ghost use Rattle.mpslp_model_core.specs.ModelParts.{bounds_in, cells_in};
+ghost use Rattle.mpslp_builder_parts.specs.Parts.{rhs_in, itself, limits_in, bounds_of, moved_in};
 ghost use Rattle.mpslp_types.specs.declared.kinds.Sense.TheVariants.{Minimize};
 ghost use Rattle.mpslp_builder.specs.Tables.{bytes, name_of_objective, draft, IsNumbered};
 
@@ -19,33 +19,48 @@ use crate::builder::Builder;
 use crate::name_map::NameMap;
 use crate::tables::Tables;
 use crate::tables::file_faults::FoundFault;
-use mpslp_builder_parts::{ObjectiveParts, in_order, order_of, ordered_columns, ranks_of, rows_of};
+use mpslp_builder_parts::{
+    ColumnParts, ObjectiveParts, RowParts, column_of, ordered, ranks_of, row_of,
+};
 use mpslp_decimal::{Decimal, PackedDecimal};
 use mpslp_model_core::{
-    Model, ModelColumn, ModelParts, PackedRow, kind_of_column_fault, kind_of_row_fault,
+    Model, ModelColumn, ModelParts, ModelRow, kind_of_column_fault, kind_of_row_fault,
 };
 use mpslp_types::{Fault, FaultKind, Name, ReadFault, Sense};
 use std::alloc::{AllocError, Global};
 
-/// The entries of a map, in the order in which they were inserted.
-fn entries_of<V: Drop>(alloc: Global, map: NameMap<V>) -> Result<Vec<(Vec<u8>, V)>, AllocError>
-    ensures { IfOk result (λ entries. entries.items ≡ map.entries) }
+/// The rows of a model with their names, in the order in which they were declared.
+///
+/// They are made from the map itself: a vector of what is declared beside it would be the peak of memory.
+fn rows_in(alloc: Global, rows: NameMap<RowParts>) -> Result<Vec<(Vec<u8>, ModelRow)>, AllocError>
+    ensures { IfOk result (λ made. each_part bytes itself made.items ≡ each_part bytes limits_in rows.entries) }
 {
-    map.into_iter().collect(alloc)
+    let mut made = Vec::with_capacity(alloc, rows.len())?;
+    for (name, parts) in rows {
+        made.push((name, row_of(alloc, &parts)?))?;
+    }
+    Ok(made)
 }
 
-/// The former indices of the entries in byte order of their names, and the entries in that order.
-fn ordered<V: Drop>(
+/// The columns of a model with their names and the final row numbers, in the order in which they were declared.
+///
+/// Coefficients are renumbered before the columns are sorted, while they are in memory in the order of their declarations. In
+/// the other order each access would be far from the one before it.
+fn columns_in(
     alloc: Global,
-    entries: Vec<(Vec<u8>, V)>,
-) -> Result<(Vec<usize>, Vec<(Vec<u8>, V)>), AllocError>
-    ensures permutation { IfOk result (λ r. IsPermutation (range_with_len 0 (length entries.items)) r.0.items) }
-    ensures sorted { IfOk result (λ r. IsSortedByKey (name_at entries.items) bytes_cmp r.0.items) }
-    ensures taken { IfOk result (λ r. r.1.items ≡ entries_at entries.items r.0.items) }
+    columns: NameMap<ColumnParts>,
+    ranks: &[u32],
+) -> Result<Vec<(Vec<u8>, ModelColumn)>, AllocError>
+    requires within { All (λ column. All (λ cell. cell.0 < length ranks.now) column.1.cells) columns.entries }
+    requires apart { (n m : ℕ) → n < length ranks.now → m < length ranks.now → slice_index ranks.now n ≡ slice_index ranks.now m → n ≡ m }
+    ensures bounds { IfOk result (λ made. each_part bytes bounds_in made.items ≡ each_part bytes bounds_of columns.entries) }
+    ensures cells { IfOk result (λ made. each_part bytes cells_in made.items ≡ each_part bytes (moved_in ranks.now) columns.entries) }
 {
-    let order = order_of(alloc, &entries)?;
-    let ordered = in_order(alloc, entries, &order)?;
-    Ok((order, ordered))
+    let mut made = Vec::with_capacity(alloc, columns.len())?;
+    for (name, parts) in columns {
+        made.push((name, column_of(alloc, parts, ranks)?))?;
+    }
+    Ok(made)
 }
 
 /// The constant of the objective: as declared, or else its negated right-hand side.
@@ -64,7 +79,7 @@ fn parts_of(
     sense: Option<Sense>,
     constant: Option<Decimal>,
     objective: Option<ObjectiveParts>,
-    rows: Vec<(Name, PackedRow)>,
+    rows: Vec<(Name, ModelRow)>,
     columns: Vec<(Name, ModelColumn)>,
 ) -> ModelParts
     requires { IsTrue (is_some objective) }
@@ -105,10 +120,9 @@ pub(crate) fn into_model(
         recent_row: _,
         recent: _,
     } = tables;
-    let (row_order, rows) = ordered(alloc, entries_of(alloc, rows)?)?;
+    let (row_order, rows) = ordered(alloc, rows_in(alloc, rows)?)?;
     let ranks = ranks_of(alloc, &row_order)?;
-    let rows = rows_of(alloc, rows)?;
-    let (_column_order, columns) = ordered_columns(alloc, entries_of(alloc, columns)?, &ranks)?;
+    let (_column_order, columns) = ordered(alloc, columns_in(alloc, columns, &ranks)?)?;
     Model::of_parts(alloc, parts_of(sense, constant, objective, rows, columns))
 }
 

@@ -39,18 +39,14 @@ impl Faulty<RowFault> for RowParts {
     fn has_fault(&self, fault: RowFault) -> bool {
         row_has(
             fault,
-            &self.definition.kind(),
+            &self.definition(),
             self.rhs_or_zero(),
             &self.range_value(),
         )
     }
 
     fn is_faulty(&self) -> bool {
-        is_faulty_row(
-            &self.definition.kind(),
-            self.rhs_or_zero(),
-            &self.range_value(),
-        )
+        is_faulty_row(&self.definition(), self.rhs_or_zero(), &self.range_value())
     }
 }
 

@@ -1,5 +1,5 @@
 use Rattle.std.proofs.Common.{◌≡◌, refl, sym, ap, ◌∙◌, true, false, Bool, [], ◌∷◌}
-use Rattle.std.specs.Prelude.{is_some, if◌then◌else◌}
+use Rattle.std.specs.Prelude.{is_some, ◌||◌, if◌then◌else◌}
 use Rattle.mpslp_builder.specs.Answer.{first_refusal}
 use Rattle.mpslp_builder.specs.Declaration.{Draft, declare_rhs, with_declarations, is_free_row}
 use Rattle.mpslp_builder.specs.Refusal.{refusals}
@@ -8,6 +8,7 @@ use Rattle.mpslp_builder.proofs.AnswerLemmas.{none_refused, none_told, made_afte
 use Rattle.mpslp_builder.proofs.MadeDrafts.{free_rhs-passes}
 use Rattle.mpslp_builder.proofs.CallLemmas.{rhs_added, rhs_added_numbered}
 use Rattle.mpslp_builder.proofs.ReadingLemmas.{free_at}
+use Rattle.mpslp_builder.proofs.TestLemmas.{typed_place}
 use Rattle.mpslp_builder.proofs.builder.Builder.rhs.Goals as goal
 
 pub returns-in_err-place-clause-answers : goal.returns-in_err-place-clause-answers
@@ -59,3 +60,7 @@ returns-clause-answers c =
     let after = rhs_added b.sense b.constant b.tables c.put_rhs.new.self c.self.invariant.1 place.once c.in_ok-place.place c.args.row.now c.args.value (is_some b.constant) place.place place.absent c.put_rhs.ensures in
     declared (refusals all d) _ _ none
     (after ∙ ap (λ (before : Draft). with_declarations before (d ∷ [])) c.self.view_is ∙ sym (ap (λ (free : Bool). with_declarations all (if free then [] else d ∷ [])) free))
+
+pub put_rhs-requires-clause-typed : goal.put_rhs-requires-clause-typed
+put_rhs-requires-clause-typed c =
+    typed_place c.self.inside.tables (λ o. is_some o.rhs || is_some c.self.inside.constant) (λ row. is_some row.rhs) c.in_ok-place.place c.in_ok-place.ensures.absent

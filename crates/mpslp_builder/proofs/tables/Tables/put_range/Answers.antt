@@ -1,18 +1,24 @@
-use Rattle.std.proofs.Common.{refl, ap, Some}
+use Rattle.std.proofs.Common.{refl, sym, ap, ◌∙◌, false}
+use Rattle.std.specs.Option.{option_map_or}
+use Rattle.std.specs.Prelude.{ℕ, Option}
+use Rattle.std.specs.Global.{Vec}
 use Rattle.indexmap.specs.IndexMap.{set_value_at}
-use Rattle.mpslp_decimal.specs.Decimal.{Number}
+use Rattle.mpslp_model_core.specs.Limits.{is_definition_by_limits}
+use Rattle.mpslp_builder_parts.specs.RowParts.{RowParts}
 use Rattle.mpslp_builder.proofs.tables.Tables.put_range.Goals as goal
 
+pub put_range-requires : goal.put_range-requires
+put_range-requires c =
+    ap (λ (o : Option (Vec ℕ × RowParts)). option_map_or (λ e. is_definition_by_limits e.1.definition) o false) (sym c.pair_mut-row.ensures.value) ∙ c.requires.typed
+
 pub returns : goal.returns
-returns c =
-    let row = c.pair_mut-row.result.1.now in
-    record {
-      key = c.pair_mut-row.result.0.now;
-      parts = row;
-      was = c.pair_mut-row.ensures.value;
-      written = record {
-        objective = refl;
-        rows = ap (λ (value : Number). set_value_at c.args.self.now.rows.entries c.args.index (record row { range = Some value })) c.of.ensures;
-        columns = refl;
-      };
-    }
+returns c = record {
+  key = c.pair_mut-row.result.0.now;
+  parts = c.pair_mut-row.result.1.now;
+  was = c.pair_mut-row.ensures.value;
+  written = record {
+    objective = refl;
+    rows = ap (λ (row : RowParts). set_value_at c.args.self.now.rows.entries c.args.index row) c.put_range.ensures;
+    columns = refl;
+  };
+}

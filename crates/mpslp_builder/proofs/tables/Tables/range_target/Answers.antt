@@ -1,12 +1,12 @@
 use Rattle.std.proofs.Common.{refl, sym, ap, ◌∙◌, true, false, Bool, [], ◌∷◌}
-use Rattle.std.specs.Prelude.{None, ◌||◌}
+use Rattle.std.specs.Prelude.{None, ◌||◌, is_some}
 use Rattle.mpslp_model_core.specs.Limits.{is_free_definition}
 use Rattle.mpslp_types.specs.Lists.{those_of}
 use Rattle.mpslp_types.specs.declared.faults.BuildFault.TheVariants.{DuplicateRange, RangeOnFree, InfiniteValue}
 use Rattle.mpslp_builder.specs.Answer.{first_refusal}
-use Rattle.mpslp_builder.specs.Calls.{row_tells, is_objective_ref}
+use Rattle.mpslp_builder.specs.Calls.{row_tells, has_limits, is_objective_ref}
 use Rattle.mpslp_builder.specs.declared.tables.RowRef.{RowRef}
-use Rattle.mpslp_builder.proofs.TestLemmas.{range_told}
+use Rattle.mpslp_builder.proofs.TestLemmas.{range_told, typed_place}
 use Rattle.mpslp_builder.proofs.tables.Tables.range_target.Goals as goal
 
 pub returns-then-has_range-clause-answer : goal.returns-then-has_range-clause-answer
@@ -45,3 +45,8 @@ returns-clause-answer c =
     sym (ap first_refusal (range_told None t c.each_name_stands_once.ensures c.requires c.in-Some.place c.args.row.now c.in-Some.ensures.place c.in-Some.ensures.found
     c.args.value false false c.if-has_range.ensures (free ∙ sym c.if-is_free.ensures)
     ∙ ap (λ (infinite : Bool). those_of ((false, DuplicateRange) ∷ (false, RangeOnFree) ∷ (infinite, InfiniteValue) ∷ [])) (sym c.if-is_infinite_size.ensures)))
+
+pub returns-clause-typed : goal.returns-clause-typed
+returns-clause-typed c =
+    let t = c.args.self.now in
+    ap (λ (p : RowRef). has_limits t p) (sym c.in-Row.is) ∙ typed_place t (λ o. false) (λ row. is_some row.range) c.in-Some.place (sym c.if-has_range.ensures)
