@@ -38,6 +38,7 @@ pub mod FinishLemmas
 pub mod EndLemmas
 pub mod EntryLemmas
 pub mod NamedEntries
+pub mod TermLemmas
 pub mod SoundParts
 pub mod FlatLemmas
 pub mod KeptParts

@@ -10,9 +10,11 @@ pub mod Answer
 pub mod Finish
 pub mod Laws
 pub mod ColumnLine
+pub mod RowTerms
 -- ---- what only the code cites
 pub mod Tables
 pub mod Calls
 pub mod LineTables
+pub mod TermTables
 pub mod FaultFound
 pub mod NameHash

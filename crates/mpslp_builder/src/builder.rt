@@ -22,7 +22,8 @@ use std::marker::Model;
 ///
 /// A call that is rejected returns the first error that applies, in the order in which the call lists them. Only a call
 /// without such an error may return [`OutOfMemory`](BuildFault::OutOfMemory). In both cases the builder is unchanged, except
-/// that [`next_line`](Self::next_line) and [`first_line`](Self::first_line) without memory may have declared a part.
+/// that [`next_line`](Self::next_line) and [`first_line`](Self::first_line) without memory, and [`row_term`](Self::row_term)
+/// and [`row_terms`](Self::row_terms) with any error, may have declared a part.
 ///
 /// Each declaring call has a query, such as [`check_rhs`](Self::check_rhs) for [`rhs`](Self::rhs). It returns the error
 /// that the call would return, allocates nothing and changes nothing.

@@ -6,7 +6,9 @@ pub mod laws;
 mod lines;
 mod name_map;
 mod refusals;
+mod row_terms;
 mod tables;
 
 pub use builder::Builder;
 pub use lines::{Entries, Entry};
+pub use row_terms::RowTerms;

@@ -1,6 +1,6 @@
 -- What calls of a builder return for declarations, and the number of rows after them.
-use Rattle.std.proofs.Common.{◌≡◌, refl, sym, ap, subst, ◌∙◌, ℕ, ◌+◌, List, [], ◌∷◌, ◌++◌, Bool, true, false, cond, length}
-use Rattle.std.specs.Prelude.{Option, Some, None, Ok, Err, is_some, not, ◌||◌}
+use Rattle.std.proofs.Common.{◌≡◌, refl, sym, ap, subst, ◌∙◌, ℕ, ◌+◌, List, [], ◌∷◌, ◌++◌, Bool, true, false, cond, length, inl, inr}
+use Rattle.std.specs.Prelude.{Option, Some, None, Ok, Err, is_some, ◌||◌}
 use Rattle.std.specs.Option.{option_map}
 use Rattle.std.specs.Result.{IsErrAnd}
 use Rattle.std.specs.FinMap.{find}
@@ -12,12 +12,10 @@ use Rattle.mpslp_types.specs.declared.faults.BuildFault.TheVariants as builds
 use Rattle.mpslp_types.specs.declared.kinds.Limit.{Limit}
 use Rattle.mpslp_types.specs.Lists.{head_of, those_of}
 use Rattle.mpslp_builder.specs.Answer.{Answer, Answers}
-use Rattle.mpslp_builder.specs.Declaration.{Declaration, declare_row, declare_column, declare_coefficient, has_row, has_column, has_coefficient, at_name, RowDefinition, Declarations, Draft, with_declaration, with_declarations, bounds_declared, has_name, is_objective, have_infinite_side}
+use Rattle.mpslp_builder.specs.Declaration.{Declaration, declare_row, RowDefinition, Declarations, Draft, with_declaration, with_declarations, bounds_declared, has_name, is_objective, have_infinite_side}
 use Rattle.mpslp_builder.specs.Refusal.{refusals, refusals_in_turn}
 use Rattle.mpslp_builder.specs.Made.{IsMade}
-use Rattle.mpslp_builder.proofs.AnswerLemmas.{put_again}
-use Rattle.mpslp_builder.proofs.LaterDrafts.{itself_named}
-use Rattle.mpslp_builder.proofs.SlotLemmas.{at-put}
+use Rattle.mpslp_builder.specs.RowTerms.{DeclaresInTurn}
 use Rattle.mpslp_builder.proofs.SortedDrafts.{sorted-from_made}
 use Rattle.mpslp_builder.proofs.MadeDrafts.{with_declarations-append, refusals_in_turn-append}
 use Rattle.mpslp_lines.specs.declared.errors.LineError.TheVariants.{Fault, OutOfMemory}
@@ -25,8 +23,6 @@ use Rattle.mpslp_lines.specs.FaultTests.{kind_of_build_fault}
 use Rattle.mpslp_lines.specs.ErrorOf.{error_of_build}
 use Rattle.mpslp_lines.specs.LineAnswer.{LineResult}
 use Rattle.mpslp_lines.specs.declared.errors.LineError.{LineError}
-use Rattle.mpslp_decimal.specs.Decimal.{Number}
-use Rattle.mpslp_lp_grammar.specs.Objective.{term_declared}
 use Rattle.mpslp_lp_grammar.specs.Declares.{DeclaresUnless, Declares}
 
 -- ---- a call that is rejected
@@ -76,6 +72,15 @@ refused-unless faults earlier later made fault P Q answer told refused =
     by : (fs : List BuildFault) → Answers fs (Err fault) P Q → DeclaresUnless fs earlier made (Err (error_of_build fault)) later
     by [] a = subst (λ (f : BuildFault). DeclaresUnless [] earlier made (Err (error_of_build f)) later) (sym a.0) tt
     by (first ∷ more) a = error_told earlier later made (first ∷ more) fault (ap (λ (f : BuildFault). Some f) (sym (same_fault fault first a.0)))
+
+-- the first error of declarations in turn, or a call without memory
+pub refused-in_turn : (earlier later : Draft) (made : Declarations) (fault : BuildFault) (answer : LineResult) → IsErrAnd answer (λ e. e ≡ error_of_build fault)
+    → DeclaresInTurn earlier made (Err fault) later → Declares earlier made answer later
+refused-in_turn earlier later made fault answer told (inl none) =
+    told-by (refusals_in_turn earlier made) earlier later made answer (error_of_build fault) told
+    (subst (λ (f : BuildFault). DeclaresUnless (refusals_in_turn earlier made) earlier made (Err (error_of_build f)) later) (sym none) tt)
+refused-in_turn earlier later made fault answer told (inr first) =
+    told-by (refusals_in_turn earlier made) earlier later made answer (error_of_build fault) told (error_told earlier later made (refusals_in_turn earlier made) fault first)
 
 -- ---- declarations one after another
 
@@ -146,70 +151,3 @@ row-added earlier later name form made none added =
     ap (λ (d : Draft). length d.rows) added
     ∙ length-put bytes_cmp nat_list_cmp_total name form earlier.rows (sorted-from_made earlier made).rows
     ∙ ap (λ (b : Bool). cond b (length earlier.rows) (length earlier.rows + 1)) (new_name earlier name form none)
-
--- ---- a coefficient that is declared before it is known whether its column exists
-
-no-error : {fault : BuildFault} → ◌≡◌ {A = Answer} (Ok tt) (Err fault) → ⊥
-no-error e = cc
-
-abbrev term_faults : Bool → Bool → Bool → List BuildFault
-term_faults row column entry = those_of ((not row, builds.UnknownRow) ∷ (not column, builds.UnknownColumn) ∷ (entry, builds.DuplicateEntry) ∷ [])
-
-in-turn : (earlier : Draft) (row column : List ℕ) (value : Number)
-    → refusals_in_turn earlier (term_declared row (column, value)) ≡ term_faults (has_row earlier row) true (has_coefficient earlier (record { row = row; column = column }))
-in-turn earlier row column value =
-    by (has_row earlier row) (has_column (with_declaration earlier (declare_column column)) column) (has_coefficient earlier (record { row = row; column = column })) there
-  where
-    there : has_column (with_declaration earlier (declare_column column)) column ≡ true
-    there = ap (λ (o : Option (Unit {0})). is_some o) (at-put column column tt earlier.columns ∙ ap (λ (b : Bool). cond b (Some tt) (at_name earlier.columns column)) (itself_named column))
-
-    by : (h k e : Bool) → k ≡ true → term_faults h k e ++ [] ≡ term_faults h true e
-    by h false e absent = cc
-    by false true false is = refl
-    by false true true is = refl
-    by true true false is = refl
-    by true true true is = refl
-
--- a call that is rejected changes nothing
-pub refused-same : (faults : List BuildFault) (fault : BuildFault) (P Q : Type 0) → Answers faults (Err fault) P Q → Q
-refused-same [] fault P Q a = a.1
-refused-same (first ∷ faults) fault P Q a = a.1
-
--- its column exists
-pub term-made : (earlier later : Draft) (row column : List ℕ) (value : Number) → IsMade earlier
-    → Answers (refusals earlier (declare_coefficient (record { row = row; column = column }) value)) (Ok tt) (later ≡ with_declaration earlier (declare_coefficient (record { row = row; column = column }) value)) (later ≡ earlier)
-    → Declares earlier (term_declared row (column, value)) (Ok tt) later
-term-made earlier later row column value made answer =
-    subst (λ (faults : List BuildFault). DeclaresUnless faults earlier (term_declared row (column, value)) (Ok tt) later) (sym (in-turn earlier row column value))
-    (by (has_row earlier row) (has_column earlier column) (has_coefficient earlier (record { row = row; column = column })) again answer)
-  where
-    put : Draft → Draft
-    put all = with_declaration all (declare_coefficient (record { row = row; column = column }) value)
-
-    again : has_column earlier column ≡ true → earlier ≡ with_declaration earlier (declare_column column)
-    again there = ap (λ (columns : List (List ℕ × Unit {0})). record earlier { columns = columns }) (put_again column earlier.columns (sorted-from_made earlier made).columns there)
-
-    by : (h k e : Bool) → (k ≡ true → earlier ≡ with_declaration earlier (declare_column column)) → Answers (term_faults h k e) (Ok tt) (later ≡ put earlier) (later ≡ earlier)
-        → (term_faults h true e ≡ []) × (later ≡ put (with_declaration earlier (declare_column column)))
-    by true true false same a = (refl, a ∙ ap put (same refl))
-    by true true true same a = absurd (no-error a.0)
-    by true false e same a = absurd (no-error a.0)
-    by false k e same a = absurd (no-error a.0)
-
--- it is rejected, but not because its column is missing
-pub term-refused : (earlier later : Draft) (row column : List ℕ) (value : Number) (fault : BuildFault) → (fault ≡ builds.UnknownColumn → ⊥)
-    → Answers (refusals earlier (declare_coefficient (record { row = row; column = column }) value)) (Err fault) (later ≡ with_declaration earlier (declare_coefficient (record { row = row; column = column }) value)) (later ≡ earlier)
-    → Declares earlier (term_declared row (column, value)) (Err (error_of_build fault)) later
-term-refused earlier later row column value fault other answer =
-    subst (λ (faults : List BuildFault). DeclaresUnless faults earlier (term_declared row (column, value)) (Err (error_of_build fault)) later) (sym (in-turn earlier row column value))
-    (by (has_row earlier row) (has_column earlier column) (has_coefficient earlier (record { row = row; column = column })) answer)
-  where
-    all : Declarations
-    all = term_declared row (column, value)
-
-    by : (h k e : Bool) → Answers (term_faults h k e) (Err fault) (later ≡ with_declaration earlier (declare_coefficient (record { row = row; column = column }) value)) (later ≡ earlier)
-        → DeclaresUnless (term_faults h true e) earlier all (Err (error_of_build fault)) later
-    by false k e a = error_told earlier later all (term_faults false true e) fault (ap (λ (f : BuildFault). Some f) (sym (same_fault fault builds.UnknownRow a.0)))
-    by true false e a = absurd (other (same_fault fault builds.UnknownColumn a.0))
-    by true true true a = error_told earlier later all (term_faults true true true) fault (ap (λ (f : BuildFault). Some f) (sym (same_fault fault builds.DuplicateEntry a.0)))
-    by true true false a = subst (λ (f : BuildFault). DeclaresUnless [] earlier all (Err (error_of_build f)) later) (sym a.0) tt

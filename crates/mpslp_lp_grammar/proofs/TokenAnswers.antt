@@ -1,11 +1,8 @@
 -- The effect of tokens that complete declarations, and of terms of a row.
-use Rattle.std.proofs.Common.{◌≡◌, refl, sym, ap, subst, ◌∙◌, ℕ, List, [], ◌∷◌, Bool, true, false, cond}
-use Rattle.std.specs.Prelude.{Option, Some, None, Ok, Err, is_some, ◌||◌, unwrap_or}
-use Rattle.std.specs.List.{list_any}
-use Rattle.std.specs.Map.{lookup}
-use Rattle.mpslp_decimal.specs.Decimal.{Number as Decimal, trailing_zeros}
+use Rattle.std.proofs.Common.{◌≡◌, refl, sym, ap, subst, ◌∙◌, List, [], ◌∷◌}
+use Rattle.std.specs.Prelude.{Option, Some, None, Ok, Err, unwrap_or}
+use Rattle.mpslp_decimal.specs.Decimal.{trailing_zeros}
 use Rattle.mpslp_decimal.specs.Literal.{number_of}
-use Rattle.mpslp_types.specs.Name.{same_bytes}
 use Rattle.mpslp_types.specs.declared.faults.BuildFault.{BuildFault}
 use Rattle.mpslp_types.specs.declared.faults.FaultKind.{FaultKind}
 use Rattle.mpslp_builder.specs.Declaration.{Declarations, Draft}
@@ -50,12 +47,3 @@ completes context later terminal refusals place made answer result none is decla
 pub one-parsed : number_of (49 ∷ []) ≡ Ok one
 unfolding trailing_zeros
 one-parsed = refl
-
-pub looked-up : (name : List ℕ) (terms : List (List ℕ × Decimal)) → list_any (λ term. same_bytes name term.0) terms ≡ is_some (lookup (same_bytes name) terms)
-looked-up name [] = refl
-looked-up name (term ∷ terms) = by (same_bytes name term.0) (looked-up name terms)
-  where
-    by : (b : Bool) → list_any (λ t. same_bytes name t.0) terms ≡ is_some (lookup (same_bytes name) terms)
-        → (b || list_any (λ t. same_bytes name t.0) terms) ≡ is_some (cond b (Some term.1) (lookup (same_bytes name) terms))
-    by true h = refl
-    by false h = h

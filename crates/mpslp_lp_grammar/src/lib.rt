@@ -23,7 +23,6 @@ mod sections_seen;
 mod sides;
 mod signs;
 mod states;
-mod term_names;
 mod terminals;
 mod token_step;
 

@@ -4,10 +4,7 @@ ghost use Rattle.std.specs.Prelude.{◌≡◌, ◌+◌, ◌-◌, ◌^◌, ◌∷
 ghost use Rattle.std.specs.Option.{ForSome};
 ghost use Rattle.mpslp_types.specs.Name.{IsMpsName};
 ghost use Rattle.mpslp_types.specs.Limit.{is_given};
-ghost use Rattle.mpslp_builder.specs.Answer.{Answers};
-ghost use Rattle.mpslp_builder.specs.Made.{IsMade};
-ghost use Rattle.mpslp_builder.specs.Refusal.{refusals};
-ghost use Rattle.mpslp_builder.specs.Declaration.{with_declaration, empty_draft, by_limits, declare_sense, declare_objective, declare_constant, declare_row, declare_column, declare_coefficient, declare_integer, declare_binary, declare_semi};
+ghost use Rattle.mpslp_builder.specs.Declaration.{empty_draft, by_limits, declare_sense, declare_objective, declare_constant, declare_row, declare_column, declare_integer, declare_binary, declare_semi};
 ghost use Rattle.mpslp_lines.specs.declared.errors.LineError.{LineError};
 ghost use Rattle.mpslp_lp_grammar.specs.Objective.{default_objective, term_declared, objective_declared, first_item_declared};
 ghost use Rattle.mpslp_lp_grammar.specs.Rows.{numbered_row, without_terms};
@@ -20,18 +17,14 @@ use crate::given_limit::GivenLimit;
 use crate::items::one;
 use crate::relations::Relation;
 use crate::states::{PartialParts, PartialRow};
-use crate::term_names::TermName;
-use indexmap::IndexMap;
 use itoa::Buffer;
+use mpslp_builder::RowTerms;
 use mpslp_decimal::Decimal;
 use mpslp_lines::LineError;
 use mpslp_model::laws::{each_builder_is_made, each_name_is_legal};
-use mpslp_model::{BuildFault, Builder, Limit, Name, Sense};
+use mpslp_model::{Builder, Limit, Name, Sense};
 use std::alloc::Global;
 use std::marker::Model;
-
-/// The number of terms for which a new row has room: as many as fit in four groups of the hash table.
-const USUAL_TERMS: usize = 36;
 
 /// What a text has declared. Contracts see it as a draft.
 #[derive(Drop)]
@@ -74,7 +67,7 @@ fn new_row(
 ) -> Result<PartialRow, LineError>
     ensures { MatchResult result (λ row. row ≡ without_terms name left) (λ error. error ≡ LineError.OutOfMemory) }
 {
-    let terms = IndexMap::with_capacity(alloc, USUAL_TERMS)?;
+    let terms = RowTerms::new(alloc);
     match Box::new(alloc, PartialParts { name, left, terms }) {
         Ok(parts) => Ok(PartialRow { parts }),
         Err(_) => Err(LineError::OutOfMemory),
@@ -150,11 +143,11 @@ impl LpBuilder {
         }
     }
 
-    /// Keeps the memory of a completed row for the next one, unless it has grown beyond `USUAL_TERMS`.
+    /// Keeps the memory of a completed row for the next one, unless it has very many terms.
     pub(crate) fn keep_parts(&mut self, row: PartialRow)
         ensures { self.new ≡ self.old }
     {
-        if row.parts.terms.len() <= USUAL_TERMS {
+        if row.parts.terms.are_few() {
             self.spare = Some(row.parts);
         }
     }
@@ -220,48 +213,7 @@ impl LpBuilder {
         self.declare_new_column(column)
     }
 
-    /// Declares a coefficient of a row or the objective.
-    fn declare_coefficient(
-        &mut self,
-        row: &[u8],
-        column: &[u8],
-        value: Decimal,
-    ) -> Result<(), LineError>
-        ensures { Declares self.old (declare_coefficient (record { row = row.now; column = column.now }) value ∷ []) result self.new }
-    {
-        self.builder.coefficient(row, column, value)?;
-        Ok(())
-    }
-
-    /// Declares a new column and a coefficient in it.
-    fn declare_with_column(
-        &mut self,
-        row: &[u8],
-        column: &[u8],
-        value: Decimal,
-    ) -> Result<(), LineError>
-        requires { IsMpsName column.now }
-        ensures { Declares self.old (term_declared row.now (column.now, value)) result self.new }
-    {
-        self.declare_new_column(column)?;
-        self.declare_coefficient(row, column, value)
-    }
-
-    /// Declares a coefficient in an existing column, or returns the first error of the builder.
-    fn declare_in_column(
-        &mut self,
-        row: &[u8],
-        column: &[u8],
-        value: Decimal,
-    ) -> Result<(), BuildFault>
-        ensures made { IsMade self.old }
-        ensures answer { let declared = declare_coefficient (record { row = row.now; column = column.now }) value in Answers (refusals self.old declared) result (self.new ≡ with_declaration self.old declared) (self.new ≡ self.old) }
-    {
-        each_builder_is_made(&self.builder);
-        self.builder.coefficient(row, column, value)
-    }
-
-    /// Declares a coefficient, and its column if that is new. Most columns exist already, so the coefficient comes first.
+    /// Declares a coefficient, and its column if that is new.
     pub(crate) fn declare_term(
         &mut self,
         row: &[u8],
@@ -271,13 +223,8 @@ impl LpBuilder {
         requires { IsMpsName column.now }
         ensures { Declares self.old (term_declared row.now (column.now, value)) result self.new }
     {
-        match self.declare_in_column(row, column, value) {
-            Ok(()) => Ok(()),
-            Err(fault) => match fault {
-                BuildFault::UnknownColumn => self.declare_with_column(row, column, value),
-                _ => Err(LineError::from(fault)),
-            },
-        }
+        self.builder.row_term(row, column, value)?;
+        Ok(())
     }
 
     /// Declares a column and that it is integer.
@@ -398,16 +345,10 @@ impl LpBuilder {
     }
 
     /// Declares the terms of a row in order.
-    fn declare_terms(
-        &mut self,
-        row: &[u8],
-        terms: &IndexMap<TermName, Decimal>,
-    ) -> Result<(), LineError>
-        ensures { Declares self.old (flat_map (term_declared row.now) terms.now.entries) result self.new }
+    fn declare_terms(&mut self, row: &[u8], terms: &RowTerms) -> Result<(), LineError>
+        ensures { Declares self.old (flat_map (term_declared row.now) terms.now) result self.new }
     {
-        for (column, value) in terms.iter() {
-            self.declare_term(row, column.as_bytes(), *value)?;
-        }
+        self.builder.row_terms(row, terms)?;
         Ok(())
     }
 

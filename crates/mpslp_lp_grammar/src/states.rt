@@ -10,11 +10,11 @@ use crate::context::Context;
 use crate::given_limit::GivenLimit;
 use crate::relations::Relation;
 use crate::signs::Sign;
-use crate::term_names::TermName;
-use indexmap::IndexMap;
+use mpslp_builder::RowTerms;
 use mpslp_decimal::Decimal;
 use mpslp_lines::LineError;
 use mpslp_model::{FaultKind, Name, Sense};
+use std::alloc::Global;
 use std::marker::Model;
 
 /// An incomplete row. It is in a box because a state is moved with each token.
@@ -30,7 +30,7 @@ pub struct PartialParts {
     /// The left-hand side and the relation after it, if the row has them.
     pub(crate) left: Option<(GivenLimit, Relation)>,
     /// The terms by their columns, in the order of the text.
-    pub(crate) terms: IndexMap<TermName, Decimal>,
+    pub(crate) terms: RowTerms,
 }
 
 impl Model for PartialRow {
@@ -38,20 +38,22 @@ impl Model for PartialRow {
 
     ghost Value = { PartialRow };
 
-    ghost view = { λ r. record { name = r.parts.value.name; left = r.parts.value.left; terms = r.parts.value.terms.entries } };
+    ghost view = { λ r. record { name = r.parts.value.name; left = r.parts.value.left; terms = r.parts.value.terms } };
 }
 
 /// Adds a term to those of a row.
 fn add_named(
-    terms: &mut IndexMap<TermName, Decimal>,
-    name: TermName,
+    terms: &mut RowTerms,
+    alloc: Global,
+    name: &[u8],
     value: Decimal,
 ) -> Result<(), LineError>
-    ensures { MatchResult result (λ _. AddsTo terms.old.entries name value (Ok terms.new.entries)) (λ error. AddsTo terms.old.entries name value (Err error)) }
+    requires { IsMpsName name.now }
+    ensures { MatchResult result (λ _. AddsTo terms.old name.now value (Ok terms.new)) (λ error. AddsTo terms.old name.now value (Err error)) }
 {
-    match terms.insert(name, value) {
-        Ok(None) => Ok(()),
-        Ok(Some(_)) => Err(LineError::Fault(FaultKind::DuplicateEntry)),
+    match terms.add(alloc, name, value) {
+        Ok(true) => Ok(()),
+        Ok(false) => Err(LineError::Fault(FaultKind::DuplicateEntry)),
         Err(_) => Err(LineError::OutOfMemory),
     }
 }
@@ -91,8 +93,12 @@ impl PartialRow {
         requires { IsMpsName column.now }
         ensures { MatchResult result (λ _. AddsTerm self.old column.now value (Ok self.new)) (λ error. AddsTerm self.old column.now value (Err error)) }
     {
-        let name = TermName::copied(context.earlier.alloc(), column)?;
-        add_named(&mut self.parts.terms, name, value)
+        add_named(
+            &mut self.parts.terms,
+            context.earlier.alloc(),
+            column,
+            value,
+        )
     }
 }
 

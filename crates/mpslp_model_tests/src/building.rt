@@ -2,6 +2,7 @@
 
 mod lines;
 mod lp;
+mod row_terms;
 mod rows;
 
 ghost use Rattle.std.specs.Prelude.{IsTrue};

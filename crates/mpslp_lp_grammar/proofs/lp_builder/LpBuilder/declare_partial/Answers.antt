@@ -36,9 +36,9 @@ returns c =
     let terms = flat_map (term_declared row.name) row.terms in
     let named : c.in_ok-name.name ≡ row.name = c.in_ok-name.ensures ∙ c.as_bytes.ensures ∙ ap (λ (p : PartialParts). p.name) c.deref-parts.ensures ∙ ap (λ (r : PartialRow). r.name) c.row.view_is in
     let parts = c.deref-parts.result.now in
-    let same : flat_map (term_declared c.as_bytes-2.result.now) parts.terms.entries ≡ terms =
-    ap (λ (name : List ℕ). flat_map (term_declared name) parts.terms.entries) c.as_bytes-2.ensures
-    ∙ ap (λ (p : PartialParts). flat_map (term_declared p.name) p.terms.entries) c.deref-parts.ensures
+    let same : flat_map (term_declared c.as_bytes-2.result.now) parts.terms ≡ terms =
+    ap (λ (name : List ℕ). flat_map (term_declared name) parts.terms) c.as_bytes-2.ensures
+    ∙ ap (λ (p : PartialParts). flat_map (term_declared p.name) p.terms) c.deref-parts.ensures
     ∙ ap (λ (r : PartialRow). flat_map (term_declared r.name) r.terms) c.row.view_is in
     subst (λ (name : List ℕ). Declares earlier (declare_row name form ∷ terms) c.declare_terms.result later) named
     (declares-then earlier between later (declare_row c.in_ok-name.name form ∷ []) terms c.declare_terms.result c.in_ok-declare_row.ensures.0 c.in_ok-declare_row.ensures.1

@@ -1,27 +1,18 @@
-use Rattle.std.proofs.Common.{◌≡◌, sym, ap, ◌∙◌, ◌++◌, ℕ, List}
+use Rattle.std.proofs.Common.{subst, ◌≡◌, sym, ap, ◌∙◌, ℕ, ◌-◌, ◌^◌, List, length, min}
 use Rattle.std.specs.List.{flat_map}
-use Rattle.mpslp_decimal.specs.Decimal.{Number}
-use Rattle.mpslp_builder.specs.Declaration.{with_declarations}
-use Rattle.mpslp_builder.specs.Refusal.{refusals_in_turn}
-use Rattle.mpslp_builder.proofs.MadeDrafts.{refusals_in_turn-append}
+use Rattle.mpslp_builder.specs.Declaration.{Draft, RowDefinition}
+use Rattle.mpslp_lp_grammar.specs.Declares.{Declares}
 use Rattle.mpslp_lp_grammar.specs.Objective.{term_declared}
-use Rattle.mpslp_lp_grammar.proofs.DeclaresLemmas.{refused-here, told-by}
+use Rattle.mpslp_lp_grammar.proofs.DeclaresLemmas.{refused-in_turn}
 use Rattle.mpslp_lp_grammar.proofs.lp_builder.LpBuilder.declare_terms.Goals as goal
 
-pub returns-in_err-declare_term : goal.returns-in_err-declare_term
-returns-in_err-declare_term c =
-    let earlier = c.args.self.now in
-    let current = c.loop-column.self in
-    let later = c.declare_term.new.self in
-    let row = c.args.row.now in
-    let term : List ℕ × Number = (c.as_bytes.result.now, c.in-Some.value.now) in
-    let more = c.next.new.self in
-    let all = flat_map (term_declared row) c.args.terms.now.entries in
-    let first = refusals_in_turn current (term_declared row term) in
-    let behind = refusals_in_turn (with_declarations current (term_declared row term)) (flat_map (term_declared row) more) in
-    let split : refusals_in_turn earlier all ≡ first ++ behind =
-    sym c.loop-column.invariant.refusals ∙ ap (λ (left : List (List ℕ × Number)). refusals_in_turn current (flat_map (term_declared row) left)) c.in-Some.ensures.steps
-    ∙ ap (λ (name : List ℕ). refusals_in_turn current (term_declared row (name, c.in-Some.value.now) ++ flat_map (term_declared row) more)) (sym c.as_bytes.ensures.bytes)
-    ∙ refusals_in_turn-append (term_declared row term) (flat_map (term_declared row) more) current in
-    told-by (refusals_in_turn earlier all) earlier later all c.from_residual.result c.in_err-declare_term.field-0.0 c.from_residual.ensures.1
-    (refused-here first behind (refusals_in_turn earlier all) current later earlier later (term_declared row term) all c.in_err-declare_term.field-0.0 split c.in_err-declare_term.ensures)
+pub invariant_of-self : goal.invariant_of-self
+invariant_of-self c = c.self.invariant ∙ ap (λ (rows : List (List ℕ × RowDefinition)). min (length rows) (2 ^ 64 - 1)) (sym c.row_terms.ensures.rows)
+
+pub returns-in_err-row_terms : goal.returns-in_err-row_terms
+returns-in_err-row_terms c =
+    let earlier = c.self.inside.builder in
+    let later = c.row_terms.new.self in
+    let ds = flat_map (term_declared c.args.row.now) c.args.terms.now in
+    subst (λ (all : Draft). Declares all ds c.from_residual.result later) c.self.view_is
+    (refused-in_turn earlier later ds c.in_err-row_terms.field-0.0 c.from_residual.result c.from_residual.ensures.1 c.in_err-row_terms.ensures.declared)

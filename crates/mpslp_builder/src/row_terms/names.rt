@@ -1,17 +1,17 @@
-//! Names of columns in an incomplete row.
+//! Names of columns in the terms of a row.
 
-ghost use Rattle.std.specs.Prelude.{◌≡◌, ◌∷◌, [], MatchResult};
+ghost use Rattle.std.specs.Prelude.{◌≡◌, ◌∷◌, [], IfOk, MatchResult};
 ghost use Rattle.std.proofs.Common.{rules};
 ghost use Rattle.std.specs.Hash as fed;
 ghost use Rattle.std.specs.Cmp.{partial_equiv_from_equiv};
-ghost use Rattle.std.specs.Cmp.Lexicographic.{nat_list_eq_equiv};
+ghost use Rattle.std.specs.Cmp.Lexicographic.{nat_list_eq_equiv, nat_list_cmp_total};
 ghost use Rattle.std.specs.Cmp.Rules.{hashing};
-ghost use Rattle.mpslp_types.specs.Name.{IsMpsName, same_bytes};
-ghost use Rattle.mpslp_lines.specs.declared.errors.LineError.{LineError};
+ghost use Rattle.mpslp_types.specs.Name.{IsMpsName, bytes_cmp, same_bytes};
 
-use mpslp_lines::LineError;
+use mpslp_maps::{Key, Query};
 use smallvec::SmallVec;
-use std::alloc::Global;
+use std::alloc::{AllocError, Global};
+use std::cmp::Ordering;
 use std::hash::{Hash, Hasher};
 use std::marker::Model;
 
@@ -60,16 +60,32 @@ impl Hash for TermName {
     }
 }
 
+impl Key for TermName {
+    ghost cmp = { bytes_cmp };
+
+    ghost total = { nat_list_cmp_total };
+
+    fn compare_keys(&self, other: &TermName) -> Ordering {
+        self.as_bytes().cmp(other.as_bytes())
+    }
+}
+
+impl<'a> Query<TermName> for &'a [u8] {
+    ghost key = { λ bytes. bytes.now };
+
+    fn compare(&self, other: &TermName) -> Ordering {
+        (*self).cmp(other.as_bytes())
+    }
+}
+
 impl TermName {
     /// A copy of a name.
-    pub(crate) fn copied(alloc: Global, name: &[u8]) -> Result<TermName, LineError>
+    pub(crate) fn copied(alloc: Global, name: &[u8]) -> Result<TermName, AllocError>
         requires { IsMpsName name.now }
-        ensures { MatchResult result (λ copy. copy ≡ name.now) (λ error. error ≡ LineError.OutOfMemory) }
+        ensures { IfOk result (λ copy. copy ≡ name.now) }
     {
-        match SmallVec::from_slice(alloc, name) {
-            Ok(bytes) => Ok(TermName { bytes }),
-            Err(_) => Err(LineError::OutOfMemory),
-        }
+        let bytes = SmallVec::from_slice(alloc, name)?;
+        Ok(TermName { bytes })
     }
 
     /// The bytes of the name.

@@ -1,0 +1,252 @@
+-- Terms of a row: how they are kept, and what each step of their declarations does to the tables.
+use Rattle.std.proofs.Common.{◌≡◌, refl, sym, ap, subst, ◌∙◌, ℕ, zero, suc, List, [], ◌∷◌, ◌++◌, Bool, true, false, cond, length, drop, get_or, not, inl, inr, ◌+◌, ◌<◌, ◌≤◌, arith}
+use Rattle.std.specs.Prelude.{Option, Some, None, is_some, slice_get, insert, ◌||◌, Result, Ok, Err, IfOk, ◌-◌}
+use Rattle.std.specs.declared.alloc.AllocError.{AllocError}
+use Rattle.std.specs.Option.{option_map_or}
+use Rattle.std.specs.List.{list_any, flat_map}
+use Rattle.std.specs.Result.{IsErrAnd}
+use Rattle.std.specs.Map.{lookup}
+use Rattle.std.specs.Cmp.Lexicographic.{nat_list_eq_equiv}
+use Rattle.std.specs.Ordering.{nat_cmp, is_gt}
+use Rattle.std.specs.FinMap.{find, is_sorted}
+use Rattle.std.proofs.lemmas.Option.{slice_get_read}
+use Rattle.std.proofs.lemmas.List.Concat.{flat_map-append}
+use Rattle.std.proofs.lemmas.List.Edits.{insert_end}
+use Rattle.std.proofs.lemmas.List.Folds.{list_any-append}
+use Rattle.mpslp_decimal.specs.Decimal.{Number, is_decimal}
+use Rattle.mpslp_types.specs.Name.{same_bytes, bytes_cmp}
+use Rattle.mpslp_types.specs.declared.kinds.Sense.{Sense}
+use Rattle.mpslp_types.specs.declared.faults.BuildFault.{BuildFault}
+use Rattle.mpslp_types.specs.declared.faults.BuildFault.TheVariants.{OutOfMemory, UnknownRow, UnknownColumn, DuplicateEntry}
+use Rattle.mpslp_maps.proofs.PutKeyLemmas.{put-insert}
+use Rattle.mpslp_maps.proofs.SearchLemmas.{found_nowhere, place_behind, sorted-put}
+use Rattle.mpslp_types.specs.Lists.{head_of, those_of}
+use Rattle.mpslp_model_core.specs.Numbered.{each_part}
+use Rattle.mpslp_model_core.proofs.CellLemmas.{at}
+use Rattle.mpslp_model_core.proofs.SortedLemmas.{is_sorted-sorted_of}
+use Rattle.mpslp_builder.specs.Answer.{Answer}
+use Rattle.mpslp_builder.specs.Declaration.{Draft, Declarations, with_declaration, with_declarations, declare_column, declare_coefficient, is_objective, has_row, has_column, has_coefficient, has_name}
+use Rattle.mpslp_builder.specs.Refusal.{refusals, refusals_in_turn}
+use Rattle.mpslp_builder.specs.Tables.{bytes, definition_of, no_part, draft, IsNumbered}
+use Rattle.mpslp_builder.specs.Calls.{row_name, column_name, cells_at, with_cell, IsOnceEach, HasColumnChanged}
+use Rattle.mpslp_builder.specs.LineTables.{IsLaid, Follows}
+use Rattle.mpslp_builder.specs.RowTerms.{term_declared, DeclaresInTurn}
+use Rattle.mpslp_builder.specs.TermTables.{HasColumn, IsLaidUnless}
+use Rattle.mpslp_builder.specs.declared.tables.Tables.{Tables}
+use Rattle.mpslp_builder.proofs.AnswerLemmas.{put_again}
+use Rattle.mpslp_builder.proofs.MadeDrafts.{refusals_in_turn-append}
+use Rattle.mpslp_builder.proofs.SortedDrafts.{bytes_total}
+use Rattle.mpslp_builder.proofs.ReadingLemmas.{number_there}
+use Rattle.mpslp_builder.proofs.TestLemmas.{cell_told}
+use Rattle.mpslp_builder.proofs.NamedEntries.{any-name, one_of-names}
+use Rattle.mpslp_builder.proofs.LineLemmas.{laid_none, laid_then, cell_follows}
+
+-- ---- the terms that are kept
+
+abbrev Terms : Type 0
+Terms = List (List ℕ × Number)
+
+-- a name that is greater than the last one is not there
+pub above_absent : (name : List ℕ) (terms : Terms) → is_sorted bytes_cmp terms ≡ true → option_map_or (λ last. is_gt (bytes_cmp name last.0)) (slice_get terms (length terms - 1)) true ≡ true
+    → find bytes_cmp name terms ≡ None
+above_absent name terms sorted above =
+    let behind = place_behind bytes_cmp bytes_total name terms sorted above in
+    found_nowhere bytes_cmp bytes_total name terms (length terms) sorted behind (omega arith)
+
+-- and comes after all
+pub above_sorted : (name : List ℕ) (value : Number) (terms : Terms) → is_sorted bytes_cmp terms ≡ true → option_map_or (λ last. is_gt (bytes_cmp name last.0)) (slice_get terms (length terms - 1)) true ≡ true
+    → is_sorted bytes_cmp (terms ++ (name, value) ∷ []) ≡ true
+above_sorted name value terms sorted above =
+    let behind = place_behind bytes_cmp bytes_total name terms sorted above in
+    ap (is_sorted bytes_cmp)
+    (sym (insert_end terms (name, value)) ∙ ap (λ (i : ℕ). insert terms i (name, value)) behind ∙ sym (put-insert bytes_cmp name value terms (above_absent name terms sorted above)))
+    ∙ sorted-put bytes_cmp bytes_total name value terms sorted
+
+-- a name is among those of terms if it is found
+pub any-found : (name : List ℕ) (terms : Terms) → list_any (λ term. same_bytes name term.0) terms ≡ is_some (find bytes_cmp name terms)
+any-found name terms = sym (any-name name terms) ∙ one_of-names name terms
+
+pub any-looked_up : (name : List ℕ) (terms : Terms) → list_any (λ term. same_bytes name term.0) terms ≡ is_some (lookup (same_bytes name) terms)
+any-looked_up name [] = refl
+any-looked_up name (term ∷ terms) = by (same_bytes name term.0) (any-looked_up name terms)
+  where
+    by : (b : Bool) → list_any (λ t. same_bytes name t.0) terms ≡ is_some (lookup (same_bytes name) terms)
+        → (b || list_any (λ t. same_bytes name t.0) terms) ≡ is_some (cond b (Some term.1) (lookup (same_bytes name) terms))
+    by true h = refl
+    by false h = h
+
+-- in two lists one after the other
+pub any-both : (name : List ℕ) (first more : Terms) (b : Bool) → is_some (find bytes_cmp name first) ≡ false → list_any (λ term. same_bytes name term.0) more ≡ b
+    → list_any (λ term. same_bytes name term.0) (first ++ more) ≡ b
+any-both name first more b absent is =
+    list_any-append (λ (term : List ℕ × Number). same_bytes name term.0) first more
+    ∙ (λ i. (any-found name first ∙ absent) i || is i)
+
+pub any-first : (name : List ℕ) (first more : Terms) → is_some (find bytes_cmp name first) ≡ true → list_any (λ term. same_bytes name term.0) (first ++ more) ≡ true
+any-first name first more there =
+    list_any-append (λ (term : List ℕ × Number). same_bytes name term.0) first more
+    ∙ ap (λ (b : Bool). b || list_any (λ term. same_bytes name term.0) more) (any-found name first ∙ there)
+
+pub any-none : (name : List ℕ) (terms : Terms) → length terms ≡ 0 → list_any (λ term. same_bytes name term.0) terms ≡ false
+any-none name [] h = refl
+any-none name (term ∷ terms) h = absurd (omega arith)
+
+-- a name that is not in the first list
+pub any-more : (name key : List ℕ) (first more all : Terms) (r : Result Bool AllocError) → first ++ more ≡ all → key ≡ name → is_some (find bytes_cmp name first) ≡ false
+    → IfOk r (λ is_new. list_any (λ term. same_bytes key term.0) more ≡ not is_new) → IfOk r (λ is_new. list_any (λ term. same_bytes name term.0) all ≡ not is_new)
+any-more name key first more all (Ok is_new) seen named absent h =
+    ap (λ (terms : Terms). list_any (λ term. same_bytes name term.0) terms) (sym seen)
+    ∙ any-both name first more (not is_new) absent (ap (λ (k : List ℕ). list_any (λ term. same_bytes k term.0) more) (sym named) ∙ h)
+any-more name key first more all (Err error) seen named absent h = tt
+
+-- ---- steps
+
+-- a column that is declared may be declared again
+pub there_laid : (t : Tables) (name : List ℕ) (i : ℕ) → column_name t i ≡ Some name → IsLaid t (declare_column name ∷ []) t
+there_laid t name i is = record {
+  free = λ sense constant. refl;
+  laid = λ sense constant.
+      ap (λ (columns : List (List ℕ × Unit {0})). record (draft sense constant t) { columns = columns })
+      (put_again name (draft sense constant t).columns (is_sorted-sorted_of bytes_cmp bytes_total (each_part bytes no_part t.columns.entries)) (sym (number_there no_part t.columns.entries i name is)));
+}
+
+pub unless_then : (t u v : Tables) (ds es : Declarations) (answer : Answer) → IsLaid t ds u → IsLaidUnless u es answer v → IsLaidUnless t (ds ++ es) answer v
+unless_then t u v ds es (Ok x) a b = laid_then t u v ds es a b
+unless_then t u v ds es (Err fault) a (inl none) = inl none
+unless_then t u v ds es (Err fault) a (inr first) =
+    inr (λ sense constant.
+    let before = draft sense constant t in
+    ap head_of (
+    refusals_in_turn-append ds es before ∙ ap (λ (faults : List BuildFault). faults ++ refusals_in_turn (with_declarations before ds) es) (a.free sense constant)
+    ∙ ap (λ (all : Draft). refusals_in_turn all es) (sym (a.laid sense constant))
+    )
+    ∙ first sense constant)
+
+-- there is no memory
+pub unless_memory : (t u : Tables) (ds : Declarations) (answer : Answer) → IsErrAnd answer (λ fault. fault ≡ OutOfMemory) → IsLaidUnless t ds answer u
+unless_memory t u ds (Ok x) none = absurd none
+unless_memory t u ds (Err fault) none = inl none
+
+-- the error that is told
+pub unless_told : (t u : Tables) (ds : Declarations) (answer : Answer) (fault : BuildFault) → IsErrAnd answer (λ told. told ≡ fault) → IsLaidUnless t ds (Err fault) u → IsLaidUnless t ds answer u
+unless_told t u ds (Ok x) fault told h = absurd told
+unless_told t u ds (Err other) fault told h = subst (λ (f : BuildFault). IsLaidUnless t ds (Err f) u) (sym told) h
+
+head-first : (faults more : List BuildFault) (fault : BuildFault) → head_of faults ≡ Some fault → head_of (faults ++ more) ≡ Some fault
+head-first [] more fault h = cc
+head-first (first ∷ faults) more fault h = h
+
+-- an error of the first declarations is the first of all
+pub unless_err : (t u v : Tables) (ds es : Declarations) (fault : BuildFault) → IsLaidUnless t ds (Err fault) u → IsLaidUnless t (ds ++ es) (Err fault) v
+unless_err t u v ds es fault (inl none) = inl none
+unless_err t u v ds es fault (inr first) =
+    inr (λ sense constant.
+    ap head_of (refusals_in_turn-append ds es (draft sense constant t))
+    ∙ head-first (refusals_in_turn (draft sense constant t) ds) (refusals_in_turn (with_declarations (draft sense constant t) ds) es) fault (first sense constant))
+
+or_true : (b : Bool) → true ≡ (b || true)
+or_true true = refl
+or_true false = refl
+
+-- a row, or the objective, with a number is declared
+row_there : (constant : Option Number) (t : Tables) (n : ℕ) (r : List ℕ) → row_name t n ≡ Some r → true ≡ has_row (draft None constant t) r
+row_there constant t zero r is =
+    sym (ap (λ (o : Option (List ℕ)). option_map_or (same_bytes r) o false || has_name (draft None constant t).rows r) is
+    ∙ ap (λ (b : Bool). b || has_name (draft None constant t).rows r) (nat_list_eq_equiv.refl r))
+row_there constant t (suc i) r is =
+    or_true (is_objective (draft None constant t) r) ∙ ap (λ (b : Bool). is_objective (draft None constant t) r || b) (number_there definition_of t.rows.entries i r is)
+
+-- the coefficient is declared already
+pub taken_place : (t u v : Tables) (once : IsOnceEach u) (numbered : IsNumbered u) (n i : ℕ) (r c : List ℕ) (x : Number) → HasColumn t c i u → row_name u n ≡ Some r
+    → true ≡ is_some (find nat_cmp n (cells_at u i)) → IsLaidUnless t (term_declared r (c, x)) (Err DuplicateEntry) v
+taken_place t u v once numbered n i r c x column row told =
+    inr (λ sense constant.
+    ap (λ (all : Draft). head_of (refusals all (declare_coefficient (at r c) x) ++ [])) (sym (column.laid.laid sense constant))
+    ∙ ap (λ (faults : List BuildFault). head_of (faults ++ []))
+    (cell_told constant u once i c column.named (number_there no_part u.columns.entries i c column.named) n r true numbered row (row_there constant u n r row) told))
+
+-- no row has the name
+pub row_unknown : (all : Draft) (row : List ℕ) (term : List ℕ × Number) (more : Declarations) → has_row all row ≡ false
+    → head_of (refusals_in_turn all (term_declared row term ++ more)) ≡ Some UnknownRow
+row_unknown all row term more absent =
+    let next = with_declaration all (declare_column term.0) in
+    let key = at row term.0 in
+    let later = with_declaration next (declare_coefficient key term.1) in
+    ap (λ (b : Bool). head_of (those_of ((not b, UnknownRow) ∷ (not (has_column next term.0), UnknownColumn) ∷ (has_coefficient next key, DuplicateEntry) ∷ []) ++ refusals_in_turn later more)) absent
+
+-- a coefficient of any row that there is
+pub cell_follows_there : (t u : Tables) → IsNumbered t → IsOnceEach t → (i n : ℕ) → is_some (row_name t n) ≡ true → (x : Number) → HasColumnChanged t i (with_cell n x) u
+    → find nat_cmp n (cells_at t i) ≡ None → is_decimal x ≡ true → Follows t u
+cell_follows_there t u numbered once i n row x h absent decimal = by (row_name t n) refl row
+  where
+    by : (name : Option (List ℕ)) → row_name t n ≡ name → is_some name ≡ true → Follows t u
+    by None is there = cc
+    by (Some name) is there = cell_follows t u numbered once i n name is x h absent decimal
+
+-- ---- terms in turn
+
+pub rest_at : {X : Type 0} (f : X → Declarations) (xs : List X) (k : ℕ) (x : X) → slice_get xs k ≡ Some x → flat_map f (drop k xs) ≡ f x ++ flat_map f (drop (suc k) xs)
+rest_at f [] k x h = cc
+rest_at f (y ∷ xs) zero x h = let same : y ≡ x = cc in λ i. f (same i) ++ flat_map f xs
+rest_at f (y ∷ xs) (suc k) x h = rest_at f xs k x h
+
+-- what is left decides: whatever comes of these declarations comes of those, too
+abbrev pub Decides : Tables → Declarations → Tables → Declarations → Type 0
+Decides u left t all = (answer : Answer) (v : Tables) → IsLaidUnless u left answer v → IsLaidUnless t all answer v
+
+pub decides_next : (t u v : Tables) (first left all : Declarations) → IsLaid u first v → Decides u (first ++ left) t all → Decides v left t all
+decides_next t u v first left all laid before = λ answer w rest. before answer w (unless_then u v w first left answer laid rest)
+
+-- an error of the next of these declarations decides
+pub decides_err : (t u v : Tables) (first left all : Declarations) (answer : Answer) (fault : BuildFault) → IsErrAnd answer (λ told. told ≡ fault) → IsLaidUnless u first (Err fault) v
+    → Decides u (first ++ left) t all → IsLaidUnless t all answer v
+decides_err t u v first left all answer fault told refused before =
+    before answer v (unless_told u v (first ++ left) answer fault told (unless_err u v v first left fault refused))
+
+-- nothing is left
+pub decides_all : (t u : Tables) (all : Declarations) → Decides u [] t all → IsLaid t all u
+decides_all t u all before = before (Ok tt) u (laid_none u)
+
+-- the same of the drafts of builders
+pub in_turn : (sense : Option Sense) (constant : Option Number) (t u : Tables) (ds : Declarations) (answer : Answer) → IsLaidUnless t ds answer u
+    → DeclaresInTurn (draft sense constant t) ds answer (draft sense constant u)
+in_turn sense constant t u ds (Ok x) laid = (laid.free sense constant, laid.laid sense constant)
+in_turn sense constant t u ds (Err fault) (inl none) = inl none
+in_turn sense constant t u ds (Err fault) (inr first) = inr (first sense constant)
+
+next_is : (k : ℕ) → suc k ≡ k + 1
+next_is k = omega arith
+
+pub rest_of : {X : Type 0} (f : X → Declarations) (xs : List X) (k : ℕ) (x : X) → k < length xs → x ≡ get_or xs k x → flat_map f (drop k xs) ≡ f x ++ flat_map f (drop (k + 1) xs)
+rest_of {X} f xs k x inside here = rest_at f xs k x (slice_get_read xs (length xs) k x refl inside here) ∙ ap (λ (n : ℕ). f x ++ flat_map f (drop n xs)) (next_is k)
+
+-- of two lists one after the other
+pub both_parts : {X : Type 0} (f : X → Declarations) (first more given all : List X) → given ≡ first → first ++ more ≡ all → flat_map f all ≡ flat_map f given ++ flat_map f more
+both_parts {X} f first more given all is seen =
+    ap (flat_map f) (sym seen) ∙ flat_map-append f first more ∙ ap (λ (xs : List X). flat_map f xs ++ flat_map f more) (sym is)
+
+pub none_first : (first more : Terms) → first ++ more ≡ [] → length first ≡ 0
+none_first [] more h = refl
+none_first (term ∷ first) more h = cc
+
+-- no row has the name, and there is a term
+pub rows_unknown : (all : Draft) (row : List ℕ) (terms : Terms) → has_row all row ≡ false → (terms ≡ [] → ⊥) → head_of (refusals_in_turn all (flat_map (term_declared row) terms)) ≡ Some UnknownRow
+rows_unknown all row [] absent some = absurd (some refl)
+rows_unknown all row (term ∷ terms) absent some = row_unknown all row term (flat_map (term_declared row) terms) absent
+
+pub drop_none : {X : Type 0} (k : ℕ) (xs : List X) → length xs ≤ k → drop k xs ≡ []
+drop_none zero [] h = refl
+drop_none zero (x ∷ xs) h = absurd (omega arith)
+drop_none (suc k) [] h = refl
+drop_none (suc k) (x ∷ xs) h = drop_none k xs (omega arith)
+
+module _ (t u v : Tables) (name column : List ℕ) (term : List ℕ × Number) (rest left all : Declarations) (named : column ≡ term.0) (split : left ≡ term_declared name term ++ rest) (before : Decides u left t all) where
+  decides : Decides u (term_declared name (column, term.1) ++ rest) t all
+  decides = subst (λ (ds : Declarations). Decides u ds t all) (split ∙ (λ i. term_declared name (sym named i, term.1) ++ rest)) before
+
+  -- after the next term
+  pub term_laid : IsLaid u (term_declared name (column, term.1)) v → Decides v rest t all
+  term_laid laid = decides_next t u v (term_declared name (column, term.1)) rest all laid decides
+
+  pub term_refused : (answer : Answer) (fault : BuildFault) → IsErrAnd answer (λ told. told ≡ fault) → IsLaidUnless u (term_declared name (column, term.1)) (Err fault) v → IsLaidUnless t all answer v
+  term_refused answer fault told refused = decides_err t u v (term_declared name (column, term.1)) rest all answer fault told refused decides

@@ -1,0 +1,122 @@
+//! Tests of the calls that declare the terms of a row.
+
+use super::{Call, call_of, finished, named, number, tells, views_of};
+use mpslp_builder::{Builder, RowTerms};
+use mpslp_types::laws::each_name_is_legal;
+use mpslp_types::{BuildFault, RowType};
+use std::alloc::Global;
+use std::test::Fail;
+
+/// A column and its value, as texts.
+type Term<'a> = (&'a str, &'a str);
+
+/// Terms out of byte order.
+const TERMS: [Term<'static>; 4] = [("b", "2"), ("d", "4"), ("c", "3"), ("a", "1")];
+
+/// Adds a term. Whether its column is new.
+fn add(alloc: Global, terms: &mut RowTerms, term: Term<'_>) -> Result<bool, BuildFault> {
+    let name = named(alloc, term.0)?;
+    each_name_is_legal(&name);
+    Ok(terms.add(alloc, name.as_bytes(), number(term.1))?)
+}
+
+/// Whether the column of each of these terms is new among those before it.
+fn are_new(alloc: Global, terms: &[Term<'_>]) -> Result<bool, BuildFault> {
+    let mut kept = RowTerms::new(alloc);
+    for term in terms {
+        if !add(alloc, &mut kept, *term)? {
+            return Ok(false);
+        }
+    }
+    Ok(kept.are_few())
+}
+
+/// Declares these terms of a row by one call.
+fn declare(
+    alloc: Global,
+    builder: &mut Builder,
+    row: &str,
+    terms: &[Term<'_>],
+) -> Result<(), BuildFault> {
+    let mut kept = RowTerms::new(alloc);
+    add(alloc, &mut kept, ("x", "7"))?;
+    kept.clear();
+    for term in terms {
+        add(alloc, &mut kept, *term)?;
+    }
+    builder.row_terms(row.as_bytes(), &kept)
+}
+
+/// Declares a term of a row.
+fn declare_one(
+    alloc: Global,
+    builder: &mut Builder,
+    row: &str,
+    term: Term<'_>,
+) -> Result<(), BuildFault> {
+    let name = named(alloc, term.0)?;
+    each_name_is_legal(&name);
+    builder.row_term(row.as_bytes(), name.as_bytes(), number(term.1))
+}
+
+/// A builder with the objective f, the rows r and s, and these terms of r.
+fn with_terms(alloc: Global, terms: &[Term<'_>]) -> Result<Builder, BuildFault> {
+    let mut builder = Builder::new(alloc);
+    call_of(&mut builder, alloc, Call::Objective("f"))?;
+    call_of(&mut builder, alloc, Call::Row("r", RowType::AtMost))?;
+    call_of(&mut builder, alloc, Call::Row("s", RowType::AtLeast))?;
+    declare(alloc, &mut builder, "r", terms)?;
+    Ok(builder)
+}
+
+/// The accessors' results after these terms of r and some others.
+fn views_of_terms(alloc: Global, terms: &[Term<'_>]) -> Result<Vec<u8>, BuildFault> {
+    let mut builder = with_terms(alloc, terms)?;
+    declare_one(alloc, &mut builder, "s", ("e", "5"))?;
+    declare_one(alloc, &mut builder, "f", ("a", "6"))?;
+    match finished(builder) {
+        Some(Ok(model)) => Ok(views_of(alloc, &model)?),
+        _ => Ok(Vec::new(alloc)),
+    }
+}
+
+#[test]
+fn declares_terms_of_rows(rt: HostRuntime) -> Result<(), Fail> {
+    let views = views_of_terms(rt.alloc(), &TERMS)?;
+    let text = views.as_slice();
+    assert!(rt; tells(text, "column a continuous 0 inf objective 6"));
+    assert!(rt; tells(text, "entry r 1 1") && tells(text, "entry r 2 2"));
+    assert!(rt; tells(text, "entry r 3 3") && tells(text, "entry r 4 4"));
+    assert!(rt; tells(text, "entry s 5 5") && !tells(text, "entry r 7 7"));
+    Ok(())
+}
+
+#[test]
+fn finds_columns_twice_in_a_row(rt: HostRuntime) -> Result<(), Fail> {
+    assert!(rt; are_new(rt.alloc(), &TERMS)?);
+    assert!(rt; !are_new(rt.alloc(), &[("a", "1"), ("b", "2"), ("a", "3")])?);
+    assert!(rt; !are_new(rt.alloc(), &[("b", "1"), ("a", "2"), ("a", "3")])?);
+    Ok(())
+}
+
+/// Whether a second term of a row, and terms of no row, have their errors.
+fn are_refused(alloc: Global, terms: &[Term<'_>]) -> Result<bool, BuildFault> {
+    let mut builder = with_terms(alloc, terms)?;
+    let second = declare_one(alloc, &mut builder, "r", ("c", "1"));
+    let unknown = declare_one(alloc, &mut builder, "q", ("c", "1"));
+    let all_second = declare(alloc, &mut builder, "r", terms);
+    let all_unknown = declare(alloc, &mut builder, "q", terms);
+    let none = declare(alloc, &mut builder, "q", &[]);
+    Ok(
+        second == Err(BuildFault::DuplicateEntry)
+            && (unknown == Err(BuildFault::UnknownRow)
+                && (all_second == Err(BuildFault::DuplicateEntry)
+                    && (all_unknown == Err(BuildFault::UnknownRow) && none == Ok(())))),
+    )
+}
+
+#[test]
+fn refuses_terms(rt: HostRuntime) -> Result<(), Fail> {
+    assert!(rt; are_refused(rt.alloc(), &TERMS)?);
+    Ok(())
+}
