@@ -1,5 +1,6 @@
 -- Which declarations are consistent, regardless of their order.
-use Rattle.mpslp_types.specs.Basics.{ℕ, Bool, true, false, ◌&&◌, ◌||◌, not, if◌then◌else◌, IsTrue, List, [], ◌∷◌, ◌++◌, is_some, list_all, list_any, option_map_or, are_distinct, is_infinite_size, same_bytes, is_plus_infinite, is_minus_infinite}
+use Rattle.std.specs.Prelude.{ℕ, Bool, true, false, ◌&&◌, ◌||◌, not, if◌then◌else◌, IsTrue, List, [], ◌∷◌, ◌++◌, is_some}
+use Rattle.mpslp_types.specs.Basics.{list_all, list_any, option_map_or, are_distinct, is_infinite_size, same_bytes, is_plus_infinite, is_minus_infinite}
 use Rattle.mpslp_builder.specs.Declaration.{Declaration, declare_sense, declare_objective, declare_constant, declare_row, declare_rhs, declare_range, declare_coefficient, declare_lower, declare_upper, declare_marked, declare_integer, declare_binary, declare_semi, Declarations, Draft, draft_of, has_name, is_objective, has_row, has_column, is_integer, is_semi, is_free_row, is_definition_by_limits, have_infinite_side, CoefficientKey}
 
 -- what at most one declaration may fill; only columns and their types may be declared repeatedly

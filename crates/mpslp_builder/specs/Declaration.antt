@@ -1,5 +1,6 @@
 -- What the parts of a file, or the calls of a builder, declare.
-use Rattle.mpslp_types.specs.Basics.{ℕ, Bool, false, ◌||◌, if◌then◌else◌, List, [], ◌∷◌, ◌++◌, map, Option, Some, None, is_some, option_map_or, find_entry as find, put, Number, bytes_cmp, same_bytes}
+use Rattle.std.specs.Prelude.{ℕ, Bool, false, ◌||◌, if◌then◌else◌, List, [], ◌∷◌, ◌++◌, map, Option, Some, None, is_some}
+use Rattle.mpslp_types.specs.Basics.{option_map_or, find_entry as find, put, Number, bytes_cmp, same_bytes}
 pub use Rattle.mpslp_model_core.specs.Model.{key_cmp, CoefficientKey}
 pub use Rattle.mpslp_model_core.specs.Limits.{RowDefinition, by_type, by_limits, is_free_definition, is_definition_by_limits, have_infinite_side}
 use Rattle.mpslp_types.specs.declared.kinds.{Sense.Sense, Limit.Limit}

@@ -1,5 +1,6 @@
 -- The model that declarations mean.
-use Rattle.mpslp_types.specs.Basics.{◌≡◌, ℕ, Bool, not, IsTrue, List, [], map, filter, Option, is_some, unwrap_or, list_all, from_sorted, Number, is_zero, zero_number, negated}
+use Rattle.std.specs.Prelude.{◌≡◌, ℕ, Bool, not, IsTrue, List, [], map, filter, Option, is_some, unwrap_or}
+use Rattle.mpslp_types.specs.Basics.{list_all, from_sorted, Number, is_zero, zero_number, negated}
 pub use Rattle.mpslp_model_core.specs.Model.{Row, IsSound, Column, LinearModel}
 pub use Rattle.mpslp_builder.specs.Declaration.{RowDefinition, draft_of, at_name, names_in, has_name, is_semi, Declarations, Draft, empty_draft, with_declarations}
 use Rattle.mpslp_model_core.specs.Limits.{limits_of, plain_limits, has_infinite_rhs, declared_column, is_negative_upper, are_no_binary_bounds}

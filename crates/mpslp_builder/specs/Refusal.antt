@@ -1,5 +1,6 @@
 -- When a declaration is rejected, given the declarations before it.
-use Rattle.mpslp_types.specs.Basics.{ℕ, Bool, false, ◌&&◌, ◌||◌, not, List, [], ◌∷◌, ◌++◌, Option, is_some, option_map_or, those_of, is_infinite_size, is_plus_infinite, is_minus_infinite}
+use Rattle.std.specs.Prelude.{ℕ, Bool, false, ◌&&◌, ◌||◌, not, List, [], ◌∷◌, ◌++◌, Option, is_some}
+use Rattle.mpslp_types.specs.Basics.{option_map_or, those_of, is_infinite_size, is_plus_infinite, is_minus_infinite}
 use Rattle.mpslp_builder.specs.Declaration.{Declaration, declare_sense, declare_objective, declare_constant, declare_row, declare_rhs, declare_range, declare_column, declare_coefficient, declare_lower, declare_upper, declare_marked, declare_integer, declare_binary, declare_semi, Declarations, Draft, with_declaration, has_name, is_objective, has_row, has_column, has_coefficient, is_integer, is_semi, is_free_row, is_row_by_limits, have_infinite_side, CoefficientKey}
 use Rattle.mpslp_builder.specs.Consistency.{has_objective_rhs}
 use Rattle.mpslp_types.specs.declared.{kinds.Limit.Limit, faults.BuildFault.BuildFault, faults.BuildFault.TheVariants.DuplicateSense, faults.BuildFault.TheVariants.SecondObjective, faults.BuildFault.TheVariants.UnknownRow, faults.BuildFault.TheVariants.UnknownColumn, faults.BuildFault.TheVariants.DuplicateRow, faults.BuildFault.TheVariants.DuplicateEntry, faults.BuildFault.TheVariants.DuplicateRhs, faults.BuildFault.TheVariants.DuplicateRange, faults.BuildFault.TheVariants.DuplicateBound, faults.BuildFault.TheVariants.RangeOnFree, faults.BuildFault.TheVariants.SemiContinuous, faults.BuildFault.TheVariants.InfiniteValue}

@@ -1,5 +1,6 @@
 -- The canonical LP text of a model.
-use Rattle.mpslp_types.specs.Basics.{ℕ, pos, negsuc, Bool, true, false, if◌then◌else◌, List, [], ◌∷◌, ◌++◌, map, filter, filter_map, codes, Option, Some, list_any, flat_map, option_map, find_entry as find, Number, is_zero, is_negative, size_of, zero_number, have_same_value, same_bytes}
+use Rattle.std.specs.Prelude.{ℕ, pos, negsuc, Bool, true, false, if◌then◌else◌, List, [], ◌∷◌, ◌++◌, map, filter, filter_map, codes, Option, Some}
+use Rattle.mpslp_types.specs.Basics.{list_any, flat_map, option_map, find_entry as find, Number, is_zero, is_negative, size_of, zero_number, have_same_value, same_bytes}
 use Rattle.mpslp_model_core.specs.Model.{LinearModel, Row, Column, CoefficientKey, key_cmp, Listing, listing_of}
 use Rattle.mpslp_types.specs.declared.kinds.{Sense.Sense, Sense.TheVariants.Minimize, Sense.TheVariants.Maximize, Kind.Kind, Kind.TheVariants.Continuous, Kind.TheVariants.Integer, Kind.TheVariants.Semi, Limit.Limit, Limit.TheVariants.MinusInf, Limit.TheVariants.Finite}
 use Rattle.mpslp_lp_grammar.specs.declared.relations.Relation.{Relation, TheVariants.AtMost, TheVariants.AtLeast, TheVariants.EqualTo}

@@ -1,5 +1,6 @@
 -- Printed lines: their pieces, and how they are printed.
-use Rattle.mpslp_types.specs.Basics.{ℕ, Bool, if◌then◌else◌, List, ◌++◌, map, replicate, codes, join_by, with_line_feeds, Number}
+use Rattle.std.specs.Prelude.{ℕ, Bool, if◌then◌else◌, List, ◌++◌, map, replicate, codes}
+use Rattle.mpslp_types.specs.Basics.{join_by, with_line_feeds, Number}
 use Rattle.mpslp_decimal.specs.NumberText.{number_text}
 use Rattle.mpslp_lp_grammar.specs.declared.relations.Relation.{Relation, TheVariants.AtMost, TheVariants.AtLeast, TheVariants.EqualTo}
 

@@ -1,5 +1,6 @@
 -- The first name of a model that is not legal in LP.
-use Rattle.mpslp_types.specs.Basics.{ℕ, Bool, not, if◌then◌else◌, List, map, position, Option, Some, None, option_map, is_lp_name}
+use Rattle.std.specs.Prelude.{ℕ, Bool, not, if◌then◌else◌, List, map, position, Option, Some, None}
+use Rattle.mpslp_types.specs.Basics.{option_map, is_lp_name}
 use Rattle.mpslp_model_core.specs.Model.{LinearModel, Listing, listing_of}
 use Rattle.mpslp_types.specs.declared.faults.NameAt.{NameAt, TheVariants.Objective, TheVariants.Row, TheVariants.Column}
 

@@ -1,5 +1,6 @@
 -- The canonical MPS text of a model.
-use Rattle.mpslp_types.specs.Basics.{ℕ, Bool, not, if◌then◌else◌, List, [], ◌∷◌, ◌++◌, map, filter, filter_map, codes, Option, flat_map, option_map_or, option_map, find_entry as find, Number, is_zero, zero_number, negated, marker}
+use Rattle.std.specs.Prelude.{ℕ, Bool, not, if◌then◌else◌, List, [], ◌∷◌, ◌++◌, map, filter, filter_map, codes, Option}
+use Rattle.mpslp_types.specs.Basics.{flat_map, option_map_or, option_map, find_entry as find, Number, is_zero, zero_number, negated, marker}
 use Rattle.mpslp_decimal.specs.NumberText.{number_text}
 use Rattle.mpslp_model_core.specs.Model.{LinearModel, Row, Column, CoefficientKey, key_cmp, is_integer_column as has_integer_kind, Listing, listing_of}
 use Rattle.mpslp_types.specs.declared.kinds.{Sense.Sense, Sense.TheVariants.Minimize, Sense.TheVariants.Maximize, RowType.TheVariants.Free}

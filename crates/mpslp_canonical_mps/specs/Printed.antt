@@ -1,5 +1,6 @@
 -- Printed lines: their fields, and how they are printed.
-use Rattle.mpslp_types.specs.Basics.{ℕ, List, ◌++◌, map, codes, join_by, with_line_feeds}
+use Rattle.std.specs.Prelude.{ℕ, List, ◌++◌, map, codes}
+use Rattle.mpslp_types.specs.Basics.{join_by, with_line_feeds}
 use Rattle.mpslp_mps_fields.specs.Line.{Fields}
 
 -- a header; a data line after one space; a data line after four spaces

@@ -1,5 +1,6 @@
 -- What is printed of a row and of the bounds of a column: the declarations that give them back.
-use Rattle.mpslp_types.specs.Basics.{Bool, false, if◌then◌else◌, List, [], ◌∷◌, ◌++◌, Option, Some, None, Number, is_zero, difference_of, zero_number, have_same_value}
+use Rattle.std.specs.Prelude.{Bool, false, if◌then◌else◌, List, [], ◌∷◌, ◌++◌, Option, Some, None}
+use Rattle.mpslp_types.specs.Basics.{Number, is_zero, difference_of, zero_number, have_same_value}
 use Rattle.mpslp_types.specs.declared.kinds.{Kind.Kind, Kind.TheVariants.Continuous, Kind.TheVariants.Integer, Kind.TheVariants.Semi, Limit.Limit, Limit.TheVariants.MinusInf, Limit.TheVariants.Finite, Limit.TheVariants.PlusInf, RowType.RowType, RowType.TheVariants.Free, RowType.TheVariants.AtMost, RowType.TheVariants.AtLeast, RowType.TheVariants.Equal}
 use Rattle.mpslp_mps_fields.specs.declared.bound_types.BoundType.{BoundType}
 use Rattle.mpslp_mps_fields.specs.declared.bound_types.BoundType.TheVariants as bounds

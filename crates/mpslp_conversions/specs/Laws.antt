@@ -1,5 +1,5 @@
 -- What formats give, and what follows from their laws together.
-use Rattle.mpslp_types.specs.Basics.{◌≡◌, ◌↔◌, ℕ, List, Option, None}
+use Rattle.std.specs.Prelude.{◌≡◌, ◌↔◌, ℕ, List, Option, None}
 use Rattle.mpslp_model_core.specs.Model.{LinearModel}
 use Rattle.mpslp_types.specs.declared.faults.NameAt.{NameAt}
 

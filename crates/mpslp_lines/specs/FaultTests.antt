@@ -1,5 +1,6 @@
 -- Tests of a line in the order of the kinds of errors: of its bytes, names and number literals; and how errors are reported.
-use Rattle.mpslp_types.specs.Basics.{ℕ, ◌-◌, ◌^◌, min, nat_le, ◌==◌, Bool, true, ◌&&◌, ◌||◌, not, if◌then◌else◌, List, [], ◌∷◌, length, filter_map, Option, Some, None, Result, Ok, Err, list_all, list_any, option_map_or, result_unwrap_or, Number, zero_number, number_of, same_bytes, has_name_length, is_visible, marker, kind_rank}
+use Rattle.std.specs.Prelude.{ℕ, ◌-◌, ◌^◌, min, nat_le, ◌==◌, Bool, true, ◌&&◌, ◌||◌, not, if◌then◌else◌, List, [], ◌∷◌, length, filter_map, Option, Some, None, Result, Ok, Err}
+use Rattle.mpslp_types.specs.Basics.{list_all, list_any, option_map_or, result_unwrap_or, Number, zero_number, number_of, same_bytes, has_name_length, is_visible, marker, kind_rank}
 use Rattle.mpslp_types.specs.declared.faults.{FaultKind.FaultKind, BuildFault.BuildFault, Fault.Fault}
 use Rattle.mpslp_lines.specs.declared.legal_line.TheConstants.{MAX_LINE_LEN}
 use Rattle.mpslp_decimal.specs.declared.literal.NumberFault.{NumberFault}

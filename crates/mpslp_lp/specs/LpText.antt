@@ -1,5 +1,6 @@
 -- The outcome of LP text, and what it declares.
-use Rattle.mpslp_types.specs.Basics.{ℕ, Bool, true, false, IsTrue, List, [], ◌∷◌, ◌++◌, Some, None, enumerate_from, lines}
+use Rattle.std.specs.Prelude.{ℕ, Bool, true, false, IsTrue, List, [], ◌∷◌, ◌++◌, Some, None}
+use Rattle.mpslp_types.specs.Basics.{enumerate_from, lines}
 use Rattle.mpslp_builder.specs.Meaning.{Means, LinearModel, Declarations, Draft}
 use Rattle.mpslp_types.specs.declared.faults.Fault.{Fault}
 use Rattle.mpslp_lp_grammar.specs.Phrase.{Outcome, Finished, Refused, Open, TerminalAt, line_terminals}

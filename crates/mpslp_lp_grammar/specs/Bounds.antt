@@ -1,5 +1,5 @@
 -- Bounds: `x relation side`, `x free`, `side relation x`, `side relation x relation side`.
-use Rattle.mpslp_types.specs.Basics.{ℕ, if◌then◌else◌, List, [], ◌∷◌, ◌++◌, Option, Some, None}
+use Rattle.std.specs.Prelude.{ℕ, if◌then◌else◌, List, [], ◌∷◌, ◌++◌, Option, Some, None}
 use Rattle.mpslp_builder.specs.Declaration.{declare_column, Declarations, with_declarations, bounds_declared}
 use Rattle.mpslp_builder.specs.Refusal.{bounds_refusals}
 use Rattle.mpslp_types.specs.declared.{kinds.Limit.Limit, kinds.Limit.TheVariants.MinusInf, kinds.Limit.TheVariants.PlusInf, faults.FaultKind.TheVariants.BadToken, faults.FaultKind.TheVariants.MixedSenses}

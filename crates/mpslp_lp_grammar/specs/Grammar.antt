@@ -1,5 +1,6 @@
 -- The grammar of LP text: which phrase begins with a token at a place, and the outcome of a whole text.
-use Rattle.mpslp_types.specs.Basics.{ℕ, ◌==◌, Bool, true, false, if◌then◌else◌, List, [], ◌∷◌, map, codes, Some, None, same_bytes, lower_byte}
+use Rattle.std.specs.Prelude.{ℕ, ◌==◌, Bool, true, false, if◌then◌else◌, List, [], ◌∷◌, map, codes, Some, None}
+use Rattle.mpslp_types.specs.Basics.{same_bytes, lower_byte}
 use Rattle.mpslp_builder.specs.Declaration.{Declaration, declare_column, declare_integer, declare_binary, declare_semi, Declarations, Draft}
 use Rattle.mpslp_types.specs.declared.kinds.Sense.TheVariants as senses
 use Rattle.mpslp_types.specs.declared.faults.{Fault.Fault, FaultKind.TheVariants.BadToken}

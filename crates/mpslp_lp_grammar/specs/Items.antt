@@ -1,5 +1,6 @@
 -- Sides, relations and items: the parts of the objective, of rows and of bounds.
-use Rattle.mpslp_types.specs.Basics.{ℕ, pos, Bool, true, false, List, [], ◌∷◌, Option, Some, None, Number as Decimal, negated, limit_of}
+use Rattle.std.specs.Prelude.{ℕ, pos, Bool, true, false, List, [], ◌∷◌, Option, Some, None}
+use Rattle.mpslp_types.specs.Basics.{Number as Decimal, negated, limit_of}
 use Rattle.mpslp_types.specs.declared.{faults.FaultKind.TheVariants.BadToken, kinds.Limit.Limit, kinds.Limit.TheVariants.MinusInf, kinds.Limit.TheVariants.PlusInf}
 use Rattle.mpslp_lp_grammar.specs.Phrase.{PhraseRule, refuses, SignOf, Plus, Minus, TerminalAt, Name, Number, Sign, Colon, Compares, Infinity, Relation, AtMost, AtLeast, EqualTo, after_taking, gives, ◌>>=◌, next, Reads, Unfinished, Context}
 

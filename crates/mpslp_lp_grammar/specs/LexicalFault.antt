@@ -1,5 +1,6 @@
 -- The errors of a line on its own, whatever comes before it.
-use Rattle.mpslp_types.specs.Basics.{ℕ, List, [], ◌∷◌, ◌++◌, filter_map, Option, Some, None, is_like_exponent, least_kind}
+use Rattle.std.specs.Prelude.{ℕ, List, [], ◌∷◌, ◌++◌, filter_map, Option, Some, None}
+use Rattle.mpslp_types.specs.Basics.{is_like_exponent, least_kind}
 use Rattle.mpslp_types.specs.declared.faults.FaultKind.{FaultKind}
 use Rattle.mpslp_types.specs.declared.faults.FaultKind.TheVariants as kinds
 use Rattle.mpslp_lines.specs.FaultTests.{first_held, legal_tests, name_tests, number_fault}

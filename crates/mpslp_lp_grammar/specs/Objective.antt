@@ -1,5 +1,6 @@
 -- The objective: optionally `name :`, and any number of items, of which one may be a constant.
-use Rattle.mpslp_types.specs.Basics.{ℕ, List, [], ◌∷◌, ◌++◌, codes, Number as Decimal}
+use Rattle.std.specs.Prelude.{ℕ, List, [], ◌∷◌, ◌++◌, codes}
+use Rattle.mpslp_types.specs.Basics.{Number as Decimal}
 use Rattle.mpslp_builder.specs.Declaration.{declare_sense, declare_objective, declare_column, declare_coefficient, declare_constant, Declarations}
 use Rattle.mpslp_types.specs.declared.{kinds.Sense.Sense, faults.FaultKind.TheVariants.BadToken}
 use Rattle.mpslp_lp_grammar.specs.Phrase.{PhraseRule, Follows, refuses, declares, ◌>>=◌, next, ahead, TerminalAt, Opens, Name, Sign, Colon, Context, BeforeItems, InObjective}

@@ -1,5 +1,5 @@
 -- Where a phrase begins, and the results of the rules of the grammar: the error of a token, or what follows a phrase.
-use Rattle.mpslp_types.specs.Basics.{Bool, true, false, ◌||◌, not, if◌then◌else◌, List, [], ◌∷◌, Option, Some, None, unwrap_or}
+use Rattle.std.specs.Prelude.{Bool, true, false, ◌||◌, not, if◌then◌else◌, List, [], ◌∷◌, Option, Some, None, unwrap_or}
 use Rattle.mpslp_builder.specs.Declaration.{Declaration, Declarations, Draft, with_declarations, empty_draft}
 use Rattle.mpslp_builder.specs.Refusal.{refusals_in_turn}
 use Rattle.mpslp_types.specs.declared.faults.{BuildFault.BuildFault, Fault.Fault, FaultKind.FaultKind, FaultKind.TheVariants.SectionOrder, FaultKind.TheVariants.SectionRepeated}

@@ -1,5 +1,6 @@
 -- Rows: optionally `name :`, optionally a side and a relation, terms, a relation and a side.
-use Rattle.mpslp_types.specs.Basics.{ℕ, ◌+◌, ◌-◌, ◌^◌, min, Bool, true, if◌then◌else◌, List, [], ◌∷◌, ◌++◌, length, codes, Option, Some, None, unwrap_or, list_any, flat_map, decimal, same_bytes, limit_of}
+use Rattle.std.specs.Prelude.{ℕ, ◌+◌, ◌-◌, ◌^◌, min, Bool, true, if◌then◌else◌, List, [], ◌∷◌, ◌++◌, length, codes, Option, Some, None, unwrap_or}
+use Rattle.mpslp_types.specs.Basics.{list_any, flat_map, decimal, same_bytes, limit_of}
 use Rattle.mpslp_builder.specs.Declaration.{by_limits, declare_row, Declarations}
 use Rattle.mpslp_types.specs.declared.{kinds.Limit.Limit, kinds.Limit.TheVariants.MinusInf, kinds.Limit.TheVariants.PlusInf, faults.FaultKind.TheVariants.BadToken, faults.FaultKind.TheVariants.DuplicateEntry, faults.FaultKind.TheVariants.ConstantInRow, faults.FaultKind.TheVariants.MixedSenses}
 use Rattle.mpslp_lp_grammar.specs.PartialRow.{PartialRow}

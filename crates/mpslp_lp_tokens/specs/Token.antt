@@ -1,5 +1,6 @@
 -- The tokens of a line of LP text.
-use Rattle.mpslp_types.specs.Basics.{ℕ, zero, suc, ◌+◌, ◌-◌, ◌==◌, Bool, true, false, ◌&&◌, ◌||◌, not, List, [], ◌∷◌, length, take, zip, codes, Option, Some, None, list_all, find, before_first, option_map, is_literal, same_bytes, begins_a_number, is_letter, is_lp_symbol, is_lp_byte}
+use Rattle.std.specs.Prelude.{ℕ, zero, suc, ◌+◌, ◌-◌, ◌==◌, Bool, true, false, ◌&&◌, ◌||◌, not, List, [], ◌∷◌, length, take, zip, codes, Option, Some, None}
+use Rattle.mpslp_types.specs.Basics.{list_all, find, before_first, option_map, is_literal, same_bytes, begins_a_number, is_letter, is_lp_symbol, is_lp_byte}
 use Rattle.mpslp_lp_tokens.specs.declared.tokens.TokenKind.{TokenKind}
 use Rattle.mpslp_lp_tokens.specs.declared.tokens.TokenKind.TheVariants.{Word, Number, Less, Greater, Equal, DoubleColon, Colon, Arrow, Plus, Minus, OpenBracket, CloseBracket, Caret, Star, Period, Unknown}
 

@@ -1,5 +1,6 @@
 -- Reserved words and their meanings.
-use Rattle.mpslp_types.specs.Basics.{ℕ, List, [], ◌∷◌, ◌++◌, map, codes, find, option_map_or, same_bytes, lower_byte}
+use Rattle.std.specs.Prelude.{ℕ, List, [], ◌∷◌, ◌++◌, map, codes}
+use Rattle.mpslp_types.specs.Basics.{find, option_map_or, same_bytes, lower_byte}
 use Rattle.mpslp_lp_tokens.specs.declared.words.{Section.Section, SectionWord.SectionWord, SectionWord.TheVariants.Minimize, SectionWord.TheVariants.Maximize, SectionWord.TheVariants.Rows, SectionWord.TheVariants.Subject, SectionWord.TheVariants.Such, SectionWord.TheVariants.Bounds, SectionWord.TheVariants.Generals, SectionWord.TheVariants.Binaries, SectionWord.TheVariants.Semi, SectionWord.TheVariants.Semis, SectionWord.TheVariants.End, WordClass.WordClass, WordClass.TheVariants.Opens, WordClass.TheVariants.Infinity, WordClass.TheVariants.Free, WordClass.TheVariants.Sos, WordClass.TheVariants.Name}
 use Rattle.mpslp_lp_tokens.specs.declared.words.Section.TheVariants as sections
 

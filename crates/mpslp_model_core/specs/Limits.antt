@@ -1,5 +1,6 @@
 -- The limits of a row, and the type and bounds of a column, from what is declared of them.
-use Rattle.mpslp_types.specs.Basics.{Bool, true, false, ◌&&◌, ◌||◌, not, if◌then◌else◌, Option, Some, None, is_some, is_none, unwrap_or, Number, is_negative, is_infinite_size, size_of, sum_of, difference_of, one_number, limit_of, is_plus_infinite, is_minus_infinite, zero_limit, is_at_most}
+use Rattle.std.specs.Prelude.{Bool, true, false, ◌&&◌, ◌||◌, not, if◌then◌else◌, Option, Some, None, is_some, is_none, unwrap_or}
+use Rattle.mpslp_types.specs.Basics.{Number, is_negative, is_infinite_size, size_of, sum_of, difference_of, one_number, limit_of, is_plus_infinite, is_minus_infinite, zero_limit, is_at_most}
 use Rattle.mpslp_model_core.specs.Model.{Row, Column}
 use Rattle.mpslp_types.specs.declared.kinds.{Limit.Limit, Limit.TheVariants.MinusInf, Limit.TheVariants.Finite, Limit.TheVariants.PlusInf, RowType.RowType, RowType.TheVariants.Free, RowType.TheVariants.AtMost, RowType.TheVariants.AtLeast, RowType.TheVariants.Equal, Kind.Kind, Kind.TheVariants.Continuous, Kind.TheVariants.Integer, Kind.TheVariants.Semi}
 use Rattle.mpslp_model_core.specs.declared.bounds.DeclaredColumn.{DeclaredColumn}

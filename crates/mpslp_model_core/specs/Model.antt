@@ -1,5 +1,6 @@
 -- Models as values, and as lists of their parts.
-use Rattle.mpslp_types.specs.Basics.{◌≡◌, ◌<◌, ℕ, Bool, true, false, ◌&&◌, not, IsTrue, List, ◌∷◌, length, list_all, ordering_then, Ordering, FinMap, entries, keys, Number, IsDecimal, is_decimal, is_zero, IsMpsName, bytes_cmp, is_mps_name, is_one_of, are_sides, are_semi_bounds, has_bounded_distance}
+use Rattle.std.specs.Prelude.{◌≡◌, ◌<◌, ℕ, Bool, true, false, ◌&&◌, not, IsTrue, List, ◌∷◌, length}
+use Rattle.mpslp_types.specs.Basics.{list_all, ordering_then, Ordering, FinMap, entries, keys, Number, IsDecimal, is_decimal, is_zero, IsMpsName, bytes_cmp, is_mps_name, is_one_of, are_sides, are_semi_bounds, has_bounded_distance}
 use Rattle.mpslp_types.specs.declared.kinds.{Sense.Sense, Kind.Kind, Kind.TheVariants.Continuous, Kind.TheVariants.Integer, Kind.TheVariants.Semi, Limit.Limit}
 
 -- the place of a coefficient: a row, or the objective, and a column

@@ -1,5 +1,6 @@
 -- What the lines before a line mean for it: each part is defined directly by the list of these lines.
-use Rattle.mpslp_types.specs.Basics.{ℕ, Bool, true, false, if◌then◌else◌, List, [], ◌∷◌, ◌++◌, filter, filter_map, Option, None, last_or, cons_option, option_map_or, option_map, option_or, head_of, when, same_bytes}
+use Rattle.std.specs.Prelude.{ℕ, Bool, true, false, if◌then◌else◌, List, [], ◌∷◌, ◌++◌, filter, filter_map, Option, None}
+use Rattle.mpslp_types.specs.Basics.{last_or, cons_option, option_map_or, option_map, option_or, head_of, when, same_bytes}
 use Rattle.mpslp_mps_fields.specs.Line.{Fields, LineContent, skipped, header, data_line, section_named, section_of_header, is_section, section_of_word_due}
 use Rattle.mpslp_mps_fields.specs.DataLine.{word_shape, column_shape, is_marker_line, marker_shape, opening_word, vector_shape, bound_type, bound_shape}
 use Rattle.mpslp_mps_fields.specs.declared.sections.Section.{Section, TheVariants.ObjName, TheVariants.Columns, TheVariants.Rhs, TheVariants.Ranges, TheVariants.Bounds}

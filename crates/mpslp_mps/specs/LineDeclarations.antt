@@ -1,5 +1,6 @@
 -- What each line of MPS text declares. A line of a wrong shape declares nothing.
-use Rattle.mpslp_types.specs.Basics.{ℕ, Bool, true, ◌&&◌, if◌then◌else◌, List, [], ◌∷◌, ◌++◌, map, codes, Option, Some, None, is_none, flat_map, option_map_or, when, same_bytes, limit_of, zero_limit}
+use Rattle.std.specs.Prelude.{ℕ, Bool, true, ◌&&◌, if◌then◌else◌, List, [], ◌∷◌, ◌++◌, map, codes, Option, Some, None, is_none}
+use Rattle.mpslp_types.specs.Basics.{flat_map, option_map_or, when, same_bytes, limit_of, zero_limit}
 use Rattle.mpslp_builder.specs.Declaration.{by_type, declare_sense, declare_objective, declare_row, declare_range, declare_column, declare_coefficient, declare_marked, declare_integer, declare_semi, Declarations, Draft, rhs_declared, bounds_declared}
 use Rattle.mpslp_model_core.specs.Limits.{one_limit}
 use Rattle.mpslp_types.specs.declared.kinds.{RowType.RowType, RowType.TheVariants.Free, Limit.Limit, Limit.TheVariants.MinusInf, Limit.TheVariants.PlusInf}

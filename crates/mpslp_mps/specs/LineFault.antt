@@ -1,5 +1,6 @@
 -- The errors of the form of a line of MPS text, after the lines before it, as tests in the order of their kinds.
-use Rattle.mpslp_types.specs.Basics.{ℕ, Bool, true, false, ◌&&◌, ◌||◌, not, if◌then◌else◌, List, [], ◌∷◌, ◌++◌, map, codes, Option, Some, None, is_some, is_none, option_map_or, is_one_of, same_bytes}
+use Rattle.std.specs.Prelude.{ℕ, Bool, true, false, ◌&&◌, ◌||◌, not, if◌then◌else◌, List, [], ◌∷◌, ◌++◌, map, codes, Option, Some, None, is_some, is_none}
+use Rattle.mpslp_types.specs.Basics.{option_map_or, is_one_of, same_bytes}
 use Rattle.mpslp_builder.specs.Declaration.{Draft, has_column}
 pub use Rattle.mpslp_lines.specs.FaultTests.{judged_by, legal_tests, name_tests, number_tests, FaultTests}
 use Rattle.mpslp_mps_fields.specs.Line.{LineContent, skipped, header, data_line, outside_comment, content_of, Fields, section_named, has, unknown_section, may_follow}

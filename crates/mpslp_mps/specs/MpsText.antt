@@ -1,5 +1,6 @@
 -- What MPS text declares.
-use Rattle.mpslp_types.specs.Basics.{ℕ, suc, Bool, ◌&&◌, not, IsTrue, List, [], ◌∷◌, ◌++◌, take, list_all, list_any, flat_map, position_or_len, lines, is_nonempty, those_of}
+use Rattle.std.specs.Prelude.{ℕ, suc, Bool, ◌&&◌, not, IsTrue, List, [], ◌∷◌, ◌++◌, take}
+use Rattle.mpslp_types.specs.Basics.{list_all, list_any, flat_map, position_or_len, lines, is_nonempty, those_of}
 use Rattle.mpslp_builder.specs.Meaning.{Means, LinearModel, Declarations, Draft, empty_draft, with_declarations}
 use Rattle.mpslp_mps_fields.specs.Line.{LineContent, content_of, begins}
 use Rattle.mpslp_mps.specs.Context.{Context, context_of}

@@ -1,5 +1,6 @@
 -- The shapes of data lines: which fields they have. A line of another shape has a wrong number of fields.
-use Rattle.mpslp_types.specs.Basics.{ℕ, Bool, true, false, if◌then◌else◌, List, [], ◌∷◌, codes, Option, Some, None, find, is_one_of, same_bytes, marker}
+use Rattle.std.specs.Prelude.{ℕ, Bool, true, false, if◌then◌else◌, List, [], ◌∷◌, codes, Option, Some, None}
+use Rattle.mpslp_types.specs.Basics.{find, is_one_of, same_bytes, marker}
 use Rattle.mpslp_types.specs.declared.kinds.{Sense.Sense, Sense.TheVariants.Minimize, Sense.TheVariants.Maximize, RowType.RowType}
 use Rattle.mpslp_mps_fields.specs.Line.{Fields}
 use Rattle.mpslp_types.specs.declared.kinds.RowType.TheVariants as types

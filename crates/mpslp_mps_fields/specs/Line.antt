@@ -1,5 +1,6 @@
 -- Lines of MPS text: their fields, and the headers of sections.
-use Rattle.mpslp_types.specs.Basics.{ℕ, nat_lt, ◌==◌, Bool, true, false, ◌||◌, not, if◌then◌else◌, List, [], ◌∷◌, length, filter, codes, Option, Some, None, list_all, list_any, slice_split, find, is_nonempty, is_one_of, same_bytes}
+use Rattle.std.specs.Prelude.{ℕ, nat_lt, ◌==◌, Bool, true, false, ◌||◌, not, if◌then◌else◌, List, [], ◌∷◌, length, filter, codes, Option, Some, None}
+use Rattle.mpslp_types.specs.Basics.{list_all, list_any, slice_split, find, is_nonempty, is_one_of, same_bytes}
 use Rattle.mpslp_mps_fields.specs.declared.sections.Section.{Section, TheVariants.Name, TheVariants.ObjSense, TheVariants.ObjName, TheVariants.Rows, TheVariants.Columns, TheVariants.Rhs, TheVariants.Ranges, TheVariants.Bounds, TheVariants.EndData}
 use Rattle.mpslp_types.specs.declared.faults.FaultKind.{FaultKind, TheVariants.Quadratic, TheVariants.Sos, TheVariants.Indicator, TheVariants.UnknownSection}
 

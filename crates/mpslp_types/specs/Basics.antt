@@ -1,5 +1,5 @@
 -- What all definitions are written in: the standard library, lists, numbers, names, limits and the order of errors.
-pub use Rattle.std.specs.Prelude.{◌≡◌, ◌↔◌, ◌<◌, ℕ, zero, suc, ◌+◌, ◌-◌, ◌^◌, min, nat_lt, nat_le, ◌==◌, pos, negsuc, Bool, true, false, ◌&&◌, ◌||◌, not, if◌then◌else◌, IsTrue, List, [], ◌∷◌, ◌++◌, length, map, filter, filter_map, take, drop, zip, replicate, position, codes, Option, Some, None, is_some, is_none, unwrap_or, Result, Ok, Err}
+pub use Rattle.std.specs.Prelude.{ℕ, List, map, Option}
 pub use Rattle.std.specs.List.{list_all, list_any, slice_split, find, last_or, cons_option, flat_map, position_or_len, before_first, enumerate_from, join_by}
 pub use Rattle.std.specs.Option.{option_map_or, option_map, option_or}
 pub use Rattle.std.specs.Result.{result_unwrap_or}
