@@ -95,8 +95,7 @@ use Rattle.mpslp_builder.specs.Declaration.{{Draft, draft_of}}
 use Rattle.mpslp_builder.specs.Meaning.{{model_of}}
 use Rattle.mpslp_builder.proofs.Acceptance.{{means-from_none}}
 use Rattle.{module}.{{declarations_of, {declares}}}
-use Rattle.mpslp_canonical_mps.specs.Printed.{{text_of}}
-use Rattle.mpslp_canonical_mps.specs.CanonicalMps.{{listed_lines, canonical_mps}}
+use Rattle.mpslp_canonical_mps.specs.CanonicalMps.{{text_of, listed_lines, canonical_mps}}
 use Rattle.mpslp_canonical_mps.proofs.DraftText.{{listing_in, is_in_order, listing_of-model}}
 use Rattle.own_file.specs.File.{{bytes, claimed_text, Claim}}
 

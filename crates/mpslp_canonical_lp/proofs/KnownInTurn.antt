@@ -17,7 +17,7 @@ use Rattle.mpslp_builder.proofs.SlotLemmas.{has-put}
 use Rattle.mpslp_builder.proofs.LaterDrafts.{itself_named}
 use Rattle.mpslp_builder.proofs.RefusalLemmas.{are_known_in_turn}
 use Rattle.mpslp_lp_grammar.specs.Items.{Limits, limits_by}
-use Rattle.mpslp_lp_grammar.specs.Bounds.{no_limits}
+use Rattle.mpslp_lp_grammar.specs.Grammar.{no_limits}
 use Rattle.mpslp_lp_grammar.specs.declared.relations.Relation.TheVariants.{AtLeast, EqualTo}
 use Rattle.mpslp_canonical_lp.specs.CanonicalLp.{Term, row_terms, objective_terms, is_integer_column, is_semi_column}
 use Rattle.mpslp_canonical_lp.proofs.PhraseLemmas.{column_and}

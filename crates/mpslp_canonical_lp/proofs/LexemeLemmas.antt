@@ -10,9 +10,8 @@ use Rattle.mpslp_decimal.specs.NumberText.{scaled_text, number_text}
 use Rattle.std.specs.Fmt.{decimal}
 use Rattle.mpslp_types.specs.Name.{begins_a_number}
 use Rattle.mpslp_decimal.proofs.CutLemmas.{Each}
-use Rattle.mpslp_lp_tokens.specs.Token.{begins_word, continues_word, is_word, tokens}
-use Rattle.mpslp_lp_tokens.specs.Words.{class_of}
-use Rattle.mpslp_lp_grammar.specs.LexicalFault.{token_fault}
+use Rattle.mpslp_lp_tokens.specs.Token.{begins_word, continues_word, is_word, tokens, class_of}
+use Rattle.mpslp_lp_grammar.specs.Terminal.{token_fault}
 use Rattle.mpslp_lp_grammar.specs.declared.relations.Relation.{Relation}
 use Rattle.mpslp_lp_grammar.specs.declared.relations.Relation.TheVariants.{AtMost, AtLeast, EqualTo}
 use Rattle.mpslp_lp_tokens.specs.declared.tokens.TokenKind.TheVariants as kinds

@@ -22,8 +22,7 @@ use Rattle.mpslp_decimal.proofs.CutLemmas.{Each-append}
 use Rattle.mpslp_lp.specs.Laws.{has_legal_bytes}
 use Rattle.mpslp_lp_tokens.specs.Token.{begins_comment, begins_word, continues_word, is_word, Token, tokens}
 use Rattle.mpslp_lines.specs.FaultTests.{is_legal_byte, has_legal_length, first_held, number_fault}
-use Rattle.mpslp_lp_grammar.specs.Terminal.{TerminalAt, terminal_of, line_terminals}
-use Rattle.mpslp_lp_grammar.specs.LexicalFault.{token_fault, lexical_fault}
+use Rattle.mpslp_lp_grammar.specs.Terminal.{TerminalAt, terminal_of, line_terminals, token_fault, lexical_fault}
 use Rattle.mpslp_lines.specs.declared.legal_line.TheConstants.{MAX_LINE_LEN}
 use Rattle.mpslp_lp_grammar.specs.declared.relations.Relation.TheVariants.{AtMost, AtLeast, EqualTo}
 use Rattle.mpslp_lp_tokens.specs.declared.tokens.TokenKind.TheVariants as kinds

@@ -15,8 +15,7 @@ use Rattle.mpslp_builder.proofs.CoefficientLemmas.{flat_map-flat_map, flat_map-n
 use Rattle.mpslp_builder.proofs.FlatLemmas.{flat-same}
 use Rattle.mpslp_builder.proofs.NamedEntries.{named}
 use Rattle.mpslp_lp_grammar.specs.Items.{Limits}
-use Rattle.mpslp_lp_grammar.specs.Rows.{row_limits}
-use Rattle.mpslp_lp_grammar.specs.Objective.{term_declared, objective_declared}
+use Rattle.mpslp_lp_grammar.specs.Rows.{row_limits, term_declared, objective_declared}
 use Rattle.mpslp_canonical_lp.specs.CanonicalLp.{Term, objective_terms, row_terms, is_integer_column, is_semi_column}
 use Rattle.mpslp_canonical_lp.proofs.ObjectiveWalk.{terms_declared, constant_declared, objective_made}
 use Rattle.mpslp_canonical_lp.proofs.TailWalk.{general_made, semi_made}

@@ -17,7 +17,7 @@ use Rattle.mpslp_builder.proofs.DraftLemmas.{rhs_values-all}
 use Rattle.mpslp_builder.proofs.KeptParts.{Stays, stays-all}
 use Rattle.mpslp_builder.proofs.MadeDrafts.{with_declarations-append}
 use Rattle.mpslp_lp_grammar.specs.Items.{limits_by}
-use Rattle.mpslp_lp_grammar.specs.Objective.{term_declared, objective_declared}
+use Rattle.mpslp_lp_grammar.specs.Rows.{term_declared, objective_declared}
 use Rattle.mpslp_lp_grammar.specs.declared.relations.Relation.TheVariants.{AtLeast, EqualTo}
 use Rattle.mpslp_canonical_lp.specs.CanonicalLp.{Term, objective_terms, row_terms, is_integer_column, is_semi_column}
 use Rattle.mpslp_canonical_lp.proofs.PhraseLemmas.{column_and}

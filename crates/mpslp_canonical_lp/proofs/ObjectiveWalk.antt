@@ -18,7 +18,7 @@ use Rattle.mpslp_lp_grammar.specs.declared.states.Place.{Place}
 use Rattle.mpslp_lp_grammar.specs.declared.states.Place.TheVariants.{AtStart, BeforeItems, InObjective, BetweenRows}
 use Rattle.mpslp_lp_grammar.specs.Items.{apply_sign}
 use Rattle.mpslp_lp_grammar.specs.Grammar.{may_begin_section}
-use Rattle.mpslp_lp_grammar.specs.Objective.{term_declared, objective_declared}
+use Rattle.mpslp_lp_grammar.specs.Rows.{term_declared, objective_declared}
 use Rattle.mpslp_lp_tokens.specs.declared.words.Section.TheVariants as sections
 use Rattle.mpslp_lp_tokens.specs.declared.words.SectionWord.TheVariants as section_words
 use Rattle.mpslp_canonical_lp.specs.Printed.{PrintedLine}

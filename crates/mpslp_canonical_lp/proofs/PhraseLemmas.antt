@@ -19,7 +19,7 @@ use Rattle.mpslp_lp_grammar.specs.declared.signs.Sign.{Sign as SignOf}
 use Rattle.mpslp_lp_grammar.specs.declared.signs.Sign.TheVariants.{Minus}
 use Rattle.mpslp_lp_grammar.specs.Terminal.{TerminalAt}
 use Rattle.mpslp_lp_grammar.specs.Terminal.Terminal.{Opens, Name, Number, Sign, Compares, Colon, Infinity, Free}
-use Rattle.mpslp_lp_tokens.specs.Words.{section_of}
+use Rattle.mpslp_lp_tokens.specs.Token.{section_of}
 use Rattle.mpslp_lp_grammar.specs.Rules.{Parsed, after_taking, ◌>>=◌, Outcome, phrases, made_by}
 use Rattle.mpslp_lp_grammar.specs.Rules.Parsed.{Reads, Refuses, Unfinished}
 use Rattle.mpslp_lp_grammar.specs.Rules.AfterPhrase.{Goes, Ends}
@@ -31,10 +31,8 @@ use Rattle.mpslp_lp_grammar.specs.PartialRow.{PartialRow}
 use Rattle.mpslp_lp_grammar.specs.declared.states.Place.{Place}
 use Rattle.mpslp_lp_grammar.specs.declared.states.Place.TheVariants.{BeforeItems, InObjective, BetweenRows, InRow, InBounds, InGenerals, InSemis}
 use Rattle.mpslp_lp_grammar.specs.Items.{apply_sign, side, Limits, limits_by, flip}
-use Rattle.mpslp_lp_grammar.specs.Objective.{term_declared, objective_declared}
-use Rattle.mpslp_lp_grammar.specs.Rows.{fits_left, row_limits, row_declared, row_whole}
-use Rattle.mpslp_lp_grammar.specs.Bounds.{no_limits}
-use Rattle.mpslp_lp_grammar.specs.Grammar.{section_start, section_from, may_begin_section, phrase_at}
+use Rattle.mpslp_lp_grammar.specs.Rows.{term_declared, objective_declared, fits_left, row_limits, row_declared, row_whole}
+use Rattle.mpslp_lp_grammar.specs.Grammar.{no_limits, section_start, section_from, may_begin_section, phrase_at}
 use Rattle.mpslp_lp_grammar.specs.declared.relations.Relation.{Relation}
 use Rattle.mpslp_lp_grammar.specs.declared.relations.Relation.TheVariants.{AtMost}
 use Rattle.mpslp_lp_tokens.specs.declared.words.Section.TheVariants as sections

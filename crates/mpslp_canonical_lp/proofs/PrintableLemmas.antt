@@ -26,7 +26,7 @@ use Rattle.mpslp_decimal.proofs.CutLemmas.{Each-weaker}
 use Rattle.mpslp_decimal.proofs.CutLemmas.{Each-append}
 use Rattle.mpslp_lp_tokens.specs.Token.{is_word}
 use Rattle.mpslp_lines.specs.FaultTests.{first_held}
-use Rattle.mpslp_lp_grammar.specs.LexicalFault.{name_fault, word_fault, token_fault}
+use Rattle.mpslp_lp_grammar.specs.Terminal.{name_fault, word_fault, token_fault}
 use Rattle.mpslp_lp_grammar.specs.declared.relations.Relation.{Relation}
 use Rattle.mpslp_lp_grammar.specs.declared.relations.Relation.TheVariants.{AtMost, AtLeast, EqualTo}
 use Rattle.mpslp_lp_tokens.specs.declared.tokens.TokenKind.TheVariants as kinds

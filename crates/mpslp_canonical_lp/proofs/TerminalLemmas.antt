@@ -9,7 +9,7 @@ use Rattle.mpslp_decimal.specs.NumberText.{number_text}
 use Rattle.mpslp_decimal.specs.Literal.{to_signed as literal_sign}
 use Rattle.mpslp_decimal.proofs.NumberTextLemmas.{number-text, signed-size}
 use Rattle.mpslp_decimal.proofs.CutLemmas.{Each}
-use Rattle.mpslp_lp_tokens.specs.Words.{class_of}
+use Rattle.mpslp_lp_tokens.specs.Token.{class_of}
 use Rattle.mpslp_lp_grammar.specs.declared.signs.Sign.{Sign as SignOf}
 use Rattle.mpslp_lp_grammar.specs.declared.signs.Sign.TheVariants.{Plus, Minus}
 use Rattle.mpslp_lp_grammar.specs.Terminal.{Terminal, TerminalAt, word_terminal}

@@ -7,8 +7,7 @@ use Rattle.std.proofs.lemmas.Bool.Decides.{nat_tests}
 use Rattle.mpslp_types.specs.declared.faults.FaultKind.{FaultKind}
 use Rattle.mpslp_types.proofs.BoolLemmas.{both_so}
 use Rattle.mpslp_decimal.proofs.CutLemmas.{Each}
-use Rattle.mpslp_lp_grammar.specs.Terminal.{TerminalAt, line_terminals}
-use Rattle.mpslp_lp_grammar.specs.LexicalFault.{lexical_fault}
+use Rattle.mpslp_lp_grammar.specs.Terminal.{TerminalAt, line_terminals, lexical_fault}
 use Rattle.mpslp_lp.specs.LpText.{sound_terminals}
 use Rattle.mpslp_lines.proofs.WrittenLineLemmas.{IsPlain, lines-with_line_feeds}
 use Rattle.mpslp_canonical_lp.specs.Printed.{PrintedLine, line_text, text_of}

@@ -4,7 +4,7 @@ use Rattle.std.specs.List.{list_all}
 use Rattle.std.specs.Str.Lines.{lines}
 use Rattle.mpslp_model_core.specs.Model.{LinearModel, IsSound}
 use Rattle.mpslp_lp_tokens.specs.Token.{Token, tokens}
-use Rattle.mpslp_lp_grammar.specs.LexicalFault.{lexical_fault}
+use Rattle.mpslp_lp_grammar.specs.Terminal.{lexical_fault}
 use Rattle.mpslp_lp.specs.LpText.{DeclaresLp}
 use Rattle.mpslp_canonical_lp.specs.PrintedDeclarations.{SeenToken, line_tokens}
 use Rattle.mpslp_canonical_lp.specs.Printed.{line_text}

@@ -12,8 +12,7 @@ use Rattle.mpslp_types.proofs.BoolLemmas.{T_from}
 use Rattle.mpslp_types.specs.declared.kinds.Sense.TheVariants.{Minimize}
 use Rattle.mpslp_mps.specs.MpsText.{DeclaresMps}
 use Rattle.mpslp_mps.proofs.WorkedFiles.{draft_in, Passes, declares-from_passes}
-use Rattle.mpslp_canonical_mps.specs.Printed.{text_of}
-use Rattle.mpslp_canonical_mps.specs.CanonicalMps.{listed_lines, canonical_mps}
+use Rattle.mpslp_canonical_mps.specs.CanonicalMps.{text_of, listed_lines, canonical_mps}
 
 -- the bytes declare a model whose canonical text is this
 pub record IsPrinted (bytes output : List ℕ) : Type 0 where

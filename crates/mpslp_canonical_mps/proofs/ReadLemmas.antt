@@ -14,10 +14,9 @@ use Rattle.mpslp_mps_fields.specs.DataLine.{closing_word}
 use Rattle.mpslp_mps.specs.MpsText.{is_end}
 use Rattle.mpslp_mps_fields.specs.declared.sections.Section.{Section}
 use Rattle.mpslp_mps_fields.specs.declared.sections.Section.TheVariants.{Name, Rhs, Ranges, Bounds, EndData}
-use Rattle.mpslp_canonical_mps.specs.Printed.{PrintedLine, line_text}
+use Rattle.mpslp_canonical_mps.specs.CanonicalMps.{PrintedLine, line_text, Lines, header_line, under_header, sense_lines, row_line, rows_section, coefficient_line, column_coefficients, printed_coefficients, column_lines, is_integer_column, is_plain_column, marker_line, integer_part, columns_section, vector_line, rhs_lines, row_rhs_lines, rhs_section, range_lines, ranges_section, bound_line, column_bound_lines, bounds_section, listed_lines, canonical_lines, canonical_mps}
 use Rattle.mpslp_canonical_mps.specs.PrintedDeclarations.{content_in}
 use Rattle.mpslp_canonical_mps.specs.PrintedValues.{printed_rhs, printed_range, printed_bounds}
-use Rattle.mpslp_canonical_mps.specs.CanonicalMps.{Lines, header_line, under_header, sense_lines, row_line, rows_section, coefficient_line, column_coefficients, printed_coefficients, column_lines, is_integer_column, is_plain_column, marker_line, integer_part, columns_section, vector_line, rhs_lines, row_rhs_lines, rhs_section, range_lines, ranges_section, bound_line, column_bound_lines, bounds_section, listed_lines, canonical_lines, canonical_mps}
 use Rattle.mpslp_canonical_mps.specs.Laws.{AreReadAsPrinted}
 use Rattle.mpslp_canonical_mps.proofs.TextLemmas.{IsPrintable, item-line_text, items-line_text, legal-lines, lines-text}
 use Rattle.mpslp_canonical_mps.proofs.PrintableLemmas.{canonical-printable}

@@ -14,7 +14,7 @@ use Rattle.mpslp_mps.specs.LegalLine.{is_legal_line}
 use Rattle.mpslp_lines.specs.FaultTests.{is_legal_byte, has_legal_length}
 use Rattle.mpslp_lines.specs.declared.legal_line.TheConstants.{MAX_LINE_LEN}
 use Rattle.mpslp_lines.proofs.WrittenLineLemmas.{IsPlain, lines-with_line_feeds}
-use Rattle.mpslp_canonical_mps.specs.Printed.{PrintedLine, heading, short_line, long_line, fields_text, line_text, text_of}
+use Rattle.mpslp_canonical_mps.specs.CanonicalMps.{PrintedLine, heading, short_line, long_line, fields_text, line_text, text_of}
 use Rattle.mpslp_canonical_mps.specs.PrintedDeclarations.{content_in}
 
 -- ---- fields

@@ -1,14 +1,33 @@
--- The canonical MPS text of a model.
+-- The canonical MPS text of a model, and how its lines are printed.
 use Rattle.std.specs.Prelude.{ℕ, Bool, not, if◌then◌else◌, List, [], ◌∷◌, ◌++◌, map, filter, filter_map, codes, Option}
-use Rattle.mpslp_types.specs.Basics.{flat_map, option_map_or, option_map, find_entry as find, Number, is_zero, zero_number, negated, marker}
+use Rattle.mpslp_types.specs.Basics.{flat_map, join_by, option_map_or, option_map, find_entry as find, with_line_feeds, Number, is_zero, zero_number, negated, marker}
 use Rattle.mpslp_decimal.specs.NumberText.{number_text}
 use Rattle.mpslp_model_core.specs.Model.{LinearModel, Row, Column, CoefficientKey, key_cmp, is_integer_column as has_integer_kind, Listing, listing_of}
 use Rattle.mpslp_types.specs.declared.kinds.{Sense.Sense, Sense.TheVariants.Minimize, Sense.TheVariants.Maximize, RowType.TheVariants.Free}
-use Rattle.mpslp_mps_fields.specs.Line.{keyword_of}
+use Rattle.mpslp_mps_fields.specs.Line.{keyword_of, Fields}
 use Rattle.mpslp_mps_fields.specs.DataLine.{letter_of, opening_word, closing_word, letters_of}
 use Rattle.mpslp_mps_fields.specs.declared.sections.Section.{Section, TheVariants.Name, TheVariants.ObjSense, TheVariants.Rows, TheVariants.Columns, TheVariants.Rhs, TheVariants.Ranges, TheVariants.Bounds, TheVariants.EndData}
-use Rattle.mpslp_canonical_mps.specs.Printed.{PrintedLine, heading, short_line, long_line, text_of}
 use Rattle.mpslp_canonical_mps.specs.PrintedValues.{printed_type, printed_rhs, printed_range, PrintedBound, printed_bounds}
+
+-- ---- lines: their fields, and how they are printed
+
+-- a header; a data line after one space; a data line after four spaces
+pub data PrintedLine : Type 0 where
+  heading : List ℕ → PrintedLine
+  short_line : Fields → PrintedLine
+  long_line : Fields → PrintedLine
+
+-- two spaces between the fields
+abbrev pub fields_text : Fields → List ℕ
+fields_text fields = join_by (λ field. field) (codes "  ") fields
+
+abbrev pub line_text : PrintedLine → List ℕ
+line_text (heading keyword) = keyword
+line_text (short_line fields) = codes " " ++ fields_text fields
+line_text (long_line fields) = codes "    " ++ fields_text fields
+
+abbrev pub text_of : List PrintedLine → List ℕ
+text_of lines = with_line_feeds (map line_text lines)
 
 abbrev pub Lines : Type 0
 Lines = List PrintedLine

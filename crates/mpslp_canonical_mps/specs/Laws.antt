@@ -5,9 +5,8 @@ use Rattle.mpslp_model_core.specs.Model.{LinearModel, IsSound}
 use Rattle.mpslp_mps_fields.specs.Line.{content_of}
 use Rattle.mpslp_mps.specs.LegalLine.{is_legal_line}
 use Rattle.mpslp_mps.specs.MpsText.{read_lines, has_end, DeclaresMps}
-use Rattle.mpslp_canonical_mps.specs.Printed.{line_text}
+use Rattle.mpslp_canonical_mps.specs.CanonicalMps.{line_text, canonical_lines, canonical_mps}
 use Rattle.mpslp_canonical_mps.specs.PrintedDeclarations.{content_in}
-use Rattle.mpslp_canonical_mps.specs.CanonicalMps.{canonical_lines, canonical_mps}
 
 -- The canonical text of a model consists of the lines that were printed, within the limits of lines; each is read as the
 -- fields from which it was printed; and the last is ENDATA.

@@ -1,4 +1,3 @@
-pub mod Printed
 pub mod PrintedValues
 pub mod CanonicalMps
 pub mod PrintedDeclarations

@@ -18,9 +18,8 @@ use Rattle.mpslp_mps.specs.LineFault.{item_tests, is_out_of_order, is_split}
 use Rattle.mpslp_mps_fields.specs.declared.bound_types.BoundType.TheVariants as bounds
 use Rattle.mpslp_mps_fields.specs.declared.sections.Section.{Section}
 use Rattle.mpslp_mps_fields.specs.declared.sections.Section.TheVariants.{ObjSense, Rows, Columns, Rhs, Ranges, Bounds}
-use Rattle.mpslp_canonical_mps.specs.Printed.{PrintedLine, heading, short_line, long_line}
+use Rattle.mpslp_canonical_mps.specs.CanonicalMps.{PrintedLine, heading, short_line, long_line, header_line, maximize_line, objective_line, row_line, coefficient_line, marker_line, rhs_line, range_line, bound_line}
 use Rattle.mpslp_canonical_mps.specs.PrintedValues.{printed_type, bound_without_value, bound_with_value}
-use Rattle.mpslp_canonical_mps.specs.CanonicalMps.{header_line, maximize_line, objective_line, row_line, coefficient_line, marker_line, rhs_line, range_line, bound_line}
 
 -- The line declares these, and its form has no error.
 pub record IsDerived (context : Context) (earlier : Draft) (line : PrintedLine) (declarations : Declarations) : Type 0 where

@@ -19,7 +19,7 @@ use Rattle.mpslp_lp_grammar.specs.TerminalToken.{as_terminal, terminals}
 use Rattle.mpslp_lp_grammar.specs.Terminal.Terminal.{Other}
 use Rattle.mpslp_lp_grammar.specs.AfterToken.{AfterToken, with_made, take_after_declarations, Goes, Refuses}
 use Rattle.mpslp_lp_grammar.specs.FirstToken.{begin}
-use Rattle.mpslp_lp_grammar.specs.Objective.{objective_declared, first_item_declared, default_objective}
+use Rattle.mpslp_lp_grammar.specs.Rows.{objective_declared, first_item_declared, default_objective}
 use Rattle.mpslp_lp_grammar.specs.Items.{apply_sign}
 use Rattle.mpslp_lp_grammar.specs.TokenStep.{begin_after, take_lone, take}
 use Rattle.mpslp_lp_grammar.specs.Declares.{TakesToken}

@@ -19,7 +19,7 @@ use Rattle.mpslp_lp_grammar.specs.Rules.Outcome.{Finished, Open}
 use Rattle.mpslp_lp_tokens.specs.Token.{outside_comment, tokens}
 use Rattle.mpslp_lp_grammar.specs.TerminalToken.{terminals}
 use Rattle.mpslp_lp_grammar.specs.Phrase.{start}
-use Rattle.mpslp_lp_grammar.specs.LexicalFault.{lexical_fault}
+use Rattle.mpslp_lp_grammar.specs.Terminal.{lexical_fault}
 use Rattle.mpslp_lp_grammar.specs.AfterToken.{AfterToken, Goes, Refuses}
 use Rattle.mpslp_lp.specs.LineByLine.{take_all, token_faults, take_line, read_from}
 use Rattle.mpslp_lp_grammar.specs.TokenStep.{is_at_end}

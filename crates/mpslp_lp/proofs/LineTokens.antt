@@ -9,7 +9,7 @@ use Rattle.mpslp_lines.specs.declared.errors.LineError.TheVariants.{Fault, OutOf
 use Rattle.mpslp_lines.proofs.LeastLemmas.{least-append}
 use Rattle.mpslp_lp_tokens.specs.Token.{Token}
 use Rattle.mpslp_lp_grammar.specs.TerminalToken.{as_terminal}
-use Rattle.mpslp_lp_grammar.specs.LexicalFault.{token_fault}
+use Rattle.mpslp_lp_grammar.specs.Terminal.{token_fault}
 use Rattle.mpslp_lp_grammar.specs.declared.context.Context.{Context}
 use Rattle.mpslp_lp_grammar.specs.declared.states.State.{State}
 use Rattle.mpslp_lp_grammar.specs.AfterToken.{AfterToken, Goes, Refuses}

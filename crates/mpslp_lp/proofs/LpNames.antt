@@ -7,11 +7,10 @@ use Rattle.mpslp_types.specs.Name.{same_bytes, has_name_length, is_visible, mark
 use Rattle.mpslp_types.specs.declared.faults.FaultKind.TheVariants as faults
 use Rattle.mpslp_types.proofs.BoolLemmas.{both_so}
 use Rattle.mpslp_lines.specs.FaultTests.{first_held}
-use Rattle.mpslp_lp_tokens.specs.Token.{is_word}
-use Rattle.mpslp_lp_tokens.specs.Words.{class_of}
+use Rattle.mpslp_lp_tokens.specs.Token.{is_word, class_of}
 use Rattle.mpslp_lp_tokens.specs.declared.words.WordClass.TheVariants as meanings
 use Rattle.mpslp_lp_tokens.proofs.NameTokens.{word-text, name-not_reserved}
-use Rattle.mpslp_lp_grammar.specs.LexicalFault.{name_fault}
+use Rattle.mpslp_lp_grammar.specs.Terminal.{name_fault}
 
 -- ---- what a name without a fault is
 

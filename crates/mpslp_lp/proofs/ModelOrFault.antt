@@ -19,7 +19,7 @@ use Rattle.mpslp_lp_grammar.specs.Rules.Outcome.{Finished, Refused, Open}
 use Rattle.mpslp_lp_grammar.specs.Phrase.{start}
 use Rattle.mpslp_lines.specs.FaultTests.{fault_on_line}
 use Rattle.mpslp_lp_grammar.specs.Grammar.{text_says, text_declares}
-use Rattle.mpslp_lp_grammar.specs.LexicalFault.{lexical_fault}
+use Rattle.mpslp_lp_grammar.specs.Terminal.{lexical_fault}
 use Rattle.mpslp_lp.specs.LpText.{numbered_lines, sound_terminals, first_own_fault, or_else, lines_say, outcome, is_finished, declarations_of, DeclaresLp}
 use Rattle.mpslp_lp.specs.FirstFault.{fault_of, first_lp_fault}
 use Rattle.mpslp_lp.specs.Laws.{has_lp_name, DeclareLpNames, DeclareOrFail, DeclareUnlessFaulty}

@@ -30,7 +30,7 @@ use Rattle.mpslp_lp_grammar.specs.declared.signs.Sign.TheVariants.{Plus, Minus}
 use Rattle.mpslp_lp_grammar.specs.Rules.{◌>>=◌, next, ahead}
 use Rattle.mpslp_lp_grammar.specs.Rules.Parsed.{Reads}
 use Rattle.mpslp_lp_grammar.specs.Rules.AfterPhrase.{Goes, Ends}
-use Rattle.mpslp_lp_tokens.specs.Words.{section_of}
+use Rattle.mpslp_lp_tokens.specs.Token.{section_of}
 use Rattle.mpslp_lp_grammar.specs.Terminal.{Terminal, TerminalAt}
 use Rattle.mpslp_lp_grammar.specs.Terminal.Terminal.{Opens, Name, Number, Sign, Compares, Colon, Infinity, Free, Other}
 use Rattle.mpslp_lp_grammar.specs.Phrase.{Point, start, with_section, section_fault, PhraseRule, Follows, fails, refuses, goes_to, unless_refused, declares}
@@ -42,10 +42,8 @@ use Rattle.mpslp_lp_grammar.specs.declared.states.LastWord.{LastWord}
 use Rattle.mpslp_lp_grammar.specs.declared.states.LastWord.TheVariants.{To, That, Continuous}
 use Rattle.mpslp_lp_grammar.specs.Items.{Side, Limits, apply_sign, infinity, unsigned_side, side_from, side, next_relation, fits_second, limits_by, flip, Item, one, product, number_item, signed_item, item_from, colon}
 use Rattle.mpslp_lp_grammar.specs.Items.Item.{Term, Lone}
-use Rattle.mpslp_lp_grammar.specs.Objective.{term_declared, objective_item, objective_declared, default_objective, first_item_declared, objective_named, objective_from, objective}
-use Rattle.mpslp_lp_grammar.specs.Rows.{default_row, without_terms, row_item, row_first, row_after_left, row_number, row_signed, row_from, row_named, row, fits_left, row_limits, row_declared, row_whole, row_end}
-use Rattle.mpslp_lp_grammar.specs.Bounds.{bound_sides, no_limits, bound_right, bound_after, bound_column, bound_left, bound, second_side}
-use Rattle.mpslp_lp_grammar.specs.Grammar.{line_end, opened_by, is_last_word, last_word, semi_from, section_start, section_from, may_begin_section, name_in_section, phrase, phrase_at}
+use Rattle.mpslp_lp_grammar.specs.Rows.{term_declared, objective_item, objective_declared, default_objective, first_item_declared, objective_named, objective_from, objective, default_row, without_terms, row_item, row_first, row_after_left, row_number, row_signed, row_from, row_named, row, fits_left, row_limits, row_declared, row_whole, row_end}
+use Rattle.mpslp_lp_grammar.specs.Grammar.{bound_sides, no_limits, bound_right, bound_after, bound_column, bound_left, bound, second_side, line_end, opened_by, is_last_word, last_word, semi_from, section_start, section_from, may_begin_section, name_in_section, phrase, phrase_at}
 use Rattle.mpslp_lp_grammar.specs.declared.relations.Relation.{Relation}
 use Rattle.mpslp_lp_grammar.specs.declared.relations.Relation.TheVariants.{AtMost, AtLeast, EqualTo}
 use Rattle.mpslp_lp_tokens.specs.declared.words.Section.TheVariants.{Objective}

@@ -14,7 +14,7 @@ use Rattle.mpslp_lp_grammar.specs.Rules.Parsed.{Reads}
 use Rattle.mpslp_lp_grammar.specs.Rules.AfterPhrase.{Ends as StepEnds}
 use Rattle.mpslp_lp_grammar.specs.Rules.Outcome.{Finished, Refused, Open}
 use Rattle.mpslp_lp_tokens.specs.Token.{Token, tokens}
-use Rattle.mpslp_lp_grammar.specs.Terminal.{Terminal, TerminalAt, terminal_of, line_terminals}
+use Rattle.mpslp_lp_grammar.specs.Terminal.{Terminal, TerminalAt, terminal_of, line_terminals, lexical_fault}
 use Rattle.mpslp_lp_grammar.specs.TerminalToken.{as_terminal, terminals}
 use Rattle.mpslp_lp_grammar.specs.Phrase.{start, refuses}
 use Rattle.mpslp_lp_grammar.specs.declared.context.Context.{Context}
@@ -26,7 +26,6 @@ use Rattle.mpslp_lp_grammar.specs.TokenByToken.{says}
 use Rattle.mpslp_lp_grammar.specs.declared.states.State.TheVariants.{Between, AfterEnd}
 use Rattle.mpslp_lp_grammar.specs.AfterToken.{AfterToken, Goes, Refuses}
 use Rattle.mpslp_lp_grammar.specs.TokenStep.{take, says_after, at_end, is_at_end}
-use Rattle.mpslp_lp_grammar.specs.LexicalFault.{lexical_fault}
 use Rattle.mpslp_lp.specs.LineByLine.{take_all, take_line, read_from}
 use Rattle.mpslp_lp.specs.LpText.{numbered_lines, sound_terminals, first_own_fault, or_else, outcome}
 use Rattle.mpslp_lp_grammar.proofs.TakingLemmas.{take-says, nothing-says}

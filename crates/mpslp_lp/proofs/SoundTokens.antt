@@ -8,11 +8,9 @@ use Rattle.mpslp_types.specs.FaultOrder.{least_kind}
 use Rattle.mpslp_types.specs.declared.faults.FaultKind.{FaultKind}
 use Rattle.mpslp_lines.specs.FaultTests.{legal_tests, first_held}
 use Rattle.mpslp_lines.proofs.FieldLemmas.{value-decimal}
-use Rattle.mpslp_lp_tokens.specs.Token.{outside_comment, is_word, Token, tokens}
-use Rattle.mpslp_lp_tokens.specs.Words.{class_of}
-use Rattle.mpslp_lp_grammar.specs.Terminal.{Terminal, TerminalAt, word_terminal, terminal_of, line_terminals}
+use Rattle.mpslp_lp_tokens.specs.Token.{outside_comment, is_word, Token, tokens, class_of}
+use Rattle.mpslp_lp_grammar.specs.Terminal.{Terminal, TerminalAt, word_terminal, terminal_of, line_terminals, word_fault, token_fault, lexical_fault}
 use Rattle.mpslp_lp_grammar.specs.Terminal.Terminal.{Name, Number}
-use Rattle.mpslp_lp_grammar.specs.LexicalFault.{word_fault, token_fault, lexical_fault}
 use Rattle.mpslp_lp.specs.LpText.{sound_terminals}
 use Rattle.mpslp_lp_tokens.specs.declared.tokens.TokenKind.{TokenKind}
 use Rattle.mpslp_lp_tokens.specs.declared.tokens.TokenKind.TheVariants as kinds

@@ -7,14 +7,13 @@ use Rattle.mpslp_builder.specs.Declaration.{Draft}
 use Rattle.mpslp_types.specs.declared.faults.Fault.{Fault}
 use Rattle.mpslp_lp_grammar.specs.Rules.{Outcome}
 use Rattle.mpslp_lp_grammar.specs.Rules.Outcome.{Finished, Refused}
-use Rattle.mpslp_lp_grammar.specs.Terminal.{Terminal}
+use Rattle.mpslp_lp_grammar.specs.Terminal.{Terminal, token_fault, lexical_fault}
 use Rattle.mpslp_lp_grammar.specs.TerminalToken.{as_terminal, terminals}
 use Rattle.mpslp_lp_grammar.specs.declared.context.Context.{Context}
 use Rattle.mpslp_lines.specs.FaultTests.{fault_on_line}
 use Rattle.mpslp_lp_grammar.specs.declared.states.State.{State}
 use Rattle.mpslp_lp_grammar.specs.AfterToken.{AfterToken, Goes, Refuses}
 use Rattle.mpslp_lp_grammar.specs.TokenStep.{take, at_end, is_at_end}
-use Rattle.mpslp_lp_grammar.specs.LexicalFault.{token_fault, lexical_fault}
 
 -- tokens one after another, up to one that causes an error
 abbrev pub take_all : Context → State → List Terminal → AfterToken

@@ -3,10 +3,10 @@ use Rattle.std.specs.Prelude.{ℕ, Bool, true, false, IsTrue, List, [], ◌∷�
 use Rattle.mpslp_types.specs.Basics.{enumerate_from, lines}
 use Rattle.mpslp_builder.specs.Meaning.{Means, LinearModel, Declarations, Draft}
 use Rattle.mpslp_types.specs.declared.faults.Fault.{Fault}
-use Rattle.mpslp_lp_grammar.specs.Phrase.{Outcome, Finished, Refused, Open, TerminalAt, line_terminals}
+use Rattle.mpslp_lp_grammar.specs.Terminal.{TerminalAt, line_terminals, lexical_fault}
+use Rattle.mpslp_lp_grammar.specs.Phrase.{Outcome, Finished, Refused, Open}
 use Rattle.mpslp_lines.specs.FaultTests.{fault_on_line}
 use Rattle.mpslp_lp_grammar.specs.Grammar.{text_says, text_declares}
-use Rattle.mpslp_lp_grammar.specs.LexicalFault.{lexical_fault}
 
 -- the lines with their numbers, from 1; a line ends with LF or CRLF
 abbrev pub numbered_lines : List ℕ → List (ℕ × List ℕ)

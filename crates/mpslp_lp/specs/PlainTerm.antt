@@ -5,10 +5,9 @@ use Rattle.mpslp_lines.specs.declared.errors.LineError.{LineError}
 use Rattle.mpslp_lp_grammar.specs.declared.signs.Sign.{Sign as SignOf}
 use Rattle.mpslp_lp_grammar.specs.PartialRow.{PartialRow}
 use Rattle.mpslp_lp_tokens.specs.Token.{Token}
-use Rattle.mpslp_lp_grammar.specs.Terminal.{Terminal}
+use Rattle.mpslp_lp_grammar.specs.Terminal.{Terminal, token_fault}
 use Rattle.mpslp_lp_grammar.specs.TerminalToken.{as_terminal}
 use Rattle.mpslp_lp_grammar.specs.Terminal.Terminal.{Sign, Name}
-use Rattle.mpslp_lp_grammar.specs.LexicalFault.{token_fault}
 use Rattle.mpslp_lp.specs.LineByLine.{take_tokens}
 use Rattle.mpslp_lp_grammar.specs.Declares.{TakesToken}
 use Rattle.mpslp_decimal.specs.Decimal.{Number as Decimal}

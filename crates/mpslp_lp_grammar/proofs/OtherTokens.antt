@@ -7,8 +7,7 @@ use Rattle.mpslp_lp_grammar.specs.declared.signs.Sign.{Sign as SignOf}
 use Rattle.mpslp_lp_grammar.specs.declared.signs.Sign.TheVariants.{Plus, Minus}
 use Rattle.mpslp_lp_grammar.specs.TerminalToken.{terminal_with_text}
 use Rattle.mpslp_lp_grammar.specs.Items.{apply_sign}
-use Rattle.mpslp_lp_grammar.specs.Objective.{objective_declared, first_item_declared, default_objective}
-use Rattle.mpslp_lp_grammar.specs.Rows.{without_terms}
+use Rattle.mpslp_lp_grammar.specs.Rows.{objective_declared, first_item_declared, default_objective, without_terms}
 use Rattle.mpslp_lp_grammar.specs.declared.context.Context.{Context}
 use Rattle.mpslp_lp_tokens.specs.declared.words.SectionWord.{SectionWord}
 use Rattle.mpslp_lp_grammar.specs.declared.terminals.TerminalKind.{TerminalKind}

@@ -19,7 +19,7 @@ use Rattle.mpslp_lp_grammar.specs.Rules.{◌>>=◌, next, ahead, gives}
 use Rattle.mpslp_lp_grammar.specs.WithinPhrase.{follow, resume}
 use Rattle.mpslp_lp_grammar.specs.Rules.Parsed.{Reads}
 use Rattle.mpslp_lp_grammar.specs.Rules.AfterPhrase.{Ends}
-use Rattle.mpslp_lp_tokens.specs.Words.{section_of}
+use Rattle.mpslp_lp_tokens.specs.Token.{section_of}
 use Rattle.mpslp_lp_grammar.specs.Terminal.{Terminal, TerminalAt}
 use Rattle.mpslp_lp_grammar.specs.Terminal.Terminal.{Opens, Name, Number, Sign, Compares, Colon, Infinity, Free, Other}
 use Rattle.mpslp_lp_grammar.specs.Phrase.{section_fault, with_section, PhraseRule, Follows, fails, refuses, unless_refused, declares}
@@ -32,10 +32,8 @@ use Rattle.mpslp_lp_grammar.specs.declared.states.LastWord.TheVariants.{Continuo
 use Rattle.std.proofs.lemmas.Bool.{eq-eqb}
 use Rattle.mpslp_lp_grammar.specs.Items.{Side, apply_sign, infinity, fits_second, next_relation, unsigned_side, side_from, side, Item, colon, item_from, signed_item, number_item, product, one}
 use Rattle.mpslp_lp_grammar.specs.Items.Item.{Term, Lone}
-use Rattle.mpslp_lp_grammar.specs.Objective.{default_objective, objective_declared, objective_from, objective_named, first_item_declared}
-use Rattle.mpslp_lp_grammar.specs.Rows.{default_row, without_terms, fits_left, row_after_left, row_from, row_first, row_named, row_signed, row_number, row_whole}
-use Rattle.mpslp_lp_grammar.specs.Bounds.{bound, bound_after, bound_column, bound_left, bound_right}
-use Rattle.mpslp_lp_grammar.specs.Grammar.{section_start, section_from, name_in_section, line_end, may_begin_section, is_last_word, last_word, semi_from, phrase, phrase_at}
+use Rattle.mpslp_lp_grammar.specs.Rows.{default_objective, objective_declared, objective_from, objective_named, first_item_declared, default_row, without_terms, fits_left, row_after_left, row_from, row_first, row_named, row_signed, row_number, row_whole}
+use Rattle.mpslp_lp_grammar.specs.Grammar.{bound, bound_after, bound_column, bound_left, bound_right, section_start, section_from, name_in_section, line_end, may_begin_section, is_last_word, last_word, semi_from, phrase, phrase_at}
 use Rattle.mpslp_lp_grammar.specs.declared.states.ItemOwner.{ItemOwner}
 use Rattle.mpslp_lp_grammar.specs.declared.states.SideOwner.{SideOwner}
 use Rattle.mpslp_lp_grammar.specs.declared.states.State.{State}

@@ -19,8 +19,7 @@ use Rattle.mpslp_lp_grammar.specs.declared.states.Place.{Place}
 use Rattle.mpslp_lp_grammar.specs.declared.states.Place.TheVariants.{InObjective, BetweenRows, InRow, InBounds}
 use Rattle.mpslp_lp_grammar.specs.Phrase.{terminal_fault}
 use Rattle.mpslp_lp_grammar.specs.Items.{Limits, apply_sign, infinity, limits_by, one, product}
-use Rattle.mpslp_lp_grammar.specs.Objective.{term_declared}
-use Rattle.mpslp_lp_grammar.specs.Rows.{row_limits, row_declared}
+use Rattle.mpslp_lp_grammar.specs.Rows.{term_declared, row_limits, row_declared}
 use Rattle.mpslp_lp_grammar.specs.declared.states.ItemOwner.{ItemOwner}
 use Rattle.mpslp_lp_grammar.specs.declared.states.SideOwner.{SideOwner}
 use Rattle.mpslp_lp_grammar.specs.declared.states.State.{State}

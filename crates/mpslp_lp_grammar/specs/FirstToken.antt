@@ -4,7 +4,7 @@ use Rattle.mpslp_builder.specs.Declaration.{declare_column, declare_integer, dec
 use Rattle.mpslp_types.specs.declared.kinds.Limit.TheVariants.{PlusInf}
 use Rattle.mpslp_types.specs.declared.kinds.Sense.TheVariants as senses
 use Rattle.mpslp_types.specs.declared.faults.FaultKind.TheVariants.{BadToken, MixedSenses}
-use Rattle.mpslp_lp_tokens.specs.Words.{section_of}
+use Rattle.mpslp_lp_tokens.specs.Token.{section_of}
 use Rattle.mpslp_lp_grammar.specs.declared.signs.Sign.TheVariants.{Plus}
 use Rattle.mpslp_lp_grammar.specs.Terminal.{Terminal}
 use Rattle.mpslp_lp_grammar.specs.Phrase.{section_fault, with_section}

@@ -4,14 +4,11 @@ pub mod Terminal
 pub mod PartialRow
 pub mod Phrase
 pub mod Items
-pub mod Objective
 pub mod Rows
-pub mod Bounds
 pub mod Grammar
 pub mod TokenByToken
 pub mod AfterToken
 pub mod FirstToken
 pub mod TokenStep
 pub mod Declares
-pub mod LexicalFault
 pub mod TerminalToken

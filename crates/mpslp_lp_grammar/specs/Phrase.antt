@@ -5,8 +5,8 @@ use Rattle.mpslp_builder.specs.Refusal.{refusals_in_turn}
 use Rattle.mpslp_types.specs.declared.faults.{BuildFault.BuildFault, Fault.Fault, FaultKind.FaultKind, FaultKind.TheVariants.SectionOrder, FaultKind.TheVariants.SectionRepeated}
 use Rattle.mpslp_lines.specs.FaultTests.{fault_on_line, kind_of_build_fault}
 pub use Rattle.mpslp_lp_grammar.specs.Rules.{Rule as TokenRule, AfterPhrase, Refuses, Goes, after_taking, gives, ◌>>=◌, next, Reads, Unfinished, ahead, Outcome, phrases, made_by, Ends, Finished, Refused, Open}
-use Rattle.mpslp_lp_tokens.specs.Words.{section_of}
-pub use Rattle.mpslp_lp_grammar.specs.Terminal.{Terminal, SignOf, Plus, Minus, TerminalAt, Name, Number, Sign, Colon, Compares, Infinity, Relation, AtMost, AtLeast, EqualTo, Opens, Free, line_terminals}
+use Rattle.mpslp_lp_tokens.specs.Token.{section_of}
+pub use Rattle.mpslp_lp_grammar.specs.Terminal.{Terminal, SignOf, Plus, Minus, TerminalAt, Name, Number, Sign, Colon, Compares, Infinity, Relation, AtMost, AtLeast, EqualTo, Opens, Free}
 use Rattle.mpslp_lp_grammar.specs.declared.sections_seen.SectionsSeen.{SectionsSeen}
 use Rattle.mpslp_lp_tokens.specs.declared.words.Section.{Section, TheVariants.Objective, TheVariants.Rows, TheVariants.Bounds, TheVariants.Generals, TheVariants.Binaries, TheVariants.SemiContinuous, TheVariants.End}
 pub use Rattle.mpslp_lp_grammar.specs.declared.{context.Context.Context, states.Place.Place, states.Place.TheVariants.BeforeItems, states.Place.TheVariants.InObjective, states.Place.TheVariants.BetweenRows, states.Place.TheVariants.InRow, states.Place.TheVariants.InBounds, states.Place.TheVariants.AtStart, states.Place.TheVariants.InGenerals, states.Place.TheVariants.InBinaries, states.Place.TheVariants.InSemis}

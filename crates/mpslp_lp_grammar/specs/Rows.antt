@@ -1,12 +1,59 @@
--- Rows: optionally `name :`, optionally a side and a relation, terms, a relation and a side.
+-- The objective and the rows of LP text.
 use Rattle.std.specs.Prelude.{ℕ, ◌+◌, ◌-◌, ◌^◌, min, Bool, true, if◌then◌else◌, List, [], ◌∷◌, ◌++◌, length, codes, Option, Some, None, unwrap_or}
-use Rattle.mpslp_types.specs.Basics.{list_any, flat_map, decimal, same_bytes, limit_of}
-use Rattle.mpslp_builder.specs.Declaration.{by_limits, declare_row, Declarations}
-use Rattle.mpslp_types.specs.declared.{kinds.Limit.Limit, kinds.Limit.TheVariants.MinusInf, kinds.Limit.TheVariants.PlusInf, faults.FaultKind.TheVariants.BadToken, faults.FaultKind.TheVariants.DuplicateEntry, faults.FaultKind.TheVariants.ConstantInRow, faults.FaultKind.TheVariants.MixedSenses}
+use Rattle.mpslp_types.specs.Basics.{list_any, flat_map, decimal, Number as Decimal, same_bytes, limit_of}
+use Rattle.mpslp_builder.specs.Declaration.{by_limits, declare_row, Declarations, declare_sense, declare_objective, declare_column, declare_coefficient, declare_constant}
+use Rattle.mpslp_types.specs.declared.{kinds.Sense.Sense, kinds.Limit.Limit, kinds.Limit.TheVariants.MinusInf, kinds.Limit.TheVariants.PlusInf, faults.FaultKind.TheVariants.BadToken, faults.FaultKind.TheVariants.DuplicateEntry, faults.FaultKind.TheVariants.ConstantInRow, faults.FaultKind.TheVariants.MixedSenses}
 use Rattle.mpslp_lp_grammar.specs.PartialRow.{PartialRow}
-use Rattle.mpslp_lp_grammar.specs.Phrase.{PhraseRule, Follows, refuses, goes_to, declares, SignOf, Plus, TerminalAt, Name, Number, Sign, Compares, Infinity, Relation, AtMost, ◌>>=◌, next, ahead, Context, BetweenRows, InRow}
+use Rattle.mpslp_lp_grammar.specs.Phrase.{PhraseRule, Follows, refuses, goes_to, declares, SignOf, Plus, TerminalAt, Name, Number, Sign, Compares, Infinity, Relation, AtMost, ◌>>=◌, next, ahead, Context, BetweenRows, InRow, Opens, Colon, BeforeItems, InObjective}
 use Rattle.mpslp_lp_grammar.specs.Items.{Side, Limits, limits_by, fits_second, infinity, side, next_relation, Item, one, number_item, signed_item, item_from, colon, Term, Lone}
-use Rattle.mpslp_lp_grammar.specs.Objective.{term_declared}
+
+-- a coefficient and its column
+abbrev pub term_declared : List ℕ → List ℕ × Decimal → Declarations
+term_declared row term = declare_column term.0 ∷ declare_coefficient (record { row = row; column = term.0 }) term.1 ∷ []
+
+-- ---- the objective: optionally `name :`, and any number of items, of which one may be a constant
+
+-- a number without a name is the constant, if an item or a section follows
+abbrev pub objective_item : Context → List ℕ → Item → PhraseRule Follows
+objective_item context name (Term value column token) = declares context token (InObjective name) (term_declared name (column, value))
+objective_item context name (Lone value token) = elim token.terminal [
+  | Sign sign ↦ constant
+  | Opens word ↦ constant
+  | _ ↦ refuses context token BadToken
+]
+  where
+    constant : PhraseRule Follows
+    constant = declares context token (InObjective name) (declare_constant value ∷ [])
+
+abbrev pub objective_declared : Sense → List ℕ → Declarations
+objective_declared sense name = declare_sense sense ∷ declare_objective name ∷ []
+
+-- the name of an objective without a label
+abbrev pub default_objective : List ℕ
+default_objective = codes "obj"
+
+-- what `minimize` or `maximize` and a name after it declare if the name is not a label but that of the first item
+abbrev pub first_item_declared : Sense → List ℕ → Declarations
+first_item_declared sense column = objective_declared sense default_objective ++ term_declared default_objective (column, one)
+
+-- a name without a colon after it is the first item
+abbrev pub objective_named : Context → Sense → List ℕ → TerminalAt → PhraseRule Follows
+objective_named context sense name second = elim second.terminal [
+  | Colon ↦ next >>= λ colon. declares context second (BeforeItems name) (objective_declared sense name)
+  | _ ↦ declares context second (InObjective default_objective) (first_item_declared sense name)
+]
+
+abbrev pub objective_from : Context → Sense → TerminalAt → PhraseRule Follows
+objective_from context sense token = elim token.terminal [
+  | Name name ↦ next >>= λ first. ahead >>= objective_named context sense name
+  | _ ↦ declares context token (BeforeItems default_objective) (objective_declared sense default_objective)
+]
+
+-- after `minimize` or `maximize`: optionally `name :`. Nothing is declared before, so this cannot be rejected.
+abbrev pub objective : Context → Sense → PhraseRule Follows
+objective context sense = ahead >>= objective_from context sense
+
+-- ---- rows: optionally `name :`, optionally a side and a relation, terms, a relation and a side
 
 -- a row without a label is named `c` and its position among all rows, from 1 to at most 2^64 - 1
 abbrev pub numbered_row : (position : ℕ) → List ℕ

@@ -7,14 +7,12 @@ use Rattle.mpslp_lp_grammar.specs.declared.signs.Sign.{Sign as SignOf}
 use Rattle.mpslp_lp_grammar.specs.Items.{apply_sign, infinity}
 use Rattle.mpslp_types.specs.declared.faults.FaultKind.{FaultKind}
 use Rattle.mpslp_lines.specs.FaultTests.{value_of, number_fault}
-use Rattle.mpslp_lp_tokens.specs.Words.{class_of}
-use Rattle.mpslp_lp_grammar.specs.Terminal.{Terminal, word_terminal, terminal_of}
-use Rattle.mpslp_lp_grammar.specs.LexicalFault.{word_fault, token_fault}
+use Rattle.mpslp_lp_tokens.specs.Token.{class_of, Token, tokens}
+use Rattle.mpslp_lp_grammar.specs.Terminal.{Terminal, word_terminal, terminal_of, word_fault, token_fault}
 use Rattle.mpslp_lp_grammar.specs.declared.terminals.TerminalToken.{TerminalToken}
 use Rattle.mpslp_lp_grammar.specs.declared.terminals.TerminalKind.{TerminalKind}
 use Rattle.mpslp_lp_grammar.specs.declared.terminals.TerminalKind.TheVariants.{Opens, Name, Number, Sign, Compares, Colon, Infinity, Free, Other}
 use Rattle.mpslp_lp_tokens.specs.declared.tokens.TokenKind.{TokenKind}
-use Rattle.mpslp_lp_tokens.specs.Token.{Token, tokens}
 
 -- the terminal; a name has this text
 abbrev pub terminal_with_text : TerminalKind → List ℕ → Terminal

@@ -15,10 +15,8 @@ use Rattle.mpslp_lp_grammar.specs.Terminal.{TerminalAt}
 use Rattle.mpslp_lp_grammar.specs.declared.context.Context.{Context}
 use Rattle.mpslp_lp_grammar.specs.Phrase.{PhraseRule, Follows}
 use Rattle.mpslp_lp_grammar.specs.Items.{unsigned_side, side, next_relation, Item, number_item, signed_item, colon}
-use Rattle.mpslp_lp_grammar.specs.Objective.{objective_item, objective_named, objective}
-use Rattle.mpslp_lp_grammar.specs.Rows.{row_item, row_first, row_after_left, row_number, row_signed, row_from, row_named, row_whole}
-use Rattle.mpslp_lp_grammar.specs.Bounds.{bound_right, bound_after, bound_column, bound_left}
-use Rattle.mpslp_lp_grammar.specs.Grammar.{line_end, last_word, semi_from, phrase_at}
+use Rattle.mpslp_lp_grammar.specs.Rows.{objective_item, objective_named, objective, row_item, row_first, row_after_left, row_number, row_signed, row_from, row_named, row_whole}
+use Rattle.mpslp_lp_grammar.specs.Grammar.{bound_right, bound_after, bound_column, bound_left, line_end, last_word, semi_from, phrase_at}
 
 abbrev pub item_read : Context → ItemOwner → Item → PhraseRule Follows
 item_read context (OfObjective name) item = objective_item context name item

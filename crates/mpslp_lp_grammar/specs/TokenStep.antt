@@ -14,12 +14,10 @@ use Rattle.mpslp_lp_grammar.specs.Terminal.{TerminalAt, Terminal}
 use Rattle.mpslp_lp_grammar.specs.declared.context.Context.{Context}
 use Rattle.mpslp_lp_grammar.specs.declared.states.Place.TheVariants.{BeforeItems, InObjective, InRow, InBounds, InSemis}
 use Rattle.mpslp_lp_grammar.specs.declared.states.LastWord.TheVariants.{Continuous}
-use Rattle.mpslp_lp_grammar.specs.Grammar.{is_last_word, opened_by}
+use Rattle.mpslp_lp_grammar.specs.Grammar.{is_last_word, opened_by, no_limits}
 use Rattle.mpslp_lines.specs.FaultTests.{fault_on_line}
 use Rattle.mpslp_lp_grammar.specs.Items.{apply_sign, infinity, limits_by, flip, one}
-use Rattle.mpslp_lp_grammar.specs.Objective.{objective_declared, first_item_declared, default_objective}
-use Rattle.mpslp_lp_grammar.specs.Rows.{default_row, without_terms}
-use Rattle.mpslp_lp_grammar.specs.Bounds.{no_limits}
+use Rattle.mpslp_lp_grammar.specs.Rows.{objective_declared, first_item_declared, default_objective, default_row, without_terms}
 use Rattle.mpslp_lp_grammar.specs.declared.states.ItemOwner.{ItemOwner}
 use Rattle.mpslp_lp_grammar.specs.declared.states.State.{State}
 use Rattle.mpslp_lp_grammar.specs.declared.states.ItemOwner.TheVariants.{OfObjective, OfRow}

@@ -6,7 +6,7 @@ ghost use Rattle.mpslp_types.specs.Name.{IsMpsName};
 ghost use Rattle.mpslp_types.specs.Limit.{is_given};
 ghost use Rattle.mpslp_builder.specs.Declaration.{declare_column};
 ghost use Rattle.mpslp_lp_grammar.specs.Items.{limits_by, flip};
-ghost use Rattle.mpslp_lp_grammar.specs.Bounds.{no_limits};
+ghost use Rattle.mpslp_lp_grammar.specs.Grammar.{no_limits};
 ghost use Rattle.mpslp_lp_grammar.specs.TokenByToken.{new_column};
 ghost use Rattle.mpslp_lp_grammar.specs.TerminalToken.{HasLegalName, terminal_of_token};
 ghost use Rattle.mpslp_lp_grammar.specs.Declares.{DeclaresSides, TakesToken};

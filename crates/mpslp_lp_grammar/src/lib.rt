@@ -1,9 +1,9 @@
 //! The grammar of LP text: which tokens may follow one another, and what they declare.
 //!
-//! The format follows the CPLEX file format reference. The definitions are in `specs/`: what the grammar sees of a token
-//! (`Terminal`), the lexical errors of a token and of a line (`LexicalFault`), the grammar by its rules (`Rules`,
-//! `Phrase`, `Items`, `Objective`, `Rows`, `Bounds`, `Grammar`), and the same grammar token by token, in terms of what
-//! a reader keeps (`TokenByToken`, `AfterToken`, `FirstToken`, `TokenStep`).
+//! The format follows the CPLEX file format reference. The definitions are in `specs/`: what the grammar sees of a token,
+//! and the lexical errors of a token and of a line (`Terminal`), the grammar by its rules (`Rules`, `Phrase`, `Items`, `Rows`,
+//! `Grammar`), and the same grammar token by token, in terms of what a reader keeps (`TokenByToken`, `AfterToken`,
+//! `FirstToken`, `TokenStep`).
 //!
 //! [`classify`] returns what the grammar sees of a token, or the lexical error of the token. [`take`] takes a token, going from
 //! one [`State`] to the next, and passes what it declares to the builder in the [`Context`]. `proofs/TakingLemmas` proves that

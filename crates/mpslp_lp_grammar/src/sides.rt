@@ -2,7 +2,7 @@
 
 ghost use Rattle.std.specs.Prelude.{◌≡◌};
 ghost use Rattle.mpslp_lp_grammar.specs.Items.{Limits, limits_by, flip};
-ghost use Rattle.mpslp_lp_grammar.specs.Bounds.{no_limits};
+ghost use Rattle.mpslp_lp_grammar.specs.Grammar.{no_limits};
 ghost use Rattle.mpslp_lp_grammar.specs.TerminalToken.{limit_of_terminal, terminal_of_token};
 
 use crate::given_limit::GivenLimit;

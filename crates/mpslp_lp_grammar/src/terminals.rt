@@ -3,7 +3,7 @@
 ghost use Rattle.std.specs.Prelude.{◌≡◌};
 ghost use Rattle.std.specs.Option.{option_map_or};
 ghost use Rattle.mpslp_types.specs.Name.{is_like_exponent};
-ghost use Rattle.mpslp_lp_grammar.specs.LexicalFault.{name_fault};
+ghost use Rattle.mpslp_lp_grammar.specs.Terminal.{name_fault};
 ghost use Rattle.mpslp_lp_grammar.specs.TerminalToken.{IsTerminalOf, IsTerminalOfNumber, IsTerminalOfWord};
 
 use crate::relations::Relation;

@@ -17,8 +17,7 @@ use Rattle.mpslp_lp_grammar.specs.declared.states.Place.{Place}
 use Rattle.mpslp_lp_grammar.specs.declared.states.Place.TheVariants.{InBounds}
 use Rattle.mpslp_lp_grammar.specs.Phrase.{declares}
 use Rattle.mpslp_lp_grammar.specs.Items.{Limits, limits_by, flip, side_from}
-use Rattle.mpslp_lp_grammar.specs.Bounds.{bound_sides, no_limits, bound_right, bound_after, bound_column, bound_left}
-use Rattle.mpslp_lp_grammar.specs.Grammar.{may_begin_section, phrase_at}
+use Rattle.mpslp_lp_grammar.specs.Grammar.{bound_sides, no_limits, bound_right, bound_after, bound_column, bound_left, may_begin_section, phrase_at}
 use Rattle.mpslp_canonical_lp.specs.PrintedDeclarations.{point_at}
 use Rattle.mpslp_canonical_lp.proofs.TerminalLemmas.{at}
 use Rattle.mpslp_canonical_lp.proofs.ObjectiveWalk.{parts-taken}

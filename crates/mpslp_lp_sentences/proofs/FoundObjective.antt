@@ -16,7 +16,7 @@ use Rattle.mpslp_lp_grammar.specs.declared.context.Context.{Context}
 use Rattle.mpslp_lp_grammar.specs.declared.states.Place.{Place}
 use Rattle.mpslp_lp_grammar.specs.declared.states.Place.TheVariants.{BeforeItems, InObjective}
 use Rattle.mpslp_lp_grammar.specs.Items.{Item as items}
-use Rattle.mpslp_lp_grammar.specs.Objective.{objective_item, objective_declared, default_objective, first_item_declared, objective_named, objective_from, objective as objective_rule}
+use Rattle.mpslp_lp_grammar.specs.Rows.{objective_item, objective_declared, default_objective, first_item_declared, objective_named, objective_from, objective as objective_rule}
 use Rattle.mpslp_lp_grammar.specs.Grammar.{may_begin_section}
 use Rattle.mpslp_lp_tokens.specs.declared.words.SectionWord.{SectionWord}
 use Rattle.mpslp_lp_tokens.specs.declared.words.SectionWord.TheVariants as words

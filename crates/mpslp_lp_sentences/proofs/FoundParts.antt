@@ -17,8 +17,7 @@ use Rattle.mpslp_lp_grammar.specs.declared.relations.Relation.TheVariants.{AtMos
 use Rattle.mpslp_lp_grammar.specs.declared.states.Place.{Place}
 use Rattle.mpslp_lp_grammar.specs.declared.states.Place.TheVariants.{InBounds}
 use Rattle.mpslp_lp_grammar.specs.Items.{Limits, limits_by, flip, side as side_rule}
-use Rattle.mpslp_lp_grammar.specs.Bounds.{bound_sides, no_limits, bound_right, bound_after, bound_column, bound_left}
-use Rattle.mpslp_lp_grammar.specs.Grammar.{name_in_section, phrase_at}
+use Rattle.mpslp_lp_grammar.specs.Grammar.{bound_sides, no_limits, bound_right, bound_after, bound_column, bound_left, name_in_section, phrase_at}
 use Rattle.mpslp_lp_tokens.specs.declared.words.SectionWord.{SectionWord}
 use Rattle.mpslp_canonical_lp.specs.PrintedDeclarations.{point_at}
 use Rattle.mpslp_canonical_lp.proofs.TerminalLemmas.{at}

@@ -21,7 +21,7 @@ use Rattle.mpslp_lp_grammar.specs.declared.states.Place.TheVariants.{InBounds, I
 use Rattle.mpslp_lp_grammar.specs.declared.states.LastWord.{LastWord}
 use Rattle.mpslp_lp_grammar.specs.declared.states.LastWord.TheVariants.{Continuous}
 use Rattle.mpslp_lp_grammar.specs.Grammar.{line_end, opened_by, is_last_word, last_word, semi_from, section_start, section_from, may_begin_section}
-use Rattle.mpslp_lp_tokens.specs.Words.{section_of}
+use Rattle.mpslp_lp_tokens.specs.Token.{section_of}
 use Rattle.mpslp_lp_tokens.specs.declared.words.Section.{Section as Kind}
 use Rattle.mpslp_lp_tokens.specs.declared.words.Section.TheVariants as kinds
 use Rattle.mpslp_lp_tokens.specs.declared.words.SectionWord.{SectionWord}

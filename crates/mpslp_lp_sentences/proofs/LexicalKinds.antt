@@ -17,13 +17,12 @@ use Rattle.mpslp_types.specs.Lists.{is_nonempty, head_of}
 use Rattle.mpslp_builder.specs.Declaration.{Draft}
 use Rattle.mpslp_builder.specs.FileFault.{named_kinds, whole_fault, names_with, named_faults, file_fault}
 use Rattle.mpslp_lines.specs.FaultTests.{is_kind, number_fault, kind_of_number_fault, FaultTests, first_held, has_legal_length, is_legal_byte}
-use Rattle.mpslp_lp_tokens.specs.Token.{outside_comment, Token, tokens}
-use Rattle.mpslp_lp_tokens.specs.Words.{class_of}
+use Rattle.mpslp_lp_tokens.specs.Token.{outside_comment, Token, tokens, class_of}
 use Rattle.mpslp_lp_tokens.specs.declared.tokens.TokenKind.{TokenKind}
 use Rattle.mpslp_lp_tokens.specs.declared.tokens.TokenKind.TheVariants.{Word, Number as ANumber, DoubleColon, Arrow, OpenBracket, CloseBracket, Caret, Star}
 use Rattle.mpslp_lp_tokens.specs.declared.words.WordClass.{WordClass}
 use Rattle.mpslp_lp_tokens.specs.declared.words.WordClass.TheVariants.{Sos, Name}
-use Rattle.mpslp_lp_grammar.specs.LexicalFault.{name_fault, word_fault, token_fault, lexical_fault}
+use Rattle.mpslp_lp_grammar.specs.Terminal.{name_fault, word_fault, token_fault, lexical_fault}
 
 -- ---- a line by itself
 

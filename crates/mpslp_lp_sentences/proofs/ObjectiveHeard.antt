@@ -19,7 +19,7 @@ use Rattle.mpslp_lp_grammar.specs.declared.sections_seen.SectionsSeen.{SectionsS
 use Rattle.mpslp_lp_grammar.specs.declared.context.Context.{Context}
 use Rattle.mpslp_lp_grammar.specs.declared.states.Place.TheVariants.{AtStart, BeforeItems, InObjective}
 use Rattle.mpslp_lp_grammar.specs.Items.{signed_item, Item as items}
-use Rattle.mpslp_lp_grammar.specs.Objective.{objective_item, objective_declared, default_objective, first_item_declared, objective_named, objective_from, objective as objective_rule}
+use Rattle.mpslp_lp_grammar.specs.Rows.{objective_item, objective_declared, default_objective, first_item_declared, objective_named, objective_from, objective as objective_rule}
 use Rattle.mpslp_lp_tokens.specs.declared.words.Section.TheVariants as sections
 use Rattle.mpslp_lp_tokens.specs.declared.words.SectionWord.TheVariants as words
 use Rattle.mpslp_canonical_lp.specs.PrintedDeclarations.{point_at}

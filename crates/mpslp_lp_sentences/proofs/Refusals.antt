@@ -15,7 +15,7 @@ use Rattle.mpslp_types.specs.Lists.{those_of}
 use Rattle.mpslp_builder.specs.Declaration.{Declarations, Draft, with_declaration, with_declarations}
 use Rattle.mpslp_builder.specs.Refusal.{refusal_tests, refusals, refusals_in_turn}
 use Rattle.mpslp_lines.specs.FaultTests.{kind_of_build_fault, is_kind}
-use Rattle.mpslp_lp_grammar.specs.Objective.{term_declared}
+use Rattle.mpslp_lp_grammar.specs.Rows.{term_declared}
 
 -- one of the tests of this kind fails
 abbrev pub refused_as : FaultKind → List (Bool × BuildFault) → Bool

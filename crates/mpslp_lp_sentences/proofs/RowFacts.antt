@@ -15,7 +15,7 @@ use Rattle.mpslp_types.specs.declared.faults.BuildFault.TheVariants as builds
 use Rattle.mpslp_builder.proofs.LaterDrafts.{itself_named}
 use Rattle.mpslp_builder.proofs.SlotLemmas.{has-put_key}
 use Rattle.mpslp_builder.proofs.SortedDrafts.{IsSortedDraft}
-use Rattle.mpslp_lp_grammar.specs.Objective.{term_declared}
+use Rattle.mpslp_lp_grammar.specs.Rows.{term_declared}
 use Rattle.mpslp_canonical_lp.specs.PrintedDeclarations.{AreNew}
 use Rattle.mpslp_canonical_lp.proofs.ObjectiveWalk.{parts-taken}
 

@@ -36,14 +36,12 @@ use Rattle.mpslp_lp_grammar.specs.declared.states.SideOwner.TheVariants.{SideOfR
 use Rattle.mpslp_lp_grammar.specs.declared.states.State.{State}
 use Rattle.mpslp_lp_grammar.specs.declared.states.State.TheVariants.{Between, AtObjective, ObjectiveName, AtLastWord, AtSemi, Signs, ItemNumber, RowName, RowLabel, RowSign, RowNumber, RowLeft, RowLeftRelation, BoundName, BoundSign, BoundLeft, BoundLeftRelation, AtSide, SideSign, AfterEnd}
 use Rattle.mpslp_lp_grammar.specs.AfterToken.{AfterToken, Goes, Refuses, refuse, with_made, declare_unless_refused, take_term, take_after_signs, begin_item, take_side}
-use Rattle.mpslp_lp_grammar.specs.Bounds.{no_limits}
+use Rattle.mpslp_lp_grammar.specs.Grammar.{no_limits, opened_by, may_begin_section, is_last_word}
 use Rattle.mpslp_lp_grammar.specs.FirstToken.{open_section, begin_row, begin_bound, take_second_relation, begin_phrase, begin}
-use Rattle.mpslp_lp_grammar.specs.Grammar.{opened_by, may_begin_section, is_last_word}
 use Rattle.mpslp_lp_grammar.specs.Items.{one, apply_sign, infinity, fits_second, limits_by, flip}
-use Rattle.mpslp_lp_grammar.specs.Objective.{term_declared, objective_declared, default_objective, first_item_declared}
+use Rattle.mpslp_lp_grammar.specs.Rows.{term_declared, objective_declared, default_objective, first_item_declared, default_row, without_terms, fits_left, numbered_row}
 use Rattle.mpslp_lp_grammar.specs.PartialRow.{PartialRow}
 use Rattle.mpslp_lp_grammar.specs.Phrase.{start, with_section, is_out_of_order}
-use Rattle.mpslp_lp_grammar.specs.Rows.{default_row, without_terms, fits_left, numbered_row}
 use Rattle.mpslp_lp_grammar.specs.Terminal.{Terminal}
 use Rattle.mpslp_lp_grammar.specs.Terminal.Terminal.{Opens, Name, Number, Sign, Compares, Colon, Infinity, Free, Other}
 use Rattle.mpslp_lp_grammar.specs.TokenStep.{begin_after, take_lone, take}

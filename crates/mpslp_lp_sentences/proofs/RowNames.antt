@@ -21,7 +21,7 @@ use Rattle.mpslp_builder.proofs.SlotLemmas.{has-put, same_name}
 use Rattle.mpslp_builder.proofs.SortedDrafts.{IsSortedDraft, sorted-with_declarations}
 use Rattle.mpslp_lp_grammar.proofs.DeclaresLemmas.{bounds-rows}
 use Rattle.mpslp_lines.specs.FaultTests.{kind_of_build_fault}
-use Rattle.mpslp_lp_tokens.specs.Words.{section_of}
+use Rattle.mpslp_lp_tokens.specs.Token.{section_of}
 use Rattle.mpslp_lp_tokens.specs.declared.words.Section.{Section}
 use Rattle.mpslp_lp_tokens.specs.declared.words.Section.TheVariants.{Objective, Rows}
 use Rattle.mpslp_lp_grammar.specs.declared.context.Context.{Context}
@@ -36,10 +36,9 @@ use Rattle.mpslp_lp_grammar.specs.declared.states.SideOwner.TheVariants.{SideOfR
 use Rattle.mpslp_lp_grammar.specs.declared.states.State.{State}
 use Rattle.mpslp_lp_grammar.specs.declared.states.State.TheVariants.{Between, AtObjective, ObjectiveName, AtLastWord, Signs, ItemNumber, RowName, RowLabel, RowSign, RowNumber, RowLeft, RowLeftRelation, AtSide, SideSign}
 use Rattle.mpslp_lp_grammar.specs.AfterToken.{AfterToken, Goes, Refuses, refuse, declare_unless_refused, take_after_declarations, declare_at, take_bound, take_side}
-use Rattle.mpslp_lp_grammar.specs.Objective.{term_declared}
+use Rattle.mpslp_lp_grammar.specs.Rows.{term_declared, row_limits, row_declared}
 use Rattle.mpslp_lp_grammar.specs.PartialRow.{PartialRow}
 use Rattle.mpslp_lp_grammar.specs.Phrase.{has_seen, is_out_of_order}
-use Rattle.mpslp_lp_grammar.specs.Rows.{row_limits, row_declared}
 use Rattle.mpslp_lp_grammar.specs.Items.{Limits}
 use Rattle.mpslp_lp_grammar.specs.Terminal.{Terminal}
 use Rattle.mpslp_lp_grammar.specs.Terminal.Terminal.{Opens, Name, Number, Sign, Compares, Colon, Infinity, Free, Other}

@@ -26,8 +26,7 @@ use Rattle.mpslp_lp_grammar.specs.declared.states.Place.TheVariants.{BetweenRows
 use Rattle.mpslp_lp_grammar.specs.PartialRow.{PartialRow}
 use Rattle.mpslp_lp_grammar.specs.Items.{Limits, limits_by as sides_by, next_relation, side as side_rule, number_item, colon, Item as items}
 use Rattle.mpslp_lp_grammar.specs.Items as rules
-use Rattle.mpslp_lp_grammar.specs.Objective.{term_declared}
-use Rattle.mpslp_lp_grammar.specs.Rows.{default_row, without_terms, row_item, row_first, row_after_left, row_number, row_signed, row_from, row_named, fits_left, row_limits, row_declared, row_whole}
+use Rattle.mpslp_lp_grammar.specs.Rows.{term_declared, default_row, without_terms, row_item, row_first, row_after_left, row_number, row_signed, row_from, row_named, fits_left, row_limits, row_declared, row_whole}
 use Rattle.mpslp_lp_grammar.specs.Grammar.{phrase_at}
 use Rattle.mpslp_canonical_lp.specs.PrintedDeclarations.{point_at, AreNew}
 use Rattle.mpslp_canonical_lp.proofs.TerminalLemmas.{at}

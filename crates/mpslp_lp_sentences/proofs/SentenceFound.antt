@@ -14,12 +14,11 @@ use Rattle.mpslp_lp_tokens.specs.Token.{Token, tokens}
 use Rattle.mpslp_lp_tokens.specs.declared.words.SectionWord.TheVariants as words
 use Rattle.mpslp_lp_grammar.specs.Rules.{Outcome}
 use Rattle.mpslp_lp_grammar.specs.Rules.Outcome.{Finished, Refused, Open}
-use Rattle.mpslp_lp_grammar.specs.Terminal.{Terminal, TerminalAt, terminal_of, line_terminals}
+use Rattle.mpslp_lp_grammar.specs.Terminal.{Terminal, TerminalAt, terminal_of, line_terminals, lexical_fault}
 use Rattle.mpslp_lp_grammar.specs.TerminalToken.{terminals}
 use Rattle.mpslp_lp_grammar.specs.Terminal.Terminal.{Opens}
 use Rattle.mpslp_lp_grammar.specs.Phrase.{start}
 use Rattle.mpslp_lp_grammar.specs.Grammar.{text_says}
-use Rattle.mpslp_lp_grammar.specs.LexicalFault.{lexical_fault}
 use Rattle.mpslp_lp.specs.LpText.{numbered_lines, sound_terminals, first_own_fault, or_else, is_finished, declarations_of}
 use Rattle.mpslp_lp.proofs.ModelOrFault.{whole-fine}
 use Rattle.mpslp_canonical_lp.proofs.TerminalLemmas.{at, mapped-append}

@@ -13,12 +13,11 @@ use Rattle.mpslp_lp_tokens.specs.Token.{Token, tokens}
 use Rattle.mpslp_lp_tokens.specs.declared.words.SectionWord.TheVariants as words
 use Rattle.mpslp_lp_grammar.specs.Rules.{Outcome, phrases, made_by}
 use Rattle.mpslp_lp_grammar.specs.Rules.Outcome.{Finished, Refused, Open}
-use Rattle.mpslp_lp_grammar.specs.Terminal.{Terminal, TerminalAt, terminal_of, line_terminals}
+use Rattle.mpslp_lp_grammar.specs.Terminal.{Terminal, TerminalAt, terminal_of, line_terminals, lexical_fault}
 use Rattle.mpslp_lp_grammar.specs.TerminalToken.{as_terminal, terminals}
 use Rattle.mpslp_lp_grammar.specs.Terminal.Terminal.{Opens}
 use Rattle.mpslp_lp_grammar.specs.Phrase.{start}
 use Rattle.mpslp_lp_grammar.specs.Grammar.{phrase_at}
-use Rattle.mpslp_lp_grammar.specs.LexicalFault.{lexical_fault}
 use Rattle.mpslp_lp.specs.LpText.{numbered_lines, sound_terminals, first_own_fault, or_else, is_finished}
 use Rattle.mpslp_canonical_lp.proofs.TerminalLemmas.{mapped-append}
 use Rattle.mpslp_lp_sentences.specs.Phrases.{File}

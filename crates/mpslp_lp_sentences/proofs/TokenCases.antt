@@ -23,13 +23,11 @@ use Rattle.mpslp_lp_grammar.specs.declared.states.SideOwner.{SideOwner}
 use Rattle.mpslp_lp_grammar.specs.declared.states.SideOwner.TheVariants.{SideOfRow, SideOfBound}
 use Rattle.mpslp_lp_grammar.specs.declared.states.State.TheVariants.{Between, AtObjective, ObjectiveName, AtLastWord, AtSemi, Signs, ItemNumber, RowName, RowLabel, RowSign, RowNumber, RowLeft, RowLeftRelation, BoundName, BoundSign, BoundLeft, BoundLeftRelation, AtSide, SideSign}
 use Rattle.mpslp_lp_grammar.specs.AfterToken.{AfterToken, Goes, refuse, with_made, declare_at, take_term, take_after_signs, begin_item, take_bound, take_side, take_limit}
-use Rattle.mpslp_lp_grammar.specs.Bounds.{no_limits}
+use Rattle.mpslp_lp_grammar.specs.Grammar.{no_limits, opened_by, may_begin_section, is_last_word}
 use Rattle.mpslp_lp_grammar.specs.FirstToken.{open_section, begin_row, begin_bound, take_second_relation, name_taken, begin_phrase, begin}
-use Rattle.mpslp_lp_grammar.specs.Grammar.{opened_by, may_begin_section, is_last_word}
 use Rattle.mpslp_lp_grammar.specs.Items.{one, product, apply_sign, infinity, limits_by, flip}
-use Rattle.mpslp_lp_grammar.specs.Objective.{objective_declared, default_objective, first_item_declared}
+use Rattle.mpslp_lp_grammar.specs.Rows.{objective_declared, default_objective, first_item_declared, default_row, without_terms, fits_left}
 use Rattle.mpslp_lp_grammar.specs.PartialRow.{PartialRow}
-use Rattle.mpslp_lp_grammar.specs.Rows.{default_row, without_terms, fits_left}
 use Rattle.mpslp_lp_grammar.specs.Terminal.{Terminal}
 use Rattle.mpslp_lp_grammar.specs.Terminal.Terminal.{Opens, Name, Number, Sign, Compares, Colon, Infinity, Free, Other}
 use Rattle.mpslp_lp_grammar.specs.TokenStep.{begin_after, take_lone, take}

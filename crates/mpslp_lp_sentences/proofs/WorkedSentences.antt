@@ -14,8 +14,7 @@ use Rattle.mpslp_builder.specs.Refusal.{refusals_in_turn}
 use Rattle.mpslp_lp_grammar.specs.declared.signs.Sign.TheVariants.{Plus, Minus}
 use Rattle.mpslp_lp_grammar.specs.declared.relations.Relation.TheVariants.{AtMost, AtLeast, EqualTo}
 use Rattle.mpslp_lp_grammar.specs.TerminalToken.{terminals}
-use Rattle.mpslp_lp_grammar.specs.Terminal.{Terminal as seen}
-use Rattle.mpslp_lp_grammar.specs.LexicalFault.{lexical_fault}
+use Rattle.mpslp_lp_grammar.specs.Terminal.{Terminal as seen, lexical_fault}
 use Rattle.mpslp_lp_tokens.specs.declared.words.SectionWord.TheVariants as words
 use Rattle.mpslp_lp.specs.LpText.{is_lp_text, declarations_of}
 use Rattle.mpslp_lp.proofs.WorkedFiles.{text}

@@ -5,7 +5,7 @@ use Rattle.std.specs.Str.Lines.{lines}
 use Rattle.mpslp_builder.specs.Declaration.{empty_draft, Declarations}
 use Rattle.mpslp_builder.specs.Refusal.{refusals_in_turn}
 use Rattle.mpslp_lp_grammar.specs.TerminalToken.{terminals}
-use Rattle.mpslp_lp_grammar.specs.LexicalFault.{lexical_fault}
+use Rattle.mpslp_lp_grammar.specs.Terminal.{lexical_fault}
 use Rattle.mpslp_lp_sentences.specs.Phrases.{File}
 use Rattle.mpslp_lp_sentences.specs.Spelling.{file_tokens, is_file}
 use Rattle.mpslp_lp_sentences.specs.Meaning.{file_declares}

@@ -9,8 +9,7 @@ use Rattle.std.proofs.lemmas.Bool.{eqb-true}
 use Rattle.mpslp_decimal.specs.Literal.{is_digit}
 use Rattle.mpslp_types.specs.Name.{same_bytes, is_letter, is_lp_symbol, is_lp_byte, lower_byte, is_reserved, begins_a_number}
 use Rattle.mpslp_types.proofs.BoolLemmas.{both_so, or_right}
-use Rattle.mpslp_lp_tokens.specs.Token.{is_blank, begins_comment, is_period, begins_word, continues_word, is_word, is_number, one_byte_operators, two_byte_operators, operator_kind, kind_of, Front, longest_within, longest_token, token_at, Token, tokens_from, tokens}
-use Rattle.mpslp_lp_tokens.specs.Words.{word_classes, class_of}
+use Rattle.mpslp_lp_tokens.specs.Token.{is_blank, begins_comment, is_period, begins_word, continues_word, is_word, is_number, one_byte_operators, two_byte_operators, operator_kind, kind_of, Front, longest_within, longest_token, token_at, Token, tokens_from, tokens, word_classes, class_of}
 use Rattle.mpslp_lp_tokens.specs.declared.tokens.TokenKind.{TokenKind}
 use Rattle.mpslp_lp_tokens.specs.declared.tokens.TokenKind.TheVariants as kinds
 use Rattle.mpslp_lp_tokens.specs.declared.words.WordClass.{WordClass}

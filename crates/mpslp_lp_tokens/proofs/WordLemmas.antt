@@ -6,7 +6,7 @@ use Rattle.std.specs.Option.{option_map_or}
 use Rattle.mpslp_types.specs.Name.{same_bytes, lower_byte, reserved_words, is_reserved}
 use Rattle.mpslp_types.specs.NameTests.{may_be_reserved}
 use Rattle.mpslp_types.proofs.ReservedLemmas.{reserved-other}
-use Rattle.mpslp_lp_tokens.specs.Words.{word_classes, class_of}
+use Rattle.mpslp_lp_tokens.specs.Token.{word_classes, class_of}
 use Rattle.mpslp_lp_tokens.specs.declared.words.WordClass.{WordClass}
 use Rattle.mpslp_lp_tokens.specs.declared.words.WordClass.TheVariants.{Name}
 

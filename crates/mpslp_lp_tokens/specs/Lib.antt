@@ -1,4 +1,3 @@
 pub mod Token
 pub mod Scan
-pub mod Words
 pub mod Laws

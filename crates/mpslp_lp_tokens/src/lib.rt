@@ -1,7 +1,7 @@
 //! The tokens of a line of LP text, and what words mean.
 //!
-//! The definitions are in `specs/`: the tokens of a line (`Token`), the same by stages (`Scan`), reserved words (`Words`), and
-//! what holds of every line (`Laws`).
+//! The definitions are in `specs/`: the tokens of a line and reserved words (`Token`), tokens by stages (`Scan`), and what
+//! holds of every line (`Laws`).
 //!
 //! [`tokens_of`] divides a line into tokens, in one pass and without allocating. [`class_of`] returns what a word means. The
 //! grammar is in `mpslp_lp_grammar`.

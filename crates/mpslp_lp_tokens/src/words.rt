@@ -5,7 +5,7 @@ ghost use Rattle.std.specs.List.{find};
 ghost use Rattle.std.specs.Option.{option_map_or};
 ghost use Rattle.mpslp_types.specs.Name.{lower_byte, same_bytes};
 ghost use Rattle.mpslp_lp_tokens.specs.declared.words.WordClass.{WordClass};
-ghost use Rattle.mpslp_lp_tokens.specs.Words.{class_of, section_of};
+ghost use Rattle.mpslp_lp_tokens.specs.Token.{class_of, section_of};
 
 use mpslp_types::may_be_reserved;
 

@@ -5,8 +5,7 @@ use Rattle.std.proofs.lemmas.Bool.{eqb-true}
 use Rattle.std.specs.Cmp.{first_so, second_so}
 use Rattle.mpslp_types.proofs.BoolLemmas.{not_so}
 use Rattle.mpslp_mps_fields.specs.DataLine.{opening_word, closing_word}
-use Rattle.mpslp_canonical_mps.specs.CanonicalMps.{Lines, integer_part, marker_line}
-use Rattle.mpslp_canonical_mps.specs.Printed.{line_text, text_of}
+use Rattle.mpslp_canonical_mps.specs.CanonicalMps.{Lines, integer_part, marker_line, line_text, text_of}
 use Rattle.mpslp_io.specs.declared.devices.Sink.{Ghosts as SinkOf}
 use Rattle.mpslp_output.specs.TextBuffer.{BufferState, text_under, header_behind}
 use Rattle.mpslp_output.specs.Printing.{Holds, Puts, HasHeader, Prints, PrintsSection}

@@ -3,8 +3,7 @@ use Rattle.std.proofs.Common.{◌≡◌, refl, ap, ◌<◌, ℕ, List, [], ◌�
 use Rattle.mpslp_model_core.specs.Model.{LinearModel}
 use Rattle.mpslp_mps_fields.specs.Line.{keyword_of}
 use Rattle.mpslp_mps_fields.specs.declared.sections.Section.{Section}
-use Rattle.mpslp_canonical_mps.specs.CanonicalMps.{Lines, canonical_mps, under_header}
-use Rattle.mpslp_canonical_mps.specs.Printed.{line_text, text_of}
+use Rattle.mpslp_canonical_mps.specs.CanonicalMps.{Lines, canonical_mps, under_header, line_text, text_of}
 use Rattle.mpslp_output.specs.TextBuffer.{text_under}
 
 pub canonical_mps-some : (m : LinearModel) → 0 < length (canonical_mps m)

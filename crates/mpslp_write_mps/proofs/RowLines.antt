@@ -15,9 +15,8 @@ use Rattle.mpslp_types.specs.declared.kinds.Limit.{Limit}
 use Rattle.mpslp_types.specs.declared.kinds.Limit.TheVariants.{MinusInf, Finite, PlusInf}
 use Rattle.mpslp_types.specs.declared.kinds.RowType.TheVariants.{AtLeast, Equal}
 use Rattle.mpslp_mps_fields.specs.DataLine.{letter_of}
-use Rattle.mpslp_canonical_mps.specs.Printed.{short_line}
+use Rattle.mpslp_canonical_mps.specs.CanonicalMps.{short_line, Lines, row_line, vector_line, range_lines}
 use Rattle.mpslp_canonical_mps.specs.PrintedValues.{printed_type, printed_rhs}
-use Rattle.mpslp_canonical_mps.specs.CanonicalMps.{Lines, row_line, vector_line, range_lines}
 use Rattle.mpslp_output.specs.LinesAt.{lines_at}
 use Rattle.mpslp_write_mps.specs.MpsLinesAt.{printed_letter}
 use Rattle.mpslp_output.proofs.LinesAtLemmas.{both_seen, lines_seen, nothing_seen}

@@ -7,8 +7,7 @@ mod rows;
 
 ghost use Rattle.std.specs.Prelude.{◌≡◌, ◌+◌, ◌≤◌, true, false, None, length, IsOk};
 ghost use Rattle.mpslp_model.specs.Formats.{IsWritten};
-ghost use Rattle.mpslp_canonical_mps.specs.Printed.{line_text};
-ghost use Rattle.mpslp_canonical_mps.specs.CanonicalMps.{canonical_mps, canonical_lines, sense_lines};
+ghost use Rattle.mpslp_canonical_mps.specs.CanonicalMps.{line_text, canonical_mps, canonical_lines, sense_lines};
 ghost use Rattle.mpslp_output.specs.Printing.{PrintsSection};
 
 use crate::mps::bounds::put_bounds_section;

@@ -4,10 +4,9 @@ ghost use Rattle.std.specs.Prelude.{◌≡◌, ◌<◌, [], ◌∷◌, ◌++◌,
 ghost use Rattle.std.specs.List.{flat_map};
 ghost use Rattle.std.specs.FinMap.{entries};
 ghost use Rattle.mpslp_model_core.specs.Views.{num_columns};
-ghost use Rattle.mpslp_canonical_mps.specs.Printed.{line_text};
+ghost use Rattle.mpslp_canonical_mps.specs.CanonicalMps.{line_text, bound_line, column_bound_lines, bounds_section};
 ghost use Rattle.mpslp_decimal.specs.Decimal.{have_same_value};
 ghost use Rattle.mpslp_canonical_mps.specs.PrintedValues.{is_fixed, printed_lower, printed_upper, printed_bounds};
-ghost use Rattle.mpslp_canonical_mps.specs.CanonicalMps.{bound_line, column_bound_lines, bounds_section};
 ghost use Rattle.mpslp_model_core.specs.Model.{listing_of};
 ghost use Rattle.mpslp_output.specs.LinesAt.{lines_at};
 ghost use Rattle.mpslp_write_mps.specs.MpsLinesAt.{fixed_value, are_free};

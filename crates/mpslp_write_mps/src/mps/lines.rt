@@ -2,7 +2,7 @@
 
 ghost use Rattle.std.specs.Prelude.{[], ◌∷◌, ◌++◌, codes};
 ghost use Rattle.mpslp_decimal.specs.NumberText.{number_text};
-ghost use Rattle.mpslp_canonical_mps.specs.Printed.{line_text, short_line, long_line};
+ghost use Rattle.mpslp_canonical_mps.specs.CanonicalMps.{line_text, short_line, long_line};
 ghost use Rattle.mpslp_output.specs.Printing.{Puts, Prints};
 
 use mpslp_decimal::{Decimal, DecimalText};

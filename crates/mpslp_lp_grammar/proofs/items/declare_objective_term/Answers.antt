@@ -1,7 +1,7 @@
 use Rattle.std.proofs.Common.{refl, subst, ℕ, List}
 use Rattle.mpslp_builder.specs.Refusal.{refusals_in_turn}
 use Rattle.mpslp_lp_grammar.specs.Terminal.{Terminal}
-use Rattle.mpslp_lp_grammar.specs.Objective.{term_declared}
+use Rattle.mpslp_lp_grammar.specs.Rows.{term_declared}
 use Rattle.mpslp_lp_grammar.specs.Declares.{Declares, answer_at}
 use Rattle.mpslp_lp_grammar.specs.declared.states.Place.TheVariants.{InObjective}
 use Rattle.mpslp_lp_grammar.proofs.TokenAnswers.{completes}

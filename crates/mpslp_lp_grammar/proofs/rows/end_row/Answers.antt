@@ -2,8 +2,7 @@ use Rattle.std.proofs.Common.{subst, sym, ◌∷◌}
 use Rattle.std.specs.List.{flat_map}
 use Rattle.mpslp_builder.specs.Declaration.{Declarations, Draft, by_limits, declare_row}
 use Rattle.mpslp_builder.specs.Refusal.{refusals_in_turn}
-use Rattle.mpslp_lp_grammar.specs.Objective.{term_declared}
-use Rattle.mpslp_lp_grammar.specs.Rows.{row_limits, row_declared}
+use Rattle.mpslp_lp_grammar.specs.Rows.{term_declared, row_limits, row_declared}
 use Rattle.mpslp_lp_grammar.specs.TerminalToken.{terminal_of_token}
 use Rattle.mpslp_lp_grammar.specs.Declares.{Declares}
 use Rattle.mpslp_lp_grammar.specs.declared.states.Place.TheVariants.{BetweenRows}

@@ -1,6 +1,6 @@
 use Rattle.std.proofs.Common.{sym, subst, ℕ, List}
 use Rattle.mpslp_builder.specs.Refusal.{refusals_in_turn}
-use Rattle.mpslp_lp_grammar.specs.Objective.{first_item_declared}
+use Rattle.mpslp_lp_grammar.specs.Rows.{first_item_declared}
 use Rattle.mpslp_lp_grammar.specs.TerminalToken.{terminal_of_token}
 use Rattle.mpslp_lp_grammar.specs.AfterToken.{AfterToken}
 use Rattle.mpslp_lp_grammar.specs.TokenStep.{begin_after}

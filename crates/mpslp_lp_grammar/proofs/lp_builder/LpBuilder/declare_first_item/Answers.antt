@@ -3,7 +3,7 @@ use Rattle.mpslp_builder.specs.Declaration.{with_declarations}
 use Rattle.mpslp_builder.specs.Refusal.{refusals_in_turn}
 use Rattle.mpslp_builder.proofs.MadeDrafts.{refusals_in_turn-append}
 use Rattle.mpslp_lp_grammar.specs.Items.{one}
-use Rattle.mpslp_lp_grammar.specs.Objective.{default_objective, objective_declared, term_declared, first_item_declared}
+use Rattle.mpslp_lp_grammar.specs.Rows.{default_objective, objective_declared, term_declared, first_item_declared}
 use Rattle.mpslp_lp_grammar.proofs.DeclaresLemmas.{refused-here, told-by}
 use Rattle.mpslp_lp_grammar.proofs.lp_builder.LpBuilder.declare_first_item.Goals as goal
 

@@ -5,7 +5,7 @@ use Rattle.mpslp_builder.specs.Refusal.{refusals_in_turn}
 use Rattle.mpslp_builder.proofs.MadeDrafts.{refusals_in_turn-append}
 use Rattle.mpslp_lp_grammar.specs.PartialRow.{PartialRow}
 use Rattle.mpslp_lp_grammar.specs.declared.states.PartialParts.{PartialParts}
-use Rattle.mpslp_lp_grammar.specs.Objective.{term_declared}
+use Rattle.mpslp_lp_grammar.specs.Rows.{term_declared}
 use Rattle.mpslp_lp_grammar.specs.Declares.{Declares}
 use Rattle.mpslp_lp_grammar.proofs.DeclaresLemmas.{refused-here, told-by, declares-then}
 use Rattle.mpslp_lp_grammar.proofs.lp_builder.LpBuilder.declare_partial.Goals as goal

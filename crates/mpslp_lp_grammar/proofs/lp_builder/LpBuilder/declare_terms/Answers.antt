@@ -2,7 +2,7 @@ use Rattle.std.proofs.Common.{subst, ◌≡◌, sym, ap, ◌∙◌, ℕ, ◌-◌
 use Rattle.std.specs.List.{flat_map}
 use Rattle.mpslp_builder.specs.Declaration.{Draft, RowDefinition}
 use Rattle.mpslp_lp_grammar.specs.Declares.{Declares}
-use Rattle.mpslp_lp_grammar.specs.Objective.{term_declared}
+use Rattle.mpslp_lp_grammar.specs.Rows.{term_declared}
 use Rattle.mpslp_lp_grammar.proofs.DeclaresLemmas.{refused-in_turn}
 use Rattle.mpslp_lp_grammar.proofs.lp_builder.LpBuilder.declare_terms.Goals as goal
 

@@ -2,7 +2,7 @@ use Rattle.std.proofs.Common.{take}
 use Rattle.std.specs.List.{flat_map}
 use Rattle.mpslp_model_core.specs.Views.{column_name, column_elements}
 use Rattle.mpslp_write_mps.specs.MpsLinesAt.{element_lines}
-use Rattle.mpslp_canonical_mps.specs.Printed.{line_text}
+use Rattle.mpslp_canonical_mps.specs.CanonicalMps.{line_text}
 use Rattle.mpslp_output.specs.Printing.{Prints}
 use Rattle.mpslp_write_mps.proofs.mps.columns.put_elements.Given as goal
 

@@ -1,5 +1,5 @@
 use Rattle.std.proofs.Common.{ap, ◌∙◌, ℕ, [], ◌∷◌}
-use Rattle.mpslp_canonical_mps.specs.Printed.{short_line}
+use Rattle.mpslp_canonical_mps.specs.CanonicalMps.{short_line}
 use Rattle.mpslp_write_mps.proofs.RowLines.{row-put}
 use Rattle.mpslp_output.proofs.OutputLemmas.{prints_same}
 use Rattle.mpslp_write_mps.proofs.mps.rows.put_row.Goals as goal
