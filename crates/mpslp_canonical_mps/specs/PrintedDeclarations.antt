@@ -21,6 +21,14 @@ use Rattle.mpslp_mps_fields.specs.declared.sections.Section.TheVariants.{ObjSens
 use Rattle.mpslp_canonical_mps.specs.CanonicalMps.{PrintedLine, heading, short_line, long_line, header_line, maximize_line, objective_line, row_line, coefficient_line, marker_line, rhs_line, range_line, bound_line}
 use Rattle.mpslp_canonical_mps.specs.PrintedValues.{printed_type, bound_without_value, bound_with_value}
 
+-- ---- what a reader of MPS sees in a printed line
+
+-- the content of a printed line
+abbrev pub content_in : PrintedLine → LineContent
+content_in (heading keyword) = header keyword []
+content_in (short_line fields) = data_line fields
+content_in (long_line fields) = data_line fields
+
 -- The line declares these, and its form has no error.
 pub record IsDerived (context : Context) (earlier : Draft) (line : PrintedLine) (declarations : Declarations) : Type 0 where
   pub declares : line_declares context earlier (content_in line) ≡ declarations
@@ -106,11 +114,3 @@ DeriveAllColumns = (context : Context) (earlier : Draft) → context.section ≡
 abbrev pub DeriveAllBounds : Type 0
 DeriveAllBounds =
     (context : Context) (earlier : Draft) (column : List ℕ) → context.section ≡ Some Bounds → is_set_of context.bounds_set (codes "BND") ≡ true → DeriveBounds context earlier column
-
--- ---- what a reader of MPS sees in a printed line
-
--- the content of a printed line
-abbrev pub content_in : PrintedLine → LineContent
-content_in (heading keyword) = header keyword []
-content_in (short_line fields) = data_line fields
-content_in (long_line fields) = data_line fields
