@@ -2,7 +2,6 @@
 use Rattle.std.proofs.Common.{◌≡◌, refl, sym, ap, subst, ◌∙◌, ℕ, zero, suc, List, [], ◌∷◌, ◌++◌, Bool, true, false}
 use Rattle.std.specs.Prelude.{None, Some, Option, is_some, slice_get, length, ◌<◌, ◌||◌}
 use Rattle.std.specs.Option.{option_map, option_map_or}
-use Rattle.std.specs.Global.{Vec}
 use Rattle.indexmap.specs.IndexMap.{set_value_at}
 use Rattle.mpslp_decimal.specs.Decimal.{Number}
 use Rattle.mpslp_types.specs.declared.kinds.Limit.{Limit}
@@ -10,7 +9,7 @@ use Rattle.mpslp_types.specs.declared.kinds.Sense.{Sense}
 use Rattle.mpslp_model_core.specs.Limits.{RowDefinition, is_definition_by_limits}
 use Rattle.mpslp_model_core.proofs.CellLemmas.{at}
 use Rattle.mpslp_builder.specs.Declaration.{with_declaration, with_declarations, declare_row, declare_objective, declare_column, declare_coefficient, declare_rhs, declare_range, declare_marked, declare_integer, declare_binary, declare_semi, bounds_declared, has_row, has_column, has_coefficient}
-use Rattle.mpslp_builder.specs.Tables.{bytes, cells_of, name_of_objective, draft_from, draft, AreNumbered, IsNumbered}
+use Rattle.mpslp_builder.specs.Tables.{cells_of, name_of_objective, draft_from, draft, AreNumbered, IsNumbered}
 use Rattle.mpslp_builder.specs.Calls.{row_key_of, row_name, row_tells, column_name, new_column, with_cell, with_bounds, IsOnceEach, IsSameTables, HasObjective, HasRowAdded, HasRowChanged, HasColumnAdded, HasColumnChanged, HasObjectiveChanged, HasRhsPut}
 use Rattle.mpslp_builder_parts.specs.declared.parts.ObjectiveParts.{ObjectiveParts}
 use Rattle.mpslp_builder_parts.specs.RowParts.{RowParts}
@@ -22,18 +21,18 @@ use Rattle.mpslp_builder.proofs.ColumnDrafts.{column_draft, column_numbered, kep
 use Rattle.mpslp_builder.proofs.RowDrafts.{row_draft, row_numbered, written_numbered, range_draft, rhs_draft, objective_draft, objective_numbered, objective_rhs_draft, objective_rhs_numbered}
 
 abbrev Parts : Type 0
-Parts = Option ObjectiveParts × List (Vec ℕ × RowParts) × List (Vec ℕ × ColumnParts)
+Parts = Option ObjectiveParts × List (List ℕ × RowParts) × List (List ℕ × ColumnParts)
 
 numbered_as : (p q : Parts) → p ≡ q → AreNumbered q.0 q.1 q.2 → AreNumbered p.0 p.1 p.2
 numbered_as p q e h = subst (λ (x : Parts). AreNumbered x.0 x.1 x.2) (sym e) h
 
 -- an entry has the name of its number
-entry_named : {V : Type 0} (o : Option (Vec ℕ × V)) (k : Vec ℕ) (v : V) (name : List ℕ) → o ≡ Some (k, v) → option_map (λ e. bytes e.0) o ≡ Some name → bytes k ≡ name
+entry_named : {V : Type 0} (o : Option (List ℕ × V)) (k : List ℕ) (v : V) (name : List ℕ) → o ≡ Some (k, v) → option_map (λ e. e.0) o ≡ Some name → k ≡ name
 entry_named None k v name is named = cc
 entry_named {V} (Some e) k v name is named =
-    let here : ◌≡◌ {A = Vec ℕ × V} e (k, v) = cc in
-    let own : bytes e.0 ≡ name = cc in
-    ap (λ (x : Vec ℕ × V). bytes x.0) (sym here) ∙ own
+    let here : ◌≡◌ {A = List ℕ × V} e (k, v) = cc in
+    let own : e.0 ≡ name = cc in
+    ap (λ (x : List ℕ × V). x.0) (sym here) ∙ own
 
 -- equal tables represent equal drafts
 pub same_tables : (sense : Option Sense) (constant : Option Number) (t u : Tables) → IsSameTables t u → draft sense constant u ≡ draft sense constant t
@@ -50,13 +49,13 @@ objective_absent (Some parts) h = cc
 module _ (sense : Option Sense) (constant : Option Number) (t u : Tables) where
   -- ---- a row
 
-  pub row_added : (k : Vec ℕ) (definition : RowDefinition) → IsNumbered t → HasRowAdded t k (record { definition = definition; rhs = None; range = None }) u → has_row (draft sense constant t) (bytes k) ≡ false
-      → draft sense constant u ≡ with_declaration (draft sense constant t) (declare_row (bytes k) definition)
+  pub row_added : (k : List ℕ) (definition : RowDefinition) → IsNumbered t → HasRowAdded t k (record { definition = definition; rhs = None; range = None }) u → has_row (draft sense constant t) k ≡ false
+      → draft sense constant u ≡ with_declaration (draft sense constant t) (declare_row k definition)
   row_added k definition numbered h absent =
       (λ i. draft_from sense constant (h.objective i) (h.rows i) (h.columns i)) ∙ row_draft sense constant t.objective t.rows.entries t.columns.entries k definition numbered absent
 
-  pub row_added_numbered : (k : Vec ℕ) (definition : RowDefinition) → IsNumbered t → HasRowAdded t k (record { definition = definition; rhs = None; range = None }) u → length t.rows.entries < 4294967294
-      → has_row (draft sense constant t) (bytes k) ≡ false → IsNumbered u
+  pub row_added_numbered : (k : List ℕ) (definition : RowDefinition) → IsNumbered t → HasRowAdded t k (record { definition = definition; rhs = None; range = None }) u → length t.rows.entries < 4294967294
+      → has_row (draft sense constant t) k ≡ false → IsNumbered u
   row_added_numbered k definition numbered h few absent =
       numbered_as (u.objective, u.rows.entries, u.columns.entries) (t.objective, t.rows.entries ++ (k, record { definition = definition; rhs = None; range = None }) ∷ [], t.columns.entries) (λ i. (h.objective i, h.rows i, h.columns i))
       (row_numbered sense constant t.objective t.rows.entries t.columns.entries k definition numbered few absent)
@@ -130,11 +129,11 @@ module _ (sense : Option Sense) (constant : Option Number) (t u : Tables) where
 
   -- ---- a column
 
-  pub column_added : (k : Vec ℕ) → HasColumnAdded t k new_column u → has_column (draft sense constant t) (bytes k) ≡ false → draft sense constant u ≡ with_declaration (draft sense constant t) (declare_column (bytes k))
+  pub column_added : (k : List ℕ) → HasColumnAdded t k new_column u → has_column (draft sense constant t) k ≡ false → draft sense constant u ≡ with_declaration (draft sense constant t) (declare_column k)
   column_added k h absent =
       (λ i. draft_from sense constant (h.objective i) (h.rows i) (h.columns i)) ∙ column_draft sense constant t.objective t.rows.entries t.columns.entries k absent
 
-  pub column_added_numbered : (k : Vec ℕ) → HasColumnAdded t k new_column u → IsNumbered t → IsNumbered u
+  pub column_added_numbered : (k : List ℕ) → HasColumnAdded t k new_column u → IsNumbered t → IsNumbered u
   column_added_numbered k h numbered =
       numbered_as (u.objective, u.rows.entries, u.columns.entries) (t.objective, t.rows.entries, t.columns.entries ++ (k, new_column) ∷ []) (λ i. (h.objective i, h.rows i, h.columns i))
       (column_numbered sense constant t.objective t.rows.entries t.columns.entries k numbered)

@@ -9,7 +9,6 @@ use Rattle.std.specs.declared.cmp.Ordering.{Ordering}
 use Rattle.std.specs.declared.cmp.Ordering.TheVariants.{Less, Equal, Greater}
 use Rattle.std.specs.FinMap.{find, put, nat_cmp-IsAntisymmetric}
 use Rattle.std.specs.FinMap.Entries.{by_order}
-use Rattle.std.specs.Global.{Vec}
 use Rattle.indexmap.specs.IndexMap.{set_value_at}
 use Rattle.mpslp_decimal.specs.Decimal.{Number}
 use Rattle.mpslp_types.specs.Name.{bytes_cmp}
@@ -22,7 +21,7 @@ use Rattle.mpslp_model_core.proofs.KeyLemmas.{bytes_total, key_total, tied_names
 use Rattle.mpslp_model_core.proofs.SortedLemmas.{find-sorted_of, sorted_of-put, sorted_of-append}
 use Rattle.mpslp_model_core.proofs.CellLemmas.{at, find-all_cells}
 use Rattle.mpslp_builder.specs.Declaration.{Draft, with_declaration, with_declarations, declare_column, declare_coefficient, declare_marked, declare_integer, declare_binary, declare_semi, bounds_declared, has_column, has_coefficient}
-use Rattle.mpslp_builder.specs.Tables.{bytes, no_part, cells_of, lower_of, upper_of, mark_of, integer_of, binary_of, semi_of, name_of_row_key, cells_by_name, draft_from, AreNumbered}
+use Rattle.mpslp_builder.specs.Tables.{no_part, cells_of, lower_of, upper_of, mark_of, integer_of, binary_of, semi_of, name_of_row_key, cells_by_name, draft_from, AreNumbered}
 use Rattle.mpslp_builder_parts.specs.DeclaredBounds.{side_put}
 use Rattle.mpslp_builder.specs.Calls.{new_column, with_cell, with_bounds}
 use Rattle.mpslp_builder_parts.specs.declared.parts.ObjectiveParts.{ObjectiveParts}
@@ -52,24 +51,24 @@ put_all {X} R p k v (e ∷ es) tied h all =
       | Greater ↦ λ _. both_so (p e) (list_all p (put R k v es)) (first_so (p e) (list_all p es) all) (put_all R p k v es tied h (second_so (p e) (list_all p es) all))
     ] refl
 
-module _ (sense : Option Sense) (constant : Option Number) (objective : Option ObjectiveParts) (rows : List (Vec ℕ × RowParts)) (columns : List (Vec ℕ × ColumnParts)) where
+module _ (sense : Option Sense) (constant : Option Number) (objective : Option ObjectiveParts) (rows : List (List ℕ × RowParts)) (columns : List (List ℕ × ColumnParts)) where
   -- ---- a column
 
-  module _ (k : Vec ℕ) where
+  module _ (k : List ℕ) where
     -- nothing is declared of a new column
     none_more : {X : Type 0} (f : ColumnParts → Option X) → f new_column ≡ None
-        → sorted_of bytes_cmp (given_parts bytes f (columns ++ (k, new_column) ∷ [])) ≡ sorted_of bytes_cmp (given_parts bytes f columns)
-    none_more f none = ap (sorted_of bytes_cmp) (given_parts-without bytes f columns k new_column none)
+        → sorted_of bytes_cmp (given_parts f (columns ++ (k, new_column) ∷ [])) ≡ sorted_of bytes_cmp (given_parts f columns)
+    none_more f none = ap (sorted_of bytes_cmp) (given_parts-without f columns k new_column none)
 
-    pub column_draft : has_column (draft_from sense constant objective rows columns) (bytes k) ≡ false
-        → draft_from sense constant objective rows (columns ++ (k, new_column) ∷ []) ≡ with_declaration (draft_from sense constant objective rows columns) (declare_column (bytes k))
+    pub column_draft : has_column (draft_from sense constant objective rows columns) k ≡ false
+        → draft_from sense constant objective rows (columns ++ (k, new_column) ∷ []) ≡ with_declaration (draft_from sense constant objective rows columns) (declare_column k)
     column_draft absent =
-        let names : sorted_of bytes_cmp (each_part bytes no_part (columns ++ (k, new_column) ∷ [])) ≡ put bytes_cmp (bytes k) tt (sorted_of bytes_cmp (each_part bytes no_part columns)) =
-        ap (sorted_of bytes_cmp) (each_part-append bytes no_part columns k new_column)
-        ∙ sorted_of-append bytes_cmp bytes_total tied_names (bytes k) tt (each_part bytes no_part columns) (absent-each_part bytes no_part (bytes k) columns absent) in
+        let names : sorted_of bytes_cmp (each_part no_part (columns ++ (k, new_column) ∷ [])) ≡ put bytes_cmp k tt (sorted_of bytes_cmp (each_part no_part columns)) =
+        ap (sorted_of bytes_cmp) (each_part-append no_part columns k new_column)
+        ∙ sorted_of-append bytes_cmp bytes_total tied_names k tt (each_part no_part columns) (absent-each_part no_part k columns absent) in
         let name = name_of_row_key objective rows in
         let cells : all_cells name (cells_by_name (columns ++ (k, new_column) ∷ [])) ≡ all_cells name (cells_by_name columns) =
-        ap (all_cells name) (each_part-append bytes cells_of columns k new_column) ∙ cells-empty name (bytes k) (cells_by_name columns) in
+        ap (all_cells name) (each_part-append cells_of columns k new_column) ∙ cells-empty name k (cells_by_name columns) in
         λ i. record (draft_from sense constant objective rows columns) {
           columns = names i;
           coefficients = sorted_of key_cmp (cells i);
@@ -85,29 +84,29 @@ module _ (sense : Option Sense) (constant : Option Number) (objective : Option O
     column_numbered numbered = record {
       few = numbered.few;
       apart = numbered.apart;
-      named = ap (all_named (name_of_row_key objective rows)) (each_part-append bytes cells_of columns k new_column) ∙ named-empty (name_of_row_key objective rows) (bytes k) (cells_by_name columns) numbered.named;
+      named = ap (all_named (name_of_row_key objective rows)) (each_part-append cells_of columns k new_column) ∙ named-empty (name_of_row_key objective rows) k (cells_by_name columns) numbered.named;
     }
 
   -- ---- a column that is written
 
-  module _ (i : ℕ) (k : Vec ℕ) (v : ColumnParts) (column : slice_get columns i ≡ Some (k, v)) where
+  module _ (i : ℕ) (k : List ℕ) (v : ColumnParts) (column : slice_get columns i ≡ Some (k, v)) where
     -- a part that is unchanged
     kept : {X : Type 0} (f : ColumnParts → Option X) (w : ColumnParts) → f w ≡ f v
-        → sorted_of bytes_cmp (given_parts bytes f (set_value_at columns i w)) ≡ sorted_of bytes_cmp (given_parts bytes f columns)
-    kept f w same = ap (sorted_of bytes_cmp) (given_parts-kept bytes f columns i k v w column same)
+        → sorted_of bytes_cmp (given_parts f (set_value_at columns i w)) ≡ sorted_of bytes_cmp (given_parts f columns)
+    kept f w same = ap (sorted_of bytes_cmp) (given_parts-kept f columns i k v w column same)
 
     -- a part that is added
     given : {X : Type 0} (f : ColumnParts → Option X) (w : ColumnParts) (x : X) → IsOnce (cells_by_name columns) → f w ≡ Some x
-        → sorted_of bytes_cmp (given_parts bytes f (set_value_at columns i w)) ≡ put bytes_cmp (bytes k) x (sorted_of bytes_cmp (given_parts bytes f columns))
+        → sorted_of bytes_cmp (given_parts f (set_value_at columns i w)) ≡ put bytes_cmp k x (sorted_of bytes_cmp (given_parts f columns))
     given f w x once is =
-        sorted_of-put bytes_cmp bytes_total tied_names (bytes k) x (given_parts bytes f (set_value_at columns i w)) (given_parts bytes f columns)
-        (λ q. find-given_any bytes f q x columns i k v w column is (once_too bytes cells_of (λ (y : ColumnParts). y) columns once))
+        sorted_of-put bytes_cmp bytes_total tied_names k x (given_parts f (set_value_at columns i w)) (given_parts f columns)
+        (λ q. find-given_any f q x columns i k v w column is (once_too cells_of (λ (y : ColumnParts). y) columns once))
 
-    names : (w : ColumnParts) → sorted_of bytes_cmp (each_part bytes no_part (set_value_at columns i w)) ≡ sorted_of bytes_cmp (each_part bytes no_part columns)
-    names w = ap (sorted_of bytes_cmp) (each_part-kept bytes no_part columns i k v w column refl)
+    names : (w : ColumnParts) → sorted_of bytes_cmp (each_part no_part (set_value_at columns i w)) ≡ sorted_of bytes_cmp (each_part no_part columns)
+    names w = ap (sorted_of bytes_cmp) (each_part-kept no_part columns i k v w column refl)
 
     same_cells : (w : ColumnParts) → cells_of w ≡ cells_of v → cells_by_name (set_value_at columns i w) ≡ cells_by_name columns
-    same_cells w cells = each_part-kept bytes cells_of columns i k v w column cells
+    same_cells w cells = each_part-kept cells_of columns i k v w column cells
 
     coefficients : (w : ColumnParts) → cells_of w ≡ cells_of v
         → sorted_of key_cmp (all_cells (name_of_row_key objective rows) (cells_by_name (set_value_at columns i w))) ≡ sorted_of key_cmp (all_cells (name_of_row_key objective rows) (cells_by_name columns))
@@ -121,7 +120,7 @@ module _ (sense : Option Sense) (constant : Option Number) (objective : Option O
     }
 
     pub mark_draft : IsOnce (cells_by_name columns)
-        → draft_from sense constant objective rows (set_value_at columns i (record v { marked = true })) ≡ with_declaration (draft_from sense constant objective rows columns) (declare_marked (bytes k))
+        → draft_from sense constant objective rows (set_value_at columns i (record v { marked = true })) ≡ with_declaration (draft_from sense constant objective rows columns) (declare_marked k)
     mark_draft once =
         let w : ColumnParts = record v { marked = true } in
         λ j. record (draft_from sense constant objective rows columns) {
@@ -136,7 +135,7 @@ module _ (sense : Option Sense) (constant : Option Number) (objective : Option O
         }
 
     pub integer_draft : IsOnce (cells_by_name columns)
-        → draft_from sense constant objective rows (set_value_at columns i (record v { integer = true })) ≡ with_declaration (draft_from sense constant objective rows columns) (declare_integer (bytes k))
+        → draft_from sense constant objective rows (set_value_at columns i (record v { integer = true })) ≡ with_declaration (draft_from sense constant objective rows columns) (declare_integer k)
     integer_draft once =
         let w : ColumnParts = record v { integer = true } in
         λ j. record (draft_from sense constant objective rows columns) {
@@ -151,7 +150,7 @@ module _ (sense : Option Sense) (constant : Option Number) (objective : Option O
         }
 
     pub binary_draft : IsOnce (cells_by_name columns)
-        → draft_from sense constant objective rows (set_value_at columns i (record v { binary = true })) ≡ with_declaration (draft_from sense constant objective rows columns) (declare_binary (bytes k))
+        → draft_from sense constant objective rows (set_value_at columns i (record v { binary = true })) ≡ with_declaration (draft_from sense constant objective rows columns) (declare_binary k)
     binary_draft once =
         let w : ColumnParts = record v { binary = true } in
         λ j. record (draft_from sense constant objective rows columns) {
@@ -166,7 +165,7 @@ module _ (sense : Option Sense) (constant : Option Number) (objective : Option O
         }
 
     pub semi_draft : IsOnce (cells_by_name columns)
-        → draft_from sense constant objective rows (set_value_at columns i (record v { semi = true })) ≡ with_declaration (draft_from sense constant objective rows columns) (declare_semi (bytes k))
+        → draft_from sense constant objective rows (set_value_at columns i (record v { semi = true })) ≡ with_declaration (draft_from sense constant objective rows columns) (declare_semi k)
     semi_draft once =
         let w : ColumnParts = record v { semi = true } in
         λ j. record (draft_from sense constant objective rows columns) {
@@ -184,22 +183,22 @@ module _ (sense : Option Sense) (constant : Option Number) (objective : Option O
 
     -- the declared lower or upper bounds, with one more if it is given
     abbrev limits_put : Option Limit → List (List ℕ × Limit) → List (List ℕ × Limit)
-    limits_put side sides = option_map_or (λ limit. put bytes_cmp (bytes k) limit sides) side sides
+    limits_put side sides = option_map_or (λ limit. put bytes_cmp k limit sides) side sides
 
     side : (f : ColumnParts → Option Limit) (w : ColumnParts) (given_side : Option Limit) → IsOnce (cells_by_name columns) → f w ≡ side_put given_side (f v)
-        → sorted_of bytes_cmp (given_parts bytes f (set_value_at columns i w)) ≡ limits_put given_side (sorted_of bytes_cmp (given_parts bytes f columns))
+        → sorted_of bytes_cmp (given_parts f (set_value_at columns i w)) ≡ limits_put given_side (sorted_of bytes_cmp (given_parts f columns))
     side f w None once is = kept f w is
     side f w (Some limit) once is = given f w limit once is
 
     sides-with_declaration : (before : Draft) (lower upper : Option Limit)
-        → with_declarations before (bounds_declared (bytes k) lower upper) ≡ record before { lowers = limits_put lower before.lowers; uppers = limits_put upper before.uppers }
+        → with_declarations before (bounds_declared k lower upper) ≡ record before { lowers = limits_put lower before.lowers; uppers = limits_put upper before.uppers }
     sides-with_declaration before None None = refl
     sides-with_declaration before (Some l) None = refl
     sides-with_declaration before None (Some u) = refl
     sides-with_declaration before (Some l) (Some u) = refl
 
     pub sides_draft : (lower upper : Option Limit) → IsOnce (cells_by_name columns)
-        → draft_from sense constant objective rows (set_value_at columns i (with_bounds lower upper v)) ≡ with_declarations (draft_from sense constant objective rows columns) (bounds_declared (bytes k) lower upper)
+        → draft_from sense constant objective rows (set_value_at columns i (with_bounds lower upper v)) ≡ with_declarations (draft_from sense constant objective rows columns) (bounds_declared k lower upper)
     sides_draft lower upper once =
         let w : ColumnParts = with_bounds lower upper v in
         let before : Draft = draft_from sense constant objective rows columns in
@@ -220,23 +219,23 @@ module _ (sense : Option Sense) (constant : Option Number) (objective : Option O
 
     module _ (numbered : AreNumbered objective rows columns) (n : ℕ) (r : List ℕ) (row : name_of_row_key objective rows n ≡ Some r) where
       -- it is declared if and only if its column has it
-      pub cell_found : IsOnce (cells_by_name columns) → is_some (find nat_cmp n (cells_of v)) ≡ has_coefficient (draft_from sense constant objective rows columns) (at r (bytes k))
+      pub cell_found : IsOnce (cells_by_name columns) → is_some (find nat_cmp n (cells_of v)) ≡ has_coefficient (draft_from sense constant objective rows columns) (at r k)
       cell_found once =
-          sym (ap is_some (find-sorted_of key_cmp key_total (at r (bytes k)) (all_cells (name_of_row_key objective rows) (cells_by_name columns))
-          ∙ find-all_cells (name_of_row_key objective rows) numbered.apart n r (bytes k) (cells_by_name columns) row once
-          ∙ ap (option_and_then (find nat_cmp n)) (find_own bytes cells_of columns i k v once column)))
+          sym (ap is_some (find-sorted_of key_cmp key_total (at r k) (all_cells (name_of_row_key objective rows) (cells_by_name columns))
+          ∙ find-all_cells (name_of_row_key objective rows) numbered.apart n r k (cells_by_name columns) row once
+          ∙ ap (option_and_then (find nat_cmp n)) (find_own cells_of columns i k v once column)))
 
-      pub cell_draft : (x : Number) → has_coefficient (draft_from sense constant objective rows columns) (at r (bytes k)) ≡ false
-          → draft_from sense constant objective rows (set_value_at columns i (with_cell n x v)) ≡ with_declaration (draft_from sense constant objective rows columns) (declare_coefficient (at r (bytes k)) x)
+      pub cell_draft : (x : Number) → has_coefficient (draft_from sense constant objective rows columns) (at r k) ≡ false
+          → draft_from sense constant objective rows (set_value_at columns i (with_cell n x v)) ≡ with_declaration (draft_from sense constant objective rows columns) (declare_coefficient (at r k) x)
       cell_draft x absent =
           let w : ColumnParts = with_cell n x v in
           let name = name_of_row_key objective rows in
           let every = all_cells name (cells_by_name columns) in
-          let missing : find key_cmp (at r (bytes k)) every ≡ None =
-          sym (find-sorted_of key_cmp key_total (at r (bytes k)) every) ∙ none_there (find key_cmp (at r (bytes k)) (sorted_of key_cmp every)) absent in
-          let added : sorted_of key_cmp (all_cells name (cells_by_name (set_value_at columns i w))) ≡ put key_cmp (at r (bytes k)) x (sorted_of key_cmp every) =
-          sorted_of-put key_cmp key_total same_key (at r (bytes k)) x (all_cells name (cells_by_name (set_value_at columns i w))) every
-          (λ q. find-put_in_column bytes cells_of name numbered.apart q n x r columns i k v w row column refl missing) in
+          let missing : find key_cmp (at r k) every ≡ None =
+          sym (find-sorted_of key_cmp key_total (at r k) every) ∙ none_there (find key_cmp (at r k) (sorted_of key_cmp every)) absent in
+          let added : sorted_of key_cmp (all_cells name (cells_by_name (set_value_at columns i w))) ≡ put key_cmp (at r k) x (sorted_of key_cmp every) =
+          sorted_of-put key_cmp key_total same_key (at r k) x (all_cells name (cells_by_name (set_value_at columns i w))) every
+          (λ q. find-put_in_column cells_of name numbered.apart q n x r columns i k v w row column refl missing) in
           λ j. record (draft_from sense constant objective rows columns) {
             columns = names w j;
             coefficients = added j;
@@ -258,13 +257,13 @@ module _ (sense : Option Sense) (constant : Option Number) (objective : Option O
           test : ℕ × Number → Bool
           test e = is_some (name_of_row_key objective rows e.0)
 
-          named-set : (cols : List (Vec ℕ × ColumnParts)) (i : ℕ) → slice_get cols i ≡ Some (k, v)
+          named-set : (cols : List (List ℕ × ColumnParts)) (i : ℕ) → slice_get cols i ≡ Some (k, v)
               → all_named (name_of_row_key objective rows) (cells_by_name cols) ≡ true → all_named (name_of_row_key objective rows) (cells_by_name (set_value_at cols i (with_cell n x v))) ≡ true
           named-set [] i is h = cc
           named-set (c ∷ cols) zero is h =
-              let here : ◌≡◌ {A = Vec ℕ × ColumnParts} c (k, v) = cc in
+              let here : ◌≡◌ {A = List ℕ × ColumnParts} c (k, v) = cc in
               let own : list_all test (cells_of v) ≡ true =
-              ap (λ (y : Vec ℕ × ColumnParts). list_all test (cells_of y.1)) (sym here) ∙ first_so (list_all test (cells_of c.1)) (all_named (name_of_row_key objective rows) (cells_by_name cols)) h in
+              ap (λ (y : List ℕ × ColumnParts). list_all test (cells_of y.1)) (sym here) ∙ first_so (list_all test (cells_of c.1)) (all_named (name_of_row_key objective rows) (cells_by_name cols)) h in
               both_so (list_all test (put nat_cmp n x (cells_of v))) (all_named (name_of_row_key objective rows) (cells_by_name cols))
               (put_all nat_cmp test n x (cells_of v) (λ j tie. ap (λ (m : ℕ). is_some (name_of_row_key objective rows m)) (sym (nat_cmp-IsAntisymmetric n j tie)) ∙ ap is_some row) (ap is_some row) own)
               (second_so (list_all test (cells_of c.1)) (all_named (name_of_row_key objective rows) (cells_by_name cols)) h)

@@ -4,11 +4,10 @@ use Rattle.std.specs.Prelude.{◌≢◌, Option, Some, None, is_some, unwrap_or,
 use Rattle.std.specs.Option.{option_map, option_map_or}
 use Rattle.std.specs.Ordering.{is_lt, eq_by_cmp}
 use Rattle.std.specs.FinMap.{find}
-use Rattle.std.specs.Global.{Vec}
 use Rattle.std.specs.List.{All, range_with_len}
 use Rattle.std.specs.List.Sorted.{IsSortedBy}
 use Rattle.mpslp_decimal.specs.Decimal.{Number, negated, zero_number}
-use Rattle.mpslp_types.specs.Name.{bytes_cmp, IsMpsName}
+use Rattle.mpslp_types.specs.Name.{bytes_cmp}
 use Rattle.mpslp_types.specs.declared.kinds.Sense.{Sense}
 use Rattle.mpslp_types.proofs.EachLemmas.{Each, Each-weaker}
 use Rattle.mpslp_model_core.specs.Numbered.{sorted_of, each_part, given_parts, TellsApart}
@@ -17,45 +16,27 @@ use Rattle.mpslp_model_core.proofs.SortedLemmas.{find-sorted_of}
 use Rattle.mpslp_model_core.proofs.CellLemmas.{or_else, find-two, name_same, name_tied}
 use Rattle.mpslp_model_core.proofs.MovingLemmas.{all-from_each}
 use Rattle.mpslp_builder.specs.Declaration.{at_name}
-use Rattle.mpslp_builder.specs.Made.{IsMade}
 use Rattle.mpslp_builder.specs.Meaning.{constant_of}
-use Rattle.mpslp_builder.specs.Tables.{bytes, name_of_objective, rhs_of, cells_of, objective_rhs, name_of_row_key, draft, draft_from, AreNumbered}
+use Rattle.mpslp_builder.specs.Tables.{name_of_objective, rhs_of, cells_of, objective_rhs, name_of_row_key, draft, draft_from, AreNumbered}
 use Rattle.mpslp_builder_parts.specs.Ordered.{name_at, entries_at}
 use Rattle.mpslp_builder_parts.specs.Parts.{rhs_in, itself}
-use Rattle.mpslp_model_core.specs.ModelParts.{own}
 use Rattle.mpslp_builder_parts.specs.declared.parts.ObjectiveParts.{ObjectiveParts}
 use Rattle.mpslp_builder_parts.specs.RowParts.{RowParts}
 use Rattle.mpslp_builder_parts.specs.declared.parts.ColumnParts.{ColumnParts}
-use Rattle.mpslp_builder.specs.FaultFound.{entry_name}
-use Rattle.mpslp_builder.specs.declared.tables.Tables.{Tables}
-use Rattle.mpslp_builder.proofs.FoundLemmas.{legal_names}
 use Rattle.mpslp_builder.proofs.OrderedParts.{no_part-found}
 use Rattle.mpslp_builder_parts.proofs.RankLemmas.{order_length, order_within, order_apart}
 use Rattle.mpslp_builder_parts.proofs.TakenLemmas.{as_many}
 use Rattle.mpslp_builder.proofs.ModelOfTables.{within-all}
 
 -- entries, their indices in the order of their names, and the entries in that order
-pub record AreOrdered {V : Type 0} (entries : List (Vec ℕ × V)) (order : List ℕ) (ordered : List (Vec ℕ × V)) : Type 0 where
+pub record AreOrdered {V : Type 0} (entries : List (List ℕ × V)) (order : List ℕ) (ordered : List (List ℕ × V)) : Type 0 where
   pub permuted : IsPermutation (range_with_len 0 (length entries)) order
   pub sorted : IsSortedBy (λ n k. is_lt (bytes_cmp (name_at entries n) (name_at entries k))) order
   pub are : ordered ≡ entries_at entries order
 
--- ---- legal names
-
--- a property of the name at each index
-named_each : {V : Type 0} (P : List ℕ → Type 0) (es : List (Vec ℕ × V)) → ((i : ℕ) (name : List ℕ) → entry_name es i ≡ Some name → P name) → Each (λ e. P e.0.items) es
-named_each P [] h = tt
-named_each P (e ∷ es) h = (h zero e.0.items refl, named_each P es (λ i name is. h (suc i) name is))
-
-pub legal_rows : (sense : Option Sense) (constant : Option Number) (t : Tables) → IsMade (draft sense constant t) → Each (λ row. IsMpsName row.0.items) t.rows.entries
-legal_rows sense constant t made = named_each IsMpsName t.rows.entries (legal_names sense constant t made).rows
-
-pub legal_columns : (sense : Option Sense) (constant : Option Number) (t : Tables) → IsMade (draft sense constant t) → Each (λ column. IsMpsName column.0.items) t.columns.entries
-legal_columns sense constant t made = named_each IsMpsName t.columns.entries (legal_names sense constant t made).columns
-
 -- ---- numbers of cells
 
-pub cells_within : (objective : Option ObjectiveParts) (rows : List (Vec ℕ × RowParts)) (columns : List (Vec ℕ × ColumnParts)) (bound : ℕ)
+pub cells_within : (objective : Option ObjectiveParts) (rows : List (List ℕ × RowParts)) (columns : List (List ℕ × ColumnParts)) (bound : ℕ)
     → AreNumbered objective rows columns → bound ≡ length rows + 1 → All (λ column. All (λ cell. cell.0 < bound) column.1.cells) columns
 cells_within objective rows columns bound n is =
     all-from_each (λ column. All (λ cell. cell.0 < bound) column.1.cells) columns
@@ -64,73 +45,59 @@ cells_within objective rows columns bound n is =
 
 -- ---- the right-hand side of the objective
 
-apart_rows : (o : ObjectiveParts) (rows : List (Vec ℕ × RowParts)) → ((i : ℕ) (e : Vec ℕ × RowParts) → slice_get rows i ≡ Some e → e.0.items ≡ o.name → ⊥) → Each (λ e. eq_by_cmp bytes_cmp e.0.items o.name ≡ false) rows
+apart_rows : (o : ObjectiveParts) (rows : List (List ℕ × RowParts)) → ((i : ℕ) (e : List ℕ × RowParts) → slice_get rows i ≡ Some e → e.0 ≡ o.name → ⊥) → Each (λ e. eq_by_cmp bytes_cmp e.0 o.name ≡ false) rows
 apart_rows o [] h = tt
 apart_rows o (e ∷ rows) h = (
-  elim (eq_by_cmp bytes_cmp e.0.items o.name) as (λ b. eq_by_cmp bytes_cmp e.0.items o.name ≡ b → b ≡ false) [
-    | true ↦ λ tie. absurd (h zero e refl (name_same e.0.items o.name tie))
+  elim (eq_by_cmp bytes_cmp e.0 o.name) as (λ b. eq_by_cmp bytes_cmp e.0 o.name ≡ b → b ≡ false) [
+    | true ↦ λ tie. absurd (h zero e refl (name_same e.0 o.name tie))
     | false ↦ λ _. refl
   ] refl,
   apart_rows o rows (λ i d is same. h (suc i) d is same),
 )
 
-pub objective_says : (o : ObjectiveParts) (rows : List (Vec ℕ × RowParts)) → TellsApart (name_of_row_key (Some o) rows) → at_name (sorted_of bytes_cmp (objective_rhs (Some o) ++ given_parts bytes rhs_of rows)) o.name ≡ o.rhs
+pub objective_says : (o : ObjectiveParts) (rows : List (List ℕ × RowParts)) → TellsApart (name_of_row_key (Some o) rows) → at_name (sorted_of bytes_cmp (objective_rhs (Some o) ++ given_parts rhs_of rows)) o.name ≡ o.rhs
 objective_says o rows apart =
-    let given = given_parts bytes rhs_of rows in
+    let given = given_parts rhs_of rows in
     let none : find bytes_cmp o.name given ≡ None = no_part-found rhs_of o.name rows
-    (apart_rows o rows (λ i e is same. let zero_is : zero ≡ suc i = apart zero (suc i) o.name refl (ap (option_map (λ (e : Vec ℕ × RowParts). e.0.items)) is ∙ ap Some same) in absurd cc)) in
+    (apart_rows o rows (λ i e is same. let zero_is : zero ≡ suc i = apart zero (suc i) o.name refl (ap (option_map (λ (e : List ℕ × RowParts). e.0)) is ∙ ap Some same) in absurd cc)) in
     find-sorted_of bytes_cmp bytes_total o.name (objective_rhs (Some o) ++ given) ∙ find-two bytes_cmp o.name (objective_rhs (Some o)) given
     ∙ elim (o.rhs) as (λ r. or_else (find bytes_cmp o.name (option_map_or (λ value. (o.name, value) ∷ []) r [])) (find bytes_cmp o.name given) ≡ r) [
       | None ↦ none
       | Some value ↦ ap (λ (b : Bool). or_else (cond b (Some value) None) (find bytes_cmp o.name given)) (name_tied o.name o.name refl)
     ]
 
-pub constant_is : (sense : Option Sense) (constant : Option Number) (objective : Option ObjectiveParts) (rows : List (Vec ℕ × RowParts)) (columns : List (Vec ℕ × ColumnParts)) → is_some objective ≡ true → TellsApart (name_of_row_key objective rows)
+pub constant_is : (sense : Option Sense) (constant : Option Number) (objective : Option ObjectiveParts) (rows : List (List ℕ × RowParts)) (columns : List (List ℕ × ColumnParts)) → is_some objective ≡ true → TellsApart (name_of_row_key objective rows)
     → unwrap_or constant (negated (unwrap_or (rhs_in objective) zero_number)) ≡ constant_of (draft_from sense constant objective rows columns)
 constant_is sense constant None rows columns there apart = cc
 constant_is sense constant (Some o) rows columns there apart = ap (λ (r : Option Number). unwrap_or constant (negated (unwrap_or r zero_number))) (sym (objective_says o rows apart))
 
 -- ---- the order of entries, as the contracts state it
 
-name_of_part : {V X : Type 0} (f : V → X) (es : List (Vec ℕ × V)) (n : ℕ) → name_at es n ≡ option_map_or (λ part. part.0) (slice_get (each_part bytes f es) n) []
+name_of_part : {V X : Type 0} (f : V → X) (es : List (List ℕ × V)) (n : ℕ) → name_at es n ≡ option_map_or (λ part. part.0) (slice_get (each_part f es) n) []
 name_of_part f [] n = refl
 name_of_part f (e ∷ es) zero = refl
 name_of_part f (e ∷ es) (suc n) = name_of_part f es n
 
 -- entries with the same parts have the same names
-names_alike : {V W X : Type 0} (f : W → X) (g : V → X) (made : List (Vec ℕ × W)) (entries : List (Vec ℕ × V)) → each_part bytes f made ≡ each_part bytes g entries → (n : ℕ) → name_at made n ≡ name_at entries n
+names_alike : {V W X : Type 0} (f : W → X) (g : V → X) (made : List (List ℕ × W)) (entries : List (List ℕ × V)) → each_part f made ≡ each_part g entries → (n : ℕ) → name_at made n ≡ name_at entries n
 names_alike f g made entries same n =
     name_of_part f made n ∙ ap (λ (parts : List (List ℕ × _)). option_map_or (λ part. part.0) (slice_get parts n) []) same ∙ sym (name_of_part g entries n)
 
 -- the order of entries with the same parts
-pub ordered_alike : {V W X : Type 0} (f : W → X) (g : V → X) (made : List (Vec ℕ × W)) (entries : List (Vec ℕ × V)) (order : List ℕ) → each_part bytes f made ≡ each_part bytes g entries
+pub ordered_alike : {V W X : Type 0} (f : W → X) (g : V → X) (made : List (List ℕ × W)) (entries : List (List ℕ × V)) (order : List ℕ) → each_part f made ≡ each_part g entries
     → IsPermutation (range_with_len 0 (length made)) order → IsSortedBy (λ n k. is_lt (bytes_cmp (name_at made n) (name_at made k))) order → AreOrdered entries order (entries_at entries order)
 ordered_alike f g made entries order same permuted sorted = record {
-  permuted = subst (λ (n : ℕ). IsPermutation (range_with_len 0 n) order) (as_many bytes f bytes g made entries same) permuted;
+  permuted = subst (λ (n : ℕ). IsPermutation (range_with_len 0 n) order) (as_many f g made entries same) permuted;
   sorted = subst (λ (name : ℕ → List ℕ). IsSortedBy (λ n k. is_lt (bytes_cmp (name n) (name k))) order) (λ i n. names_alike f g made entries same n i) sorted;
   are = refl;
 }
 
-parts-each : {V X : Type 0} (P : List ℕ → Type 0) (f : V → X) (es : List (Vec ℕ × V)) → Each (λ e. P e.0.items) es → Each (λ part. P part.0) (each_part bytes f es)
-parts-each P f [] h = tt
-parts-each P f (e ∷ es) h = (h.0, parts-each P f es h.1)
+-- entries are the whole parts of themselves
+pub each_whole : {X : Type 0} (es : List (List ℕ × X)) → each_part itself es ≡ es
+each_whole [] = refl
+each_whole {X} (e ∷ es) = ap (λ (more : List (List ℕ × X)). e ∷ more) (each_whole es)
 
-each-parts : {V X : Type 0} (P : List ℕ → Type 0) (f : V → X) (es : List (Vec ℕ × V)) → Each (λ part. P part.0) (each_part bytes f es) → Each (λ e. P e.0.items) es
-each-parts P f [] h = tt
-each-parts P f (e ∷ es) h = (h.0, each-parts P f es h.1)
-
--- entries with the same parts as others have their names
-pub all_alike : {V W X : Type 0} (P : List ℕ → Type 0) (f : W → X) (g : V → X) (made : List (Vec ℕ × W)) (entries : List (Vec ℕ × V)) → each_part bytes f made ≡ each_part bytes g entries
-    → Each (λ e. P e.0.items) entries → All (λ e. P e.0.items) made
-all_alike P f g made entries same h =
-    all-from_each (λ e. P e.0.items) made (each-parts P f made (subst (Each (λ part. P part.0)) (sym same) (parts-each P g entries h)))
-
--- the parts of entries that have their own names
-pub parts_of_named : {W X : Type 0} (f : W → X) (es : List (Vec ℕ × W)) → each_part own f (each_part bytes itself es) ≡ each_part bytes f es
-parts_of_named f [] = refl
-parts_of_named {W} {X} f (e ∷ es) = ap (λ (more : List (List ℕ × X)). (e.0.items, f e.1) ∷ more) (parts_of_named f es)
-
-module _ (rows : List (Vec ℕ × RowParts)) (order : List ℕ) (ordered : List (Vec ℕ × RowParts)) (o : AreOrdered rows order ordered) where
+module _ (rows : List (List ℕ × RowParts)) (order : List ℕ) (ordered : List (List ℕ × RowParts)) (o : AreOrdered rows order ordered) where
   pub few_of : length rows < 4294967295 → length order < 4294967295
   few_of few = omega (arith, few, order_length (length rows) order o.permuted)
 

@@ -7,7 +7,6 @@ use Rattle.std.specs.declared.cmp.Ordering.TheVariants.{Less, Equal, Greater}
 use Rattle.std.specs.FinMap as maps
 use Rattle.std.specs.FinMap.{is_sorted, put}
 use Rattle.std.specs.FinMap.Entries.{by_order}
-use Rattle.std.specs.Global.{Vec}
 use Rattle.std.specs.List.{list_all}
 use Rattle.mpslp_decimal.specs.Decimal.{Number, zero_number}
 use Rattle.mpslp_types.specs.Name.{bytes_cmp}
@@ -29,7 +28,7 @@ use Rattle.mpslp_builder.specs.Declaration.{Draft}
 use Rattle.mpslp_builder.specs.Made.{IsMade}
 use Rattle.mpslp_builder.specs.Meaning.{column_of, objective_name, constant_of, row_limits, row_entry, model_of, DraftMeans}
 use Rattle.mpslp_builder.specs.FileFault.{file_fault}
-use Rattle.mpslp_builder.specs.Tables.{bytes, definition_of, cells_of, no_part, name_of_row_key, cells_by_name, draft_from, AreNumbered}
+use Rattle.mpslp_builder.specs.Tables.{definition_of, cells_of, no_part, name_of_row_key, cells_by_name, draft_from, AreNumbered}
 use Rattle.mpslp_builder_parts.specs.Ordered.{entries_at}
 use Rattle.mpslp_builder_parts.specs.Parts.{moved_in}
 use Rattle.mpslp_builder_parts.specs.declared.parts.ObjectiveParts.{ObjectiveParts}
@@ -105,10 +104,10 @@ moved_sorted ranks cells =
     let all = map (λ (e : ℕ × Number). (slice_index ranks e.0, e.1)) cells in
     is_sorted-filter nat_cmp nat_cmp_total is_kept (sorted_of nat_cmp all) (true_from (is_sorted nat_cmp (sorted_of nat_cmp all)) (is_sorted-sorted_of nat_cmp nat_cmp_total all))
 
-module _ (objective : Option ObjectiveParts) (rows : List (Vec ℕ × RowParts)) (columns : List (Vec ℕ × ColumnParts)) (m : ModelParts) (f : AreFinished objective rows columns m) where
-  all_sorted : (cs : List (Vec ℕ × ColumnParts)) → list_all (λ c. is_sorted nat_cmp c.1) (each_part bytes (moved_in f.ranks) cs) ≡ true
+module _ (objective : Option ObjectiveParts) (rows : List (List ℕ × RowParts)) (columns : List (List ℕ × ColumnParts)) (m : ModelParts) (f : AreFinished objective rows columns m) where
+  all_sorted : (cs : List (List ℕ × ColumnParts)) → list_all (λ c. is_sorted nat_cmp c.1) (each_part (moved_in f.ranks) cs) ≡ true
   all_sorted [] = refl
-  all_sorted (c ∷ cs) = both_so (is_sorted nat_cmp (moved_in f.ranks c.1)) (list_all (λ c. is_sorted nat_cmp c.1) (each_part bytes (moved_in f.ranks) cs)) (moved_sorted f.ranks c.1.cells) (all_sorted cs)
+  all_sorted (c ∷ cs) = both_so (is_sorted nat_cmp (moved_in f.ranks c.1)) (list_all (λ c. is_sorted nat_cmp c.1) (each_part (moved_in f.ranks) cs)) (moved_sorted f.ranks c.1.cells) (all_sorted cs)
 
   moved_named : (cells : List (ℕ × Number)) → list_all (λ e. is_some (name_of_row_key objective rows e.0)) cells ≡ true → list_all (λ e. is_some (parts.name_of_row_key m e.0)) (moved_cells f.ranks cells) ≡ true
   moved_named cells h =
@@ -128,16 +127,16 @@ module _ (objective : Option ObjectiveParts) (rows : List (Vec ℕ × RowParts))
             | Some r ↦ λ is _. ap is_some (keeps objective rows columns m f k r is)
           ] refl there
 
-  each_named : (cs : List (Vec ℕ × ColumnParts)) → all_named (name_of_row_key objective rows) (cells_by_name cs) ≡ true → Each (λ c. list_all (λ e. is_some (parts.name_of_row_key m e.0)) (moved_in f.ranks c.1) ≡ true) cs
+  each_named : (cs : List (List ℕ × ColumnParts)) → all_named (name_of_row_key objective rows) (cells_by_name cs) ≡ true → Each (λ c. list_all (λ e. is_some (parts.name_of_row_key m e.0)) (moved_in f.ranks c.1) ≡ true) cs
   each_named [] h = tt
   each_named (c ∷ cs) h =
       let here = list_all (λ e. is_some (name_of_row_key objective rows e.0)) (cells_of c.1) in
       let rest = all_named (name_of_row_key objective rows) (cells_by_name cs) in
       (moved_named (cells_of c.1) (first_so here rest h), each_named cs (second_so here rest h))
 
-  all_named-from : (cs : List (Vec ℕ × ColumnParts)) → Each (λ c. list_all (λ e. is_some (parts.name_of_row_key m e.0)) (moved_in f.ranks c.1) ≡ true) cs → all_named (parts.name_of_row_key m) (each_part bytes (moved_in f.ranks) cs) ≡ true
+  all_named-from : (cs : List (List ℕ × ColumnParts)) → Each (λ c. list_all (λ e. is_some (parts.name_of_row_key m e.0)) (moved_in f.ranks c.1) ≡ true) cs → all_named (parts.name_of_row_key m) (each_part (moved_in f.ranks) cs) ≡ true
   all_named-from [] h = refl
-  all_named-from (c ∷ cs) h = both_so (list_all (λ e. is_some (parts.name_of_row_key m e.0)) (moved_in f.ranks c.1)) (all_named (parts.name_of_row_key m) (each_part bytes (moved_in f.ranks) cs)) h.0 (all_named-from cs h.1)
+  all_named-from (c ∷ cs) h = both_so (list_all (λ e. is_some (parts.name_of_row_key m e.0)) (moved_in f.ranks c.1)) (all_named (parts.name_of_row_key m) (each_part (moved_in f.ranks) cs)) h.0 (all_named-from cs h.1)
 
   pub finished_cells : AreNumbered objective rows columns → AreCells m
   finished_cells n = record {
@@ -148,7 +147,7 @@ module _ (objective : Option ObjectiveParts) (rows : List (Vec ℕ × RowParts))
   }
 
   -- what sorted tables become in the model
-  pub finished_parts : (sense : Option Sense) (constant : Option Number) → AreNumbered objective rows columns → IsOnce (each_part bytes definition_of rows) → IsOnce (each_part bytes no_part columns)
+  pub finished_parts : (sense : Option Sense) (constant : Option Number) → AreNumbered objective rows columns → IsOnce (each_part definition_of rows) → IsOnce (each_part no_part columns)
       → m.sense ≡ unwrap_or sense Minimize → m.constant ≡ constant_of (draft_from sense constant objective rows columns) → AreMeantParts (draft_from sense constant objective rows columns) m
   finished_parts sense constant n rows_once columns_once is_sense is_constant =
       let d = draft_from sense constant objective rows columns in

@@ -3,7 +3,6 @@ use Rattle.std.proofs.Common.{◌≡◌, refl, sym, ap, ◌∙◌, ℕ, zero, su
 use Rattle.std.specs.Prelude.{◌||◌, Option, Some, None, is_some, filter, filter_map, slice_get, slice_index_or, unwrap_or}
 use Rattle.std.specs.Option.{option_map}
 use Rattle.std.specs.List.{list_any, cons_option}
-use Rattle.std.specs.Global.{Vec}
 use Rattle.std.specs.Cmp.{first_so, second_so}
 use Rattle.std.specs.Ordering.{is_lt, is_eq}
 use Rattle.std.specs.declared.cmp.Ordering.{Ordering}
@@ -28,7 +27,7 @@ use Rattle.mpslp_model_core.proofs.SortedLemmas.{find-sorted_of, is_sorted-sorte
 use Rattle.mpslp_builder.specs.Declaration.{Draft, names_in, has_name, is_objective}
 use Rattle.mpslp_builder.specs.Meaning.{declared_of, row_passes}
 use Rattle.mpslp_builder.specs.FileFault.{whole_fault, named_faults, file_fault}
-use Rattle.mpslp_builder.specs.Tables.{bytes, definition_of, no_part, cells_of, draft, IsNumbered}
+use Rattle.mpslp_builder.specs.Tables.{definition_of, no_part, cells_of, draft, IsNumbered}
 use Rattle.mpslp_builder.specs.Calls.{IsOnceEach}
 use Rattle.mpslp_builder.specs.FaultFound.{row_test, bounds_test, kind_of_row_fault, kind_of_column_fault, row_fails, column_fails, is_wrong_row, is_wrong_column, declared_in, lesser, is_below, least_name, entry_name, named_fault, HaveLegalNames}
 use Rattle.mpslp_builder_parts.specs.RowParts.{RowParts}
@@ -107,30 +106,30 @@ module _ {X : Type 0} (p : List ℕ × X → Bool) where
 
 -- The least of entries with distinct names is the first of their map.
 module _ {V X : Type 0} (f : V → X) (p : List ℕ × X → Bool) (test : V → Bool) where
-  pub least_is_first : (es : List (Vec ℕ × V)) → IsOnce (each_part bytes f es) → ((i : ℕ) (k : Vec ℕ) (v : V) → slice_get es i ≡ Some (k, v) → p (bytes k, f v) ≡ test v)
-      → head_of (names_in (filter p (sorted_of bytes_cmp (each_part bytes f es)))) ≡ least_name test es
+  pub least_is_first : (es : List (List ℕ × V)) → IsOnce (each_part f es) → ((i : ℕ) (k : List ℕ) (v : V) → slice_get es i ≡ Some (k, v) → p (k, f v) ≡ test v)
+      → head_of (names_in (filter p (sorted_of bytes_cmp (each_part f es)))) ≡ least_name test es
   least_is_first [] once own = refl
   least_is_first (e ∷ es) once own =
-      let rest = each_part bytes f es in
+      let rest = each_part f es in
       let more = least_is_first es once.1 (λ i k v is. own (suc i) k v is) in
-      first_put p (bytes e.0) (f e.1) (sorted_of bytes_cmp rest) (is_sorted-sorted_of bytes_cmp bytes_total rest) (find-sorted_of bytes_cmp bytes_total (bytes e.0) rest ∙ once.0)
-      ∙ (λ i. cond (own zero e.0 e.1 refl i) (Some (lesser (bytes e.0) (more i))) (more i))
+      first_put p e.0 (f e.1) (sorted_of bytes_cmp rest) (is_sorted-sorted_of bytes_cmp bytes_total rest) (find-sorted_of bytes_cmp bytes_total e.0 rest ∙ once.0)
+      ∙ (λ i. cond (own zero e.0 e.1 refl i) (Some (lesser e.0 (more i))) (more i))
 
 -- ---- the loop
 
 module _ {V : Type 0} (test : V → Bool) where
   -- the entries from an index on
-  pub drop_at : (es : List (Vec ℕ × V)) (i : ℕ) (e : Vec ℕ × V) → slice_get es i ≡ Some e → drop i es ≡ e ∷ drop (suc i) es
+  pub drop_at : (es : List (List ℕ × V)) (i : ℕ) (e : List ℕ × V) → slice_get es i ≡ Some e → drop i es ≡ e ∷ drop (suc i) es
   drop_at [] i e is = cc
-  drop_at (x ∷ es) zero e is = let same : ◌≡◌ {A = Vec ℕ × V} x e = cc in ap (λ (y : Vec ℕ × V). y ∷ es) same
+  drop_at (x ∷ es) zero e is = let same : ◌≡◌ {A = List ℕ × V} x e = cc in ap (λ (y : List ℕ × V). y ∷ es) same
   drop_at (x ∷ es) (suc i) e is = drop_at es i e is
 
   -- if none passes, there is no least one
-  pub none_least : (wrong : V → Bool) → ((v : V) → wrong v ≡ false → test v ≡ false) → (es : List (Vec ℕ × V)) → list_any (λ e. wrong e.1) es ≡ false → least_name test es ≡ None
+  pub none_least : (wrong : V → Bool) → ((v : V) → wrong v ≡ false → test v ≡ false) → (es : List (List ℕ × V)) → list_any (λ e. wrong e.1) es ≡ false → least_name test es ≡ None
   none_least wrong harder [] h = refl
   none_least wrong harder (e ∷ es) h =
       let both = nor (wrong e.1) (list_any (λ e. wrong e.1) es) h in
-      (λ i. cond (harder e.1 both.0 i) (Some (lesser (bytes e.0) (least_name test es))) (least_name test es)) ∙ none_least wrong harder es both.1
+      (λ i. cond (harder e.1 both.0 i) (Some (lesser e.0 (least_name test es))) (least_name test es)) ∙ none_least wrong harder es both.1
 
 -- ---- whether any entry passes, from the last one to the first
 
@@ -172,23 +171,23 @@ pub old_least : (name : List ℕ) (o : Option (List ℕ)) → is_below name o �
 old_least name None h = cc
 old_least name (Some other) h = ap (λ (b : Bool). Some (cond b name other)) h
 
-module _ {V : Type 0} (test : V → Bool) (es : List (Vec ℕ × V)) (i : ℕ) (k : Vec ℕ) (v : V) (is : slice_get es i ≡ Some (k, v)) (o : Option (List ℕ)) (so_far : o ≡ least_name test (drop (suc i) es)) where
-  with_entry : least_name test (drop i es) ≡ cond (test v) (Some (lesser (bytes k) o)) o
-  with_entry = ap (least_name test) (drop_at test es i (k, v) is) ∙ ap (λ (m : Option (List ℕ)). cond (test v) (Some (lesser (bytes k) m)) m) (sym so_far)
+module _ {V : Type 0} (test : V → Bool) (es : List (List ℕ × V)) (i : ℕ) (k : List ℕ) (v : V) (is : slice_get es i ≡ Some (k, v)) (o : Option (List ℕ)) (so_far : o ≡ least_name test (drop (suc i) es)) where
+  with_entry : least_name test (drop i es) ≡ cond (test v) (Some (lesser k o)) o
+  with_entry = ap (least_name test) (drop_at test es i (k, v) is) ∙ ap (λ (m : Option (List ℕ)). cond (test v) (Some (lesser k m)) m) (sym so_far)
 
   -- an entry that passes and is below is the least
-  pub least_put : test v ≡ true → is_below (bytes k) o ≡ true → entry_name es i ≡ least_name test (drop i es)
+  pub least_put : test v ≡ true → is_below k o ≡ true → entry_name es i ≡ least_name test (drop i es)
   least_put passes below =
-      ap (option_map (λ (e : Vec ℕ × V). bytes e.0)) is
-      ∙ ap Some (sym (new_least (bytes k) o below))
-      ∙ sym (with_entry ∙ ap (λ (b : Bool). cond b (Some (lesser (bytes k) o)) o) passes)
+      ap (option_map (λ (e : List ℕ × V). e.0)) is
+      ∙ ap Some (sym (new_least k o below))
+      ∙ sym (with_entry ∙ ap (λ (b : Bool). cond b (Some (lesser k o)) o) passes)
 
   -- one that does not pass, or is not below, does not change the least
   pub least_failing : test v ≡ false → o ≡ least_name test (drop i es)
-  least_failing fails = sym (with_entry ∙ ap (λ (b : Bool). cond b (Some (lesser (bytes k) o)) o) fails)
+  least_failing fails = sym (with_entry ∙ ap (λ (b : Bool). cond b (Some (lesser k o)) o) fails)
 
-  pub least_above : test v ≡ true → is_below (bytes k) o ≡ false → o ≡ least_name test (drop i es)
-  least_above passes above = sym (with_entry ∙ ap (λ (b : Bool). cond b (Some (lesser (bytes k) o)) o) passes ∙ old_least (bytes k) o above)
+  pub least_above : test v ≡ true → is_below k o ≡ false → o ≡ least_name test (drop i es)
+  least_above passes above = sym (with_entry ∙ ap (λ (b : Bool). cond b (Some (lesser k o)) o) passes ∙ old_least k o above)
 
 -- ---- rows
 
@@ -268,8 +267,8 @@ column_named t once fault =
     (least_is_first no_part (λ column. bounds_test fault (declared_of all column.0)) (column_fails fault) t.columns.entries (column_once t once)
     (λ i k column is. ap (bounds_test fault) (column_parts_at None None t once i k column is)))
   where
-    column_once : (t : Tables) → IsOnceEach t → IsOnce (each_part bytes no_part t.columns.entries)
-    column_once t once = once_too bytes cells_of no_part t.columns.entries once.columns
+    column_once : (t : Tables) → IsOnceEach t → IsOnce (each_part no_part t.columns.entries)
+    column_once t once = once_too cells_of no_part t.columns.entries once.columns
 
 -- ---- the first of several options
 
@@ -291,7 +290,7 @@ pub told : (kind : FaultKind) (name : Option (List ℕ)) (least : Option (List �
 told kind None least same h = cc
 told kind (Some n) least same h = ap (option_map (λ (n : List ℕ). whole_fault kind (Some n))) (sym same)
 
-pub entry_named : {V : Type 0} (es : List (Vec ℕ × V)) (i : ℕ) → i < length es → is_some (entry_name es i) ≡ true
+pub entry_named : {V : Type 0} (es : List (List ℕ × V)) (i : ℕ) → i < length es → is_some (entry_name es i) ≡ true
 entry_named [] i h = absurd (omega (arith, h))
 entry_named (e ∷ es) zero h = refl
 entry_named (e ∷ es) (suc i) h = entry_named es i (omega (arith, h))
@@ -308,9 +307,9 @@ nonempty_put R k v (e ∷ es) =
     ]
 
 -- whether there are columns
-pub some_column : (es : List (Vec ℕ × ColumnParts)) → is_nonempty (sorted_of bytes_cmp (each_part bytes no_part es)) ≡ is_nonempty es
+pub some_column : (es : List (List ℕ × ColumnParts)) → is_nonempty (sorted_of bytes_cmp (each_part no_part es)) ≡ is_nonempty es
 some_column [] = refl
-some_column (e ∷ es) = nonempty_put bytes_cmp (bytes e.0) tt (sorted_of bytes_cmp (each_part bytes no_part es))
+some_column (e ∷ es) = nonempty_put bytes_cmp e.0 tt (sorted_of bytes_cmp (each_part no_part es))
 
 pub nonempty_from : {X : Type 0} (es : List X) → (length es ≡ 0 → ⊥) → is_nonempty es ≡ true
 nonempty_from [] h = absurd (h refl)
@@ -353,19 +352,9 @@ later_decides f (Some x) a b same h = cc
 
 module _ {V X : Type 0} (f : V → X) where
   -- a name at an index is one of the map's
-  pub name_there : (es : List (Vec ℕ × V)) (i : ℕ) (name : List ℕ) → entry_name es i ≡ Some name → has_name (sorted_of bytes_cmp (each_part bytes f es)) name ≡ true
+  pub name_there : (es : List (List ℕ × V)) (i : ℕ) (name : List ℕ) → entry_name es i ≡ Some name → has_name (sorted_of bytes_cmp (each_part f es)) name ≡ true
   name_there es i name is =
-      elim (has_name (sorted_of bytes_cmp (each_part bytes f es)) name) as (λ b. has_name (sorted_of bytes_cmp (each_part bytes f es)) name ≡ b → b ≡ true) [
+      elim (has_name (sorted_of bytes_cmp (each_part f es)) name) as (λ b. has_name (sorted_of bytes_cmp (each_part f es)) name ≡ b → b ≡ true) [
         | true ↦ λ _. refl
-        | false ↦ λ absent. absurd (there_found bytes f es i name is (absent-each_part bytes f name es absent))
+        | false ↦ λ absent. absurd (there_found f es i name is (absent-each_part f name es absent))
       ] refl
-
-or_so : (a b : Bool) → b ≡ true → (a || b) ≡ true
-or_so true b h = refl
-or_so false b h = h
-
-pub legal_names : (sense : Option Sense) (constant : Option Number) (t : Tables) → IsMade (draft sense constant t) → HaveLegalNames t
-legal_names sense constant t made = record {
-  rows = λ i name is. (row_is_legal (draft sense constant t) name made (or_so (is_objective (draft sense constant t) name) _ (name_there definition_of t.rows.entries i name is)));
-  columns = λ i name is. (column_is_legal (draft sense constant t) name made (name_there no_part t.columns.entries i name is));
-}

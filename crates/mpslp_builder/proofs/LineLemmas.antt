@@ -2,7 +2,6 @@
 use Rattle.std.proofs.Common.{◌≡◌, refl, sym, ap, subst, ◌∙◌, ℕ, zero, suc, List, [], ◌∷◌, ◌++◌, Bool, true, false, cond, length}
 use Rattle.std.specs.Prelude.{◌≢◌, Option, Some, None, is_some, slice_get, ◌||◌, Result, Ok, Err, OnOk, OnErr}
 use Rattle.std.specs.Option.{option_map, option_map_or}
-use Rattle.std.specs.Global.{Vec}
 use Rattle.std.specs.Ordering.{nat_cmp, is_eq}
 use Rattle.std.specs.declared.cmp.Ordering.{Ordering}
 use Rattle.std.specs.declared.cmp.Ordering.TheVariants.{Less, Equal, Greater}
@@ -19,7 +18,7 @@ use Rattle.mpslp_model_core.proofs.CellLemmas.{at}
 use Rattle.mpslp_builder.specs.Declaration.{Draft, Declarations, with_declaration, with_declarations, declare_column, declare_marked, declare_coefficient, is_objective, has_row, has_column, has_name}
 use Rattle.mpslp_builder.specs.Refusal.{refusals, refusals_in_turn}
 use Rattle.mpslp_builder.specs.Made.{IsMade}
-use Rattle.mpslp_builder.specs.Tables.{bytes, definition_of, no_part, cells_of, name_of_row_key, draft, IsNumbered}
+use Rattle.mpslp_builder.specs.Tables.{definition_of, no_part, cells_of, name_of_row_key, draft, IsNumbered}
 use Rattle.mpslp_builder.specs.Calls.{row_name, column_name, column_tells, cells_at, new_column, with_cell, IsOnceEach, IsSameTables, HasColumnAdded, HasColumnChanged}
 use Rattle.mpslp_builder.specs.ColumnLine.{entry_declared, TakesLine}
 use Rattle.mpslp_builder.specs.LineTables.{IsLaid, Follows, HasStarted}
@@ -35,7 +34,7 @@ use Rattle.mpslp_builder.proofs.CallLemmas.{same_tables, same_numbered, cell_add
 -- ---- entries by number
 
 -- a value that is written keeps the names
-name_kept : {V : Type 0} (es : List (Vec ℕ × V)) (i j : ℕ) (w : V) → option_map (λ e. bytes e.0) (slice_get (set_value_at es i w) j) ≡ option_map (λ e. bytes e.0) (slice_get es j)
+name_kept : {V : Type 0} (es : List (List ℕ × V)) (i j : ℕ) (w : V) → option_map (λ e. e.0) (slice_get (set_value_at es i w) j) ≡ option_map (λ e. e.0) (slice_get es j)
 name_kept [] i j w = refl
 name_kept (e ∷ es) zero zero w = refl
 name_kept (e ∷ es) zero (suc j) w = refl
@@ -43,21 +42,21 @@ name_kept (e ∷ es) (suc i) zero w = refl
 name_kept (e ∷ es) (suc i) (suc j) w = name_kept es i j w
 
 -- and is there
-written_there : {V X : Type 0} (f : V → X) (d : X) (es : List (Vec ℕ × V)) (i : ℕ) (k : Vec ℕ) (v w : V) → slice_get es i ≡ Some (k, v)
+written_there : {V X : Type 0} (f : V → X) (d : X) (es : List (List ℕ × V)) (i : ℕ) (k : List ℕ) (v w : V) → slice_get es i ≡ Some (k, v)
     → option_map_or (λ e. f e.1) (slice_get (set_value_at es i w) i) d ≡ f w
 written_there f d [] i k v w h = cc
 written_there f d (e ∷ es) zero k v w h = refl
 written_there f d (e ∷ es) (suc i) k v w h = written_there f d es i k v w h
 
 -- an entry that is added keeps the numbers of the others
-name_still : {V : Type 0} (es : List (Vec ℕ × V)) (x : Vec ℕ × V) (i : ℕ) (name : List ℕ) → option_map (λ e. bytes e.0) (slice_get es i) ≡ Some name
-    → option_map (λ e. bytes e.0) (slice_get (es ++ x ∷ []) i) ≡ Some name
+name_still : {V : Type 0} (es : List (List ℕ × V)) (x : List ℕ × V) (i : ℕ) (name : List ℕ) → option_map (λ e. e.0) (slice_get es i) ≡ Some name
+    → option_map (λ e. e.0) (slice_get (es ++ x ∷ []) i) ≡ Some name
 name_still [] x i name h = cc
 name_still (e ∷ es) x zero name h = h
 name_still (e ∷ es) x (suc i) name h = name_still es x i name h
 
 -- and has the next number
-added_there : {V : Type 0} (es : List (Vec ℕ × V)) (x : Vec ℕ × V) → slice_get (es ++ x ∷ []) (length es) ≡ Some x
+added_there : {V : Type 0} (es : List (List ℕ × V)) (x : List ℕ × V) → slice_get (es ++ x ∷ []) (length es) ≡ Some x
 added_there [] x = refl
 added_there (e ∷ es) x = added_there es x
 
@@ -86,7 +85,7 @@ follows_same t u numbered h = record {
   numbered = same_numbered t u h numbered;
   made = λ sense constant made. subst IsMade (sym (same_tables sense constant t u h)) made;
   rows = λ n i. name_of_row_key (h.objective i) (h.rows i) n;
-  columns = λ i name is. ap (λ (es : List (Vec ℕ × ColumnParts)). option_map (λ e. bytes e.0) (slice_get es i)) h.columns ∙ is;
+  columns = λ i name is. ap (λ (es : List (List ℕ × ColumnParts)). option_map (λ e. e.0) (slice_get es i)) h.columns ∙ is;
 }
 
 pub follows_then : (t u v : Tables) → Follows t u → Follows u v → Follows t v
@@ -99,7 +98,7 @@ follows_then t u v a b = record {
 
 -- unchanged tables have the same coefficients
 pub same_cells : (t u : Tables) (i m : ℕ) → IsSameTables t u → find nat_cmp m (cells_at u i) ≡ find nat_cmp m (cells_at t i)
-same_cells t u i m h = ap (λ (es : List (Vec ℕ × ColumnParts)). find nat_cmp m (option_map_or (λ e. cells_of e.1) (slice_get es i) [])) h.columns
+same_cells t u i m h = ap (λ (es : List (List ℕ × ColumnParts)). find nat_cmp m (option_map_or (λ e. cells_of e.1) (slice_get es i) [])) h.columns
 
 pub laid_none : (t : Tables) → IsLaid t [] t
 laid_none t = record { free = λ sense constant. refl; laid = λ sense constant. refl }
@@ -129,18 +128,18 @@ module _ (t u : Tables) (numbered : IsNumbered t) where
 
     columns_same : (j : ℕ) (name : List ℕ) → column_name t j ≡ Some name → column_name u j ≡ Some name
     columns_same j name is =
-        ap (λ (es : List (Vec ℕ × ColumnParts)). option_map (λ e. bytes e.0) (slice_get es j)) h.written.columns
+        ap (λ (es : List (List ℕ × ColumnParts)). option_map (λ e. e.0) (slice_get es j)) h.written.columns
         ∙ name_kept t.columns.entries i j (change h.parts) ∙ is
 
-    own_name : column_name t i ≡ Some (bytes h.key)
-    own_name = ap (option_map (λ (e : Vec ℕ × ColumnParts). bytes e.0)) h.was
+    own_name : column_name t i ≡ Some h.key
+    own_name = ap (option_map (λ (e : List ℕ × ColumnParts). e.0)) h.was
 
     cells_were : cells_at t i ≡ cells_of h.parts
-    cells_were = ap (λ (o : Option (Vec ℕ × ColumnParts)). option_map_or (λ e. cells_of e.1) o []) h.was
+    cells_were = ap (λ (o : Option (List ℕ × ColumnParts)). option_map_or (λ e. cells_of e.1) o []) h.was
 
     cells_are : cells_at u i ≡ cells_of (change h.parts)
     cells_are =
-        ap (λ (es : List (Vec ℕ × ColumnParts)). option_map_or (λ e. cells_of e.1) (slice_get es i) []) h.written.columns
+        ap (λ (es : List (List ℕ × ColumnParts)). option_map_or (λ e. cells_of e.1) (slice_get es i) []) h.written.columns
         ∙ written_there cells_of [] t.columns.entries i h.key h.parts (change h.parts) h.was
 
   module _ (once : IsOnceEach t) (i : ℕ) where
@@ -159,7 +158,7 @@ module _ (t u : Tables) (numbered : IsNumbered t) where
       pub mark_follows : Follows t u
       mark_follows =
           let change : ColumnParts → ColumnParts = λ parts. record parts { marked = true } in
-          let c = bytes h.key in
+          let c = h.key in
           let is = own_name change i h in record {
             numbered = column_changed_numbered None None t u change i h refl numbered;
             made = λ sense constant made. made_after (declare_marked c) (mark_draft c is sense constant) made refl (mark_free c is sense constant) refl;
@@ -189,7 +188,7 @@ module _ (t u : Tables) (numbered : IsNumbered t) where
 
       pub cell_follows : is_decimal x ≡ true → Follows t u
       cell_follows decimal =
-          let c = bytes h.key in
+          let c = h.key in
           let is = own_name (with_cell n x) i h in record {
             numbered = cell_added_numbered None None t u once i c is numbered n r row x h;
             made = λ sense constant made. made_after (declare_coefficient (at r c) x) (cell_draft c is sense constant) made decimal (cell_free c is sense constant) refl;
@@ -211,28 +210,28 @@ module _ (t u : Tables) (numbered : IsNumbered t) where
 
   -- ---- a new column
 
-  module _ (k : Vec ℕ) (h : HasColumnAdded t k new_column u) (absent : has_column (draft None None t) (bytes k) ≡ false) where
-    start_draft : (sense : Option Sense) (constant : Option Number) → draft sense constant u ≡ with_declaration (draft sense constant t) (declare_column (bytes k))
+  module _ (k : List ℕ) (h : HasColumnAdded t k new_column u) (absent : has_column (draft None None t) k ≡ false) where
+    start_draft : (sense : Option Sense) (constant : Option Number) → draft sense constant u ≡ with_declaration (draft sense constant t) (declare_column k)
     start_draft sense constant = column_added sense constant t u k h absent
 
-    pub start_follows : is_mps_name (bytes k) ≡ true → Follows t u
+    pub start_follows : is_mps_name k ≡ true → Follows t u
     start_follows legal = record {
       numbered = column_added_numbered None None t u k h numbered;
-      made = λ sense constant made. made_after (declare_column (bytes k)) (start_draft sense constant) made legal refl refl;
+      made = λ sense constant made. made_after (declare_column k) (start_draft sense constant) made legal refl refl;
       rows = λ n i. name_of_row_key (h.objective i) (h.rows i) n;
       columns = λ i name is.
-          ap (λ (es : List (Vec ℕ × ColumnParts)). option_map (λ e. bytes e.0) (slice_get es i)) h.columns
+          ap (λ (es : List (List ℕ × ColumnParts)). option_map (λ e. e.0) (slice_get es i)) h.columns
           ∙ name_still t.columns.entries (k, new_column) i name is;
     }
 
-    pub started : HasStarted t (bytes k) (length t.columns.entries) u
+    pub started : HasStarted t k (length t.columns.entries) u
     started =
         let here : slice_get u.columns.entries (length t.columns.entries) ≡ Some (k, new_column) =
-        ap (λ (es : List (Vec ℕ × ColumnParts)). slice_get es (length t.columns.entries)) h.columns ∙ added_there t.columns.entries (k, new_column) in record {
-          named = ap (option_map (λ (e : Vec ℕ × ColumnParts). bytes e.0)) here;
-          laid = laid_one t u (declare_column (bytes k)) (λ sense constant. refl) start_draft;
-          cells = ap (λ (o : Option (Vec ℕ × ColumnParts)). option_map_or (λ e. cells_of e.1) o []) here;
-          semi = ap (λ (o : Option (Vec ℕ × ColumnParts)). option_map_or (λ e. e.1.semi) o false) here;
+        ap (λ (es : List (List ℕ × ColumnParts)). slice_get es (length t.columns.entries)) h.columns ∙ added_there t.columns.entries (k, new_column) in record {
+          named = ap (option_map (λ (e : List ℕ × ColumnParts). e.0)) here;
+          laid = laid_one t u (declare_column k) (λ sense constant. refl) start_draft;
+          cells = ap (λ (o : Option (List ℕ × ColumnParts)). option_map_or (λ e. cells_of e.1) o []) here;
+          semi = ap (λ (o : Option (List ℕ × ColumnParts)). option_map_or (λ e. e.1.semi) o false) here;
         }
 
 -- a column that is declared may be declared again

@@ -7,7 +7,6 @@ use Rattle.std.specs.Ordering.{is_lt, eq_by_cmp, nat_cmp}
 use Rattle.std.specs.Cmp.{first_so, second_so}
 use Rattle.std.specs.FinMap.{find}
 use Rattle.std.specs.Map.{lookup}
-use Rattle.std.specs.Global.{Vec}
 use Rattle.std.specs.List.{list_all, range_with_len}
 use Rattle.std.specs.List.Sorted.{IsSortedBy}
 use Rattle.mpslp_decimal.specs.Decimal.{Number}
@@ -23,7 +22,7 @@ use Rattle.mpslp_model_core.proofs.CellLemmas.{name_same, name_tied}
 use Rattle.mpslp_model_core.proofs.OnceLemmas.{find-permutation, once-permutation}
 use Rattle.mpslp_model_core.proofs.MovingLemmas.{unless_zero, find-moved}
 use Rattle.mpslp_model_core.proofs.RenumberLemmas.{renumbered}
-use Rattle.mpslp_builder.specs.Tables.{bytes, cells_of, no_part, name_of_objective, name_of_row_key, cells_by_name, AreNumbered}
+use Rattle.mpslp_builder.specs.Tables.{cells_of, no_part, name_of_objective, name_of_row_key, cells_by_name, AreNumbered}
 use Rattle.mpslp_builder_parts.specs.Ordered.{name_at, entries_at}
 use Rattle.mpslp_builder_parts.specs.Parts.{limits_in, bounds_of, moved_in}
 use Rattle.mpslp_builder_parts.specs.declared.parts.ObjectiveParts.{ObjectiveParts}
@@ -36,23 +35,23 @@ use Rattle.mpslp_builder_parts.proofs.RankLemmas.{order_within, AreRanks, rank_a
 -- ---- names of rows
 
 -- a name is that of a row, or of none
-row_named : (rows : List (Vec ℕ × RowParts)) (r : List ℕ) → ((i : ℕ) × (option_map (λ e. e.0.items) (slice_get rows i) ≡ Some r)) ⊎ ((i : ℕ) → option_map (λ e. e.0.items) (slice_get rows i) ≡ Some r → ⊥)
+row_named : (rows : List (List ℕ × RowParts)) (r : List ℕ) → ((i : ℕ) × (option_map (λ e. e.0) (slice_get rows i) ≡ Some r)) ⊎ ((i : ℕ) → option_map (λ e. e.0) (slice_get rows i) ≡ Some r → ⊥)
 row_named [] r = inr (λ i is. cc)
 row_named (e ∷ rows) r =
-    elim (eq_by_cmp bytes_cmp e.0.items r) as (λ b. eq_by_cmp bytes_cmp e.0.items r ≡ b → ((i : ℕ) × (option_map (λ e. e.0.items) (slice_get (e ∷ rows) i) ≡ Some r)) ⊎ ((i : ℕ) → option_map (λ e. e.0.items) (slice_get (e ∷ rows) i) ≡ Some r → ⊥)) [
-      | true ↦ λ tie. inl (zero, ap Some (name_same e.0.items r tie))
+    elim (eq_by_cmp bytes_cmp e.0 r) as (λ b. eq_by_cmp bytes_cmp e.0 r ≡ b → ((i : ℕ) × (option_map (λ e. e.0) (slice_get (e ∷ rows) i) ≡ Some r)) ⊎ ((i : ℕ) → option_map (λ e. e.0) (slice_get (e ∷ rows) i) ≡ Some r → ⊥)) [
+      | true ↦ λ tie. inl (zero, ap Some (name_same e.0 r tie))
       | false ↦ λ differ.
-          elim (row_named rows r) as (λ _. ((i : ℕ) × (option_map (λ e. e.0.items) (slice_get (e ∷ rows) i) ≡ Some r)) ⊎ ((i : ℕ) → option_map (λ e. e.0.items) (slice_get (e ∷ rows) i) ≡ Some r → ⊥)) [
+          elim (row_named rows r) as (λ _. ((i : ℕ) × (option_map (λ e. e.0) (slice_get (e ∷ rows) i) ≡ Some r)) ⊎ ((i : ℕ) → option_map (λ e. e.0) (slice_get (e ∷ rows) i) ≡ Some r → ⊥)) [
             | inl at ↦ inl (suc at.0, at.1)
             | inr none ↦ inr (λ i is. by i is differ none)
           ]
     ] refl
   where
-    by : (i : ℕ) → option_map (λ e. e.0.items) (slice_get (e ∷ rows) i) ≡ Some r → eq_by_cmp bytes_cmp e.0.items r ≡ false → ((i : ℕ) → option_map (λ e. e.0.items) (slice_get rows i) ≡ Some r → ⊥) → ⊥
-    by zero is differ none = let same : e.0.items ≡ r = cc in let tie : eq_by_cmp bytes_cmp e.0.items r ≡ true = name_tied e.0.items r same in cc
+    by : (i : ℕ) → option_map (λ e. e.0) (slice_get (e ∷ rows) i) ≡ Some r → eq_by_cmp bytes_cmp e.0 r ≡ false → ((i : ℕ) → option_map (λ e. e.0) (slice_get rows i) ≡ Some r → ⊥) → ⊥
+    by zero is differ none = let same : e.0 ≡ r = cc in let tie : eq_by_cmp bytes_cmp e.0 r ≡ true = name_tied e.0 r same in cc
     by (suc i) is differ none = none i is
 
-all_named_rows : (objective : Option ObjectiveParts) (rows : List (Vec ℕ × RowParts)) (r : List ℕ) → ((n : ℕ) × (name_of_row_key objective rows n ≡ Some r)) ⊎ ((n : ℕ) → name_of_row_key objective rows n ≡ Some r → ⊥)
+all_named_rows : (objective : Option ObjectiveParts) (rows : List (List ℕ × RowParts)) (r : List ℕ) → ((n : ℕ) × (name_of_row_key objective rows n ≡ Some r)) ⊎ ((n : ℕ) → name_of_row_key objective rows n ≡ Some r → ⊥)
 all_named_rows objective rows r =
     elim (row_named rows r) as (λ _. ((n : ℕ) × (name_of_row_key objective rows n ≡ Some r)) ⊎ ((n : ℕ) → name_of_row_key objective rows n ≡ Some r → ⊥)) [
       | inl at ↦ inl (suc at.0, at.1)
@@ -67,20 +66,20 @@ all_named_rows objective rows r =
           ] refl
     ]
   where
-    no_name : (n : ℕ) → (name_of_objective objective ≡ Some r → ⊥) → ((i : ℕ) → option_map (λ e. e.0.items) (slice_get rows i) ≡ Some r → ⊥) → name_of_row_key objective rows n ≡ Some r → ⊥
+    no_name : (n : ℕ) → (name_of_objective objective ≡ Some r → ⊥) → ((i : ℕ) → option_map (λ e. e.0) (slice_get rows i) ≡ Some r → ⊥) → name_of_row_key objective rows n ≡ Some r → ⊥
     no_name zero first none is = first is
     no_name (suc n) first none is = none n is
 
 -- ---- numbers that have a name
 
-named-row : (objective : Option ObjectiveParts) (rows : List (Vec ℕ × RowParts)) (i : ℕ) (r : List ℕ) → name_of_row_key objective rows (suc i) ≡ Some r → i < length rows
+named-row : (objective : Option ObjectiveParts) (rows : List (List ℕ × RowParts)) (i : ℕ) (r : List ℕ) → name_of_row_key objective rows (suc i) ≡ Some r → i < length rows
 named-row objective rows i r is =
-    elim (slice_get rows i) as (λ o. slice_get rows i ≡ o → option_map (λ e. e.0.items) o ≡ Some r → i < length rows) [
+    elim (slice_get rows i) as (λ o. slice_get rows i ≡ o → option_map (λ e. e.0) o ≡ Some r → i < length rows) [
       | None ↦ λ _ never. cc
       | Some e ↦ λ at _. place_below rows i e at
     ] refl is
 
-module _ (objective : Option ObjectiveParts) (rows : List (Vec ℕ × RowParts)) where
+module _ (objective : Option ObjectiveParts) (rows : List (List ℕ × RowParts)) where
   number-within : (n : ℕ) (r : List ℕ) → name_of_row_key objective rows n ≡ Some r → n < length rows + 1
   number-within zero r is = omega arith
   number-within (suc i) r is = let row = named-row objective rows i r is in omega (arith, row)
@@ -95,7 +94,7 @@ module _ (objective : Option ObjectiveParts) (rows : List (Vec ℕ × RowParts))
       ] refl there)
       cells (Each-from_list_all (λ e. is_some (name_of_row_key objective rows e.0)) cells h)
 
-  pub within-all : (cs : List (Vec ℕ × ColumnParts)) → all_named (name_of_row_key objective rows) (cells_by_name cs) ≡ true → Each (λ e. Each (λ cell. cell.0 < length rows + 1) (cells_of e.1)) cs
+  pub within-all : (cs : List (List ℕ × ColumnParts)) → all_named (name_of_row_key objective rows) (cells_by_name cs) ≡ true → Each (λ e. Each (λ cell. cell.0 < length rows + 1) (cells_of e.1)) cs
   within-all [] h = tt
   within-all (c ∷ cs) h =
       let here = list_all (λ e. is_some (name_of_row_key objective rows e.0)) (cells_of c.1) in
@@ -104,7 +103,7 @@ module _ (objective : Option ObjectiveParts) (rows : List (Vec ℕ × RowParts))
 
 -- ---- sorted tables
 
-pub record AreFinished (objective : Option ObjectiveParts) (rows : List (Vec ℕ × RowParts)) (columns : List (Vec ℕ × ColumnParts)) (m : ModelParts) : Type 0 where
+pub record AreFinished (objective : Option ObjectiveParts) (rows : List (List ℕ × RowParts)) (columns : List (List ℕ × ColumnParts)) (m : ModelParts) : Type 0 where
   pub row_order : List ℕ
   pub column_order : List ℕ
   pub ranks : List ℕ
@@ -114,24 +113,24 @@ pub record AreFinished (objective : Option ObjectiveParts) (rows : List (Vec ℕ
   pub columns_sorted : IsSortedBy (λ n k. is_lt (bytes_cmp (name_at columns n) (name_at columns k))) column_order
   pub ranked : AreRanks row_order ranks
   pub objective_is : name_of_objective objective ≡ Some m.objective
-  pub rows_are : m.rows.items ≡ each_part bytes limits_in (entries_at rows row_order)
-  pub bounds_are : columns_in m ≡ each_part bytes bounds_of (entries_at columns column_order)
-  pub cells_are : parts.cells_by_name m ≡ each_part bytes (moved_in ranks) (entries_at columns column_order)
+  pub rows_are : m.rows.items ≡ each_part limits_in (entries_at rows row_order)
+  pub bounds_are : columns_in m ≡ each_part bounds_of (entries_at columns column_order)
+  pub cells_are : parts.cells_by_name m ≡ each_part (moved_in ranks) (entries_at columns column_order)
 
-part-get : {V X : Type 0} (f : V → X) (es : List (Vec ℕ × V)) (i : ℕ) → option_map (λ e. e.0) (slice_get (each_part bytes f es) i) ≡ option_map (λ e. e.0.items) (slice_get es i)
+part-get : {V X : Type 0} (f : V → X) (es : List (List ℕ × V)) (i : ℕ) → option_map (λ e. e.0) (slice_get (each_part f es) i) ≡ option_map (λ e. e.0) (slice_get es i)
 part-get f [] i = refl
 part-get f (e ∷ es) zero = refl
 part-get f (e ∷ es) (suc i) = part-get f es i
 
-module _ (objective : Option ObjectiveParts) (rows : List (Vec ℕ × RowParts)) (columns : List (Vec ℕ × ColumnParts)) (m : ModelParts) (f : AreFinished objective rows columns m) where
+module _ (objective : Option ObjectiveParts) (rows : List (List ℕ × RowParts)) (columns : List (List ℕ × ColumnParts)) (m : ModelParts) (f : AreFinished objective rows columns m) where
   -- the names of the later numbers
-  later-row : (k : ℕ) → parts.name_of_row_key m (suc k) ≡ option_map (λ e. e.0.items) (slice_get (entries_at rows f.row_order) k)
+  later-row : (k : ℕ) → parts.name_of_row_key m (suc k) ≡ option_map (λ e. e.0) (slice_get (entries_at rows f.row_order) k)
   later-row k = (λ i. option_map (λ (e : List ℕ × Row). e.0) (slice_get (f.rows_are i) k)) ∙ part-get limits_in (entries_at rows f.row_order) k
 
   later-at : (k : ℕ) → k < length f.row_order → parts.name_of_row_key m (suc k) ≡ name_of_row_key objective rows (suc (get_or f.row_order k 0))
   later-at k h =
       later-row k
-      ∙ ap (option_map (λ (e : Vec ℕ × RowParts). e.0.items)) (get-taken rows f.row_order k (order_within (length rows) f.row_order f.rows_permuted) h)
+      ∙ ap (option_map (λ (e : List ℕ × RowParts). e.0)) (get-taken rows f.row_order k (order_within (length rows) f.row_order f.rows_permuted) h)
 
   pub keeps : (n : ℕ) (r : List ℕ) → name_of_row_key objective rows n ≡ Some r → parts.name_of_row_key m (slice_index f.ranks n) ≡ Some r
   keeps zero r is = ap (parts.name_of_row_key m) f.ranked.objective ∙ sym f.objective_is ∙ is
@@ -147,9 +146,9 @@ module _ (objective : Option ObjectiveParts) (rows : List (Vec ℕ × RowParts))
       let next : k + 1 ≡ suc k = omega arith in
       (suc (get_or f.row_order k 0), sym (later-at k there) ∙ is, ap (λ (n : ℕ). slice_index f.ranks n) place ∙ f.ranked.places k there ∙ next)
     where
-      placed : option_map (λ e. e.0.items) (slice_get (entries_at rows f.row_order) k) ≡ Some r → k < length f.row_order
+      placed : option_map (λ e. e.0) (slice_get (entries_at rows f.row_order) k) ≡ Some r → k < length f.row_order
       placed named =
-          elim (slice_get (entries_at rows f.row_order) k) as (λ o. slice_get (entries_at rows f.row_order) k ≡ o → option_map (λ e. e.0.items) o ≡ Some r → k < length f.row_order) [
+          elim (slice_get (entries_at rows f.row_order) k) as (λ o. slice_get (entries_at rows f.row_order) k ≡ o → option_map (λ e. e.0) o ≡ Some r → k < length f.row_order) [
             | None ↦ λ _ never. cc
             | Some e ↦ λ at _. length-taken rows f.row_order k (place_below (entries_at rows f.row_order) k e at)
           ] refl named
@@ -163,7 +162,7 @@ module _ (objective : Option ObjectiveParts) (rows : List (Vec ℕ × RowParts))
 
   -- ---- coefficients
 
-  lookup-holds : (P : ColumnParts → Type 0) (t : Vec ℕ → Bool) (cs : List (Vec ℕ × ColumnParts)) (v : ColumnParts) → Each (λ e. P e.1) cs → lookup t cs ≡ Some v → P v
+  lookup-holds : (P : ColumnParts → Type 0) (t : List ℕ → Bool) (cs : List (List ℕ × ColumnParts)) (v : ColumnParts) → Each (λ e. P e.1) cs → lookup t cs ≡ Some v → P v
   lookup-holds P t [] v h is = cc
   lookup-holds P t (c ∷ cs) v h is =
       elim (t c.0) as (λ b. cond b (Some c.1) (lookup t cs) ≡ Some v → P v) [
@@ -171,23 +170,23 @@ module _ (objective : Option ObjectiveParts) (rows : List (Vec ℕ × RowParts))
         | false ↦ λ later. lookup-holds P t cs v h.1 later
       ] is
 
-  module _ (n : AreNumbered objective rows columns) (once : IsOnce (each_part bytes no_part columns)) where
+  module _ (n : AreNumbered objective rows columns) (once : IsOnce (each_part no_part columns)) where
     found_cells : (k : ℕ) (r c : List ℕ) → name_of_row_key objective rows k ≡ Some r
         → option_and_then (find nat_cmp (slice_index f.ranks k)) (find bytes_cmp c (parts.cells_by_name m)) ≡ unless_zero (option_and_then (find nat_cmp k) (find bytes_cmp c (cells_by_name columns)))
     found_cells k r c is =
         let moved_once = once-part (moved_in f.ranks) no_part columns once in
         let permuted = parts-permutation (moved_in f.ranks) columns (entries_at columns f.column_order) (taken-permutation columns f.column_order f.columns_permuted) in
         let moved = ap (find bytes_cmp c) f.cells_are
-        ∙ sym (find-permutation bytes_cmp bytes_total (each_part bytes (moved_in f.ranks) columns) (each_part bytes (moved_in f.ranks) (entries_at columns f.column_order)) permuted moved_once c)
-        ∙ find-each_part bytes (moved_in f.ranks) c columns in
+        ∙ sym (find-permutation bytes_cmp bytes_total (each_part (moved_in f.ranks) columns) (each_part (moved_in f.ranks) (entries_at columns f.column_order)) permuted moved_once c)
+        ∙ find-each_part (moved_in f.ranks) c columns in
         ap (option_and_then (find nat_cmp (slice_index f.ranks k))) moved
-        ∙ elim (lookup (λ k. same_bytes c (bytes k)) columns) as (λ o. lookup (λ k. same_bytes c (bytes k)) columns ≡ o → option_and_then (find nat_cmp (slice_index f.ranks k)) (option_map (moved_in f.ranks) o) ≡ unless_zero (option_and_then (find nat_cmp k) (option_map cells_of o))) [
+        ∙ elim (lookup (λ k. same_bytes c k) columns) as (λ o. lookup (λ k. same_bytes c k) columns ≡ o → option_and_then (find nat_cmp (slice_index f.ranks k)) (option_map (moved_in f.ranks) o) ≡ unless_zero (option_and_then (find nat_cmp k) (option_map cells_of o))) [
           | None ↦ λ _. refl
           | Some v ↦ λ at.
               find-moved (length f.ranks) (λ k. slice_index f.ranks k) (ranks_apart (length rows) f.row_order f.ranks f.rows_permuted f.ranked) k (cells_of v) (number-below k r is)
-              (lookup-holds (λ v. Each (λ cell. cell.0 < length f.ranks) (cells_of v)) (λ k. same_bytes c (bytes k)) columns v (subst (λ (bound : ℕ). Each (λ e. Each (λ cell. cell.0 < bound) (cells_of e.1)) columns) (sym (ranks_length (length rows) f.row_order f.ranks f.rows_permuted f.ranked)) (within-all objective rows columns n.named)) at)
+              (lookup-holds (λ v. Each (λ cell. cell.0 < length f.ranks) (cells_of v)) (λ k. same_bytes c k) columns v (subst (λ (bound : ℕ). Each (λ e. Each (λ cell. cell.0 < bound) (cells_of e.1)) columns) (sym (ranks_length (length rows) f.row_order f.ranks f.rows_permuted f.ranked)) (within-all objective rows columns n.named)) at)
         ] refl
-        ∙ ap (λ o. unless_zero (option_and_then (find nat_cmp k) o)) (sym (find-each_part bytes cells_of c columns))
+        ∙ ap (λ o. unless_zero (option_and_then (find nat_cmp k) o)) (sym (find-each_part cells_of c columns))
 
     -- the coefficients of the model are the nonzero ones of the draft
     pub coefficients_are : sorted_of key_cmp (all_cells (parts.name_of_row_key m) (parts.cells_by_name m)) ≡ filter is_kept (sorted_of key_cmp (all_cells (name_of_row_key objective rows) (cells_by_name columns)))
@@ -201,7 +200,7 @@ module _ (objective : Option ObjectiveParts) (rows : List (Vec ℕ × RowParts))
           adds_none = λ k r is. let e = earlier k r is in (e.0, e.1);
           once = once-part cells_of no_part columns once;
           once_later = subst IsOnce (sym f.cells_are)
-              (once-permutation bytes_cmp bytes_total (each_part bytes (moved_in f.ranks) columns) (each_part bytes (moved_in f.ranks) (entries_at columns f.column_order))
+              (once-permutation bytes_cmp bytes_total (each_part (moved_in f.ranks) columns) (each_part (moved_in f.ranks) (entries_at columns f.column_order))
               (parts-permutation (moved_in f.ranks) columns (entries_at columns f.column_order) (taken-permutation columns f.column_order f.columns_permuted)) (once-part (moved_in f.ranks) no_part columns once));
           cells = found_cells;
         })

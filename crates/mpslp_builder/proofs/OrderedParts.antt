@@ -7,7 +7,6 @@ use Rattle.std.specs.Cmp.{tied_itself, eq_by_cmp_equiv}
 use Rattle.std.specs.Cmp.Lexicographic.{texts_ties}
 use Rattle.std.specs.FinMap.{find}
 use Rattle.std.specs.Map.{keys_of}
-use Rattle.std.specs.Global.{Vec}
 use Rattle.std.specs.List.{AllByRecursion, IsDistinct, cons_option, range_with_len}
 use Rattle.std.specs.List.Sorted.{IsSortedBy}
 use Rattle.std.proofs.lemmas.List.Sorted.{IsPermutation-refl, IsPermutation-cons, IsPermutation-trans, IsPermutation-map, All-permutation}
@@ -18,7 +17,6 @@ use Rattle.mpslp_model_core.proofs.KeyLemmas.{bytes_total, tied_names}
 use Rattle.mpslp_model_core.proofs.PermutationLemmas.{along_permutation}
 use Rattle.mpslp_model_core.proofs.OnceLemmas.{NeverFalls, never_falls-from_sort, permuted-is_map, two_heads}
 use Rattle.mpslp_model_core.proofs.MovingLemmas.{each-from_all, all-from_each}
-use Rattle.mpslp_builder.specs.Tables.{bytes}
 use Rattle.mpslp_builder_parts.specs.Ordered.{name_at, entries_at}
 
 -- ---- what numbers refer to, in another order
@@ -57,8 +55,8 @@ taken-permutation xs order p =
 
 -- ---- their names do not descend
 
-name_at-get : {V : Type 0} (entries : List (Vec ℕ × V)) (n : ℕ) (e : Vec ℕ × V) → slice_get entries n ≡ Some e → name_at entries n ≡ e.0.items
-name_at-get entries n e is = ap (λ (o : Option (Vec ℕ × _)). option_map_or (λ e. e.0.items) o []) is
+name_at-get : {V : Type 0} (entries : List (List ℕ × V)) (n : ℕ) (e : List ℕ × V) → slice_get entries n ≡ Some e → name_at entries n ≡ e.0
+name_at-get entries n e is = ap (λ (o : Option (List ℕ × _)). option_map_or (λ e. e.0) o []) is
 
 taken-each : {X : Type 0} (xs : List X) (Q : ℕ → Type 0) (P : X → Type 0) → ((n : ℕ) (x : X) → slice_get xs n ≡ Some x → Q n → P x) → (ns : List ℕ) → Each Q ns → Each P (entries_at xs ns)
 taken-each xs Q P f [] h = tt
@@ -68,104 +66,104 @@ taken-each {X} xs Q P f (n ∷ ns) h =
       | Some x ↦ λ is. (f n x is h.0, taken-each xs Q P f ns h.1)
     ] refl
 
-never_falls-taken : {V : Type 0} (entries : List (Vec ℕ × V)) (ns : List ℕ) → NeverFalls (λ n m. is_lt (bytes_cmp (name_at entries n) (name_at entries m))) ns
-    → NeverFalls (λ e d. is_lt (bytes_cmp e.0.items d.0.items)) (entries_at entries ns)
+never_falls-taken : {V : Type 0} (entries : List (List ℕ × V)) (ns : List ℕ) → NeverFalls (λ n m. is_lt (bytes_cmp (name_at entries n) (name_at entries m))) ns
+    → NeverFalls (λ e d. is_lt (bytes_cmp e.0 d.0)) (entries_at entries ns)
 never_falls-taken entries [] h = tt
 never_falls-taken {V} entries (n ∷ ns) h =
-    elim (slice_get entries n) as (λ o. slice_get entries n ≡ o → NeverFalls (λ e d. is_lt (bytes_cmp e.0.items d.0.items)) (cons_option o (entries_at entries ns))) [
+    elim (slice_get entries n) as (λ o. slice_get entries n ≡ o → NeverFalls (λ e d. is_lt (bytes_cmp e.0 d.0)) (cons_option o (entries_at entries ns))) [
       | None ↦ λ _. never_falls-taken entries ns h.1
       | Some e ↦ λ is. (
-        taken-each entries (λ m. is_lt (bytes_cmp (name_at entries m) (name_at entries n)) ≡ false) (λ d. is_lt (bytes_cmp d.0.items e.0.items) ≡ false)
+        taken-each entries (λ m. is_lt (bytes_cmp (name_at entries m) (name_at entries n)) ≡ false) (λ d. is_lt (bytes_cmp d.0 e.0) ≡ false)
             (λ m d at below. let there = name_at-get entries m d at in let here = name_at-get entries n e is in sym (λ i. is_lt (bytes_cmp (there i) (here i))) ∙ below) ns h.0,
         never_falls-taken entries ns h.1,
       )
     ] refl
 
 module _ {V X : Type 0} (f : V → X) where
-  part-map : (es : List (Vec ℕ × V)) → each_part bytes f es ≡ map (λ e. (e.0.items, f e.1)) es
+  part-map : (es : List (List ℕ × V)) → each_part f es ≡ map (λ e. (e.0, f e.1)) es
   part-map [] = refl
-  part-map (e ∷ es) = ap (λ (more : List (List ℕ × X)). (e.0.items, f e.1) ∷ more) (part-map es)
+  part-map (e ∷ es) = ap (λ (more : List (List ℕ × X)). (e.0, f e.1) ∷ more) (part-map es)
 
-  part-each : (P : List ℕ → Type 0) (es : List (Vec ℕ × V)) → Each (λ e. P e.0.items) es → Each (λ e. P e.0) (each_part bytes f es)
+  part-each : (P : List ℕ → Type 0) (es : List (List ℕ × V)) → Each (λ e. P e.0) es → Each (λ e. P e.0) (each_part f es)
   part-each P [] h = tt
   part-each P (e ∷ es) h = (h.0, part-each P es h.1)
 
-  part-never_falls : (es : List (Vec ℕ × V)) → NeverFalls (λ e d. is_lt (bytes_cmp e.0.items d.0.items)) es → NeverFalls (λ e d. is_lt (bytes_cmp e.0 d.0)) (each_part bytes f es)
+  part-never_falls : (es : List (List ℕ × V)) → NeverFalls (λ e d. is_lt (bytes_cmp e.0 d.0)) es → NeverFalls (λ e d. is_lt (bytes_cmp e.0 d.0)) (each_part f es)
   part-never_falls [] h = tt
-  part-never_falls (e ∷ es) h = (part-each (λ name. is_lt (bytes_cmp name e.0.items) ≡ false) es h.0, part-never_falls es h.1)
+  part-never_falls (e ∷ es) h = (part-each (λ name. is_lt (bytes_cmp name e.0) ≡ false) es h.0, part-never_falls es h.1)
 
   -- whether a name is among the entries does not depend on their parts
-  none-part : {Y : Type 0} (g : V → Y) (q : List ℕ) (es : List (Vec ℕ × V)) → find bytes_cmp q (each_part bytes g es) ≡ None → find bytes_cmp q (each_part bytes f es) ≡ None
+  none-part : {Y : Type 0} (g : V → Y) (q : List ℕ) (es : List (List ℕ × V)) → find bytes_cmp q (each_part g es) ≡ None → find bytes_cmp q (each_part f es) ≡ None
   none-part g q [] h = refl
   none-part g q (e ∷ es) h =
-      elim (eq_by_cmp bytes_cmp q e.0.items) as (λ b. cond b (Some (g e.1)) (find bytes_cmp q (each_part bytes g es)) ≡ None → cond b (Some (f e.1)) (find bytes_cmp q (each_part bytes f es)) ≡ None) [
+      elim (eq_by_cmp bytes_cmp q e.0) as (λ b. cond b (Some (g e.1)) (find bytes_cmp q (each_part g es)) ≡ None → cond b (Some (f e.1)) (find bytes_cmp q (each_part f es)) ≡ None) [
         | true ↦ λ never. cc
         | false ↦ λ rest. none-part g q es rest
       ] h
 
-  pub once-part : {Y : Type 0} (g : V → Y) (es : List (Vec ℕ × V)) → IsOnce (each_part bytes g es) → IsOnce (each_part bytes f es)
+  pub once-part : {Y : Type 0} (g : V → Y) (es : List (List ℕ × V)) → IsOnce (each_part g es) → IsOnce (each_part f es)
   once-part g [] h = tt
-  once-part g (e ∷ es) h = (none-part g e.0.items es h.0, once-part g es h.1)
+  once-part g (e ∷ es) h = (none-part g e.0 es h.0, once-part g es h.1)
 
-  pub parts-permutation : (es ordered : List (Vec ℕ × V)) → IsPermutation es ordered → IsPermutation (each_part bytes f es) (each_part bytes f ordered)
+  pub parts-permutation : (es ordered : List (List ℕ × V)) → IsPermutation es ordered → IsPermutation (each_part f es) (each_part f ordered)
   parts-permutation es ordered p =
-      subst (λ (xs : List (List ℕ × X)). IsPermutation xs (each_part bytes f ordered)) (sym (part-map es))
-      (subst (IsPermutation (map (λ (e : Vec ℕ × V). (e.0.items, f e.1)) es)) (sym (part-map ordered)) (IsPermutation-map (λ (e : Vec ℕ × V). (e.0.items, f e.1)) es ordered p))
+      subst (λ (xs : List (List ℕ × X)). IsPermutation xs (each_part f ordered)) (sym (part-map es))
+      (subst (IsPermutation (map (λ (e : List ℕ × V). (e.0, f e.1)) es)) (sym (part-map ordered)) (IsPermutation-map (λ (e : List ℕ × V). (e.0, f e.1)) es ordered p))
 
   -- the parts of the entries, in the order of their names, are those of the map
-  pub ordered_parts : (es : List (Vec ℕ × V)) (order : List ℕ) → IsOnce (each_part bytes f es) → IsPermutation (range_with_len 0 (length es)) order
-      → IsSortedBy (λ n m. is_lt (bytes_cmp (name_at es n) (name_at es m))) order → each_part bytes f (entries_at es order) ≡ sorted_of bytes_cmp (each_part bytes f es)
+  pub ordered_parts : (es : List (List ℕ × V)) (order : List ℕ) → IsOnce (each_part f es) → IsPermutation (range_with_len 0 (length es)) order
+      → IsSortedBy (λ n m. is_lt (bytes_cmp (name_at es n) (name_at es m))) order → each_part f (entries_at es order) ≡ sorted_of bytes_cmp (each_part f es)
   ordered_parts es order once p sorted =
-      permuted-is_map bytes_cmp bytes_total tied_names (each_part bytes f es) (each_part bytes f (entries_at es order)) once (parts-permutation es (entries_at es order) (taken-permutation es order p))
+      permuted-is_map bytes_cmp bytes_total tied_names (each_part f es) (each_part f (entries_at es order)) once (parts-permutation es (entries_at es order) (taken-permutation es order p))
       (part-never_falls (entries_at es order) (never_falls-taken es order (never_falls-from_sort bytes_total (name_at es) order sorted)))
 
 -- ---- what is found at an entry's own name
 
-differs : {V X : Type 0} (f : V → X) (q : List ℕ) (es : List (Vec ℕ × V)) → find bytes_cmp q (each_part bytes f es) ≡ None → Each (λ d. eq_by_cmp bytes_cmp d.0.items q ≡ false) es
+differs : {V X : Type 0} (f : V → X) (q : List ℕ) (es : List (List ℕ × V)) → find bytes_cmp q (each_part f es) ≡ None → Each (λ d. eq_by_cmp bytes_cmp d.0 q ≡ false) es
 differs f q [] h = tt
 differs f q (e ∷ es) h =
-    elim (eq_by_cmp bytes_cmp q e.0.items) as (λ b. eq_by_cmp bytes_cmp q e.0.items ≡ b → cond b (Some (f e.1)) (find bytes_cmp q (each_part bytes f es)) ≡ None → Each (λ d. eq_by_cmp bytes_cmp d.0.items q ≡ false) (e ∷ es)) [
+    elim (eq_by_cmp bytes_cmp q e.0) as (λ b. eq_by_cmp bytes_cmp q e.0 ≡ b → cond b (Some (f e.1)) (find bytes_cmp q (each_part f es)) ≡ None → Each (λ d. eq_by_cmp bytes_cmp d.0 q ≡ false) (e ∷ es)) [
       | true ↦ λ _ never. cc
-      | false ↦ λ apart rest. ((eq_by_cmp_equiv bytes_total).symm e.0.items q ∙ apart, differs f q es rest)
+      | false ↦ λ apart rest. ((eq_by_cmp_equiv bytes_total).symm e.0 q ∙ apart, differs f q es rest)
     ] refl h
 
 module _ {V X : Type 0} (f : V → Option X) where
-  pub no_part-found : (q : List ℕ) (es : List (Vec ℕ × V)) → Each (λ d. eq_by_cmp bytes_cmp d.0.items q ≡ false) es → find bytes_cmp q (given_parts bytes f es) ≡ None
+  pub no_part-found : (q : List ℕ) (es : List (List ℕ × V)) → Each (λ d. eq_by_cmp bytes_cmp d.0 q ≡ false) es → find bytes_cmp q (given_parts f es) ≡ None
   no_part-found q [] h = refl
   no_part-found q (e ∷ es) h =
-      elim (f e.1) as (λ o. find bytes_cmp q (option_map_or (λ x. (e.0.items, x) ∷ given_parts bytes f es) o (given_parts bytes f es)) ≡ None) [
+      elim (f e.1) as (λ o. find bytes_cmp q (option_map_or (λ x. (e.0, x) ∷ given_parts f es) o (given_parts f es)) ≡ None) [
         | None ↦ no_part-found q es h.1
-        | Some x ↦ ap (λ (b : Bool). cond b (Some x) (find bytes_cmp q (given_parts bytes f es))) ((eq_by_cmp_equiv bytes_total).symm q e.0.items ∙ h.0) ∙ no_part-found q es h.1
+        | Some x ↦ ap (λ (b : Bool). cond b (Some x) (find bytes_cmp q (given_parts f es))) ((eq_by_cmp_equiv bytes_total).symm q e.0 ∙ h.0) ∙ no_part-found q es h.1
       ]
 
   -- each entry's own part is found at its name
-  pub own_parts : {Y : Type 0} (g : V → Y) (es : List (Vec ℕ × V)) → IsOnce (each_part bytes g es) → Each (λ e. find bytes_cmp e.0.items (given_parts bytes f es) ≡ f e.1) es
+  pub own_parts : {Y : Type 0} (g : V → Y) (es : List (List ℕ × V)) → IsOnce (each_part g es) → Each (λ e. find bytes_cmp e.0 (given_parts f es) ≡ f e.1) es
   own_parts g [] h = tt
   own_parts g (e ∷ es) h =
-      let others = differs g e.0.items es h.0 in
-      let rest = given_parts bytes f es in
-      let tie : eq_by_cmp bytes_cmp e.0.items e.0.items ≡ true = ap is_eq (tied_itself bytes_total e.0.items) in
-      elim (f e.1) as (λ o. f e.1 ≡ o → Each (λ d. find bytes_cmp d.0.items (option_map_or (λ x. (e.0.items, x) ∷ rest) o rest) ≡ f d.1) (e ∷ es)) [
-        | None ↦ λ none. (no_part-found e.0.items es others ∙ sym none, own_parts g es h.1)
+      let others = differs g e.0 es h.0 in
+      let rest = given_parts f es in
+      let tie : eq_by_cmp bytes_cmp e.0 e.0 ≡ true = ap is_eq (tied_itself bytes_total e.0) in
+      elim (f e.1) as (λ o. f e.1 ≡ o → Each (λ d. find bytes_cmp d.0 (option_map_or (λ x. (e.0, x) ∷ rest) o rest) ≡ f d.1) (e ∷ es)) [
+        | None ↦ λ none. (no_part-found e.0 es others ∙ sym none, own_parts g es h.1)
         | Some x ↦ λ is. (
-          ap (λ (b : Bool). cond b (Some x) (find bytes_cmp e.0.items rest)) tie ∙ sym is,
-          Each-both (λ d. eq_by_cmp bytes_cmp d.0.items e.0.items ≡ false) (λ d. find bytes_cmp d.0.items rest ≡ f d.1) (λ d. cond (eq_by_cmp bytes_cmp d.0.items e.0.items) (Some x) (find bytes_cmp d.0.items rest) ≡ f d.1)
-              (λ d apart own. ap (λ (b : Bool). cond b (Some x) (find bytes_cmp d.0.items rest)) apart ∙ own) es others (own_parts g es h.1),
+          ap (λ (b : Bool). cond b (Some x) (find bytes_cmp e.0 rest)) tie ∙ sym is,
+          Each-both (λ d. eq_by_cmp bytes_cmp d.0 e.0 ≡ false) (λ d. find bytes_cmp d.0 rest ≡ f d.1) (λ d. cond (eq_by_cmp bytes_cmp d.0 e.0) (Some x) (find bytes_cmp d.0 rest) ≡ f d.1)
+              (λ d apart own. ap (λ (b : Bool). cond b (Some x) (find bytes_cmp d.0 rest)) apart ∙ own) es others (own_parts g es h.1),
         )
       ] refl
 
 -- a property of all entries is one of all entries in another order
-pub each-ordered : {V : Type 0} (P : Vec ℕ × V → Type 0) (es : List (Vec ℕ × V)) (order : List ℕ) → IsPermutation (range_with_len 0 (length es)) order → Each P es → Each P (entries_at es order)
+pub each-ordered : {V : Type 0} (P : List ℕ × V → Type 0) (es : List (List ℕ × V)) (order : List ℕ) → IsPermutation (range_with_len 0 (length es)) order → Each P es → Each P (entries_at es order)
 each-ordered P es order p h = each-from_all P (entries_at es order) (All-permutation P es (entries_at es order) (taken-permutation es order p) (all-from_each P es h))
 
 -- ---- keys that are distinct
 
-distinct-none : {V X : Type 0} (f : V → X) (k : Vec ℕ) (es : List (Vec ℕ × V)) → AllByRecursion (λ q. same_bytes k.items q.items ≡ false) (keys_of es) → find bytes_cmp k.items (each_part bytes f es) ≡ None
+distinct-none : {V X : Type 0} (f : V → X) (k : List ℕ) (es : List (List ℕ × V)) → AllByRecursion (λ q. same_bytes k q ≡ false) (keys_of es) → find bytes_cmp k (each_part f es) ≡ None
 distinct-none f k [] h = refl
-distinct-none f k (e ∷ es) h = ap (λ (b : Bool). cond b (Some (f e.1)) (find bytes_cmp k.items (each_part bytes f es))) (sym (texts_ties k.items e.0.items) ∙ h.0) ∙ distinct-none f k es h.1
+distinct-none f k (e ∷ es) h = ap (λ (b : Bool). cond b (Some (f e.1)) (find bytes_cmp k (each_part f es))) (sym (texts_ties k e.0) ∙ h.0) ∙ distinct-none f k es h.1
 
 -- distinct keys give distinct names
-pub once-from_distinct : {V X : Type 0} (f : V → X) (es : List (Vec ℕ × V)) → IsDistinct (λ x y. same_bytes x.items y.items) (keys_of es) → IsOnce (each_part bytes f es)
+pub once-from_distinct : {V X : Type 0} (f : V → X) (es : List (List ℕ × V)) → IsDistinct (λ x y. same_bytes x y) (keys_of es) → IsOnce (each_part f es)
 unfolding IsDistinct
 once-from_distinct f [] h = tt
 once-from_distinct f (e ∷ es) h = (distinct-none f e.0 es h.0, once-from_distinct f es h.1)

@@ -1,13 +1,12 @@
 -- What a draft says of a row or a column by its name is the part stored with that name.
 use Rattle.std.proofs.Common.{◌≡◌, refl, ◌∙◌, ℕ, Bool}
 use Rattle.std.specs.Prelude.{Option, Some, slice_get}
-use Rattle.std.specs.Global.{Vec}
 use Rattle.mpslp_decimal.specs.Decimal.{Number}
 use Rattle.mpslp_types.specs.declared.kinds.Sense.{Sense}
 use Rattle.mpslp_model_core.specs.Limits.{RowDefinition}
 use Rattle.mpslp_builder.specs.Declaration.{at_name}
 use Rattle.mpslp_builder.specs.Meaning.{declared_of}
-use Rattle.mpslp_builder.specs.Tables.{bytes, definition_of, rhs_of, range_of, lower_of, upper_of, draft, IsNumbered}
+use Rattle.mpslp_builder.specs.Tables.{definition_of, rhs_of, range_of, lower_of, upper_of, draft, IsNumbered}
 use Rattle.mpslp_builder.specs.Calls.{IsOnceEach}
 use Rattle.mpslp_builder.specs.FaultFound.{declared_in}
 use Rattle.mpslp_builder_parts.specs.RowParts.{RowParts}
@@ -17,19 +16,19 @@ use Rattle.mpslp_builder.proofs.ReadingLemmas.{Stands, given_at, flag_at, told_a
 
 module _ (sense : Option Sense) (constant : Option Number) (t : Tables) (once : IsOnceEach t) where
   -- a test of a row's definition, right-hand side and range
-  pub row_parts_at : IsNumbered t → (i : ℕ) (k : Vec ℕ) (row : RowParts) → slice_get t.rows.entries i ≡ Some (k, row) → {X : Type 0} (ask : RowDefinition → Option Number → Option Number → X)
-      → ask (definition_of row) (at_name (draft sense constant t).rhs_values (bytes k)) (at_name (draft sense constant t).ranges (bytes k)) ≡ ask (definition_of row) (rhs_of row) (range_of row)
+  pub row_parts_at : IsNumbered t → (i : ℕ) (k : List ℕ) (row : RowParts) → slice_get t.rows.entries i ≡ Some (k, row) → {X : Type 0} (ask : RowDefinition → Option Number → Option Number → X)
+      → ask (definition_of row) (at_name (draft sense constant t).rhs_values k) (at_name (draft sense constant t).ranges k) ≡ ask (definition_of row) (rhs_of row) (range_of row)
   row_parts_at numbered i k row is ask =
-      let s : Stands t.rows.entries i (bytes k) = record { key = k; parts = row; at = is; named = refl } in
-      λ j. ask (definition_of row) (rhs_at sense constant t once numbered i (bytes k) s j) (range_at sense constant t once numbered i (bytes k) s j)
+      let s : Stands t.rows.entries i k = record { key = k; parts = row; at = is; named = refl } in
+      λ j. ask (definition_of row) (rhs_at sense constant t once numbered i k s j) (range_at sense constant t once numbered i k s j)
 
-  pub column_parts_at : (i : ℕ) (k : Vec ℕ) (column : ColumnParts) → slice_get t.columns.entries i ≡ Some (k, column) → declared_of (draft sense constant t) (bytes k) ≡ declared_in column
+  pub column_parts_at : (i : ℕ) (k : List ℕ) (column : ColumnParts) → slice_get t.columns.entries i ≡ Some (k, column) → declared_of (draft sense constant t) k ≡ declared_in column
   column_parts_at i k column is =
-      let s : Stands t.columns.entries i (bytes k) = record { key = k; parts = column; at = is; named = refl } in
-      let flag : (f : ColumnParts → Bool) → _ = λ f. flag_at sense constant t once i (bytes k) s f ∙ told_at sense constant t once i (bytes k) s f in
+      let s : Stands t.columns.entries i k = record { key = k; parts = column; at = is; named = refl } in
+      let flag : (f : ColumnParts → Bool) → _ = λ f. flag_at sense constant t once i k s f ∙ told_at sense constant t once i k s f in
       λ j. record {
-        lower = given_at sense constant t once i (bytes k) s lower_of j;
-        upper = given_at sense constant t once i (bytes k) s upper_of j;
+        lower = given_at sense constant t once i k s lower_of j;
+        upper = given_at sense constant t once i k s upper_of j;
         marked = flag (λ parts. parts.marked) j;
         integer = flag (λ parts. parts.integer) j;
         binary = flag (λ parts. parts.binary) j;

@@ -24,130 +24,130 @@ pub none_there : {X : Type 0} (o : Option X) → is_some o ≡ false → o ≡ N
 none_there None h = refl
 none_there (Some x) h = cc
 
-module _ {K V X : Type 0} (key : K → List ℕ) (f : V → X) where
-  pub find-each_part : (q : List ℕ) (es : List (K × V)) → find bytes_cmp q (each_part key f es) ≡ option_map f (lookup (λ k. same_bytes q (key k)) es)
+module _ {V X : Type 0} (f : V → X) where
+  pub find-each_part : (q : List ℕ) (es : List (List ℕ × V)) → find bytes_cmp q (each_part f es) ≡ option_map f (lookup (λ k. same_bytes q k) es)
   find-each_part q [] = refl
   find-each_part q (e ∷ es) =
-      ap (λ (b : Bool). cond b (Some (f e.1)) (find bytes_cmp q (each_part key f es))) (sym (texts_ties q (key e.0)))
-      ∙ elim (same_bytes q (key e.0)) as (λ b. cond b (Some (f e.1)) (find bytes_cmp q (each_part key f es)) ≡ option_map f (cond b (Some e.1) (lookup (λ k. same_bytes q (key k)) es))) [
+      ap (λ (b : Bool). cond b (Some (f e.1)) (find bytes_cmp q (each_part f es))) (sym (texts_ties q e.0))
+      ∙ elim (same_bytes q e.0) as (λ b. cond b (Some (f e.1)) (find bytes_cmp q (each_part f es)) ≡ option_map f (cond b (Some e.1) (lookup (λ k. same_bytes q k) es))) [
         | true ↦ refl
         | false ↦ find-each_part q es
       ]
 
   -- what is found at a key is the part at its name
-  pub at_name-each_part : (q : List ℕ) (es : List (K × V)) (o : Option V) → o ≡ lookup (λ k. same_bytes q (key k)) es → option_map f o ≡ at_name (sorted_of bytes_cmp (each_part key f es)) q
-  at_name-each_part q es o h = ap (option_map f) h ∙ sym (find-sorted_of bytes_cmp bytes_total q (each_part key f es) ∙ find-each_part q es)
+  pub at_name-each_part : (q : List ℕ) (es : List (List ℕ × V)) (o : Option V) → o ≡ lookup (λ k. same_bytes q k) es → option_map f o ≡ at_name (sorted_of bytes_cmp (each_part f es)) q
+  at_name-each_part q es o h = ap (option_map f) h ∙ sym (find-sorted_of bytes_cmp bytes_total q (each_part f es) ∙ find-each_part q es)
 
   some_mapped : (o : Option V) → is_some (option_map f o) ≡ is_some o
   some_mapped None = refl
   some_mapped (Some v) = refl
 
   -- a name is one of the map's if and only if it is a key
-  pub has_name-each_part : (q : List ℕ) (es : List (K × V)) → is_some (lookup (λ k. same_bytes q (key k)) es) ≡ has_name (sorted_of bytes_cmp (each_part key f es)) q
+  pub has_name-each_part : (q : List ℕ) (es : List (List ℕ × V)) → is_some (lookup (λ k. same_bytes q k) es) ≡ has_name (sorted_of bytes_cmp (each_part f es)) q
   has_name-each_part q es =
-      sym (ap is_some (find-sorted_of bytes_cmp bytes_total q (each_part key f es) ∙ find-each_part q es) ∙ some_mapped (lookup (λ k. same_bytes q (key k)) es))
+      sym (ap is_some (find-sorted_of bytes_cmp bytes_total q (each_part f es) ∙ find-each_part q es) ∙ some_mapped (lookup (λ k. same_bytes q k) es))
 
   -- a name that is not in the map is no key
-  pub absent-each_part : (q : List ℕ) (es : List (K × V)) → has_name (sorted_of bytes_cmp (each_part key f es)) q ≡ false → find bytes_cmp q (each_part key f es) ≡ None
-  absent-each_part q es h = none_there (find bytes_cmp q (each_part key f es)) (ap is_some (sym (find-sorted_of bytes_cmp bytes_total q (each_part key f es))) ∙ h)
+  pub absent-each_part : (q : List ℕ) (es : List (List ℕ × V)) → has_name (sorted_of bytes_cmp (each_part f es)) q ≡ false → find bytes_cmp q (each_part f es) ≡ None
+  absent-each_part q es h = none_there (find bytes_cmp q (each_part f es)) (ap is_some (sym (find-sorted_of bytes_cmp bytes_total q (each_part f es))) ∙ h)
 
   -- a write that keeps this part
-  pub each_part-kept : (es : List (K × V)) (i : ℕ) (k : K) (v w : V) → slice_get es i ≡ Some (k, v) → f w ≡ f v → each_part key f (set_value_at es i w) ≡ each_part key f es
+  pub each_part-kept : (es : List (List ℕ × V)) (i : ℕ) (k : List ℕ) (v w : V) → slice_get es i ≡ Some (k, v) → f w ≡ f v → each_part f (set_value_at es i w) ≡ each_part f es
   each_part-kept [] i k v w at same = refl
   each_part-kept (e ∷ es) zero k v w at same =
-      let here : ◌≡◌ {A = K × V} e (k, v) = cc in
-      ap (λ (x : X). (key e.0, x) ∷ each_part key f es) (same ∙ ap (λ (x : K × V). f x.1) (sym here))
-  each_part-kept (e ∷ es) (suc i) k v w at same = ap (λ (more : List (List ℕ × X)). (key e.0, f e.1) ∷ more) (each_part-kept es i k v w at same)
+      let here : ◌≡◌ {A = List ℕ × V} e (k, v) = cc in
+      ap (λ (x : X). (e.0, x) ∷ each_part f es) (same ∙ ap (λ (x : List ℕ × V). f x.1) (sym here))
+  each_part-kept (e ∷ es) (suc i) k v w at same = ap (λ (more : List (List ℕ × X)). (e.0, f e.1) ∷ more) (each_part-kept es i k v w at same)
 
 -- ---- coefficients
 
-module _ {K V : Type 0} (key : K → List ℕ) (f : V → List (ℕ × Number)) (name : ℕ → Option (List ℕ)) (apart : TellsApart name) where
+module _ {V : Type 0} (f : V → List (ℕ × Number)) (name : ℕ → Option (List ℕ)) (apart : TellsApart name) where
   -- a coefficient is put at a free place
-  pub find-put_in_column : (q : CoefficientKey) (n : ℕ) (x : Number) (r : List ℕ) (es : List (K × V)) (i : ℕ) (k : K) (v w : V) → name n ≡ Some r → slice_get es i ≡ Some (k, v)
-      → f w ≡ put nat_cmp n x (f v) → find key_cmp (at r (key k)) (all_cells name (each_part key f es)) ≡ None
-      → find key_cmp q (all_cells name (each_part key f (set_value_at es i w))) ≡ cond (eq_by_cmp key_cmp q (at r (key k))) (Some x) (find key_cmp q (all_cells name (each_part key f es)))
+  pub find-put_in_column : (q : CoefficientKey) (n : ℕ) (x : Number) (r : List ℕ) (es : List (List ℕ × V)) (i : ℕ) (k : List ℕ) (v w : V) → name n ≡ Some r → slice_get es i ≡ Some (k, v)
+      → f w ≡ put nat_cmp n x (f v) → find key_cmp (at r k) (all_cells name (each_part f es)) ≡ None
+      → find key_cmp q (all_cells name (each_part f (set_value_at es i w))) ≡ cond (eq_by_cmp key_cmp q (at r k)) (Some x) (find key_cmp q (all_cells name (each_part f es)))
   find-put_in_column q n x r [] i k v w p is put_there absent = cc
   find-put_in_column q n x r (e ∷ es) zero k v w p is put_there absent =
-      let here : ◌≡◌ {A = K × V} e (k, v) = cc in
-      let rest = all_cells name (each_part key f es) in
-      let own = find-put_cell name apart q n x r (key k) (f v) p in
-      find-two key_cmp q (column_cells name (key e.0) (f w)) rest
+      let here : ◌≡◌ {A = List ℕ × V} e (k, v) = cc in
+      let rest = all_cells name (each_part f es) in
+      let own = find-put_cell name apart q n x r k (f v) p in
+      find-two key_cmp q (column_cells name e.0 (f w)) rest
       ∙ ap (λ (o : Option Number). or_else o (find key_cmp q rest))
-      (ap (λ (y : K × V). find key_cmp q (column_cells name (key y.0) (f w))) here ∙ ap (λ (l : List (ℕ × Number)). find key_cmp q (column_cells name (key k) l)) put_there ∙ own)
-      ∙ elim (eq_by_cmp key_cmp q (at r (key k))) as (λ b. or_else (cond b (Some x) (find key_cmp q (column_cells name (key k) (f v)))) (find key_cmp q rest) ≡ cond b (Some x) (or_else (find key_cmp q (column_cells name (key k) (f v))) (find key_cmp q rest))) [
+      (ap (λ (y : List ℕ × V). find key_cmp q (column_cells name y.0 (f w))) here ∙ ap (λ (l : List (ℕ × Number)). find key_cmp q (column_cells name k l)) put_there ∙ own)
+      ∙ elim (eq_by_cmp key_cmp q (at r k)) as (λ b. or_else (cond b (Some x) (find key_cmp q (column_cells name k (f v)))) (find key_cmp q rest) ≡ cond b (Some x) (or_else (find key_cmp q (column_cells name k (f v))) (find key_cmp q rest))) [
         | true ↦ refl
         | false ↦ refl
       ]
-      ∙ ap (cond (eq_by_cmp key_cmp q (at r (key k))) (Some x)) (sym (find-two key_cmp q (column_cells name (key k) (f v)) rest) ∙ ap (λ (y : K × V). find key_cmp q (column_cells name (key y.0) (f y.1) ++ rest)) (sym here))
+      ∙ ap (cond (eq_by_cmp key_cmp q (at r k)) (Some x)) (sym (find-two key_cmp q (column_cells name k (f v)) rest) ∙ ap (λ (y : List ℕ × V). find key_cmp q (column_cells name y.0 (f y.1) ++ rest)) (sym here))
   find-put_in_column q n x r (e ∷ es) (suc i) k v w p is put_there absent =
-      let front = column_cells name (key e.0) (f e.1) in
-      let rest = all_cells name (each_part key f es) in
-      let split = sym (find-two key_cmp (at r (key k)) front rest) ∙ absent in
-      let more = find-put_in_column q n x r es i k v w p is put_there (clear (find key_cmp (at r (key k)) front) (find key_cmp (at r (key k)) rest) split) in
-      find-two key_cmp q front (all_cells name (each_part key f (set_value_at es i w)))
+      let front = column_cells name e.0 (f e.1) in
+      let rest = all_cells name (each_part f es) in
+      let split = sym (find-two key_cmp (at r k) front rest) ∙ absent in
+      let more = find-put_in_column q n x r es i k v w p is put_there (clear (find key_cmp (at r k) front) (find key_cmp (at r k) rest) split) in
+      find-two key_cmp q front (all_cells name (each_part f (set_value_at es i w)))
       ∙ ap (or_else (find key_cmp q front)) more
-      ∙ elim (eq_by_cmp key_cmp q (at r (key k))) as (λ b. eq_by_cmp key_cmp q (at r (key k)) ≡ b → or_else (find key_cmp q front) (cond b (Some x) (find key_cmp q rest)) ≡ cond b (Some x) (or_else (find key_cmp q front) (find key_cmp q rest))) [
+      ∙ elim (eq_by_cmp key_cmp q (at r k)) as (λ b. eq_by_cmp key_cmp q (at r k) ≡ b → or_else (find key_cmp q front) (cond b (Some x) (find key_cmp q rest)) ≡ cond b (Some x) (or_else (find key_cmp q front) (find key_cmp q rest))) [
         | true ↦ λ tie.
             let none : find key_cmp q front ≡ None =
-            sym (find_tied key_cmp key_total q (at r (key k)) (equal_from (key_cmp q (at r (key k))) tie) front)
-            ∙ first_none (find key_cmp (at r (key k)) front) (find key_cmp (at r (key k)) rest) split in
+            sym (find_tied key_cmp key_total q (at r k) (equal_from (key_cmp q (at r k)) tie) front)
+            ∙ first_none (find key_cmp (at r k) front) (find key_cmp (at r k) rest) split in
             ap (λ (o : Option Number). or_else o (Some x)) none
         | false ↦ λ _. refl
       ] refl
-      ∙ ap (cond (eq_by_cmp key_cmp q (at r (key k))) (Some x)) (sym (find-two key_cmp q front rest))
+      ∙ ap (cond (eq_by_cmp key_cmp q (at r k)) (Some x)) (sym (find-two key_cmp q front rest))
 
 -- ---- parts that are declared
 
-module _ {K V X : Type 0} (key : K → List ℕ) (f : V → Option X) where
-  pub given_parts-without : (es : List (K × V)) (k : K) (v : V) → f v ≡ None → given_parts key f (es ++ (k, v) ∷ []) ≡ given_parts key f es
-  given_parts-without [] k v none = ap (λ (o : Option X). option_map_or (λ x. (key k, x) ∷ []) o []) none
+module _ {V X : Type 0} (f : V → Option X) where
+  pub given_parts-without : (es : List (List ℕ × V)) (k : List ℕ) (v : V) → f v ≡ None → given_parts f (es ++ (k, v) ∷ []) ≡ given_parts f es
+  given_parts-without [] k v none = ap (λ (o : Option X). option_map_or (λ x. (k, x) ∷ []) o []) none
   given_parts-without (e ∷ es) k v none =
-      ap (λ (more : List (List ℕ × X)). option_map_or (λ x. (key e.0, x) ∷ more) (f e.1) more) (given_parts-without es k v none)
+      ap (λ (more : List (List ℕ × X)). option_map_or (λ x. (e.0, x) ∷ more) (f e.1) more) (given_parts-without es k v none)
 
-  pub given_parts-kept : (es : List (K × V)) (i : ℕ) (k : K) (v w : V) → slice_get es i ≡ Some (k, v) → f w ≡ f v → given_parts key f (set_value_at es i w) ≡ given_parts key f es
+  pub given_parts-kept : (es : List (List ℕ × V)) (i : ℕ) (k : List ℕ) (v w : V) → slice_get es i ≡ Some (k, v) → f w ≡ f v → given_parts f (set_value_at es i w) ≡ given_parts f es
   given_parts-kept [] i k v w at same = refl
   given_parts-kept (e ∷ es) zero k v w at same =
-      let here : ◌≡◌ {A = K × V} e (k, v) = cc in
-      ap (λ (o : Option X). option_map_or (λ x. (key e.0, x) ∷ given_parts key f es) o (given_parts key f es)) (same ∙ ap (λ (x : K × V). f x.1) (sym here))
+      let here : ◌≡◌ {A = List ℕ × V} e (k, v) = cc in
+      ap (λ (o : Option X). option_map_or (λ x. (e.0, x) ∷ given_parts f es) o (given_parts f es)) (same ∙ ap (λ (x : List ℕ × V). f x.1) (sym here))
   given_parts-kept (e ∷ es) (suc i) k v w at same =
-      ap (λ (more : List (List ℕ × X)). option_map_or (λ x. (key e.0, x) ∷ more) (f e.1) more) (given_parts-kept es i k v w at same)
+      ap (λ (more : List (List ℕ × X)). option_map_or (λ x. (e.0, x) ∷ more) (f e.1) more) (given_parts-kept es i k v w at same)
 
-  none_given : (q : List ℕ) (es : List (K × V)) → lookup (λ k. same_bytes q (key k)) es ≡ None → find bytes_cmp q (given_parts key f es) ≡ None
+  none_given : (q : List ℕ) (es : List (List ℕ × V)) → lookup (λ k. same_bytes q k) es ≡ None → find bytes_cmp q (given_parts f es) ≡ None
   none_given q [] none = refl
   none_given q (e ∷ es) none =
-      elim (same_bytes q (key e.0)) as (λ b. same_bytes q (key e.0) ≡ b → cond b (Some e.1) (lookup (λ k. same_bytes q (key k)) es) ≡ None → find bytes_cmp q (given_parts key f (e ∷ es)) ≡ None) [
+      elim (same_bytes q e.0) as (λ b. same_bytes q e.0 ≡ b → cond b (Some e.1) (lookup (λ k. same_bytes q k) es) ≡ None → find bytes_cmp q (given_parts f (e ∷ es)) ≡ None) [
         | true ↦ λ _ h. cc
         | false ↦ λ differ h.
-            elim (f e.1) as (λ o. find bytes_cmp q (option_map_or (λ x. (key e.0, x) ∷ given_parts key f es) o (given_parts key f es)) ≡ None) [
+            elim (f e.1) as (λ o. find bytes_cmp q (option_map_or (λ x. (e.0, x) ∷ given_parts f es) o (given_parts f es)) ≡ None) [
               | None ↦ none_given q es h
-              | Some x ↦ ap (λ (b : Bool). cond b (Some x) (find bytes_cmp q (given_parts key f es))) (sym (texts_ties q (key e.0)) ∙ differ) ∙ none_given q es h
+              | Some x ↦ ap (λ (b : Bool). cond b (Some x) (find bytes_cmp q (given_parts f es))) (sym (texts_ties q e.0) ∙ differ) ∙ none_given q es h
             ]
       ] refl none
 
   -- a part that was not declared is added
-  pub find-given : (q : List ℕ) (x : X) (es : List (K × V)) (i : ℕ) (k : K) (v w : V) → slice_get es i ≡ Some (k, v) → f v ≡ None → f w ≡ Some x
-      → find bytes_cmp (key k) (given_parts key f es) ≡ None
-      → find bytes_cmp q (given_parts key f (set_value_at es i w)) ≡ cond (eq_by_cmp bytes_cmp q (key k)) (Some x) (find bytes_cmp q (given_parts key f es))
+  pub find-given : (q : List ℕ) (x : X) (es : List (List ℕ × V)) (i : ℕ) (k : List ℕ) (v w : V) → slice_get es i ≡ Some (k, v) → f v ≡ None → f w ≡ Some x
+      → find bytes_cmp k (given_parts f es) ≡ None
+      → find bytes_cmp q (given_parts f (set_value_at es i w)) ≡ cond (eq_by_cmp bytes_cmp q k) (Some x) (find bytes_cmp q (given_parts f es))
   find-given q x [] i k v w is before after absent = cc
   find-given q x (e ∷ es) zero k v w is before after absent =
-      let here : ◌≡◌ {A = K × V} e (k, v) = cc in
-      let rest = given_parts key f es in
-      ap (λ (o : Option X). find bytes_cmp q (option_map_or (λ y. (key e.0, y) ∷ rest) o rest)) after
-      ∙ ap (λ (y : K × V). cond (eq_by_cmp bytes_cmp q (key y.0)) (Some x) (find bytes_cmp q rest)) here
-      ∙ ap (λ (o : Option X). cond (eq_by_cmp bytes_cmp q (key k)) (Some x) (find bytes_cmp q (option_map_or (λ y. (key e.0, y) ∷ rest) o rest))) (sym before ∙ ap (λ (y : K × V). f y.1) (sym here))
+      let here : ◌≡◌ {A = List ℕ × V} e (k, v) = cc in
+      let rest = given_parts f es in
+      ap (λ (o : Option X). find bytes_cmp q (option_map_or (λ y. (e.0, y) ∷ rest) o rest)) after
+      ∙ ap (λ (y : List ℕ × V). cond (eq_by_cmp bytes_cmp q y.0) (Some x) (find bytes_cmp q rest)) here
+      ∙ ap (λ (o : Option X). cond (eq_by_cmp bytes_cmp q k) (Some x) (find bytes_cmp q (option_map_or (λ y. (e.0, y) ∷ rest) o rest))) (sym before ∙ ap (λ (y : List ℕ × V). f y.1) (sym here))
   find-given q x (e ∷ es) (suc i) k v w is before after absent =
-      let rest = given_parts key f es in
-      elim (f e.1) as (λ o. find bytes_cmp (key k) (option_map_or (λ y. (key e.0, y) ∷ rest) o rest) ≡ None
-      → find bytes_cmp q (option_map_or (λ y. (key e.0, y) ∷ given_parts key f (set_value_at es i w)) o (given_parts key f (set_value_at es i w))) ≡ cond (eq_by_cmp bytes_cmp q (key k)) (Some x) (find bytes_cmp q (option_map_or (λ y. (key e.0, y) ∷ rest) o rest))) [
+      let rest = given_parts f es in
+      elim (f e.1) as (λ o. find bytes_cmp k (option_map_or (λ y. (e.0, y) ∷ rest) o rest) ≡ None
+      → find bytes_cmp q (option_map_or (λ y. (e.0, y) ∷ given_parts f (set_value_at es i w)) o (given_parts f (set_value_at es i w))) ≡ cond (eq_by_cmp bytes_cmp q k) (Some x) (find bytes_cmp q (option_map_or (λ y. (e.0, y) ∷ rest) o rest))) [
         | None ↦ λ none. find-given q x es i k v w is before after none
         | Some y ↦ λ none.
-            elim (eq_by_cmp bytes_cmp (key k) (key e.0)) as (λ b. eq_by_cmp bytes_cmp (key k) (key e.0) ≡ b → cond b (Some y) (find bytes_cmp (key k) rest) ≡ None
-            → cond (eq_by_cmp bytes_cmp q (key e.0)) (Some y) (find bytes_cmp q (given_parts key f (set_value_at es i w))) ≡ cond (eq_by_cmp bytes_cmp q (key k)) (Some x) (cond (eq_by_cmp bytes_cmp q (key e.0)) (Some y) (find bytes_cmp q rest))) [
+            elim (eq_by_cmp bytes_cmp k e.0) as (λ b. eq_by_cmp bytes_cmp k e.0 ≡ b → cond b (Some y) (find bytes_cmp k rest) ≡ None
+            → cond (eq_by_cmp bytes_cmp q e.0) (Some y) (find bytes_cmp q (given_parts f (set_value_at es i w))) ≡ cond (eq_by_cmp bytes_cmp q k) (Some x) (cond (eq_by_cmp bytes_cmp q e.0) (Some y) (find bytes_cmp q rest))) [
               | true ↦ λ _ h. cc
               | false ↦ λ differ h.
-                  ap (cond (eq_by_cmp bytes_cmp q (key e.0)) (Some y)) (find-given q x es i k v w is before after h)
-                  ∙ swapped (eq_by_cmp bytes_cmp q (key e.0)) (eq_by_cmp bytes_cmp q (key k)) (Some y) (Some x) (find bytes_cmp q rest)
-                  (λ a b. let joined : is_eq (bytes_cmp (key k) (key e.0)) ≡ true = ap is_eq (sym (bytes_total.congr q (key k) (key e.0) (equal_from (bytes_cmp q (key k)) b))) ∙ a in cc)
+                  ap (cond (eq_by_cmp bytes_cmp q e.0) (Some y)) (find-given q x es i k v w is before after h)
+                  ∙ swapped (eq_by_cmp bytes_cmp q e.0) (eq_by_cmp bytes_cmp q k) (Some y) (Some x) (find bytes_cmp q rest)
+                  (λ a b. let joined : is_eq (bytes_cmp k e.0) ≡ true = ap is_eq (sym (bytes_total.congr q k e.0 (equal_from (bytes_cmp q k) b))) ∙ a in cc)
             ] refl none
       ] absent
 
@@ -162,10 +162,10 @@ key_found {K} t (e ∷ es) k h =
     ] refl h
 
 -- the entry that is found has the name that was looked for
-pub found_name : {K X : Type 0} (key : K → List ℕ) (q : List ℕ) (es : List (K × X)) (i : ℕ) (k : K) (x : X) → slice_get es i ≡ Some (k, x) → Some k ≡ lookup_key (λ k. same_bytes q (key k)) es
-    → option_map (λ e. key e.0) (slice_get es i) ≡ Some q
-found_name {K} {X} key q es i k x at h =
-    ap (option_map (λ (e : K × X). key e.0)) at ∙ ap Some (sym ((bytes_decides q (key k)).0 (key_found (λ k. same_bytes q (key k)) es k h)))
+pub found_name : {X : Type 0} (q : List ℕ) (es : List (List ℕ × X)) (i : ℕ) (k : List ℕ) (x : X) → slice_get es i ≡ Some (k, x) → Some k ≡ lookup_key (λ k. same_bytes q k) es
+    → option_map (λ e. e.0) (slice_get es i) ≡ Some q
+found_name {X} q es i k x at h =
+    ap (option_map (λ (e : List ℕ × X). e.0)) at ∙ ap Some (sym ((bytes_decides q k).0 (key_found (λ k. same_bytes q k) es k h)))
 
 -- writing what is already there changes nothing
 pub set_same : {K X : Type 0} (es : List (K × X)) (i : ℕ) (k : K) (x y : X) → slice_get es i ≡ Some (k, x) → y ≡ x → set_value_at es i y ≡ es
@@ -188,50 +188,50 @@ or_right true b r h e = cc
 or_right false b r h e = e
 
 -- a name that is not in the map is no key
-pub absent_key : {K V X : Type 0} (key : K → List ℕ) (f : V → X) (q : List ℕ) (es : List (K × V)) → has_name (sorted_of bytes_cmp (each_part key f es)) q ≡ false → lookup (λ k. same_bytes q (key k)) es ≡ None
-absent_key key f q es h = none_there (lookup (λ k. same_bytes q (key k)) es) (has_name-each_part key f q es ∙ h)
+pub absent_key : {V X : Type 0} (f : V → X) (q : List ℕ) (es : List (List ℕ × V)) → has_name (sorted_of bytes_cmp (each_part f es)) q ≡ false → lookup (λ k. same_bytes q k) es ≡ None
+absent_key f q es h = none_there (lookup (λ k. same_bytes q k) es) (has_name-each_part f q es ∙ h)
 
 -- ---- a part that is put, whether it was declared or not
 
-module _ {K V X : Type 0} (key : K → List ℕ) (f : V → Option X) where
-  pub find-given_any : (q : List ℕ) (x : X) (es : List (K × V)) (i : ℕ) (k : K) (v w : V) → slice_get es i ≡ Some (k, v) → f w ≡ Some x → IsOnce (each_part key (λ (y : V). y) es)
-      → find bytes_cmp q (given_parts key f (set_value_at es i w)) ≡ cond (eq_by_cmp bytes_cmp q (key k)) (Some x) (find bytes_cmp q (given_parts key f es))
+module _ {V X : Type 0} (f : V → Option X) where
+  pub find-given_any : (q : List ℕ) (x : X) (es : List (List ℕ × V)) (i : ℕ) (k : List ℕ) (v w : V) → slice_get es i ≡ Some (k, v) → f w ≡ Some x → IsOnce (each_part (λ (y : V). y) es)
+      → find bytes_cmp q (given_parts f (set_value_at es i w)) ≡ cond (eq_by_cmp bytes_cmp q k) (Some x) (find bytes_cmp q (given_parts f es))
   find-given_any q x [] i k v w is after once = cc
   find-given_any q x (e ∷ es) zero k v w is after once =
-      let here : ◌≡◌ {A = K × V} e (k, v) = cc in
-      let rest = given_parts key f es in
-      ap (λ (o : Option X). find bytes_cmp q (option_map_or (λ y. (key e.0, y) ∷ rest) o rest)) after
-      ∙ ap (λ (y : K × V). cond (eq_by_cmp bytes_cmp q (key y.0)) (Some x) (find bytes_cmp q rest)) here
-      ∙ elim (f e.1) as (λ o. cond (eq_by_cmp bytes_cmp q (key k)) (Some x) (find bytes_cmp q rest) ≡ cond (eq_by_cmp bytes_cmp q (key k)) (Some x) (find bytes_cmp q (option_map_or (λ y. (key e.0, y) ∷ rest) o rest))) [
+      let here : ◌≡◌ {A = List ℕ × V} e (k, v) = cc in
+      let rest = given_parts f es in
+      ap (λ (o : Option X). find bytes_cmp q (option_map_or (λ y. (e.0, y) ∷ rest) o rest)) after
+      ∙ ap (λ (y : List ℕ × V). cond (eq_by_cmp bytes_cmp q y.0) (Some x) (find bytes_cmp q rest)) here
+      ∙ elim (f e.1) as (λ o. cond (eq_by_cmp bytes_cmp q k) (Some x) (find bytes_cmp q rest) ≡ cond (eq_by_cmp bytes_cmp q k) (Some x) (find bytes_cmp q (option_map_or (λ y. (e.0, y) ∷ rest) o rest))) [
         | None ↦ refl
-        | Some z ↦ again (eq_by_cmp bytes_cmp q (key k)) (Some x) (Some z) (find bytes_cmp q rest) ∙ ap (λ (y : K × V). cond (eq_by_cmp bytes_cmp q (key k)) (Some x) (cond (eq_by_cmp bytes_cmp q (key y.0)) (Some z) (find bytes_cmp q rest))) (sym here)
+        | Some z ↦ again (eq_by_cmp bytes_cmp q k) (Some x) (Some z) (find bytes_cmp q rest) ∙ ap (λ (y : List ℕ × V). cond (eq_by_cmp bytes_cmp q k) (Some x) (cond (eq_by_cmp bytes_cmp q y.0) (Some z) (find bytes_cmp q rest))) (sym here)
       ]
     where
       again : {A : Type 0} (b : Bool) (a c d : A) → cond b a d ≡ cond b a (cond b c d)
       again true a c d = refl
       again false a c d = refl
   find-given_any q x (e ∷ es) (suc i) k v w is after once =
-      let rest = given_parts key f es in
+      let rest = given_parts f es in
       let more = find-given_any q x es i k v w is after once.1 in
-      elim (f e.1) as (λ o. find bytes_cmp q (option_map_or (λ y. (key e.0, y) ∷ given_parts key f (set_value_at es i w)) o (given_parts key f (set_value_at es i w))) ≡ cond (eq_by_cmp bytes_cmp q (key k)) (Some x) (find bytes_cmp q (option_map_or (λ y. (key e.0, y) ∷ rest) o rest))) [
+      elim (f e.1) as (λ o. find bytes_cmp q (option_map_or (λ y. (e.0, y) ∷ given_parts f (set_value_at es i w)) o (given_parts f (set_value_at es i w))) ≡ cond (eq_by_cmp bytes_cmp q k) (Some x) (find bytes_cmp q (option_map_or (λ y. (e.0, y) ∷ rest) o rest))) [
         | None ↦ more
         | Some y ↦
-            ap (cond (eq_by_cmp bytes_cmp q (key e.0)) (Some y)) more
-            ∙ swapped (eq_by_cmp bytes_cmp q (key e.0)) (eq_by_cmp bytes_cmp q (key k)) (Some y) (Some x) (find bytes_cmp q rest)
+            ap (cond (eq_by_cmp bytes_cmp q e.0) (Some y)) more
+            ∙ swapped (eq_by_cmp bytes_cmp q e.0) (eq_by_cmp bytes_cmp q k) (Some y) (Some x) (find bytes_cmp q rest)
             (λ a b.
-            let same : key e.0 ≡ key k = sym (tied_names q (key e.0) (equal_from (bytes_cmp q (key e.0)) a)) ∙ tied_names q (key k) (equal_from (bytes_cmp q (key k)) b) in
-            not_later es i k v is (ap (λ (n : List ℕ). find bytes_cmp n (each_part key (λ (y : V). y) es)) (sym same) ∙ once.0))
+            let same : e.0 ≡ k = sym (tied_names q e.0 (equal_from (bytes_cmp q e.0) a)) ∙ tied_names q k (equal_from (bytes_cmp q k) b) in
+            not_later es i k v is (ap (λ (n : List ℕ). find bytes_cmp n (each_part (λ (y : V). y) es)) (sym same) ∙ once.0))
       ]
     where
-      not_later : (es : List (K × V)) (i : ℕ) (k : K) (v : V) → slice_get es i ≡ Some (k, v) → find bytes_cmp (key k) (each_part key (λ (y : V). y) es) ≡ None → ⊥
+      not_later : (es : List (List ℕ × V)) (i : ℕ) (k : List ℕ) (v : V) → slice_get es i ≡ Some (k, v) → find bytes_cmp k (each_part (λ (y : V). y) es) ≡ None → ⊥
       not_later [] i k v is none = cc
       not_later (e ∷ es) zero k v is none =
-          let here : ◌≡◌ {A = K × V} e (k, v) = cc in
-          let tie : eq_by_cmp bytes_cmp (key k) (key e.0) ≡ true = ap (λ (y : K × V). eq_by_cmp bytes_cmp (key k) (key y.0)) here ∙ ap is_eq (tied_itself bytes_total (key k)) in
-          let found : Some e.1 ≡ None = sym (ap (λ (b : Bool). cond b (Some e.1) (find bytes_cmp (key k) (each_part key (λ (y : V). y) es))) tie) ∙ none in
+          let here : ◌≡◌ {A = List ℕ × V} e (k, v) = cc in
+          let tie : eq_by_cmp bytes_cmp k e.0 ≡ true = ap (λ (y : List ℕ × V). eq_by_cmp bytes_cmp k y.0) here ∙ ap is_eq (tied_itself bytes_total k) in
+          let found : Some e.1 ≡ None = sym (ap (λ (b : Bool). cond b (Some e.1) (find bytes_cmp k (each_part (λ (y : V). y) es))) tie) ∙ none in
           cc
       not_later (e ∷ es) (suc i) k v is none =
-          elim (eq_by_cmp bytes_cmp (key k) (key e.0)) as (λ b. cond b (Some e.1) (find bytes_cmp (key k) (each_part key (λ (y : V). y) es)) ≡ None → ⊥) [
+          elim (eq_by_cmp bytes_cmp k e.0) as (λ b. cond b (Some e.1) (find bytes_cmp k (each_part (λ (y : V). y) es)) ≡ None → ⊥) [
             | true ↦ λ h. cc
             | false ↦ λ h. not_later es i k v is h
           ] none

@@ -4,7 +4,6 @@ use Rattle.std.proofs.Common.{◌<◌, arith}
 use Rattle.std.proofs.lemmas.Option.{slice_get_within}
 use Rattle.std.specs.Prelude.{Option, Some, None, is_some, slice_get, length, ◌||◌, ◌&&◌}
 use Rattle.std.specs.Option.{option_map, option_map_or}
-use Rattle.std.specs.Global.{Vec}
 use Rattle.std.specs.Ordering.{eq_by_cmp, nat_cmp}
 use Rattle.std.specs.Cmp.Lexicographic.{nat_list_eq_equiv, bytes_decides, texts_ties}
 use Rattle.std.specs.FinMap.{find}
@@ -18,7 +17,7 @@ use Rattle.mpslp_model_core.proofs.SortedLemmas.{find-sorted_of}
 use Rattle.mpslp_model_core.proofs.CellLemmas.{at, or_else, find-two}
 use Rattle.mpslp_builder.specs.Declaration.{at_name, has_name, has_coefficient, is_objective, is_free_row, is_row_by_limits, is_integer}
 use Rattle.mpslp_builder.specs.Consistency.{has_objective_rhs}
-use Rattle.mpslp_builder.specs.Tables.{bytes, definition_of, rhs_of, range_of, cells_of, as_part, name_of_objective, objective_rhs, draft, IsNumbered}
+use Rattle.mpslp_builder.specs.Tables.{definition_of, rhs_of, range_of, cells_of, as_part, name_of_objective, objective_rhs, draft, IsNumbered}
 use Rattle.mpslp_builder.specs.Calls.{row_key_of, row_name, row_tells, column_tells, cells_at, is_objective_ref, IsOnceEach}
 use Rattle.mpslp_builder_parts.specs.declared.parts.ObjectiveParts.{ObjectiveParts}
 use Rattle.mpslp_builder_parts.specs.RowParts.{RowParts}
@@ -32,24 +31,24 @@ use Rattle.mpslp_builder.proofs.ColumnDrafts.{cell_found}
 use Rattle.mpslp_builder.proofs.RowDrafts.{other_rhs}
 
 -- a row or a column with a number is declared
-pub number_there : {V X : Type 0} (part : V → X) (es : List (Vec ℕ × V)) (i : ℕ) (name : List ℕ) → option_map (λ e. bytes e.0) (slice_get es i) ≡ Some name
-    → true ≡ has_name (sorted_of bytes_cmp (each_part bytes part es)) name
+pub number_there : {V X : Type 0} (part : V → X) (es : List (List ℕ × V)) (i : ℕ) (name : List ℕ) → option_map (λ e. e.0) (slice_get es i) ≡ Some name
+    → true ≡ has_name (sorted_of bytes_cmp (each_part part es)) name
 number_there part es i name is =
-    elim (has_name (sorted_of bytes_cmp (each_part bytes part es)) name) as (λ b. has_name (sorted_of bytes_cmp (each_part bytes part es)) name ≡ b → true ≡ b) [
+    elim (has_name (sorted_of bytes_cmp (each_part part es)) name) as (λ b. has_name (sorted_of bytes_cmp (each_part part es)) name ≡ b → true ≡ b) [
       | true ↦ λ _. refl
-      | false ↦ λ absent. absurd (there_found bytes part es i name is (absent-each_part bytes part name es absent))
+      | false ↦ λ absent. absurd (there_found part es i name is (absent-each_part part name es absent))
     ] refl
 
 -- ---- the entry of a number
 
 -- the entry at a number has this name
-pub record Stands {V : Type 0} (es : List (Vec ℕ × V)) (i : ℕ) (wanted : List ℕ) : Type 0 where
-  pub key : Vec ℕ
+pub record Stands {V : Type 0} (es : List (List ℕ × V)) (i : ℕ) (wanted : List ℕ) : Type 0 where
+  pub key : List ℕ
   pub parts : V
   pub at : slice_get es i ≡ Some (key, parts)
-  pub named : bytes key ≡ wanted
+  pub named : key ≡ wanted
 
-pub stands : {V : Type 0} (es : List (Vec ℕ × V)) (i : ℕ) (name : List ℕ) → option_map (λ e. bytes e.0) (slice_get es i) ≡ Some name → Stands es i name
+pub stands : {V : Type 0} (es : List (List ℕ × V)) (i : ℕ) (name : List ℕ) → option_map (λ e. e.0) (slice_get es i) ≡ Some name → Stands es i name
 stands [] i name h = cc
 stands (e ∷ es) zero name h = record { key = e.0; parts = e.1; at = refl; named = cc }
 stands (e ∷ es) (suc i) name h =
@@ -57,14 +56,14 @@ stands (e ∷ es) (suc i) name h =
     record { key = s.key; parts = s.parts; at = s.at; named = s.named }
 
 -- it is one of the map's
-pub within : {V : Type 0} (es : List (Vec ℕ × V)) (i : ℕ) (name : List ℕ) → Stands es i name → i < length es
+pub within : {V : Type 0} (es : List (List ℕ × V)) (i : ℕ) (name : List ℕ) → Stands es i name → i < length es
 within es i name s = slice_get_within es i (s.key, s.parts) s.at
 
 -- the entry at the number
-pub own_parts : {V : Type 0} (es : List (Vec ℕ × V)) (i : ℕ) (name : List ℕ) (s : Stands es i name) (key : Vec ℕ) (parts : V) → slice_get es i ≡ Some (key, parts) → (bytes key ≡ name) × (parts ≡ s.parts)
+pub own_parts : {V : Type 0} (es : List (List ℕ × V)) (i : ℕ) (name : List ℕ) (s : Stands es i name) (key : List ℕ) (parts : V) → slice_get es i ≡ Some (key, parts) → (key ≡ name) × (parts ≡ s.parts)
 own_parts {V} es i name s key parts is =
-    let same : ◌≡◌ {A = Vec ℕ × V} (key, parts) (s.key, s.parts) = let both : ◌≡◌ {A = Option (Vec ℕ × V)} (Some (key, parts)) (Some (s.key, s.parts)) = sym is ∙ s.at in cc in
-    (ap (λ (e : Vec ℕ × V). bytes e.0) same ∙ s.named, ap (λ (e : Vec ℕ × V). e.1) same)
+    let same : ◌≡◌ {A = List ℕ × V} (key, parts) (s.key, s.parts) = let both : ◌≡◌ {A = Option (List ℕ × V)} (Some (key, parts)) (Some (s.key, s.parts)) = sym is ∙ s.at in cc in
+    (ap (λ (e : List ℕ × V). e.0) same ∙ s.named, ap (λ (e : List ℕ × V). e.1) same)
 
 or_nothing : (a b : Bool) → (a || (b || false)) ≡ (a || b)
 or_nothing true b = refl
@@ -84,21 +83,21 @@ module _ (sense : Option Sense) (constant : Option Number) (t : Tables) (once : 
 
   module _ (i : ℕ) (c : List ℕ) (s : Stands t.columns.entries i c) where
     -- a part of the column is what is found by its name
-    pub given_at : {X : Type 0} (f : ColumnParts → Option X) → at_name (sorted_of bytes_cmp (given_parts bytes f t.columns.entries)) c ≡ f s.parts
+    pub given_at : {X : Type 0} (f : ColumnParts → Option X) → at_name (sorted_of bytes_cmp (given_parts f t.columns.entries)) c ≡ f s.parts
     given_at f =
-        find-sorted_of bytes_cmp bytes_total c (given_parts bytes f t.columns.entries)
-        ∙ ap (λ (name : List ℕ). find bytes_cmp name (given_parts bytes f t.columns.entries)) (sym s.named)
-        ∙ find_given_own bytes cells_of f t.columns.entries i s.key s.parts once.columns s.at
+        find-sorted_of bytes_cmp bytes_total c (given_parts f t.columns.entries)
+        ∙ ap (λ (name : List ℕ). find bytes_cmp name (given_parts f t.columns.entries)) (sym s.named)
+        ∙ find_given_own cells_of f t.columns.entries i s.key s.parts once.columns s.at
 
     pub told_at : (f : ColumnParts → Bool) → column_tells t i f ≡ f s.parts
-    told_at f = ap (λ (o : Option (Vec ℕ × ColumnParts)). option_map_or (λ e. f e.1) o false) s.at
+    told_at f = ap (λ (o : Option (List ℕ × ColumnParts)). option_map_or (λ e. f e.1) o false) s.at
 
     -- whether a part is declared
-    pub part_at : {X : Type 0} (f : ColumnParts → Option X) → has_name (sorted_of bytes_cmp (given_parts bytes f t.columns.entries)) c ≡ column_tells t i (λ parts. is_some (f parts))
+    pub part_at : {X : Type 0} (f : ColumnParts → Option X) → has_name (sorted_of bytes_cmp (given_parts f t.columns.entries)) c ≡ column_tells t i (λ parts. is_some (f parts))
     part_at f = ap is_some (given_at f) ∙ sym (told_at (λ parts. is_some (f parts)))
 
     -- whether the column passes a test
-    pub flag_at : (f : ColumnParts → Bool) → has_name (sorted_of bytes_cmp (given_parts bytes (λ parts. as_part (f parts)) t.columns.entries)) c ≡ column_tells t i f
+    pub flag_at : (f : ColumnParts → Bool) → has_name (sorted_of bytes_cmp (given_parts (λ parts. as_part (f parts)) t.columns.entries)) c ≡ column_tells t i f
     flag_at f = ap is_some (given_at (λ parts. as_part (f parts))) ∙ part_there (f s.parts) ∙ sym (told_at f)
 
     pub integer_at : is_integer (draft sense constant t) c ≡ column_tells t i (λ parts. parts.marked || (parts.integer || parts.binary))
@@ -108,7 +107,7 @@ module _ (sense : Option Sense) (constant : Option Number) (t : Tables) (once : 
         ∙ sym (told_at (λ parts. parts.marked || (parts.integer || parts.binary)))
 
     pub own_cells : cells_at t i ≡ cells_of s.parts
-    own_cells = ap (λ (o : Option (Vec ℕ × ColumnParts)). option_map_or (λ e. cells_of e.1) o []) s.at
+    own_cells = ap (λ (o : Option (List ℕ × ColumnParts)). option_map_or (λ e. cells_of e.1) o []) s.at
 
     -- whether a coefficient is declared
     pub cell_at : (n : ℕ) (r : List ℕ) → IsNumbered t → row_name t n ≡ Some r → has_coefficient (draft sense constant t) (at r c) ≡ is_some (find nat_cmp n (cells_at t i))
@@ -121,29 +120,29 @@ module _ (sense : Option Sense) (constant : Option Number) (t : Tables) (once : 
 
   module _ (numbered : IsNumbered t) where
     module _ (i : ℕ) (r : List ℕ) (s : Stands t.rows.entries i r) where
-      row_told : (f : RowParts → Bool) → option_map_or (λ (e : Vec ℕ × RowParts). f e.1) (slice_get t.rows.entries i) false ≡ f s.parts
-      row_told f = ap (λ (o : Option (Vec ℕ × RowParts)). option_map_or (λ e. f e.1) o false) s.at
+      row_told : (f : RowParts → Bool) → option_map_or (λ (e : List ℕ × RowParts). f e.1) (slice_get t.rows.entries i) false ≡ f s.parts
+      row_told f = ap (λ (o : Option (List ℕ × RowParts)). option_map_or (λ e. f e.1) o false) s.at
 
       form_at : at_name (draft sense constant t).rows r ≡ Some (definition_of s.parts)
       form_at =
-          find-sorted_of bytes_cmp bytes_total r (each_part bytes definition_of t.rows.entries)
-          ∙ ap (λ (name : List ℕ). find bytes_cmp name (each_part bytes definition_of t.rows.entries)) (sym s.named)
-          ∙ find_own bytes definition_of t.rows.entries i s.key s.parts once.rows s.at
+          find-sorted_of bytes_cmp bytes_total r (each_part definition_of t.rows.entries)
+          ∙ ap (λ (name : List ℕ). find bytes_cmp name (each_part definition_of t.rows.entries)) (sym s.named)
+          ∙ find_own definition_of t.rows.entries i s.key s.parts once.rows s.at
 
       pub range_at : at_name (draft sense constant t).ranges r ≡ range_of s.parts
       range_at =
-          find-sorted_of bytes_cmp bytes_total r (given_parts bytes range_of t.rows.entries)
-          ∙ ap (λ (name : List ℕ). find bytes_cmp name (given_parts bytes range_of t.rows.entries)) (sym s.named)
-          ∙ find_given_own bytes definition_of range_of t.rows.entries i s.key s.parts once.rows s.at
+          find-sorted_of bytes_cmp bytes_total r (given_parts range_of t.rows.entries)
+          ∙ ap (λ (name : List ℕ). find bytes_cmp name (given_parts range_of t.rows.entries)) (sym s.named)
+          ∙ find_given_own definition_of range_of t.rows.entries i s.key s.parts once.rows s.at
 
       pub rhs_at : at_name (draft sense constant t).rhs_values r ≡ rhs_of s.parts
       rhs_at =
-          find-sorted_of bytes_cmp bytes_total r (objective_rhs t.objective ++ given_parts bytes rhs_of t.rows.entries)
-          ∙ ap (λ (name : List ℕ). find bytes_cmp name (objective_rhs t.objective ++ given_parts bytes rhs_of t.rows.entries)) (sym s.named)
-          ∙ find-two bytes_cmp (bytes s.key) (objective_rhs t.objective) (given_parts bytes rhs_of t.rows.entries)
-          ∙ ap (λ (o : Option Number). or_else o (find bytes_cmp (bytes s.key) (given_parts bytes rhs_of t.rows.entries)))
+          find-sorted_of bytes_cmp bytes_total r (objective_rhs t.objective ++ given_parts rhs_of t.rows.entries)
+          ∙ ap (λ (name : List ℕ). find bytes_cmp name (objective_rhs t.objective ++ given_parts rhs_of t.rows.entries)) (sym s.named)
+          ∙ find-two bytes_cmp s.key (objective_rhs t.objective) (given_parts rhs_of t.rows.entries)
+          ∙ ap (λ (o : Option Number). or_else o (find bytes_cmp s.key (given_parts rhs_of t.rows.entries)))
           (other_rhs sense constant t.objective t.rows.entries t.columns.entries i s.key s.parts s.parts s.at numbered)
-          ∙ find_given_own bytes definition_of rhs_of t.rows.entries i s.key s.parts once.rows s.at
+          ∙ find_given_own definition_of rhs_of t.rows.entries i s.key s.parts once.rows s.at
 
       no_objective : is_objective (draft sense constant t) r ≡ false
       no_objective =
@@ -153,7 +152,7 @@ module _ (sense : Option Sense) (constant : Option Number) (t : Tables) (once : 
                 elim (same_bytes r name) as (λ b. same_bytes r name ≡ b → b ≡ false) [
                   | true ↦ λ tie.
                       let same : r ≡ name = (bytes_decides r name).0 tie in
-                      let here : row_name t (suc i) ≡ Some r = ap (option_map (λ (e : Vec ℕ × RowParts). bytes e.0)) s.at ∙ ap Some s.named in
+                      let here : row_name t (suc i) ≡ Some r = ap (option_map (λ (e : List ℕ × RowParts). e.0)) s.at ∙ ap Some s.named in
                       let no : zero ≡ suc i = numbered.apart zero (suc i) r (there ∙ ap Some (sym same)) here in
                       cc
                   | false ↦ λ _. refl
@@ -161,24 +160,24 @@ module _ (sense : Option Sense) (constant : Option Number) (t : Tables) (once : 
           ] refl
 
     module _ (o : ObjectiveParts) (there : t.objective ≡ Some o) where
-      no_such_row : {X : Type 0} (f : RowParts → X) → find bytes_cmp o.name (each_part bytes f t.rows.entries) ≡ None
+      no_such_row : {X : Type 0} (f : RowParts → X) → find bytes_cmp o.name (each_part f t.rows.entries) ≡ None
       no_such_row {X} f =
-          elim (is_some (find bytes_cmp o.name (each_part bytes f t.rows.entries))) as (λ b. is_some (find bytes_cmp o.name (each_part bytes f t.rows.entries)) ≡ b → find bytes_cmp o.name (each_part bytes f t.rows.entries) ≡ None) [
+          elim (is_some (find bytes_cmp o.name (each_part f t.rows.entries))) as (λ b. is_some (find bytes_cmp o.name (each_part f t.rows.entries)) ≡ b → find bytes_cmp o.name (each_part f t.rows.entries) ≡ None) [
             | true ↦ λ is.
-                let row = found_there bytes f t.rows.entries o.name is in
+                let row = found_there f t.rows.entries o.name is in
                 let no : zero ≡ suc row.0 = numbered.apart zero (suc row.0) o.name (ap name_of_objective there) row.1 in
                 absurd (zero_apart row.0 no)
-            | false ↦ λ none. none_there (find bytes_cmp o.name (each_part bytes f t.rows.entries)) none
+            | false ↦ λ none. none_there (find bytes_cmp o.name (each_part f t.rows.entries)) none
           ] refl
         where
           zero_apart : (n : ℕ) → zero ≡ suc n → ⊥
           zero_apart n h = cc
 
       no_form : at_name (draft sense constant t).rows o.name ≡ None
-      no_form = find-sorted_of bytes_cmp bytes_total o.name (each_part bytes definition_of t.rows.entries) ∙ no_such_row definition_of
+      no_form = find-sorted_of bytes_cmp bytes_total o.name (each_part definition_of t.rows.entries) ∙ no_such_row definition_of
 
       no_range : at_name (draft sense constant t).ranges o.name ≡ None
-      no_range = find-sorted_of bytes_cmp bytes_total o.name (given_parts bytes range_of t.rows.entries) ∙ none_given bytes definition_of range_of o.name t.rows.entries (no_such_row definition_of)
+      no_range = find-sorted_of bytes_cmp bytes_total o.name (given_parts range_of t.rows.entries) ∙ none_given definition_of range_of o.name t.rows.entries (no_such_row definition_of)
 
       own_rhs : (value : Option Number) → find bytes_cmp o.name (option_map_or (λ x. (o.name, x) ∷ []) value []) ≡ value
       own_rhs None = refl
@@ -189,10 +188,10 @@ module _ (sense : Option Sense) (constant : Option Number) (t : Tables) (once : 
 
       objective_rhs_at : at_name (draft sense constant t).rhs_values o.name ≡ o.rhs
       objective_rhs_at =
-          find-sorted_of bytes_cmp bytes_total o.name (objective_rhs t.objective ++ given_parts bytes rhs_of t.rows.entries)
-          ∙ ap (λ (parts : Option ObjectiveParts). find bytes_cmp o.name (objective_rhs parts ++ given_parts bytes rhs_of t.rows.entries)) there
-          ∙ find-two bytes_cmp o.name (objective_rhs (Some o)) (given_parts bytes rhs_of t.rows.entries)
-          ∙ (λ j. or_else (own_rhs o.rhs j) (none_given bytes definition_of rhs_of o.name t.rows.entries (no_such_row definition_of) j))
+          find-sorted_of bytes_cmp bytes_total o.name (objective_rhs t.objective ++ given_parts rhs_of t.rows.entries)
+          ∙ ap (λ (parts : Option ObjectiveParts). find bytes_cmp o.name (objective_rhs parts ++ given_parts rhs_of t.rows.entries)) there
+          ∙ find-two bytes_cmp o.name (objective_rhs (Some o)) (given_parts rhs_of t.rows.entries)
+          ∙ (λ j. or_else (own_rhs o.rhs j) (none_given definition_of rhs_of o.name t.rows.entries (no_such_row definition_of) j))
           ∙ found_first o.rhs
 
       own_name : is_objective (draft sense constant t) o.name ≡ true

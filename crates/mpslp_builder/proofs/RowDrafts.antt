@@ -8,7 +8,6 @@ use Rattle.std.specs.Ordering.{eq_by_cmp}
 use Rattle.std.specs.Cmp.{first_so, second_so}
 use Rattle.std.specs.Cmp.Lexicographic.{nat_list_eq_equiv}
 use Rattle.std.specs.FinMap.{find, put}
-use Rattle.std.specs.Global.{Vec}
 use Rattle.indexmap.specs.IndexMap.{set_value_at}
 use Rattle.mpslp_decimal.specs.Decimal.{Number}
 use Rattle.mpslp_types.specs.Name.{same_bytes, bytes_cmp}
@@ -22,7 +21,7 @@ use Rattle.mpslp_model_core.proofs.SortedLemmas.{sorted_of-put, sorted_of-append
 use Rattle.mpslp_model_core.proofs.PutsLemmas.{equal_from}
 use Rattle.mpslp_model_core.proofs.CellLemmas.{or_else, find-two}
 use Rattle.mpslp_builder.specs.Declaration.{Draft, with_declaration, declare_objective, declare_row, declare_rhs, declare_range, is_objective, has_name, has_row}
-use Rattle.mpslp_builder.specs.Tables.{bytes, definition_of, rhs_of, range_of, name_of_objective, objective_rhs, name_of_row_key, cells_by_name, draft_from, AreNumbered}
+use Rattle.mpslp_builder.specs.Tables.{definition_of, rhs_of, range_of, name_of_objective, objective_rhs, name_of_row_key, cells_by_name, draft_from, AreNumbered}
 use Rattle.mpslp_builder_parts.specs.declared.parts.ObjectiveParts.{ObjectiveParts}
 use Rattle.mpslp_builder_parts.specs.RowParts.{RowParts}
 use Rattle.mpslp_builder_parts.specs.declared.parts.ColumnParts.{ColumnParts}
@@ -86,31 +85,31 @@ find-behind {X} q k x front back more absent put_there =
     ] refl
     ∙ ap (cond (eq_by_cmp bytes_cmp q k) (Some x)) (sym (find-two bytes_cmp q front back))
 
-module _ (sense : Option Sense) (constant : Option Number) (objective : Option ObjectiveParts) (rows : List (Vec ℕ × RowParts)) (columns : List (Vec ℕ × ColumnParts)) where
+module _ (sense : Option Sense) (constant : Option Number) (objective : Option ObjectiveParts) (rows : List (List ℕ × RowParts)) (columns : List (List ℕ × ColumnParts)) where
   -- ---- a row
 
-  module _ (k : Vec ℕ) (definition : RowDefinition) where
-    abbrev added : List (Vec ℕ × RowParts)
+  module _ (k : List ℕ) (definition : RowDefinition) where
+    abbrev added : List (List ℕ × RowParts)
     added = rows ++ (k, record { definition = definition; rhs = None; range = None }) ∷ []
 
     kept_name : (n : ℕ) (r : List ℕ) → name_of_row_key objective rows n ≡ Some r → name_of_row_key objective added n ≡ Some r
     kept_name zero r h = h
     kept_name (suc i) r h = names-more bytes rows ((k, record { definition = definition; rhs = None; range = None }) ∷ []) i r h
 
-    missing : has_row (draft_from sense constant objective rows columns) (bytes k) ≡ false → find bytes_cmp (bytes k) (each_part bytes definition_of rows) ≡ None
+    missing : has_row (draft_from sense constant objective rows columns) k ≡ false → find bytes_cmp k (each_part definition_of rows) ≡ None
     missing absent =
         let all : Draft = draft_from sense constant objective rows columns in
-        absent-each_part bytes definition_of (bytes k) rows (right_false (is_objective all (bytes k)) (has_name all.rows (bytes k)) absent)
+        absent-each_part definition_of k rows (right_false (is_objective all k) (has_name all.rows k) absent)
 
-    pub row_draft : AreNumbered objective rows columns → has_row (draft_from sense constant objective rows columns) (bytes k) ≡ false
-        → draft_from sense constant objective added columns ≡ with_declaration (draft_from sense constant objective rows columns) (declare_row (bytes k) definition)
+    pub row_draft : AreNumbered objective rows columns → has_row (draft_from sense constant objective rows columns) k ≡ false
+        → draft_from sense constant objective added columns ≡ with_declaration (draft_from sense constant objective rows columns) (declare_row k definition)
     row_draft numbered absent =
         let parts : RowParts = record { definition = definition; rhs = None; range = None } in
-        let forms : sorted_of bytes_cmp (each_part bytes definition_of added) ≡ put bytes_cmp (bytes k) definition (sorted_of bytes_cmp (each_part bytes definition_of rows)) =
-        ap (sorted_of bytes_cmp) (each_part-append bytes definition_of rows k parts) ∙ sorted_of-append bytes_cmp bytes_total tied_names (bytes k) definition (each_part bytes definition_of rows) (missing absent) in
+        let forms : sorted_of bytes_cmp (each_part definition_of added) ≡ put bytes_cmp k definition (sorted_of bytes_cmp (each_part definition_of rows)) =
+        ap (sorted_of bytes_cmp) (each_part-append definition_of rows k parts) ∙ sorted_of-append bytes_cmp bytes_total tied_names k definition (each_part definition_of rows) (missing absent) in
         let cells = all_cells-more (name_of_row_key objective rows) (name_of_row_key objective added) kept_name (cells_by_name columns) numbered.named in
-        let rhs_values = given_parts-without bytes rhs_of rows k parts refl in
-        let ranges = given_parts-without bytes range_of rows k parts refl in
+        let rhs_values = given_parts-without rhs_of rows k parts refl in
+        let ranges = given_parts-without range_of rows k parts refl in
         λ i. record (draft_from sense constant objective rows columns) {
           rows = forms i;
           rhs_values = sorted_of bytes_cmp (objective_rhs objective ++ rhs_values i);
@@ -118,7 +117,7 @@ module _ (sense : Option Sense) (constant : Option Number) (objective : Option O
           coefficients = sorted_of key_cmp (cells i);
         }
 
-    old_or_new : (n : ℕ) (r : List ℕ) → name_of_row_key objective added n ≡ Some r → (name_of_row_key objective rows n ≡ Some r) ⊎ ((n ≡ suc (length rows)) × (bytes k ≡ r))
+    old_or_new : (n : ℕ) (r : List ℕ) → name_of_row_key objective added n ≡ Some r → (name_of_row_key objective rows n ≡ Some r) ⊎ ((n ≡ suc (length rows)) × (k ≡ r))
     old_or_new zero r h = inl h
     old_or_new (suc i) r h =
         elim (old_or_last bytes rows k (record { definition = definition; rhs = None; range = None }) i r h) [
@@ -126,16 +125,16 @@ module _ (sense : Option Sense) (constant : Option Number) (objective : Option O
           | inr last ↦ inr (ap suc last.0, last.1)
         ]
 
-    not_new : has_row (draft_from sense constant objective rows columns) (bytes k) ≡ false → (n : ℕ) → name_of_row_key objective rows n ≡ Some (bytes k) → ⊥
+    not_new : has_row (draft_from sense constant objective rows columns) k ≡ false → (n : ℕ) → name_of_row_key objective rows n ≡ Some k → ⊥
     not_new absent zero h =
         let all : Draft = draft_from sense constant objective rows columns in
-        let none = left_false (is_objective all (bytes k)) (has_name all.rows (bytes k)) absent in
-        let own : same_bytes (bytes k) (bytes k) ≡ false = sym (ap (λ (o : Option (List ℕ)). option_map_or (same_bytes (bytes k)) o false) h) ∙ none in
-        let so : same_bytes (bytes k) (bytes k) ≡ true = nat_list_eq_equiv.refl (bytes k) in
+        let none = left_false (is_objective all k) (has_name all.rows k) absent in
+        let own : same_bytes k k ≡ false = sym (ap (λ (o : Option (List ℕ)). option_map_or (same_bytes k) o false) h) ∙ none in
+        let so : same_bytes k k ≡ true = nat_list_eq_equiv.refl k in
         cc
-    not_new absent (suc i) h = there_found bytes definition_of rows i (bytes k) h (missing absent)
+    not_new absent (suc i) h = there_found definition_of rows i k h (missing absent)
 
-    pub row_numbered : AreNumbered objective rows columns → length rows < 4294967294 → has_row (draft_from sense constant objective rows columns) (bytes k) ≡ false → AreNumbered objective added columns
+    pub row_numbered : AreNumbered objective rows columns → length rows < 4294967294 → has_row (draft_from sense constant objective rows columns) k ≡ false → AreNumbered objective added columns
     row_numbered numbered few absent = record {
       few = simp length-append (omega arith);
       apart = λ n m r p q.
@@ -154,8 +153,8 @@ module _ (sense : Option Sense) (constant : Option Number) (objective : Option O
 
   -- ---- a row that is written
 
-  module _ (i : ℕ) (k : Vec ℕ) (v w : RowParts) (row : slice_get rows i ≡ Some (k, v)) where
-    same_names : (rows : List (Vec ℕ × RowParts)) (i j : ℕ) → option_map (λ (e : Vec ℕ × RowParts). bytes e.0) (slice_get (set_value_at rows i w) j) ≡ option_map (λ e. bytes e.0) (slice_get rows j)
+  module _ (i : ℕ) (k : List ℕ) (v w : RowParts) (row : slice_get rows i ≡ Some (k, v)) where
+    same_names : (rows : List (List ℕ × RowParts)) (i j : ℕ) → option_map (λ (e : List ℕ × RowParts). e.0) (slice_get (set_value_at rows i w) j) ≡ option_map (λ e. e.0) (slice_get rows j)
     same_names [] i j = refl
     same_names (e ∷ es) zero zero = refl
     same_names (e ∷ es) zero (suc j) = refl
@@ -166,7 +165,7 @@ module _ (sense : Option Sense) (constant : Option Number) (objective : Option O
     same_name_at zero = refl
     same_name_at (suc j) = same_names rows i j
 
-    same_length : (rows : List (Vec ℕ × RowParts)) (i : ℕ) → length (set_value_at rows i w) ≡ length rows
+    same_length : (rows : List (List ℕ × RowParts)) (i : ℕ) → length (set_value_at rows i w) ≡ length rows
     same_length [] i = refl
     same_length (e ∷ es) zero = refl
     same_length (e ∷ es) (suc i) = ap suc (same_length es i)
@@ -184,16 +183,16 @@ module _ (sense : Option Sense) (constant : Option Number) (objective : Option O
     same_cells : AreNumbered objective rows columns → sorted_of key_cmp (all_cells (name_of_row_key objective (set_value_at rows i w)) (cells_by_name columns)) ≡ sorted_of key_cmp (all_cells (name_of_row_key objective rows) (cells_by_name columns))
     same_cells numbered = ap (sorted_of key_cmp) (all_cells-more (name_of_row_key objective rows) (name_of_row_key objective (set_value_at rows i w)) still (cells_by_name columns) numbered.named)
 
-    same_forms : definition_of w ≡ definition_of v → sorted_of bytes_cmp (each_part bytes definition_of (set_value_at rows i w)) ≡ sorted_of bytes_cmp (each_part bytes definition_of rows)
-    same_forms same = ap (sorted_of bytes_cmp) (each_part-kept bytes definition_of rows i k v w row same)
+    same_forms : definition_of w ≡ definition_of v → sorted_of bytes_cmp (each_part definition_of (set_value_at rows i w)) ≡ sorted_of bytes_cmp (each_part definition_of rows)
+    same_forms same = ap (sorted_of bytes_cmp) (each_part-kept definition_of rows i k v w row same)
 
-    pub range_draft : (x : Number) → AreNumbered objective rows columns → IsOnce (each_part bytes definition_of rows) → w ≡ record v { range = Some x }
-        → draft_from sense constant objective (set_value_at rows i w) columns ≡ with_declaration (draft_from sense constant objective rows columns) (declare_range (bytes k) x)
+    pub range_draft : (x : Number) → AreNumbered objective rows columns → IsOnce (each_part definition_of rows) → w ≡ record v { range = Some x }
+        → draft_from sense constant objective (set_value_at rows i w) columns ≡ with_declaration (draft_from sense constant objective rows columns) (declare_range k x)
     range_draft x numbered once is =
-        let rhs_values = given_parts-kept bytes rhs_of rows i k v w row (ap rhs_of is) in
-        let ranges : sorted_of bytes_cmp (given_parts bytes range_of (set_value_at rows i w)) ≡ put bytes_cmp (bytes k) x (sorted_of bytes_cmp (given_parts bytes range_of rows)) =
-        sorted_of-put bytes_cmp bytes_total tied_names (bytes k) x (given_parts bytes range_of (set_value_at rows i w)) (given_parts bytes range_of rows)
-        (λ q. find-given_any bytes range_of q x rows i k v w row (ap range_of is) (once_too bytes definition_of (λ (y : RowParts). y) rows once)) in
+        let rhs_values = given_parts-kept rhs_of rows i k v w row (ap rhs_of is) in
+        let ranges : sorted_of bytes_cmp (given_parts range_of (set_value_at rows i w)) ≡ put bytes_cmp k x (sorted_of bytes_cmp (given_parts range_of rows)) =
+        sorted_of-put bytes_cmp bytes_total tied_names k x (given_parts range_of (set_value_at rows i w)) (given_parts range_of rows)
+        (λ q. find-given_any range_of q x rows i k v w row (ap range_of is) (once_too definition_of (λ (y : RowParts). y) rows once)) in
         λ j. record (draft_from sense constant objective rows columns) {
           rows = same_forms (ap definition_of is) j;
           rhs_values = sorted_of bytes_cmp (objective_rhs objective ++ rhs_values j);
@@ -202,32 +201,32 @@ module _ (sense : Option Sense) (constant : Option Number) (objective : Option O
         }
 
     -- the objective has another name than its rows
-    pub other_rhs : AreNumbered objective rows columns → find bytes_cmp (bytes k) (objective_rhs objective) ≡ None
+    pub other_rhs : AreNumbered objective rows columns → find bytes_cmp k (objective_rhs objective) ≡ None
     other_rhs numbered =
-        elim objective as (λ o. objective ≡ o → find bytes_cmp (bytes k) (objective_rhs o) ≡ None) [
+        elim objective as (λ o. objective ≡ o → find bytes_cmp k (objective_rhs o) ≡ None) [
           | None ↦ λ _. refl
           | Some parts ↦ λ there.
-              elim parts.rhs as (λ value. find bytes_cmp (bytes k) (option_map_or (λ x. (parts.name, x) ∷ []) value []) ≡ None) [
+              elim parts.rhs as (λ value. find bytes_cmp k (option_map_or (λ x. (parts.name, x) ∷ []) value []) ≡ None) [
                 | None ↦ refl
-                | Some x ↦ elim (eq_by_cmp bytes_cmp (bytes k) parts.name) as (λ b. eq_by_cmp bytes_cmp (bytes k) parts.name ≡ b → cond b (Some x) None ≡ None) [
+                | Some x ↦ elim (eq_by_cmp bytes_cmp k parts.name) as (λ b. eq_by_cmp bytes_cmp k parts.name ≡ b → cond b (Some x) None ≡ None) [
                   | true ↦ λ tie.
-                      let same : bytes k ≡ parts.name = tied_names (bytes k) parts.name (equal_from (bytes_cmp (bytes k) parts.name) tie) in
-                      let no : zero ≡ suc i = numbered.apart zero (suc i) (bytes k) (ap name_of_objective there ∙ ap Some (sym same)) (ap (option_map (λ (e : Vec ℕ × RowParts). bytes e.0)) row) in
+                      let same : k ≡ parts.name = tied_names k parts.name (equal_from (bytes_cmp k parts.name) tie) in
+                      let no : zero ≡ suc i = numbered.apart zero (suc i) k (ap name_of_objective there ∙ ap Some (sym same)) (ap (option_map (λ (e : List ℕ × RowParts). e.0)) row) in
                       cc
                   | false ↦ λ _. refl
                 ] refl
               ]
         ] refl
 
-    pub rhs_draft : (x : Number) → AreNumbered objective rows columns → IsOnce (each_part bytes definition_of rows) → w ≡ record v { rhs = Some x }
-        → draft_from sense constant objective (set_value_at rows i w) columns ≡ with_declaration (draft_from sense constant objective rows columns) (declare_rhs (bytes k) x)
+    pub rhs_draft : (x : Number) → AreNumbered objective rows columns → IsOnce (each_part definition_of rows) → w ≡ record v { rhs = Some x }
+        → draft_from sense constant objective (set_value_at rows i w) columns ≡ with_declaration (draft_from sense constant objective rows columns) (declare_rhs k x)
     rhs_draft x numbered once is =
-        let ranges = given_parts-kept bytes range_of rows i k v w row (ap range_of is) in
+        let ranges = given_parts-kept range_of rows i k v w row (ap range_of is) in
         let front = objective_rhs objective in
-        let rhs_values : sorted_of bytes_cmp (front ++ given_parts bytes rhs_of (set_value_at rows i w)) ≡ put bytes_cmp (bytes k) x (sorted_of bytes_cmp (front ++ given_parts bytes rhs_of rows)) =
-        sorted_of-put bytes_cmp bytes_total tied_names (bytes k) x (front ++ given_parts bytes rhs_of (set_value_at rows i w)) (front ++ given_parts bytes rhs_of rows)
-        (λ q. find-behind q (bytes k) x front (given_parts bytes rhs_of rows) (given_parts bytes rhs_of (set_value_at rows i w)) (other_rhs numbered)
-        (find-given_any bytes rhs_of q x rows i k v w row (ap rhs_of is) (once_too bytes definition_of (λ (y : RowParts). y) rows once))) in
+        let rhs_values : sorted_of bytes_cmp (front ++ given_parts rhs_of (set_value_at rows i w)) ≡ put bytes_cmp k x (sorted_of bytes_cmp (front ++ given_parts rhs_of rows)) =
+        sorted_of-put bytes_cmp bytes_total tied_names k x (front ++ given_parts rhs_of (set_value_at rows i w)) (front ++ given_parts rhs_of rows)
+        (λ q. find-behind q k x front (given_parts rhs_of rows) (given_parts rhs_of (set_value_at rows i w)) (other_rhs numbered)
+        (find-given_any rhs_of q x rows i k v w row (ap rhs_of is) (once_too definition_of (λ (y : RowParts). y) rows once))) in
         λ j. record (draft_from sense constant objective rows columns) {
           rows = same_forms (ap definition_of is) j;
           rhs_values = rhs_values j;
@@ -237,7 +236,7 @@ module _ (sense : Option Sense) (constant : Option Number) (objective : Option O
 
 -- ---- the objective
 
-module _ (sense : Option Sense) (constant : Option Number) (name : List ℕ) (rows : List (Vec ℕ × RowParts)) (columns : List (Vec ℕ × ColumnParts)) where
+module _ (sense : Option Sense) (constant : Option Number) (name : List ℕ) (rows : List (List ℕ × RowParts)) (columns : List (List ℕ × ColumnParts)) where
   abbrev named : Option ObjectiveParts
   named = Some (record { name = name; rhs = None })
 
@@ -251,10 +250,10 @@ module _ (sense : Option Sense) (constant : Option Number) (name : List ℕ) (ro
         let cells = all_cells-more (name_of_row_key None rows) (name_of_row_key named rows) still_named (cells_by_name columns) numbered.named in
         λ i. record (draft_from sense constant None rows columns) { objective = Some name; coefficients = sorted_of key_cmp (cells i) }
 
-    no_row : has_row (draft_from sense constant None rows columns) name ≡ false → (i : ℕ) (r : List ℕ) → option_map (λ e. bytes e.0) (slice_get rows i) ≡ Some r → Some name ≡ Some r → ⊥
+    no_row : has_row (draft_from sense constant None rows columns) name ≡ false → (i : ℕ) (r : List ℕ) → option_map (λ e. e.0) (slice_get rows i) ≡ Some r → Some name ≡ Some r → ⊥
     no_row absent i r h is =
         let same : ◌≡◌ {A = List ℕ} r name = cc in
-        there_found bytes definition_of rows i name (h ∙ ap Some same) (absent-each_part bytes definition_of name rows absent)
+        there_found definition_of rows i name (h ∙ ap Some same) (absent-each_part definition_of name rows absent)
 
     pub objective_numbered : has_row (draft_from sense constant None rows columns) name ≡ false → AreNumbered named rows columns
     objective_numbered absent = record {
@@ -270,11 +269,11 @@ module _ (sense : Option Sense) (constant : Option Number) (name : List ℕ) (ro
         apart (suc i) (suc j) r p q = numbered.apart (suc i) (suc j) r p q
 
 -- the right-hand side of the objective
-module _ (sense : Option Sense) (constant : Option Number) (o : ObjectiveParts) (x : Number) (rows : List (Vec ℕ × RowParts)) (columns : List (Vec ℕ × ColumnParts)) where
+module _ (sense : Option Sense) (constant : Option Number) (o : ObjectiveParts) (x : Number) (rows : List (List ℕ × RowParts)) (columns : List (List ℕ × ColumnParts)) where
   pub objective_rhs_draft : o.rhs ≡ None → draft_from sense constant (Some (record o { rhs = Some x })) rows columns ≡ with_declaration (draft_from sense constant (Some o) rows columns) (declare_rhs o.name x)
   objective_rhs_draft none =
       ap (λ (value : Option Number). record (draft_from sense constant (Some o) rows columns) {
-        rhs_values = put bytes_cmp o.name x (sorted_of bytes_cmp (option_map_or (λ v. (o.name, v) ∷ []) value [] ++ given_parts bytes rhs_of rows));
+        rhs_values = put bytes_cmp o.name x (sorted_of bytes_cmp (option_map_or (λ v. (o.name, v) ∷ []) value [] ++ given_parts rhs_of rows));
       })
       (sym none)
 

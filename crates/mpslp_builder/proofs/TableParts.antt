@@ -4,7 +4,6 @@ use Rattle.std.specs.Prelude.{Option, Some, None, is_some, unwrap_or, slice_get}
 use Rattle.std.specs.Option.{option_map, option_map_or}
 use Rattle.std.specs.Ordering.{eq_by_cmp}
 use Rattle.std.specs.FinMap.{find}
-use Rattle.std.specs.Global.{Vec}
 use Rattle.mpslp_decimal.specs.Decimal.{Number, zero_number}
 use Rattle.mpslp_types.specs.Name.{bytes_cmp}
 use Rattle.mpslp_types.specs.declared.kinds.Sense.{Sense}
@@ -17,7 +16,7 @@ use Rattle.mpslp_model_core.proofs.SortedLemmas.{find-sorted_of}
 use Rattle.mpslp_model_core.proofs.CellLemmas.{or_else, find-two, name_same}
 use Rattle.mpslp_builder.specs.Declaration.{Draft, at_name}
 use Rattle.mpslp_builder.specs.Meaning.{declared_of, column_of, row_entry}
-use Rattle.mpslp_builder.specs.Tables.{bytes, definition_of, rhs_of, range_of, no_part, lower_of, upper_of, as_part, mark_of, integer_of, binary_of, semi_of, objective_rhs, name_of_row_key, draft_from}
+use Rattle.mpslp_builder.specs.Tables.{definition_of, rhs_of, range_of, no_part, lower_of, upper_of, as_part, mark_of, integer_of, binary_of, semi_of, objective_rhs, name_of_row_key, draft_from}
 use Rattle.mpslp_builder.specs.FaultFound.{declared_in}
 use Rattle.mpslp_builder_parts.specs.Parts.{limits_in, bounds_of}
 use Rattle.mpslp_builder_parts.specs.declared.parts.ObjectiveParts.{ObjectiveParts}
@@ -33,74 +32,74 @@ each-from_get P (x ∷ xs) h = (h zero x refl, each-from_get P xs (λ i y is. h 
 -- ---- rows
 
 -- what a draft states of a row's name
-abbrev pub SaysRow : Draft → Vec ℕ × RowParts → Type 0
-SaysRow d e = (at_name d.rhs_values e.0.items ≡ e.1.rhs) × (at_name d.ranges e.0.items ≡ e.1.range)
+abbrev pub SaysRow : Draft → List ℕ × RowParts → Type 0
+SaysRow d e = (at_name d.rhs_values e.0 ≡ e.1.rhs) × (at_name d.ranges e.0 ≡ e.1.range)
 
-no_objective : (objective : Option ObjectiveParts) (rows : List (Vec ℕ × RowParts)) → TellsApart (name_of_row_key objective rows) → (i : ℕ) (e : Vec ℕ × RowParts) → slice_get rows i ≡ Some e
-    → find bytes_cmp e.0.items (objective_rhs objective) ≡ None
+no_objective : (objective : Option ObjectiveParts) (rows : List (List ℕ × RowParts)) → TellsApart (name_of_row_key objective rows) → (i : ℕ) (e : List ℕ × RowParts) → slice_get rows i ≡ Some e
+    → find bytes_cmp e.0 (objective_rhs objective) ≡ None
 no_objective None rows apart i e is = refl
 no_objective (Some o) rows apart i e is =
-    elim (o.rhs) as (λ r. find bytes_cmp e.0.items (option_map_or (λ value. (o.name, value) ∷ []) r []) ≡ None) [
+    elim (o.rhs) as (λ r. find bytes_cmp e.0 (option_map_or (λ value. (o.name, value) ∷ []) r []) ≡ None) [
       | None ↦ refl
       | Some value ↦
-          elim (eq_by_cmp bytes_cmp e.0.items o.name) as (λ b. eq_by_cmp bytes_cmp e.0.items o.name ≡ b → cond b (Some value) None ≡ None) [
+          elim (eq_by_cmp bytes_cmp e.0 o.name) as (λ b. eq_by_cmp bytes_cmp e.0 o.name ≡ b → cond b (Some value) None ≡ None) [
             | true ↦ λ tie.
-                let same : e.0.items ≡ o.name = name_same e.0.items o.name tie in
-                let zero_is : zero ≡ suc i = apart zero (suc i) o.name refl (ap (option_map (λ (e : Vec ℕ × RowParts). e.0.items)) is ∙ ap Some same) in
+                let same : e.0 ≡ o.name = name_same e.0 o.name tie in
+                let zero_is : zero ≡ suc i = apart zero (suc i) o.name refl (ap (option_map (λ (e : List ℕ × RowParts). e.0)) is ∙ ap Some same) in
                 absurd (cc)
             | false ↦ λ _. refl
           ] refl
     ]
 
-pub rows_say : (sense : Option Sense) (constant : Option Number) (objective : Option ObjectiveParts) (rows : List (Vec ℕ × RowParts)) (columns : List (Vec ℕ × ColumnParts))
-    → TellsApart (name_of_row_key objective rows) → IsOnce (each_part bytes definition_of rows) → Each (SaysRow (draft_from sense constant objective rows columns)) rows
+pub rows_say : (sense : Option Sense) (constant : Option Number) (objective : Option ObjectiveParts) (rows : List (List ℕ × RowParts)) (columns : List (List ℕ × ColumnParts))
+    → TellsApart (name_of_row_key objective rows) → IsOnce (each_part definition_of rows) → Each (SaysRow (draft_from sense constant objective rows columns)) rows
 rows_say sense constant objective rows columns apart once =
-    Each-both (λ e. at_name (sorted_of bytes_cmp (objective_rhs objective ++ given_parts bytes rhs_of rows)) e.0.items ≡ e.1.rhs) (λ e. at_name (sorted_of bytes_cmp (given_parts bytes range_of rows)) e.0.items ≡ e.1.range)
+    Each-both (λ e. at_name (sorted_of bytes_cmp (objective_rhs objective ++ given_parts rhs_of rows)) e.0 ≡ e.1.rhs) (λ e. at_name (sorted_of bytes_cmp (given_parts range_of rows)) e.0 ≡ e.1.range)
     (SaysRow (draft_from sense constant objective rows columns)) (λ e a b. (a, b)) rows
-    (Each-both (λ e. find bytes_cmp e.0.items (objective_rhs objective) ≡ None) (λ e. find bytes_cmp e.0.items (given_parts bytes rhs_of rows) ≡ e.1.rhs)
-    (λ e. at_name (sorted_of bytes_cmp (objective_rhs objective ++ given_parts bytes rhs_of rows)) e.0.items ≡ e.1.rhs)
+    (Each-both (λ e. find bytes_cmp e.0 (objective_rhs objective) ≡ None) (λ e. find bytes_cmp e.0 (given_parts rhs_of rows) ≡ e.1.rhs)
+    (λ e. at_name (sorted_of bytes_cmp (objective_rhs objective ++ given_parts rhs_of rows)) e.0 ≡ e.1.rhs)
     (λ e none own.
-    find-sorted_of bytes_cmp bytes_total e.0.items (objective_rhs objective ++ given_parts bytes rhs_of rows)
-    ∙ find-two bytes_cmp e.0.items (objective_rhs objective) (given_parts bytes rhs_of rows)
-    ∙ ap (λ (o : Option Number). or_else o (find bytes_cmp e.0.items (given_parts bytes rhs_of rows))) none ∙ own)
-    rows (each-from_get (λ e. find bytes_cmp e.0.items (objective_rhs objective) ≡ None) rows (no_objective objective rows apart)) (own_parts rhs_of definition_of rows once))
-    (Each-weaker (λ e. find bytes_cmp e.0.items (given_parts bytes range_of rows) ≡ e.1.range) (λ e. at_name (sorted_of bytes_cmp (given_parts bytes range_of rows)) e.0.items ≡ e.1.range)
-    (λ e own. find-sorted_of bytes_cmp bytes_total e.0.items (given_parts bytes range_of rows) ∙ own) rows (own_parts range_of definition_of rows once))
+    find-sorted_of bytes_cmp bytes_total e.0 (objective_rhs objective ++ given_parts rhs_of rows)
+    ∙ find-two bytes_cmp e.0 (objective_rhs objective) (given_parts rhs_of rows)
+    ∙ ap (λ (o : Option Number). or_else o (find bytes_cmp e.0 (given_parts rhs_of rows))) none ∙ own)
+    rows (each-from_get (λ e. find bytes_cmp e.0 (objective_rhs objective) ≡ None) rows (no_objective objective rows apart)) (own_parts rhs_of definition_of rows once))
+    (Each-weaker (λ e. find bytes_cmp e.0 (given_parts range_of rows) ≡ e.1.range) (λ e. at_name (sorted_of bytes_cmp (given_parts range_of rows)) e.0 ≡ e.1.range)
+    (λ e own. find-sorted_of bytes_cmp bytes_total e.0 (given_parts range_of rows) ∙ own) rows (own_parts range_of definition_of rows once))
 
 -- rows with the same parts as in the draft have the limits that are meant
-pub rows_meant : (d : Draft) (rows : List (Vec ℕ × RowParts)) → Each (SaysRow d) rows → each_part bytes limits_in rows ≡ map (row_entry d) (each_part bytes definition_of rows)
+pub rows_meant : (d : Draft) (rows : List (List ℕ × RowParts)) → Each (SaysRow d) rows → each_part limits_in rows ≡ map (row_entry d) (each_part definition_of rows)
 rows_meant d [] h = refl
 rows_meant d (e ∷ rows) h =
-    (λ i. (e.0.items, unwrap_or (limits_of e.1.definition (unwrap_or (sym h.0.0 i) zero_number) (sym h.0.1 i)) (plain_limits Free zero_number)) ∷ rows_meant d rows h.1 i)
+    (λ i. (e.0, unwrap_or (limits_of e.1.definition (unwrap_or (sym h.0.0 i) zero_number) (sym h.0.1 i)) (plain_limits Free zero_number)) ∷ rows_meant d rows h.1 i)
 
 -- ---- columns
 
-abbrev pub SaysColumn : Draft → Vec ℕ × ColumnParts → Type 0
-SaysColumn d e = declared_in e.1 ≡ declared_of d e.0.items
+abbrev pub SaysColumn : Draft → List ℕ × ColumnParts → Type 0
+SaysColumn d e = declared_in e.1 ≡ declared_of d e.0
 
 is_part : (b : Bool) → is_some (as_part b) ≡ b
 is_part true = refl
 is_part false = refl
 
-module _ (columns : List (Vec ℕ × ColumnParts)) (once : IsOnce (each_part bytes no_part columns)) where
-  says : {X : Type 0} (f : ColumnParts → Option X) → Each (λ e. f e.1 ≡ at_name (sorted_of bytes_cmp (given_parts bytes f columns)) e.0.items) columns
+module _ (columns : List (List ℕ × ColumnParts)) (once : IsOnce (each_part no_part columns)) where
+  says : {X : Type 0} (f : ColumnParts → Option X) → Each (λ e. f e.1 ≡ at_name (sorted_of bytes_cmp (given_parts f columns)) e.0) columns
   says f =
-      Each-weaker (λ e. find bytes_cmp e.0.items (given_parts bytes f columns) ≡ f e.1) (λ e. f e.1 ≡ at_name (sorted_of bytes_cmp (given_parts bytes f columns)) e.0.items)
-      (λ e own. sym (find-sorted_of bytes_cmp bytes_total e.0.items (given_parts bytes f columns) ∙ own)) columns (own_parts f no_part columns once)
+      Each-weaker (λ e. find bytes_cmp e.0 (given_parts f columns) ≡ f e.1) (λ e. f e.1 ≡ at_name (sorted_of bytes_cmp (given_parts f columns)) e.0)
+      (λ e own. sym (find-sorted_of bytes_cmp bytes_total e.0 (given_parts f columns) ∙ own)) columns (own_parts f no_part columns once)
 
-  pub columns_say : (sense : Option Sense) (constant : Option Number) (objective : Option ObjectiveParts) (rows : List (Vec ℕ × RowParts)) → Each (SaysColumn (draft_from sense constant objective rows columns)) columns
+  pub columns_say : (sense : Option Sense) (constant : Option Number) (objective : Option ObjectiveParts) (rows : List (List ℕ × RowParts)) → Each (SaysColumn (draft_from sense constant objective rows columns)) columns
   columns_say sense constant objective rows =
       let d = draft_from sense constant objective rows columns in
-      let sides = Each-both (λ e. e.1.sides.lower ≡ at_name d.lowers e.0.items) (λ e. e.1.sides.upper ≡ at_name d.uppers e.0.items)
-      (λ e. (e.1.sides.lower ≡ at_name d.lowers e.0.items) × (e.1.sides.upper ≡ at_name d.uppers e.0.items)) (λ e a b. (a, b)) columns (says lower_of) (says upper_of) in
-      let whole = Each-both (λ e. mark_of e.1 ≡ at_name d.marked e.0.items) (λ e. integer_of e.1 ≡ at_name d.integers e.0.items)
-      (λ e. (mark_of e.1 ≡ at_name d.marked e.0.items) × (integer_of e.1 ≡ at_name d.integers e.0.items)) (λ e a b. (a, b)) columns (says mark_of) (says integer_of) in
-      let kinds = Each-both (λ e. binary_of e.1 ≡ at_name d.binaries e.0.items) (λ e. semi_of e.1 ≡ at_name d.semis e.0.items)
-      (λ e. (binary_of e.1 ≡ at_name d.binaries e.0.items) × (semi_of e.1 ≡ at_name d.semis e.0.items)) (λ e a b. (a, b)) columns (says binary_of) (says semi_of) in
-      let flags = Each-both (λ e. (mark_of e.1 ≡ at_name d.marked e.0.items) × (integer_of e.1 ≡ at_name d.integers e.0.items)) (λ e. (binary_of e.1 ≡ at_name d.binaries e.0.items) × (semi_of e.1 ≡ at_name d.semis e.0.items))
-      (λ e. ((mark_of e.1 ≡ at_name d.marked e.0.items) × (integer_of e.1 ≡ at_name d.integers e.0.items)) × ((binary_of e.1 ≡ at_name d.binaries e.0.items) × (semi_of e.1 ≡ at_name d.semis e.0.items))) (λ e a b. (a, b)) columns whole kinds in
-      Each-both (λ e. (e.1.sides.lower ≡ at_name d.lowers e.0.items) × (e.1.sides.upper ≡ at_name d.uppers e.0.items))
-      (λ e. ((mark_of e.1 ≡ at_name d.marked e.0.items) × (integer_of e.1 ≡ at_name d.integers e.0.items)) × ((binary_of e.1 ≡ at_name d.binaries e.0.items) × (semi_of e.1 ≡ at_name d.semis e.0.items)))
+      let sides = Each-both (λ e. e.1.sides.lower ≡ at_name d.lowers e.0) (λ e. e.1.sides.upper ≡ at_name d.uppers e.0)
+      (λ e. (e.1.sides.lower ≡ at_name d.lowers e.0) × (e.1.sides.upper ≡ at_name d.uppers e.0)) (λ e a b. (a, b)) columns (says lower_of) (says upper_of) in
+      let whole = Each-both (λ e. mark_of e.1 ≡ at_name d.marked e.0) (λ e. integer_of e.1 ≡ at_name d.integers e.0)
+      (λ e. (mark_of e.1 ≡ at_name d.marked e.0) × (integer_of e.1 ≡ at_name d.integers e.0)) (λ e a b. (a, b)) columns (says mark_of) (says integer_of) in
+      let kinds = Each-both (λ e. binary_of e.1 ≡ at_name d.binaries e.0) (λ e. semi_of e.1 ≡ at_name d.semis e.0)
+      (λ e. (binary_of e.1 ≡ at_name d.binaries e.0) × (semi_of e.1 ≡ at_name d.semis e.0)) (λ e a b. (a, b)) columns (says binary_of) (says semi_of) in
+      let flags = Each-both (λ e. (mark_of e.1 ≡ at_name d.marked e.0) × (integer_of e.1 ≡ at_name d.integers e.0)) (λ e. (binary_of e.1 ≡ at_name d.binaries e.0) × (semi_of e.1 ≡ at_name d.semis e.0))
+      (λ e. ((mark_of e.1 ≡ at_name d.marked e.0) × (integer_of e.1 ≡ at_name d.integers e.0)) × ((binary_of e.1 ≡ at_name d.binaries e.0) × (semi_of e.1 ≡ at_name d.semis e.0))) (λ e a b. (a, b)) columns whole kinds in
+      Each-both (λ e. (e.1.sides.lower ≡ at_name d.lowers e.0) × (e.1.sides.upper ≡ at_name d.uppers e.0))
+      (λ e. ((mark_of e.1 ≡ at_name d.marked e.0) × (integer_of e.1 ≡ at_name d.integers e.0)) × ((binary_of e.1 ≡ at_name d.binaries e.0) × (semi_of e.1 ≡ at_name d.semis e.0)))
       (SaysColumn d)
       (λ e s f i. record {
         lower = s.0 i;
@@ -111,6 +110,6 @@ module _ (columns : List (Vec ℕ × ColumnParts)) (once : IsOnce (each_part byt
         semi = (sym (is_part e.1.semi) ∙ ap is_some f.1.1) i;
       }) columns sides flags
 
-pub columns_meant : (d : Draft) (columns : List (Vec ℕ × ColumnParts)) → Each (SaysColumn d) columns → each_part bytes bounds_of columns ≡ map (λ column. (column.0, column_of d column.0)) (each_part bytes no_part columns)
+pub columns_meant : (d : Draft) (columns : List (List ℕ × ColumnParts)) → Each (SaysColumn d) columns → each_part bounds_of columns ≡ map (λ column. (column.0, column_of d column.0)) (each_part no_part columns)
 columns_meant d [] h = refl
-columns_meant d (e ∷ columns) h = (λ i. (e.0.items, declared_column (h.0 i)) ∷ columns_meant d columns h.1 i)
+columns_meant d (e ∷ columns) h = (λ i. (e.0, declared_column (h.0 i)) ∷ columns_meant d columns h.1 i)

@@ -1,6 +1,6 @@
 -- Terms of a row: how they are kept, and what each step of their declarations does to the tables.
 use Rattle.std.proofs.Common.{◌≡◌, refl, sym, ap, subst, ◌∙◌, ℕ, zero, suc, List, [], ◌∷◌, ◌++◌, Bool, true, false, cond, length, drop, get_or, not, inl, inr, ◌+◌, ◌<◌, ◌≤◌, arith}
-use Rattle.std.specs.Prelude.{Option, Some, None, is_some, slice_get, insert, ◌||◌, Result, Ok, Err, IfOk, ◌-◌}
+use Rattle.std.specs.Prelude.{◌≢◌, Option, Some, None, is_some, slice_get, insert, ◌||◌, Result, Ok, Err, IfOk, ◌-◌}
 use Rattle.std.specs.declared.alloc.AllocError.{AllocError}
 use Rattle.std.specs.Option.{option_map_or}
 use Rattle.std.specs.List.{list_any, flat_map}
@@ -27,9 +27,9 @@ use Rattle.mpslp_model_core.proofs.SortedLemmas.{is_sorted-sorted_of}
 use Rattle.mpslp_builder.specs.Answer.{Answer}
 use Rattle.mpslp_builder.specs.Declaration.{Draft, Declarations, with_declaration, with_declarations, declare_column, declare_coefficient, is_objective, has_row, has_column, has_coefficient, has_name}
 use Rattle.mpslp_builder.specs.Refusal.{refusals, refusals_in_turn}
-use Rattle.mpslp_builder.specs.Tables.{bytes, definition_of, no_part, draft, IsNumbered}
+use Rattle.mpslp_builder.specs.Tables.{definition_of, no_part, draft, IsNumbered}
 use Rattle.mpslp_builder.specs.Calls.{row_name, column_name, cells_at, with_cell, IsOnceEach, HasColumnChanged}
-use Rattle.mpslp_builder.specs.LineTables.{IsLaid, Follows}
+use Rattle.mpslp_builder.specs.LineTables.{IsLaid, Follows, HasStarted}
 use Rattle.mpslp_builder.specs.RowTerms.{term_declared, DeclaresInTurn}
 use Rattle.mpslp_builder.specs.TermTables.{HasColumn, IsLaidUnless}
 use Rattle.mpslp_builder.specs.declared.tables.Tables.{Tables}
@@ -39,7 +39,7 @@ use Rattle.mpslp_builder.proofs.SortedDrafts.{bytes_total}
 use Rattle.mpslp_builder.proofs.ReadingLemmas.{number_there}
 use Rattle.mpslp_builder.proofs.TestLemmas.{cell_told}
 use Rattle.mpslp_builder.proofs.NamedEntries.{any-name, one_of-names}
-use Rattle.mpslp_builder.proofs.LineLemmas.{laid_none, laid_then, cell_follows}
+use Rattle.mpslp_builder.proofs.LineLemmas.{laid_none, laid_then, cell_follows, cell_others}
 
 -- ---- the terms that are kept
 
@@ -107,7 +107,7 @@ there_laid t name i is = record {
   free = λ sense constant. refl;
   laid = λ sense constant.
       ap (λ (columns : List (List ℕ × Unit {0})). record (draft sense constant t) { columns = columns })
-      (put_again name (draft sense constant t).columns (is_sorted-sorted_of bytes_cmp bytes_total (each_part bytes no_part t.columns.entries)) (sym (number_there no_part t.columns.entries i name is)));
+      (put_again name (draft sense constant t).columns (is_sorted-sorted_of bytes_cmp bytes_total (each_part no_part t.columns.entries)) (sym (number_there no_part t.columns.entries i name is)));
 }
 
 pub unless_then : (t u v : Tables) (ds es : Declarations) (answer : Answer) → IsLaid t ds u → IsLaidUnless u es answer v → IsLaidUnless t (ds ++ es) answer v
@@ -182,6 +182,20 @@ cell_follows_there t u numbered once i n row x h absent decimal = by (row_name t
     by : (name : Option (List ℕ)) → row_name t n ≡ name → is_some name ≡ true → Follows t u
     by None is there = cc
     by (Some name) is there = cell_follows t u numbered once i n name is x h absent decimal
+
+-- the other coefficients of the column are the same
+pub cell_others_there : (t u : Tables) → IsNumbered t → IsOnceEach t → (i n : ℕ) → is_some (row_name t n) ≡ true → (x : Number) → HasColumnChanged t i (with_cell n x) u
+    → find nat_cmp n (cells_at t i) ≡ None → (m : ℕ) → m ≢ n → find nat_cmp m (cells_at u i) ≡ find nat_cmp m (cells_at t i)
+cell_others_there t u numbered once i n row x h absent m other = by (row_name t n) refl row
+  where
+    by : (name : Option (List ℕ)) → row_name t n ≡ name → is_some name ≡ true → find nat_cmp m (cells_at u i) ≡ find nat_cmp m (cells_at t i)
+    by None is there = cc
+    by (Some name) is there = cell_others t u numbered once i n name is x h absent m other
+
+-- a column that has started is there
+pub started_column : {t u : Tables} {name : List ℕ} (r : Result ℕ AllocError) → IfOk r (λ column. HasStarted t name column u) → IfOk r (λ column. HasColumn t name column u)
+started_column (Ok column) h = record { named = h.named; laid = h.laid }
+started_column (Err e) h = h
 
 -- ---- terms in turn
 

@@ -2,7 +2,6 @@
 use Rattle.std.proofs.Common.{◌≡◌, refl, sym, ap, ◌∙◌, ℕ, List, [], ◌∷◌, Bool, true, false, not}
 use Rattle.std.specs.Prelude.{Option, Some, None, is_some, ◌||◌, ◌&&◌, slice_get}
 use Rattle.std.specs.Option.{option_map_or}
-use Rattle.std.specs.Global.{Vec}
 use Rattle.std.specs.Ordering.{nat_cmp}
 use Rattle.std.specs.FinMap.{find}
 use Rattle.mpslp_decimal.specs.Decimal.{Number, is_infinite_size}
@@ -80,7 +79,7 @@ second_no : (a b : Bool) → (a || b) ≡ false → b ≡ false
 second_no true b h = cc
 second_no false b h = h
 
-typed_row : (test : RowParts → Bool) (o : Option (Vec ℕ × RowParts)) → option_map_or (λ e. test e.1 || is_definition_by_limits e.1.definition) o false ≡ false
+typed_row : (test : RowParts → Bool) (o : Option (List ℕ × RowParts)) → option_map_or (λ e. test e.1 || is_definition_by_limits e.1.definition) o false ≡ false
     → option_map_or (λ e. is_definition_by_limits e.1.definition) o false ≡ false
 typed_row test None h = refl
 typed_row test (Some e) h = second_no (test e.1) (is_definition_by_limits e.1.definition) h

@@ -1,7 +1,6 @@
 -- What tables state by number, and what each call changes in them.
 use Rattle.std.specs.Prelude.{◌≡◌, ℕ, zero, suc, Bool, true, false, ◌&&◌, List, [], ◌∷◌, ◌++◌, Option, None, Some, slice_get, Result, Ok, Err}
 use Rattle.std.specs.Option.{option_map, option_map_or}
-use Rattle.std.specs.Global.{Vec}
 use Rattle.std.specs.Ordering.{nat_cmp}
 use Rattle.std.specs.FinMap.{put}
 use Rattle.indexmap.specs.IndexMap.{set_value_at}
@@ -13,7 +12,7 @@ use Rattle.mpslp_model_core.specs.Limits.{is_definition_by_limits}
 pub use Rattle.mpslp_builder_parts.specs.Parts.{new_column, with_bounds}
 use Rattle.mpslp_builder.specs.Answer.{Answer}
 use Rattle.mpslp_builder.specs.Declaration.{Draft, has_row, has_column, has_coefficient}
-use Rattle.mpslp_builder.specs.Tables.{bytes, definition_of, cells_of, name_of_row_key, cells_by_name}
+use Rattle.mpslp_builder.specs.Tables.{definition_of, cells_of, name_of_row_key, cells_by_name}
 use Rattle.mpslp_builder_parts.specs.declared.parts.ObjectiveParts.{ObjectiveParts}
 use Rattle.mpslp_builder_parts.specs.RowParts.{RowParts}
 use Rattle.mpslp_builder_parts.specs.declared.parts.ColumnParts.{ColumnParts}
@@ -35,7 +34,7 @@ abbrev pub row_name : Tables → ℕ → Option (List ℕ)
 row_name t = name_of_row_key t.objective t.rows.entries
 
 abbrev pub column_name : Tables → ℕ → Option (List ℕ)
-column_name t i = option_map (λ e. bytes e.0) (slice_get t.columns.entries i)
+column_name t i = option_map (λ e. e.0) (slice_get t.columns.entries i)
 
 -- whether the objective, or the row at an index, passes its test
 abbrev pub row_tells : Tables → RowRef → (ObjectiveParts → Bool) → (RowParts → Bool) → Bool
@@ -63,7 +62,7 @@ answer_of (Err fault) = Err fault
 
 -- no two rows have the same name, and no two columns
 pub record IsOnceEach (t : Tables) : Type 0 where
-  pub rows : IsOnce (each_part bytes definition_of t.rows.entries)
+  pub rows : IsOnce (each_part definition_of t.rows.entries)
   pub columns : IsOnce (cells_by_name t.columns.entries)
 
 pub record IsEmptyTables (t : Tables) : Type 0 where
@@ -86,7 +85,7 @@ pub record HasObjective (old : Tables) (parts : ObjectiveParts) (new : Tables) :
   pub columns : new.columns.entries ≡ old.columns.entries
 
 -- one more row
-pub record HasRowAdded (old : Tables) (name : Vec ℕ) (parts : RowParts) (new : Tables) : Type 0 where
+pub record HasRowAdded (old : Tables) (name : List ℕ) (parts : RowParts) (new : Tables) : Type 0 where
   pub objective : new.objective ≡ old.objective
   pub rows : new.rows.entries ≡ old.rows.entries ++ (name, parts) ∷ []
   pub columns : new.columns.entries ≡ old.columns.entries
@@ -98,7 +97,7 @@ pub record HasRowWritten (old : Tables) (i : ℕ) (parts : RowParts) (new : Tabl
   pub columns : new.columns.entries ≡ old.columns.entries
 
 -- one more column
-pub record HasColumnAdded (old : Tables) (name : Vec ℕ) (parts : ColumnParts) (new : Tables) : Type 0 where
+pub record HasColumnAdded (old : Tables) (name : List ℕ) (parts : ColumnParts) (new : Tables) : Type 0 where
   pub objective : new.objective ≡ old.objective
   pub rows : new.rows.entries ≡ old.rows.entries
   pub columns : new.columns.entries ≡ old.columns.entries ++ (name, parts) ∷ []
@@ -111,14 +110,14 @@ pub record HasColumnWritten (old : Tables) (i : ℕ) (parts : ColumnParts) (new 
 
 -- only the column of a number is changed, in this way
 pub record HasColumnChanged (old : Tables) (i : ℕ) (change : ColumnParts → ColumnParts) (new : Tables) : Type 0 where
-  pub key : Vec ℕ
+  pub key : List ℕ
   pub parts : ColumnParts
   pub was : slice_get old.columns.entries i ≡ Some (key, parts)
   pub written : HasColumnWritten old i (change parts) new
 
 -- only the row at an index is changed, in this way
 pub record HasRowChanged (old : Tables) (i : ℕ) (change : RowParts → RowParts) (new : Tables) : Type 0 where
-  pub key : Vec ℕ
+  pub key : List ℕ
   pub parts : RowParts
   pub was : slice_get old.rows.entries i ≡ Some (key, parts)
   pub written : HasRowWritten old i (change parts) new

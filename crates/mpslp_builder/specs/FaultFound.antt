@@ -1,7 +1,6 @@
 -- The whole-file error of tables: its kind and its place.
 use Rattle.std.specs.Prelude.{◌≡◌, ℕ, ◌<◌, Bool, true, List, [], ◌∷◌, length, Option, Some, None, slice_get, unwrap_or, if◌then◌else◌}
 use Rattle.std.specs.Option.{option_map}
-use Rattle.std.specs.Global.{Vec}
 use Rattle.std.specs.Ordering.{is_lt}
 use Rattle.mpslp_decimal.specs.Decimal.{zero_number}
 use Rattle.mpslp_types.specs.Name.{IsMpsName, bytes_cmp}
@@ -12,7 +11,7 @@ use Rattle.mpslp_model_core.specs.declared.limits.RowFault.{RowFault}
 use Rattle.mpslp_model_core.specs.declared.bounds.ColumnFault.{ColumnFault}
 pub use Rattle.mpslp_builder_parts.specs.Parts.{declared_in}
 use Rattle.mpslp_builder.specs.FileFault.{names_with, whole_fault}
-use Rattle.mpslp_builder.specs.Tables.{bytes, definition_of, rhs_of, range_of}
+use Rattle.mpslp_builder.specs.Tables.{definition_of, rhs_of, range_of}
 use Rattle.mpslp_types.specs.declared.faults.Fault.{Fault}
 use Rattle.mpslp_types.specs.declared.faults.FaultKind.{FaultKind}
 use Rattle.mpslp_types.specs.declared.faults.FaultKind.TheVariants as kinds
@@ -49,13 +48,13 @@ is_below name None = true
 is_below name (Some other) = is_lt (bytes_cmp name other)
 
 -- the least name of the entries that pass a test; the entries may be in any order
-abbrev pub least_name : {V : Type 0} → (V → Bool) → List (Vec ℕ × V) → Option (List ℕ)
+abbrev pub least_name : {V : Type 0} → (V → Bool) → List (List ℕ × V) → Option (List ℕ)
 least_name test [] = None
-least_name test (e ∷ es) = if test e.1 then Some (lesser (bytes e.0) (least_name test es)) else least_name test es
+least_name test (e ∷ es) = if test e.1 then Some (lesser e.0 (least_name test es)) else least_name test es
 
 -- the name at an index
-abbrev pub entry_name : {V : Type 0} → List (Vec ℕ × V) → ℕ → Option (List ℕ)
-entry_name es i = option_map (λ e. bytes e.0) (slice_get es i)
+abbrev pub entry_name : {V : Type 0} → List (List ℕ × V) → ℕ → Option (List ℕ)
+entry_name es i = option_map (λ e. e.0) (slice_get es i)
 
 -- ---- the error that is found
 
@@ -73,8 +72,3 @@ abbrev pub IsThere : Tables → FoundFault → Type 0
 IsThere t found.NoColumns = Unit {0}
 IsThere t (found.Row fault i) = i < length t.rows.entries
 IsThere t (found.Column fault j) = j < length t.columns.entries
-
--- the entries at all indices have legal names
-pub record HaveLegalNames (t : Tables) : Type 0 where
-  pub rows : (i : ℕ) (name : List ℕ) → entry_name t.rows.entries i ≡ Some name → IsMpsName name
-  pub columns : (i : ℕ) (name : List ℕ) → entry_name t.columns.entries i ≡ Some name → IsMpsName name

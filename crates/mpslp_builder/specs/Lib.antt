@@ -17,4 +17,3 @@ pub mod Calls
 pub mod LineTables
 pub mod TermTables
 pub mod FaultFound
-pub mod NameHash

@@ -120,7 +120,7 @@ impl Builder {
             return Err(BuildFault::OutOfMemory);
         }
         self.tables
-            .add_row(name.into_bytes(), PackedRowDefinition::of_type(row_type))?;
+            .add_row(name, PackedRowDefinition::of_type(row_type))?;
         Ok(())
     }
 
@@ -141,7 +141,7 @@ impl Builder {
             return Err(BuildFault::OutOfMemory);
         }
         let definition = PackedRowDefinition::of_limits(self.alloc, RowLimits { lower, upper })?;
-        self.tables.add_row(name.into_bytes(), definition)?;
+        self.tables.add_row(name, definition)?;
         Ok(())
     }
 
@@ -195,7 +195,7 @@ impl Builder {
         if self.has_column(name.as_bytes()) {
             return Ok(());
         }
-        self.tables.add_column(self.alloc, name.into_bytes())?;
+        self.tables.add_column(self.alloc, name)?;
         Ok(())
     }
 

@@ -4,7 +4,6 @@
 mod builder;
 pub mod laws;
 mod lines;
-mod name_map;
 mod refusals;
 mod row_terms;
 mod tables;

@@ -55,7 +55,7 @@ pub(crate) struct LinePlace {
 
 impl Tables {
     /// The number of the row of this name, or of the objective.
-    fn row_number(&self, row: &[u8]) -> Option<u32>
+    pub(crate) fn row_number(&self, row: &[u8]) -> Option<u32>
         requires { IsNumbered self.now }
         ensures number { IfSome result (λ number. row_name self.now number ≡ Some row.now) }
         ensures found { is_some result ≡ has_row (draft None None self.now) row.now }
@@ -125,12 +125,13 @@ impl Tables {
     }
 
     /// Adds a column without coefficients. Its name must be new. Returns its number.
-    fn start_column(&mut self, alloc: Global, name: Vec<u8>) -> Result<usize, AllocError>
+    pub(crate) fn start_column(&mut self, alloc: Global, name: Name) -> Result<usize, AllocError>
         requires numbered { IsNumbered self.old }
-        requires absent { has_name (draft None None self.old).columns name.items ≡ false }
-        requires legal { is_mps_name name.items ≡ true }
+        requires absent { has_name (draft None None self.old).columns name ≡ false }
+        requires legal { is_mps_name name ≡ true }
         ensures kept { Follows self.old self.new }
-        ensures ok { IfOk result (λ column. HasStarted self.old name.items column self.new) }
+        ensures rows { self.new.rows.entries ≡ self.old.rows.entries }
+        ensures ok { IfOk result (λ column. HasStarted self.old name column self.new) }
     {
         let column = self.columns.len();
         self.add_column(alloc, name)?;
@@ -153,18 +154,24 @@ impl Tables {
     }
 
     /// Stores a coefficient at a free place.
-    fn put_entry(&mut self, column: usize, row: u32, entry: &Entry<'_>) -> Result<(), AllocError>
+    pub(crate) fn put_value(
+        &mut self,
+        column: usize,
+        row: u32,
+        value: Decimal,
+    ) -> Result<(), AllocError>
         requires numbered { IsNumbered self.old }
         requires column { is_some (column_name self.old column) ≡ true }
-        requires row { row_name self.old row ≡ Some entry.now.row.now }
+        requires row { is_some (row_name self.old row) ≡ true }
         requires absent { find nat_cmp row (cells_at self.old column) ≡ None }
         ensures kept { Follows self.old self.new }
-        ensures ok { OnOk result ((name : List ℕ) → column_name self.old column ≡ Some name → IsLaid self.old (entry_declared name (entry.now.row.now, entry.now.value)) self.new) }
+        ensures rows { self.new.rows.entries ≡ self.old.rows.entries }
+        ensures ok { OnOk result ((name : List ℕ) (of_row : List ℕ) → column_name self.old column ≡ Some name → row_name self.old row ≡ Some of_row → IsLaid self.old (entry_declared name (of_row, value)) self.new) }
         ensures cells { (other : ℕ) → other ≢ row → find nat_cmp other (cells_at self.new column) ≡ find nat_cmp other (cells_at self.old column) }
     {
-        each_value_is_a_decimal(entry.value);
+        each_value_is_a_decimal(value);
         self.each_name_stands_once();
-        self.put_cell(column, row, entry.value)
+        self.put_cell(column, row, value)
     }
 
     /// Stores one or two coefficients at free places. If the second one fails, the first one is stored.
@@ -181,9 +188,9 @@ impl Tables {
         ensures kept { Follows self.old self.new }
         ensures ok { OnOk result ((name : List ℕ) → column_name self.old column ≡ Some name → IsLaid self.old (flat_map (entry_declared name) (listed entries.now)) self.new) }
     {
-        self.put_entry(column, rows.first, &entries.first)?;
+        self.put_value(column, rows.first, entries.first.value)?;
         if let Some(entry) = &entries.second {
-            self.put_entry(column, rows.second, entry)?;
+            self.put_value(column, rows.second, entry.value)?;
         }
         Ok(())
     }
@@ -267,7 +274,7 @@ impl Builder {
         if self.has_column(name.as_bytes()) {
             return Ok(false);
         }
-        let column = self.tables.start_column(self.alloc, name.into_bytes())?;
+        let column = self.tables.start_column(self.alloc, name)?;
         self.tables.put_line(column, is_marked, rows, entries)?;
         Ok(true)
     }

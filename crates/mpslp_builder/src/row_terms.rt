@@ -1,7 +1,5 @@
 //! The terms of a row: they are kept until the row is declared, and then declared by one call.
 
-mod names;
-
 ghost use Rattle.std.specs.Prelude.{◌≡◌, ◌≤◌, ◌-◌, ◌↔◌, ◌++◌, ℕ, List, [], ◌∷◌, IsTrue, IfOk, IfSome, OnOk, Ok, None, Some, false, true, is_some, length, not, slice_get};
 ghost use Rattle.std.specs.Option.{option_map_or};
 ghost use Rattle.std.specs.List.{flat_map, list_any};
@@ -17,13 +15,12 @@ ghost use Rattle.mpslp_builder.specs.LineTables.{IsLaid, Follows};
 ghost use Rattle.mpslp_builder.specs.TermTables.{HasColumn, IsLaidUnless};
 
 use crate::builder::Builder;
-use crate::row_terms::names::TermName;
 use crate::tables::Tables;
 use indexmap::IndexMap;
 use mpslp_decimal::Decimal;
 use mpslp_decimal::laws::each_value_is_a_decimal;
 use mpslp_maps::find_entry;
-use mpslp_types::BuildFault;
+use mpslp_types::{BuildFault, Name};
 use std::alloc::{AllocError, Global};
 use std::marker::Model;
 
@@ -40,9 +37,9 @@ const AHEAD: usize = 16;
 #[derive(Drop)]
 pub struct RowTerms {
     /// The terms up to the first one that is out of byte order.
-    rising: Vec<(TermName, Decimal)>,
+    rising: Vec<(Name, Decimal)>,
     /// The others.
-    others: IndexMap<TermName, Decimal>,
+    others: IndexMap<Name, Decimal>,
 }
 
 impl Model for RowTerms {
@@ -59,7 +56,7 @@ impl Model for RowTerms {
 }
 
 /// Whether the name is greater than the last one in byte order, or there is none.
-fn is_above(terms: &[(TermName, Decimal)], name: &[u8]) -> bool
+fn is_above(terms: &[(Name, Decimal)], name: &[u8]) -> bool
     ensures { result ≡ option_map_or (λ last. is_gt (bytes_cmp name.now last.0)) (slice_get terms.now (length terms.now - 1)) true }
 {
     match terms.last() {
@@ -69,7 +66,7 @@ fn is_above(terms: &[(TermName, Decimal)], name: &[u8]) -> bool
 }
 
 /// Whether one of the terms has this column.
-fn has_term(terms: &[(TermName, Decimal)], name: &[u8]) -> bool
+fn has_term(terms: &[(Name, Decimal)], name: &[u8]) -> bool
     requires { IsTrue (is_sorted bytes_cmp terms.now) }
     ensures { result ≡ is_some (find bytes_cmp name.now terms.now) }
 {
@@ -78,8 +75,8 @@ fn has_term(terms: &[(TermName, Decimal)], name: &[u8]) -> bool
 
 /// Adds a term whose column is not among those in byte order. Returns whether it is new among the others.
 fn add_other(
-    others: &mut IndexMap<TermName, Decimal>,
-    name: TermName,
+    others: &mut IndexMap<Name, Decimal>,
+    name: Name,
     value: Decimal,
 ) -> Result<bool, AllocError>
     ensures new { IfOk result (λ is_new. list_any (λ term. same_bytes name term.0) others.old.entries ≡ not is_new) }
@@ -140,7 +137,7 @@ impl RowTerms {
         ensures new { IfOk result (λ is_new. list_any (λ term. same_bytes column.now term.0) self.old ≡ not is_new) }
         ensures added { result ≡ Ok true → self.new ≡ self.old ++ (column.now, value) ∷ [] }
     {
-        let name = TermName::copied(alloc, column)?;
+        let name = Name::from_legal(alloc, column)?;
         if self.others.is_empty() {
             if is_above(self.rising.as_slice(), column) {
                 self.rising.push((name, value))?;
@@ -155,21 +152,9 @@ impl RowTerms {
 }
 
 impl Tables {
-    /// The number of the row of this name, or of the objective.
-    fn row_key(&self, row: &[u8]) -> Option<u32>
-        requires { IsNumbered self.now }
-        ensures number { IfSome result (λ number. row_name self.now number ≡ Some row.now) }
-        ensures found { is_some result ≡ has_row (draft None None self.now) row.now }
-    {
-        match self.row_ref(row) {
-            Some(place) => Some(place.number()),
-            None => None,
-        }
-    }
-
     /// The numbers that the columns of the first terms may have. The look-ups do not wait for one another, so that their misses
     /// of the cache overlap. It only speeds up later look-ups, so any numbers are correct.
-    fn guesses(&self, row: u32, terms: &[(TermName, Decimal)]) -> [usize; AHEAD] {
+    fn guesses(&self, row: u32, terms: &[(Name, Decimal)]) -> [usize; AHEAD] {
         let mut guesses = [0usize; AHEAD];
         let mut next = self.recent;
         for i in 0..AHEAD {
@@ -187,39 +172,15 @@ impl Tables {
         guesses
     }
 
-    /// Whether the column of a number has this name.
-    fn is_named(&self, column: usize, name: &[u8]) -> bool
-        ensures { IsTrue result → column_name self.now column ≡ Some name.now }
-    {
-        match self.columns.get_index(column) {
-            Some((key, _parts)) => key.as_slice() == name,
-            None => false,
-        }
-    }
-
     /// The number of the column of this name. The column of the guessed number is compared first.
     fn column_from(&self, name: &[u8], guess: usize) -> Option<usize>
         ensures number { IfSome result (λ i. column_name self.now i ≡ Some name.now) }
         ensures found { is_some result ≡ has_column (draft None None self.now) name.now }
     {
-        if self.is_named(guess, name) {
+        if self.is_column(guess, name) {
             return Some(guess);
         }
         self.column_number(name)
-    }
-
-    /// Adds a column without coefficients. Its name must be new. Returns its number.
-    fn begin_column(&mut self, alloc: Global, name: Vec<u8>) -> Result<usize, AllocError>
-        requires numbered { IsNumbered self.old }
-        requires absent { has_name (draft None None self.old).columns name.items ≡ false }
-        requires legal { is_mps_name name.items ≡ true }
-        ensures kept { Follows self.old self.new }
-        ensures rows { self.new.rows.entries ≡ self.old.rows.entries }
-        ensures ok { IfOk result (λ column. HasColumn self.old name.items column self.new) }
-    {
-        let column = self.columns.len();
-        self.add_column(alloc, name)?;
-        Ok(column)
     }
 
     /// The number of the column of this name, which is declared if it is not yet.
@@ -233,23 +194,8 @@ impl Tables {
         self.each_name_stands_once();
         match self.column_from(name, guess) {
             Some(column) => Ok(column),
-            None => self.begin_column(alloc, name.to_vec(alloc)?),
+            None => self.start_column(alloc, Name::from_legal(alloc, name)?),
         }
-    }
-
-    /// Stores a coefficient at a free place.
-    fn put_term(&mut self, column: usize, row: u32, value: Decimal) -> Result<(), AllocError>
-        requires numbered { IsNumbered self.old }
-        requires column { is_some (column_name self.old column) ≡ true }
-        requires row { is_some (row_name self.old row) ≡ true }
-        requires absent { find nat_cmp row (cells_at self.old column) ≡ None }
-        ensures kept { Follows self.old self.new }
-        ensures rows { self.new.rows.entries ≡ self.old.rows.entries }
-        ensures ok { OnOk result ((name : List ℕ) (of_row : List ℕ) → column_name self.old column ≡ Some name → row_name self.old row ≡ Some of_row → IsLaid self.old (entry_declared name (of_row, value)) self.new) }
-    {
-        each_value_is_a_decimal(value);
-        self.each_name_stands_once();
-        self.put_cell(column, row, value)
     }
 
     /// Declares a term of a row, and its column if that is new.
@@ -273,7 +219,7 @@ impl Tables {
         if self.has_cell(number, row) {
             return Err(BuildFault::DuplicateEntry);
         }
-        self.put_term(number, row, value)?;
+        self.put_value(number, row, value)?;
         Ok(())
     }
 
@@ -282,7 +228,7 @@ impl Tables {
         &mut self,
         alloc: Global,
         row: u32,
-        terms: &[(TermName, Decimal)],
+        terms: &[(Name, Decimal)],
     ) -> Result<(), BuildFault>
         requires numbered { IsNumbered self.old }
         requires row { is_some (row_name self.old row) ≡ true }
@@ -306,7 +252,7 @@ impl Tables {
         &mut self,
         alloc: Global,
         row: u32,
-        terms: &IndexMap<TermName, Decimal>,
+        terms: &IndexMap<Name, Decimal>,
     ) -> Result<(), BuildFault>
         requires numbered { IsNumbered self.old }
         requires row { is_some (row_name self.old row) ≡ true }
@@ -347,7 +293,7 @@ impl Builder {
         ensures declared { DeclaresInTurn self.old (term_declared row.now (column.now, value)) result self.new }
         ensures rows { self.new.rows ≡ self.old.rows }
     {
-        match self.tables.row_key(row) {
+        match self.tables.row_number(row) {
             Some(number) => {
                 let guess = self.tables.recent.saturating_add(1);
                 self.tables
@@ -372,7 +318,7 @@ impl Builder {
         if terms.is_empty() {
             return Ok(());
         }
-        match self.tables.row_key(row) {
+        match self.tables.row_number(row) {
             Some(number) => self.tables.lay_terms(self.alloc, number, terms),
             None => Err(BuildFault::UnknownRow),
         }

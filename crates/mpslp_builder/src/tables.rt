@@ -13,12 +13,15 @@ ghost use Rattle.mpslp_builder.specs.Consistency.{has_objective_rhs};
 ghost use Rattle.mpslp_builder.specs.Tables.{draft, IsNumbered};
 ghost use Rattle.mpslp_builder.specs.Calls.{row_key_of, row_name, column_name, row_tells, has_limits, column_tells, cells_at, new_column, with_cell, with_bounds, IsOnceEach, IsEmptyTables, IsSameTables, HasObjective, HasRowAdded, HasRowChanged, HasColumnAdded, HasColumnChanged, HasRhsPut};
 
-use crate::name_map::{NameMap, new_map};
+use indexmap::IndexMap;
 use mpslp_builder_parts::{ColumnParts, ObjectiveParts, RowParts};
 use mpslp_decimal::{Decimal, PackedDecimal};
 use mpslp_model_core::PackedRowDefinition;
-use mpslp_types::{Limit, Name};
+use mpslp_types::{Limit, Name, NameBytes};
 use std::alloc::{AllocError, Global};
+
+/// A map by names, which their bytes find, in the order of insertion.
+pub(crate) type NameMap<V> = IndexMap<Name, V>;
 
 /// The maximum number of rows: they and the objective have numbers of 32 bits.
 const MOST_ROWS: usize = 4_294_967_294;
@@ -74,8 +77,8 @@ impl Tables {
     {
         Tables {
             objective: None,
-            rows: new_map(alloc),
-            columns: new_map(alloc),
+            rows: IndexMap::new(alloc),
+            columns: IndexMap::new(alloc),
             recent_row: 0,
             recent: 0,
         }
@@ -122,7 +125,7 @@ impl Tables {
     fn is_row(&self, name: &[u8]) -> bool
         ensures { result ≡ has_name (draft None None self.now).rows name.now }
     {
-        self.rows.contains_key(name)
+        self.rows.contains_key(NameBytes { bytes: name })
     }
 
     /// Whether a row, or the objective, has this name. It is looked up by its hash at once, because most names that are asked for
@@ -137,7 +140,7 @@ impl Tables {
     pub(crate) fn is_free_row(&self, name: &[u8]) -> bool
         ensures { result ≡ is_free_row (draft None None self.now) name.now }
     {
-        match self.rows.get(name) {
+        match self.rows.get(NameBytes { bytes: name }) {
             Some(row) => row.is_free(),
             None => false,
         }
@@ -155,7 +158,7 @@ impl Tables {
         ensures { IsTrue result → row_name self.now (suc index) ≡ Some name.now }
     {
         match self.rows.get_index(index) {
-            Some((key, _row)) => is_same_name(key.as_slice(), name),
+            Some((key, _row)) => is_same_name(key.as_bytes(), name),
             None => false,
         }
     }
@@ -176,18 +179,18 @@ impl Tables {
         if self.is_row_at(next, name) {
             return Some(RowRef::Row(next));
         }
-        match self.rows.get_full(name) {
+        match self.rows.get_full(NameBytes { bytes: name }) {
             Some((index, _key, _row)) => Some(RowRef::Row(index)),
             None => None,
         }
     }
 
     /// Whether the column of a number has this name.
-    fn is_column(&self, column: usize, name: &[u8]) -> bool
+    pub(crate) fn is_column(&self, column: usize, name: &[u8]) -> bool
         ensures { IsTrue result → column_name self.now column ≡ Some name.now }
     {
         match self.columns.get_index(column) {
-            Some((key, _parts)) => is_same_name(key.as_slice(), name),
+            Some((key, _parts)) => is_same_name(key.as_bytes(), name),
             None => false,
         }
     }
@@ -205,7 +208,7 @@ impl Tables {
         if self.is_column(next, name) {
             return Some(next);
         }
-        match self.columns.get_full(name) {
+        match self.columns.get_full(NameBytes { bytes: name }) {
             Some((i, _key, _column)) => Some(i),
             None => None,
         }
@@ -320,10 +323,10 @@ impl Tables {
     /// Adds a row without right-hand side and range. Its name must be new.
     pub(crate) fn add_row(
         &mut self,
-        name: Vec<u8>,
+        name: Name,
         definition: PackedRowDefinition,
     ) -> Result<(), AllocError>
-        requires { has_name (draft None None self.old).rows name.items ≡ false }
+        requires { has_name (draft None None self.old).rows name ≡ false }
         ensures ok { OnOk result (HasRowAdded self.old name (record { definition = definition; rhs = None; range = None }) self.new) }
         ensures err { OnErr result (IsSameTables self.old self.new) }
     {
@@ -334,8 +337,8 @@ impl Tables {
     }
 
     /// Adds a column without coefficients. Its name must be new.
-    pub(crate) fn add_column(&mut self, alloc: Global, name: Vec<u8>) -> Result<(), AllocError>
-        requires { has_name (draft None None self.old).columns name.items ≡ false }
+    pub(crate) fn add_column(&mut self, alloc: Global, name: Name) -> Result<(), AllocError>
+        requires { has_name (draft None None self.old).columns name ≡ false }
         ensures ok { OnOk result (HasColumnAdded self.old name new_column self.new) }
         ensures err { OnErr result (IsSameTables self.old self.new) }
     {

@@ -3,7 +3,6 @@ use Rattle.std.proofs.Common.{◌≡◌, refl, sym, ap, subst, ◌∙◌, ℕ, z
 use Rattle.std.specs.Prelude.{Result, Ok, Err, IfOk, slice_index}
 use Rattle.std.specs.Ordering.{is_lt, nat_cmp, ordering_then}
 use Rattle.std.specs.Cmp.{IsTotalOrder, nat_cmp_total, then_total, on_total}
-use Rattle.std.specs.Global.{Vec}
 use Rattle.std.specs.List.{All}
 use Rattle.std.specs.List.Sorted.{IsSortedBy}
 use Rattle.std.proofs.lemmas.Bool.Decides.{nat_tests}
@@ -17,30 +16,30 @@ use Rattle.mpslp_builder_parts.specs.Ordered.{name_at, front_value, front_at, fr
 use Rattle.mpslp_builder_parts.specs.declared.order.Front.{Front}
 use Rattle.mpslp_builder_parts.proofs.FrontLemmas.{AreBytes, front-then}
 
-pub name_at-entry : {V : Type 0} (entries : List (Vec ℕ × V)) (n : ℕ) (e : Vec ℕ × V) → n < length entries → e ≡ get_or entries n e → (get_or entries n e).0.items ≡ name_at entries n
+pub name_at-entry : {V : Type 0} (entries : List (List ℕ × V)) (n : ℕ) (e : List ℕ × V) → n < length entries → e ≡ get_or entries n e → (get_or entries n e).0 ≡ name_at entries n
 name_at-entry [] n e h is = absurd (omega arith)
 name_at-entry (x ∷ entries) zero e h is = refl
 name_at-entry (x ∷ entries) (suc n) e h is = name_at-entry entries n e (omega arith) is
 
-pub front_total : {V : Type 0} (entries : List (Vec ℕ × V)) → IsTotalOrder (front_cmp entries)
+pub front_total : {V : Type 0} (entries : List (List ℕ × V)) → IsTotalOrder (front_cmp entries)
 front_total entries = then_total (on_total (λ (f : Front). f.bytes) nat_cmp_total) (on_total (λ (f : Front). name_at entries f.number) bytes_total)
 
 -- ---- sorted keys, and their numbers
 
 -- a key has the first bytes of the name
-abbrev pub IsFrontOf : {V : Type 0} → List (Vec ℕ × V) → Front → Type 0
+abbrev pub IsFrontOf : {V : Type 0} → List (List ℕ × V) → Front → Type 0
 IsFrontOf entries f = f.bytes ≡ front_value 16 (name_at entries f.number)
 
-abbrev pub HaveBytes : {V : Type 0} → List (Vec ℕ × V) → Type 0
+abbrev pub HaveBytes : {V : Type 0} → List (List ℕ × V) → Type 0
 HaveBytes entries = (n : ℕ) → AreBytes (name_at entries n)
 
-as_names : {V : Type 0} (entries : List (Vec ℕ × V)) → HaveBytes entries → (a b : Front) → IsFrontOf entries a → IsFrontOf entries b
+as_names : {V : Type 0} (entries : List (List ℕ × V)) → HaveBytes entries → (a b : Front) → IsFrontOf entries a → IsFrontOf entries b
     → front_cmp entries a b ≡ bytes_cmp (name_at entries a.number) (name_at entries b.number)
 as_names entries bytes a b p q =
     (λ i. ordering_then (nat_cmp (p i) (q i)) (bytes_cmp (name_at entries a.number) (name_at entries b.number)))
     ∙ front-then 16 (name_at entries a.number) (name_at entries b.number) (bytes a.number) (bytes b.number)
 
-pub sorted_numbers : {V : Type 0} (entries : List (Vec ℕ × V)) → HaveBytes entries → (fronts : List Front) → All (IsFrontOf entries) fronts → IsSortedBy (λ a b. is_lt (front_cmp entries a b)) fronts
+pub sorted_numbers : {V : Type 0} (entries : List (List ℕ × V)) → HaveBytes entries → (fronts : List Front) → All (IsFrontOf entries) fronts → IsSortedBy (λ a b. is_lt (front_cmp entries a b)) fronts
     → IsSortedBy (λ n m. is_lt (bytes_cmp (name_at entries n) (name_at entries m))) (map (λ f. f.number) fronts)
 sorted_numbers entries bytes [] own sorted k d l h = absurd (omega (arith, h))
 sorted_numbers entries bytes (f ∷ fronts) own sorted k d l h =
@@ -67,27 +66,27 @@ if_ok (Ok a) f h = f a h
 if_ok (Err e) f h = tt
 
 -- a missing entry has no bytes in its name
-name_bytes : {V : Type 0} (entries : List (Vec ℕ × V)) (n i : ℕ) → (n < length entries → get_or (name_at entries n) i 0 < 256) → get_or (name_at entries n) i 0 < 256
+name_bytes : {V : Type 0} (entries : List (List ℕ × V)) (n i : ℕ) → (n < length entries → get_or (name_at entries n) i 0 < 256) → get_or (name_at entries n) i 0 < 256
 name_bytes [] n i h = omega arith
 name_bytes (x ∷ entries) zero i h = h (omega arith)
 name_bytes (x ∷ entries) (suc n) i h = name_bytes entries n i (λ l. h (omega (arith, l)))
 
-pub have_bytes : {V : Type 0} (entries : List (Vec ℕ × V)) → ((n i : ℕ) → n < length entries → slice_index (name_at entries n) i < 256) → HaveBytes entries
+pub have_bytes : {V : Type 0} (entries : List (List ℕ × V)) → ((n i : ℕ) → n < length entries → slice_index (name_at entries n) i < 256) → HaveBytes entries
 have_bytes entries h n i = name_bytes entries n i (h n i)
 
-own_fronts : {V : Type 0} (entries : List (Vec ℕ × V)) (ns : List ℕ) → Each (IsFrontOf entries) (map (front_at entries) ns)
+own_fronts : {V : Type 0} (entries : List (List ℕ × V)) (ns : List ℕ) → Each (IsFrontOf entries) (map (front_at entries) ns)
 own_fronts entries [] = tt
 own_fronts entries (n ∷ ns) = (refl, own_fronts entries ns)
 
-numbers-fronts : {V : Type 0} (entries : List (Vec ℕ × V)) (ns : List ℕ) → map (λ f. f.number) (map (front_at entries) ns) ≡ ns
+numbers-fronts : {V : Type 0} (entries : List (List ℕ × V)) (ns : List ℕ) → map (λ f. f.number) (map (front_at entries) ns) ≡ ns
 numbers-fronts entries [] = refl
 numbers-fronts entries (n ∷ ns) = ap (λ (ns : List ℕ). n ∷ ns) (numbers-fronts entries ns)
 
-pub numbers-permutation : {V : Type 0} (entries : List (Vec ℕ × V)) (ns : List ℕ) (fronts sorted : List Front) → fronts ≡ map (front_at entries) ns → IsPermutation fronts sorted → IsPermutation ns (map (λ f. f.number) sorted)
+pub numbers-permutation : {V : Type 0} (entries : List (List ℕ × V)) (ns : List ℕ) (fronts sorted : List Front) → fronts ≡ map (front_at entries) ns → IsPermutation fronts sorted → IsPermutation ns (map (λ f. f.number) sorted)
 numbers-permutation entries ns fronts sorted is p =
     subst (λ (ns : List ℕ). IsPermutation ns (map (λ f. f.number) sorted)) (ap (λ (fs : List Front). map (λ f. f.number) fs) is ∙ numbers-fronts entries ns)
     (IsPermutation-map (λ (f : Front). f.number) fronts sorted p)
 
-pub own-fronts : {V : Type 0} (entries : List (Vec ℕ × V)) (ns : List ℕ) (fronts sorted : List Front) → fronts ≡ map (front_at entries) ns → IsPermutation fronts sorted → All (IsFrontOf entries) sorted
+pub own-fronts : {V : Type 0} (entries : List (List ℕ × V)) (ns : List ℕ) (fronts sorted : List Front) → fronts ≡ map (front_at entries) ns → IsPermutation fronts sorted → All (IsFrontOf entries) sorted
 own-fronts entries ns fronts sorted is p =
     All-permutation (IsFrontOf entries) fronts sorted p (subst (All (IsFrontOf entries)) (sym is) (all-from_each (IsFrontOf entries) (map (front_at entries) ns) (own_fronts entries ns)))

@@ -19,6 +19,6 @@ pub holds_later : {X : Type 0} (P : X → Type 0) (xs ys : List X) (x : X) → x
 holds_later P xs ys x is h k d l = subst (All P) is h (suc k) d (omega (arith, l))
 
 -- a part of each entry, with one more at the end
-pub each_part-append : {K V X : Type 0} (key : K → List ℕ) (f : V → X) (es : List (K × V)) (k : K) (v : V) → each_part key f (es ++ (k, v) ∷ []) ≡ each_part key f es ++ (key k, f v) ∷ []
-each_part-append key f [] k v = refl
-each_part-append {K} {V} {X} key f (e ∷ es) k v = ap (λ (more : List (List ℕ × X)). (key e.0, f e.1) ∷ more) (each_part-append key f es k v)
+pub each_part-append : {V X : Type 0} (f : V → X) (es : List (List ℕ × V)) (k : List ℕ) (v : V) → each_part f (es ++ (k, v) ∷ []) ≡ each_part f es ++ (k, f v) ∷ []
+each_part-append f [] k v = refl
+each_part-append {V} {X} f (e ∷ es) k v = ap (λ (more : List (List ℕ × X)). (e.0, f e.1) ∷ more) (each_part-append f es k v)

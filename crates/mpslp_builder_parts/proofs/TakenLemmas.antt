@@ -6,36 +6,36 @@ use Rattle.std.specs.List.{All, cons_option}
 use Rattle.mpslp_model_core.specs.Numbered.{each_part}
 use Rattle.mpslp_builder_parts.specs.Ordered.{entries_at}
 
-module _ {K V X : Type 0} (key : K → List ℕ) (f : V → X) where
-  part_at : (es : List (K × V)) (n : ℕ) → slice_get (each_part key f es) n ≡ option_map (λ e. (key e.0, f e.1)) (slice_get es n)
+module _ {V X : Type 0} (f : V → X) where
+  part_at : (es : List (List ℕ × V)) (n : ℕ) → slice_get (each_part f es) n ≡ option_map (λ e. (e.0, f e.1)) (slice_get es n)
   part_at [] n = refl
   part_at (e ∷ es) zero = refl
   part_at (e ∷ es) (suc n) = part_at es n
 
-  each_part-cons_option : (o : Option (K × V)) (es : List (K × V)) → each_part key f (cons_option o es) ≡ cons_option (option_map (λ e. (key e.0, f e.1)) o) (each_part key f es)
+  each_part-cons_option : (o : Option (List ℕ × V)) (es : List (List ℕ × V)) → each_part f (cons_option o es) ≡ cons_option (option_map (λ e. (e.0, f e.1)) o) (each_part f es)
   each_part-cons_option None es = refl
   each_part-cons_option (Some e) es = refl
 
   -- the parts of what is taken are what is taken of the parts
-  each_part-taken : (es : List (K × V)) (ns : List ℕ) → each_part key f (entries_at es ns) ≡ entries_at (each_part key f es) ns
+  each_part-taken : (es : List (List ℕ × V)) (ns : List ℕ) → each_part f (entries_at es ns) ≡ entries_at (each_part f es) ns
   each_part-taken es [] = refl
   each_part-taken es (n ∷ ns) =
       each_part-cons_option (slice_get es n) (entries_at es ns)
       ∙ (λ i. cons_option (sym (part_at es n) i) (each_part-taken es ns i))
 
-  pub length-each_part : (es : List (K × V)) → length (each_part key f es) ≡ length es
+  pub length-each_part : (es : List (List ℕ × V)) → length (each_part f es) ≡ length es
   length-each_part [] = refl
   length-each_part (e ∷ es) = ap suc (length-each_part es)
 
 -- entries with the same parts have the same parts in any order
-pub taken-alike : {K V L W X : Type 0} (key : K → List ℕ) (f : V → X) (name : L → List ℕ) (g : W → X) (es : List (K × V)) (ds : List (L × W))
-    → each_part key f es ≡ each_part name g ds → (ns : List ℕ) → each_part key f (entries_at es ns) ≡ each_part name g (entries_at ds ns)
-taken-alike key f name g es ds same ns = each_part-taken key f es ns ∙ ap (λ (parts : List (List ℕ × _)). entries_at parts ns) same ∙ sym (each_part-taken name g ds ns)
+pub taken-alike : {V W X : Type 0} (f : V → X) (g : W → X) (es : List (List ℕ × V)) (ds : List (List ℕ × W))
+    → each_part f es ≡ each_part g ds → (ns : List ℕ) → each_part f (entries_at es ns) ≡ each_part g (entries_at ds ns)
+taken-alike f g es ds same ns = each_part-taken f es ns ∙ ap (λ (parts : List (List ℕ × _)). entries_at parts ns) same ∙ sym (each_part-taken g ds ns)
 
 -- and they have the same length
-pub as_many : {K V L W X : Type 0} (key : K → List ℕ) (f : V → X) (name : L → List ℕ) (g : W → X) (es : List (K × V)) (ds : List (L × W))
-    → each_part key f es ≡ each_part name g ds → length es ≡ length ds
-as_many key f name g es ds same = sym (length-each_part key f es) ∙ ap length same ∙ length-each_part name g ds
+pub as_many : {V W X : Type 0} (f : V → X) (g : W → X) (es : List (List ℕ × V)) (ds : List (List ℕ × W))
+    → each_part f es ≡ each_part g ds → length es ≡ length ds
+as_many f g es ds same = sym (length-each_part f es) ∙ ap length same ∙ length-each_part g ds
 
 -- what is true of all items is true of those that are taken
 cons-all : {X : Type 0} (P : X → Type 0) (x : X) (xs : List X) → P x → All P xs → All P (x ∷ xs)

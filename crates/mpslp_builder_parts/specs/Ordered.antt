@@ -3,7 +3,6 @@ use Rattle.std.specs.Prelude.{ℕ, zero, suc, ◌+◌, ◌*◌, List, [], slice_
 use Rattle.std.specs.Option.{option_map_or}
 use Rattle.std.specs.Ordering.{nat_cmp, ordering_then}
 use Rattle.std.specs.declared.cmp.Ordering.{Ordering}
-use Rattle.std.specs.Global.{Vec}
 use Rattle.mpslp_types.specs.Name.{bytes_cmp}
 use Rattle.mpslp_builder_parts.specs.declared.order.Front.{Front}
 
@@ -12,17 +11,17 @@ abbrev pub entries_at : {X : Type 0} → List X → List ℕ → List X
 entries_at items numbers = filter_map (slice_get items) numbers
 
 -- the name of the entry of a number
-abbrev pub name_at : {V : Type 0} → List (Vec ℕ × V) → ℕ → List ℕ
-name_at entries number = option_map_or (λ e. e.0.items) (slice_get entries number) []
+abbrev pub name_at : {V : Type 0} → List (List ℕ × V) → ℕ → List ℕ
+name_at entries number = option_map_or (λ e. e.0) (slice_get entries number) []
 
 -- the first bytes as one number, with 0 for each byte after the end
 abbrev pub front_value : ℕ → List ℕ → ℕ
 front_value zero name = 0
 front_value (suc n) name = front_value n name * 256 + slice_index name n
 
-abbrev pub front_at : {V : Type 0} → List (Vec ℕ × V) → ℕ → Front
+abbrev pub front_at : {V : Type 0} → List (List ℕ × V) → ℕ → Front
 front_at entries number = record { bytes = front_value 16 (name_at entries number); number = number }
 
 -- by the first bytes, and then by the whole name
-abbrev pub front_cmp : {V : Type 0} → List (Vec ℕ × V) → Front → Front → Ordering
+abbrev pub front_cmp : {V : Type 0} → List (List ℕ × V) → Front → Front → Ordering
 front_cmp entries a b = ordering_then (nat_cmp a.bytes b.bytes) (bytes_cmp (name_at entries a.number) (name_at entries b.number))

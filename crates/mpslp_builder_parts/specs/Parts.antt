@@ -1,6 +1,5 @@
 -- What is declared of the objective, of a row and of a column, and what it becomes in a model.
 use Rattle.std.specs.Prelude.{ℕ, Bool, false, List, [], Option, Some, None, unwrap_or, if◌then◌else◌}
-use Rattle.std.specs.Global.{Vec}
 use Rattle.mpslp_decimal.specs.Decimal.{Number, zero_number}
 use Rattle.mpslp_types.specs.declared.kinds.Limit.{Limit}
 use Rattle.mpslp_types.specs.declared.kinds.RowType.TheVariants.{Free}
@@ -12,10 +11,6 @@ use Rattle.mpslp_builder_parts.specs.DeclaredBounds.{no_sides, sides_put}
 use Rattle.mpslp_builder_parts.specs.declared.parts.ObjectiveParts.{ObjectiveParts}
 use Rattle.mpslp_builder_parts.specs.RowParts.{RowParts}
 use Rattle.mpslp_builder_parts.specs.declared.parts.ColumnParts.{ColumnParts}
-
--- a name's bytes
-abbrev pub bytes : Vec ℕ → List ℕ
-bytes v = v.items
 
 -- ---- what is declared of a row or of a column
 

@@ -10,7 +10,7 @@ ghost use Rattle.mpslp_model_core.specs.Limits.{limits_of, plain_limits};
 ghost use Rattle.mpslp_model_core.specs.RowForms.{row_definition};
 ghost use Rattle.mpslp_model_core.specs.Numbered.{each_part};
 ghost use Rattle.mpslp_builder_parts.specs.Ordered.{name_at, entries_at};
-ghost use Rattle.mpslp_builder_parts.specs.Parts.{bytes, itself, limits_in, bounds_of, moved_in};
+ghost use Rattle.mpslp_builder_parts.specs.Parts.{itself, limits_in, bounds_of, moved_in};
 
 use crate::order::{in_order, order_of};
 use crate::parts::ColumnParts;
@@ -74,18 +74,6 @@ pub fn column_of(
     Ok(ModelColumn { bounds, cells })
 }
 
-/// The entries with their names, which must be legal.
-fn named<X: Drop>(alloc: Global, entries: Vec<(Vec<u8>, X)>) -> Result<Vec<(Name, X)>, AllocError>
-    requires { All (λ entry. IsMpsName entry.0.items) entries.items }
-    ensures { IfOk result (λ made. made.items ≡ each_part bytes itself entries.items) }
-{
-    let mut made = Vec::with_capacity(alloc, entries.len())?;
-    for (name, part) in entries {
-        made.push((Name::from_legal(name), part))?;
-    }
-    Ok(made)
-}
-
 /// Returns the former indices of rows or columns in byte order of their names, and the rows or columns in that order.
 ///
 /// # Errors
@@ -93,14 +81,13 @@ fn named<X: Drop>(alloc: Global, entries: Vec<(Vec<u8>, X)>) -> Result<Vec<(Name
 /// [`AllocError`] if the allocation fails.
 pub fn ordered<X: Drop>(
     alloc: Global,
-    entries: Vec<(Vec<u8>, X)>,
+    entries: Vec<(Name, X)>,
 ) -> Result<(Vec<usize>, Vec<(Name, X)>), AllocError>
-    requires { All (λ entry. IsMpsName entry.0.items) entries.items }
     ensures permutation { IfOk result (λ r. IsPermutation (range_with_len 0 (length entries.items)) r.0.items) }
     ensures sorted { IfOk result (λ r. IsSortedByKey (name_at entries.items) bytes_cmp r.0.items) }
-    ensures taken { IfOk result (λ r. r.1.items ≡ each_part bytes itself (entries_at entries.items r.0.items)) }
+    ensures taken { IfOk result (λ r. r.1.items ≡ entries_at entries.items r.0.items) }
 {
     let order = order_of(alloc, &entries)?;
     let ordered = in_order(alloc, entries, &order)?;
-    Ok((order, named(alloc, ordered)?))
+    Ok((order, ordered))
 }

@@ -7,6 +7,7 @@ ghost use Rattle.std.specs.Ordering.{is_lt};
 ghost use Rattle.mpslp_types.specs.Name.{bytes_cmp};
 ghost use Rattle.mpslp_builder_parts.specs.Ordered.{name_at, front_value, front_at, front_cmp, entries_at};
 
+use mpslp_types::Name;
 use std::alloc::{AllocError, Global};
 use std::cmp::Ordering;
 
@@ -51,17 +52,17 @@ fn front_value(name: &[u8]) -> u128
 }
 
 /// The name of the entry of this number.
-fn name_at<V>(entries: &[(Vec<u8>, V)], number: usize) -> &[u8]
+fn name_at<V>(entries: &[(Name, V)], number: usize) -> &[u8]
     ensures { result.now ≡ name_at entries.now number }
 {
     match entries.get(number) {
-        Some(entry) => entry.0.as_slice(),
+        Some(entry) => entry.0.as_bytes(),
         None => &[],
     }
 }
 
 /// The order of the names of two entries.
-fn compare<V>(entries: &[(Vec<u8>, V)], a: &Front, b: &Front) -> Ordering
+fn compare<V>(entries: &[(Name, V)], a: &Front, b: &Front) -> Ordering
     ensures { result ≡ front_cmp entries.now a.now b.now }
 {
     match a.bytes.cmp(&b.bytes) {
@@ -71,20 +72,20 @@ fn compare<V>(entries: &[(Vec<u8>, V)], a: &Front, b: &Front) -> Ordering
 }
 
 /// The numbers of all entries with the first bytes of their names, in the order of the entries.
-fn fronts_of<V>(alloc: Global, entries: &[(Vec<u8>, V)]) -> Result<Vec<Front>, AllocError>
+fn fronts_of<V>(alloc: Global, entries: &[(Name, V)]) -> Result<Vec<Front>, AllocError>
     ensures fronts { IfOk result (λ fronts. fronts.items ≡ map (front_at entries.now) (range_with_len 0 (length entries.now))) }
     ensures bytes { IfOk result (λ _. (n i : ℕ) → n < length entries.now → slice_index (name_at entries.now n) i < 256) }
 {
     let mut fronts = Vec::with_capacity(alloc, entries.len())?;
     for number in 0..entries.len() {
-        let bytes = front_value(entries[number].0.as_slice());
+        let bytes = front_value(entries[number].0.as_bytes());
         fronts.push(Front { bytes, number })?;
     }
     Ok(fronts)
 }
 
 /// Sorts the keys, so that the names are in byte order.
-fn sort_fronts<V>(fronts: Vec<Front>, entries: &[(Vec<u8>, V)]) -> Vec<Front>
+fn sort_fronts<V>(fronts: Vec<Front>, entries: &[(Name, V)]) -> Vec<Front>
     ensures permutation { IsPermutation fronts.items result.items }
     ensures sorted { IsSortedBy (λ a b. is_lt (front_cmp entries.now a b)) result.items }
 {
@@ -108,7 +109,7 @@ fn numbers_of(alloc: Global, fronts: &[Front]) -> Result<Vec<usize>, AllocError>
 /// # Errors
 ///
 /// [`AllocError`] if there is no memory for the keys or the numbers.
-pub fn order_of<V>(alloc: Global, entries: &[(Vec<u8>, V)]) -> Result<Vec<usize>, AllocError>
+pub fn order_of<V>(alloc: Global, entries: &[(Name, V)]) -> Result<Vec<usize>, AllocError>
     ensures permutation { IfOk result (λ order. IsPermutation (range_with_len 0 (length entries.now)) order.items) }
     ensures sorted { IfOk result (λ order. IsSortedByKey (name_at entries.now) bytes_cmp order.items) }
 {

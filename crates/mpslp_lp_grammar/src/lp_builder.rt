@@ -53,7 +53,7 @@ fn numbered_row(alloc: Global, position: u64) -> Result<Name, LineError>
 {
     let mut bytes = b"c".to_vec(alloc)?;
     match bytes.extend_from_slice(Buffer::new().format(position).as_bytes()) {
-        Ok(()) => Ok(Name::from_legal(bytes)),
+        Ok(()) => Ok(Name::from_legal(alloc, &bytes)?),
         Err(_) => Err(LineError::OutOfMemory),
     }
 }
@@ -114,8 +114,8 @@ impl LpBuilder {
         requires { IsMpsName name.now }
         ensures { MatchResult result (λ copy. copy ≡ name.now) (λ error. error ≡ LineError.OutOfMemory) }
     {
-        match name.to_vec(self.alloc) {
-            Ok(bytes) => Ok(Name::from_legal(bytes)),
+        match Name::from_legal(self.alloc, name) {
+            Ok(copy) => Ok(copy),
             Err(_) => Err(LineError::OutOfMemory),
         }
     }

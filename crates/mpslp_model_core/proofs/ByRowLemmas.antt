@@ -11,7 +11,7 @@ use Rattle.mpslp_model_core.specs.Model.{LinearModel}
 use Rattle.mpslp_model_core.specs.Views.{num_rows, num_columns, row_name, column_name, has_coefficient, row_columns}
 use Rattle.std.specs.Cmp.{first_so, second_so}
 use Rattle.mpslp_model_core.specs.Numbered.{name_of}
-use Rattle.mpslp_model_core.specs.ModelParts.{linear_model, AreModelParts, own, cells_in, cells_by_name, name_of_row_key}
+use Rattle.mpslp_model_core.specs.ModelParts.{linear_model, AreModelParts, cells_in, cells_by_name, name_of_row_key}
 use Rattle.mpslp_model_core.specs.ByRow.{list_at, column_if, has_number, cells_of, columns_with, AreIndexed}
 use Rattle.mpslp_model_core.specs.declared.by_row.RowLists.{RowLists}
 use Rattle.mpslp_model_core.specs.declared.model.ModelColumn.{ModelColumn}
@@ -97,7 +97,7 @@ row_seen {m} {v} {names} lists seen are i below =
 
 -- ---- what accessors find in the parts
 
-named_within : {X : Type 0} (objective : List ℕ) (rows : List (List ℕ × X)) (n : ℕ) → is_some (name_of own (Some objective) rows n) ≡ true → n ≤ length rows
+named_within : {X : Type 0} (objective : List ℕ) (rows : List (List ℕ × X)) (n : ℕ) → is_some (name_of (Some objective) rows n) ≡ true → n ≤ length rows
 named_within objective rows zero named = omega arith
 named_within objective [] (suc i) named = absurd cc
 named_within objective (row ∷ rows) (suc zero) named = omega arith

@@ -12,7 +12,6 @@ use Rattle.std.specs.FinMap.{find, is_sorted}
 use Rattle.std.specs.FinMap.Entries.{below_all}
 use Rattle.mpslp_types.specs.Name.{same_bytes, is_one_of, bytes_cmp}
 use Rattle.mpslp_model_core.specs.Numbered.{each_part, name_of, TellsApart, IsOnce}
-use Rattle.mpslp_model_core.specs.ModelParts.{own}
 use Rattle.mpslp_model_core.proofs.KeyLemmas.{bytes_total}
 use Rattle.mpslp_model_core.proofs.CellLemmas.{name_same}
 use Rattle.mpslp_model_core.proofs.CellListLemmas.{is_below}
@@ -52,9 +51,9 @@ apart_names a b less =
     ] refl
 
 -- the entry of a name that is found
-pub named_entry : {X : Type 0} (es : List (List ℕ × X)) (i : ℕ) (r : List ℕ) → option_map (λ (e : List ℕ × X). own e.0) (slice_get es i) ≡ Some r → (e : List ℕ × X) × (slice_get es i ≡ Some e) × (e.0 ≡ r)
+pub named_entry : {X : Type 0} (es : List (List ℕ × X)) (i : ℕ) (r : List ℕ) → option_map (λ (e : List ℕ × X). e.0) (slice_get es i) ≡ Some r → (e : List ℕ × X) × (slice_get es i ≡ Some e) × (e.0 ≡ r)
 named_entry {X} es i r named =
-    elim (slice_get es i) as (λ o. option_map (λ (e : List ℕ × X). own e.0) o ≡ Some r → (e : List ℕ × X) × (o ≡ Some e) × (e.0 ≡ r)) [
+    elim (slice_get es i) as (λ o. option_map (λ (e : List ℕ × X). e.0) o ≡ Some r → (e : List ℕ × X) × (o ≡ Some e) × (e.0 ≡ r)) [
       | None ↦ λ no. absurd cc
       | Some e ↦ λ is. (e, refl, cc)
     ] named
@@ -74,14 +73,14 @@ is_there {X} (d ∷ es) (suc i) e at =
 
 module _ {X : Type 0} (objective : List ℕ) (es : List (List ℕ × X)) (sorted : is_sorted bytes_cmp es ≡ true) where
   -- names ascend with their numbers
-  pub rise_by_name : RiseByName (name_of own (Some objective) es)
+  pub rise_by_name : RiseByName (name_of (Some objective) es)
   rise_by_name n m r s p q below =
       let e = named_entry es n r p in
       let f = named_entry es m s q in
       let less = rise es n m e.0 f.0 sorted e.1 f.1 (let more : suc n < suc m = is_below (suc n) (suc m) below in omega arith) in
       (λ i. bytes_cmp (sym e.2 i) (sym f.2 i)) ∙ less
 
-  one_number : (n m : ℕ) (r : List ℕ) → name_of own (Some objective) es (suc n) ≡ Some r → name_of own (Some objective) es (suc m) ≡ Some r → n ≡ m
+  one_number : (n m : ℕ) (r : List ℕ) → name_of (Some objective) es (suc n) ≡ Some r → name_of (Some objective) es (suc m) ≡ Some r → n ≡ m
   one_number n m r p q =
       let e = named_entry es n r p in
       let f = named_entry es m r q in
@@ -92,14 +91,14 @@ module _ {X : Type 0} (objective : List ℕ) (es : List (List ℕ × X)) (sorted
       ] (ranks n m)
 
   module _ (no_row : is_one_of (map (λ (e : List ℕ × X). e.0) es) objective ≡ false) where
-    not_objective : (m : ℕ) (r : List ℕ) → objective ≡ r → name_of own (Some objective) es (suc m) ≡ Some r → ⊥
+    not_objective : (m : ℕ) (r : List ℕ) → objective ≡ r → name_of (Some objective) es (suc m) ≡ Some r → ⊥
     not_objective m r is q =
         let f = named_entry es m r q in
         let no : false ≡ true = sym no_row ∙ ap (is_one_of (map (λ (e : List ℕ × X). e.0) es)) (is ∙ sym f.2) ∙ is_there es m f.0 f.1 in
         cc
 
     -- different numbers are those of different rows
-    pub tells_apart : TellsApart (name_of own (Some objective) es)
+    pub tells_apart : TellsApart (name_of (Some objective) es)
     tells_apart zero zero r p q = refl
     tells_apart zero (suc m) r p q = absurd (not_objective m r (cc) q)
     tells_apart (suc n) zero r p q = absurd (not_objective n r (cc) p)
@@ -108,20 +107,20 @@ module _ {X : Type 0} (objective : List ℕ) (es : List (List ℕ × X)) (sorted
 -- ---- parts of sorted entries
 
 module _ {V X : Type 0} (f : V → X) where
-  below_all-part : (k : List ℕ) (es : List (List ℕ × V)) → below_all bytes_cmp k (each_part own f es) ≡ below_all bytes_cmp k es
+  below_all-part : (k : List ℕ) (es : List (List ℕ × V)) → below_all bytes_cmp k (each_part f es) ≡ below_all bytes_cmp k es
   below_all-part k [] = refl
   below_all-part k (e ∷ es) = ap (λ (b : Bool). is_lt (bytes_cmp k e.0) && b) (below_all-part k es)
 
-  pub is_sorted-part : (es : List (List ℕ × V)) → is_sorted bytes_cmp (each_part own f es) ≡ is_sorted bytes_cmp es
+  pub is_sorted-part : (es : List (List ℕ × V)) → is_sorted bytes_cmp (each_part f es) ≡ is_sorted bytes_cmp es
   is_sorted-part [] = refl
   is_sorted-part (e ∷ es) = λ i. below_all-part e.0 es i && is_sorted-part es i
 
-  pub slice_get-part : (es : List (List ℕ × V)) (i : ℕ) → slice_get (each_part own f es) i ≡ option_map (λ (e : List ℕ × V). (e.0, f e.1)) (slice_get es i)
+  pub slice_get-part : (es : List (List ℕ × V)) (i : ℕ) → slice_get (each_part f es) i ≡ option_map (λ (e : List ℕ × V). (e.0, f e.1)) (slice_get es i)
   slice_get-part [] i = refl
   slice_get-part (e ∷ es) zero = refl
   slice_get-part (e ∷ es) (suc i) = slice_get-part es i
 
-  pub names-part : (es : List (List ℕ × V)) → map (λ (e : List ℕ × X). e.0) (each_part own f es) ≡ map (λ (e : List ℕ × V). e.0) es
+  pub names-part : (es : List (List ℕ × V)) → map (λ (e : List ℕ × X). e.0) (each_part f es) ≡ map (λ (e : List ℕ × V). e.0) es
   names-part [] = refl
   names-part (e ∷ es) = ap (λ (ns : List (List ℕ)). e.0 ∷ ns) (names-part es)
 

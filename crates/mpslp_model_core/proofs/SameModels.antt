@@ -14,7 +14,7 @@ use Rattle.mpslp_types.specs.Name.{bytes_cmp}
 use Rattle.mpslp_types.proofs.BoolLemmas.{T_from}
 use Rattle.mpslp_model_core.specs.Model.{Column, LinearModel, key_cmp}
 use Rattle.mpslp_model_core.specs.Columned.{columns_told}
-use Rattle.mpslp_model_core.specs.ModelParts.{linear_model, AreModelParts, own, bounds_in, cells_in, columns_in, cells_by_name, name_of_row_key}
+use Rattle.mpslp_model_core.specs.ModelParts.{linear_model, AreModelParts, bounds_in, cells_in, columns_in, cells_by_name, name_of_row_key}
 use Rattle.mpslp_model_core.specs.Numbered.{sorted_of, each_part, name_of, all_cells, all_named, IsOnce}
 use Rattle.mpslp_model_core.specs.Same.{IsSameObjective}
 use Rattle.mpslp_model_core.specs.declared.model.ModelColumn.{ModelColumn}
@@ -31,10 +31,10 @@ pub record AreSameParts (v w : LinearModel) (m n : ModelParts) : Type 0 where
   pub columns : columns_told m.columns.items ≡ columns_told n.columns.items
 
 abbrev cells_of : List (List ℕ × ModelColumn) → List (List ℕ × List (ℕ × Number))
-cells_of columns = each_part own cells_in columns
+cells_of columns = each_part cells_in columns
 
 abbrev bounds_of : List (List ℕ × ModelColumn) → List (List ℕ × Column)
-bounds_of columns = each_part own bounds_in columns
+bounds_of columns = each_part bounds_in columns
 
 -- ---- the model from its columns
 
@@ -61,7 +61,7 @@ same-parts {m} {n} {v} {w} see seen p =
       constant = constant i;
       rows = maps.from_sorted (p.rows i);
       columns = maps.from_sorted (bounds i);
-      coefficients = maps.from_sorted (sorted_of key_cmp (all_cells (name_of own (Some (objective i)) (p.rows i)) (cells i)));
+      coefficients = maps.from_sorted (sorted_of key_cmp (all_cells (name_of (Some (objective i)) (p.rows i)) (cells i)));
     } in
     sym see ∙ inside ∙ seen
 
@@ -133,7 +133,7 @@ pub parts-same : {m n : ModelParts} {v w : LinearModel} → linear_model m ≡ v
 parts-same {m} {n} {v} {w} see p seen q same =
     let rows : m.rows.items ≡ n.rows.items = sym (rows_seen see p) ∙ ap (λ (x : LinearModel). maps.entries x.rows) same ∙ rows_seen seen q in
     let objective : m.objective ≡ n.objective = ap (λ (x : LinearModel). x.objective) (see ∙ same ∙ sym seen) in
-    let names : name_of_row_key m ≡ name_of_row_key n = λ i. name_of own (Some (objective i)) (rows i) in
+    let names : name_of_row_key m ≡ name_of_row_key n = λ i. name_of (Some (objective i)) (rows i) in
     let columns : columns_in m ≡ columns_in n = sym (columns_seen see p) ∙ ap (λ (x : LinearModel). maps.entries x.columns) same ∙ columns_seen seen q in
     let all = all_cells (name_of_row_key m) (cells_by_name m) in
     let all_too = all_cells (name_of_row_key n) (cells_by_name n) in

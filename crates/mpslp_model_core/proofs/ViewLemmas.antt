@@ -19,7 +19,7 @@ use Rattle.mpslp_model_core.specs.Views.{num_rows, row_names, row_name, row_inde
 use Rattle.mpslp_model_core.specs.Model.{CoefficientKey, Column, Row, LinearModel, key_cmp}
 use Rattle.mpslp_model_core.specs.Numbered.{sorted_of, each_part, column_cells, all_cells, TellsApart, IsOnce}
 use Rattle.mpslp_model_core.specs.Columned.{row_cells, count_row_cells}
-use Rattle.mpslp_model_core.specs.ModelParts.{linear_model, AreModelParts, own, bounds_in, cells_in, columns_in, cells_by_name, name_of_row_key}
+use Rattle.mpslp_model_core.specs.ModelParts.{linear_model, AreModelParts, bounds_in, cells_in, columns_in, cells_by_name, name_of_row_key}
 use Rattle.mpslp_model_core.specs.declared.model.ModelColumn.{ModelColumn}
 use Rattle.mpslp_model_core.specs.declared.model.ModelParts.{ModelParts}
 use Rattle.mpslp_model_core.proofs.KeyLemmas.{key_total}
@@ -211,14 +211,14 @@ module _ (m : ModelParts) (parts : AreModelParts m) where
       sym (ap length (elements_seen v seen j cells are) ∙ length-named (name_of_row_key m) (column_name v j) (row_cells cells) (rows_named (name_of_row_key m) cells are.named))
 
   -- the number of nonzeros in all columns
-  count_named : (columns : List (List ℕ × ModelColumn)) → list_all (λ c. list_all (λ e. is_some (name_of_row_key m e.0)) c.1) (each_part own cells_in columns) ≡ true
-      → length (all_cells (name_of_row_key m) (rows_alone (each_part own cells_in columns))) ≡ count_row_cells columns
+  count_named : (columns : List (List ℕ × ModelColumn)) → list_all (λ c. list_all (λ e. is_some (name_of_row_key m e.0)) c.1) (each_part cells_in columns) ≡ true
+      → length (all_cells (name_of_row_key m) (rows_alone (each_part cells_in columns))) ≡ count_row_cells columns
   count_named [] h = refl
   count_named (c ∷ cs) h =
       let cells = c.1.cells.items in
       let one = list_all (λ e. is_some (name_of_row_key m e.0)) cells in
-      let more = list_all (λ d. list_all (λ e. is_some (name_of_row_key m e.0)) d.1) (each_part own cells_in cs) in
-      length-append (column_cells (name_of_row_key m) c.0 (row_cells cells)) (all_cells (name_of_row_key m) (rows_alone (each_part own cells_in cs)))
+      let more = list_all (λ d. list_all (λ e. is_some (name_of_row_key m e.0)) d.1) (each_part cells_in cs) in
+      length-append (column_cells (name_of_row_key m) c.0 (row_cells cells)) (all_cells (name_of_row_key m) (rows_alone (each_part cells_in cs)))
       ∙ (λ i. length-named (name_of_row_key m) c.0 (row_cells cells) (rows_named (name_of_row_key m) cells (first_so one more h)) i + count_named cs (second_so one more h) i)
 
   pub elements_counted : (v : LinearModel) → linear_model m ≡ v → count_row_cells m.columns.items ≡ num_elements v
@@ -230,6 +230,6 @@ module _ (m : ModelParts) (parts : AreModelParts m) where
       )
 
 -- the coefficients of each column are in the order of their numbers
-pub all_sorted : (columns : List (List ℕ × ModelColumn)) → list_all (λ c. is_sorted nat_cmp c.1) (each_part own cells_in columns) ≡ true → list_all (λ (column : List ℕ × ModelColumn). is_sorted nat_cmp column.1.cells.items) columns ≡ true
+pub all_sorted : (columns : List (List ℕ × ModelColumn)) → list_all (λ c. is_sorted nat_cmp c.1) (each_part cells_in columns) ≡ true → list_all (λ (column : List ℕ × ModelColumn). is_sorted nat_cmp column.1.cells.items) columns ≡ true
 all_sorted [] h = refl
-all_sorted (c ∷ cs) h = λ i. first_so (is_sorted nat_cmp c.1.cells.items) (list_all (λ d. is_sorted nat_cmp d.1) (each_part own cells_in cs)) h i && all_sorted cs (second_so (is_sorted nat_cmp c.1.cells.items) (list_all (λ d. is_sorted nat_cmp d.1) (each_part own cells_in cs)) h) i
+all_sorted (c ∷ cs) h = λ i. first_so (is_sorted nat_cmp c.1.cells.items) (list_all (λ d. is_sorted nat_cmp d.1) (each_part cells_in cs)) h i && all_sorted cs (second_so (is_sorted nat_cmp c.1.cells.items) (list_all (λ d. is_sorted nat_cmp d.1) (each_part cells_in cs)) h) i

@@ -11,10 +11,6 @@ use Rattle.mpslp_types.specs.Name.{bytes_cmp}
 use Rattle.mpslp_model_core.specs.declared.model.ModelColumn.{ModelColumn}
 use Rattle.mpslp_model_core.specs.declared.model.ModelParts.{ModelParts}
 
--- a name is its bytes
-abbrev pub own : List ℕ → List ℕ
-own name = name
-
 abbrev pub bounds_in : ModelColumn → Column
 bounds_in column = column.bounds
 
@@ -23,14 +19,14 @@ cells_in column = column.cells.items
 
 -- the columns by their names: their bounds, and their coefficients
 abbrev pub columns_in : ModelParts → List (List ℕ × Column)
-columns_in m = each_part own bounds_in m.columns.items
+columns_in m = each_part bounds_in m.columns.items
 
 abbrev pub cells_by_name : ModelParts → List (List ℕ × List (ℕ × Number))
-cells_by_name m = each_part own cells_in m.columns.items
+cells_by_name m = each_part cells_in m.columns.items
 
 -- the name of the row of a number
 abbrev pub name_of_row_key : ModelParts → ℕ → Option (List ℕ)
-name_of_row_key m = name_of own (Some m.objective) m.rows.items
+name_of_row_key m = name_of (Some m.objective) m.rows.items
 
 abbrev pub linear_model : ModelParts → LinearModel
 linear_model m = record {

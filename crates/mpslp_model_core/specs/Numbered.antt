@@ -16,23 +16,23 @@ sorted_of R (e ∷ es) = put R e.0 e.1 (sorted_of R es)
 
 -- ---- the parts of a map's entries by name
 
-module _ {K V X : Type 0} (key : K → List ℕ) where
+module _ {V X : Type 0} where
   -- a part of each
-  abbrev pub each_part : (V → X) → List (K × V) → List (List ℕ × X)
+  abbrev pub each_part : (V → X) → List (List ℕ × V) → List (List ℕ × X)
   each_part f [] = []
-  each_part f (e ∷ es) = (key e.0, f e.1) ∷ each_part f es
+  each_part f (e ∷ es) = (e.0, f e.1) ∷ each_part f es
 
   -- the parts that are given
-  abbrev pub given_parts : (V → Option X) → List (K × V) → List (List ℕ × X)
+  abbrev pub given_parts : (V → Option X) → List (List ℕ × V) → List (List ℕ × X)
   given_parts f [] = []
-  given_parts f (e ∷ es) = option_map_or (λ x. (key e.0, x) ∷ given_parts f es) (f e.1) (given_parts f es)
+  given_parts f (e ∷ es) = option_map_or (λ x. (e.0, x) ∷ given_parts f es) (f e.1) (given_parts f es)
 
 -- ---- rows by numbers
 
 -- the objective has the number 0, and the rows have the numbers from 1
-abbrev pub name_of : {K V : Type 0} → (K → List ℕ) → Option (List ℕ) → List (K × V) → ℕ → Option (List ℕ)
-name_of key objective rows zero = objective
-name_of key objective rows (suc i) = option_map (λ e. key e.0) (slice_get rows i)
+abbrev pub name_of : {V : Type 0} → Option (List ℕ) → List (List ℕ × V) → ℕ → Option (List ℕ)
+name_of objective rows zero = objective
+name_of objective rows (suc i) = option_map (λ e. e.0) (slice_get rows i)
 
 -- different numbers are those of different rows
 abbrev pub TellsApart : (ℕ → Option (List ℕ)) → Type 0

@@ -7,15 +7,18 @@ use std::test::Fail;
 fn takes_names(rt: HostRuntime) -> Result<(), Fail> {
     let name = Name::new(rt.alloc(), b"LIM1".as_slice())?;
     assert_eq!(rt; name.as_bytes(), b"LIM1".as_slice());
-    assert_eq!(rt; name.into_bytes().as_slice(), b"LIM1".as_slice());
+    let short = Name::new(rt.alloc(), b"SIXTEEN_BYTES_16".as_slice())?;
+    assert_eq!(rt; short.as_bytes(), b"SIXTEEN_BYTES_16".as_slice());
+    let allocated = Name::new(rt.alloc(), b"SEVENTEEN_BYTES_X".as_slice())?;
+    assert_eq!(rt; allocated.as_bytes(), b"SEVENTEEN_BYTES_X".as_slice());
     let longest = Name::new(rt.alloc(), [b'a'; 255].as_slice())?;
     assert_eq!(rt; longest.as_bytes().len(), 255);
     Ok(())
 }
 
 #[test]
-fn moves_the_bytes_of_a_legal_name(rt: HostRuntime) -> Result<(), Fail> {
-    let name = Name::from_legal(b"LIM1".to_vec(rt.alloc())?);
+fn copies_the_bytes_of_a_legal_name(rt: HostRuntime) -> Result<(), Fail> {
+    let name = Name::from_legal(rt.alloc(), b"LIM1".as_slice())?;
     assert_eq!(rt; name.as_bytes(), b"LIM1".as_slice());
     Ok(())
 }

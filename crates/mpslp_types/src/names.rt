@@ -3,19 +3,20 @@
 mod keys;
 mod lp;
 
-ghost use Rattle.std.specs.Prelude.{◌≡◌, Some, IfSome, IfNone, IfOk, MatchResult, refl};
+ghost use Rattle.std.specs.Prelude.{◌≡◌, [], ◌∷◌, Some, IfSome, IfNone, IfOk, MatchResult, refl};
 ghost use Rattle.std.proofs.Common.{rules};
 ghost use Rattle.std.specs.List.{list_all};
 ghost use Rattle.std.specs.Result.{result_err};
-ghost use Rattle.std.specs.Hash as fed;
 ghost use Rattle.std.specs.Cmp.{partial_equiv_from_equiv};
 ghost use Rattle.std.specs.Cmp.Lexicographic.{nat_list_cmp_total, nat_list_eq_equiv, texts_po, texts_ties};
 ghost use Rattle.std.specs.Cmp.Rules.{hashing};
 ghost use Rattle.mpslp_types.specs.Name.{IsMpsName, is_visible, same_bytes, marker, bytes_cmp};
 ghost use Rattle.mpslp_types.specs.NameTests.{name_refusal};
 
+pub use keys::NameBytes;
 pub use lp::{is_lp_byte, may_be_reserved};
-use std::alloc::Global;
+use smallvec::SmallVec;
+use std::alloc::{AllocError, Global};
 use std::cmp::Ordering;
 use std::hash::{Hash, Hasher};
 use std::marker::Model;
@@ -41,12 +42,17 @@ pub enum NameFault {
     OutOfMemory,
 }
 
+/// The longest name that is stored in the value itself, without an allocation, in bytes.
+const SHORT: usize = 16;
+
 /// The name of a row, a column or the objective: 1 to [`MAX_NAME_LEN`] bytes of printable ASCII without spaces, other than
 /// `'MARKER'`. Contracts see its bytes.
 #[derive(Debug, Drop)]
 pub struct Name {
-    pub(crate) bytes: Vec<u8>,
+    pub(crate) bytes: SmallVec<u8, SHORT>,
 }
+
+const _: () = prove!(size_of::<Name>() == 32);
 
 impl Model for Name {
     ghost use Rattle.std.specs.Prelude.{ℕ, List};
@@ -99,13 +105,14 @@ impl Ord for Name {
     }
 }
 
+/// Writes the bytes at once: the hash of a slice would write each byte separately.
 impl Hash for Name {
-    ghost hash_input = { fed.slice fed.u8 };
+    ghost hash_input = { λ name. name ∷ [] };
 
     ghost respects_eq = { Prim.search (hashing, rules) };
 
     fn hash<H: Hasher>(&self, state: &mut H) {
-        self.as_bytes().hash(state);
+        state.write(self.as_bytes());
     }
 }
 
@@ -155,31 +162,29 @@ impl Name {
         ensures taken { IfNone (name_refusal bytes.now) (MatchResult result (λ name. name ≡ bytes.now) (λ fault. fault ≡ NameFault.OutOfMemory)) }
     {
         Name::check(bytes)?;
-        match bytes.to_vec(alloc) {
-            Ok(bytes) => Ok(Name { bytes }),
+        match Name::from_legal(alloc, bytes) {
+            Ok(name) => Ok(name),
             Err(_) => Err(NameFault::OutOfMemory),
         }
     }
 
-    /// Makes a name of bytes that are known to be legal. The bytes are moved and not checked again.
-    pub fn from_legal(bytes: Vec<u8>) -> Name
-        requires { IsMpsName bytes.items }
-        ensures { result ≡ bytes.items }
+    /// Makes a name of bytes that are known to be legal. They are copied and not checked again.
+    ///
+    /// # Errors
+    ///
+    /// [`AllocError`] if the allocation of a long name fails.
+    pub fn from_legal(alloc: Global, bytes: &[u8]) -> Result<Name, AllocError>
+        requires { IsMpsName bytes.now }
+        ensures { IfOk result (λ name. name ≡ bytes.now) }
     {
-        Name { bytes }
+        let bytes = SmallVec::from_slice(alloc, bytes)?;
+        Ok(Name { bytes })
     }
 
     /// The bytes of the name.
     pub fn as_bytes(&self) -> &[u8]
         ensures { result.now ≡ self.now }
     {
-        &self.bytes
-    }
-
-    /// The bytes of the name, without a copy.
-    pub fn into_bytes(self) -> Vec<u8>
-        ensures { result.items ≡ self }
-    {
-        self.bytes
+        self.bytes.as_slice()
     }
 }

@@ -3,21 +3,19 @@
 ghost use Rattle.std.specs.Prelude.{◌≡◌, ◌<◌, ℕ, IsTrue, IfOk, List, None, Some, is_some, length, slice_index, unwrap_or};
 ghost use Rattle.std.specs.List.{All};
 ghost use Rattle.mpslp_decimal.specs.Decimal.{negated, zero_number};
-ghost use Rattle.mpslp_types.specs.Name.{IsMpsName};
 ghost use Rattle.mpslp_builder.specs.Made.{IsMade};
 ghost use Rattle.mpslp_builder.specs.Meaning.{DraftMeans};
 ghost use Rattle.mpslp_builder.specs.FileFault.{file_fault};
-ghost use Rattle.mpslp_builder.specs.FaultFound.{HaveLegalNames, entry_name, fault_found};
+ghost use Rattle.mpslp_builder.specs.FaultFound.{entry_name, fault_found};
 ghost use Rattle.mpslp_builder.specs.Finish.{Finishes};
 ghost use Rattle.mpslp_model_core.specs.Numbered.{each_part};
 ghost use Rattle.mpslp_model_core.specs.ModelParts.{bounds_in, cells_in};
 ghost use Rattle.mpslp_builder_parts.specs.Parts.{rhs_in, itself, limits_in, bounds_of, moved_in};
 ghost use Rattle.mpslp_types.specs.declared.kinds.Sense.TheVariants.{Minimize};
-ghost use Rattle.mpslp_builder.specs.Tables.{bytes, name_of_objective, draft, IsNumbered};
+ghost use Rattle.mpslp_builder.specs.Tables.{name_of_objective, draft, IsNumbered};
 
 use crate::builder::Builder;
-use crate::name_map::NameMap;
-use crate::tables::Tables;
+use crate::tables::{NameMap, Tables};
 use crate::tables::file_faults::FoundFault;
 use mpslp_builder_parts::{
     ColumnParts, ObjectiveParts, RowParts, column_of, ordered, ranks_of, row_of,
@@ -32,8 +30,8 @@ use std::alloc::{AllocError, Global};
 /// The rows of a model with their names, in the order in which they were declared.
 ///
 /// They are made from the map itself: a vector of what is declared beside it would be the peak of memory.
-fn rows_in(alloc: Global, rows: NameMap<RowParts>) -> Result<Vec<(Vec<u8>, ModelRow)>, AllocError>
-    ensures { IfOk result (λ made. each_part bytes itself made.items ≡ each_part bytes limits_in rows.entries) }
+fn rows_in(alloc: Global, rows: NameMap<RowParts>) -> Result<Vec<(Name, ModelRow)>, AllocError>
+    ensures { IfOk result (λ made. made.items ≡ each_part limits_in rows.entries) }
 {
     let mut made = Vec::with_capacity(alloc, rows.len())?;
     for (name, parts) in rows {
@@ -50,11 +48,11 @@ fn columns_in(
     alloc: Global,
     columns: NameMap<ColumnParts>,
     ranks: &[u32],
-) -> Result<Vec<(Vec<u8>, ModelColumn)>, AllocError>
+) -> Result<Vec<(Name, ModelColumn)>, AllocError>
     requires within { All (λ column. All (λ cell. cell.0 < length ranks.now) column.1.cells) columns.entries }
     requires apart { (n m : ℕ) → n < length ranks.now → m < length ranks.now → slice_index ranks.now n ≡ slice_index ranks.now m → n ≡ m }
-    ensures bounds { IfOk result (λ made. each_part bytes bounds_in made.items ≡ each_part bytes bounds_of columns.entries) }
-    ensures cells { IfOk result (λ made. each_part bytes cells_in made.items ≡ each_part bytes (moved_in ranks.now) columns.entries) }
+    ensures bounds { IfOk result (λ made. each_part bounds_in made.items ≡ each_part bounds_of columns.entries) }
+    ensures cells { IfOk result (λ made. each_part cells_in made.items ≡ each_part (moved_in ranks.now) columns.entries) }
 {
     let mut made = Vec::with_capacity(alloc, columns.len())?;
     for (name, parts) in columns {
@@ -128,18 +126,16 @@ pub(crate) fn into_model(
 
 /// The name at an index, moved out of the map without a copy.
 fn name_out_of<V: Drop>(mut entries: NameMap<V>, index: usize) -> Option<Name>
-    requires { (name : List ℕ) → entry_name entries.entries index ≡ Some name → IsMpsName name }
     ensures { result ≡ entry_name entries.entries index }
 {
     match entries.swap_remove_index(index) {
-        Some((name, _parts)) => Some(Name::from_legal(name)),
+        Some((name, _parts)) => Some(name),
         None => None,
     }
 }
 
 /// The error that was found, with its name.
 fn into_fault(tables: Tables, found: FoundFault) -> Fault
-    requires { HaveLegalNames tables }
     ensures { result ≡ fault_found tables found }
 {
     let (kind, name) = match found {

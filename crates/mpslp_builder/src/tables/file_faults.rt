@@ -11,8 +11,7 @@ ghost use Rattle.mpslp_builder.specs.FileFault.{file_fault};
 ghost use Rattle.mpslp_builder.specs.Tables.{draft, IsNumbered};
 ghost use Rattle.mpslp_builder.specs.FaultFound.{row_fails, column_fails, is_wrong_row, is_wrong_column, is_below, least_name, entry_name, kind_of_row_fault, kind_of_column_fault, named_fault, fault_found, IsThere};
 
-use crate::name_map::NameMap;
-use crate::tables::Tables;
+use crate::tables::{NameMap, Tables};
 use mpslp_builder_parts::{ColumnParts, RowParts};
 use mpslp_model_core::{ColumnFault, RowFault, is_faulty_row, row_has};
 
@@ -86,7 +85,7 @@ fn is_below<V>(entries: &NameMap<V>, name: &[u8], least: Option<usize>) -> bool
 {
     match least {
         Some(index) => match entries.get_index(index) {
-            Some((other, _parts)) => name.cmp(other.as_slice()).is_lt(),
+            Some((other, _parts)) => name.cmp(other.as_bytes()).is_lt(),
             None => true,
         },
         None => true,
@@ -103,7 +102,7 @@ fn least_faulty<F: Copy, V: Faulty<F>>(entries: &NameMap<V>, fault: F) -> Option
     while index > 0 {
         index -= 1;
         if let Some((name, parts)) = entries.get_index(index) {
-            if parts.has_fault(fault) && is_below(entries, name, least) {
+            if parts.has_fault(fault) && is_below(entries, name.as_bytes(), least) {
                 least = Some(index);
             }
         }

@@ -9,7 +9,7 @@ pub loop-number-preserved : goal.loop-number-preserved
 loop-number-preserved g c =
     let entries = c.args.entries.now in
     let number = c.loop-number.number in
-    let name : c.as_slice.result.now ≡ name_at entries number = c.as_slice.ensures.value ∙ name_at-entry entries number c.index-entries-number.result c.loop-number-test.true c.index-entries-number.is in
+    let name : c.as_bytes.result.now ≡ name_at entries number = c.as_bytes.ensures ∙ name_at-entry entries number c.index-entries-number.result c.loop-number-test.true c.index-entries-number.is in
     record {
       fronts = c.in_ok-push.ensures.items
           ∙ (λ i. c.loop-number.invariant.fronts i ++ record { bytes = (c.front_value-bytes.ensures.value ∙ ap (front_value 16) name) i; number = number } ∷ [])

@@ -1,7 +1,7 @@
 use Rattle.std.proofs.Common.{◌≡◌, refl, sym, ap, ◌∙◌, ℕ, List, false}
 use Rattle.mpslp_types.specs.Name.{is_mps_name}
 use Rattle.mpslp_builder.specs.Declaration.{Draft, with_declaration, declare_column, has_column}
-use Rattle.mpslp_builder.specs.Tables.{bytes, draft}
+use Rattle.mpslp_builder.specs.Tables.{draft}
 use Rattle.mpslp_builder.proofs.AnswerLemmas.{made_after, made_now, put_again}
 use Rattle.mpslp_builder.proofs.SortedDrafts.{sorted-from_made}
 use Rattle.mpslp_builder.proofs.CallLemmas.{column_added, column_added_numbered}
@@ -18,12 +18,11 @@ invariant_of-self-2 c =
     let b = c.self.inside in
     let inner = draft b.sense b.constant b.tables in
     let d = declare_column c.args.name in
-    let name : bytes c.into_bytes.result ≡ c.args.name = c.into_bytes.ensures in
-    let absent : has_column inner (bytes c.into_bytes.result) ≡ false =
-    ap (has_column inner) name ∙ ap (λ (all : Draft). has_column all c.args.name) c.self.view_is ∙ sym (c.if-has_column.ensures ∙ ap (has_column c.args.self.now) c.as_bytes.ensures) in
-    let after = column_added b.sense b.constant b.tables c.add_column.new.self c.into_bytes.result c.in_ok-add_column.ensures.ok absent ∙ ap (λ (n : List ℕ). with_declaration inner (declare_column n)) name in (
+    let absent : has_column inner c.args.name ≡ false =
+    ap (λ (all : Draft). has_column all c.args.name) c.self.view_is ∙ sym (c.if-has_column.ensures ∙ ap (has_column c.args.self.now) c.as_bytes.ensures) in
+    let after = column_added b.sense b.constant b.tables c.add_column.new.self c.args.name c.in_ok-add_column.ensures.ok absent in (
       made_after d after c.self.invariant.0 (ap is_mps_name (sym c.name.view_is) ∙ c.name.invariant) refl refl,
-      column_added_numbered b.sense b.constant b.tables c.add_column.new.self c.into_bytes.result c.in_ok-add_column.ensures.ok c.self.invariant.1,
+      column_added_numbered b.sense b.constant b.tables c.add_column.new.self c.args.name c.in_ok-add_column.ensures.ok c.self.invariant.1,
     )
 
 pub returns : goal.returns
@@ -31,8 +30,7 @@ returns c =
     let b = c.self.inside in
     let inner = draft b.sense b.constant b.tables in
     let d = declare_column c.args.name in
-    let name : bytes c.into_bytes.result ≡ c.args.name = c.into_bytes.ensures in
-    let absent : has_column inner (bytes c.into_bytes.result) ≡ false =
-    ap (has_column inner) name ∙ ap (λ (all : Draft). has_column all c.args.name) c.self.view_is ∙ sym (c.if-has_column.ensures ∙ ap (has_column c.args.self.now) c.as_bytes.ensures) in
-    let after = column_added b.sense b.constant b.tables c.add_column.new.self c.into_bytes.result c.in_ok-add_column.ensures.ok absent ∙ ap (λ (n : List ℕ). with_declaration inner (declare_column n)) name in
+    let absent : has_column inner c.args.name ≡ false =
+    ap (λ (all : Draft). has_column all c.args.name) c.self.view_is ∙ sym (c.if-has_column.ensures ∙ ap (has_column c.args.self.now) c.as_bytes.ensures) in
+    let after = column_added b.sense b.constant b.tables c.add_column.new.self c.args.name c.in_ok-add_column.ensures.ok absent in
     after ∙ ap (λ (all : Draft). with_declaration all d) c.self.view_is

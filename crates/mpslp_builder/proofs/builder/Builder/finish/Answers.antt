@@ -5,11 +5,7 @@ use Rattle.mpslp_builder.specs.Declaration.{Draft}
 use Rattle.mpslp_builder.specs.Meaning.{DraftMeans}
 use Rattle.mpslp_builder.specs.FileFault.{file_fault}
 use Rattle.mpslp_builder.specs.FaultFound.{fault_found}
-use Rattle.mpslp_builder.proofs.FoundLemmas.{legal_names}
 use Rattle.mpslp_builder.proofs.builder.Builder.finish.Goals as goal
-
-pub into_fault-requires : goal.into_fault-requires
-into_fault-requires c = legal_names c.self.inside.sense c.self.inside.constant c.self.inside.tables c.self.invariant.0
 
 pub returns-in-Some : goal.returns-in-Some
 returns-in-Some c =

@@ -3,7 +3,7 @@ use Rattle.std.specs.List.{flat_map}
 use Rattle.mpslp_types.specs.Lists.{when}
 use Rattle.mpslp_builder.specs.Declaration.{Draft, with_declarations, declare_column, declare_marked, has_column}
 use Rattle.mpslp_builder.specs.Refusal.{refusals_in_turn}
-use Rattle.mpslp_builder.specs.Tables.{bytes, draft}
+use Rattle.mpslp_builder.specs.Tables.{draft}
 use Rattle.mpslp_builder.specs.ColumnLine.{listed, entry_declared, column_line}
 use Rattle.mpslp_builder.proofs.LineLemmas.{laid_then}
 use Rattle.mpslp_builder.proofs.LineRefusals.{rows_known}
@@ -31,16 +31,14 @@ returns-clause-taken c =
     let inner = draft b.sense b.constant b.tables in
     let marked = c.args.is_marked in
     let entries = listed c.args.entries.now in
-    let given = bytes c.into_bytes.result in
-    let named : given ≡ c.args.name = c.into_bytes.ensures in
+    let given = c.args.name in
     let started = c.in_ok-column.ensures.ok in
     let laid =
     laid_then b.tables c.start_column.new.self c.put_line.new.self (declare_column given ∷ []) (when marked (declare_marked given) ++ flat_map (entry_declared given) entries) started.laid
     (c.in_ok-put_line.ensures.ok given started.named) in (
       ap (λ (d : Draft). refusals_in_turn d (column_line marked c.args.name entries)) (sym c.self.view_is)
-          ∙ ap (λ (n : List ℕ). refusals_in_turn inner (column_line marked n entries)) (sym named) ∙ laid.free b.sense b.constant,
-      laid.laid b.sense b.constant ∙ ap (λ (n : List ℕ). with_declarations inner (column_line marked n entries)) named
-          ∙ ap (λ (d : Draft). with_declarations d (column_line marked c.args.name entries)) c.self.view_is,
+          ∙ laid.free b.sense b.constant,
+      laid.laid b.sense b.constant ∙ ap (λ (d : Draft). with_declarations d (column_line marked c.args.name entries)) c.self.view_is,
     )
 
 pub returns-in_default-clause-refused : goal.returns-in_default-clause-refused

@@ -5,7 +5,7 @@ use Rattle.mpslp_types.specs.declared.faults.BuildFault.TheVariants.{DuplicateRo
 use Rattle.mpslp_builder.specs.Answer.{first_refusal}
 use Rattle.mpslp_builder.specs.Declaration.{Draft, with_declaration, by_type, declare_row, has_row}
 use Rattle.mpslp_builder.specs.Refusal.{refusals}
-use Rattle.mpslp_builder.specs.Tables.{bytes, draft}
+use Rattle.mpslp_builder.specs.Tables.{draft}
 use Rattle.mpslp_builder.proofs.AnswerLemmas.{none_refused, made_after, answered}
 use Rattle.mpslp_builder.proofs.RefusalLemmas.{first_none}
 use Rattle.mpslp_builder.proofs.CallLemmas.{row_added, row_added_numbered}
@@ -19,14 +19,13 @@ invariant_of-self-2 c =
     let d = declare_row c.args.name (by_type c.args.row_type) in
     let unrefused = c.in_ok-check_row.ensures ∙ ap (λ (n : List ℕ). first_refusal (refusals all (declare_row n (by_type c.args.row_type)))) c.as_bytes.ensures in
     let none : refusals inner d ≡ [] = ap (λ (before : Draft). refusals before d) c.self.view_is ∙ none_refused (refusals all d) unrefused in
-    let name : bytes c.into_bytes.result ≡ c.args.name = c.into_bytes.ensures in
-    let absent : has_row inner (bytes c.into_bytes.result) ≡ false = ap (has_row inner) name ∙ first_none (has_row inner c.args.name) DuplicateRow [] none in
+    let absent : has_row inner c.args.name ≡ false = first_none (has_row inner c.args.name) DuplicateRow [] none in
     let added = c.in_ok-add_row.ensures.ok in
-    let after = row_added b.sense b.constant b.tables c.add_row.new.self c.into_bytes.result c.of_type.result c.self.invariant.1 added absent
-    ∙ (λ i. with_declaration inner (declare_row (name i) (c.of_type.ensures i))) in
+    let after = row_added b.sense b.constant b.tables c.add_row.new.self c.args.name c.of_type.result c.self.invariant.1 added absent
+    ∙ (λ i. with_declaration inner (declare_row c.args.name (c.of_type.ensures i))) in
     let legal = both_so (is_mps_name c.args.name) true (ap is_mps_name (sym c.name.view_is) ∙ c.name.invariant) refl in (
       made_after d after c.self.invariant.0 legal none refl,
-      row_added_numbered b.sense b.constant b.tables c.add_row.new.self c.into_bytes.result c.of_type.result c.self.invariant.1 added (c.has_room.ensures c.if-not-has_room.false) absent,
+      row_added_numbered b.sense b.constant b.tables c.add_row.new.self c.args.name c.of_type.result c.self.invariant.1 added (c.has_room.ensures c.if-not-has_room.false) absent,
     )
 
 pub returns : goal.returns
@@ -37,9 +36,8 @@ returns c =
     let d = declare_row c.args.name (by_type c.args.row_type) in
     let unrefused = c.in_ok-check_row.ensures ∙ ap (λ (n : List ℕ). first_refusal (refusals all (declare_row n (by_type c.args.row_type)))) c.as_bytes.ensures in
     let none : refusals inner d ≡ [] = ap (λ (before : Draft). refusals before d) c.self.view_is ∙ none_refused (refusals all d) unrefused in
-    let name : bytes c.into_bytes.result ≡ c.args.name = c.into_bytes.ensures in
-    let absent : has_row inner (bytes c.into_bytes.result) ≡ false = ap (has_row inner) name ∙ first_none (has_row inner c.args.name) DuplicateRow [] none in
+    let absent : has_row inner c.args.name ≡ false = first_none (has_row inner c.args.name) DuplicateRow [] none in
     let added = c.in_ok-add_row.ensures.ok in
-    let after = row_added b.sense b.constant b.tables c.add_row.new.self c.into_bytes.result c.of_type.result c.self.invariant.1 added absent
-    ∙ (λ i. with_declaration inner (declare_row (name i) (c.of_type.ensures i))) in
+    let after = row_added b.sense b.constant b.tables c.add_row.new.self c.args.name c.of_type.result c.self.invariant.1 added absent
+    ∙ (λ i. with_declaration inner (declare_row c.args.name (c.of_type.ensures i))) in
     answered d c.self.view_is after none

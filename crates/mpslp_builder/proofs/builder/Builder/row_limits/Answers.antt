@@ -8,7 +8,7 @@ use Rattle.mpslp_types.proofs.BoolLemmas.{both_so}
 use Rattle.mpslp_builder.specs.Answer.{first_refusal}
 use Rattle.mpslp_builder.specs.Declaration.{Draft, with_declaration, by_limits, declare_row, has_row, have_infinite_side}
 use Rattle.mpslp_builder.specs.Refusal.{refusals}
-use Rattle.mpslp_builder.specs.Tables.{bytes, draft}
+use Rattle.mpslp_builder.specs.Tables.{draft}
 use Rattle.mpslp_builder.proofs.AnswerLemmas.{none_refused, made_after, answered, handed_on, want_of_memory}
 use Rattle.mpslp_builder.proofs.RefusalLemmas.{first_none}
 use Rattle.mpslp_builder.proofs.CallLemmas.{same_tables, row_added, row_added_numbered}
@@ -23,16 +23,15 @@ invariant_of-self-2 c =
     let d = declare_row c.args.name definition in
     let unrefused = c.in_ok-check_row_limits.ensures ∙ ap (λ (n : List ℕ). first_refusal (refusals all (declare_row n definition))) c.as_bytes.ensures in
     let none : refusals inner d ≡ [] = ap (λ (before : Draft). refusals before d) c.self.view_is ∙ none_refused (refusals all d) unrefused in
-    let name : bytes c.into_bytes.result ≡ c.args.name = c.into_bytes.ensures in
     let infinite : List (Bool × BuildFault) = (have_infinite_side definition, InfiniteValue) ∷ [] in
-    let absent : has_row inner (bytes c.into_bytes.result) ≡ false = ap (has_row inner) name ∙ first_none (has_row inner c.args.name) DuplicateRow infinite none in
+    let absent : has_row inner c.args.name ≡ false = first_none (has_row inner c.args.name) DuplicateRow infinite none in
     let added = c.in_ok-add_row.ensures.ok in
-    let after = row_added b.sense b.constant b.tables c.add_row.new.self c.into_bytes.result c.in_ok-definition.definition c.self.invariant.1 added absent
-    ∙ (λ i. with_declaration inner (declare_row (name i) (c.in_ok-definition.ensures i))) in
+    let after = row_added b.sense b.constant b.tables c.add_row.new.self c.args.name c.in_ok-definition.definition c.self.invariant.1 added absent
+    ∙ (λ i. with_declaration inner (declare_row c.args.name (c.in_ok-definition.ensures i))) in
     let given = both_so (is_given c.args.lower) (is_given c.args.upper) c.requires.lower c.requires.upper in
     let legal = both_so (is_mps_name c.args.name) (is_given c.args.lower && is_given c.args.upper) (ap is_mps_name (sym c.name.view_is) ∙ c.name.invariant) given in (
       made_after d after c.self.invariant.0 legal none refl,
-      row_added_numbered b.sense b.constant b.tables c.add_row.new.self c.into_bytes.result c.in_ok-definition.definition c.self.invariant.1 added (c.has_room.ensures c.if-not-has_room.false) absent,
+      row_added_numbered b.sense b.constant b.tables c.add_row.new.self c.args.name c.in_ok-definition.definition c.self.invariant.1 added (c.has_room.ensures c.if-not-has_room.false) absent,
     )
 
 pub returns-in_err-check_row_limits : goal.returns-in_err-check_row_limits
@@ -62,10 +61,9 @@ returns c =
     let d = declare_row c.args.name definition in
     let unrefused = c.in_ok-check_row_limits.ensures ∙ ap (λ (n : List ℕ). first_refusal (refusals all (declare_row n definition))) c.as_bytes.ensures in
     let none : refusals inner d ≡ [] = ap (λ (before : Draft). refusals before d) c.self.view_is ∙ none_refused (refusals all d) unrefused in
-    let name : bytes c.into_bytes.result ≡ c.args.name = c.into_bytes.ensures in
     let infinite : List (Bool × BuildFault) = (have_infinite_side definition, InfiniteValue) ∷ [] in
-    let absent : has_row inner (bytes c.into_bytes.result) ≡ false = ap (has_row inner) name ∙ first_none (has_row inner c.args.name) DuplicateRow infinite none in
+    let absent : has_row inner c.args.name ≡ false = first_none (has_row inner c.args.name) DuplicateRow infinite none in
     let added = c.in_ok-add_row.ensures.ok in
-    let after = row_added b.sense b.constant b.tables c.add_row.new.self c.into_bytes.result c.in_ok-definition.definition c.self.invariant.1 added absent
-    ∙ (λ i. with_declaration inner (declare_row (name i) (c.in_ok-definition.ensures i))) in
+    let after = row_added b.sense b.constant b.tables c.add_row.new.self c.args.name c.in_ok-definition.definition c.self.invariant.1 added absent
+    ∙ (λ i. with_declaration inner (declare_row c.args.name (c.in_ok-definition.ensures i))) in
     answered d c.self.view_is after none

@@ -1,11 +1,10 @@
 use Rattle.std.proofs.Common.{◌≡◌, sym, ap, subst, ◌∙◌, ℕ, ◌<◌, List, length}
 use Rattle.std.specs.Prelude.{◌≢◌, slice_index}
-use Rattle.mpslp_types.specs.Name.{IsMpsName}
 use Rattle.mpslp_model_core.specs.Numbered.{each_part}
 use Rattle.mpslp_builder_parts.specs.Ordered.{entries_at}
-use Rattle.mpslp_model_core.specs.ModelParts.{own, bounds_in, cells_in}
+use Rattle.mpslp_model_core.specs.ModelParts.{bounds_in, cells_in}
 use Rattle.mpslp_builder.specs.Meaning.{DraftMeans}
-use Rattle.mpslp_builder.specs.Tables.{bytes, no_part, cells_of, draft}
+use Rattle.mpslp_builder.specs.Tables.{no_part, cells_of, draft}
 use Rattle.mpslp_builder_parts.specs.Parts.{itself, limits_in, bounds_of, moved_in}
 use Rattle.mpslp_builder.proofs.OrderedParts.{once-part}
 use Rattle.mpslp_builder_parts.proofs.OrderLemmas.{if_ok}
@@ -13,7 +12,7 @@ use Rattle.mpslp_builder_parts.proofs.RankLemmas.{AreRanks, ranks_length, ranks_
 use Rattle.mpslp_builder_parts.proofs.TakenLemmas.{taken-alike}
 use Rattle.mpslp_builder.proofs.ModelOfTables.{AreFinished}
 use Rattle.mpslp_builder.proofs.FinishLemmas.{meant_parts, meant_draft, finished_parts, finished_cells}
-use Rattle.mpslp_builder.proofs.EndLemmas.{AreOrdered, legal_rows, legal_columns, cells_within, constant_is, ordered_alike, all_alike, parts_of_named, few_of, within_of, apart_of, named_there}
+use Rattle.mpslp_builder.proofs.EndLemmas.{AreOrdered, cells_within, constant_is, ordered_alike, each_whole, few_of, within_of, apart_of, named_there}
 use Rattle.mpslp_builder.proofs.builder.finish.into_model.Goals as goal
 
 pub ranks_of-requires-clause-few : goal.ranks_of-requires-clause-few
@@ -21,7 +20,7 @@ ranks_of-requires-clause-few c =
     let rows = c.args.tables.rows.entries in
     let order = c.in_ok-row_order.row_order.items in
     let in_rows : AreOrdered rows order (entries_at rows order) =
-    ordered_alike itself limits_in c.in_ok-rows_in.field-0.items rows order c.in_ok-rows_in.ensures c.in_ok-row_order.ensures.permutation c.in_ok-row_order.ensures.sorted in
+    ordered_alike itself limits_in c.in_ok-rows_in.field-0.items rows order (each_whole c.in_ok-rows_in.field-0.items ∙ c.in_ok-rows_in.ensures) c.in_ok-row_order.ensures.permutation c.in_ok-row_order.ensures.sorted in
     subst (λ (order : List ℕ). length order < 4294967295) (sym c.deref.ensures.value)
     (few_of rows order (entries_at rows order) in_rows c.requires.numbered.few)
 
@@ -30,7 +29,7 @@ ranks_of-requires-clause-within c =
     let rows = c.args.tables.rows.entries in
     let order = c.in_ok-row_order.row_order.items in
     let in_rows : AreOrdered rows order (entries_at rows order) =
-    ordered_alike itself limits_in c.in_ok-rows_in.field-0.items rows order c.in_ok-rows_in.ensures c.in_ok-row_order.ensures.permutation c.in_ok-row_order.ensures.sorted in
+    ordered_alike itself limits_in c.in_ok-rows_in.field-0.items rows order (each_whole c.in_ok-rows_in.field-0.items ∙ c.in_ok-rows_in.ensures) c.in_ok-row_order.ensures.permutation c.in_ok-row_order.ensures.sorted in
     subst (λ (order : List ℕ). (p : ℕ) → p < length order → slice_index order p < length order) (sym c.deref.ensures.value)
     (within_of rows order (entries_at rows order) in_rows)
 
@@ -39,24 +38,16 @@ ranks_of-requires-clause-apart c =
     let rows = c.args.tables.rows.entries in
     let order = c.in_ok-row_order.row_order.items in
     let in_rows : AreOrdered rows order (entries_at rows order) =
-    ordered_alike itself limits_in c.in_ok-rows_in.field-0.items rows order c.in_ok-rows_in.ensures c.in_ok-row_order.ensures.permutation c.in_ok-row_order.ensures.sorted in
+    ordered_alike itself limits_in c.in_ok-rows_in.field-0.items rows order (each_whole c.in_ok-rows_in.field-0.items ∙ c.in_ok-rows_in.ensures) c.in_ok-row_order.ensures.permutation c.in_ok-row_order.ensures.sorted in
     subst (λ (order : List ℕ). (p q : ℕ) → p < q → q < length order → slice_index order p ≢ slice_index order q) (sym c.deref.ensures.value)
     (apart_of rows order (entries_at rows order) in_rows)
-
-pub ordered-requires : goal.ordered-requires
-ordered-requires c =
-    all_alike IsMpsName itself limits_in c.in_ok-rows_in.field-0.items c.args.tables.rows.entries c.in_ok-rows_in.ensures (legal_rows c.args.sense c.args.constant c.args.tables c.requires.made)
-
-pub ordered-requires-2 : goal.ordered-requires-2
-ordered-requires-2 c =
-    all_alike IsMpsName bounds_in bounds_of c.in_ok-columns_in.field-0.items c.args.tables.columns.entries c.in_ok-columns_in.ensures.bounds (legal_columns c.args.sense c.args.constant c.args.tables c.requires.made)
 
 pub columns_in-requires-clause-within : goal.columns_in-requires-clause-within
 columns_in-requires-clause-within c =
     let rows = c.args.tables.rows.entries in
     let order = c.in_ok-row_order.row_order.items in
     let in_rows : AreOrdered rows order (entries_at rows order) =
-    ordered_alike itself limits_in c.in_ok-rows_in.field-0.items rows order c.in_ok-rows_in.ensures c.in_ok-row_order.ensures.permutation c.in_ok-row_order.ensures.sorted in
+    ordered_alike itself limits_in c.in_ok-rows_in.field-0.items rows order (each_whole c.in_ok-rows_in.field-0.items ∙ c.in_ok-rows_in.ensures) c.in_ok-row_order.ensures.permutation c.in_ok-row_order.ensures.sorted in
     let ranked : AreRanks order c.in_ok-ranks.ranks.items = subst (λ (order : List ℕ). AreRanks order c.in_ok-ranks.ranks.items) c.deref.ensures.value
     (record { objective = c.in_ok-ranks.ensures.objective; places = c.in_ok-ranks.ensures.ranks; len = c.in_ok-ranks.ensures.len }) in
     cells_within c.args.tables.objective rows c.args.tables.columns.entries (length c.deref-2.result.now) c.requires.numbered
@@ -67,7 +58,7 @@ columns_in-requires-clause-apart c =
     let rows = c.args.tables.rows.entries in
     let order = c.in_ok-row_order.row_order.items in
     let in_rows : AreOrdered rows order (entries_at rows order) =
-    ordered_alike itself limits_in c.in_ok-rows_in.field-0.items rows order c.in_ok-rows_in.ensures c.in_ok-row_order.ensures.permutation c.in_ok-row_order.ensures.sorted in
+    ordered_alike itself limits_in c.in_ok-rows_in.field-0.items rows order (each_whole c.in_ok-rows_in.field-0.items ∙ c.in_ok-rows_in.ensures) c.in_ok-row_order.ensures.permutation c.in_ok-row_order.ensures.sorted in
     let ranked : AreRanks order c.in_ok-ranks.ranks.items = subst (λ (order : List ℕ). AreRanks order c.in_ok-ranks.ranks.items) c.deref.ensures.value
     (record { objective = c.in_ok-ranks.ensures.objective; places = c.in_ok-ranks.ensures.ranks; len = c.in_ok-ranks.ensures.len }) in
     subst (λ (ranks : List ℕ). (n m : ℕ) → n < length ranks → m < length ranks → slice_index ranks n ≡ slice_index ranks m → n ≡ m) (sym c.deref-2.ensures.value)
@@ -78,7 +69,7 @@ of_parts-requires c =
     let rows = c.args.tables.rows.entries in
     let order = c.in_ok-row_order.row_order.items in
     let in_rows : AreOrdered rows order (entries_at rows order) =
-    ordered_alike itself limits_in c.in_ok-rows_in.field-0.items rows order c.in_ok-rows_in.ensures c.in_ok-row_order.ensures.permutation c.in_ok-row_order.ensures.sorted in
+    ordered_alike itself limits_in c.in_ok-rows_in.field-0.items rows order (each_whole c.in_ok-rows_in.field-0.items ∙ c.in_ok-rows_in.ensures) c.in_ok-row_order.ensures.permutation c.in_ok-row_order.ensures.sorted in
     let columns = c.args.tables.columns.entries in
     let column_order = c.in_ok-_column_order._column_order.items in
     let in_columns : AreOrdered columns column_order (entries_at columns column_order) =
@@ -89,6 +80,7 @@ of_parts-requires c =
     let objective = c.args.tables.objective in
     let made_rows = c.in_ok-rows_in.field-0.items in
     let made = c.in_ok-columns_in.field-0.items in
+    let named_rows = c.parts_of.ensures.rows ∙ c.in_ok-row_order.ensures.taken in
     let named = c.parts_of.ensures.columns ∙ c.in_ok-_column_order.ensures.taken in
     let finished : AreFinished objective rows columns m = record {
       row_order = order;
@@ -100,10 +92,10 @@ of_parts-requires c =
       columns_sorted = in_columns.sorted;
       ranked = ranked;
       objective_is = c.parts_of.ensures.objective;
-      rows_are = c.parts_of.ensures.rows ∙ c.in_ok-row_order.ensures.taken ∙ taken-alike bytes itself bytes limits_in made_rows rows c.in_ok-rows_in.ensures order;
-      bounds_are = ap (each_part own bounds_in) named ∙ parts_of_named bounds_in (entries_at made column_order) ∙ taken-alike bytes bounds_in bytes bounds_of made columns c.in_ok-columns_in.ensures.bounds column_order;
-      cells_are = ap (each_part own cells_in) named ∙ parts_of_named cells_in (entries_at made column_order) ∙ taken-alike bytes cells_in bytes (moved_in c.deref-2.result.now) made columns c.in_ok-columns_in.ensures.cells column_order
-          ∙ (λ i. each_part bytes (moved_in (c.deref-2.ensures.value i)) (entries_at columns column_order));
+      rows_are = named_rows ∙ sym (each_whole (entries_at made_rows order)) ∙ taken-alike itself limits_in made_rows rows (each_whole made_rows ∙ c.in_ok-rows_in.ensures) order;
+      bounds_are = ap (each_part bounds_in) named ∙ taken-alike bounds_in bounds_of made columns c.in_ok-columns_in.ensures.bounds column_order;
+      cells_are = ap (each_part cells_in) named ∙ taken-alike cells_in (moved_in c.deref-2.result.now) made columns c.in_ok-columns_in.ensures.cells column_order
+          ∙ (λ i. each_part (moved_in (c.deref-2.ensures.value i)) (entries_at columns column_order));
     } in
     let meant = finished_parts objective rows columns m finished c.args.sense c.args.constant c.requires.numbered
     c.each_name_stands_once.ensures.rows (once-part no_part cells_of columns c.each_name_stands_once.ensures.columns)
@@ -116,7 +108,7 @@ returns c =
     let rows = c.args.tables.rows.entries in
     let order = c.in_ok-row_order.row_order.items in
     let in_rows : AreOrdered rows order (entries_at rows order) =
-    ordered_alike itself limits_in c.in_ok-rows_in.field-0.items rows order c.in_ok-rows_in.ensures c.in_ok-row_order.ensures.permutation c.in_ok-row_order.ensures.sorted in
+    ordered_alike itself limits_in c.in_ok-rows_in.field-0.items rows order (each_whole c.in_ok-rows_in.field-0.items ∙ c.in_ok-rows_in.ensures) c.in_ok-row_order.ensures.permutation c.in_ok-row_order.ensures.sorted in
     let columns = c.args.tables.columns.entries in
     let column_order = c.in_ok-_column_order._column_order.items in
     let in_columns : AreOrdered columns column_order (entries_at columns column_order) =
@@ -127,6 +119,7 @@ returns c =
     let objective = c.args.tables.objective in
     let made_rows = c.in_ok-rows_in.field-0.items in
     let made = c.in_ok-columns_in.field-0.items in
+    let named_rows = c.parts_of.ensures.rows ∙ c.in_ok-row_order.ensures.taken in
     let named = c.parts_of.ensures.columns ∙ c.in_ok-_column_order.ensures.taken in
     let finished : AreFinished objective rows columns m = record {
       row_order = order;
@@ -138,10 +131,10 @@ returns c =
       columns_sorted = in_columns.sorted;
       ranked = ranked;
       objective_is = c.parts_of.ensures.objective;
-      rows_are = c.parts_of.ensures.rows ∙ c.in_ok-row_order.ensures.taken ∙ taken-alike bytes itself bytes limits_in made_rows rows c.in_ok-rows_in.ensures order;
-      bounds_are = ap (each_part own bounds_in) named ∙ parts_of_named bounds_in (entries_at made column_order) ∙ taken-alike bytes bounds_in bytes bounds_of made columns c.in_ok-columns_in.ensures.bounds column_order;
-      cells_are = ap (each_part own cells_in) named ∙ parts_of_named cells_in (entries_at made column_order) ∙ taken-alike bytes cells_in bytes (moved_in c.deref-2.result.now) made columns c.in_ok-columns_in.ensures.cells column_order
-          ∙ (λ i. each_part bytes (moved_in (c.deref-2.ensures.value i)) (entries_at columns column_order));
+      rows_are = named_rows ∙ sym (each_whole (entries_at made_rows order)) ∙ taken-alike itself limits_in made_rows rows (each_whole made_rows ∙ c.in_ok-rows_in.ensures) order;
+      bounds_are = ap (each_part bounds_in) named ∙ taken-alike bounds_in bounds_of made columns c.in_ok-columns_in.ensures.bounds column_order;
+      cells_are = ap (each_part cells_in) named ∙ taken-alike cells_in (moved_in c.deref-2.result.now) made columns c.in_ok-columns_in.ensures.cells column_order
+          ∙ (λ i. each_part (moved_in (c.deref-2.ensures.value i)) (entries_at columns column_order));
     } in
     let meant = finished_parts objective rows columns m finished c.args.sense c.args.constant c.requires.numbered
     c.each_name_stands_once.ensures.rows (once-part no_part cells_of columns c.each_name_stands_once.ensures.columns)

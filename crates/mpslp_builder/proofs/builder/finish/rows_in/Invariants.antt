@@ -1,7 +1,7 @@
 use Rattle.std.proofs.Common.{◌≡◌, ◌++◌}
 use Rattle.mpslp_model_core.specs.Numbered.{each_part}
-use Rattle.mpslp_builder_parts.specs.Parts.{bytes, itself, limits_in}
+use Rattle.mpslp_builder_parts.specs.Parts.{limits_in}
 use Rattle.mpslp_builder.proofs.builder.finish.rows_in.Given as goal
 
 abbrev pub invariant-loop-name : goal.invariant-loop-name
-invariant-loop-name l = each_part bytes itself l.made.items ++ each_part bytes limits_in l.name-iterator ≡ each_part bytes limits_in l.fn.rows.entries
+invariant-loop-name l = l.made.items ++ each_part limits_in l.name-iterator ≡ each_part limits_in l.fn.rows.entries

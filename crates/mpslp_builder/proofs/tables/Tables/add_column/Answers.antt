@@ -1,7 +1,7 @@
 use Rattle.std.proofs.Common.{refl, ap, ◌∙◌, [], ◌∷◌, ◌++◌}
 use Rattle.indexmap.proofs.CallerLemmas.{insert_entry-new}
 use Rattle.mpslp_types.specs.Name.{same_bytes}
-use Rattle.mpslp_builder.specs.Tables.{bytes, no_part}
+use Rattle.mpslp_builder.specs.Tables.{no_part}
 use Rattle.mpslp_builder_parts.specs.declared.parts.ColumnParts.{ColumnParts}
 use Rattle.mpslp_builder.proofs.PartLemmas.{absent_key}
 use Rattle.mpslp_builder.proofs.tables.Tables.add_column.Goals as goal
@@ -11,7 +11,7 @@ returns-clause-ok c = record {
   objective = refl;
   rows = refl;
   columns = c.in_ok-insert.ensures.entries
-      ∙ insert_entry-new (λ x y. same_bytes (bytes x) (bytes y)) c.args.self.now.columns c.args.name c.new-parts.result
-      (absent_key bytes no_part (bytes c.args.name) c.args.self.now.columns.entries c.requires)
+      ∙ insert_entry-new (λ x y. same_bytes x y) c.args.self.now.columns c.args.name c.new-parts.result
+      (absent_key no_part c.args.name c.args.self.now.columns.entries c.requires)
       ∙ ap (λ (parts : ColumnParts). c.args.self.now.columns.entries ++ (c.args.name, parts) ∷ []) c.new-parts.ensures;
 }

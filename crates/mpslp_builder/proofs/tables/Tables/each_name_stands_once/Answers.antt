@@ -1,9 +1,9 @@
-use Rattle.mpslp_builder.specs.Tables.{bytes, definition_of, cells_of}
+use Rattle.mpslp_builder.specs.Tables.{definition_of, cells_of}
 use Rattle.mpslp_builder.proofs.NameLemmas.{once-from_distinct}
 use Rattle.mpslp_builder.proofs.tables.Tables.each_name_stands_once.Goals as goal
 
 pub returns : goal.returns
 returns c = record {
-  rows = once-from_distinct bytes definition_of c.args.self.now.rows.entries c.len-rows.ensures.unique;
-  columns = once-from_distinct bytes cells_of c.args.self.now.columns.entries c.len-columns.ensures.unique;
+  rows = once-from_distinct definition_of c.args.self.now.rows.entries c.len-rows.ensures.unique;
+  columns = once-from_distinct cells_of c.args.self.now.columns.entries c.len-columns.ensures.unique;
 }

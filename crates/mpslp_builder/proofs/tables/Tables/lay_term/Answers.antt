@@ -24,11 +24,11 @@ returns-clause-laid c =
     let u = c.term_column.new.self in
     let column = c.in_ok-number.ensures.ok in
     λ name is.
-    laid_then t u c.put_term.new.self (declare_column c.args.column.now ∷ []) (entry_declared c.args.column.now (name, c.args.value)) column.laid
-    (c.in_ok-put_term.ensures.ok c.args.column.now name column.named (c.term_column.ensures.kept.rows c.args.row ∙ is))
+    laid_then t u c.put_value.new.self (declare_column c.args.column.now ∷ []) (entry_declared c.args.column.now (name, c.args.value)) column.laid
+    (c.in_ok-put_value.ensures.ok c.args.column.now name column.named (c.term_column.ensures.kept.rows c.args.row ∙ is))
 
-pub returns-in_err-put_term-clause-kept : goal.returns-in_err-put_term-clause-kept
-returns-in_err-put_term-clause-kept c = follows_then c.args.self.now c.term_column.new.self c.put_term.new.self c.term_column.ensures.kept c.put_term.ensures.kept
+pub returns-in_err-put_value-clause-kept : goal.returns-in_err-put_value-clause-kept
+returns-in_err-put_value-clause-kept c = follows_then c.args.self.now c.term_column.new.self c.put_value.new.self c.term_column.ensures.kept c.put_value.ensures.kept
 
 pub returns-clause-kept : goal.returns-clause-kept
-returns-clause-kept c = follows_then c.args.self.now c.term_column.new.self c.put_term.new.self c.term_column.ensures.kept c.put_term.ensures.kept
+returns-clause-kept c = follows_then c.args.self.now c.term_column.new.self c.put_value.new.self c.term_column.ensures.kept c.put_value.ensures.kept

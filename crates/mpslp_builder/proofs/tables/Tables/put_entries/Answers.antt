@@ -7,20 +7,20 @@ use Rattle.mpslp_builder.specs.declared.lines.Entry.{Entry}
 use Rattle.mpslp_builder.proofs.LineLemmas.{follows_then, laid_then}
 use Rattle.mpslp_builder.proofs.tables.Tables.put_entries.Goals as goal
 
-pub returns-in_err-put_entry-2-clause-kept : goal.returns-in_err-put_entry-2-clause-kept
-returns-in_err-put_entry-2-clause-kept c =
-    follows_then c.args.self.now c.put_entry.new.self c.put_entry-in-Some.new.self c.put_entry.ensures.kept c.put_entry-in-Some.ensures.kept
+pub returns-in_err-put_value-2-clause-kept : goal.returns-in_err-put_value-2-clause-kept
+returns-in_err-put_value-2-clause-kept c =
+    follows_then c.args.self.now c.put_value.new.self c.put_value-in-Some.new.self c.put_value.ensures.kept c.put_value-in-Some.ensures.kept
 
-pub returns-in_ok-put_entry-2-clause-kept : goal.returns-in_ok-put_entry-2-clause-kept
-returns-in_ok-put_entry-2-clause-kept c =
-    follows_then c.args.self.now c.put_entry.new.self c.put_entry-in-Some.new.self c.put_entry.ensures.kept c.put_entry-in-Some.ensures.kept
+pub returns-in_ok-put_value-2-clause-kept : goal.returns-in_ok-put_value-2-clause-kept
+returns-in_ok-put_value-2-clause-kept c =
+    follows_then c.args.self.now c.put_value.new.self c.put_value-in-Some.new.self c.put_value.ensures.kept c.put_value-in-Some.ensures.kept
 
-pub returns-in_ok-put_entry-2-clause-ok : goal.returns-in_ok-put_entry-2-clause-ok
-returns-in_ok-put_entry-2-clause-ok c =
+pub returns-in_ok-put_value-2-clause-ok : goal.returns-in_ok-put_value-2-clause-ok
+returns-in_ok-put_value-2-clause-ok c =
     let t = c.args.self.now in
-    let u = c.put_entry.new.self in
-    let v = c.put_entry-in-Some.new.self in
+    let u = c.put_value.new.self in
+    let v = c.put_value-in-Some.new.self in
     λ name is.
     subst (λ (o : Option Entry). IsLaid t (entry_declared name (pair_of c.args.entries.now.first) ++ flat_map (entry_declared name) (pair_if_some o)) v) (sym c.in-Some.is)
-    (laid_then t u v (entry_declared name (pair_of c.args.entries.now.first)) (entry_declared name (pair_of c.in-Some.entry)) (c.in_ok-put_entry.ensures.ok name is)
-    (c.in_ok-put_entry-2.ensures.ok name (c.put_entry.ensures.kept.columns c.args.column name is)))
+    (laid_then t u v (entry_declared name (pair_of c.args.entries.now.first)) (entry_declared name (pair_of c.in-Some.entry)) (c.in_ok-put_value.ensures.ok name c.args.entries.now.first.row.now is c.requires.rows.first)
+    (c.in_ok-put_value-2.ensures.ok name (c.put_value.ensures.kept.columns c.args.column name is)))

@@ -1,7 +1,6 @@
 use Rattle.std.proofs.Common.{refl, sym, ap, ◌∙◌, false}
 use Rattle.std.specs.Option.{option_map_or}
 use Rattle.std.specs.Prelude.{ℕ, Option}
-use Rattle.std.specs.Global.{Vec}
 use Rattle.indexmap.specs.IndexMap.{set_value_at}
 use Rattle.mpslp_model_core.specs.Limits.{is_definition_by_limits}
 use Rattle.mpslp_builder_parts.specs.RowParts.{RowParts}
@@ -9,7 +8,7 @@ use Rattle.mpslp_builder.proofs.tables.Tables.put_range.Goals as goal
 
 pub put_range-requires : goal.put_range-requires
 put_range-requires c =
-    ap (λ (o : Option (Vec ℕ × RowParts)). option_map_or (λ e. is_definition_by_limits e.1.definition) o false) (sym c.pair_mut-row.ensures.value) ∙ c.requires.typed
+    ap (λ (o : Option (List ℕ × RowParts)). option_map_or (λ e. is_definition_by_limits e.1.definition) o false) (sym c.pair_mut-row.ensures.value) ∙ c.requires.typed
 
 pub returns : goal.returns
 returns c = record {

@@ -8,5 +8,5 @@ returns-clause-kept c = start_follows c.args.self.now c.add_column.new.self c.re
 
 pub returns-clause-ok : goal.returns-clause-ok
 returns-clause-ok c =
-    subst (λ (n : ℕ). HasStarted c.args.self.now c.args.name.items n c.add_column.new.self) (sym c.len-column.ensures.len)
+    subst (λ (n : ℕ). HasStarted c.args.self.now c.args.name n c.add_column.new.self) (sym c.len-column.ensures.len)
     (started c.args.self.now c.add_column.new.self c.requires.numbered c.args.name c.in_ok-add_column.ensures.ok c.requires.absent)
