@@ -17,7 +17,7 @@ use Rattle.mpslp_model_core.proofs.CellLemmas.{or_else, find-two, name_same, nam
 use Rattle.mpslp_model_core.proofs.MovingLemmas.{all-from_each}
 use Rattle.mpslp_builder.specs.Declaration.{at_name}
 use Rattle.mpslp_builder.specs.Meaning.{constant_of}
-use Rattle.mpslp_builder.specs.Tables.{name_of_objective, rhs_of, cells_of, objective_rhs, name_of_row_key, draft, draft_from, AreNumbered}
+use Rattle.mpslp_builder.specs.Tables.{name_of_objective, rhs_of, cells_of, objective_rhs, name_of_row_key, draft_from, AreNumbered}
 use Rattle.mpslp_builder_parts.specs.Ordered.{name_at, entries_at}
 use Rattle.mpslp_builder_parts.specs.Parts.{rhs_in, itself}
 use Rattle.mpslp_builder_parts.specs.declared.parts.ObjectiveParts.{ObjectiveParts}

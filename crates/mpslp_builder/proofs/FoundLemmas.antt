@@ -24,21 +24,18 @@ use Rattle.mpslp_model_core.specs.declared.bounds.ColumnFault.{ColumnFault}
 use Rattle.mpslp_model_core.specs.declared.bounds.ColumnFault.TheVariants as columns
 use Rattle.mpslp_model_core.proofs.KeyLemmas.{bytes_total}
 use Rattle.mpslp_model_core.proofs.SortedLemmas.{find-sorted_of, is_sorted-sorted_of}
-use Rattle.mpslp_builder.specs.Declaration.{Draft, names_in, has_name, is_objective}
+use Rattle.mpslp_builder.specs.Declaration.{Draft, names_in, has_name}
 use Rattle.mpslp_builder.specs.Meaning.{declared_of, row_passes}
 use Rattle.mpslp_builder.specs.FileFault.{whole_fault, named_faults, file_fault}
 use Rattle.mpslp_builder.specs.Tables.{definition_of, no_part, cells_of, draft, IsNumbered}
 use Rattle.mpslp_builder.specs.Calls.{IsOnceEach}
-use Rattle.mpslp_builder.specs.FaultFound.{row_test, bounds_test, kind_of_row_fault, kind_of_column_fault, row_fails, column_fails, is_wrong_row, is_wrong_column, declared_in, lesser, is_below, least_name, entry_name, named_fault, HaveLegalNames}
+use Rattle.mpslp_builder.specs.FaultFound.{row_test, bounds_test, kind_of_row_fault, kind_of_column_fault, row_fails, column_fails, is_wrong_row, is_wrong_column, declared_in, lesser, is_below, least_name, entry_name, named_fault}
 use Rattle.mpslp_builder_parts.specs.RowParts.{RowParts}
 use Rattle.mpslp_builder_parts.specs.declared.parts.ColumnParts.{ColumnParts}
 use Rattle.mpslp_builder.specs.declared.tables.Tables.{Tables}
 use Rattle.mpslp_types.specs.declared.faults.FaultKind.{FaultKind}
 use Rattle.mpslp_types.specs.declared.faults.FaultKind.TheVariants as kinds
 use Rattle.mpslp_model_core.proofs.CellLemmas.{or_else}
-use Rattle.mpslp_types.specs.declared.kinds.Sense.{Sense}
-use Rattle.mpslp_builder.specs.Made.{IsMade}
-use Rattle.mpslp_builder.proofs.AnswerLemmas.{row_is_legal, column_is_legal}
 use Rattle.mpslp_builder.proofs.PartLemmas.{absent-each_part}
 use Rattle.mpslp_builder.proofs.NameLemmas.{once_too, there_found}
 use Rattle.mpslp_builder.proofs.OwnParts.{row_parts_at, column_parts_at}

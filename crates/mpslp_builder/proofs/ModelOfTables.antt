@@ -13,7 +13,7 @@ use Rattle.mpslp_decimal.specs.Decimal.{Number}
 use Rattle.mpslp_types.specs.Name.{bytes_cmp, same_bytes}
 use Rattle.mpslp_types.proofs.EachLemmas.{Each, Each-weaker, Each-from_list_all}
 use Rattle.mpslp_model_core.specs.Model.{Row, key_cmp}
-use Rattle.mpslp_model_core.specs.ModelParts.{own, columns_in}
+use Rattle.mpslp_model_core.specs.ModelParts.{columns_in}
 use Rattle.mpslp_model_core.specs.ModelParts as parts
 use Rattle.mpslp_model_core.specs.Numbered.{sorted_of, each_part, all_cells, all_named, is_kept, IsOnce}
 use Rattle.mpslp_model_core.specs.declared.model.ModelParts.{ModelParts}

@@ -1,6 +1,6 @@
 -- What a draft says of a row or a column by its name is the part stored with that name.
 use Rattle.std.proofs.Common.{◌≡◌, refl, ◌∙◌, ℕ, Bool}
-use Rattle.std.specs.Prelude.{Option, Some, slice_get}
+use Rattle.std.specs.Prelude.{List, Option, Some, slice_get}
 use Rattle.mpslp_decimal.specs.Decimal.{Number}
 use Rattle.mpslp_types.specs.declared.kinds.Sense.{Sense}
 use Rattle.mpslp_model_core.specs.Limits.{RowDefinition}

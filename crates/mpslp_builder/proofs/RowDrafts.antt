@@ -94,7 +94,7 @@ module _ (sense : Option Sense) (constant : Option Number) (objective : Option O
 
     kept_name : (n : ℕ) (r : List ℕ) → name_of_row_key objective rows n ≡ Some r → name_of_row_key objective added n ≡ Some r
     kept_name zero r h = h
-    kept_name (suc i) r h = names-more bytes rows ((k, record { definition = definition; rhs = None; range = None }) ∷ []) i r h
+    kept_name (suc i) r h = names-more rows ((k, record { definition = definition; rhs = None; range = None }) ∷ []) i r h
 
     missing : has_row (draft_from sense constant objective rows columns) k ≡ false → find bytes_cmp k (each_part definition_of rows) ≡ None
     missing absent =
@@ -120,7 +120,7 @@ module _ (sense : Option Sense) (constant : Option Number) (objective : Option O
     old_or_new : (n : ℕ) (r : List ℕ) → name_of_row_key objective added n ≡ Some r → (name_of_row_key objective rows n ≡ Some r) ⊎ ((n ≡ suc (length rows)) × (k ≡ r))
     old_or_new zero r h = inl h
     old_or_new (suc i) r h =
-        elim (old_or_last bytes rows k (record { definition = definition; rhs = None; range = None }) i r h) [
+        elim (old_or_last rows k (record { definition = definition; rhs = None; range = None }) i r h) [
           | inl old ↦ inl old
           | inr last ↦ inr (ap suc last.0, last.1)
         ]

@@ -193,9 +193,9 @@ cell_others_there t u numbered once i n row x h absent m other = by (row_name t 
     by (Some name) is there = cell_others t u numbered once i n name is x h absent m other
 
 -- a column that has started is there
-pub started_column : {t u : Tables} {name : List ℕ} (r : Result ℕ AllocError) → IfOk r (λ column. HasStarted t name column u) → IfOk r (λ column. HasColumn t name column u)
-started_column (Ok column) h = record { named = h.named; laid = h.laid }
-started_column (Err e) h = h
+pub started_column : (t u : Tables) (name : List ℕ) (r : Result ℕ AllocError) → IfOk r (λ column. HasStarted t name column u) → IfOk r (λ column. HasColumn t name column u)
+started_column t u name (Ok column) h = record { named = h.named; laid = h.laid }
+started_column t u name (Err e) h = h
 
 -- ---- terms in turn
 

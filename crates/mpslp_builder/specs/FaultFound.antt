@@ -1,9 +1,9 @@
 -- The whole-file error of tables: its kind and its place.
-use Rattle.std.specs.Prelude.{◌≡◌, ℕ, ◌<◌, Bool, true, List, [], ◌∷◌, length, Option, Some, None, slice_get, unwrap_or, if◌then◌else◌}
+use Rattle.std.specs.Prelude.{ℕ, ◌<◌, Bool, true, List, [], ◌∷◌, length, Option, Some, None, slice_get, unwrap_or, if◌then◌else◌}
 use Rattle.std.specs.Option.{option_map}
 use Rattle.std.specs.Ordering.{is_lt}
 use Rattle.mpslp_decimal.specs.Decimal.{zero_number}
-use Rattle.mpslp_types.specs.Name.{IsMpsName, bytes_cmp}
+use Rattle.mpslp_types.specs.Name.{bytes_cmp}
 use Rattle.mpslp_builder.specs.Declaration.{Draft}
 pub use Rattle.mpslp_model_core.specs.WrongParts.{is_faulty_row, row_test, bounds_test, are_faulty_bounds, kind_of_row_fault, kind_of_column_fault}
 use Rattle.mpslp_types.specs.Lists.{head_of}

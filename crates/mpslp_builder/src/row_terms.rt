@@ -20,6 +20,7 @@ use indexmap::IndexMap;
 use mpslp_decimal::Decimal;
 use mpslp_decimal::laws::each_value_is_a_decimal;
 use mpslp_maps::find_entry;
+use mpslp_types::laws::each_name_is_legal;
 use mpslp_types::{BuildFault, Name};
 use std::alloc::{AllocError, Global};
 use std::marker::Model;
@@ -242,6 +243,7 @@ impl Tables {
                 guesses = self.guesses(row, &terms[k..]);
             }
             let term = &terms[k];
+            each_name_is_legal(&term.0);
             self.lay_term(alloc, row, term.0.as_bytes(), guesses[k % AHEAD], term.1)?;
         }
         Ok(())
@@ -262,6 +264,7 @@ impl Tables {
     {
         for (name, value) in terms.iter() {
             let guess = self.recent.saturating_add(1);
+            each_name_is_legal(name);
             self.lay_term(alloc, row, name.as_bytes(), guess, *value)?;
         }
         Ok(())

@@ -15,8 +15,8 @@ ghost use Rattle.mpslp_types.specs.declared.kinds.Sense.TheVariants.{Minimize};
 ghost use Rattle.mpslp_builder.specs.Tables.{name_of_objective, draft, IsNumbered};
 
 use crate::builder::Builder;
-use crate::tables::{NameMap, Tables};
 use crate::tables::file_faults::FoundFault;
+use crate::tables::{NameMap, Tables};
 use mpslp_builder_parts::{
     ColumnParts, ObjectiveParts, RowParts, column_of, ordered, ranks_of, row_of,
 };

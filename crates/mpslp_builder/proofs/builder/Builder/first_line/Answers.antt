@@ -1,4 +1,4 @@
-use Rattle.std.proofs.Common.{◌≡◌, sym, ap, ◌∙◌, ◌++◌, [], ◌∷◌, List, ℕ, true, false}
+use Rattle.std.proofs.Common.{◌≡◌, sym, ap, ◌∙◌, ◌++◌, [], ◌∷◌, true, false}
 use Rattle.std.specs.List.{flat_map}
 use Rattle.mpslp_types.specs.Lists.{when}
 use Rattle.mpslp_builder.specs.Declaration.{Draft, with_declarations, declare_column, declare_marked, has_column}

@@ -40,7 +40,7 @@ loop-name-preserved c =
       laid = λ name is.
           let each = term_declared name in
           term_laid t u v name c.as_bytes.result.now (c.in-Some.name.now, c.in-Some.value.now) (flat_map each c.next.new.self) (flat_map each c.loop-name.name-iterator) (flat_map each c.args.terms.now.entries)
-          c.as_bytes.ensures.bytes (ap (flat_map each) c.in-Some.ensures.steps) (before.laid name is) (c.in_ok-lay_term.ensures.laid name (before.kept.rows c.args.row ∙ is));
+          c.as_bytes.ensures (ap (flat_map each) c.in-Some.ensures.steps) (before.laid name is) (c.in_ok-lay_term.ensures.laid name (before.kept.rows c.args.row ∙ is));
     }
 
 pub returns-in_err-lay_term-clause-laid : goal.returns-in_err-lay_term-clause-laid
@@ -52,7 +52,7 @@ returns-in_err-lay_term-clause-laid c =
     λ name is.
     let each = term_declared name in
     term_refused t u v name c.as_bytes.result.now (c.in-Some.name.now, c.in-Some.value.now) (flat_map each c.next.new.self) (flat_map each c.loop-name.name-iterator) (flat_map each c.args.terms.now.entries)
-    c.as_bytes.ensures.bytes (ap (flat_map each) c.in-Some.ensures.steps) (before.laid name is) c.from_residual.result c.in_err-lay_term.field-0.0 c.from_residual.ensures.1
+    c.as_bytes.ensures (ap (flat_map each) c.in-Some.ensures.steps) (before.laid name is) c.from_residual.result c.in_err-lay_term.field-0.0 c.from_residual.ensures.1
     (c.in_err-lay_term.ensures.laid name (before.kept.rows c.args.row ∙ is))
 
 pub returns-clause-laid : goal.returns-clause-laid

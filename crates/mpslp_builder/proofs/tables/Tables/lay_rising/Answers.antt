@@ -31,7 +31,7 @@ loop-k-preserved c =
       rows = c.lay_term.ensures.rows ∙ before.rows;
       laid = λ name is.
           let each = term_declared name in
-          term_laid t u v name c.as_bytes.result.now c.index-terms-k.result (flat_map each (drop (k + 1) terms)) (flat_map each (drop k terms)) (flat_map each terms) c.as_bytes.ensures.bytes
+          term_laid t u v name c.as_bytes.result.now c.index-terms-k.result (flat_map each (drop (k + 1) terms)) (flat_map each (drop k terms)) (flat_map each terms) c.as_bytes.ensures
           (rest_of each terms k c.index-terms-k.result c.loop-k-test.true c.index-terms-k.is) (before.laid name is) (c.in_ok-lay_term.ensures.laid name (before.kept.rows c.args.row ∙ is));
     }
 
@@ -45,7 +45,7 @@ returns-in_err-lay_term-clause-laid c =
     let before = c.loop-k.invariant in
     λ name is.
     let each = term_declared name in
-    term_refused t u v name c.as_bytes.result.now c.index-terms-k.result (flat_map each (drop (k + 1) terms)) (flat_map each (drop k terms)) (flat_map each terms) c.as_bytes.ensures.bytes
+    term_refused t u v name c.as_bytes.result.now c.index-terms-k.result (flat_map each (drop (k + 1) terms)) (flat_map each (drop k terms)) (flat_map each terms) c.as_bytes.ensures
     (rest_of each terms k c.index-terms-k.result c.loop-k-test.true c.index-terms-k.is) (before.laid name is) c.from_residual.result c.in_err-lay_term.field-0.0 c.from_residual.ensures.1
     (c.in_err-lay_term.ensures.laid name (before.kept.rows c.args.row ∙ is))
 

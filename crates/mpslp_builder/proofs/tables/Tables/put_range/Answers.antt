@@ -1,6 +1,6 @@
 use Rattle.std.proofs.Common.{refl, sym, ap, ◌∙◌, false}
 use Rattle.std.specs.Option.{option_map_or}
-use Rattle.std.specs.Prelude.{ℕ, Option}
+use Rattle.std.specs.Prelude.{ℕ, List, Option}
 use Rattle.indexmap.specs.IndexMap.{set_value_at}
 use Rattle.mpslp_model_core.specs.Limits.{is_definition_by_limits}
 use Rattle.mpslp_builder_parts.specs.RowParts.{RowParts}
