@@ -39,11 +39,8 @@ impl Model for Cells {
     ghost invariant = { λ c. IsOnceBy nat_cmp (c.near ++ c.far.entries) };
 }
 
-/// The capacity from the second coefficient on: most columns with more than one have no more than this many.
-const FEW: usize = 4;
-
-/// Puts a coefficient of a new row into the vector. Many columns have only one coefficient, so the first one allocates no
-/// spare capacity, and the second one that of a few.
+/// Puts a coefficient of a new row into the vector. Many columns have only one or two coefficients, so these allocate no spare
+/// capacity.
 fn put_near(
     near: &mut SortedMap<u32, PackedDecimal>,
     row: u32,
@@ -53,10 +50,8 @@ fn put_near(
     ensures ok { OnOk result (near.new ≡ put nat_cmp row value near.old) }
     ensures err { OnErr result (near.new ≡ near.old) }
 {
-    match near.len() {
-        0 => near.reserve_exact(1)?,
-        1 => near.reserve_exact(FEW - 1)?,
-        _ => {}
+    if near.len() < 2 {
+        near.reserve_exact(1)?;
     }
     near.put(row, value)
 }

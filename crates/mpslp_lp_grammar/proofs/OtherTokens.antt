@@ -11,16 +11,17 @@ use Rattle.mpslp_lp_grammar.specs.Rows.{objective_declared, first_item_declared,
 use Rattle.mpslp_lp_grammar.specs.declared.context.Context.{Context}
 use Rattle.mpslp_lp_tokens.specs.declared.words.SectionWord.{SectionWord}
 use Rattle.mpslp_lp_grammar.specs.declared.terminals.TerminalKind.{TerminalKind}
-use Rattle.mpslp_lp_grammar.specs.declared.terminals.TerminalKind.TheVariants.{Opens, Name, Number, Sign, Colon, Infinity}
+use Rattle.mpslp_lp_grammar.specs.declared.terminals.TerminalKind.TheVariants.{Opens, Name, Number, Sign, Compares, Colon, Infinity}
+use Rattle.mpslp_lp_grammar.specs.declared.relations.Relation.{Relation}
 use Rattle.mpslp_lp_grammar.specs.declared.states.ItemOwner.{ItemOwner}
 use Rattle.mpslp_lp_grammar.specs.declared.states.ItemOwner.TheVariants.{OfRow}
 use Rattle.mpslp_lp_grammar.specs.declared.states.Place.{Place}
 use Rattle.mpslp_lp_grammar.specs.declared.states.Place.TheVariants.{BeforeItems, InObjective, InSemis}
 use Rattle.mpslp_lp_grammar.specs.declared.states.SideOwner.{SideOwner}
-use Rattle.mpslp_lp_grammar.specs.declared.states.State.TheVariants.{AtObjective, ObjectiveName, AtSemi, ItemNumber, RowSign, AtSide}
+use Rattle.mpslp_lp_grammar.specs.declared.states.State.TheVariants.{AtObjective, ObjectiveName, AtSemi, ItemNumber, RowSign, RowNumber, AtSide}
 use Rattle.mpslp_lp_grammar.specs.AfterToken.{take_after_signs, take_side, take_limit}
 use Rattle.mpslp_lp_grammar.specs.FirstToken.{begin_phrase, begin}
-use Rattle.mpslp_lp_grammar.specs.TokenStep.{begin_after, take_lone, take}
+use Rattle.mpslp_lp_grammar.specs.TokenStep.{begin_after, refuse_constant, take_lone, take}
 
 -- ---- the first token of a phrase
 
@@ -56,6 +57,12 @@ pub row_sign-other : (context : Context) (name : List ℕ) (sign : SignOf) (kind
 row_sign-other context name sign Infinity text h k = absurd (h refl)
 row_sign-other context name sign (Number value) text h k = absurd (k value refl)
 row_sign-other context name sign _ text h k = refl
+
+pub row_number-other : (context : Context) (name : List ℕ) (sign : SignOf) (value : Decimal) (kind : TerminalKind) (text : List ℕ) → (kind ≡ Name → ⊥) → ((relation : Relation) → kind ≡ Compares relation → ⊥)
+    → take context (RowNumber name sign value) (terminal_with_text kind text) ≡ refuse_constant context (terminal_with_text kind text)
+row_number-other context name sign value Name text h k = absurd (h refl)
+row_number-other context name sign value (Compares relation) text h k = absurd (k relation refl)
+row_number-other context name sign value _ text h k = refl
 
 pub side-other : (context : Context) (sided : SideOwner) (kind : TerminalKind) (text : List ℕ) → ((sign : SignOf) → kind ≡ Sign sign → ⊥)
     → take context (AtSide sided) (terminal_with_text kind text)

@@ -1,4 +1,4 @@
-use Rattle.std.proofs.Common.{rules, ◌≡◌, ◌<◌, ◌^◌, subst, sym}
+use Rattle.std.proofs.Common.{rules, ◌≡◌, ◌<◌, ◌^◌, subst, sym, ◌∙◌}
 use Rattle.mpslp_types.specs.Name.{IsMpsName}
 use Rattle.mpslp_types.proofs.NameLemmas.{mps_name-from_lp}
 use Rattle.mpslp_lp_grammar.specs.Rows.{numbered_row}
@@ -10,4 +10,4 @@ from_legal-requires c =
     let position = c.args.position in
     let fits : position < 2 ^ 64 = c.ranges.position.fits in
     let text : c.extend_from_slice.new.self.items ≡ numbered_row position = search rules in
-    subst IsMpsName (sym text) (mps_name-from_lp (numbered_row position) (numbered-name position fits))
+    subst IsMpsName (sym (c.deref.ensures.value ∙ text)) (mps_name-from_lp (numbered_row position) (numbered-name position fits))
