@@ -1,24 +1,30 @@
 -- The lists of columns by rows, and the model.
-use Rattle.std.proofs.Common.{◌≡◌, refl, sym, ap, subst, ◌∙◌, ℕ, zero, suc, ◌+◌, ◌<◌, ◌≤◌, List, [], ◌∷◌, ◌++◌, length, Bool, true, false, cond, arith}
-use Rattle.std.specs.Prelude.{Option, Some, is_some, filter, slice_get}
+use Rattle.std.proofs.Common.{◌≡◌, refl, sym, ap, subst, ◌∙◌, ℕ, zero, suc, ◌+◌, ◌<◌, ◌≤◌, List, [], ◌∷◌, ◌++◌, length, map, Bool, true, false, cond, arith}
+use Rattle.std.specs.Prelude.{Option, Some, None, is_some, filter, slice_get, unwrap_or}
 use Rattle.std.specs.List.{All, list_all, range_with_len}
-use Rattle.std.specs.Option.{option_map}
-use Rattle.std.proofs.lemmas.List.{map-id}
+use Rattle.std.specs.Option.{option_map, option_map_or}
+use Rattle.std.specs.Ordering.{nat_cmp}
+use Rattle.std.specs.FinMap.{find}
+use Rattle.std.proofs.lemmas.List.{map-id, length-map}
+use Rattle.std.proofs.lemmas.Option.{same_Some, slice_get-map, slice_get_within, get_or_from_slice_get}
 use Rattle.std.proofs.lemmas.List.FromFn.{length-range_with_len, get_or-range_with_len, map-range_with_len_more}
 use Rattle.std.proofs.lemmas.List.Elements.{All-from_get_or, filter-append}
-use Rattle.mpslp_decimal.specs.Decimal.{Number}
+use Rattle.mpslp_decimal.specs.Decimal.{Number, zero_number}
 use Rattle.mpslp_model_core.specs.Model.{LinearModel}
-use Rattle.mpslp_model_core.specs.Views.{num_rows, num_columns, row_name, column_name, has_coefficient, row_columns}
-use Rattle.std.specs.Cmp.{first_so, second_so}
+use Rattle.mpslp_model_core.specs.Views.{num_rows, num_columns, row_name, column_name, has_coefficient, row_columns, coefficient_at}
+use Rattle.std.specs.Cmp.{first_so, second_so, nat_cmp_total}
 use Rattle.mpslp_model_core.specs.Numbered.{name_of}
 use Rattle.mpslp_model_core.specs.ModelParts.{linear_model, AreModelParts, cells_in, cells_by_name, name_of_row_key}
-use Rattle.mpslp_model_core.specs.ByRow.{list_at, column_if, has_number, cells_of, columns_with, AreIndexed}
+use Rattle.mpslp_model_core.specs.ByRow.{list_at, column_if, has_number, cells_of, columns_with, IsPlaced, AreIndexed}
+use Rattle.mpslp_model_core.specs.declared.by_row.RowElement.{RowElement}
 use Rattle.mpslp_model_core.specs.declared.by_row.RowLists.{RowLists}
 use Rattle.mpslp_model_core.specs.declared.model.ModelColumn.{ModelColumn}
 use Rattle.mpslp_model_core.specs.declared.model.ModelParts.{ModelParts}
 use Rattle.mpslp_model_core.specs.declared.row_names.RowNames.{RowNames}
-use Rattle.mpslp_model_core.proofs.NumberLemmas.{slice_get-part, all_at}
-use Rattle.mpslp_model_core.proofs.ViewLemmas.{rows_seen, count_seen, count_columns, row_numbered, cells_seen, found_seen}
+use Rattle.mpslp_model_core.proofs.CellLemmas.{number_same}
+use Rattle.mpslp_model_core.proofs.OnceLemmas.{once-sorted}
+use Rattle.mpslp_model_core.proofs.NumberLemmas.{slice_get-part, all_at, found_by}
+use Rattle.mpslp_model_core.proofs.ViewLemmas.{rows_seen, count_seen, count_columns, row_numbered, cells_seen, cells_here, found_seen, value_seen}
 
 -- ---- column by column
 
@@ -79,8 +85,13 @@ listed_below p n k j at = by (range_with_len 0 n) k (all_below (λ (j : ℕ). j 
           | false ↦ λ later. by js k (λ k d below. all (suc k) d (omega arith)) later
         ] at
 
+-- a row of the model is one of the parts
+pub row_below : {m : ModelParts} {v : LinearModel} → linear_model m ≡ v → AreModelParts m → (i : ℕ) → i < num_rows v → i < length m.rows.items
+row_below seen parts i below = subst (λ (len : ℕ). i < len) (sym (count_seen (rows_seen seen parts))) below
+
+-- the list of a row, and its columns in the model
 pub row_seen : {m : ModelParts} {v : LinearModel} {names : RowNames} (lists : RowLists) → linear_model m ≡ v → AreIndexed m lists names → (i : ℕ) → i < num_rows v
-    → list_at lists i ≡ row_columns v (row_name v i)
+    → map (λ (element : RowElement). element.column) (list_at lists i) ≡ row_columns v (row_name v i)
 row_seen {m} {v} {names} lists seen are i below =
     let columns = m.columns.items in
     let row = row_name v i in
@@ -91,9 +102,55 @@ row_seen {m} {v} {names} lists seen are i below =
     let cells = cells_of columns j in
     let there = cells_seen m are.parts v seen j cells (cells_there columns j (subst (λ (len : ℕ). j < len) (sym as_many) under)) in
     ap is_some (sym (found_seen m are.parts v seen j cells there (suc i) row (row_numbered seen are.parts i below)))) in
-    are.by_row.own i (subst (λ (len : ℕ). i < len) (sym (count_seen (rows_seen seen are.parts))) below)
+    are.by_row.own i (row_below seen are.parts i below)
     ∙ ap (columns_with columns (suc i)) as_many
     ∙ filter_alike (λ j. has_number (suc i) (cells_of columns j)) (λ j. has_coefficient v row (column_name v j)) (range_with_len 0 n) (all_below _ n alike)
+
+pub row_seen_length : {m : ModelParts} {v : LinearModel} {names : RowNames} (lists : RowLists) → linear_model m ≡ v → AreIndexed m lists names → (i : ℕ) → i < num_rows v → length (list_at lists i) ≡ length (row_columns v (row_name v i))
+row_seen_length lists seen are i below = sym (length-map (list_at lists i) (λ (element : RowElement). element.column)) ∙ ap length (row_seen lists seen are i below)
+
+-- ---- a coefficient of a row
+
+cells_found : (o : Option (List ℕ × ModelColumn)) (cells : List (ℕ × Number)) → option_map (λ (column : List ℕ × ModelColumn). column.1.cells.items) o ≡ Some cells → option_map_or (λ (column : List ℕ × ModelColumn). column.1.cells.items) o [] ≡ cells
+cells_found None cells at = absurd cc
+cells_found (Some column) cells at = cc
+
+placed_within : (cells : List (ℕ × Number)) (p n : ℕ) → option_map (λ (cell : ℕ × Number). cell.0) (slice_get cells p) ≡ Some n → p < length cells
+placed_within [] p n at = absurd cc
+placed_within (cell ∷ cells) zero n at = omega arith
+placed_within (cell ∷ cells) (suc p) n at = let later = placed_within cells p n at in omega arith
+
+-- the element of number k in the list of the row at index i
+module _ {m : ModelParts} {v : LinearModel} {names : RowNames} (lists : RowLists) (seen : linear_model m ≡ v) (are : AreIndexed m lists names) (i k : ℕ) (below : i < num_rows v) (element : RowElement) (is : slice_get (list_at lists i) k ≡ Some element) where
+  pub element_column : slice_get (row_columns v (row_name v i)) k ≡ Some element.column
+  element_column =
+      ap (λ (js : List ℕ). slice_get js k) (sym (row_seen lists seen are i below))
+      ∙ slice_get-map (λ (e : RowElement). e.column) (list_at lists i) k
+      ∙ ap (option_map (λ (e : RowElement). e.column)) is
+
+  pub element_below : element.column < num_columns v
+  element_below = listed_below (λ j. has_coefficient v (row_name v i) (column_name v j)) (num_columns v) k element.column element_column
+
+  -- its coefficient is at its place in its column
+  module _ (columns : List (List ℕ × ModelColumn)) (cells : List (ℕ × Number)) (same : columns ≡ m.columns.items) (at : option_map (λ (column : List ℕ × ModelColumn). column.1.cells.items) (slice_get columns element.column) ≡ Some cells) where
+    number_placed : option_map (λ (cell : ℕ × Number). cell.0) (slice_get cells element.place) ≡ Some (suc i)
+    number_placed =
+        let list = list_at lists i in
+        let placed = subst (λ (cs : List (List ℕ × ModelColumn)). All (IsPlaced cs (suc i)) list) (sym same) (are.by_row.placed i (row_below seen are.parts i below)) in
+        let here : IsPlaced columns (suc i) element = subst (IsPlaced columns (suc i)) (get_or_from_slice_get list k element element is) (placed k element (slice_get_within list k element is)) in
+        ap (λ (es : List (ℕ × Number)). option_map (λ (cell : ℕ × Number). cell.0) (slice_get es element.place)) (sym (cells_found (slice_get columns element.column) cells at))
+        ∙ here
+
+    pub element_placed : element.place < length cells
+    element_placed = placed_within cells element.place (suc i) number_placed
+
+    pub element_value : (cell : ℕ × Number) → slice_get cells element.place ≡ Some cell → cell.1 ≡ coefficient_at v (row_name v i) (column_name v element.column)
+    element_value cell there =
+        let number : cell.0 ≡ suc i = same_Some cell.0 (suc i) (ap (option_map (λ (c : ℕ × Number). c.0)) (sym there) ∙ number_placed) in
+        let own_cells = cells_here m are.parts v seen element.column columns cells same at in
+        ap (λ (o : Option Number). unwrap_or o zero_number)
+        (sym (found_by nat_cmp nat_cmp_total number_same cells element.place cell (once-sorted nat_cmp nat_cmp_total cells own_cells.sorted) there) ∙ ap (λ (n : ℕ). find nat_cmp n cells) number)
+        ∙ value_seen m are.parts v seen element.column cells own_cells (suc i) (row_name v i) (row_numbered seen are.parts i below)
 
 -- ---- what accessors find in the parts
 

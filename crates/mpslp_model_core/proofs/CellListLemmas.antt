@@ -1,5 +1,5 @@
 -- The coefficients of a column by row number: the first is the objective's, or the objective has none.
-use Rattle.std.proofs.Common.{◌≡◌, refl, sym, ap, ◌∙◌, ℕ, zero, suc, ◌≤◌, ◌<◌, ◌-◌, List, [], ◌∷◌, length, take, drop, true, cond, arith}
+use Rattle.std.proofs.Common.{◌≡◌, refl, sym, ap, ◌∙◌, ℕ, zero, suc, ◌+◌, ◌≤◌, ◌<◌, ◌-◌, List, [], ◌∷◌, length, take, drop, true, cond, arith}
 use Rattle.std.specs.Prelude.{Some, None, slice_get, get_or}
 use Rattle.std.proofs.lemmas.List.{take_all}
 use Rattle.std.specs.Ordering.{is_eq, is_lt, nat_cmp, MatchOrdering}
@@ -61,3 +61,20 @@ above_zero [] k e at = absurd cc
 above_zero ((zero, x) ∷ es) k e at = above_zero es k e at
 above_zero ((suc n, x) ∷ es) zero e at = let same : suc n ≡ e.0 = cc in omega arith
 above_zero ((suc n, x) ∷ es) (suc k) e at = above_zero es k e at
+
+-- numbers above another one ascend, so each exceeds that by its index
+above_by_index : (n : ℕ) (cells : List (ℕ × Number)) (m : ℕ) (d : ℕ × Number) → below_all nat_cmp n cells ≡ true → is_sorted nat_cmp cells ≡ true → m < length cells → n + m < (get_or cells m d).0
+above_by_index n [] m d above h below = absurd (omega arith)
+above_by_index n (c ∷ cells) zero d above h below = let next = is_below n c.0 (first_so (is_lt (nat_cmp n c.0)) (below_all nat_cmp n cells) above) in omega arith
+above_by_index n (c ∷ cells) (suc m) d above h below =
+    let next = is_below n c.0 (first_so (is_lt (nat_cmp n c.0)) (below_all nat_cmp n cells) above) in
+    let later = above_by_index c.0 cells m d (first_so (below_all nat_cmp c.0 cells) (is_sorted nat_cmp cells) h) (second_so (below_all nat_cmp c.0 cells) (is_sorted nat_cmp cells) h) (omega arith) in
+    omega arith
+
+-- a coefficient's number is at least its index
+pub index_within : (cells : List (ℕ × Number)) (m : ℕ) (d : ℕ × Number) → is_sorted nat_cmp cells ≡ true → m < length cells → m ≤ (get_or cells m d).0
+index_within [] m d h below = absurd (omega arith)
+index_within (c ∷ cells) zero d h below = omega arith
+index_within (c ∷ cells) (suc m) d h below =
+    let later = above_by_index c.0 cells m d (first_so (below_all nat_cmp c.0 cells) (is_sorted nat_cmp cells) h) (second_so (below_all nat_cmp c.0 cells) (is_sorted nat_cmp cells) h) (omega arith) in
+    omega arith

@@ -1,22 +1,24 @@
--- How the lists of columns by rows are filled, coefficient by coefficient.
-use Rattle.std.proofs.Common.{◌≡◌, refl, sym, ap, subst, ◌∙◌, ℕ, zero, suc, ◌+◌, ◌-◌, ◌<◌, ◌≤◌, List, [], ◌∷◌, ◌++◌, length, take, drop, Bool, true, false, cond, get_or, sum, ◌⊎◌, inl, inr, add-one, add-zero, add-suc, zero-add, le_trans, arith}
+-- How the lists by rows are filled, coefficient by coefficient.
+use Rattle.std.proofs.Common.{◌≡◌, refl, sym, ap, subst, ◌∙◌, ℕ, zero, suc, ◌+◌, ◌-◌, ◌<◌, ◌≤◌, List, [], ◌∷◌, ◌++◌, length, map, take, drop, Bool, true, false, cond, get_or, sum, ◌⊎◌, inl, inr, add-one, add-zero, add-suc, zero-add, le_trans, arith}
 use Rattle.std.specs.Prelude.{Option, Some, None, is_some, slice_get}
 use Rattle.std.specs.List.{All, list_all}
-use Rattle.std.specs.Option.{option_map_or}
+use Rattle.std.specs.Option.{option_map, option_map_or}
 use Rattle.std.specs.Ordering.{eq_by_cmp, nat_cmp}
 use Rattle.std.specs.FinMap.{find, is_sorted}
 use Rattle.std.specs.Cmp.{nat_cmp_total}
 use Rattle.std.proofs.lemmas.Bool.{cases_order, cases_lt, cases_Bool, both_ways}
-use Rattle.std.proofs.lemmas.List.{append-nil, append_assoc, length-append, length-drop, length-take-le, take-append-drop, take_all, take_more, get_or_append_left, get_or_push, get_or-take, get_or-drop}
+use Rattle.std.proofs.lemmas.List.{append-nil, append_assoc, length-append, length-drop, length-take-le, take-append-drop, take_all, take_more, get_or-map, get_or_append_left, get_or_push, get_or-take, get_or-drop, length-map}
 use Rattle.std.proofs.lemmas.List.Sums.{fold_push}
 use Rattle.std.proofs.lemmas.Option.{slice_get-get_or}
 use Rattle.std.proofs.lemmas.Grind.{same_number_lists}
 use Rattle.mpslp_decimal.specs.Decimal.{Number}
 use Rattle.mpslp_model_core.specs.Numbered.{IsOnceBy}
-use Rattle.mpslp_model_core.specs.ByRow.{list_at, column_if, has_number, cells_of, columns_with, AreWithin, HasCounted, AreCounts, start_of, AreByRow}
+use Rattle.mpslp_model_core.specs.ByRow.{list_at, HasList, column_if, has_number, cells_of, columns_with, AreWithin, HasCounted, AreCounts, start_of, IsPlaced, AreByRow}
+use Rattle.mpslp_model_core.specs.declared.by_row.RowElement.{RowElement}
 use Rattle.mpslp_model_core.specs.declared.by_row.RowLists.{RowLists}
 use Rattle.mpslp_model_core.specs.declared.model.ModelColumn.{ModelColumn}
 use Rattle.mpslp_model_core.proofs.CellLemmas.{number_same, number_tied, or_else, find-two}
+use Rattle.mpslp_model_core.proofs.CellListLemmas.{index_within}
 use Rattle.mpslp_model_core.proofs.OnceLemmas.{passed, once-sorted}
 use Rattle.mpslp_model_core.proofs.NumberLemmas.{all_at}
 use Rattle.mpslp_model_core.proofs.ByRowLemmas.{columns_more}
@@ -84,11 +86,24 @@ module _ (columns : List (List ℕ × ModelColumn)) (k : ℕ) (column : List ℕ
   there : cells ≡ cells_of columns k
   there = items ∙ cells_read columns k column below read
 
+  pub cell_placed : option_map (λ (c : ℕ × Number). c.0) (slice_get (cells_of columns k) m) ≡ Some cell.0
+  cell_placed =
+      ap (λ (es : List (ℕ × Number)). option_map (λ (c : ℕ × Number). c.0) (slice_get es m)) (sym there)
+      ∙ ap (option_map (λ (c : ℕ × Number). c.0)) (slice_get-get_or cells m cell under ∙ ap Some (sym is))
+
+  own_order : list_all (λ (c : List ℕ × ModelColumn). is_sorted nat_cmp c.1.cells.items) columns ≡ true → is_sorted nat_cmp cells ≡ true
+  own_order sorted =
+      ap (is_sorted nat_cmp) items
+      ∙ all_at (λ (c : List ℕ × ModelColumn). is_sorted nat_cmp c.1.cells.items) columns k column sorted (slice_get-get_or columns k column below ∙ ap Some (sym read))
+
+  -- so the index has 32 bits if the number has
+  pub cell_index : list_all (λ (c : List ℕ × ModelColumn). is_sorted nat_cmp c.1.cells.items) columns ≡ true → m ≤ cell.0
+  cell_index sorted = subst (λ (e : ℕ × Number). m ≤ e.0) (sym is) (index_within cells m cell (own_order sorted) under)
+
   pub cell_noted : list_all (λ (c : List ℕ × ModelColumn). is_sorted nat_cmp c.1.cells.items) columns ≡ true
       → (i : ℕ) → noted columns k (m + 1) i ≡ noted columns k m i ++ column_if (eq_by_cmp nat_cmp (suc i) cell.0) k
   cell_noted sorted i =
-      let at : slice_get columns k ≡ Some column = slice_get-get_or columns k column below ∙ ap Some (sym read) in
-      let ordered : is_sorted nat_cmp (cells_of columns k) ≡ true = ap (is_sorted nat_cmp) (sym (cells_read columns k column below read)) ∙ all_at (λ (c : List ℕ × ModelColumn). is_sorted nat_cmp c.1.cells.items) columns k column sorted at in
+      let ordered : is_sorted nat_cmp (cells_of columns k) ≡ true = ap (is_sorted nat_cmp) (sym there) ∙ own_order sorted in
       let number : (get_or (cells_of columns k) m cell).0 ≡ cell.0 = ap (λ (es : List (ℕ × Number)). (get_or es m cell).0) (sym there) ∙ ap (λ (e : ℕ × Number). e.0) (sym is) in
       noted_more columns k m cell (subst (λ (es : List (ℕ × Number)). m < length es) there under) (once-sorted nat_cmp nat_cmp_total (cells_of columns k) ordered) i
       ∙ ap (λ (n : ℕ). noted columns k m i ++ column_if (eq_by_cmp nat_cmp (suc i) n) k) number
@@ -230,19 +245,26 @@ counted_more {rows} {own} {next} {old} {new} number column are more len objectiv
   own = λ i below. counted i ∙ ap (λ (n : ℕ). n + cond (eq_by_cmp nat_cmp (suc i) number) 1 0) (are.own i below) ∙ sym (one_longer own next number column more i);
 }
 
+-- the element of a column in the list of the row of this number
+abbrev pub IsListed : List (List ℕ × ModelColumn) → ℕ → ℕ → RowElement → Type 0
+IsListed columns n column element = (element.column ≡ column) × IsPlaced columns n element
+
+pub listed_same : (columns : List (List ℕ × ModelColumn)) (n : ℕ) {j k : ℕ} {e f : RowElement} → j ≡ k → e ≡ f → IsListed columns n j e → IsListed columns n k f
+listed_same columns n same moved listed = (ap (λ (e : RowElement). e.column) (sym moved) ∙ listed.0 ∙ same, subst (IsPlaced columns n) moved listed.1)
+
 -- the lists so far, each from its start to its end
-pub record ArePut (columns : List (List ℕ × ModelColumn)) (rows : ℕ) (own : ℕ → List ℕ) (row_ends list : List ℕ) : Type 0 where
+pub record ArePut (columns : List (List ℕ × ModelColumn)) (rows : ℕ) (own : ℕ → List ℕ) (row_ends : List ℕ) (list : List RowElement) : Type 0 where
   pub len : length row_ends ≡ suc rows
   pub room : length list ≡ start_of columns rows
   pub objective : get_or row_ends 0 0 ≡ 0
   pub ends : (i : ℕ) → i < rows → get_or row_ends (suc i) 0 ≡ start_of columns i + length (own i)
-  pub put : (i p : ℕ) → i < rows → p < length (own i) → get_or list (start_of columns i + p) 0 ≡ get_or (own i) p 0
+  pub put : (i p : ℕ) (d : RowElement) → i < rows → p < length (own i) → IsListed columns (suc i) (get_or (own i) p 0) (get_or list (start_of columns i + p) d)
 
-pub put_same : {columns : List (List ℕ × ModelColumn)} {rows : ℕ} {own next : ℕ → List ℕ} {ends list : List ℕ} → ((i : ℕ) → own i ≡ next i) → ArePut columns rows own ends list → ArePut columns rows next ends list
+pub put_same : {columns : List (List ℕ × ModelColumn)} {rows : ℕ} {own next : ℕ → List ℕ} {ends : List ℕ} {list : List RowElement} → ((i : ℕ) → own i ≡ next i) → ArePut columns rows own ends list → ArePut columns rows next ends list
 put_same {columns} {rows} {own} {next} {ends} {list} same are = subst (λ (lists : ℕ → List ℕ). ArePut columns rows lists ends list) (λ t i. same i t) are
 
 -- there is room for a coefficient that is not noted yet
-pub put_fits : {columns : List (List ℕ × ModelColumn)} {rows : ℕ} {own next : ℕ → List ℕ} {row_ends list : List ℕ} (number column : ℕ) → ArePut columns rows own row_ends list → number ≤ rows
+pub put_fits : {columns : List (List ℕ × ModelColumn)} {rows : ℕ} {own next : ℕ → List ℕ} {row_ends : List ℕ} {list : List RowElement} (number column : ℕ) → ArePut columns rows own row_ends list → number ≤ rows
     → ((i : ℕ) → next i ≡ own i ++ column_if (eq_by_cmp nat_cmp (suc i) number) column)
     → ((i : ℕ) → length (next i) ≤ length (columns_with columns (suc i) (length columns)))
     → 0 < number → get_or row_ends number 0 < length list
@@ -256,23 +278,23 @@ put_fits {columns} {rows} {own} {next} {row_ends} {list} (suc i) column are belo
     omega arith
 
 -- before the first column
-pub put_none : (columns : List (List ℕ × ModelColumn)) (rows : ℕ) (counts starts list : List ℕ) → AreCounts columns rows counts → length starts ≡ length counts
+pub put_none : (columns : List (List ℕ × ModelColumn)) (rows : ℕ) (counts starts : List ℕ) (list : List RowElement) → AreCounts columns rows counts → length starts ≡ length counts
     → ((i : ℕ) → i < length counts → get_or starts i 0 ≡ sum (take i counts)) → length list ≡ sum counts → ArePut columns rows (λ i. columns_with columns (suc i) 0) starts list
 put_none columns rows counts starts list are len sums room = record {
   len = len ∙ are.len;
   room = room ∙ ap sum (sym (take_all (suc rows) counts (let some = are.len in omega arith))) ∙ sums_are_starts columns rows counts are rows (omega arith);
   objective = sums 0 (let some = are.len in omega arith);
   ends = λ i below. sums (suc i) (let some = are.len in omega arith) ∙ sums_are_starts columns rows counts are i (omega arith) ∙ sym (add-zero (start_of columns i));
-  put = λ i p below under. absurd (omega arith);
+  put = λ i p d below under. absurd (omega arith);
 }
 
-module _ (columns : List (List ℕ × ModelColumn)) (rows : ℕ) (own next : ℕ → List ℕ) (old_ends old_list ends list : List ℕ) (number column : ℕ)
+module _ (columns : List (List ℕ × ModelColumn)) (rows : ℕ) (own next : ℕ → List ℕ) (old_ends : List ℕ) (old_list : List RowElement) (ends : List ℕ) (list : List RowElement) (number column : ℕ)
     (are : ArePut columns rows own old_ends old_list)
     (row : number ≤ rows)
     (more : (i : ℕ) → next i ≡ own i ++ column_if (eq_by_cmp nat_cmp (suc i) number) column)
     (fits : (i : ℕ) → length (next i) ≤ length (columns_with columns (suc i) (length columns)))
-    (placed : 0 < number → get_or list (get_or old_ends number 0) 0 ≡ column)
-    (kept : (p : ℕ) → (0 < number → p ≡ get_or old_ends number 0 → ⊥) → get_or list p 0 ≡ get_or old_list p 0) where
+    (placed : 0 < number → (d : RowElement) → IsListed columns number column (get_or list (get_or old_ends number 0) d))
+    (kept : (p : ℕ) (d : RowElement) → (0 < number → p ≡ get_or old_ends number 0 → ⊥) → get_or list p d ≡ get_or old_list p d) where
   next_length : (i : ℕ) → length (next i) ≡ length (own i) + cond (eq_by_cmp nat_cmp (suc i) number) 1 0
   next_length = one_longer own next number column more
 
@@ -291,8 +313,8 @@ module _ (columns : List (List ℕ × ModelColumn)) (rows : ℕ) (own next : ℕ
       let tie : eq_by_cmp nat_cmp (suc i) number ≡ true = number_tied (suc i) number (ap (λ (n : ℕ). suc n) one ∙ sym is) in
       both_ways (eq_by_cmp nat_cmp (suc i) number) other tie
 
-  put_own : (i p : ℕ) → i < rows → p < length (next i) → eq_by_cmp nat_cmp (suc i) number ≡ true → get_or list (start_of columns i + p) 0 ≡ get_or (next i) p 0
-  put_own i p below under tie = by (cases_lt p (length (own i)))
+  put_own : (i p : ℕ) (d : RowElement) → i < rows → p < length (next i) → eq_by_cmp nat_cmp (suc i) number ≡ true → IsListed columns (suc i) (get_or (next i) p 0) (get_or list (start_of columns i + p) d)
+  put_own i p d below under tie = by (cases_lt p (length (own i)))
     where
       is : suc i ≡ number
       is = number_same (suc i) number tie
@@ -306,28 +328,32 @@ module _ (columns : List (List ℕ × ModelColumn)) (rows : ℕ) (own next : ℕ
       end : get_or old_ends number 0 ≡ start_of columns i + length (own i)
       end = ap (λ (n : ℕ). get_or old_ends n 0) (sym is) ∙ are.ends i below
 
-      by : (p < length (own i)) ⊎ (length (own i) ≤ p) → get_or list (start_of columns i + p) 0 ≡ get_or (next i) p 0
+      by : (p < length (own i)) ⊎ (length (own i) ≤ p) → IsListed columns (suc i) (get_or (next i) p 0) (get_or list (start_of columns i + p) d)
       by (inl before) =
           let last = end in
-          kept (start_of columns i + p) (λ some same. omega arith)
-          ∙ are.put i p below before ∙ sym (get_or_append_left (own i) (column ∷ []) 0 p before) ∙ ap (λ (l : List ℕ). get_or l p 0) (sym now)
+          listed_same columns (suc i)
+          (sym (get_or_append_left (own i) (column ∷ []) 0 p before) ∙ ap (λ (l : List ℕ). get_or l p 0) (sym now))
+          (sym (kept (start_of columns i + p) d (λ some same. omega arith)))
+          (are.put i p d below before)
       by (inr after) =
           let whole : length (own i) ≡ p = let len = longer in omega arith in
-          ap (λ (q : ℕ). get_or list q 0) (ap (λ (q : ℕ). start_of columns i + q) (sym whole) ∙ sym end)
-          ∙ placed (let same = is in omega arith) ∙ sym (get_or_push (own i) column 0 p whole) ∙ ap (λ (l : List ℕ). get_or l p 0) (sym now)
+          listed_same columns (suc i)
+          (sym (get_or_push (own i) column 0 p whole) ∙ ap (λ (l : List ℕ). get_or l p 0) (sym now))
+          (ap (λ (q : ℕ). get_or list q d) (end ∙ ap (λ (q : ℕ). start_of columns i + q) whole))
+          (subst (λ (n : ℕ). IsListed columns n column (get_or list (get_or old_ends number 0) d)) (sym is) (placed (let same = is in omega arith) d))
 
-  put_other : (i p : ℕ) → i < rows → p < length (next i) → eq_by_cmp nat_cmp (suc i) number ≡ false → get_or list (start_of columns i + p) 0 ≡ get_or (next i) p 0
-  put_other i p below under other =
+  put_other : (i p : ℕ) (d : RowElement) → i < rows → p < length (next i) → eq_by_cmp nat_cmp (suc i) number ≡ false → IsListed columns (suc i) (get_or (next i) p 0) (get_or list (start_of columns i + p) d)
+  put_other i p d below under other =
       let now : next i ≡ own i = more i ∙ ap (λ (b : Bool). own i ++ column_if b column) other ∙ append-nil (own i) in
       let inside : p < length (own i) = subst (λ (l : List ℕ). p < length l) now under in
-      kept (start_of columns i + p) (elsewhere i p inside other) ∙ are.put i p below inside ∙ ap (λ (l : List ℕ). get_or l p 0) (sym now)
+      listed_same columns (suc i) (ap (λ (l : List ℕ). get_or l p 0) (sym now)) (sym (kept (start_of columns i + p) d (elsewhere i p inside other))) (are.put i p d below inside)
 
-  put_at : (i p : ℕ) → i < rows → p < length (next i) → get_or list (start_of columns i + p) 0 ≡ get_or (next i) p 0
-  put_at i p below under = by (cases_Bool (eq_by_cmp nat_cmp (suc i) number))
+  put_at : (i p : ℕ) (d : RowElement) → i < rows → p < length (next i) → IsListed columns (suc i) (get_or (next i) p 0) (get_or list (start_of columns i + p) d)
+  put_at i p d below under = by (cases_Bool (eq_by_cmp nat_cmp (suc i) number))
     where
-      by : (eq_by_cmp nat_cmp (suc i) number ≡ true) ⊎ (eq_by_cmp nat_cmp (suc i) number ≡ false) → get_or list (start_of columns i + p) 0 ≡ get_or (next i) p 0
-      by (inl tie) = put_own i p below under tie
-      by (inr other) = put_other i p below under other
+      by : (eq_by_cmp nat_cmp (suc i) number ≡ true) ⊎ (eq_by_cmp nat_cmp (suc i) number ≡ false) → IsListed columns (suc i) (get_or (next i) p 0) (get_or list (start_of columns i + p) d)
+      by (inl tie) = put_own i p d below under tie
+      by (inr other) = put_other i p d below under other
 
   pub put_more : length ends ≡ length old_ends → length list ≡ length old_list → get_or ends 0 0 ≡ get_or old_ends 0 0 → HasCounted number old_ends ends → ArePut columns rows next ends list
   put_more ends_len list_len objective counted = record {
@@ -343,49 +369,72 @@ module _ (columns : List (List ℕ × ModelColumn)) (rows : ℕ) (own next : ℕ
   }
 
 -- with all columns the lists are done
-pub lists_from_put : (columns : List (List ℕ × ModelColumn)) (rows : ℕ) (lists : RowLists)
-    → ArePut columns rows (λ i. columns_with columns (suc i) (length columns)) lists.starts.items lists.columns.items → AreByRow columns rows lists
-lists_from_put columns rows lists are = record {
-  len = are.len;
-  starts = starts;
-  room = are.room;
-  own = own;
-}
-  where
-    starts : (i : ℕ) → i ≤ rows → get_or lists.starts.items i 0 ≡ start_of columns i
-    starts zero below = are.objective
-    starts (suc i) below = are.ends i below
+module _ (columns : List (List ℕ × ModelColumn)) (rows : ℕ) (lists : RowLists) (are : ArePut columns rows (λ i. columns_with columns (suc i) (length columns)) lists.starts.items lists.elements.items) where
+  all_starts : (i : ℕ) → i ≤ rows → get_or lists.starts.items i 0 ≡ start_of columns i
+  all_starts zero below = are.objective
+  all_starts (suc i) below = are.ends i below
 
-    own : (i : ℕ) → i < rows → list_at lists i ≡ columns_with columns (suc i) (length columns)
-    own i below =
-        let list = lists.columns.items in
+  module _ (i : ℕ) (below : i < rows) where
+    abbrev own_columns : List ℕ
+    own_columns = columns_with columns (suc i) (length columns)
+
+    -- the list, as it was filled
+    abbrev filled : List RowElement
+    filled = take (length own_columns) (drop (start_of columns i) lists.elements.items)
+
+    list_filled : list_at lists i ≡ filled
+    list_filled =
         let start = start_of columns i in
-        let count = length (columns_with columns (suc i) (length columns)) in
-        let first : get_or lists.starts.items i 0 ≡ start = starts i (omega arith) in
-        let end : get_or lists.starts.items (suc i) 0 ≡ start + count = starts (suc i) below in
-        let far : start_of columns (suc i) ≤ start_of columns rows = starts_rise columns (suc i) rows below in
-        let left = length-drop start list in
-        let room = are.room in
-        let len : length (take count (drop start list)) ≡ count = length-take-le count (drop start list) (omega arith) in
+        let count = length own_columns in
+        let first : get_or lists.starts.items i 0 ≡ start = all_starts i (omega arith) in
+        let end : get_or lists.starts.items (suc i) 0 ≡ start + count = all_starts (suc i) below in
         let taken : start + count - start ≡ count = omega arith in
-        (λ t. take (end t - first t) (drop (first t) list))
-        ∙ ap (λ (n : ℕ). take n (drop start list)) taken
-        ∙ same_number_lists (take count (drop start list)) (columns_with columns (suc i) (length columns)) len
+        (λ t. take (end t - first t) (drop (first t) lists.elements.items)) ∙ ap (λ (n : ℕ). take n (drop start lists.elements.items)) taken
+
+    filled_length : length filled ≡ length own_columns
+    filled_length =
+        let far : start_of columns (suc i) ≤ start_of columns rows = starts_rise columns (suc i) rows below in
+        let left = length-drop (start_of columns i) lists.elements.items in
+        let room = are.room in
+        length-take-le (length own_columns) (drop (start_of columns i) lists.elements.items) (omega arith)
+
+    filled_at : (p : ℕ) (d : RowElement) → p < length filled → IsListed columns (suc i) (get_or own_columns p 0) (get_or filled p d)
+    filled_at p d under =
+        let inside : p < length own_columns = subst (λ (n : ℕ). p < n) filled_length under in
+        listed_same columns (suc i) refl
+        (sym (get_or-take (length own_columns) (drop (start_of columns i) lists.elements.items) p d inside ∙ get_or-drop (start_of columns i) lists.elements.items p d))
+        (are.put i p d below inside)
+
+    own_filled : map (λ (e : RowElement). e.column) filled ≡ own_columns
+    own_filled =
+        let column : RowElement → ℕ = λ e. e.column in
+        let none : RowElement = record { column = 0; place = 0 } in
+        let len = length-map filled column in
+        same_number_lists (map column filled) own_columns (len ∙ filled_length)
         (λ p under.
-        let inside : p < count = subst (λ (n : ℕ). p < n) len under in
-        get_or-take count (drop start list) p 0 inside ∙ get_or-drop start list p 0 ∙ are.put i p below inside)
+        let inside : p < length filled = subst (λ (n : ℕ). p < n) len under in
+        get_or-map column filled p none 0 inside ∙ (filled_at p none inside).0)
+
+  pub lists_from_put : AreByRow columns rows lists
+  lists_from_put = record {
+    len = are.len;
+    starts = all_starts;
+    room = are.room;
+    own = λ i below. ap (map (λ (e : RowElement). e.column)) (list_filled i below) ∙ own_filled i below;
+    placed = λ i below. subst (All (IsPlaced columns (suc i))) (sym (list_filled i below)) (λ p d under. (filled_at i below p d under).1);
+  }
 
 -- ---- the list of a row
 
-pub list_ordered : {columns : List (List ℕ × ModelColumn)} {rows : ℕ} {lists : RowLists} → AreByRow columns rows lists → (i : ℕ) → i < rows → get_or lists.starts.items i 0 ≤ get_or lists.starts.items (suc i) 0
-list_ordered {columns} are i below =
+pub has_list : {columns : List (List ℕ × ModelColumn)} {rows : ℕ} {lists : RowLists} → AreByRow columns rows lists → (i : ℕ) → i < rows → HasList lists i
+has_list {columns} {rows} {lists} are i below =
     let start = are.starts i (omega arith) in
     let end = are.starts (suc i) below in
-    omega arith
-
-pub list_inside : {columns : List (List ℕ × ModelColumn)} {rows : ℕ} {lists : RowLists} → AreByRow columns rows lists → (i : ℕ) → i < rows → get_or lists.starts.items (suc i) 0 ≤ length lists.columns.items
-list_inside {columns} {rows} are i below =
-    let end = are.starts (suc i) below in
+    let len = are.len in
     let room = are.room in
     let far : start_of columns (suc i) ≤ start_of columns rows = starts_rise columns (suc i) rows below in
-    omega arith
+    record {
+      row = omega arith;
+      order = omega arith;
+      room = omega arith;
+    }

@@ -4,14 +4,14 @@ use Rattle.std.specs.Prelude.{Option, Some, None, slice_get, ◌||◌, ◌&&◌}
 use Rattle.std.specs.Option.{option_map}
 use Rattle.std.specs.List.{list_all}
 use Rattle.std.specs.Ordering.{is_eq, is_lt, eq_by_cmp, nat_cmp, MatchOrdering}
-use Rattle.std.specs.Cmp.{first_so, second_so, tied_itself, ranks}
+use Rattle.std.specs.Cmp.{IsTotalOrder, first_so, second_so, tied_itself, ranks}
 use Rattle.std.specs.Cmp.Lexicographic.{nat_list_eq_equiv, bytes_decides}
 use Rattle.std.specs.declared.cmp.Ordering.{Ordering}
 use Rattle.std.specs.declared.cmp.Ordering.TheVariants.{Less, Equal, Greater}
 use Rattle.std.specs.FinMap.{find, is_sorted}
 use Rattle.std.specs.FinMap.Entries.{below_all}
 use Rattle.mpslp_types.specs.Name.{same_bytes, is_one_of, bytes_cmp}
-use Rattle.mpslp_model_core.specs.Numbered.{each_part, name_of, TellsApart, IsOnce}
+use Rattle.mpslp_model_core.specs.Numbered.{each_part, name_of, TellsApart, IsOnceBy, IsOnce}
 use Rattle.mpslp_model_core.proofs.KeyLemmas.{bytes_total}
 use Rattle.mpslp_model_core.proofs.CellLemmas.{name_same}
 use Rattle.mpslp_model_core.proofs.CellListLemmas.{is_below}
@@ -136,20 +136,24 @@ pub once_sorted : {X : Type 0} (es : List (List ℕ × X)) → is_sorted bytes_c
 once_sorted [] h = tt
 once_sorted (e ∷ es) h = (none_below e.0 es (first_so (below_all bytes_cmp e.0 es) (is_sorted bytes_cmp es) h), once_sorted es (second_so (below_all bytes_cmp e.0 es) (is_sorted bytes_cmp es) h))
 
--- the entry of a number is found by its name
-pub found_at : {X : Type 0} (es : List (List ℕ × X)) (i : ℕ) (e : List ℕ × X) → IsOnce es → slice_get es i ≡ Some e → find bytes_cmp e.0 es ≡ Some e.1
-found_at [] i e once at = absurd cc
-found_at {X} (d ∷ es) zero e once at =
-    let same : ◌≡◌ {A = List ℕ × X} d e = cc in
-    ap (λ (x : List ℕ × X). find bytes_cmp e.0 (x ∷ es)) same ∙ ap (λ (r : Ordering). cond (is_eq r) (Some e.1) (find bytes_cmp e.0 es)) (tied_itself bytes_total e.0)
-found_at {X} (d ∷ es) (suc i) e once at =
-    let later = found_at es i e once.1 at in
-    elim (eq_by_cmp bytes_cmp e.0 d.0) as (λ b. eq_by_cmp bytes_cmp e.0 d.0 ≡ b → cond b (Some d.1) (find bytes_cmp e.0 es) ≡ Some e.1) [
+-- the entry at an index is found by its key
+pub found_by : {K X : Type 0} (R : K → K → Ordering) → IsTotalOrder R → ((p q : K) → eq_by_cmp R p q ≡ true → p ≡ q) → (es : List (K × X)) (i : ℕ) (e : K × X) → IsOnceBy R es → slice_get es i ≡ Some e
+    → find R e.0 es ≡ Some e.1
+found_by R total same [] i e once at = absurd cc
+found_by {K} {X} R total same (d ∷ es) zero e once at =
+    let here : ◌≡◌ {A = K × X} d e = cc in
+    ap (λ (x : K × X). find R e.0 (x ∷ es)) here ∙ ap (λ (r : Ordering). cond (is_eq r) (Some e.1) (find R e.0 es)) (tied_itself total e.0)
+found_by {K} {X} R total same (d ∷ es) (suc i) e once at =
+    let later = found_by R total same es i e once.1 at in
+    elim (eq_by_cmp R e.0 d.0) as (λ b. eq_by_cmp R e.0 d.0 ≡ b → cond b (Some d.1) (find R e.0 es) ≡ Some e.1) [
       | true ↦ λ tie.
-          let no : ◌≡◌ {A = Option X} None (Some e.1) = sym once.0 ∙ ap (λ (k : List ℕ). find bytes_cmp k es) (sym (name_same e.0 d.0 tie)) ∙ later in
+          let no : ◌≡◌ {A = Option X} None (Some e.1) = sym once.0 ∙ ap (λ (k : K). find R k es) (sym (same e.0 d.0 tie)) ∙ later in
           absurd cc
       | false ↦ λ _. later
     ] refl
+
+pub found_at : {X : Type 0} (es : List (List ℕ × X)) (i : ℕ) (e : List ℕ × X) → IsOnce es → slice_get es i ≡ Some e → find bytes_cmp e.0 es ≡ Some e.1
+found_at es i e once at = found_by bytes_cmp bytes_total name_same es i e once at
 
 -- a property of all entries is one of the entry at a number
 pub all_at : {X : Type 0} (p : X → Bool) (es : List X) (i : ℕ) (e : X) → list_all p es ≡ true → slice_get es i ≡ Some e → p e ≡ true

@@ -1,20 +1,27 @@
--- Which columns have a coefficient in each row.
-use Rattle.std.specs.Prelude.{◌≡◌, ◌≤◌, ◌<◌, ◌+◌, ℕ, zero, suc, Bool, List, [], ◌∷◌, length, filter, is_some, slice_get, slice_index, slice_range, if◌then◌else◌}
+-- Which columns have a coefficient in each row, and where.
+use Rattle.std.specs.Prelude.{◌≡◌, ◌≤◌, ◌<◌, ◌+◌, ℕ, zero, suc, Bool, List, [], ◌∷◌, Some, length, filter, map, is_some, slice_get, slice_index, slice_range, if◌then◌else◌}
 use Rattle.std.specs.List.{All, range_with_len}
-use Rattle.std.specs.Option.{option_map_or}
+use Rattle.std.specs.Option.{option_map, option_map_or}
 use Rattle.std.specs.Ordering.{eq_by_cmp, nat_cmp}
 use Rattle.std.specs.FinMap.{find}
 use Rattle.mpslp_decimal.specs.Decimal.{Number}
 use Rattle.mpslp_model_core.specs.ModelParts.{AreModelParts}
 use Rattle.mpslp_model_core.specs.RowNames.{AreNames}
+use Rattle.mpslp_model_core.specs.declared.by_row.RowElement.{RowElement}
 use Rattle.mpslp_model_core.specs.declared.by_row.RowLists.{RowLists}
 use Rattle.mpslp_model_core.specs.declared.model.ModelColumn.{ModelColumn}
 use Rattle.mpslp_model_core.specs.declared.model.ModelParts.{ModelParts}
 use Rattle.mpslp_model_core.specs.declared.row_names.RowNames.{RowNames}
 
 -- the list of the row at an index
-abbrev pub list_at : RowLists → ℕ → List ℕ
-list_at lists i = slice_range lists.columns.items (slice_index lists.starts.items i) (slice_index lists.starts.items (suc i))
+abbrev pub list_at : RowLists → ℕ → List RowElement
+list_at lists i = slice_range lists.elements.items (slice_index lists.starts.items i) (slice_index lists.starts.items (suc i))
+
+-- there is a row at this index, and its list is within the vector
+pub record HasList (lists : RowLists) (i : ℕ) : Type 0 where
+  pub row : suc i < length lists.starts.items
+  pub order : slice_index lists.starts.items i ≤ slice_index lists.starts.items (suc i)
+  pub room : slice_index lists.starts.items (suc i) ≤ length lists.elements.items
 
 -- the column, if it has a coefficient
 abbrev pub column_if : Bool → ℕ → List ℕ
@@ -51,12 +58,17 @@ abbrev pub start_of : List (List ℕ × ModelColumn) → ℕ → ℕ
 start_of columns zero = 0
 start_of columns (suc i) = start_of columns i + length (columns_with columns (suc i) (length columns))
 
--- for each row the columns that have a coefficient in it
+-- at its place in its column there is a coefficient of this number
+abbrev pub IsPlaced : List (List ℕ × ModelColumn) → ℕ → RowElement → Type 0
+IsPlaced columns n element = option_map (λ (cell : ℕ × Number). cell.0) (slice_get (cells_of columns element.column) element.place) ≡ Some n
+
+-- for each row the columns that have a coefficient in it, and its place there
 pub record AreByRow (columns : List (List ℕ × ModelColumn)) (rows : ℕ) (lists : RowLists) : Type 0 where
   pub len : length lists.starts.items ≡ suc rows
   pub starts : (i : ℕ) → i ≤ rows → slice_index lists.starts.items i ≡ start_of columns i
-  pub room : length lists.columns.items ≡ start_of columns rows
-  pub own : (i : ℕ) → i < rows → list_at lists i ≡ columns_with columns (suc i) (length columns)
+  pub room : length lists.elements.items ≡ start_of columns rows
+  pub own : (i : ℕ) → i < rows → map (λ (element : RowElement). element.column) (list_at lists i) ≡ columns_with columns (suc i) (length columns)
+  pub placed : (i : ℕ) → i < rows → All (IsPlaced columns (suc i)) (list_at lists i)
 
 -- the parts of a model, their lists by rows, and the names of rows
 pub record AreIndexed (m : ModelParts) (lists : RowLists) (row_names : RowNames) : Type 0 where

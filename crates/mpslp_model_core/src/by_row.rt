@@ -1,14 +1,14 @@
-//! Which columns have a coefficient in each row.
+//! Which columns have a coefficient in each row, and where.
 //!
-//! A model stores its coefficients by columns. Queries by row use these lists, so they do not search in columns that have no
-//! coefficient there. All lists are in one vector: the coefficients of each row are counted first, so that the start of its
-//! list is known before the first column is stored.
+//! A model stores its coefficients by columns. Queries by row use these lists, so they search in no column. All lists are in
+//! one vector: the coefficients of each row are counted first, so that the start of its list is known before the first
+//! coefficient is stored.
 
-ghost use Rattle.std.specs.Prelude.{◌≡◌, ◌≢◌, ◌≤◌, ◌<◌, ℕ, IfOk, IsTrue, OnOk, length, suc, slice_index, sum, take};
+ghost use Rattle.std.specs.Prelude.{◌≡◌, ◌≢◌, ◌≤◌, ◌<◌, ℕ, IfOk, IsTrue, OnOk, Some, length, suc, slice_get, slice_index, slice_index_or, sum, take};
 ghost use Rattle.std.specs.List.{All, list_all};
 ghost use Rattle.std.specs.Ordering.{nat_cmp};
 ghost use Rattle.std.specs.FinMap.{is_sorted};
-ghost use Rattle.mpslp_model_core.specs.ByRow.{list_at, HasCounted, AreWithin, AreCounts, AreByRow};
+ghost use Rattle.mpslp_model_core.specs.ByRow.{list_at, HasList, HasCounted, AreWithin, AreCounts, AreByRow};
 
 use crate::joined::part_at;
 use crate::model::ModelColumn;
@@ -19,14 +19,23 @@ use std::alloc::{AllocError, Global};
 /// The maximum number of columns: their numbers have 32 bits.
 const MOST_COLUMNS: usize = 4_294_967_296;
 
-/// For each row the columns that have a coefficient in it.
+/// Where a coefficient of a row is: the number of its column, and its index among the coefficients of that column.
+#[derive(Clone, Copy, Debug)]
+pub(crate) struct RowElement {
+    pub(crate) column: u32,
+    pub(crate) place: u32,
+}
+
+/// For each row where its coefficients are.
 #[derive(Debug, Drop)]
 pub(crate) struct RowLists {
-    /// Where the list of each row starts in `columns`, and where the last one ends.
+    /// Where the list of each row starts in `elements`, and where the last one ends.
     starts: Vec<usize>,
-    /// The numbers of the columns, one row after another.
-    columns: Vec<u32>,
+    /// The lists, one row after another.
+    elements: Vec<RowElement>,
 }
+
+const _: () = prove!(size_of::<RowElement>() == 8);
 
 /// Counts a coefficient by its number. One of the objective is not counted.
 fn count_cell(counts: &mut Vec<usize>, number: u32)
@@ -86,31 +95,43 @@ fn starts_of(counts: &mut Vec<usize>) -> Result<usize, AllocError>
     Ok(total)
 }
 
-/// Stores a column at the end of the list of a coefficient's row, so far. The objective has no list.
-fn put_cell(ends: &mut Vec<usize>, list: &mut Vec<u32>, number: u32, column: u32)
+/// Stores where a coefficient is at the end of the list of its row, so far. The objective has no list.
+///
+/// `place` is its index in its column. Numbers ascend there, so it is at most `number`, and has 32 bits.
+fn put_cell(
+    ends: &mut Vec<usize>,
+    list: &mut Vec<RowElement>,
+    number: u32,
+    column: u32,
+    place: usize,
+)
     requires row { number < length ends.old.items }
     requires room { 0 < number → slice_index ends.old.items number < length list.old.items }
+    requires place { place ≤ number }
     ensures ends_len { length ends.new.items ≡ length ends.old.items }
     ensures list_len { length list.new.items ≡ length list.old.items }
     ensures objective { slice_index ends.new.items 0 ≡ slice_index ends.old.items 0 }
     ensures counted { HasCounted number ends.old.items ends.new.items }
-    ensures put { 0 < number → slice_index list.new.items (slice_index ends.old.items number) ≡ column }
-    ensures kept { (p : ℕ) → (0 < number → p ≢ slice_index ends.old.items number) → slice_index list.new.items p ≡ slice_index list.old.items p }
+    ensures put { 0 < number → (d : RowElement) → slice_index_or list.new.items (slice_index ends.old.items number) d ≡ record { column = column; place = place } }
+    ensures kept { (p : ℕ) (d : RowElement) → (0 < number → p ≢ slice_index ends.old.items number) → slice_index_or list.new.items p d ≡ slice_index_or list.old.items p d }
 {
     if number > 0 {
         let end = ends[number as usize];
-        list[end] = column;
+        list[end] = RowElement {
+            column,
+            place: place as u32,
+        };
         ends[number as usize] = end + 1;
     }
 }
 
-/// Returns the numbers of the columns with a coefficient in each row, ascending, by row number.
+/// Returns where the coefficients of each row are, in the order of their columns.
 ///
 /// # Errors
 ///
 /// [`AllocError`] if there is no memory for the lists, or there are more than 4,294,967,296 columns: their numbers would not
 /// fit.
-pub(crate) fn columns_by_row(
+pub(crate) fn elements_by_row(
     alloc: Global,
     rows: usize,
     columns: &[(Name, ModelColumn)],
@@ -124,25 +145,36 @@ pub(crate) fn columns_by_row(
     }
     let mut starts = counts_by_row(alloc, rows, columns)?;
     let total = starts_of(&mut starts)?;
-    let mut list = vec![in alloc; 0u32; total]?;
+    let unset = RowElement {
+        column: 0,
+        place: 0,
+    };
+    let mut list = vec![in alloc; unset; total]?;
     // Number `n` is that of the row at index `n - 1`: its start becomes its end, which is the start of the row at index `n`.
     for (number, column) in columns.iter().enumerate() {
-        for cell in &column.1.cells {
-            put_cell(&mut starts, &mut list, cell.0, number as u32);
+        for (place, cell) in column.1.cells.iter().enumerate() {
+            put_cell(&mut starts, &mut list, cell.0, number as u32, place);
         }
     }
     Ok(RowLists {
         starts,
-        columns: list,
+        elements: list,
     })
 }
 
 /// The list of the row of number `i`.
-pub(crate) fn list_of(lists: &RowLists, i: usize) -> &[u32]
-    requires row { suc i < length lists.now.starts.items }
-    requires order { slice_index lists.now.starts.items i ≤ slice_index lists.now.starts.items (suc i) }
-    requires room { slice_index lists.now.starts.items (suc i) ≤ length lists.now.columns.items }
+pub(crate) fn list_of(lists: &RowLists, i: usize) -> &[RowElement]
+    requires { HasList lists.now i }
     ensures { result.now ≡ list_at lists.now i }
 {
-    part_at(&lists.columns, &lists.starts, i)
+    part_at(&lists.elements, &lists.starts, i)
+}
+
+/// Element number `k` of the list of the row of number `i`.
+pub(crate) fn element_at(lists: &RowLists, i: usize, k: usize) -> RowElement
+    requires row { HasList lists.now i }
+    requires element { k < length (list_at lists.now i) }
+    ensures { slice_get (list_at lists.now i) k ≡ Some result }
+{
+    list_of(lists, i)[k]
 }

@@ -12,7 +12,7 @@ ghost use Rattle.mpslp_model_core.specs.ModelParts.{linear_model, AreModelParts}
 ghost use Rattle.mpslp_model_core.specs.Views.{letter_E, letter_R, row_names, column_names, rows_of, columns_of, num_rows, num_columns, num_elements, row_name, column_name, row_index, column_index, row_sense, right_hand_side, row_range, coefficient_at, column_elements, numbered_elements, row_columns};
 ghost use Rattle.mpslp_model_core.specs.Model.{is_integer_column};
 
-use crate::by_row::{RowLists, columns_by_row, list_of};
+use crate::by_row::{RowLists, element_at, elements_by_row, list_of};
 use crate::columns::{
     cells_at, count_elements, first_value, row_cells, row_of, same_columns, value_at,
 };
@@ -67,7 +67,7 @@ pub struct ModelParts {
 #[derive(Debug, Drop)]
 pub struct Model {
     pub(crate) parts: ModelParts,
-    /// The numbers of the columns with a coefficient in each row, ascending.
+    /// Where the coefficients of each row are, in the order of their columns.
     by_row: RowLists,
     /// The names of the rows in one text.
     row_names: RowNames,
@@ -170,7 +170,7 @@ impl Model {
         requires { AreModelParts parts }
         ensures { IfOk result (λ model. model ≡ linear_model parts) }
     {
-        let by_row = columns_by_row(alloc, parts.rows.as_slice().len(), &parts.columns)?;
+        let by_row = elements_by_row(alloc, parts.rows.as_slice().len(), &parts.columns)?;
         let row_names = names_of(alloc, &parts.rows)?;
         Ok(Model {
             parts,
@@ -413,31 +413,26 @@ impl Model {
         let cell = entry_at(row_cells(cells_at(&self.parts.columns, j)), k);
         (row_of(cell.0), cell.1.value())
     }
-    /// The columns with a coefficient in the row of number `i`.
-    fn columns_of_row(&self, i: usize) -> &[u32]
-        requires { i < num_rows self.now }
-        ensures { result.now ≡ row_columns self.now (row_name self.now i) }
-    {
-        list_of(&self.by_row, i)
-    }
 
     /// The number of nonzero coefficients in the row of number `i`. Takes constant time.
     pub fn row_len(&self, i: usize) -> usize
         requires { i < num_rows self.now }
         ensures { result ≡ length (row_columns self.now (row_name self.now i)) }
     {
-        self.columns_of_row(i).len()
+        list_of(&self.by_row, i).len()
     }
 
     /// Nonzero coefficient number `k` of the row of number `i`, in the order of columns: the number of the column, and the value.
-    /// Allocates nothing, and takes a binary search in that column.
+    /// Takes constant time.
     pub fn row_entry(&self, i: usize, k: usize) -> (usize, Decimal)
         requires row { i < num_rows self.now }
         requires entry { k < length (row_columns self.now (row_name self.now i)) }
         ensures column { slice_get (row_columns self.now (row_name self.now i)) k ≡ Some result.0 }
         ensures value { result.1 ≡ coefficient_at self.now (row_name self.now i) (column_name self.now result.0) }
     {
-        let j = self.columns_of_row(i)[k] as usize;
-        (j, self.coefficient(i, j))
+        let element = element_at(&self.by_row, i, k);
+        let j = element.column as usize;
+        let cell = entry_at(cells_at(&self.parts.columns, j), element.place as usize);
+        (j, cell.1.value())
     }
 }

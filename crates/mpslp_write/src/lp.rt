@@ -39,7 +39,7 @@ fn put_lines<W: Sink>(model: &Model, output: &mut Output<W>)
 /// Writes the canonical LP text of a model to a sink, in at most as many calls as it has bytes, and does not flush. The text
 /// is collected in a buffer of 65,536 bytes between calls. Does not allocate.
 ///
-/// The columns of a row are those that the model lists, and each coefficient is found by binary search in its column.
+/// The coefficients of a row are those that the model lists, and each is read where the list says.
 ///
 /// # Errors
 ///

@@ -9,12 +9,12 @@ use Rattle.mpslp_model_core.proofs.ViewLemmas.{all_sorted}
 use Rattle.mpslp_model_core.proofs.ByRowLemmas.{numbers_within}
 use Rattle.mpslp_model_core.proofs.model.Model.of_parts.Goals as goal
 
-pub columns_by_row-requires-clause-sorted : goal.columns_by_row-requires-clause-sorted
-columns_by_row-requires-clause-sorted c =
+pub elements_by_row-requires-clause-sorted : goal.elements_by_row-requires-clause-sorted
+elements_by_row-requires-clause-sorted c =
     subst (λ (columns : List (List ℕ × ModelColumn)). IsTrue (list_all (λ column. is_sorted nat_cmp column.1.cells.items) columns)) (sym c.deref.ensures.value) (all_sorted c.args.parts.columns.items c.requires.cells)
 
-pub columns_by_row-requires-clause-within : goal.columns_by_row-requires-clause-within
-columns_by_row-requires-clause-within c k d below l e under =
+pub elements_by_row-requires-clause-within : goal.elements_by_row-requires-clause-within
+elements_by_row-requires-clause-within c k d below l e under =
     let columns = c.deref.result.now in
     let column = get_or columns k d in
     let cells = column.1.cells.items in
