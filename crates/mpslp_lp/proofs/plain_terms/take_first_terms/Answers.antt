@@ -1,0 +1,36 @@
+use Rattle.std.proofs.Common.{rules, ◌≡◌, ◌≤◌, sym, ap, ◌∙◌, arith, ℕ, suc, List, length, inl, inr}
+use Rattle.std.specs.Prelude.{None}
+use Rattle.mpslp_lp_grammar.specs.declared.signs.Sign.{Sign}
+use Rattle.mpslp_lp_grammar.specs.Rows.{without_terms}
+use Rattle.mpslp_lp_grammar.specs.declared.context.Context.{Context}
+use Rattle.mpslp_lp_grammar.specs.declared.states.Place.TheVariants.{InRow}
+use Rattle.mpslp_lp_grammar.specs.declared.states.State.TheVariants.{Between, RowLabel}
+use Rattle.mpslp_lp_tokens.specs.Token.{Token}
+use Rattle.mpslp_lp.specs.PlainTerm.{IsPlainTerm}
+use Rattle.mpslp_lp.specs.LineByLine.{take_tokens}
+use Rattle.mpslp_lp.proofs.plain_terms.take_first_terms.Goals as goal
+
+-- a term has tokens
+term_shortens : (found : List Token) (first : Sign) (literal column : List ℕ) (more : List Token) → IsPlainTerm found first literal column more → length more ≤ length found
+term_shortens found first literal column more term =
+    let sign : length found ≡ suc (length term.behind_sign) = ap length term.sign.tokens in
+    let name : length term.term.behind_number ≡ suc (length more) = ap length term.term.name.tokens in
+    elim term.term.number as (λ _. length more ≤ length found) [
+      | inl number ↦ let both : length term.behind_sign ≡ suc (length term.term.behind_number) = ap length number.tokens in omega (arith, sign, both, name)
+      | inr none ↦ let same : length term.term.behind_number ≡ length term.behind_sign = ap length none.1 in omega (arith, sign, same, name)
+    ]
+
+pub returns : goal.returns
+returns c =
+    let term = c.in-Some.term in
+    let plain : IsPlainTerm c.args.tokens term.sign term.literal.now term.column.now c.again.result = search rules in
+    let row : c.in_ok-row.row ≡ without_terms c.args.name None = search rules in
+    let same : c.row_without_terms.new.context ≡ c.args.context.now = search rules in
+    let left : c.again.result ≡ c.plain_term.new.tokens = search rules in
+    let fewer = term_shortens c.args.tokens term.sign term.literal.now term.column.now c.again.result plain in (
+      c.in_ok-rest.ensures.0
+          ∙ ap (λ (tokens : List Token). take_tokens c.row_without_terms.new.context (Between (InRow c.take_plain_term.new.row)) tokens) (sym left)
+          ∙ c.in_ok-take_plain_term.ensures.first c.args.tokens c.args.name plain row
+          ∙ ap (λ (context : Context). take_tokens context (RowLabel c.args.name) c.args.tokens) same,
+      omega (arith, c.in_ok-rest.ensures.1, fewer, ap length left),
+    )
