@@ -41,11 +41,15 @@ fn field_len(text: &[u8]) -> usize
     }
 }
 
-/// The text from its first field on.
+/// The text from its first field on. Where fields are in columns there are many spaces before them, so four are passed at once.
 fn from_field(text: &[u8]) -> &[u8]
     ensures { result.now ≡ drop (position_or_len (λ byte. not (is_blank byte)) text.now) text.now }
 {
-    &text[blanks_len(text)..]
+    let mut rest = text;
+    while let [b' ', b' ', b' ', b' ', more @ ..] = rest {
+        rest = more;
+    }
+    &rest[blanks_len(rest)..]
 }
 
 /// The first field of a text and the rest after it; `None` if the text has no field.
