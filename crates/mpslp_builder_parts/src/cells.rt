@@ -39,8 +39,17 @@ impl Model for Cells {
     ghost invariant = { λ c. IsOnceBy nat_cmp (c.near ++ c.far) };
 }
 
-/// Puts a coefficient of a new row into the vector. Many columns have only one or two coefficients, so these allocate no spare
-/// capacity.
+/// For how many more coefficients a full vector gets room. Many columns have only one or two, which leave no room unused; in a
+/// long column the unused room is at most a third.
+fn more_room(len: usize) -> usize {
+    match len {
+        0 => 1,
+        1..SHORT => len,
+        _ => len / 2,
+    }
+}
+
+/// Puts a coefficient of a new row into the vector.
 fn put_near(
     near: &mut SortedMap<u32, PackedDecimal>,
     row: u32,
@@ -50,8 +59,9 @@ fn put_near(
     ensures ok { OnOk result (near.new ≡ put nat_cmp row value near.old) }
     ensures err { OnErr result (near.new ≡ near.old) }
 {
-    if near.len() < 2 {
-        near.reserve_exact(1)?;
+    let len = near.len();
+    if len == near.capacity() {
+        near.reserve_exact(more_room(len))?;
     }
     near.put(row, value)
 }
