@@ -5,4 +5,5 @@ pub mod Parts
 pub mod DeclaredBounds
 -- ---- what only the code cites
 pub mod StoredBounds
+pub mod FarCells
 pub mod RowForm

@@ -6,11 +6,11 @@ ghost use Rattle.std.specs.Ordering.{nat_cmp};
 ghost use Rattle.std.specs.FinMap.{find, put};
 ghost use Rattle.mpslp_model_core.specs.Numbered.{moved_cells};
 
-use crate::moving::{in_order_of_numbers, joined, renumbered, without_zeros};
+use crate::far_cells::FarCells;
+use crate::moving::{in_order_of_numbers, renumbered, without_zeros};
 use mpslp_decimal::{Decimal, PackedDecimal};
 use mpslp_maps::SortedMap;
 use std::alloc::{AllocError, Global};
-use std::collections::BTreeMap;
 use std::marker::Model;
 
 /// The length up to which a coefficient is inserted into the middle of the vector.
@@ -23,7 +23,7 @@ const SHORT: usize = 64;
 #[derive(Debug, Drop)]
 pub struct Cells {
     near: SortedMap<u32, PackedDecimal>,
-    far: BTreeMap<u32, PackedDecimal>,
+    far: FarCells,
 }
 
 impl Model for Cells {
@@ -34,13 +34,22 @@ impl Model for Cells {
 
     ghost Value = { List (ℕ × Number) };
 
-    ghost view = { λ c. sorted_of nat_cmp (c.near ++ c.far.entries) };
+    ghost view = { λ c. sorted_of nat_cmp (c.near ++ c.far) };
 
-    ghost invariant = { λ c. IsOnceBy nat_cmp (c.near ++ c.far.entries) };
+    ghost invariant = { λ c. IsOnceBy nat_cmp (c.near ++ c.far) };
 }
 
-/// Puts a coefficient of a new row into the vector. Many columns have only one or two coefficients, so these allocate no spare
-/// capacity.
+/// For how many more coefficients a full vector gets room. Many columns have only one or two, which leave no room unused; in a
+/// long column the unused room is at most a third.
+fn more_room(len: usize) -> usize {
+    match len {
+        0 => 1,
+        1..SHORT => len,
+        _ => len / 2,
+    }
+}
+
+/// Puts a coefficient of a new row into the vector.
 fn put_near(
     near: &mut SortedMap<u32, PackedDecimal>,
     row: u32,
@@ -50,20 +59,11 @@ fn put_near(
     ensures ok { OnOk result (near.new ≡ put nat_cmp row value near.old) }
     ensures err { OnErr result (near.new ≡ near.old) }
 {
-    if near.len() < 2 {
-        near.reserve_exact(1)?;
+    let len = near.len();
+    if len == near.capacity() {
+        near.reserve_exact(more_room(len))?;
     }
     near.put(row, value)
-}
-
-/// Whether the tree has a coefficient of this row. Most trees are empty, and these are not searched.
-fn is_in_tree(tree: &BTreeMap<u32, PackedDecimal>, row: u32) -> bool
-    ensures { result ≡ is_some (find nat_cmp row tree.now.entries) }
-{
-    if tree.is_empty() {
-        return false;
-    }
-    tree.contains_key(&row)
 }
 
 impl Cells {
@@ -73,7 +73,7 @@ impl Cells {
     {
         Cells {
             near: SortedMap::new(alloc),
-            far: BTreeMap::new(alloc),
+            far: FarCells::new(alloc),
         }
     }
 
@@ -81,7 +81,7 @@ impl Cells {
     pub fn has(&self, row: u32) -> bool
         ensures { result ≡ is_some (find nat_cmp row self.now) }
     {
-        self.near.has(&row) || is_in_tree(&self.far, row)
+        self.near.has(&row) || self.far.has(row)
     }
 
     /// Whether a coefficient of this row goes into the vector.
@@ -102,7 +102,7 @@ impl Cells {
         if self.is_near(row) {
             put_near(&mut self.near, row, PackedDecimal::of(value))?;
         } else {
-            self.far.insert(row, PackedDecimal::of(value))?;
+            self.far.put(row, PackedDecimal::of(value))?;
         }
         Ok(())
     }
@@ -118,7 +118,7 @@ impl Cells {
         ensures { IfOk result (λ cells. cells.items ≡ moved_cells ranks.now self) }
     {
         let Cells { near, far } = self;
-        let cells = without_zeros(joined(near.into_entries(), far)?);
+        let cells = without_zeros(far.append_to(near.into_entries())?);
         Ok(in_order_of_numbers(renumbered(cells, ranks)))
     }
 }

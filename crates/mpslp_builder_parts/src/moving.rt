@@ -1,32 +1,12 @@
 //! Coefficients with new row numbers.
 
-ghost use Rattle.std.specs.Prelude.{◌≡◌, ◌<◌, ◌++◌, IfOk, map, filter, not, length, slice_index};
+ghost use Rattle.std.specs.Prelude.{◌≡◌, ◌<◌, map, filter, not, length, slice_index};
 ghost use Rattle.std.specs.List.{All};
 ghost use Rattle.std.specs.List.Sorted.{IsPermutation, IsSortedByKey};
 ghost use Rattle.std.specs.Ordering.{nat_cmp};
 ghost use Rattle.mpslp_decimal.specs.Decimal.{is_zero};
 
 use mpslp_decimal::PackedDecimal;
-use std::alloc::AllocError;
-use std::collections::BTreeMap;
-
-/// All coefficients in one vector. Few columns have any in their tree.
-pub(crate) fn joined(
-    near: Vec<(u32, PackedDecimal)>,
-    far: BTreeMap<u32, PackedDecimal>,
-) -> Result<Vec<(u32, PackedDecimal)>, AllocError>
-    ensures { IfOk result (λ cells. cells.items ≡ near.items ++ far.entries) }
-{
-    if far.is_empty() {
-        return Ok(near);
-    }
-    let mut cells = near;
-    cells.reserve(far.len())?;
-    for cell in far {
-        cells.push(cell)?;
-    }
-    Ok(cells)
-}
 
 /// The coefficients with the final numbers of their rows.
 pub(crate) fn renumbered(

@@ -1,6 +1,6 @@
 //! Maps, each stored as a vector of its entries in the order of their keys.
 
-ghost use Rattle.std.specs.Prelude.{◌≡◌, ◌<◌, ◌-◌, ◌↔◌, [], None, IsOk, IsTrue, OnOk, OnErr, Some, length, is_some, true, position, slice_get, vec_len, vec_capacity};
+ghost use Rattle.std.specs.Prelude.{◌≡◌, ◌≤◌, ◌<◌, ◌-◌, ◌↔◌, [], None, IsOk, IsTrue, OnOk, OnErr, Some, length, is_some, true, position, slice_get, vec_len, vec_capacity};
 ghost use Rattle.std.specs.Option.{option_copied, option_map_or};
 ghost use Rattle.std.specs.Ordering.{is_eq, is_gt, is_le, nat_cmp};
 ghost use Rattle.std.specs.Cmp.{IsTotalOrder, nat_cmp_total};
@@ -216,6 +216,14 @@ impl<K: Key + Drop, V: Drop> SortedMap<K, V> {
     {
         let entries = &mut self.entries;
         entries.reserve_exact(additional)
+    }
+
+    /// The number of entries for which there is room without an allocation.
+    pub fn capacity(&self) -> usize
+        ensures { length self.now ≤ result }
+    {
+        let entries = &self.entries;
+        entries.capacity()
     }
 
     /// Inserts an entry at the place of its key, and moves the entries after it. The key must be new.

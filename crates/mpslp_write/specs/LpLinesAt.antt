@@ -1,7 +1,8 @@
 -- Lines of canonical LP that are printed for one entry after another.
-use Rattle.std.specs.Prelude.{ℕ, Bool, true, false, List, [], ◌∷◌, Option, Some, None, if◌then◌else◌}
+use Rattle.std.specs.Prelude.{◌≡◌, ℕ, Bool, true, false, List, [], ◌∷◌, slice_get, Option, Some, None, if◌then◌else◌}
 use Rattle.std.specs.FinMap.{entries}
 use Rattle.mpslp_model_core.specs.Model.{LinearModel, Column, Listing, listing_of}
+use Rattle.mpslp_model_core.specs.Views.{row_name, row_columns, column_name, coefficient_at}
 use Rattle.mpslp_types.specs.declared.kinds.Kind.{Kind}
 use Rattle.mpslp_decimal.specs.Decimal.{Number, have_same_value}
 use Rattle.mpslp_types.specs.declared.kinds.Sense.{Sense}
@@ -31,6 +32,11 @@ row_term_lines m row column = term_lines (term_in m row column)
 -- of the column with this number in the row of this name
 abbrev pub numbered_term_lines : LinearModel → List ℕ → ℕ → Lines
 numbered_term_lines m row j = lines_at (row_term_lines (listing_of m) row) (entries m.columns) j
+
+-- the column and the value of term `k` of row `i`
+pub record IsTerm (m : LinearModel) (i k : ℕ) (term : ℕ × Number) : Type 0 where
+  pub column : slice_get (row_columns m (row_name m i)) k ≡ Some term.0
+  pub value : term.1 ≡ coefficient_at m (row_name m i) (column_name m term.0)
 
 abbrev pub has_lines : Lines → Bool
 has_lines [] = false

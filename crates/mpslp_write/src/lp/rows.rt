@@ -1,6 +1,6 @@
 //! The rows of canonical LP.
 
-ghost use Rattle.std.specs.Prelude.{◌<◌, [], ◌∷◌, length, map};
+ghost use Rattle.std.specs.Prelude.{◌<◌, [], ◌∷◌, map};
 ghost use Rattle.std.specs.List.{flat_map};
 ghost use Rattle.std.specs.FinMap.{entries};
 ghost use Rattle.mpslp_model_core.specs.Views.{num_rows, row_name, row_columns};
@@ -8,7 +8,7 @@ ghost use Rattle.mpslp_canonical_lp.specs.Printed.{line_text};
 ghost use Rattle.mpslp_model_core.specs.Model.{listing_of};
 ghost use Rattle.mpslp_canonical_lp.specs.CanonicalLp.{term_line, row_terms, left_lines, last_line, row_lines, rows_section};
 ghost use Rattle.mpslp_output.specs.LinesAt.{lines_at};
-ghost use Rattle.mpslp_write.specs.LpLinesAt.{numbered_term_lines, left_between, last_between};
+ghost use Rattle.mpslp_write.specs.LpLinesAt.{IsTerm, numbered_term_lines, left_between, last_between};
 ghost use Rattle.mpslp_output.specs.Printing.{Prints, PrintsSection};
 
 use crate::lp::lines::{
@@ -22,22 +22,37 @@ use mpslp_output::{Output, put_each};
 use mpslp_write_mps::have_same_value;
 
 /// Prints term `k` of row `i`.
-fn put_term<W: Sink>(model: &Model, i: usize, k: usize, output: &mut Output<W>)
+fn put_term<W: Sink>(
+    model: &Model,
+    i: usize,
+    k: usize,
+    term: (usize, Decimal),
+    output: &mut Output<W>,
+)
     requires row { i < num_rows model.now }
-    requires term { k < length (row_columns model.now (row_name model.now i)) }
+    requires term { IsTerm model.now i k term }
     ensures { Prints line_text W.Sink output.old output.new (lines_at (numbered_term_lines model.now (row_name model.now i)) (row_columns model.now (row_name model.now i)) k) }
 {
-    let (j, value) = model.row_entry(i, k);
+    let (j, value) = term;
     put_term_line(output, model.column_name(j).as_bytes(), value);
 }
 
-/// Prints the terms of row `i`.
+/// Prints the terms of row `i`. Each is looked up before the one before it is printed, so that its misses of the cache cost less.
 fn put_terms<W: Sink>(model: &Model, i: usize, output: &mut Output<W>)
     requires { i < num_rows model.now }
     ensures { Prints line_text W.Sink output.old output.new (flat_map (numbered_term_lines model.now (row_name model.now i)) (row_columns model.now (row_name model.now i))) }
 {
-    for k in 0..model.row_len(i) {
-        put_term(model, i, k, output);
+    let len = model.row_len(i);
+    if len == 0 {
+        return;
+    }
+    let mut next = model.row_entry(i, 0);
+    for k in 0..len {
+        let term = next;
+        if k + 1 < len {
+            next = model.row_entry(i, k + 1);
+        }
+        put_term(model, i, k, term, output);
     }
 }
 

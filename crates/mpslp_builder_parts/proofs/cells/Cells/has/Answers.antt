@@ -10,7 +10,7 @@ use Rattle.mpslp_builder_parts.proofs.cells.Cells.has.Goals as goal
 pub returns-then-has : goal.returns-then-has
 returns-then-has c =
     let near = c.self.inside.near in
-    let far = c.self.inside.far.entries in
+    let far = c.self.inside.far in
     or_left (is_some (find nat_cmp c.args.row near)) (is_some (find nat_cmp c.args.row far)) c.has.result c.has.ensures c.if-has.true
     ∙ sym (has_two nat_cmp nat_cmp_total c.args.row near far)
     ∙ ap (λ (cells : List (ℕ × Number)). is_some (find nat_cmp c.args.row cells)) c.self.view_is
@@ -18,8 +18,8 @@ returns-then-has c =
 pub returns-else-has : goal.returns-else-has
 returns-else-has c =
     let near = c.self.inside.near in
-    let far = c.self.inside.far.entries in
-    or_right (is_some (find nat_cmp c.args.row near)) (is_some (find nat_cmp c.args.row far)) c.is_in_tree.result c.if-has.ensures
-    c.is_in_tree.ensures
+    let far = c.self.inside.far in
+    or_right (is_some (find nat_cmp c.args.row near)) (is_some (find nat_cmp c.args.row far)) c.has-else-has.result c.if-has.ensures
+    c.has-else-has.ensures
     ∙ sym (has_two nat_cmp nat_cmp_total c.args.row near far)
     ∙ ap (λ (cells : List (ℕ × Number)). is_some (find nat_cmp c.args.row cells)) c.self.view_is

@@ -10,19 +10,19 @@ use Rattle.mpslp_builder_parts.proofs.cells.Cells.into_moved.Goals as goal
 
 pub renumbered-requires : goal.renumbered-requires
 renumbered-requires c =
-    let stored = c.self.inside.near ++ c.self.inside.far.entries in
+    let stored = c.self.inside.near ++ c.self.inside.far in
     let holds : ℕ × Number → Type 0 = λ e. e.0 < length c.args.ranks.now in
-    let joined : c.in_ok-joined.field-0.items ≡ stored = c.in_ok-joined.ensures ∙ ap (λ (near : List (ℕ × Number)). near ++ c.self.inside.far.entries) c.into_entries.ensures in
+    let joined : c.in_ok-append_to.field-0.items ≡ stored = c.in_ok-append_to.ensures ∙ ap (λ (near : List (ℕ × Number)). near ++ c.self.inside.far) c.into_entries.ensures in
     let within = each-of_map holds stored c.self.invariant (subst (All holds) (sym c.self.view_is) c.requires.within) in
     subst (All holds) (sym (c.without_zeros-cells.ensures ∙ ap (filter is_kept) joined)) (all-from_each holds (filter is_kept stored) (each-kept holds stored within))
 
 pub returns : goal.returns
 returns c =
-    let stored = c.self.inside.near ++ c.self.inside.far.entries in
+    let stored = c.self.inside.near ++ c.self.inside.far in
     let cells = c.in_order_of_numbers.result.items in
     let holds : ℕ × Number → Type 0 = λ e. e.0 < length c.args.ranks.now in
     let rank : ℕ → ℕ = λ n. slice_index c.args.ranks.now n in
-    let joined : c.in_ok-joined.field-0.items ≡ stored = c.in_ok-joined.ensures ∙ ap (λ (near : List (ℕ × Number)). near ++ c.self.inside.far.entries) c.into_entries.ensures in
+    let joined : c.in_ok-append_to.field-0.items ≡ stored = c.in_ok-append_to.ensures ∙ ap (λ (near : List (ℕ × Number)). near ++ c.self.inside.far) c.into_entries.ensures in
     let within = each-of_map holds stored c.self.invariant (subst (All holds) (sym c.self.view_is) c.requires.within) in
     let kept : c.renumbered.result.items ≡ renamed rank (filter is_kept stored) = c.renumbered.ensures ∙ ap (renamed rank) (c.without_zeros-cells.ensures ∙ ap (filter is_kept) joined) in
     moved-from_any_order (length c.args.ranks.now) rank c.requires.apart stored cells c.self.invariant within

@@ -11,31 +11,31 @@ use Rattle.mpslp_builder_parts.proofs.cells.Cells.put.Goals as goal
 
 pub put_near-requires : goal.put_near-requires
 put_near-requires c =
-    absent_first nat_cmp nat_cmp_total c.args.row c.self.inside.near c.self.inside.far.entries
+    absent_first nat_cmp nat_cmp_total c.args.row c.self.inside.near c.self.inside.far
     (ap (λ (cells : List (ℕ × Number)). find nat_cmp c.args.row cells) c.self.view_is ∙ c.requires)
 
 pub returns-in_ok-put_near-clause-ok : goal.returns-in_ok-put_near-clause-ok
 returns-in_ok-put_near-clause-ok c =
-    put_first nat_cmp nat_cmp_total nat_cmp-IsAntisymmetric c.args.row c.args.value c.self.inside.near c.put_near.new.near c.self.inside.far.entries
+    put_first nat_cmp nat_cmp_total nat_cmp-IsAntisymmetric c.args.row c.args.value c.self.inside.near c.put_near.new.near c.self.inside.far
     (c.in_ok-put_near.ensures.ok ∙ ap (λ (v : Number). put nat_cmp c.args.row v c.self.inside.near) c.of.ensures)
     ∙ ap (put nat_cmp c.args.row c.args.value) c.self.view_is
 
-pub returns-in_ok-insert-clause-ok : goal.returns-in_ok-insert-clause-ok
-returns-in_ok-insert-clause-ok c =
-    put_second nat_cmp nat_cmp_total nat_cmp-IsAntisymmetric c.args.row c.args.value c.self.inside.near c.self.inside.far.entries c.insert.new.self.entries
-    (λ q. c.in_ok-insert.ensures.updates.0 q ∙ ap (λ (v : Number). cond (is_eq (nat_cmp c.args.row q)) (Some v) (lookup (λ x. is_eq (nat_cmp q x)) c.self.inside.far.entries)) c.of-else-is_near.ensures)
+pub returns-in_ok-put-clause-ok : goal.returns-in_ok-put-clause-ok
+returns-in_ok-put-clause-ok c =
+    put_second nat_cmp nat_cmp_total nat_cmp-IsAntisymmetric c.args.row c.args.value c.self.inside.near c.self.inside.far c.put.new.self
+    (λ q. c.in_ok-put.ensures.ok.found q ∙ ap (λ (v : Number). cond (is_eq (nat_cmp c.args.row q)) (Some v) (lookup (λ x. is_eq (nat_cmp q x)) c.self.inside.far)) c.of-else-is_near.ensures)
     (ap (λ (cells : List (ℕ × Number)). find nat_cmp c.args.row cells) c.self.view_is ∙ c.requires)
     ∙ ap (put nat_cmp c.args.row c.args.value) c.self.view_is
 
 pub invariant_of-self : goal.invariant_of-self
 invariant_of-self c =
-    once-put_first nat_cmp nat_cmp_total c.args.row c.args.value c.self.inside.near c.put_near.new.near c.self.inside.far.entries
+    once-put_first nat_cmp nat_cmp_total c.args.row c.args.value c.self.inside.near c.put_near.new.near c.self.inside.far
     (c.in_ok-put_near.ensures.ok ∙ ap (λ (v : Number). put nat_cmp c.args.row v c.self.inside.near) c.of.ensures)
     (ap (λ (cells : List (ℕ × Number)). find nat_cmp c.args.row cells) c.self.view_is ∙ c.requires) c.self.invariant
 
-pub invariant_of-self-in_ok-insert : goal.invariant_of-self-in_ok-insert
-invariant_of-self-in_ok-insert c =
-    once-put_second nat_cmp nat_cmp_total c.args.row c.of-else-is_near.result c.self.inside.near c.self.inside.far.entries c.insert.new.self.entries
-    (once-from_rising nat_cmp c.insert.new.self.entries c.in_ok-insert.ensures.ordered)
-    c.in_ok-insert.ensures.updates.0
+pub invariant_of-self-in-Continue-branch-2 : goal.invariant_of-self-in-Continue-branch-2
+invariant_of-self-in-Continue-branch-2 c =
+    once-put_second nat_cmp nat_cmp_total c.args.row c.of-else-is_near.result c.self.inside.near c.self.inside.far c.put.new.self
+    (once-from_rising nat_cmp c.put.new.self c.in_ok-put.ensures.ok.ordered)
+    c.in_ok-put.ensures.ok.found
     (ap (λ (cells : List (ℕ × Number)). find nat_cmp c.args.row cells) c.self.view_is ∙ c.requires) c.self.invariant

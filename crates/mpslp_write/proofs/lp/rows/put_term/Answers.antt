@@ -13,14 +13,14 @@ use Rattle.mpslp_write.proofs.lp.rows.put_term.Goals as goal
 pub column_name-requires : goal.column_name-requires
 column_name-requires g c =
     let m = c.args.model.now in
-    listed_below (λ j. has_coefficient m (row_name m c.args.i) (column_name m j)) (num_columns m) c.args.k _ c.row_entry-j.ensures.column
+    listed_below (λ j. has_coefficient m (row_name m c.args.i) (column_name m j)) (num_columns m) c.args.k _ c.requires.term.column
 
 pub returns : goal.returns
 returns g c =
     let m = c.args.model.now in
     let row = row_name m c.args.i in
-    let j = c.row_entry-j.result.0 in
+    let j = c.args.term.0 in
     let column : c.as_bytes.result.now ≡ column_name m j = c.as_bytes.ensures ∙ sym (get_or_from_slice_get (column_names m) j _ [] c.column_name.ensures) in
-    prints_same ((λ i. term_line (column i, c.row_entry-j.ensures.value i) ∷ []) ∙ term-listed m row c.args.k j c.row_entry-j.ensures.column
-    ∙ ap (λ (o : Option ℕ). option_map_or (numbered_term_lines m row) o []) (sym c.row_entry-j.ensures.column))
+    prints_same ((λ i. term_line (column i, c.requires.term.value i) ∷ []) ∙ term-listed m row c.args.k j c.requires.term.column
+    ∙ ap (λ (o : Option ℕ). option_map_or (numbered_term_lines m row) o []) (sym c.requires.term.column))
     c.put_term_line.ensures
