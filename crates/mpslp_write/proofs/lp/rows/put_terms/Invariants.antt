@@ -1,4 +1,4 @@
-use Rattle.std.proofs.Common.{take, length, ◌<◌}
+use Rattle.std.proofs.Common.{take, ◌<◌}
 use Rattle.std.specs.List.{flat_map}
 use Rattle.mpslp_model_core.specs.Views.{row_name, row_columns}
 use Rattle.mpslp_canonical_lp.specs.Printed.{line_text}
