@@ -3,8 +3,8 @@
 
 `rt ci` proves every crate and its tests, and runs the tests and programs, on a copy of the crates in build/ci/. The copy has no
 mutants, since `rt ci` would check a whole crate for each: scripts/mutants.py checks that the prover rejects them, those of a
-crate as soon as the crates below it are proved, on processors that `rt ci` leaves idle. At last the scripts of TESTS test what
-was built. One line is printed for each crate, its mutants and each script; all of their output goes to build/log/.
+crate as soon as `rt ci` has proved it, on processors that `rt ci` leaves idle. At last the scripts of TESTS test what was built.
+One line is printed for each crate, its mutants and each script; all of their output goes to build/log/.
 """
 
 import os
@@ -18,7 +18,7 @@ from dataclasses import dataclass
 from enum import Enum, auto
 from pathlib import Path
 
-from crates import Crate, below, crates_of_repository, library_folder, mark, sums_of
+from crates import Crate, below, crates_of_repository, mark, sums_of
 from kit import ROOT, require_kit
 from mutants import Outcome, crates_with_mutants, test_crate
 from prove import LOGS
@@ -115,8 +115,8 @@ def take_programs() -> None:
             shutil.copy2(file, to)
 
 
-def prove_all(report: Report) -> tuple[bool, str]:
-    """Runs `rt ci`, and returns whether it passed, and its closing line."""
+def prove_all(report: Report, proved: set[str]) -> tuple[bool, str]:
+    """Runs `rt ci`, and returns whether it passed, and its closing line. Adds the name of each crate that it has proved."""
     log, closing = LOGS / "rt-ci.log", ""
     # Without RT_JOBS `rt ci` proves as many crates side by side as there are processors and memory for, and gives idle processors
     # to a crate for which others wait.
@@ -130,6 +130,7 @@ def prove_all(report: Report) -> tuple[bool, str]:
             line = line.rstrip("\n")
             if found := PROVED.match(line):
                 report.say(f"{found[1]}: proved")
+                proved.add(found[1])
             elif found := TESTS_PROVED.match(line):
                 report.say(f"{found[1]}: its tests proved")
             elif found := KEPT.match(line):
@@ -206,15 +207,11 @@ class Job:
     """The mutants of a crate, or a script."""
 
     of: Crate | Test
-    # The crates that have to be proved before.
-    needs: tuple[Crate, ...]
 
-    def is_ready(self, ci: Ci) -> bool:
-        """Whether `rt ci` has built what the job needs. Scripts need all of it."""
-        if isinstance(self.of, Test):
-            return ci == Ci.PASSED
-        # `rt ci` writes the stamp of a library last.
-        return all((library_folder(COPY / "crates", it.name) / "stamp").exists() for it in self.needs)
+    def is_ready(self, ci: Ci, proved: set[str]) -> bool:
+        """Whether `rt ci` has built what the job needs. Scripts need all of it, and mutants the libraries of the crates below theirs,
+        which are complete once `rt ci` has proved that crate over them."""
+        return ci == Ci.PASSED or (isinstance(self.of, Crate) and self.of.name in proved)
 
     def run(self, crates: dict[str, Crate]) -> Result:
         return run_test(self.of) if isinstance(self.of, Test) else test_crate(self.of, crates, COPY / "crates")
@@ -225,8 +222,8 @@ class Job:
 
 def all_jobs(crates: dict[str, Crate]) -> list[Job]:
     """All jobs, in the order in which they begin: the script that takes longest, the mutants of the largest crates, .."""
-    scripts = [Job(test, ()) for test in TESTS]
-    mutants = [Job(it, tuple(below(crates, *it.uses))) for it in crates_with_mutants(crates)]
+    scripts = [Job(test) for test in TESTS]
+    mutants = [Job(it) for it in crates_with_mutants(crates)]
     return [scripts[0], *mutants, *scripts[1:]]
 
 
@@ -236,27 +233,35 @@ class Gate:
     def __init__(self, report: Report) -> None:
         self.report, self.crates = report, crates_of_repository()
         self.ci, self.waiting, self.tally = Ci.RUNNING, all_jobs(self.crates), Tally()
+        self.proved: set[str] = set()
 
     def run(self) -> Tally:
         """Runs everything, and returns what passed and failed."""
         copy_crates()
         with ThreadPoolExecutor(1 + processors()) as pool:
-            running: dict[Future, Job | None] = {pool.submit(prove_all, self.report): None}
+            running: dict[Future, Job | None] = {pool.submit(prove_all, self.report, self.proved): None}
             while running:
-                self.begin(running, pool)
                 for it in wait(running, timeout=SECONDS_BETWEEN_LOOKS, return_when=FIRST_COMPLETED).done:
                     if job := running.pop(it):
                         self.tally += job.report(self.report, it.result())
                     else:
                         self.end_ci(*it.result())
-        return self.tally
+                # Last, so that the loop goes on where `rt ci` ended while nothing ran beside it.
+                self.begin(running, pool)
+        return self.tally + self.left_out()
 
     def begin(self, running: dict[Future, Job | None], pool: ThreadPoolExecutor) -> None:
         """Starts the jobs that can run now."""
         room = self.room() - sum(job is not None for job in running.values())
-        for job in [it for it in self.waiting if it.is_ready(self.ci)][: max(0, room)]:
+        for job in [it for it in self.waiting if it.is_ready(self.ci, self.proved)][: max(0, room)]:
             self.waiting.remove(job)
             running[pool.submit(job.run, self.crates)] = job
+
+    def left_out(self) -> Tally:
+        """What was never begun counts as failed, whatever else passed."""
+        if self.waiting:
+            self.report.say(f"not run: {', '.join(job.of.name for job in self.waiting)}")
+        return Tally(failed=len(self.waiting))
 
     def room(self) -> int:
         """How many jobs may run side by side now."""

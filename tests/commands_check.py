@@ -1,5 +1,5 @@
 #!/usr/bin/env python3
-"""Test `make`, `make run` and the check of the kit with a stand-in for the kit, on a copy: tests/commands_check.py
+"""Test `make`, `make run`, the check of the kit and the order of the gate with stand-ins for the kit: tests/commands_check.py
 
 Nothing is proved: the stand-ins for `rt`, `rattle` and `rattle-link` record their calls.
 """
@@ -13,8 +13,13 @@ import tempfile
 import time
 import unittest
 from pathlib import Path
+from unittest.mock import patch
 
 ROOT = Path(__file__).resolve().parent.parent
+sys.path.insert(0, str(ROOT / "scripts"))
+
+import gate  # noqa: E402
+
 KIT_SUM = (ROOT / "kit-sum").read_text().strip()
 
 RT = """#!/bin/sh
@@ -253,6 +258,30 @@ class Commands(unittest.TestCase):
         self.write_tool("rt.try", "echo 'run=none proved=no' >&2; exit 6\n")
         made = self.make("run")
         self.assertIn("build the program with `make` first", made.stderr)
+
+
+class Gate(unittest.TestCase):
+    def tally(self, ci_passes: bool) -> gate.Tally:
+        """What the gate counts over a stand-in for `rt ci` and two scripts, without memory for anything beside `rt ci`."""
+        scripts = [gate.Job(gate.Test(name, (name,))) for name in ("true", "false")]
+        with tempfile.TemporaryDirectory() as logs, patch.multiple(
+            gate,
+            LOGS=Path(logs),
+            copy_crates=lambda: None,
+            crates_of_repository=dict,
+            mark_program=lambda: None,
+            free_memory=lambda: 0,
+            all_jobs=lambda crates: scripts,
+            prove_all=lambda report, proved: (ci_passes, "3 passed, 0 failed" if ci_passes else "2 passed, 1 failed"),
+            report_test=lambda report, test, status, *rest: gate.Tally(int(not status), int(bool(status))),
+        ), open(os.devnull, "w") as silent, patch("sys.stdout", silent):
+            return gate.Gate(gate.Report()).run()
+
+    def test_scripts_run_after_rt_ci_if_nothing_ran_beside_it(self) -> None:
+        self.assertEqual(self.tally(ci_passes=True), gate.Tally(passed=4, failed=1))
+
+    def test_what_is_not_run_counts_as_failed(self) -> None:
+        self.assertEqual(self.tally(ci_passes=False), gate.Tally(passed=2, failed=3))
 
 
 if __name__ == "__main__":
