@@ -248,6 +248,14 @@ impl Builder {
         self.tables.has_column(name)
     }
 
+    /// Whether a column has this name. If so, the call after this one that names the column does not look it up again.
+    pub fn find_column(&mut self, name: &[u8]) -> bool
+        ensures found { result ≡ has_column self.old name.now }
+        ensures same { self.new ≡ self.old }
+    {
+        self.tables.find_column(name)
+    }
+
     /// Whether a row of this name is declared with type N. The objective does not count.
     pub fn is_free_row(&self, name: &[u8]) -> bool
         ensures { result ≡ is_free_row self.now name.now }

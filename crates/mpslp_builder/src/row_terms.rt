@@ -153,21 +153,25 @@ impl RowTerms {
 }
 
 impl Tables {
-    /// The numbers that the columns of the first terms may have. The look-ups do not wait for one another, so that their misses
-    /// of the cache overlap. It only speeds up later look-ups, so any numbers are correct.
+    /// The numbers that the columns of the first terms may have, 0 where there is none. They only speed up later look-ups, so any
+    /// numbers are correct.
     fn guesses(&self, row: u32, terms: &[(Name, Decimal)]) -> [usize; AHEAD] {
         let mut guesses = [0usize; AHEAD];
         let mut next = self.recent;
         for i in 0..AHEAD {
             let Some(term) = terms.get(i) else {
-                return guesses;
+                break;
             };
             if let Some(column) = self.column_from(term.0.as_bytes(), next) {
-                // This also reads the last coefficient of the column, after which the next one is stored.
-                if !self.has_cell(column, row) {
-                    guesses[i] = column;
-                }
+                guesses[i] = column;
                 next = column.saturating_add(1);
+            }
+        }
+        // This reads the last coefficient of each column, after which the next one is stored. In a loop of their own the misses of
+        // the cache overlap.
+        for i in 0..AHEAD {
+            if self.has_cell(guesses[i], row) {
+                guesses[i] = 0;
             }
         }
         guesses
@@ -181,7 +185,7 @@ impl Tables {
         if self.is_column(guess, name) {
             return Some(guess);
         }
-        self.column_number(name)
+        self.column_by_hash(name)
     }
 
     /// The number of the column of this name, which is declared if it is not yet.

@@ -208,9 +208,31 @@ impl Tables {
         if self.is_column(next, name) {
             return Some(next);
         }
+        self.column_by_hash(name)
+    }
+
+    /// The number of the column of this name, which is looked up by its hash.
+    pub(crate) fn column_by_hash(&self, name: &[u8]) -> Option<usize>
+        ensures number { IfSome result (λ i. column_name self.now i ≡ Some name.now) }
+        ensures found { is_some result ≡ has_column (draft None None self.now) name.now }
+    {
         match self.columns.get_full(NameBytes { bytes: name }) {
             Some((i, _key, _column)) => Some(i),
             None => None,
+        }
+    }
+
+    /// Whether a column has this name. The column is then the one that was used last, so that the next look-up finds it at once.
+    pub(crate) fn find_column(&mut self, name: &[u8]) -> bool
+        ensures found { result ≡ has_column (draft None None self.old) name.now }
+        ensures same { IsSameTables self.old self.new }
+    {
+        match self.column_number(name) {
+            Some(number) => {
+                self.recent = number;
+                true
+            }
+            None => false,
         }
     }
 

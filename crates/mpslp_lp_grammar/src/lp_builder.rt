@@ -205,7 +205,7 @@ impl LpBuilder {
         requires { IsMpsName column.now }
         ensures { Declares self.old (declare_column column.now ∷ []) result self.new }
     {
-        if self.builder.has_column(column) {
+        if self.builder.find_column(column) {
             each_builder_is_made(&self.builder);
             return Ok(());
         }

@@ -396,10 +396,11 @@ fn first_other_answer(
 }
 
 /// Whether the builder knows the names of these calls, and no others.
-fn knows_its_names(builder: &Builder) -> bool {
+fn knows_its_names(builder: &mut Builder) -> bool {
     let has = builder.has_row(b"r") && builder.has_row(b"f") && builder.has_column(b"x");
     let has_others = builder.has_row(b"x") || builder.has_column(b"r");
-    builder.has_objective() && has && !has_others
+    let finds = builder.find_column(b"x") && !builder.find_column(b"r");
+    builder.has_objective() && has && !has_others && finds
 }
 
 #[test]
@@ -407,7 +408,7 @@ fn answers_in_order(rt: HostRuntime) {
     let mut builder = Builder::new(rt.alloc());
     let had_objective = builder.has_objective();
     let other_answer = first_other_answer(&mut builder, rt.alloc(), &ANSWERS);
-    let knows = knows_its_names(&builder);
+    let knows = knows_its_names(&mut builder);
     assert!(rt; !had_objective && knows);
     assert_eq!(rt; other_answer, None);
 }

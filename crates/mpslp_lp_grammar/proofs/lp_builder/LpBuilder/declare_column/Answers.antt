@@ -1,14 +1,15 @@
-use Rattle.std.proofs.Common.{◌≡◌, refl, sym, ap, subst, ◌∙◌, ℕ, List}
-use Rattle.mpslp_builder.specs.Declaration.{Draft, with_declaration, declare_column}
+use Rattle.std.proofs.Common.{◌≡◌, refl, sym, ap, ◌∙◌, ℕ, List}
+use Rattle.mpslp_builder.specs.Declaration.{Draft, with_declaration, declare_column, has_column}
 use Rattle.mpslp_builder.proofs.AnswerLemmas.{put_again}
 use Rattle.mpslp_builder.proofs.SortedDrafts.{sorted-from_made}
 use Rattle.mpslp_lp_grammar.proofs.lp_builder.LpBuilder.declare_column.Goals as goal
 
-pub returns-then-has_column : goal.returns-then-has_column
-returns-then-has_column c =
-    let inner = c.self.inside.builder in
+pub returns-then-find_column : goal.returns-then-find_column
+returns-then-find_column c =
+    let later = c.find_column.new.self in
     let column = c.args.column.now in
-    let again : inner ≡ with_declaration inner (declare_column column) =
-    ap (λ (columns : List (List ℕ × Unit {0})). record inner { columns = columns })
-    (put_again column inner.columns (sorted-from_made inner c.each_builder_is_made.ensures).columns (sym c.has_column.ensures ∙ c.if-has_column.true)) in
-    (refl, subst (λ (all : Draft). all ≡ with_declaration all (declare_column column)) c.self.view_is again)
+    let same = c.find_column.ensures.same ∙ c.self.view_is in
+    let there = ap (λ (all : Draft). has_column all column) c.find_column.ensures.same ∙ sym c.find_column.ensures.found ∙ c.if-find_column.true in
+    let again : later ≡ with_declaration later (declare_column column) =
+    ap (λ (columns : List (List ℕ × Unit {0})). record later { columns = columns }) (put_again column later.columns (sorted-from_made later c.each_builder_is_made.ensures).columns there) in
+    (refl, again ∙ ap (λ (all : Draft). with_declaration all (declare_column column)) same)
