@@ -39,12 +39,12 @@ impl Model for Cells {
     ghost invariant = { λ c. IsOnceBy nat_cmp (c.near ++ c.far) };
 }
 
-/// For how many more coefficients a full vector gets room. Many columns have only one or two, which leave no room unused; in a
-/// long column the unused room is at most a third.
+/// For how many more coefficients a full vector gets room. Most columns have few, and their unused room is for one at most; in
+/// a long column it is at most a third.
 fn more_room(len: usize) -> usize {
     match len {
-        0 => 1,
-        1..SHORT => len,
+        0 | 1 => 1,
+        2..16 => 2,
         _ => len / 2,
     }
 }
