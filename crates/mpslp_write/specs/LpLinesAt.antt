@@ -1,5 +1,5 @@
 -- Lines of canonical LP that are printed for one entry after another.
-use Rattle.std.specs.Prelude.{◌≡◌, ℕ, Bool, true, false, List, [], ◌∷◌, slice_get, Option, Some, None, if◌then◌else◌}
+use Rattle.std.specs.Prelude.{◌≡◌, ◌+◌, ◌<◌, ℕ, Bool, true, false, List, [], ◌∷◌, length, slice_get, slice_index_or, Option, Some, None, if◌then◌else◌}
 use Rattle.std.specs.FinMap.{entries}
 use Rattle.mpslp_model_core.specs.Model.{LinearModel, Column, Listing, listing_of}
 use Rattle.mpslp_model_core.specs.Views.{row_name, row_columns, column_name, coefficient_at}
@@ -37,6 +37,10 @@ numbered_term_lines m row j = lines_at (row_term_lines (listing_of m) row) (entr
 pub record IsTerm (m : LinearModel) (i k : ℕ) (term : ℕ × Number) : Type 0 where
   pub column : slice_get (row_columns m (row_name m i)) k ≡ Some term.0
   pub value : term.1 ≡ coefficient_at m (row_name m i) (column_name m term.0)
+
+-- `count` terms of row `i` from number `from` on, as far as there are so many
+abbrev pub AreTerms : LinearModel → ℕ → ℕ → ℕ → List (ℕ × Number) → Type 0
+AreTerms m i from count terms = (n : ℕ) (default : ℕ × Number) → n < count → from + n < length (row_columns m (row_name m i)) → IsTerm m i (from + n) (slice_index_or terms n default)
 
 abbrev pub has_lines : Lines → Bool
 has_lines [] = false

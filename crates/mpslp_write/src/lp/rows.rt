@@ -1,6 +1,6 @@
 //! The rows of canonical LP.
 
-ghost use Rattle.std.specs.Prelude.{◌<◌, [], ◌∷◌, map};
+ghost use Rattle.std.specs.Prelude.{◌<◌, ◌≤◌, [], ◌∷◌, length, map};
 ghost use Rattle.std.specs.List.{flat_map};
 ghost use Rattle.std.specs.FinMap.{entries};
 ghost use Rattle.mpslp_model_core.specs.Views.{num_rows, row_name, row_columns};
@@ -8,7 +8,7 @@ ghost use Rattle.mpslp_canonical_lp.specs.Printed.{line_text};
 ghost use Rattle.mpslp_model_core.specs.Model.{listing_of};
 ghost use Rattle.mpslp_canonical_lp.specs.CanonicalLp.{term_line, row_terms, left_lines, last_line, row_lines, rows_section};
 ghost use Rattle.mpslp_output.specs.LinesAt.{lines_at};
-ghost use Rattle.mpslp_write.specs.LpLinesAt.{IsTerm, numbered_term_lines, left_between, last_between};
+ghost use Rattle.mpslp_write.specs.LpLinesAt.{IsTerm, AreTerms, numbered_term_lines, left_between, last_between};
 ghost use Rattle.mpslp_output.specs.Printing.{Prints, PrintsSection};
 
 use crate::lp::lines::{
@@ -37,22 +37,39 @@ fn put_term<W: Sink>(
     put_term_line(output, model.column_name(j).as_bytes(), value);
 }
 
-/// Prints the terms of row `i`. Each is looked up before the one before it is printed, so that its misses of the cache cost less.
+/// How many terms are looked up before they are printed. The look-ups do not wait for one another, so that their misses of the
+/// cache overlap.
+const AHEAD: usize = 8;
+
+/// The terms of row `i` from number `from` on. Places at which there is no term have any values.
+fn terms_from(model: &Model, i: usize, from: usize) -> [(usize, Decimal); AHEAD]
+    requires row { i < num_rows model.now }
+    requires within { from ≤ length (row_columns model.now (row_name model.now i)) }
+    ensures { AreTerms model.now i from AHEAD result }
+{
+    let left = model.row_len(i) - from;
+    let mut terms = [(0usize, Decimal::zero()); AHEAD];
+    for n in 0..AHEAD {
+        if n < left {
+            terms[n] = model.row_entry(i, from + n);
+        }
+    }
+    terms
+}
+
+/// Prints the terms of row `i`.
 fn put_terms<W: Sink>(model: &Model, i: usize, output: &mut Output<W>)
     requires { i < num_rows model.now }
     ensures { Prints line_text W.Sink output.old output.new (flat_map (numbered_term_lines model.now (row_name model.now i)) (row_columns model.now (row_name model.now i))) }
 {
-    let len = model.row_len(i);
-    if len == 0 {
-        return;
-    }
-    let mut next = model.row_entry(i, 0);
-    for k in 0..len {
-        let term = next;
-        if k + 1 < len {
-            next = model.row_entry(i, k + 1);
+    let mut from = 0;
+    let mut terms = terms_from(model, i, from);
+    for k in 0..model.row_len(i) {
+        if k - from == AHEAD {
+            from = k;
+            terms = terms_from(model, i, from);
         }
-        put_term(model, i, k, term, output);
+        put_term(model, i, k, terms[k - from], output);
     }
 }
 
