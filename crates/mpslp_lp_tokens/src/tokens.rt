@@ -72,6 +72,7 @@ fn blanks_len(text: &[u8]) -> usize
 
 /// The first token of the line at or after the index `at`; `None` if only spaces, tabs and a comment are left. `at` must not
 /// be inside a token: begin with 0, and continue at the end of the token that was returned.
+#[inline(always)]
 pub fn next_token(line: &[u8], at: usize) -> Option<Token<'_>>
     requires { at ≤ length line.now }
     ensures { MatchOption result (tokens_after line.now at ≡ []) (λ token. IsNext line.now at token) }
