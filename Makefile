@@ -2,7 +2,7 @@
 
 .PHONY: program run test mutants lib lib-check python python-check bench refused random vectors docs-check solvers dialects
 
-# Proves and builds the program: 20 to 35 minutes the first time, and later what changed.
+# Proves and builds the program: 15 to 35 minutes the first time, and later what changed.
 program:
 	@python3 scripts/prove.py mpslp
 
