@@ -47,12 +47,10 @@ fn terms_from(model: &Model, i: usize, from: usize) -> [(usize, Decimal); AHEAD]
     requires within { from ≤ length (row_columns model.now (row_name model.now i)) }
     ensures { AreTerms model.now i from AHEAD result }
 {
-    let left = model.row_len(i) - from;
+    let count = AHEAD.min(model.row_len(i) - from);
     let mut terms = [(0usize, Decimal::zero()); AHEAD];
-    for n in 0..AHEAD {
-        if n < left {
-            terms[n] = model.row_entry(i, from + n);
-        }
+    for n in 0..count {
+        terms[n] = model.row_entry(i, from + n);
     }
     terms
 }
