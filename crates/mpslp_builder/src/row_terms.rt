@@ -156,20 +156,18 @@ impl Tables {
     /// The numbers that the columns of the first terms may have, 0 where there is none. They only speed up later look-ups, so any
     /// numbers are correct.
     fn guesses(&self, row: u32, terms: &[(Name, Decimal)]) -> [usize; AHEAD] {
+        let count = terms.len().min(AHEAD);
         let mut guesses = [0usize; AHEAD];
         let mut next = self.recent;
-        for i in 0..AHEAD {
-            let Some(term) = terms.get(i) else {
-                break;
-            };
-            if let Some(column) = self.column_from(term.0.as_bytes(), next) {
+        for i in 0..count {
+            if let Some(column) = self.column_from(terms[i].0.as_bytes(), next) {
                 guesses[i] = column;
                 next = column.saturating_add(1);
             }
         }
         // This reads the last coefficient of each column, after which the next one is stored. In a loop of their own the misses of
         // the cache overlap.
-        for i in 0..AHEAD {
+        for i in 0..count {
             if self.has_cell(guesses[i], row) {
                 guesses[i] = 0;
             }
