@@ -41,15 +41,15 @@ fn finish_fed<P: ModelReader>(reader: P, fault: Option<Fault>) -> Result<Model, 
     if let Some(found) = fault {
         return Err(RunFault::File(found));
     }
-    match reader.finish() {
+    match reader.finish_by_columns() {
         Ok(model) => Ok(model),
         Err(ReadFault::File(found)) => Err(RunFault::File(found)),
         Err(_) => Err(RunFault::OutOfMemory),
     }
 }
 
-/// Reads the model that the bytes of a source declare. Reads like [`load`](crate::load), but does not keep the bytes. An error
-/// in them is reported only after the source has ended.
+/// Reads the model that the bytes of a source declare, without lists by rows. Reads like [`load`](crate::load), but does not
+/// keep the bytes. An error in them is reported only after the source has ended.
 pub(crate) fn read_model<A: Format, R: Source>(
     alloc: Global,
     max_bytes: u64,
@@ -86,7 +86,8 @@ pub(crate) fn read_model<A: Format, R: Source>(
 }
 
 /// Reads a source to its end, and returns the model that its bytes declare, or their first error. Reads as [`load`](crate::load)
-/// does, and asks for one byte more than `max_bytes` at most, but does not keep the bytes.
+/// does, and asks for one byte more than `max_bytes` at most, but does not keep the bytes. The model has no lists by rows: before it
+/// is written as LP, call [`Model::with_row_lists`].
 ///
 /// # Errors
 ///

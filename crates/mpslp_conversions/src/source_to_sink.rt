@@ -6,6 +6,7 @@ ghost use Rattle.mpslp_model_core.specs.Model.{LinearModel};
 ghost use Rattle.mpslp_types.specs.declared.faults.Fault.{Fault};
 ghost use Rattle.mpslp_types.specs.declared.faults.NameAt.{NameAt};
 ghost use Rattle.mpslp_conversions.specs.Conversions.{IsErrUnless};
+ghost use Rattle.mpslp_conversions.specs.Feeding.{IsReading};
 ghost use Rattle.mpslp_conversions.specs.Runs.{SourceHeld, SourceHeldMore, IsLoad, IsPut, IsRun, TakesAtMost};
 
 use crate::counting_sink::Counter;
@@ -92,6 +93,24 @@ fn put_model<B: Format, W: Sink>(model: &Model, sink: &mut W) -> Result<(), RunF
     Ok(())
 }
 
+/// Reads the model that the bytes of a source declare in A, and prepares it to be written in B.
+fn read_prepared<A: Format, B: Format, R: Source>(
+    alloc: Global,
+    max_bytes: u64,
+    source: &mut R,
+) -> Result<Model, RunFault>
+    ensures answer { IsReading A.declares A.first_fault (R.left source.old) (R.left source.new) (R.failed source.new) max_bytes result }
+    ensures asked { TakesAtMost (max_bytes + 1) (R.left source.old) (R.left source.new) }
+    ensures calls { R.count source.new ≤ R.count source.old + max_bytes + 1 }
+    ensures stays { R.failed source.old ≡ true → R.failed source.new ≡ true }
+{
+    let model = read_model::<A, R>(alloc, max_bytes, source)?;
+    match B::prepare(alloc, model) {
+        Ok(model) => Ok(model),
+        Err(_) => Err(RunFault::OutOfMemory),
+    }
+}
+
 /// Reads a source to its end, and writes to the sink the canonical text in B of the model that its bytes declare in A, flushed
 /// once.
 ///
@@ -136,6 +155,6 @@ pub fn run<A: Format, B: Format, R: Source, W: Sink>(
     ensures source_stays { R.failed source.old ≡ true → R.failed source.new ≡ true }
     ensures sink_stays { W.failed sink.old ≡ true → W.failed sink.new ≡ true }
 {
-    let model = read_model::<A, R>(alloc, max_bytes, source)?;
+    let model = read_prepared::<A, B, R>(alloc, max_bytes, source)?;
     put_model::<B, W>(&model, sink)
 }

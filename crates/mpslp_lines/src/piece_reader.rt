@@ -121,7 +121,7 @@ impl<L: ReadLines> PieceReader<L> {
         }
     }
 
-    /// The model that all pieces together declare.
+    /// The model that all pieces together declare. It has no lists by rows.
     ///
     /// # Errors
     ///

@@ -53,7 +53,7 @@ pub trait ReadLines: Drop {
         requires unended { at_end self.old ≡ false }
         ensures { ReadsOn has_read lines_fault self.old (line.now ∷ []) self.new result };
 
-    /// The model that the text declares, after all its lines were read.
+    /// The model that the text declares, after all its lines were read. It has no lists by rows.
     ///
     /// # Errors
     ///

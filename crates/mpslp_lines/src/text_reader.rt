@@ -12,6 +12,7 @@ use std::marker::Model;
 pub struct TextReader<L: ReadLines> {
     /// `None` after a piece was rejected.
     pieces: Option<PieceReader<L>>,
+    alloc: Global,
 }
 
 impl<L: ReadLines> Model for TextReader<L> {
@@ -43,6 +44,7 @@ impl<L: ReadLines> ModelReader for TextReader<L> {
     fn new(alloc: Global) -> TextReader<L> {
         TextReader {
             pieces: Some(PieceReader::new(alloc)),
+            alloc,
         }
     }
 
@@ -56,7 +58,18 @@ impl<L: ReadLines> ModelReader for TextReader<L> {
     }
 
     fn finish(self) -> Result<mpslp_model::Model, ReadFault> {
-        let TextReader { pieces } = self;
+        let alloc = self.alloc;
+        match self.finish_by_columns() {
+            Ok(model) => match model.with_row_lists(alloc) {
+                Ok(model) => Ok(model),
+                Err(_) => Err(ReadFault::OutOfMemory),
+            },
+            Err(fault) => Err(fault),
+        }
+    }
+
+    fn finish_by_columns(self) -> Result<mpslp_model::Model, ReadFault> {
+        let TextReader { pieces, alloc: _ } = self;
         match pieces {
             Some(pieces) => pieces.finish(),
             None => Err(ReadFault::Failed),

@@ -64,7 +64,7 @@ impl ReadLines for LineReader {
                 name: None,
             }));
         }
-        self.context.into_builder().finish()
+        self.context.into_builder().finish_by_columns()
     }
 
     ghost behind_end = { read-behind_end };

@@ -1,6 +1,6 @@
 //! Formats of model files.
 
-ghost use Rattle.std.specs.Prelude.{◌≡◌, ℕ, ◌+◌, ◌≤◌, ◌↔◌, List, true, false, Option, None, length, IsOk, IsTrue};
+ghost use Rattle.std.specs.Prelude.{◌≡◌, ℕ, ◌+◌, ◌≤◌, ◌↔◌, List, true, false, Option, None, length, IfOk, IsOk, IsTrue};
 ghost use Rattle.mpslp_model_core.specs.Model.{LinearModel, IsSound};
 ghost use Rattle.mpslp_model.specs.Formats.{IsAnswerTo, IsWritten};
 ghost use Rattle.mpslp_types.specs.declared.faults.Fault.{Fault};
@@ -10,7 +10,7 @@ use crate::readers::ModelReader;
 use mpslp_io::Sink;
 use mpslp_model_core::Model;
 use mpslp_types::{ReadFault, WriteFault};
-use std::alloc::Global;
+use std::alloc::{AllocError, Global};
 
 /// A format of model files: how its bytes are read, how a model is written, and the laws that connect both. What is proved
 /// from this trait holds for every format.
@@ -41,6 +41,15 @@ pub trait Format {
     /// Whether all names of the model are legal in the format.
     fn expressible(model: &Model) -> bool
         ensures { IsTrue result ↔ (unfit model.now ≡ None) };
+
+    /// Returns the same model, with the lists that [`write`](Format::write) uses to take time proportional to the model. A model
+    /// that was read by [`read`](Format::read), or finished by [`finish`](ModelReader::finish), has them.
+    ///
+    /// # Errors
+    ///
+    /// [`AllocError`] if there is no memory for them.
+    fn prepare(alloc: Global, model: Model) -> Result<Model, AllocError>
+        ensures { IfOk result (λ prepared. prepared ≡ model) };
 
     /// Writes the canonical text of the model to the sink. Makes at most as many calls as the text has bytes, does not flush and
     /// allocates nothing.

@@ -54,6 +54,16 @@ pub trait ModelReader: Drop {
         ensures answer { (bytes : List ℕ) → after self bytes → IsAnswerTo declares first_fault bytes result }
         ensures failed { IsErrOf result ReadFault.Failed ↔ (refused self ≡ true) };
 
+    /// Returns the same as [`finish`](ModelReader::finish), but a model without lists by rows. Use it for a model that is
+    /// compared, read by columns or written as MPS, or that [`Format::prepare`](crate::Format::prepare) prepares.
+    ///
+    /// # Errors
+    ///
+    /// As [`finish`](ModelReader::finish).
+    fn finish_by_columns(self) -> Result<Model, ReadFault>
+        ensures answer { (bytes : List ℕ) → after self bytes → IsAnswerTo declares first_fault bytes result }
+        ensures failed { IsErrOf result ReadFault.Failed ↔ (refused self ≡ true) };
+
     /// A reader that was given these bytes has rejected no piece.
     ghost after_works: { (r : Self) (bytes : List ℕ) → after r bytes → refused r ≡ false };
 

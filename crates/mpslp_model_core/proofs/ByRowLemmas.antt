@@ -1,11 +1,11 @@
 -- The lists of columns by rows, and the model.
-use Rattle.std.proofs.Common.{◌≡◌, refl, sym, ap, subst, ◌∙◌, ℕ, zero, suc, ◌+◌, ◌<◌, ◌≤◌, List, [], ◌∷◌, ◌++◌, length, map, Bool, true, false, cond, arith}
-use Rattle.std.specs.Prelude.{Option, Some, None, is_some, filter, slice_get, unwrap_or}
+use Rattle.std.proofs.Common.{◌≡◌, refl, sym, ap, subst, ◌∙◌, ℕ, zero, suc, ◌+◌, ◌-◌, ◌<◌, ◌≤◌, List, [], ◌∷◌, ◌++◌, length, map, Bool, true, false, cond, arith}
+use Rattle.std.specs.Prelude.{IfSome, Option, Some, None, is_some, filter, slice_get, unwrap_or}
 use Rattle.std.specs.List.{All, list_all, range_with_len}
 use Rattle.std.specs.Option.{option_map, option_map_or}
 use Rattle.std.specs.Ordering.{nat_cmp}
-use Rattle.std.specs.FinMap.{find}
-use Rattle.std.proofs.lemmas.List.{map-id, length-map}
+use Rattle.std.specs.FinMap.{find, is_sorted}
+use Rattle.std.proofs.lemmas.List.{append-nil, map-id, length-map}
 use Rattle.std.proofs.lemmas.Option.{same_Some, slice_get-map, slice_get_within, get_or_from_slice_get}
 use Rattle.std.proofs.lemmas.List.FromFn.{length-range_with_len, get_or-range_with_len, map-range_with_len_more}
 use Rattle.std.proofs.lemmas.List.Elements.{All-from_get_or, filter-append}
@@ -15,7 +15,7 @@ use Rattle.mpslp_model_core.specs.Views.{num_rows, num_columns, row_name, column
 use Rattle.std.specs.Cmp.{first_so, second_so, nat_cmp_total}
 use Rattle.mpslp_model_core.specs.Numbered.{name_of}
 use Rattle.mpslp_model_core.specs.ModelParts.{linear_model, AreModelParts, cells_in, cells_by_name, name_of_row_key}
-use Rattle.mpslp_model_core.specs.ByRow.{list_at, column_if, has_number, cells_of, columns_with, IsPlaced, AreIndexed}
+use Rattle.mpslp_model_core.specs.ByRow.{list_at, column_if, has_number, cells_of, columns_with, IsPlaced, AreByRow, AreIndexed, AreListed}
 use Rattle.mpslp_model_core.specs.declared.by_row.RowElement.{RowElement}
 use Rattle.mpslp_model_core.specs.declared.by_row.RowLists.{RowLists}
 use Rattle.mpslp_model_core.specs.declared.model.ModelColumn.{ModelColumn}
@@ -70,7 +70,7 @@ all_below P n each =
     let within : i < n = subst (λ (len : ℕ). i < len) (length-range_with_len 0 n) below in
     subst P (sym (get_or-range_with_len 0 n i 0 within)) (each (0 + i) (omega arith)))
 
-pub listed_below : (p : ℕ → Bool) (n k j : ℕ) → slice_get (filter p (range_with_len 0 n)) k ≡ Some j → j < n
+listed_below : (p : ℕ → Bool) (n k j : ℕ) → slice_get (filter p (range_with_len 0 n)) k ≡ Some j → j < n
 listed_below p n k j at = by (range_with_len 0 n) k (all_below (λ (j : ℕ). j < n) n (λ j below. below)) at
   where
     by : (js : List ℕ) (k : ℕ) → All (λ (j : ℕ). j < n) js → slice_get (filter p js) k ≡ Some j → j < n
@@ -89,24 +89,36 @@ listed_below p n k j at = by (range_with_len 0 n) k (all_below (λ (j : ℕ). j 
 pub row_below : {m : ModelParts} {v : LinearModel} → linear_model m ≡ v → AreModelParts m → (i : ℕ) → i < num_rows v → i < length m.rows.items
 row_below seen parts i below = subst (λ (len : ℕ). i < len) (sym (count_seen (rows_seen seen parts))) below
 
--- the list of a row, and its columns in the model
-pub row_seen : {m : ModelParts} {v : LinearModel} {names : RowNames} (lists : RowLists) → linear_model m ≡ v → AreIndexed m lists names → (i : ℕ) → i < num_rows v
-    → map (λ (element : RowElement). element.column) (list_at lists i) ≡ row_columns v (row_name v i)
-row_seen {m} {v} {names} lists seen are i below =
-    let columns = m.columns.items in
+-- lists that were made are those of the parts
+pub listed_in : {m : ModelParts} {made : Option RowLists} {names : RowNames} (lists : RowLists) → AreIndexed m made names → made ≡ Some lists → AreListed m lists
+listed_in {m} lists are is = record {
+  parts = are.parts;
+  by_row = subst (λ (o : Option RowLists). IfSome o (AreByRow m.columns.items (length m.rows.items))) is are.by_row;
+}
+
+-- the columns with a coefficient in a row, and those of the row in the model
+pub columns_seen : {m : ModelParts} {v : LinearModel} (columns : List (List ℕ × ModelColumn)) → columns ≡ m.columns.items → linear_model m ≡ v → AreModelParts m → (i : ℕ) → i < num_rows v
+    → columns_with columns (suc i) (length columns) ≡ row_columns v (row_name v i)
+columns_seen {m} {v} columns same seen parts i below =
+    let own = m.columns.items in
     let row = row_name v i in
     let n = num_columns v in
-    let as_many : length columns ≡ n = count_columns seen are.parts in
-    let alike : (j : ℕ) → j < n → has_number (suc i) (cells_of columns j) ≡ has_coefficient v row (column_name v j) =
+    let as_many : length own ≡ n = count_columns seen parts in
+    let alike : (j : ℕ) → j < n → has_number (suc i) (cells_of own j) ≡ has_coefficient v row (column_name v j) =
     (λ j under.
-    let cells = cells_of columns j in
-    let there = cells_seen m are.parts v seen j cells (cells_there columns j (subst (λ (len : ℕ). j < len) (sym as_many) under)) in
-    ap is_some (sym (found_seen m are.parts v seen j cells there (suc i) row (row_numbered seen are.parts i below)))) in
-    are.by_row.own i (row_below seen are.parts i below)
-    ∙ ap (columns_with columns (suc i)) as_many
-    ∙ filter_alike (λ j. has_number (suc i) (cells_of columns j)) (λ j. has_coefficient v row (column_name v j)) (range_with_len 0 n) (all_below _ n alike)
+    let cells = cells_of own j in
+    let there = cells_seen m parts v seen j cells (cells_there own j (subst (λ (len : ℕ). j < len) (sym as_many) under)) in
+    ap is_some (sym (found_seen m parts v seen j cells there (suc i) row (row_numbered seen parts i below)))) in
+    ap (λ (cs : List (List ℕ × ModelColumn)). columns_with cs (suc i) (length cs)) same
+    ∙ ap (columns_with own (suc i)) as_many
+    ∙ filter_alike (λ j. has_number (suc i) (cells_of own j)) (λ j. has_coefficient v row (column_name v j)) (range_with_len 0 n) (all_below _ n alike)
 
-pub row_seen_length : {m : ModelParts} {v : LinearModel} {names : RowNames} (lists : RowLists) → linear_model m ≡ v → AreIndexed m lists names → (i : ℕ) → i < num_rows v → length (list_at lists i) ≡ length (row_columns v (row_name v i))
+-- the list of a row, and its columns in the model
+pub row_seen : {m : ModelParts} {v : LinearModel} (lists : RowLists) → linear_model m ≡ v → AreListed m lists → (i : ℕ) → i < num_rows v
+    → map (λ (element : RowElement). element.column) (list_at lists i) ≡ row_columns v (row_name v i)
+row_seen {m} {v} lists seen are i below = are.by_row.own i (row_below seen are.parts i below) ∙ columns_seen m.columns.items refl seen are.parts i below
+
+pub row_seen_length : {m : ModelParts} {v : LinearModel} (lists : RowLists) → linear_model m ≡ v → AreListed m lists → (i : ℕ) → i < num_rows v → length (list_at lists i) ≡ length (row_columns v (row_name v i))
 row_seen_length lists seen are i below = sym (length-map (list_at lists i) (λ (element : RowElement). element.column)) ∙ ap length (row_seen lists seen are i below)
 
 -- ---- a coefficient of a row
@@ -120,8 +132,76 @@ placed_within [] p n at = absurd cc
 placed_within (cell ∷ cells) zero n at = omega arith
 placed_within (cell ∷ cells) (suc p) n at = let later = placed_within cells p n at in omega arith
 
+-- ---- columns searched
+
+-- one more column, whose coefficients these are
+pub columns_next : (columns : List (List ℕ × ModelColumn)) (n count : ℕ) (cells : List (ℕ × Number)) → option_map (λ (column : List ℕ × ModelColumn). column.1.cells.items) (slice_get columns count) ≡ Some cells
+    → columns_with columns n (count + 1) ≡ columns_with columns n count ++ column_if (has_number n cells) count
+columns_next columns n count cells at =
+    columns_more columns n count
+    ∙ ap (λ (own : List (ℕ × Number)). columns_with columns n count ++ column_if (has_number n own) count) (cells_found (slice_get columns count) cells at)
+
+-- a column without a coefficient adds nothing
+pub columns_without : (columns : List (List ℕ × ModelColumn)) (n count : ℕ) (cells : List (ℕ × Number)) → option_map (λ (column : List ℕ × ModelColumn). column.1.cells.items) (slice_get columns count) ≡ Some cells
+    → has_number n cells ≡ false → columns_with columns n (count + 1) ≡ columns_with columns n count
+columns_without columns n count cells at none =
+    columns_next columns n count cells at
+    ∙ ap (λ (has : Bool). columns_with columns n count ++ column_if has count) none
+    ∙ append-nil (columns_with columns n count)
+
+-- and one with a coefficient adds itself
+pub columns_and : (columns : List (List ℕ × ModelColumn)) (n count : ℕ) (cells : List (ℕ × Number)) → option_map (λ (column : List ℕ × ModelColumn). column.1.cells.items) (slice_get columns count) ≡ Some cells
+    → has_number n cells ≡ true → columns_with columns n (count + 1) ≡ columns_with columns n count ++ count ∷ []
+columns_and columns n count cells at one =
+    columns_next columns n count cells at
+    ∙ ap (λ (has : Bool). columns_with columns n count ++ column_if has count) one
+
+pub cells_rise : (columns : List (List ℕ × ModelColumn)) (j : ℕ) (cells : List (ℕ × Number)) → list_all (λ column. is_sorted nat_cmp column.1.cells.items) columns ≡ true
+    → option_map (λ (column : List ℕ × ModelColumn). column.1.cells.items) (slice_get columns j) ≡ Some cells → is_sorted nat_cmp cells ≡ true
+cells_rise [] j cells rise at = absurd cc
+cells_rise (column ∷ columns) zero cells rise at =
+    let same : column.1.cells.items ≡ cells = cc in
+    ap (is_sorted nat_cmp) (sym same) ∙ first_so (is_sorted nat_cmp column.1.cells.items) (list_all (λ c. is_sorted nat_cmp c.1.cells.items) columns) rise
+cells_rise (column ∷ columns) (suc j) cells rise at =
+    cells_rise columns j cells (second_so (is_sorted nat_cmp column.1.cells.items) (list_all (λ c. is_sorted nat_cmp c.1.cells.items) columns) rise) at
+
+seam : (js : List ℕ) (j : ℕ) (more : List ℕ) → slice_get (js ++ j ∷ more) (length js) ≡ Some j
+seam [] j more = refl
+seam (i ∷ js) j more = seam js j more
+
+kept : (js more : List ℕ) (k j : ℕ) → slice_get js k ≡ Some j → slice_get (js ++ more) k ≡ Some j
+kept [] more k j at = absurd cc
+kept (i ∷ js) more zero j at = at
+kept (i ∷ js) more (suc k) j at = kept js more k j at
+
+kept_after : (columns : List (List ℕ × ModelColumn)) (n count k j more : ℕ) → slice_get (columns_with columns n count) k ≡ Some j → slice_get (columns_with columns n (count + more)) k ≡ Some j
+kept_after columns n count k j zero at = subst (λ (m : ℕ). slice_get (columns_with columns n m) k ≡ Some j) (omega arith) at
+kept_after columns n count k j (suc more) at =
+    let before = kept_after columns n count k j more at in
+    let m = count + more in
+    let next : slice_get (columns_with columns n (m + 1)) k ≡ Some j =
+    subst (λ (js : List ℕ). slice_get js k ≡ Some j) (sym (columns_more columns n m)) (kept (columns_with columns n m) (column_if (has_number n (cells_of columns m)) m) k j before) in
+    subst (λ (m : ℕ). slice_get (columns_with columns n m) k ≡ Some j) (omega arith) next
+
+-- a column with a coefficient is listed where as many come before it
+pub column_listed : (columns : List (List ℕ × ModelColumn)) (n j k : ℕ) (cells : List (ℕ × Number)) → option_map (λ (column : List ℕ × ModelColumn). column.1.cells.items) (slice_get columns j) ≡ Some cells
+    → has_number n cells ≡ true → k ≡ length (columns_with columns n j) → j < length columns → slice_get (columns_with columns n (length columns)) k ≡ Some j
+column_listed columns n j k cells at one place below =
+    let js = columns_with columns n j in
+    let here : slice_get (columns_with columns n (j + 1)) k ≡ Some j =
+    ap (slice_get (columns_with columns n (j + 1))) place
+    ∙ ap (λ (l : List ℕ). slice_get l (length js)) (columns_and columns n j cells at one)
+    ∙ seam js j [] in
+    subst (λ (m : ℕ). slice_get (columns_with columns n m) k ≡ Some j) (omega arith) (kept_after columns n (j + 1) k j (length columns - (j + 1)) here)
+
+-- a column of a row is one of the model
+pub column_below : (v : LinearModel) (i k j : ℕ) → slice_get (row_columns v (row_name v i)) k ≡ Some j → j < num_columns v
+column_below v i k j at = listed_below (λ j. has_coefficient v (row_name v i) (column_name v j)) (num_columns v) k j at
+
+-- ---- an element
+
 -- the element of number k in the list of the row at index i
-module _ {m : ModelParts} {v : LinearModel} {names : RowNames} (lists : RowLists) (seen : linear_model m ≡ v) (are : AreIndexed m lists names) (i k : ℕ) (below : i < num_rows v) (element : RowElement) (is : slice_get (list_at lists i) k ≡ Some element) where
+module _ {m : ModelParts} {v : LinearModel} (lists : RowLists) (seen : linear_model m ≡ v) (are : AreListed m lists) (i k : ℕ) (below : i < num_rows v) (element : RowElement) (is : slice_get (list_at lists i) k ≡ Some element) where
   pub element_column : slice_get (row_columns v (row_name v i)) k ≡ Some element.column
   element_column =
       ap (λ (js : List ℕ). slice_get js k) (sym (row_seen lists seen are i below))
@@ -129,7 +209,7 @@ module _ {m : ModelParts} {v : LinearModel} {names : RowNames} (lists : RowLists
       ∙ ap (option_map (λ (e : RowElement). e.column)) is
 
   pub element_below : element.column < num_columns v
-  element_below = listed_below (λ j. has_coefficient v (row_name v i) (column_name v j)) (num_columns v) k element.column element_column
+  element_below = column_below v i k element.column element_column
 
   -- its coefficient is at its place in its column
   module _ (columns : List (List ℕ × ModelColumn)) (cells : List (ℕ × Number)) (same : columns ≡ m.columns.items) (at : option_map (λ (column : List ℕ × ModelColumn). column.1.cells.items) (slice_get columns element.column) ≡ Some cells) where

@@ -1,5 +1,5 @@
 -- Which columns have a coefficient in each row, and where.
-use Rattle.std.specs.Prelude.{◌≡◌, ◌≤◌, ◌<◌, ◌+◌, ℕ, zero, suc, Bool, List, [], ◌∷◌, Some, length, filter, map, is_some, slice_get, slice_index, slice_range, if◌then◌else◌}
+use Rattle.std.specs.Prelude.{◌≡◌, ◌≤◌, ◌<◌, ◌+◌, ℕ, zero, suc, Bool, List, [], ◌∷◌, IfSome, Option, Some, length, filter, map, is_some, slice_get, slice_index, slice_range, if◌then◌else◌}
 use Rattle.std.specs.List.{All, range_with_len}
 use Rattle.std.specs.Option.{option_map, option_map_or}
 use Rattle.std.specs.Ordering.{eq_by_cmp, nat_cmp}
@@ -70,8 +70,13 @@ pub record AreByRow (columns : List (List ℕ × ModelColumn)) (rows : ℕ) (lis
   pub own : (i : ℕ) → i < rows → map (λ (element : RowElement). element.column) (list_at lists i) ≡ columns_with columns (suc i) (length columns)
   pub placed : (i : ℕ) → i < rows → All (IsPlaced columns (suc i)) (list_at lists i)
 
--- the parts of a model, their lists by rows, and the names of rows
-pub record AreIndexed (m : ModelParts) (lists : RowLists) (row_names : RowNames) : Type 0 where
+-- the parts of a model, and their lists by rows
+pub record AreListed (m : ModelParts) (lists : RowLists) : Type 0 where
   pub parts : AreModelParts m
   pub by_row : AreByRow m.columns.items (length m.rows.items) lists
+
+-- the parts of a model, their lists by rows, if they were made, and the names of rows
+pub record AreIndexed (m : ModelParts) (lists : Option RowLists) (row_names : RowNames) : Type 0 where
+  pub parts : AreModelParts m
+  pub by_row : IfSome lists (AreByRow m.columns.items (length m.rows.items))
   pub names : AreNames m.rows.items row_names

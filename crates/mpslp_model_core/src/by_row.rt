@@ -1,15 +1,16 @@
 //! Which columns have a coefficient in each row, and where.
 //!
-//! A model stores its coefficients by columns. Queries by row use these lists, so they search in no column. All lists are in
-//! one vector: the coefficients of each row are counted first, so that the start of its list is known before the first
+//! A model stores its coefficients by columns. Queries by row use these lists, so they search in no column; where a model has no
+//! lists, they search in all columns. All lists are in one vector: the coefficients of each row are counted first, so that the start of its list is known before the first
 //! coefficient is stored.
 
 ghost use Rattle.std.specs.Prelude.{◌≡◌, ◌≢◌, ◌≤◌, ◌<◌, ℕ, IfOk, IsTrue, OnOk, Some, length, suc, slice_get, slice_index, slice_index_or, sum, take};
 ghost use Rattle.std.specs.List.{All, list_all};
 ghost use Rattle.std.specs.Ordering.{nat_cmp};
 ghost use Rattle.std.specs.FinMap.{is_sorted};
-ghost use Rattle.mpslp_model_core.specs.ByRow.{list_at, HasList, HasCounted, AreWithin, AreCounts, AreByRow};
+ghost use Rattle.mpslp_model_core.specs.ByRow.{list_at, HasList, HasCounted, AreWithin, AreCounts, AreByRow, columns_with};
 
+use crate::columns::{cells_at, has_value_at};
 use crate::joined::part_at;
 use crate::model::ModelColumn;
 use mpslp_decimal::PackedDecimal;
@@ -177,4 +178,36 @@ pub(crate) fn element_at(lists: &RowLists, i: usize, k: usize) -> RowElement
     ensures { slice_get (list_at lists.now i) k ≡ Some result }
 {
     list_of(lists, i)[k]
+}
+
+/// How many columns have a coefficient in the row at this index. Searches in all columns.
+pub(crate) fn count_columns_with(columns: &[(Name, ModelColumn)], row: usize) -> usize
+    requires { IsTrue (list_all (λ column. is_sorted nat_cmp column.1.cells.items) columns.now) }
+    ensures { result ≡ length (columns_with columns.now (suc row) (length columns.now)) }
+{
+    let mut count = 0;
+    for j in 0..columns.len() {
+        if has_value_at(cells_at(columns, j), row) {
+            count += 1;
+        }
+    }
+    count
+}
+
+/// The number of the column that is number `k` of those with a coefficient in the row at this index. Searches in all columns.
+pub(crate) fn column_with(columns: &[(Name, ModelColumn)], row: usize, k: usize) -> usize
+    requires sorted { IsTrue (list_all (λ column. is_sorted nat_cmp column.1.cells.items) columns.now) }
+    requires element { k < length (columns_with columns.now (suc row) (length columns.now)) }
+    ensures { slice_get (columns_with columns.now (suc row) (length columns.now)) k ≡ Some result }
+{
+    let mut left = k;
+    for j in 0..columns.len() {
+        if has_value_at(cells_at(columns, j), row) {
+            if left == 0 {
+                return j;
+            }
+            left -= 1;
+        }
+    }
+    unreachable!()
 }

@@ -10,6 +10,7 @@ ghost use Rattle.std.specs.Ordering.{nat_cmp};
 ghost use Rattle.std.specs.FinMap.{find, is_sorted};
 ghost use Rattle.std.specs.Cmp.Lexicographic.{pointwise};
 ghost use Rattle.mpslp_decimal.specs.Decimal.{zero_number};
+ghost use Rattle.mpslp_model_core.specs.ByRow.{has_number};
 ghost use Rattle.mpslp_model_core.specs.Same.{same_cell, same_named_column};
 ghost use Rattle.mpslp_model_core.specs.Columned.{row_cells, count_row_cells, column_told, columns_told};
 
@@ -75,6 +76,14 @@ pub(crate) fn value_at(cells: &[(u32, PackedDecimal)], row: usize) -> Decimal
         Some(value) => value.value(),
         None => Decimal::zero(),
     }
+}
+
+/// Whether there is a coefficient of the row at this index in the model.
+pub(crate) fn has_value_at(cells: &[(u32, PackedDecimal)], row: usize) -> bool
+    requires { IsTrue (is_sorted nat_cmp cells.now) }
+    ensures { result ≡ has_number (suc row) cells.now }
+{
+    find_entry(cells, &RowIndex { row }).is_some()
 }
 
 /// The number of coefficients in all columns, without those of the objective.

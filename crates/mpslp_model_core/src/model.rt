@@ -12,7 +12,9 @@ ghost use Rattle.mpslp_model_core.specs.ModelParts.{linear_model, AreModelParts}
 ghost use Rattle.mpslp_model_core.specs.Views.{letter_E, letter_R, row_names, column_names, rows_of, columns_of, num_rows, num_columns, num_elements, row_name, column_name, row_index, column_index, row_sense, right_hand_side, row_range, coefficient_at, column_elements, numbered_elements, row_columns};
 ghost use Rattle.mpslp_model_core.specs.Model.{is_integer_column};
 
-use crate::by_row::{RowLists, element_at, elements_by_row, list_of};
+use crate::by_row::{
+    RowLists, column_with, count_columns_with, element_at, elements_by_row, list_of,
+};
 use crate::columns::{
     cells_at, count_elements, first_value, row_cells, row_of, same_columns, value_at,
 };
@@ -67,8 +69,8 @@ pub struct ModelParts {
 #[derive(Debug, Drop)]
 pub struct Model {
     pub(crate) parts: ModelParts,
-    /// Where the coefficients of each row are, in the order of their columns.
-    by_row: RowLists,
+    /// Where the coefficients of each row are, in the order of their columns, once this was made.
+    by_row: Option<RowLists>,
     /// The names of the rows in one text.
     row_names: RowNames,
 }
@@ -160,21 +162,45 @@ fn range_between(row: RowLimits) -> Decimal
 }
 
 impl Model {
-    /// Makes a model of its parts, the lists of the columns that have a coefficient in each row, and the text of the names of
-    /// rows.
+    /// Makes a model of its parts and the text of the names of rows, without lists by rows.
     ///
     /// # Errors
     ///
-    /// [`AllocError`] if there is no memory for the lists or the text, or there are more than 4,294,967,296 columns.
+    /// [`AllocError`] if there is no memory for the text.
     pub fn of_parts(alloc: Global, parts: ModelParts) -> Result<Model, AllocError>
         requires { AreModelParts parts }
         ensures { IfOk result (λ model. model ≡ linear_model parts) }
     {
-        let by_row = elements_by_row(alloc, parts.rows.as_slice().len(), &parts.columns)?;
         let row_names = names_of(alloc, &parts.rows)?;
         Ok(Model {
             parts,
-            by_row,
+            by_row: None,
+            row_names,
+        })
+    }
+
+    /// The same model with lists by rows: with them [`Model::row_len`] and [`Model::row_entry`] take constant time, and LP is
+    /// written in time proportional to its coefficients. They take 8 bytes of memory for a row or a coefficient. Makes nothing if
+    /// the model has them.
+    ///
+    /// # Errors
+    ///
+    /// [`AllocError`] if there is no memory for the lists, or there are more than 4,294,967,296 columns.
+    pub fn with_row_lists(self, alloc: Global) -> Result<Model, AllocError>
+        ensures { IfOk result (λ model. model ≡ self) }
+    {
+        if self.by_row.is_some() {
+            return Ok(self);
+        }
+        let Model {
+            parts,
+            by_row: _,
+            row_names,
+        } = self;
+        let lists = elements_by_row(alloc, parts.rows.as_slice().len(), &parts.columns)?;
+        Ok(Model {
+            parts,
+            by_row: Some(lists),
             row_names,
         })
     }
@@ -414,23 +440,31 @@ impl Model {
         (row_of(cell.0), cell.1.value())
     }
 
-    /// The number of nonzero coefficients in the row of number `i`. Takes constant time.
+    /// The number of nonzero coefficients in the row of number `i`. Takes constant time if the model has lists by rows, and else
+    /// searches in all columns.
     pub fn row_len(&self, i: usize) -> usize
         requires { i < num_rows self.now }
         ensures { result ≡ length (row_columns self.now (row_name self.now i)) }
     {
-        list_of(&self.by_row, i).len()
+        match &self.by_row {
+            Some(lists) => list_of(lists, i).len(),
+            None => count_columns_with(&self.parts.columns, i),
+        }
     }
 
     /// Nonzero coefficient number `k` of the row of number `i`, in the order of columns: the number of the column, and the value.
-    /// Takes constant time.
+    /// Takes constant time if the model has lists by rows, and else searches in all columns.
     pub fn row_entry(&self, i: usize, k: usize) -> (usize, Decimal)
         requires row { i < num_rows self.now }
         requires entry { k < length (row_columns self.now (row_name self.now i)) }
         ensures column { slice_get (row_columns self.now (row_name self.now i)) k ≡ Some result.0 }
         ensures value { result.1 ≡ coefficient_at self.now (row_name self.now i) (column_name self.now result.0) }
     {
-        let element = element_at(&self.by_row, i, k);
+        let Some(lists) = &self.by_row else {
+            let j = column_with(&self.parts.columns, i, k);
+            return (j, self.coefficient(i, j));
+        };
+        let element = element_at(lists, i, k);
         let j = element.column as usize;
         let cell = entry_at(cells_at(&self.parts.columns, j), element.place as usize);
         (j, cell.1.value())

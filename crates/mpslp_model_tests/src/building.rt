@@ -2,6 +2,7 @@
 
 mod lines;
 mod lp;
+mod row_lists;
 mod row_terms;
 mod rows;
 

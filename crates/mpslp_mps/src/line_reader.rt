@@ -69,7 +69,7 @@ impl ReadLines for LineReader {
                 name: None,
             }));
         }
-        self.builder.finish()
+        self.builder.finish_by_columns()
     }
 
     ghost behind_end = { read-behind_end };

@@ -8,7 +8,7 @@ use Rattle.std.specs.Cmp.{second_so, tied_itself}
 use Rattle.std.specs.Cmp.Lexicographic.{nat_list_eq_equiv}
 use Rattle.std.specs.FinMap.{find, entries}
 use Rattle.std.proofs.lemmas.List.{length-map}
-use Rattle.std.proofs.lemmas.List.Elements.{filter_passes}
+use Rattle.std.proofs.lemmas.List.Elements.{All-filter, filter_passes}
 use Rattle.std.proofs.lemmas.List.FromFn.{length-range_with_len, get_or-range_with_len}
 use Rattle.std.proofs.lemmas.Option.{slice_get_within, slice_get-get_or, get_or_from_slice_get}
 use Rattle.mpslp_decimal.specs.Decimal.{Number, is_zero, zero_number}
@@ -18,7 +18,6 @@ use Rattle.mpslp_model_core.specs.Views.{num_columns, column_name, coefficient_a
 use Rattle.mpslp_types.proofs.BoolLemmas.{or_left, or_right, both_false}
 use Rattle.mpslp_builder.proofs.DraftEntries.{same_key}
 use Rattle.mpslp_model_core.proofs.PutsLemmas.{equal_from}
-use Rattle.mpslp_model_core.proofs.ByRowLemmas.{listed_below}
 use Rattle.mpslp_builder.proofs.SlotLemmas.{same_name}
 use Rattle.mpslp_builder.proofs.SortedDrafts.{key_total}
 use Rattle.mpslp_canonical_mps.proofs.CoefficientMap.{place_at}
@@ -183,14 +182,20 @@ module _ (m : LinearModel) (row : List ℕ) where
   abbrev numbers : List ℕ
   numbers = range_with_len 0 (num_columns m)
 
+  numbers-below : All (λ (j : ℕ). j < num_columns m) numbers
+  numbers-below k d below =
+      let within : k < num_columns m = subst (λ (n : ℕ). k < n) (length-range_with_len 0 (num_columns m)) below in
+      let same : get_or numbers k d ≡ 0 + k = get_or-range_with_len 0 (num_columns m) k d within in
+      omega arith
+
   -- the line of a column in which the row has a coefficient
   pub term-listed : (k j : ℕ) → slice_get (row_columns m row) k ≡ Some j
       → term_line (column_name m j, coefficient_at m row (column_name m j)) ∷ [] ≡ numbered_term_lines m row j
   term-listed k j at =
-      let below : j < num_columns m = listed_below in_row (num_columns m) k j at in
       let within : k < length (row_columns m row) = slice_get_within (row_columns m row) k j at in
       let passes : in_row (get_or (row_columns m row) k j) ≡ true = filter_passes in_row numbers k j within in
       let same : get_or (row_columns m row) k j ≡ j = get_or_from_slice_get (row_columns m row) k j j at in
+      let below : j < num_columns m = subst (λ (i : ℕ). i < num_columns m) same (All-filter in_row (λ (i : ℕ). i < num_columns m) numbers numbers-below k j within) in
       row-listed m row (column_name m j) (ap in_row (sym same) ∙ passes) ∙ named-lines lines_of (entries m.columns) j below
 
   -- the other columns have none

@@ -17,7 +17,7 @@ use mpslp_lp::read_lp;
 use mpslp_model::{Format, Model, ReadFault, Sink, WriteFault};
 use mpslp_mps::read_mps;
 use mpslp_write_mps::write_mps;
-use std::alloc::Global;
+use std::alloc::{AllocError, Global};
 
 /// MPS as in the CPLEX file format reference, in the profile of `docs/FORMATS.md`. It can express every model.
 #[derive(Clone, Copy, Debug)]
@@ -43,6 +43,10 @@ impl Format for Mps {
     fn expressible(model: &Model) -> bool {
         let _every = model;
         true
+    }
+
+    fn prepare(_alloc: Global, model: Model) -> Result<Model, AllocError> {
+        Ok(model)
     }
 
     fn write<W: Sink>(model: &Model, sink: &mut W) -> Result<(), WriteFault> {
@@ -88,6 +92,10 @@ impl Format for Lp {
 
     fn expressible(model: &Model) -> bool {
         first_unfit_name(model).is_none()
+    }
+
+    fn prepare(alloc: Global, model: Model) -> Result<Model, AllocError> {
+        model.with_row_lists(alloc)
     }
 
     fn write<W: Sink>(model: &Model, sink: &mut W) -> Result<(), WriteFault> {

@@ -47,6 +47,11 @@ impl ModelReader for MpsFormatReader {
         reader.finish()
     }
 
+    fn finish_by_columns(self) -> Result<Model, ReadFault> {
+        let MpsFormatReader { reader } = self;
+        reader.finish_by_columns()
+    }
+
     ghost after_works = { λ r. fed-works HasRead is_ended r.reader };
 
     ghost after_is_clean = { λ r. fed-is_clean HasRead is_ended IsFaultOfLines read-is_clean r.reader };
@@ -91,6 +96,11 @@ impl ModelReader for LpFormatReader {
     fn finish(self) -> Result<Model, ReadFault> {
         let LpFormatReader { reader } = self;
         reader.finish()
+    }
+
+    fn finish_by_columns(self) -> Result<Model, ReadFault> {
+        let LpFormatReader { reader } = self;
+        reader.finish_by_columns()
     }
 
     ghost after_works = { λ r. fed-works HasRead is_ended r.reader };

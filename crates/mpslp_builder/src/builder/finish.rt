@@ -180,6 +180,26 @@ impl Builder {
         requires { IsTrue (is_some self.objective) }
         ensures { Finishes self result }
     {
+        let alloc = self.alloc;
+        match self.finish_by_columns() {
+            Ok(model) => match model.with_row_lists(alloc) {
+                Ok(model) => Ok(model),
+                Err(_) => Err(ReadFault::OutOfMemory),
+            },
+            Err(fault) => Err(fault),
+        }
+    }
+
+    /// Returns the same as [`finish`](Builder::finish), but a model without lists by rows. Use it for a model that is compared,
+    /// read by columns or written as MPS; before it is written as LP, or read by rows, call [`Model::with_row_lists`].
+    ///
+    /// # Errors
+    ///
+    /// As [`finish`](Builder::finish), and `OutOfMemory` only if an allocation fails.
+    pub fn finish_by_columns(self) -> Result<Model, ReadFault>
+        requires { IsTrue (is_some self.objective) }
+        ensures { Finishes self result }
+    {
         let Builder {
             alloc,
             sense,

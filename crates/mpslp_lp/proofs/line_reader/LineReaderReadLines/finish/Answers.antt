@@ -5,8 +5,8 @@ use Rattle.mpslp_builder.specs.Finish.{Finishes}
 use Rattle.mpslp_lp.proofs.LineReaderLemmas.{led-named, ends-missing, ends-text}
 use Rattle.mpslp_lp.proofs.line_reader.LineReaderReadLines.finish.Goals as goal
 
-pub finish-requires : goal.finish-requires
-finish-requires c =
+pub finish_by_columns-requires : goal.finish_by_columns-requires
+finish_by_columns-requires c =
     ap (λ (draft : Draft). is_some draft.objective) c.into_builder.ensures
     ∙ led-named c.requires.text c.args.self c.requires.read (sym c.is_at_end.ensures ∙ c.if-not-is_at_end.false)
 
@@ -15,5 +15,5 @@ returns-then-not-is_at_end c = λ bytes read. ends-missing bytes c.args.self rea
 
 pub returns : goal.returns
 returns c = λ bytes read.
-    ends-text bytes c.args.self c.finish.result read (sym c.is_at_end.ensures ∙ c.if-not-is_at_end.false)
-    (subst (λ (draft : Draft). Finishes draft c.finish.result) c.into_builder.ensures c.finish.ensures)
+    ends-text bytes c.args.self c.finish_by_columns.result read (sym c.is_at_end.ensures ∙ c.if-not-is_at_end.false)
+    (subst (λ (draft : Draft). Finishes draft c.finish_by_columns.result) c.into_builder.ensures c.finish_by_columns.ensures)

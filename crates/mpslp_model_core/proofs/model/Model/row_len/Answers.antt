@@ -1,10 +1,23 @@
-use Rattle.std.proofs.Common.{ap, ◌∙◌, length}
-use Rattle.mpslp_model_core.proofs.ByRowLemmas.{row_below, row_seen_length}
+use Rattle.std.proofs.Common.{sym, ap, subst, ◌∙◌, ℕ, List, length}
+use Rattle.std.specs.Prelude.{IsTrue}
+use Rattle.std.specs.List.{list_all}
+use Rattle.std.specs.Ordering.{nat_cmp}
+use Rattle.std.specs.FinMap.{is_sorted}
+use Rattle.mpslp_model_core.specs.declared.model.ModelColumn.{ModelColumn}
+use Rattle.mpslp_model_core.proofs.ViewLemmas.{all_sorted}
+use Rattle.mpslp_model_core.proofs.ByRowLemmas.{row_below, listed_in, columns_seen, row_seen_length}
 use Rattle.mpslp_model_core.proofs.FillLemmas.{has_list}
 use Rattle.mpslp_model_core.proofs.model.Model.row_len.Goals as goal
 
 pub list_of-requires : goal.list_of-requires
-list_of-requires c = has_list c.self.invariant.by_row c.args.i (row_below c.self.view_is c.self.invariant.parts c.args.i c.requires)
+list_of-requires c = has_list (listed_in c.in-Some.lists c.self.invariant c.in-Some.is).by_row c.args.i (row_below c.self.view_is c.self.invariant.parts c.args.i c.requires)
 
-pub returns : goal.returns
-returns c = ap length c.list_of.ensures ∙ row_seen_length c.self.inside.by_row c.self.view_is c.self.invariant c.args.i c.requires
+pub count_columns_with-requires : goal.count_columns_with-requires
+count_columns_with-requires c =
+    subst (λ (columns : List (List ℕ × ModelColumn)). IsTrue (list_all (λ column. is_sorted nat_cmp column.1.cells.items) columns)) (sym c.deref.ensures.value) (all_sorted c.self.inside.parts.columns.items c.self.invariant.parts.cells)
+
+pub returns-in-Some : goal.returns-in-Some
+returns-in-Some c = ap length c.list_of.ensures ∙ row_seen_length c.in-Some.lists c.self.view_is (listed_in c.in-Some.lists c.self.invariant c.in-Some.is) c.args.i c.requires
+
+pub returns-in-None : goal.returns-in-None
+returns-in-None c = c.count_columns_with.ensures ∙ ap length (columns_seen c.deref.result.now c.deref.ensures.value c.self.view_is c.self.invariant.parts c.args.i c.requires)

@@ -2,8 +2,8 @@ use Rattle.std.proofs.Common.{◌≡◌, sym, ap, ◌∙◌, ℕ, [], ◌∷◌}
 use Rattle.std.specs.Prelude.{Option}
 use Rattle.std.specs.Option.{option_map_or}
 use Rattle.std.proofs.lemmas.Option.{get_or_from_slice_get}
-use Rattle.mpslp_model_core.specs.Views.{row_name, column_name, column_names, num_columns, has_coefficient}
-use Rattle.mpslp_model_core.proofs.ByRowLemmas.{listed_below}
+use Rattle.mpslp_model_core.specs.Views.{row_name, column_name, column_names}
+use Rattle.mpslp_model_core.proofs.ByRowLemmas.{column_below}
 use Rattle.mpslp_canonical_lp.specs.CanonicalLp.{term_line}
 use Rattle.mpslp_write.specs.LpLinesAt.{numbered_term_lines}
 use Rattle.mpslp_write.proofs.LpTerms.{term-listed}
@@ -12,8 +12,7 @@ use Rattle.mpslp_write.proofs.lp.rows.put_term.Goals as goal
 
 pub column_name-requires : goal.column_name-requires
 column_name-requires g c =
-    let m = c.args.model.now in
-    listed_below (λ j. has_coefficient m (row_name m c.args.i) (column_name m j)) (num_columns m) c.args.k _ c.requires.term.column
+    column_below c.args.model.now c.args.i c.args.k _ c.requires.term.column
 
 pub returns : goal.returns
 returns g c =

@@ -5,7 +5,7 @@ use Rattle.mpslp_builder.specs.Declaration.{Draft}
 use Rattle.mpslp_builder.specs.Meaning.{DraftMeans}
 use Rattle.mpslp_builder.specs.FileFault.{file_fault}
 use Rattle.mpslp_builder.specs.FaultFound.{fault_found}
-use Rattle.mpslp_builder.proofs.builder.Builder.finish.Goals as goal
+use Rattle.mpslp_builder.proofs.builder.Builder.finish_by_columns.Goals as goal
 
 pub returns-in-Some : goal.returns-in-Some
 returns-in-Some c =
