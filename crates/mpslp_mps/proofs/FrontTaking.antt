@@ -1,11 +1,15 @@
 -- A line is read as its first six fields are.
-use Rattle.std.proofs.Common.{◌≡◌, refl, sym, ap, subst, ◌∙◌, ℕ, List, [], ◌∷◌, ◌++◌, take, Bool, true, false, cond}
-use Rattle.std.specs.Prelude.{Option, Ok, Err}
+use Rattle.std.proofs.Common.{◌≡◌, refl, sym, ap, subst, ◌∙◌, ℕ, List, [], ◌∷◌, ◌++◌, map, length, take, Bor, Bool, true, false, cond, arith}
+use Rattle.std.specs.Cmp.{first_so, second_so}
+use Rattle.std.specs.List.{list_all}
+use Rattle.std.proofs.lemmas.Bool.Decides.{nat_tests}
+use Rattle.std.specs.Prelude.{◌==◌, ◌&&◌, ◌||◌, Option, Ok, Err}
 use Rattle.mpslp_builder.specs.Declaration.{Draft, with_declarations}
 use Rattle.mpslp_types.specs.Lists.{those_of}
 use Rattle.mpslp_types.specs.FaultOrder.{least_kind}
 use Rattle.mpslp_types.specs.declared.faults.FaultKind.{FaultKind}
-use Rattle.mpslp_mps_fields.specs.Line.{Fields, LineContent, skipped, header, data_line, header_of, fields, is_skipped, is_data, content_of, section_named}
+use Rattle.mpslp_mps_fields.specs.Line.{Fields, LineContent, skipped, header, data_line, header_of, fields, is_blank, is_comment, is_skipped, is_data, content_of, section_named}
+use Rattle.mpslp_mps_fields.proofs.FieldsLemmas.{fields-cut}
 use Rattle.mpslp_mps.specs.Context.{Context}
 use Rattle.mpslp_mps.specs.NextContext.{next_context}
 use Rattle.mpslp_mps.specs.LineDeclarations.{line_declares}
@@ -41,6 +45,55 @@ header-front context earlier [] answer next later taken = taken
 header-front context earlier (keyword ∷ more) answer next later taken =
     taken_as context earlier (header keyword (take 5 more)) (header keyword more) answer next later (header_tests-front context earlier keyword (section_named keyword) more)
     (header_declared-front context earlier (section_named keyword) more) (next_header context keyword more) taken
+
+-- ---- lines without fields
+
+blank-next : (b : ℕ) (line : List ℕ) → is_blank b ≡ true → fields (b ∷ line) ≡ fields line
+blank-next b line blank = rw blank refl
+
+blank-fields : (line : List ℕ) → list_all is_blank line ≡ true → fields line ≡ []
+blank-fields [] all = refl
+blank-fields (b ∷ line) all = blank-next b line (first_so (is_blank b) (list_all is_blank line) all) ∙ blank-fields line (second_so (is_blank b) (list_all is_blank line) all)
+
+fields-blank : (line : List ℕ) → fields line ≡ [] → list_all is_blank line ≡ true
+fields-blank [] none = refl
+fields-blank (b ∷ line) none = by (is_blank b) refl (fields-blank line)
+  where
+    by : (x : Bool) → is_blank b ≡ x → (fields line ≡ [] → list_all is_blank line ≡ true) → list_all is_blank (b ∷ line) ≡ true
+    by true blank rest = ap (λ (x : Bool). x && list_all is_blank line) blank ∙ rest (sym (blank-next b line blank) ∙ none)
+    by false solid rest = let cut = fields-cut (b ∷ line) solid (λ same. absurd cc) in absurd cc
+
+-- a comment is skipped
+pub comment-item : (line : List ℕ) → is_comment line ≡ true → content_of line ≡ skipped
+comment-item line comment =
+    ap (λ (b : Bool). cond (b || list_all is_blank line) skipped (cond (is_data line) (data_line (fields line)) (header_of (fields line)))) comment
+
+-- and so is a line without fields
+pub empty-item : (line : List ℕ) → is_comment line ≡ false → take 6 (fields line) ≡ [] → content_of line ≡ skipped
+empty-item line text none =
+    ap (λ (b : Bool). cond (b || list_all is_blank line) skipped (cond (is_data line) (data_line (fields line)) (header_of (fields line)))) text
+    ∙ ap (λ (b : Bool). cond b skipped (cond (is_data line) (data_line (fields line)) (header_of (fields line)))) (fields-blank line (front_none (fields line) none))
+  where
+    front_none : (fields : Fields) → take 6 fields ≡ [] → fields ≡ []
+    front_none [] none = refl
+    front_none (field ∷ more) none = absurd cc
+
+-- but no other line
+pub read-item : (line : List ℕ) → is_comment line ≡ false → (take 6 (fields line) ≡ [] → ⊥) → is_skipped line ≡ false
+read-item line text some = by (list_all is_blank line) refl
+  where
+    by : (x : Bool) → list_all is_blank line ≡ x → is_skipped line ≡ false
+    by true blank = absurd (some (ap (take 6) (blank-fields line blank)))
+    by false solid = ap (λ (b : Bool). b || list_all is_blank line) text ∙ solid
+
+-- the fields that a reader took
+pub no_fields : (taken : List (Bor (List ℕ))) (front : Fields) → map (λ field. field.now) taken ≡ front → (length taken == 0) ≡ true → front ≡ []
+no_fields [] front same empty = sym same
+no_fields (field ∷ more) front same empty = absurd (grind (arith, nat_tests))
+
+pub some_fields : (taken : List (Bor (List ℕ))) (front : Fields) → map (λ field. field.now) taken ≡ front → (length taken == 0) ≡ false → front ≡ [] → ⊥
+some_fields [] front same some none = absurd cc
+some_fields (field ∷ more) front same some none = absurd cc
 
 -- ---- the content of a line
 

@@ -20,7 +20,7 @@ use crate::header_lines::read_header;
 use crate::vectors::{read_range, read_rhs};
 use mpslp_lines::{LineError, are_legal_bytes, has_legal_length};
 use mpslp_model::{Builder, FaultKind, Name, RowType};
-use mpslp_mps_fields::{Section, front_fields, is_comment, is_data, is_skipped};
+use mpslp_mps_fields::{Section, front_fields, is_comment, is_data};
 use std::alloc::Global;
 
 /// Reads a data line under OBJSENSE.
@@ -146,10 +146,14 @@ fn read_content(
     ensures answers { ReadsContent context.old builder.old (content_of line.now) result context.new builder.new }
     ensures unchanged { IfFault result ((context.new ≡ context.old) × (builder.new ≡ builder.old)) }
 {
-    if is_skipped(line) {
+    if is_comment(line) {
         return Ok(());
     }
     let fields = front_fields(line);
+    // Only spaces and tabs.
+    if fields.is_empty() {
+        return Ok(());
+    }
     if is_data(line) {
         read_data(context, builder, alloc, &fields)
     } else {

@@ -21,7 +21,7 @@ mod words;
 pub use after_keyword::{header_objname, may_follow, section_of_word_due};
 pub use bound_types::BoundType;
 pub use fields::{FRONT_LEN, front_fields};
-pub use line::{is_comment, is_data, is_skipped};
+pub use line::{is_comment, is_data};
 pub use sections::Section;
 pub use shapes::{
     BoundLine, Pair, Pairs, RowLine, ValuesLine, bound_shape, column_shape, is_marker_line,
