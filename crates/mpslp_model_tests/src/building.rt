@@ -12,7 +12,7 @@ ghost use Rattle.mpslp_types.specs.Limit.{is_given};
 use mpslp_builder::Builder;
 use mpslp_decimal::{Decimal, DecimalText};
 use mpslp_model_core::Model;
-use mpslp_types::{BuildFault, FaultKind, Kind, Limit, Name, ReadFault, RowType, Sense};
+use mpslp_types::{BuildFault, Fault, FaultKind, Kind, Limit, Name, ReadFault, RowType, Sense};
 use std::alloc::{AllocError, Global};
 use std::cmp::Ordering;
 use std::test::Fail;
@@ -109,22 +109,26 @@ fn call_of(builder: &mut Builder, alloc: Global, call: Call<'_>) -> Result<(), B
     }
 }
 
-/// The result of a call's query.
-fn check_of(builder: &Builder, call: Call<'_>) -> Result<(), BuildFault> {
+/// The result of the query of a call that takes the name of a row.
+fn check_of_row(builder: &Builder, call: Call<'_>) -> Result<(), BuildFault> {
     match call {
-        Call::Sense(_) => builder.check_sense(),
         Call::Objective(name) => builder.check_objective(name.as_bytes()),
-        Call::Constant(_) => builder.check_constant(),
         Call::Row(name, _) => builder.check_row(name.as_bytes()),
         Call::RowLimits(name, lower, upper) => {
             builder.check_row_limits(name.as_bytes(), &side(lower), &side(upper))
         }
         Call::Rhs(row, _) => builder.check_rhs(row.as_bytes()),
         Call::Range(row, value) => builder.check_range(row.as_bytes(), number(value)),
-        Call::Column(_) => Ok(()),
         Call::Coefficient(row, column, _) => {
             builder.check_coefficient(row.as_bytes(), column.as_bytes())
         }
+        _ => Ok(()),
+    }
+}
+
+/// The result of the query of a call for bounds.
+fn check_of_bounds(builder: &Builder, call: Call<'_>) -> Result<(), BuildFault> {
+    match call {
         Call::NoBounds(column) => builder.check_bounds(column.as_bytes(), &None, &None),
         Call::Lower(column, value) => {
             builder.check_bounds(column.as_bytes(), &Some(side(value)), &None)
@@ -137,12 +141,33 @@ fn check_of(builder: &Builder, call: Call<'_>) -> Result<(), BuildFault> {
             &Some(side(lower)),
             &Some(side(upper)),
         ),
+        _ => Ok(()),
+    }
+}
+
+/// The result of a call's query.
+fn check_of(builder: &Builder, call: Call<'_>) -> Result<(), BuildFault> {
+    match call {
+        Call::Sense(_) => builder.check_sense(),
+        Call::Constant(_) => builder.check_constant(),
+        Call::Column(_) => Ok(()),
         Call::Marked(column) => builder.check_marked(column.as_bytes()),
         Call::Integer(column) => builder.check_integer(column.as_bytes()),
         Call::Binary(column) => builder.check_binary(column.as_bytes()),
         Call::Semi(column) => builder.check_semi(column.as_bytes()),
+        Call::NoBounds(_) | Call::Lower(..) | Call::Upper(..) | Call::Bounds(..) => {
+            check_of_bounds(builder, call)
+        }
+        _ => check_of_row(builder, call),
     }
 }
+
+/// Calls that declare the objective f and the rows r and s.
+const WITH_ROWS: [Call<'static>; 3] = [
+    Call::Objective("f"),
+    Call::Row("r", RowType::AtMost),
+    Call::Row("s", RowType::AtLeast),
+];
 
 /// The builder after these calls, all of which succeed.
 fn built(alloc: Global, calls: &[Call<'_>]) -> Result<Builder, BuildFault> {
@@ -195,6 +220,20 @@ impl Shown {
             }
             Limit::PlusInf => self.put(b" inf".as_slice()),
         }
+    }
+
+    fn put_objective(&mut self, model: &Model) -> Result<(), AllocError> {
+        let sense: &[u8] = match model.objective_sense() {
+            Sense::Minimize => b"minimize ",
+            Sense::Maximize => b"maximize ",
+        };
+        self.put(sense)?;
+        self.put(model.objective_name().as_bytes())?;
+        self.put(b" constant ".as_slice())?;
+        self.put_number(model.objective_constant())?;
+        self.put(b" offset ".as_slice())?;
+        self.put_number(model.objective_offset())?;
+        self.put(b"\n".as_slice())
     }
 
     fn put_row(&mut self, model: &Model, i: usize) -> Result<(), AllocError> {
@@ -264,6 +303,17 @@ impl Shown {
         }
         Ok(())
     }
+
+    fn put_model(&mut self, model: &Model) -> Result<(), AllocError> {
+        self.put_objective(model)?;
+        for i in 0..model.num_rows() {
+            self.put_row(model, i)?;
+        }
+        for j in 0..model.num_cols() {
+            self.put_column(model, j)?;
+        }
+        Ok(())
+    }
 }
 
 /// The results of a model's accessors as lines of words: the objective, the rows, then the columns with their nonzeros.
@@ -272,40 +322,41 @@ fn views_of(alloc: Global, model: &Model) -> Result<Vec<u8>, AllocError> {
         text: Vec::new(alloc),
         number: DecimalText::new(),
     };
-    let sense: &[u8] = match model.objective_sense() {
-        Sense::Minimize => b"minimize ",
-        Sense::Maximize => b"maximize ",
-    };
-    shown.put(sense)?;
-    shown.put(model.objective_name().as_bytes())?;
-    shown.put(b" constant ".as_slice())?;
-    shown.put_number(model.objective_constant())?;
-    shown.put(b" offset ".as_slice())?;
-    shown.put_number(model.objective_offset())?;
-    shown.put(b"\n".as_slice())?;
-    for i in 0..model.num_rows() {
-        shown.put_row(model, i)?;
-    }
-    for j in 0..model.num_cols() {
-        shown.put_column(model, j)?;
-    }
+    shown.put_model(model)?;
     Ok(shown.text)
+}
+
+/// The kind of an error, and the name that it reports.
+fn text_of_fault(alloc: Global, fault: &Fault) -> Result<Vec<u8>, AllocError> {
+    let mut text = fault.kind.text().as_bytes().to_vec(alloc)?;
+    if let Some(name) = &fault.name {
+        text.extend_from_slice(b" ".as_slice())?;
+        text.extend_from_slice(name.as_bytes())?;
+    }
+    Ok(text)
+}
+
+/// The accessors' results for a model; without a model the kind of the error, and the name that it reports.
+fn text_of(
+    alloc: Global,
+    answer: &Option<Result<Model, ReadFault>>,
+) -> Result<Vec<u8>, AllocError> {
+    match answer {
+        Some(Ok(model)) => views_of(alloc, model),
+        Some(Err(ReadFault::File(fault))) => text_of_fault(alloc, fault),
+        _ => Ok(Vec::new(alloc)),
+    }
 }
 
 /// The accessors' results for the model of these calls; without a model the kind of the error, and the name that it reports.
 fn outcome(alloc: Global, calls: &[Call<'_>]) -> Result<Vec<u8>, BuildFault> {
-    match finished(built(alloc, calls)?) {
-        Some(Ok(model)) => Ok(views_of(alloc, &model)?),
-        Some(Err(ReadFault::File(fault))) => {
-            let mut text = fault.kind.text().as_bytes().to_vec(alloc)?;
-            if let Some(name) = &fault.name {
-                text.extend_from_slice(b" ".as_slice())?;
-                text.extend_from_slice(name.as_bytes())?;
-            }
-            Ok(text)
-        }
-        _ => Ok(Vec::new(alloc)),
-    }
+    let answer = finished(built(alloc, calls)?);
+    Ok(text_of(alloc, &answer)?)
+}
+
+/// Whether the model of these calls, or its error, has this text.
+fn is_outcome(alloc: Global, calls: &[Call<'_>], expected: &[u8]) -> Result<bool, BuildFault> {
+    Ok(outcome(alloc, calls)?.as_slice() == expected)
 }
 
 /// Whether this is one of the lines of the text.
@@ -396,7 +447,16 @@ fn first_other_answer(
     None
 }
 
-/// Whether the builder knows the names of these calls, and no others.
+/// The index of the first of these calls of one builder with another result, or whose query has another one.
+fn first_other_answer_of(
+    alloc: Global,
+    calls: &[(Call<'static>, Result<(), BuildFault>)],
+) -> Option<usize> {
+    let mut builder = Builder::new(alloc);
+    first_other_answer(&mut builder, alloc, calls)
+}
+
+/// Whether the builder knows the names of `ANSWERS`, and no others.
 fn knows_its_names(builder: &mut Builder) -> bool {
     let has = builder.has_row(b"r") && builder.has_row(b"f") && builder.has_column(b"x");
     let has_others = builder.has_row(b"x") || builder.has_column(b"r");
@@ -404,36 +464,50 @@ fn knows_its_names(builder: &mut Builder) -> bool {
     builder.has_objective() && has && !has_others && finds
 }
 
+/// What a builder tells of the calls of `ANSWERS`: whether it has an objective before them, the index of the first with another
+/// result, and whether it knows their names after them.
+fn told_of_answers(alloc: Global) -> (bool, Option<usize>, bool) {
+    let mut builder = Builder::new(alloc);
+    let had_objective = builder.has_objective();
+    let other_answer = first_other_answer(&mut builder, alloc, &ANSWERS);
+    let knows = knows_its_names(&mut builder);
+    (had_objective, other_answer, knows)
+}
+
 #[test]
 fn answers_in_order(rt: HostRuntime) {
-    let mut builder = Builder::new(rt.alloc());
-    let had_objective = builder.has_objective();
-    let other_answer = first_other_answer(&mut builder, rt.alloc(), &ANSWERS);
-    let knows = knows_its_names(&mut builder);
+    let (had_objective, other_answer, knows) = told_of_answers(rt.alloc());
     assert!(rt; !had_objective && knows);
     assert_eq!(rt; other_answer, None);
 }
 
 #[test]
 fn refuses_a_second_kind(rt: HostRuntime) {
-    let mut builder = Builder::new(rt.alloc());
-    let other_answer = first_other_answer(&mut builder, rt.alloc(), &KINDS);
-    assert_eq!(rt; other_answer, None);
+    assert_eq!(rt; first_other_answer_of(rt.alloc(), &KINDS), None);
+}
+
+/// The order of two names, and whether they are equal.
+fn compared(alloc: Global, first: &str, second: &str) -> Result<(Ordering, bool), BuildFault> {
+    let first = named(alloc, first)?;
+    let second = named(alloc, second)?;
+    Ok((first.cmp(&second), first == second))
 }
 
 #[test]
-fn orders_names_and_sides(rt: HostRuntime) -> Result<(), Fail> {
-    let alloc = rt.alloc();
-    let short = Name::new(alloc, b"x1".as_slice())?;
-    let long = Name::new(alloc, b"x10".as_slice())?;
-    assert_eq!(rt; short.cmp(&long), Ordering::Less);
-    assert_eq!(rt; short == long, false);
+fn orders_names(rt: HostRuntime) -> Result<(), Fail> {
+    let (order, are_equal) = compared(rt.alloc(), "x1", "x10")?;
+    assert_eq!(rt; order, Ordering::Less);
+    assert_eq!(rt; are_equal, false);
+    Ok(())
+}
+
+#[test]
+fn orders_sides(rt: HostRuntime) {
     assert_eq!(rt; Limit::MinusInf < side("-5"), true);
     assert_eq!(rt; side("-5") < side("3e-2"), true);
     assert_eq!(rt; side("7") < Limit::PlusInf, true);
     assert_eq!(rt; side("-1e20"), Limit::MinusInf);
     assert_eq!(rt; side("1e20"), Limit::PlusInf);
-    Ok(())
 }
 
 #[test]
@@ -501,32 +575,56 @@ entry MYG 1.5 1.5
     Ok(())
 }
 
-#[test]
-fn a_model_is_the_same_in_any_order(rt: HostRuntime) -> Result<(), Fail> {
-    let alloc = rt.alloc();
-    let (Some(model), Some(other)) = (model_of(alloc, &SMALL)?, model_of(alloc, &TURNED)?) else {
-        assert!(rt; false);
-        return Ok(());
-    };
-    assert!(rt; model.same(&other));
-    assert_eq!(rt; other.num_elements(), 2);
-    Ok(())
+/// Whether two models are the same, if both are there.
+fn same_of(one: &Option<Model>, other: &Option<Model>) -> Option<bool> {
+    match one {
+        Some(one) => match other {
+            Some(other) => Some(one.same(other)),
+            None => None,
+        },
+        None => None,
+    }
+}
+
+/// Whether the models of these calls are the same, if they mean models.
+fn are_same(
+    alloc: Global,
+    calls: &[Call<'_>],
+    others: &[Call<'_>],
+) -> Result<Option<bool>, BuildFault> {
+    let one = model_of(alloc, calls)?;
+    let other = model_of(alloc, others)?;
+    Ok(same_of(&one, &other))
+}
+
+/// The number of elements of the model of these calls, if they mean one.
+fn num_elements_of(alloc: Global, calls: &[Call<'_>]) -> Result<Option<u128>, BuildFault> {
+    match model_of(alloc, calls)? {
+        Some(model) => Ok(Some(model.num_elements())),
+        None => Ok(None),
+    }
 }
 
 #[test]
+fn a_model_is_the_same_in_any_order(rt: HostRuntime) -> Result<(), Fail> {
+    assert_eq!(rt; are_same(rt.alloc(), &SMALL, &TURNED)?, Some(true));
+    assert_eq!(rt; num_elements_of(rt.alloc(), &TURNED)?, Some(2));
+    Ok(())
+}
+
+/// A model that is minimized.
+const LEAST: [Call<'static>; 2] = [Call::Objective("C"), Call::Column("X")];
+
+/// The same model, maximized.
+const GREATEST: [Call<'static>; 3] = [
+    Call::Objective("C"),
+    Call::Column("X"),
+    Call::Sense(Sense::Maximize),
+];
+
+#[test]
 fn models_of_two_senses_differ(rt: HostRuntime) -> Result<(), Fail> {
-    let alloc = rt.alloc();
-    let least = [Call::Objective("C"), Call::Column("X")];
-    let greatest = [
-        Call::Objective("C"),
-        Call::Column("X"),
-        Call::Sense(Sense::Maximize),
-    ];
-    let (Some(one), Some(other)) = (model_of(alloc, &least)?, model_of(alloc, &greatest)?) else {
-        assert!(rt; false);
-        return Ok(());
-    };
-    assert!(rt; !one.same(&other));
+    assert_eq!(rt; are_same(rt.alloc(), &LEAST, &GREATEST)?, Some(false));
     Ok(())
 }
 
@@ -615,12 +713,22 @@ const COLUMNS: [(Call<'static>, Call<'static>, &str); 21] = [
     ),
 ];
 
+/// Whether the accessors give this line for the column X after two calls.
+fn is_bounded<'a>(
+    alloc: Global,
+    first: Call<'a>,
+    second: Call<'a>,
+    expected: &str,
+) -> Result<bool, BuildFault> {
+    let calls = [Call::Objective("C"), Call::Column("X"), first, second];
+    Ok(tells(&outcome(alloc, &calls)?, expected))
+}
+
 #[test]
 fn bounds_columns_by_their_sides(rt: HostRuntime) -> Result<(), Fail> {
     for (first, second, expected) in COLUMNS {
-        let calls = [Call::Objective("C"), Call::Column("X"), first, second];
-        let answer = outcome(rt.alloc(), &calls)?;
-        assert!(rt; tells(&answer, expected), "at {expected}");
+        let is_right = is_bounded(rt.alloc(), first, second, expected)?;
+        assert!(rt; is_right, "at {expected}");
     }
     Ok(())
 }
@@ -638,18 +746,10 @@ const FAULTY: [Call<'static>; 7] = [
 
 #[test]
 fn tells_the_first_fault_of_the_whole(rt: HostRuntime) -> Result<(), Fail> {
-    assert_eq!(rt;
-        outcome(rt.alloc(), &FAULTY)?.as_slice(),
-        b"InfiniteLimit R10".as_slice()
-    );
-    assert_eq!(rt;
-        outcome(rt.alloc(), &FAULTY[..5])?.as_slice(),
-        b"NoColumns".as_slice()
-    );
-    assert_eq!(rt;
-        outcome(rt.alloc(), &FAULTY[..1])?.as_slice(),
-        b"NoColumns".as_slice()
-    );
+    let alloc = rt.alloc();
+    assert!(rt; is_outcome(alloc, &FAULTY, b"InfiniteLimit R10")?);
+    assert!(rt; is_outcome(alloc, &FAULTY[..5], b"NoColumns")?);
+    assert!(rt; is_outcome(alloc, &FAULTY[..1], b"NoColumns")?);
     Ok(())
 }
 
@@ -682,10 +782,7 @@ term x 1
 column x continuous 0 inf objective 0
 entry r 1 1
 ";
-    assert_eq!(rt; outcome(rt.alloc(), &WHOLE)?.as_slice(), bounded.as_slice());
-    assert_eq!(rt;
-        outcome(rt.alloc(), &WHOLE[..7])?.as_slice(),
-        plain.as_slice()
-    );
+    assert!(rt; is_outcome(rt.alloc(), &WHOLE, bounded)?);
+    assert!(rt; is_outcome(rt.alloc(), &WHOLE[..7], plain)?);
     Ok(())
 }

@@ -53,15 +53,17 @@ const LIMITED: [(RowType, &str, &str, &str, &str); 9] = [
     (RowType::Equal, "4", "0", "4", "4"),
 ];
 
+/// The limits of a row by type, right-hand side and optional range.
+fn limits_by_type(row_type: RowType, rhs: &str, range: &str) -> RowLimits {
+    let definition = UnpackedRowDefinition::ByType(row_type);
+    let found = limits_of(&definition, number(rhs), &number_if_told(range));
+    found.unwrap_or(plain_limits(RowType::Free, Decimal::zero()))
+}
+
 #[test]
 fn limits_rows_by_their_type(rt: HostRuntime) {
-    for (row_type, rhs, range, lower, upper) in LIMITED {
-        let found = limits_of(
-            &UnpackedRowDefinition::ByType(row_type),
-            number(rhs),
-            &number_if_told(range),
-        );
-        let limits = found.unwrap_or(plain_limits(RowType::Free, Decimal::zero()));
+    for (row_type, rhs, range, lower, upper) in &LIMITED {
+        let limits = limits_by_type(*row_type, rhs, range);
         assert!(rt; limits.lower == side(lower), "lower of {rhs} with {range}");
         assert!(rt; limits.upper == side(upper), "upper of {rhs} with {range}");
     }

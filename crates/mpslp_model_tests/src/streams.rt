@@ -4,7 +4,6 @@ use mpslp_io::{FromRead, IoFailed, Sink, Source, ToWrite};
 use std::alloc::Global;
 use std::io;
 use std::io::{Error, ErrorKind, Read, Write};
-use std::test::Fail;
 
 /// Returns two bytes from each read, but fails in one read, counted from 1.
 #[derive(Drop)]
@@ -78,33 +77,65 @@ impl Write for FailingWriter {
     }
 }
 
+/// Whether a read has this result, after which the source has failed or not and was called so many times.
+fn reads<S: Source>(
+    source: &mut S,
+    buffer: &mut [u8],
+    answer: Result<usize, IoFailed>,
+    has_failed: bool,
+    calls: u64,
+) -> bool {
+    source.read(buffer) == answer && (source.has_failed() == has_failed && source.calls() == calls)
+}
+
+/// Whether a write has this result, after which the sink has failed or not and was called so many times.
+fn writes<S: Sink>(
+    sink: &mut S,
+    piece: &[u8],
+    answer: Result<usize, IoFailed>,
+    has_failed: bool,
+    calls: u64,
+) -> bool {
+    sink.write(piece) == answer && (sink.has_failed() == has_failed && sink.calls() == calls)
+}
+
+/// Whether a flush has this result, after which the sink has failed or not and was called so many times.
+fn flushes<S: Sink>(
+    sink: &mut S,
+    answer: Result<(), IoFailed>,
+    has_failed: bool,
+    calls: u64,
+) -> bool {
+    sink.flush() == answer && (sink.has_failed() == has_failed && sink.calls() == calls)
+}
+
 #[test]
 fn reads_to_the_end(rt: HostRuntime) {
     let mut source = FromRead::new(b"abc".as_slice());
     let mut buffer = [0; 2];
     assert_eq!(rt; source.calls(), 0);
-    assert_eq!(rt; source.read(&mut buffer), Ok(2));
+    assert!(rt; reads(&mut source, &mut buffer, Ok(2), false, 1));
     assert_eq!(rt; buffer.as_slice(), b"ab".as_slice());
-    assert_eq!(rt; source.read(&mut buffer), Ok(1));
+    assert!(rt; reads(&mut source, &mut buffer, Ok(1), false, 2));
     assert_eq!(rt; buffer[0], b'c');
-    assert_eq!(rt; source.read(&mut buffer), Ok(0));
-    assert_eq!(rt; source.has_failed(), false);
-    assert_eq!(rt; source.calls(), 3);
+    assert!(rt; reads(&mut source, &mut buffer, Ok(0), false, 3));
 }
 
 #[test]
 fn a_buffer_without_room_is_a_read(rt: HostRuntime) {
     let mut source = FromRead::new(b"abc".as_slice());
-    assert_eq!(rt; source.read(&mut []), Ok(0));
-    assert_eq!(rt; source.calls(), 1);
+    assert!(rt; reads(&mut source, &mut [], Ok(0), false, 1));
     assert_eq!(rt; source.into_inner(), b"abc".as_slice());
+}
+
+#[test]
+fn a_failure_without_room_is_told(rt: HostRuntime) {
     let mut source = FromRead::new(FailingReader {
         fails_in: 1,
         reads: 0,
     });
-    assert_eq!(rt; source.read(&mut []), Err(IoFailed));
-    assert_eq!(rt; source.read(&mut []), Err(IoFailed));
-    assert_eq!(rt; source.calls(), 2);
+    assert!(rt; reads(&mut source, &mut [], Err(IoFailed), true, 1));
+    assert!(rt; reads(&mut source, &mut [], Err(IoFailed), true, 2));
     assert_eq!(rt; source.into_inner().reads, 1);
 }
 
@@ -116,65 +147,76 @@ fn a_reader_that_failed_is_not_read_again(rt: HostRuntime) {
     };
     let mut source = FromRead::new(&mut reader);
     let mut buffer = [0; 3];
-    assert_eq!(rt; source.read(&mut buffer), Ok(2));
-    assert_eq!(rt; source.has_failed(), false);
-    assert_eq!(rt; source.read(&mut buffer), Err(IoFailed));
-    assert_eq!(rt; source.has_failed(), true);
-    assert_eq!(rt; source.calls(), 2);
-    assert_eq!(rt; source.read(&mut buffer), Err(IoFailed));
-    assert_eq!(rt; source.has_failed(), true);
-    assert_eq!(rt; source.calls(), 3);
+    assert!(rt; reads(&mut source, &mut buffer, Ok(2), false, 1));
+    assert!(rt; reads(&mut source, &mut buffer, Err(IoFailed), true, 2));
+    assert!(rt; reads(&mut source, &mut buffer, Err(IoFailed), true, 3));
     assert_eq!(rt; reader.reads, 2);
 }
 
-#[test]
-fn writes_and_flushes(rt: HostRuntime) -> Result<(), Fail> {
-    let mut sink = ToWrite::new(Vec::new(rt.alloc()));
-    assert_eq!(rt; sink.calls(), 0);
-    assert_eq!(rt; sink.write(b"abc"), Ok(3));
-    assert_eq!(rt; sink.write(b""), Ok(0));
-    assert_eq!(rt; sink.flush(), Ok(()));
-    assert_eq!(rt; sink.has_failed(), false);
-    assert_eq!(rt; sink.calls(), 3);
-    assert_eq!(rt; sink.into_inner().as_slice(), b"abc".as_slice());
-    Ok(())
+/// Whether a sink takes three bytes, then none, and is flushed.
+fn takes_and_flushes<S: Sink>(sink: &mut S) -> bool {
+    let is_new = sink.calls() == 0;
+    let takes_bytes = writes(sink, b"abc", Ok(3), false, 1);
+    let takes_none = writes(sink, b"", Ok(0), false, 2);
+    let is_flushed = flushes(sink, Ok(()), false, 3);
+    is_new && (takes_bytes && (takes_none && is_flushed))
 }
 
 #[test]
-fn a_writer_that_failed_is_not_called_again(rt: HostRuntime) -> Result<(), Fail> {
-    let refusals = [
+fn writes_and_flushes(rt: HostRuntime) {
+    let mut held = Vec::new(rt.alloc());
+    assert!(rt; takes_and_flushes(&mut ToWrite::new(&mut held)));
+    assert_eq!(rt; held.as_slice(), b"abc".as_slice());
+}
+
+/// Whether a sink with room for 10 bytes takes them and then fails.
+fn takes_ten_bytes<S: Sink>(sink: &mut S) -> bool {
+    let takes_front = writes(sink, b"abcdefgh", Ok(8), false, 1);
+    let is_flushed = flushes(sink, Ok(()), false, 2);
+    let takes_end = writes(sink, b"ijkl", Ok(2), false, 3);
+    let fails = writes(sink, b"kl", Err(IoFailed), true, 4);
+    takes_front && (is_flushed && (takes_end && fails))
+}
+
+/// Whether a sink that has failed in its fourth call fails in a write and in a flush.
+fn stays_failed<S: Sink>(sink: &mut S) -> bool {
+    let fails_in_write = writes(sink, b"", Err(IoFailed), true, 5);
+    let fails_in_flush = flushes(sink, Err(IoFailed), true, 6);
+    fails_in_write && fails_in_flush
+}
+
+/// Whether a writer that rejects a write so is not called again, and has what it took before.
+fn is_not_called_again(alloc: Global, refusal: Refusal) -> bool {
+    let mut writer = FailingWriter::new(alloc, 10, refusal);
+    let mut sink = ToWrite::new(&mut writer);
+    let is_taken = takes_ten_bytes(&mut sink);
+    let is_failed = stays_failed(&mut sink);
+    let is_held = writer.calls == 4 && writer.held.as_slice() == b"abcdefghij".as_slice();
+    is_taken && (is_failed && is_held)
+}
+
+#[test]
+fn a_writer_that_failed_is_not_called_again(rt: HostRuntime) {
+    for refusal in [
         Refusal::TakesNothing,
         Refusal::IsInterrupted,
         Refusal::HasError,
-    ];
-    for refusal in refusals {
-        let mut writer = FailingWriter::new(rt.alloc(), 10, refusal);
-        let mut sink = ToWrite::new(&mut writer);
-        assert_eq!(rt; sink.write(b"abcdefgh"), Ok(8));
-        assert_eq!(rt; sink.flush(), Ok(()));
-        assert_eq!(rt; sink.write(b"ijkl"), Ok(2));
-        assert_eq!(rt; sink.has_failed(), false);
-        assert_eq!(rt; sink.write(b"kl"), Err(IoFailed), "{refusal:?}");
-        assert_eq!(rt; sink.has_failed(), true);
-        assert_eq!(rt; sink.calls(), 4);
-        assert_eq!(rt; sink.write(b""), Err(IoFailed));
-        assert_eq!(rt; sink.flush(), Err(IoFailed));
-        assert_eq!(rt; sink.calls(), 6);
-        assert_eq!(rt; writer.calls, 4);
-        assert_eq!(rt; writer.held.as_slice(), b"abcdefghij".as_slice());
+    ] {
+        assert!(rt; is_not_called_again(rt.alloc(), refusal), "{refusal:?}");
     }
-    Ok(())
+}
+
+/// Whether a sink takes three bytes, and fails in the flush and in the write after it.
+fn fails_in_flush<S: Sink>(sink: &mut S) -> bool {
+    let takes_bytes = writes(sink, b"abc", Ok(3), false, 1);
+    let fails = flushes(sink, Err(IoFailed), true, 2);
+    let stays_failed = writes(sink, b"", Err(IoFailed), true, 3);
+    takes_bytes && (fails && stays_failed)
 }
 
 #[test]
-fn a_flush_that_fails_is_told(rt: HostRuntime) -> Result<(), Fail> {
+fn a_flush_that_fails_is_told(rt: HostRuntime) {
     let mut writer = FailingWriter::new(rt.alloc(), 3, Refusal::HasError);
-    let mut sink = ToWrite::new(&mut writer);
-    assert_eq!(rt; sink.write(b"abc"), Ok(3));
-    assert_eq!(rt; sink.flush(), Err(IoFailed));
-    assert_eq!(rt; sink.has_failed(), true);
-    assert_eq!(rt; sink.write(b""), Err(IoFailed));
-    assert_eq!(rt; sink.calls(), 3);
+    assert!(rt; fails_in_flush(&mut ToWrite::new(&mut writer)));
     assert_eq!(rt; writer.calls, 2);
-    Ok(())
 }

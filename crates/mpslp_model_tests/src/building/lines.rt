@@ -1,8 +1,8 @@
 //! Tests of the calls that declare a line of a column.
 
-use super::{Call, call_of, finished, named, number, tells, views_of};
+use super::{WITH_ROWS, built, finished, named, number, tells, text_of};
 use mpslp_builder::{Builder, Entries, Entry};
-use mpslp_types::{BuildFault, RowType};
+use mpslp_types::BuildFault;
 use std::alloc::Global;
 use std::test::Fail;
 
@@ -83,29 +83,33 @@ fn first_other_line(
     Ok(None)
 }
 
-/// A builder with the objective f and the rows r and s.
-fn with_rows(alloc: Global) -> Result<Builder, BuildFault> {
-    let mut builder = Builder::new(alloc);
-    call_of(&mut builder, alloc, Call::Objective("f"))?;
-    call_of(&mut builder, alloc, Call::Row("r", RowType::AtMost))?;
-    call_of(&mut builder, alloc, Call::Row("s", RowType::AtLeast))?;
+/// The index of the first line of one builder with another result.
+fn first_other_line_of(
+    alloc: Global,
+    lines: &[(Line<'_>, bool)],
+) -> Result<Option<usize>, BuildFault> {
+    let mut builder = built(alloc, &WITH_ROWS)?;
+    first_other_line(&mut builder, alloc, lines)
+}
+
+/// The builder after these lines.
+fn with_lines(alloc: Global, lines: &[(Line<'_>, bool)]) -> Result<Builder, BuildFault> {
+    let mut builder = built(alloc, &WITH_ROWS)?;
+    for (line, _) in lines {
+        line_of(&mut builder, alloc, *line)?;
+    }
     Ok(builder)
 }
 
-/// The accessors' results after these lines, if each has its result.
+/// The accessors' results after these lines.
 fn views_of_lines(alloc: Global, lines: &[(Line<'_>, bool)]) -> Result<Vec<u8>, BuildFault> {
-    let mut builder = with_rows(alloc)?;
-    if first_other_line(&mut builder, alloc, lines)?.is_some() {
-        return Ok(Vec::new(alloc));
-    }
-    match finished(builder) {
-        Some(Ok(model)) => Ok(views_of(alloc, &model)?),
-        _ => Ok(Vec::new(alloc)),
-    }
+    let answer = finished(with_lines(alloc, lines)?);
+    Ok(text_of(alloc, &answer)?)
 }
 
 #[test]
 fn declares_lines_of_columns(rt: HostRuntime) -> Result<(), Fail> {
+    assert_eq!(rt; first_other_line_of(rt.alloc(), &LINES)?, None);
     let views = views_of_lines(rt.alloc(), &LINES)?;
     let text = views.as_slice();
     assert!(rt; tells(text, "column x continuous 0 inf objective 1"));

@@ -1,8 +1,8 @@
 //! Tests of what LP files declare.
 
-use super::{Call, first_other_answer, outcome, tells};
-use mpslp_builder::Builder;
+use super::{Call, first_other_answer_of, is_outcome, outcome, tells};
 use mpslp_types::{BuildFault, RowType};
+use std::alloc::Global;
 use std::test::Fail;
 
 /// Calls that LP files make in turn, and the result of each.
@@ -60,16 +60,12 @@ const CONSTANTS: [(Call<'static>, Result<(), BuildFault>); 4] = [
 
 #[test]
 fn answers_what_lp_declares(rt: HostRuntime) {
-    let mut builder = Builder::new(rt.alloc());
-    let other_answer = first_other_answer(&mut builder, rt.alloc(), &OF_LP);
-    assert_eq!(rt; other_answer, None);
+    assert_eq!(rt; first_other_answer_of(rt.alloc(), &OF_LP), None);
 }
 
 #[test]
 fn takes_one_constant(rt: HostRuntime) {
-    let mut builder = Builder::new(rt.alloc());
-    let other_answer = first_other_answer(&mut builder, rt.alloc(), &CONSTANTS);
-    assert_eq!(rt; other_answer, None);
+    assert_eq!(rt; first_other_answer_of(rt.alloc(), &CONSTANTS), None);
 }
 
 /// Rows by their limits, and the lines that the accessors give.
@@ -91,33 +87,42 @@ const LIMITED: [(&str, &str, &str); 11] = [
     ),
 ];
 
+/// Whether the accessors give this line for the row R of these limits.
+fn is_limited<'a>(
+    alloc: Global,
+    lower: &'a str,
+    upper: &'a str,
+    expected: &str,
+) -> Result<bool, BuildFault> {
+    let calls = [
+        Call::Objective("C"),
+        Call::RowLimits("R", lower, upper),
+        Call::Column("X"),
+    ];
+    Ok(tells(&outcome(alloc, &calls)?, expected))
+}
+
 #[test]
 fn limits_rows_by_their_limits(rt: HostRuntime) -> Result<(), Fail> {
     for (lower, upper, expected) in LIMITED {
-        let calls = [
-            Call::Objective("C"),
-            Call::RowLimits("R", lower, upper),
-            Call::Column("X"),
-        ];
-        let answer = outcome(rt.alloc(), &calls)?;
-        assert!(rt; tells(&answer, expected), "at {lower} {upper}");
+        let is_right = is_limited(rt.alloc(), lower, upper, expected)?;
+        assert!(rt; is_right, "at {lower} {upper}");
     }
     Ok(())
 }
 
+/// A model with a constant.
+const WITH_CONSTANT: [Call<'static>; 3] = [
+    Call::Objective("f"),
+    Call::Constant("-2.50"),
+    Call::Column("x"),
+];
+
 #[test]
 fn tells_the_constant_as_declared(rt: HostRuntime) -> Result<(), Fail> {
-    let calls = [
-        Call::Objective("f"),
-        Call::Constant("-2.50"),
-        Call::Column("x"),
-    ];
     let expected = b"minimize f constant -2.5 offset 2.5
 column x continuous 0 inf objective 0
 ";
-    assert_eq!(rt;
-        outcome(rt.alloc(), &calls)?.as_slice(),
-        expected.as_slice()
-    );
+    assert!(rt; is_outcome(rt.alloc(), &WITH_CONSTANT, expected)?);
     Ok(())
 }

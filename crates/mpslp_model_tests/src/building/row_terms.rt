@@ -1,9 +1,9 @@
 //! Tests of the calls that declare the terms of a row.
 
-use super::{Call, call_of, finished, named, number, tells, views_of};
+use super::{WITH_ROWS, built, finished, named, number, tells, text_of};
 use mpslp_builder::{Builder, RowTerms};
+use mpslp_types::BuildFault;
 use mpslp_types::laws::each_name_is_legal;
-use mpslp_types::{BuildFault, RowType};
 use std::alloc::Global;
 use std::test::Fail;
 
@@ -61,23 +61,28 @@ fn declare_one(
 
 /// A builder with the objective f, the rows r and s, and these terms of r.
 fn with_terms(alloc: Global, terms: &[Term<'_>]) -> Result<Builder, BuildFault> {
-    let mut builder = Builder::new(alloc);
-    call_of(&mut builder, alloc, Call::Objective("f"))?;
-    call_of(&mut builder, alloc, Call::Row("r", RowType::AtMost))?;
-    call_of(&mut builder, alloc, Call::Row("s", RowType::AtLeast))?;
+    let mut builder = built(alloc, &WITH_ROWS)?;
     declare(alloc, &mut builder, "r", terms)?;
+    Ok(builder)
+}
+
+/// Declares a term of s and one of the objective.
+fn declare_others(alloc: Global, builder: &mut Builder) -> Result<(), BuildFault> {
+    declare_one(alloc, builder, "s", ("e", "5"))?;
+    declare_one(alloc, builder, "f", ("a", "6"))
+}
+
+/// The builder after these terms of r and some others.
+fn with_all_terms(alloc: Global, terms: &[Term<'_>]) -> Result<Builder, BuildFault> {
+    let mut builder = with_terms(alloc, terms)?;
+    declare_others(alloc, &mut builder)?;
     Ok(builder)
 }
 
 /// The accessors' results after these terms of r and some others.
 fn views_of_terms(alloc: Global, terms: &[Term<'_>]) -> Result<Vec<u8>, BuildFault> {
-    let mut builder = with_terms(alloc, terms)?;
-    declare_one(alloc, &mut builder, "s", ("e", "5"))?;
-    declare_one(alloc, &mut builder, "f", ("a", "6"))?;
-    match finished(builder) {
-        Some(Ok(model)) => Ok(views_of(alloc, &model)?),
-        _ => Ok(Vec::new(alloc)),
-    }
+    let answer = finished(with_all_terms(alloc, terms)?);
+    Ok(text_of(alloc, &answer)?)
 }
 
 #[test]
@@ -99,24 +104,33 @@ fn finds_columns_twice_in_a_row(rt: HostRuntime) -> Result<(), Fail> {
     Ok(())
 }
 
-/// Whether a second term of a row, and terms of no row, have their errors.
-fn are_refused(alloc: Global, terms: &[Term<'_>]) -> Result<bool, BuildFault> {
+/// Whether a builder rejects a second term of r, and a term of no row.
+fn refuses_one(alloc: Global, builder: &mut Builder) -> bool {
+    let second = declare_one(alloc, builder, "r", ("c", "1"));
+    let unknown = declare_one(alloc, builder, "q", ("c", "1"));
+    second == Err(BuildFault::DuplicateEntry) && unknown == Err(BuildFault::UnknownRow)
+}
+
+/// Whether a builder rejects these terms of r once more, and of no row, but not that no row has no terms.
+fn refuses_all(alloc: Global, builder: &mut Builder, terms: &[Term<'_>]) -> bool {
+    let second = declare(alloc, builder, "r", terms);
+    let unknown = declare(alloc, builder, "q", terms);
+    let none = declare(alloc, builder, "q", &[]);
+    second == Err(BuildFault::DuplicateEntry)
+        && (unknown == Err(BuildFault::UnknownRow) && none == Ok(()))
+}
+
+/// Whether a second term of a row and a term of no row have their errors, and whether several have them.
+fn are_refused(alloc: Global, terms: &[Term<'_>]) -> Result<(bool, bool), BuildFault> {
     let mut builder = with_terms(alloc, terms)?;
-    let second = declare_one(alloc, &mut builder, "r", ("c", "1"));
-    let unknown = declare_one(alloc, &mut builder, "q", ("c", "1"));
-    let all_second = declare(alloc, &mut builder, "r", terms);
-    let all_unknown = declare(alloc, &mut builder, "q", terms);
-    let none = declare(alloc, &mut builder, "q", &[]);
-    Ok(
-        second == Err(BuildFault::DuplicateEntry)
-            && (unknown == Err(BuildFault::UnknownRow)
-                && (all_second == Err(BuildFault::DuplicateEntry)
-                    && (all_unknown == Err(BuildFault::UnknownRow) && none == Ok(())))),
-    )
+    let is_one_refused = refuses_one(alloc, &mut builder);
+    let are_all_refused = refuses_all(alloc, &mut builder, terms);
+    Ok((is_one_refused, are_all_refused))
 }
 
 #[test]
 fn refuses_terms(rt: HostRuntime) -> Result<(), Fail> {
-    assert!(rt; are_refused(rt.alloc(), &TERMS)?);
+    let (is_one_refused, are_all_refused) = are_refused(rt.alloc(), &TERMS)?;
+    assert!(rt; is_one_refused && are_all_refused);
     Ok(())
 }

@@ -81,8 +81,8 @@ const ROWS: [(RowType, &str, Option<&str>, &str); 13] = [
 #[test]
 fn limits_rows_by_type_right_side_and_range(rt: HostRuntime) -> Result<(), Fail> {
     for (row_type, right_side, range, expected) in ROWS {
-        let answer = of_row(rt.alloc(), row_type, right_side, range)?;
-        assert!(rt; tells(&answer, expected), "at {right_side} {expected}");
+        let is_right = tells(&of_row(rt.alloc(), row_type, right_side, range)?, expected);
+        assert!(rt; is_right, "at {right_side} {expected}");
     }
     Ok(())
 }
