@@ -3,8 +3,8 @@
 use mpslp_decimal::{Decimal, DecimalText, NumberFault, PackedDecimal, laws};
 use std::test::Fail;
 
-/// Literals and their canonical texts.
-const ACCEPTED: [(&str, &str); 28] = [
+/// Literals of few digits, and their canonical texts.
+const SHORT: [(&str, &str); 8] = [
     ("-0.0", "0"),
     ("0e999", "0"),
     ("0e99999999999999999999999999999999999999", "0"),
@@ -13,6 +13,10 @@ const ACCEPTED: [(&str, &str); 28] = [
     ("1.50", "1.5"),
     ("+7", "7"),
     ("000000000000000000000000000001", "1"),
+];
+
+/// Literals of many digits, and their canonical texts.
+const LONG: [(&str, &str); 9] = [
     ("123456789012345678", "123456789012345678"),
     ("1234567890123456780", "1234567890123456780"),
     ("1234567890123456789", "1234567890123456789"),
@@ -31,6 +35,10 @@ const ACCEPTED: [(&str, &str); 28] = [
         "1234567890123456789012345678901234560e-10",
         "123456789012345678901234567.890123456",
     ),
+];
+
+/// Literals with an exponent and others, and their canonical texts.
+const WITH_EXPONENT: [(&str, &str); 11] = [
     ("1e5", "100000"),
     ("1e6", "1e6"),
     ("12.50e-20", "125e-21"),
@@ -44,6 +52,7 @@ const ACCEPTED: [(&str, &str); 28] = [
     ("-1e+00", "-1"),
 ];
 
+/// Literals that are rejected, and their errors.
 const REFUSED: [(&str, NumberFault); 16] = [
     ("", NumberFault::BadNumber),
     (".", NumberFault::BadNumber),
@@ -72,20 +81,44 @@ const REFUSED: [(&str, NumberFault); 16] = [
     ),
 ];
 
-#[test]
-fn reads_and_prints_worked_literals(rt: HostRuntime) -> Result<(), Fail> {
+/// Whether a literal has this canonical text.
+fn is_printed(literal: &str, want: &str) -> Result<bool, NumberFault> {
     let mut text = DecimalText::new();
-    for (literal, want) in ACCEPTED {
-        let value = Decimal::parse(literal.as_bytes())?;
-        assert_eq!(rt; text.put(value), want.as_bytes(), "at {literal}");
+    Ok(text.put(Decimal::parse(literal.as_bytes())?) == want.as_bytes())
+}
+
+#[test]
+fn reads_and_prints_short_literals(rt: HostRuntime) -> Result<(), Fail> {
+    for (literal, want) in SHORT {
+        assert!(rt; is_printed(literal, want)?, "at {literal}");
     }
+    Ok(())
+}
+
+#[test]
+fn reads_and_prints_long_literals(rt: HostRuntime) -> Result<(), Fail> {
+    for (literal, want) in LONG {
+        assert!(rt; is_printed(literal, want)?, "at {literal}");
+    }
+    Ok(())
+}
+
+#[test]
+fn reads_and_prints_scaled_literals(rt: HostRuntime) -> Result<(), Fail> {
+    for (literal, want) in WITH_EXPONENT {
+        assert!(rt; is_printed(literal, want)?, "at {literal}");
+    }
+    Ok(())
+}
+
+#[test]
+fn refuses_what_is_no_decimal(rt: HostRuntime) {
     for (literal, want) in REFUSED {
         assert!(rt;
             Decimal::parse(literal.as_bytes()) == Err(want),
             "at {literal}"
         );
     }
-    Ok(())
 }
 
 #[test]

@@ -109,8 +109,9 @@ fn views_of_lines(alloc: Global, lines: &[(Line<'_>, bool)]) -> Result<Vec<u8>, 
 
 #[test]
 fn declares_lines_of_columns(rt: HostRuntime) -> Result<(), Fail> {
-    assert_eq!(rt; first_other_line_of(rt.alloc(), &LINES)?, None);
-    let views = views_of_lines(rt.alloc(), &LINES)?;
+    let lines = LINES.as_slice();
+    assert_eq!(rt; first_other_line_of(rt.alloc(), lines)?, None);
+    let views = views_of_lines(rt.alloc(), lines)?;
     let text = views.as_slice();
     assert!(rt; tells(text, "column x continuous 0 inf objective 1"));
     assert!(rt; tells(text, "column y integer 0 1 objective 8"));
