@@ -1,5 +1,6 @@
 //! Tests of the builder's calls and of the accessors of its models, on worked examples.
 
+mod columns;
 mod lines;
 mod lp;
 mod row_lists;
@@ -365,8 +366,8 @@ fn tells(text: &[u8], line: &str) -> bool {
         .any(|own| own == line.as_bytes())
 }
 
-/// Calls of one builder in turn, and the result of each.
-const ANSWERS: [(Call<'static>, Result<(), BuildFault>); 34] = [
+/// Calls that declare names and coefficients, in turn, and the result of each.
+const OF_NAMES: [(Call<'static>, Result<(), BuildFault>); 10] = [
     (Call::Objective("f"), Ok(())),
     (Call::Objective("g"), Err(BuildFault::SecondObjective)),
     (
@@ -389,6 +390,10 @@ const ANSWERS: [(Call<'static>, Result<(), BuildFault>); 34] = [
         Call::Coefficient("r", "x", "1"),
         Err(BuildFault::DuplicateEntry),
     ),
+];
+
+/// Calls for right-hand sides and ranges after `OF_NAMES`, and the result of each.
+const OF_SIDES: [(Call<'static>, Result<(), BuildFault>); 9] = [
     (Call::Rhs("q", "4"), Err(BuildFault::UnknownRow)),
     (Call::Rhs("r", "4"), Ok(())),
     (Call::Rhs("r", "4"), Err(BuildFault::DuplicateRhs)),
@@ -398,6 +403,10 @@ const ANSWERS: [(Call<'static>, Result<(), BuildFault>); 34] = [
     (Call::Range("r", "1e20"), Err(BuildFault::InfiniteValue)),
     (Call::Range("r", "-2"), Ok(())),
     (Call::Range("r", "-2"), Err(BuildFault::DuplicateRange)),
+];
+
+/// Calls for bounds and types after `OF_SIDES`, and the result of each.
+const OF_BOUNDS: [(Call<'static>, Result<(), BuildFault>); 9] = [
     (Call::Lower("x", "-1e20"), Ok(())),
     (Call::Bounds("x", "0", "1"), Err(BuildFault::DuplicateBound)),
     (Call::NoBounds("x"), Ok(())),
@@ -407,6 +416,10 @@ const ANSWERS: [(Call<'static>, Result<(), BuildFault>); 34] = [
     (Call::Marked("x"), Ok(())),
     (Call::Integer("x"), Ok(())),
     (Call::Integer("y"), Err(BuildFault::UnknownColumn)),
+];
+
+/// Calls for the sense and for a free row after `OF_BOUNDS`, and the result of each.
+const OF_SENSE: [(Call<'static>, Result<(), BuildFault>); 6] = [
     (Call::Sense(Sense::Maximize), Ok(())),
     (
         Call::Sense(Sense::Maximize),
@@ -456,7 +469,7 @@ fn first_other_answer_of(
     first_other_answer(&mut builder, alloc, calls)
 }
 
-/// Whether the builder knows the names of `ANSWERS`, and no others.
+/// Whether the builder knows the names of the four tables, and no others.
 fn knows_its_names(builder: &mut Builder) -> bool {
     let has = builder.has_row(b"r") && builder.has_row(b"f") && builder.has_column(b"x");
     let has_others = builder.has_row(b"x") || builder.has_column(b"r");
@@ -464,21 +477,46 @@ fn knows_its_names(builder: &mut Builder) -> bool {
     builder.has_objective() && has && !has_others && finds
 }
 
-/// What a builder tells of the calls of `ANSWERS`: whether it has an objective before them, the index of the first with another
-/// result, and whether it knows their names after them.
-fn told_of_answers(alloc: Global) -> (bool, Option<usize>, bool) {
+/// The index of the first call of `OF_NAMES` with another result.
+fn other_of_names(builder: &mut Builder, alloc: Global) -> Option<usize> {
+    first_other_answer(builder, alloc, &OF_NAMES)
+}
+
+/// The index of the first call of `OF_SIDES` with another result.
+fn other_of_sides(builder: &mut Builder, alloc: Global) -> Option<usize> {
+    first_other_answer(builder, alloc, &OF_SIDES)
+}
+
+/// The index of the first call of `OF_BOUNDS` with another result.
+fn other_of_bounds(builder: &mut Builder, alloc: Global) -> Option<usize> {
+    first_other_answer(builder, alloc, &OF_BOUNDS)
+}
+
+/// The index of the first call of `OF_SENSE` with another result.
+fn other_of_sense(builder: &mut Builder, alloc: Global) -> Option<usize> {
+    first_other_answer(builder, alloc, &OF_SENSE)
+}
+
+/// What a builder tells of the calls of the four tables, one after the other: whether it has an objective before them, the index
+/// of the first call of each table with another result, and whether it knows their names after them. A function that uses a table
+/// is proved with all its rows, and small tables in functions of their own are proved in less time than a large one.
+fn told_of_answers(alloc: Global) -> (bool, [Option<usize>; 4], bool) {
     let mut builder = Builder::new(alloc);
     let had_objective = builder.has_objective();
-    let other_answer = first_other_answer(&mut builder, alloc, &ANSWERS);
-    let knows = knows_its_names(&mut builder);
-    (had_objective, other_answer, knows)
+    let others = [
+        other_of_names(&mut builder, alloc),
+        other_of_sides(&mut builder, alloc),
+        other_of_bounds(&mut builder, alloc),
+        other_of_sense(&mut builder, alloc),
+    ];
+    (had_objective, others, knows_its_names(&mut builder))
 }
 
 #[test]
 fn answers_in_order(rt: HostRuntime) {
-    let (had_objective, other_answer, knows) = told_of_answers(rt.alloc());
+    let (had_objective, others, knows) = told_of_answers(rt.alloc());
     assert!(rt; !had_objective && knows);
-    assert_eq!(rt; other_answer, None);
+    assert_eq!(rt; others, [None; 4]);
 }
 
 #[test]
@@ -549,13 +587,26 @@ const TURNED: [Call<'static>; 13] = [
     Call::Sense(Sense::Minimize),
 ];
 
+/// The numbers that a model has for the rows MYG and COST, then for the columns Y and MYG.
+fn numbers_in(model: &Model) -> [Option<usize>; 4] {
+    [
+        model.row_index(b"MYG"),
+        model.row_index(b"COST"),
+        model.column_index(b"Y"),
+        model.column_index(b"MYG"),
+    ]
+}
+
+/// The numbers of `numbers_in` for the model of these calls, or none without a model.
+fn numbers_of(alloc: Global, calls: &[Call<'_>]) -> Result<[Option<usize>; 4], BuildFault> {
+    match model_of(alloc, calls)? {
+        Some(model) => Ok(numbers_in(&model)),
+        None => Ok([None; 4]),
+    }
+}
+
 #[test]
 fn shows_a_model_built_by_calls(rt: HostRuntime) -> Result<(), Fail> {
-    let alloc = rt.alloc();
-    let Some(model) = model_of(alloc, &SMALL)? else {
-        assert!(rt; false);
-        return Ok(());
-    };
     let expected = b"minimize COST constant 0 offset 0
 row LIM1 L -inf 4 rhs 4 range 0
 term X 1
@@ -566,12 +617,11 @@ entry LIM1 1 1
 column Y continuous 0 inf objective 2
 entry MYG 1.5 1.5
 ";
-    assert_eq!(rt; views_of(alloc, &model)?.as_slice(), expected.as_slice());
-    assert_eq!(rt; model.num_elements(), 2);
-    assert_eq!(rt; model.row_index(b"MYG"), Some(1));
-    assert_eq!(rt; model.row_index(b"COST"), None);
-    assert_eq!(rt; model.column_index(b"Y"), Some(1));
-    assert_eq!(rt; model.column_index(b"MYG"), None);
+    let calls = SMALL.as_slice();
+    assert!(rt; is_outcome(rt.alloc(), calls, expected)?);
+    assert_eq!(rt; num_elements_of(rt.alloc(), calls)?, Some(2));
+    let numbers = numbers_of(rt.alloc(), calls)?;
+    assert_eq!(rt; numbers, [Some(1), None, Some(1), None]);
     Ok(())
 }
 
@@ -625,111 +675,6 @@ const GREATEST: [Call<'static>; 3] = [
 #[test]
 fn models_of_two_senses_differ(rt: HostRuntime) -> Result<(), Fail> {
     assert_eq!(rt; are_same(rt.alloc(), &LEAST, &GREATEST)?, Some(false));
-    Ok(())
-}
-
-/// Two calls for the bounds or the type of a column, and the line that the accessors give.
-const COLUMNS: [(Call<'static>, Call<'static>, &str); 21] = [
-    (
-        Call::NoBounds("X"),
-        Call::NoBounds("X"),
-        "column X continuous 0 inf objective 0",
-    ),
-    (
-        Call::Upper("X", "-1"),
-        Call::NoBounds("X"),
-        "NegativeUpper X",
-    ),
-    (
-        Call::Upper("X", "-1"),
-        Call::Lower("X", "-1e20"),
-        "column X continuous -inf -1 objective 0",
-    ),
-    (
-        Call::Upper("X", "-1"),
-        Call::Lower("X", "0"),
-        "BoundsCrossed X",
-    ),
-    (
-        Call::Upper("X", "0"),
-        Call::NoBounds("X"),
-        "column X continuous 0 0 objective 0",
-    ),
-    (
-        Call::Bounds("X", "2", "2.50"),
-        Call::NoBounds("X"),
-        "column X continuous 2 2.5 objective 0",
-    ),
-    (
-        Call::Marked("X"),
-        Call::NoBounds("X"),
-        "column X integer 0 1 objective 0",
-    ),
-    (
-        Call::Marked("X"),
-        Call::Lower("X", "0"),
-        "column X integer 0 inf objective 0",
-    ),
-    (
-        Call::Integer("X"),
-        Call::NoBounds("X"),
-        "column X integer 0 inf objective 0",
-    ),
-    (
-        Call::Binary("X"),
-        Call::NoBounds("X"),
-        "column X integer 0 1 objective 0",
-    ),
-    (
-        Call::Binary("X"),
-        Call::Lower("X", "1"),
-        "column X integer 1 1 objective 0",
-    ),
-    (
-        Call::Bounds("X", "0.5", "1"),
-        Call::Binary("X"),
-        "column X integer 0.5 1 objective 0",
-    ),
-    (Call::Binary("X"), Call::Upper("X", "2"), "BinaryBounds X"),
-    (Call::Binary("X"), Call::Lower("X", "-1"), "BinaryBounds X"),
-    (Call::Binary("X"), Call::Lower("X", "2"), "BoundsCrossed X"),
-    (Call::Binary("X"), Call::Upper("X", "-1"), "NegativeUpper X"),
-    (
-        Call::Semi("X"),
-        Call::Upper("X", "4"),
-        "column X semi 0 4 objective 0",
-    ),
-    (
-        Call::Bounds("X", "4", "4"),
-        Call::Semi("X"),
-        "column X semi 4 4 objective 0",
-    ),
-    (Call::Semi("X"), Call::NoBounds("X"), "SemiBounds X"),
-    (Call::Semi("X"), Call::Upper("X", "0"), "SemiBounds X"),
-    (
-        Call::Semi("X"),
-        Call::Bounds("X", "-1", "4"),
-        "SemiBounds X",
-    ),
-];
-
-/// Whether the accessors give this line for the column X after two calls.
-fn is_bounded<'a>(
-    alloc: Global,
-    first: Call<'a>,
-    second: Call<'a>,
-    expected: &str,
-) -> Result<bool, BuildFault> {
-    let calls = [Call::Objective("C"), Call::Column("X"), first, second];
-    Ok(tells(&outcome(alloc, &calls)?, expected))
-}
-
-#[test]
-fn bounds_columns_by_their_sides(rt: HostRuntime) -> Result<(), Fail> {
-    for (first, second, expected) in COLUMNS {
-        let is_right = is_bounded(rt.alloc(), first, second, expected)?;
-        assert!(rt; is_right, "at {expected}");
-    }
     Ok(())
 }
 
