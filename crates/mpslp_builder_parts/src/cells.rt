@@ -39,13 +39,13 @@ impl Model for Cells {
     ghost invariant = { λ c. IsOnceBy nat_cmp (c.near ++ c.far) };
 }
 
-/// For how many more coefficients a full vector gets room. A column with one has no unused room. Others get room for 4, 8, 12 and
-/// 16, since a vector that grows while others do is moved each time; in a long column a third is unused at most.
+/// For how many more coefficients a full vector gets room. A column with one or two has no unused room. Others get room for 4, 8,
+/// 12 and 16, since a vector that grows while others do is moved each time; in a long column a third is unused at most.
 fn more_room(len: usize) -> usize {
     match len {
-        0 => 1,
-        1 => 3,
-        2..16 => 4,
+        0 | 1 => 1,
+        2..4 => 2,
+        4..16 => 4,
         _ => len / 2,
     }
 }
