@@ -1,8 +1,8 @@
 //! Which columns have a coefficient in each row, and where.
 //!
 //! A model stores its coefficients by columns. Queries by row use these lists, so they search in no column; where a model has no
-//! lists, they search in all columns. All lists are in one vector: the coefficients of each row are counted first, so that the start of its list is known before the first
-//! coefficient is stored.
+//! lists, they search in all columns. All lists are in one vector: the coefficients of each row are counted first, so that the
+//! start of its list is known before the first coefficient is stored.
 
 ghost use Rattle.std.specs.Prelude.{◌≡◌, ◌≢◌, ◌≤◌, ◌<◌, ℕ, IfOk, IsTrue, OnOk, Some, length, suc, slice_get, slice_index, slice_index_or, sum, take};
 ghost use Rattle.std.specs.List.{All, list_all};

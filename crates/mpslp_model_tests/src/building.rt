@@ -497,7 +497,7 @@ fn other_of_sense(builder: &mut Builder, alloc: Global) -> Option<usize> {
     first_other_answer(builder, alloc, &OF_SENSE)
 }
 
-/// What a builder tells of the calls of the four tables, one after the other: whether it has an objective before them, the index
+/// What a builder returns for the calls of the four tables, one after the other: whether it has an objective before them, the index
 /// of the first call of each table with another result, and whether it knows their names after them. A function that uses a table
 /// is proved with all its rows, and small tables in functions of their own are proved in less time than a large one.
 fn told_of_answers(alloc: Global) -> (bool, [Option<usize>; 4], bool) {
