@@ -361,7 +361,7 @@ fn is_outcome(alloc: Global, calls: &[Call<'_>], expected: &[u8]) -> Result<bool
 }
 
 /// Whether this is one of the lines of the text.
-fn tells(text: &[u8], line: &str) -> bool {
+fn has_line(text: &[u8], line: &str) -> bool {
     text.split(|byte| *byte == b'\n')
         .any(|own| own == line.as_bytes())
 }
@@ -500,7 +500,7 @@ fn other_of_sense(builder: &mut Builder, alloc: Global) -> Option<usize> {
 /// What a builder returns for the calls of the four tables, one after the other: whether it has an objective before them, the index
 /// of the first call of each table with another result, and whether it knows their names after them. A function that uses a table
 /// is proved with all its rows, and small tables in functions of their own are proved in less time than a large one.
-fn told_of_answers(alloc: Global) -> (bool, [Option<usize>; 4], bool) {
+fn outcome_of_answers(alloc: Global) -> (bool, [Option<usize>; 4], bool) {
     let mut builder = Builder::new(alloc);
     let had_objective = builder.has_objective();
     let others = [
@@ -514,7 +514,7 @@ fn told_of_answers(alloc: Global) -> (bool, [Option<usize>; 4], bool) {
 
 #[test]
 fn answers_in_order(rt: HostRuntime) {
-    let (had_objective, others, knows) = told_of_answers(rt.alloc());
+    let (had_objective, others, knows) = outcome_of_answers(rt.alloc());
     assert!(rt; !had_objective && knows);
     assert_eq!(rt; others, [None; 4]);
 }

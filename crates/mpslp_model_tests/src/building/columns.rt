@@ -1,6 +1,6 @@
 //! Tests of the bounds and the types of columns, and of their accessors.
 
-use super::{Call, outcome, tells};
+use super::{Call, has_line, outcome};
 use mpslp_types::BuildFault;
 use std::alloc::Global;
 use std::test::Fail;
@@ -110,7 +110,7 @@ fn is_bounded<'a>(
     expected: &str,
 ) -> Result<bool, BuildFault> {
     let calls = [Call::Objective("C"), Call::Column("X"), first, second];
-    Ok(tells(&outcome(alloc, &calls)?, expected))
+    Ok(has_line(&outcome(alloc, &calls)?, expected))
 }
 
 #[test]

@@ -1,6 +1,6 @@
 //! Tests of the calls that declare a line of a column.
 
-use super::{WITH_ROWS, built, finished, named, number, tells, text_of};
+use super::{WITH_ROWS, built, finished, has_line, named, number, text_of};
 use mpslp_builder::{Builder, Entries, Entry};
 use mpslp_types::BuildFault;
 use std::alloc::Global;
@@ -113,9 +113,9 @@ fn declares_lines_of_columns(rt: HostRuntime) -> Result<(), Fail> {
     assert_eq!(rt; first_other_line_of(rt.alloc(), lines)?, None);
     let views = views_of_lines(rt.alloc(), lines)?;
     let text = views.as_slice();
-    assert!(rt; tells(text, "column x continuous 0 inf objective 1"));
-    assert!(rt; tells(text, "column y integer 0 1 objective 8"));
-    assert!(rt; tells(text, "entry r 2 2") && tells(text, "entry s 3 3"));
-    assert!(rt; tells(text, "entry r 6 6") && tells(text, "entry s 7 7"));
+    assert!(rt; has_line(text, "column x continuous 0 inf objective 1"));
+    assert!(rt; has_line(text, "column y integer 0 1 objective 8"));
+    assert!(rt; has_line(text, "entry r 2 2") && has_line(text, "entry s 3 3"));
+    assert!(rt; has_line(text, "entry r 6 6") && has_line(text, "entry s 7 7"));
     Ok(())
 }

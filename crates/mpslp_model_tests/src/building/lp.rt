@@ -1,6 +1,6 @@
 //! Tests of what LP files declare.
 
-use super::{Call, first_other_answer_of, is_outcome, outcome, tells};
+use super::{Call, first_other_answer_of, has_line, is_outcome, outcome};
 use mpslp_types::{BuildFault, RowType};
 use std::alloc::Global;
 use std::test::Fail;
@@ -99,7 +99,7 @@ fn is_limited<'a>(
         Call::RowLimits("R", lower, upper),
         Call::Column("X"),
     ];
-    Ok(tells(&outcome(alloc, &calls)?, expected))
+    Ok(has_line(&outcome(alloc, &calls)?, expected))
 }
 
 #[test]

@@ -1,6 +1,6 @@
 //! Tests of models with and without lists by rows.
 
-use super::{Call, built, tells, views_of};
+use super::{Call, built, has_line, views_of};
 use mpslp_model_core::Model;
 use mpslp_types::{BuildFault, RowType};
 use std::alloc::Global;
@@ -43,7 +43,7 @@ fn rows_are_the_same_with_lists_and_without(rt: HostRuntime) -> Result<(), Fail>
     let listed = views_of(alloc, &model)?;
     assert_eq!(rt; searched.as_slice(), listed.as_slice());
     for line in ["term a 1", "term c 3", "term b 2", "term c 4"] {
-        assert!(rt; tells(&searched, line));
+        assert!(rt; has_line(&searched, line));
     }
     Ok(())
 }

@@ -1,6 +1,6 @@
 //! Tests of the calls that declare the terms of a row.
 
-use super::{WITH_ROWS, built, finished, named, number, tells, text_of};
+use super::{WITH_ROWS, built, finished, has_line, named, number, text_of};
 use mpslp_builder::{Builder, RowTerms};
 use mpslp_types::BuildFault;
 use mpslp_types::laws::each_name_is_legal;
@@ -89,10 +89,10 @@ fn views_of_terms(alloc: Global, terms: &[Term<'_>]) -> Result<Vec<u8>, BuildFau
 fn declares_terms_of_rows(rt: HostRuntime) -> Result<(), Fail> {
     let views = views_of_terms(rt.alloc(), &TERMS)?;
     let text = views.as_slice();
-    assert!(rt; tells(text, "column a continuous 0 inf objective 6"));
-    assert!(rt; tells(text, "entry r 1 1") && tells(text, "entry r 2 2"));
-    assert!(rt; tells(text, "entry r 3 3") && tells(text, "entry r 4 4"));
-    assert!(rt; tells(text, "entry s 5 5") && !tells(text, "entry r 7 7"));
+    assert!(rt; has_line(text, "column a continuous 0 inf objective 6"));
+    assert!(rt; has_line(text, "entry r 1 1") && has_line(text, "entry r 2 2"));
+    assert!(rt; has_line(text, "entry r 3 3") && has_line(text, "entry r 4 4"));
+    assert!(rt; has_line(text, "entry s 5 5") && !has_line(text, "entry r 7 7"));
     Ok(())
 }
 

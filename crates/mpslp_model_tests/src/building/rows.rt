@@ -1,6 +1,6 @@
 //! Tests of rows and of their accessors.
 
-use super::{Call, outcome, tells};
+use super::{Call, has_line, outcome};
 use mpslp_types::{BuildFault, RowType};
 use std::alloc::{AllocError, Global};
 use std::test::Fail;
@@ -81,7 +81,7 @@ const ROWS: [(RowType, &str, Option<&str>, &str); 13] = [
 #[test]
 fn limits_rows_by_type_right_side_and_range(rt: HostRuntime) -> Result<(), Fail> {
     for (row_type, right_side, range, expected) in ROWS {
-        let is_right = tells(&of_row(rt.alloc(), row_type, right_side, range)?, expected);
+        let is_right = has_line(&of_row(rt.alloc(), row_type, right_side, range)?, expected);
         assert!(rt; is_right, "at {right_side} {expected}");
     }
     Ok(())
