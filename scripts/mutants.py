@@ -2,11 +2,16 @@
 """Tests that the prover rejects the mutants: scripts/mutants.py [CRATE ..]
 
 A mutant is a wrong version of a crate, written as an edit of its sources, in must-fail/ of the crate or in tests/wrong-bodies/.
-`rt must-fail` checks a crate once for each mutant, and most of that time is spent on reading the crate and those below it. Here one check tests many mutants: a function is proved from
-the contracts of the functions that it calls, so mutants that change nothing but the bodies of different functions do not
-influence one another. Such a mutant counts as rejected only if the prover rejects the function that it changes for itself, and
-not only because it calls a function that is not proved, and if it rejects no function for itself that no mutant changes. Mutants
-that remain are checked together again, without those that were rejected, and at last, as all other mutants, one at a time.
+`rt must-fail` checks a whole crate once for each mutant. Here a check asks only for the functions that are to be rejected, and
+one check tests many mutants: a function is proved from the contracts of the functions that it calls, so mutants that change
+nothing but the bodies of different functions do not influence one another. Such a mutant counts as rejected only if the prover
+rejects the function that it changes for itself, and not only because it calls a function that is not proved, and if it rejects
+no function for itself that no mutant changes. Mutants that remain are checked together again, without those that were rejected,
+and at last one at a time.
+
+Other mutants, of definitions, invariants and constants, are checked one at a time. The line `function:` of such an edit names a
+function that the prover then rejects. Without that line, or if the function is proved all the same, the whole crate is checked.
+At last all functions that were asked for are proved without any mutant.
 
 The libraries below the crates have to be proved and built, as `make` leaves them. One line is printed for each crate.
 """
@@ -27,13 +32,16 @@ from crates import LIBRARIES, PARTS, Crate, crates_of_repository, words_of
 from kit import ROOT, kit_folder, require_kit
 from prove import LOGS
 
-IMPL = re.compile(r"impl\b(?:<.*?>)? (?:.* for )?(\w+)")
+IMPL = re.compile(r"impl\b(?:<.*?>)? (?:(?:\w+::)*(\w+)(?:<.*>)? for )?(\w+)")
 FUNCTION = re.compile(r"( *)(?:pub(?:\([^)]*\))? )?(?:const |unsafe )*fn (\w+)")
 NOT_PROVED = re.compile(r"fn (\S+): (?:not proved|no proof)(?:[:;] (.*))?$")
 # Why a function is not proved if nothing is wrong with it.
 OF_ITS_CALLS = re.compile(r"it (?:calls|passes the block) `[^;]*, which (?:is|are) not proved(?:; it (?:calls|passes the block) `[^;]*, which (?:is|are) not proved)*")
 # What the prover says of a text that it cannot read. A mutant is a statement that reads well and is false.
 UNREADABLE = re.compile(r"is not in scope|has no field|is no name|operand is missing|expected the end|cannot continue")
+
+# What it says if it was asked for a function that is not there, or for one of several.
+UNNAMED = re.compile(r"rattle: error: (.* has no function .*|several functions are named .*)")
 
 
 @dataclass(frozen=True)
@@ -44,17 +52,25 @@ class Body:
     function: str
     first: int
     last: int
-    # The type whose method it is.
+    # The type whose method it is, and after it the trait, if it is one of a trait, as the prover writes them.
     owner: str | None = None
+
+    @property
+    def modules(self) -> list[str]:
+        return [it for it in Path(self.file).with_suffix("").parts[1:] if it not in ("lib", "main", "mod")]
+
+    @property
+    def name(self) -> str:
+        """The function's name for a check that asks for it: MODULE::FUNCTION or TYPE::FUNCTION."""
+        return "::".join([*([self.owner] if self.owner else self.modules), self.function])
 
     def is_of(self, name: str) -> bool:
         """Whether the prover's name is that of the function, CRATE::MODULE::FUNCTION or CRATE::MODULE::TYPE::FUNCTION, or of a
         closure in it, CRATE::MODULE::fn::FUNCTION::... The module of a method is that of its file or that of its type."""
-        modules = [it for it in Path(self.file).with_suffix("").parts[1:] if it not in ("lib", "main", "mod")]
         parts = name.split("::")
-        inner = parts[1 + len(modules) :]
-        is_here = parts[1 : 1 + len(modules)] == modules
-        is_method = self.owner is not None and len(parts) > 2 and parts[-2].startswith(self.owner)
+        inner = parts[1 + len(self.modules) :]
+        is_here = parts[1 : 1 + len(self.modules)] == self.modules
+        is_method = self.owner is not None and len(parts) > 2 and parts[-2] == self.owner
         return parts[-1] == self.function and (is_here or is_method) or is_here and inner[:2] == ["fn", self.function]
 
 
@@ -63,7 +79,7 @@ def bodies_of(file: str, text: str) -> list[Body]:
     lines, found, owner = text.split("\n"), [], None
     for number, line in enumerate(lines):
         if block := IMPL.match(line):
-            owner = block[1]
+            owner = block[2] + (block[1] or "")
         if header := FUNCTION.match(line):
             indent, name = header[1], header[2]
             first = number
@@ -84,6 +100,8 @@ class Mutant:
     crate: Crate
     path: Path
     changes: list[tuple[str, str, str]] = field(default_factory=list)
+    # The function that the prover rejects with it, as the edit names it.
+    function: str | None = None
     problem: str | None = None
 
     @property
@@ -118,11 +136,14 @@ def edits_of(crate: Crate) -> list[Path]:
 
 
 def read_mutant(crate: Crate, path: Path) -> Mutant:
-    """Reads an edit: lines `file: PATH`, `old: TEXT` and `new: TEXT`."""
+    """Reads an edit: lines `file: PATH`, `old: TEXT` and `new: TEXT`, and `function: NAME` where another function than that of
+    the text is rejected."""
     mutant, file, old = Mutant(crate, path), "", ""
     for line in path.read_text().split("\n"):
         if line.startswith("file: "):
             file = line.removeprefix("file: ").strip()
+        elif line.startswith("function: "):
+            mutant.function = line.removeprefix("function: ").strip()
         elif line.startswith("old: "):
             old = line.removeprefix("old: ")
         elif line.startswith("new:"):
@@ -148,17 +169,46 @@ def unreadable(lines: list[str]) -> str | None:
     return None
 
 
+def rejected_for_themselves(lines: list[str]) -> list[str]:
+    """The functions that the prover rejects, and not only because they call one that is not proved."""
+    found = [it for line in lines if (it := NOT_PROVED.match(line))]
+    return [it[1] for it in found if not OF_ITS_CALLS.fullmatch(it[2] or "")]
+
+
+@dataclass(frozen=True)
+class Check:
+    """What a check printed, and its status."""
+
+    status: int
+    lines: list[str]
+
+    @property
+    def unreadable(self) -> str | None:
+        return unreadable(self.lines)
+
+    def rejected(self, ending: str) -> list[str]:
+        """The functions that it rejects for themselves. None if it came to no end, whose line starts like this."""
+        return rejected_for_themselves(self.lines) if self.status == 1 and self.lines[-1].startswith(ending) else []
+
+
+# How the last line of a check starts that rejects something: of a whole crate, or of the functions that it was asked for.
+OF_CRATE, OF_FUNCTIONS = "logic=not-proved", "only="
+
+
 class Prover:
     """Checks edited copies of a crate, each over what the checks before it proved."""
 
     def __init__(self, crate: Crate, crates: dict[str, Crate], libraries: Path, kept: Path, log: Path):
         self.crate, self.log, self.checks = crate, log, 0
+        # The functions that checks were asked for, and whether one was asked for the whole crate.
+        self.asked: set[str] = set()
+        self.has_asked_for_all = False
         # Checks of mutants give way to proofs and scripts, which the gate runs beside them.
         words = ["nice", "-n", "10", f"{kit_folder()}/bin/rattle", "check", *words_of(crate, crates, libraries)]
         self.words = [*words, "--jobs", "1", "--incremental", str(kept)]
 
-    def check(self, mutants: list[Mutant], what: str) -> tuple[int, list[str]]:
-        """The status of the check of the crate with these edits, and the lines that it printed."""
+    def check(self, mutants: list[Mutant], functions: list[str], what: str) -> Check:
+        """Checks these functions of the crate with these edits, or the whole crate if no function is given."""
         texts: dict[str, str] = {}
         for mutant in mutants:
             mutant.apply(texts)
@@ -172,7 +222,7 @@ class Prover:
             for file, text in texts.items():
                 (room / file).write_text(text)
             ran = subprocess.run(
-                self.words,
+                [*self.words, *(word for it in functions for word in ("--only", it))],
                 cwd=room,
                 stdin=subprocess.DEVNULL,
                 stdout=subprocess.PIPE,
@@ -183,38 +233,49 @@ class Prover:
             )
         with self.log.open("a") as log:
             log.write(f"== {what}, {time.monotonic() - begun:.0f} s, status {ran.returncode}\n{ran.stdout}")
-        return ran.returncode, ran.stdout.rstrip("\n").split("\n")
+        return Check(ran.returncode, ran.stdout.rstrip("\n").split("\n"))
 
-    def rejects(self, mutant: Mutant) -> str | None:
+    def rejects(self, mutant: Mutant, body: Body | None) -> str | None:
         """None if the prover rejects the mutant, or else why that is not known."""
-        status, lines = self.check([mutant], mutant.name)
-        if line := unreadable(lines):
+        function = mutant.function or (body and body.name)
+        if function:
+            check = self.check([mutant], [function], f"{mutant.name}: {function}")
+            if unnamed := next((it[1] for line in check.lines if (it := UNNAMED.match(line))), None):
+                return unnamed
+            if not check.unreadable and any(f"::{it}".endswith(f"::{function}") for it in check.rejected(OF_FUNCTIONS)):
+                self.asked.add(function)
+                return None
+        self.has_asked_for_all = True
+        check = self.check([mutant], [], mutant.name)
+        if line := check.unreadable:
             return f"the prover cannot read it: {line[:160]}"
-        if status == 1 and lines[-1].startswith("logic=not-proved"):
+        if check.status == 1 and check.lines[-1].startswith(OF_CRATE):
             return None
-        return "NOT REJECTED: the crate is proved with it" if status == 0 else f"no verdict: {lines[-1][:160]}"
+        return "NOT REJECTED: the crate is proved with it" if check.status == 0 else f"no verdict: {check.lines[-1][:160]}"
 
     def rejected_of(self, batch: list[tuple[Mutant, Body]]) -> list[tuple[Mutant, Body]]:
         """Those mutants of a batch of which one check shows that they are rejected."""
-        status, lines = self.check([mutant for mutant, _ in batch], f"{len(batch)} mutants of {self.crate.name}")
-        found = [it for line in lines if (it := NOT_PROVED.match(line))]
-        names = [it[1] for it in found if not OF_ITS_CALLS.fullmatch(it[2] or "")]
-        has_verdict = status == 1 and lines[-1].startswith("logic=not-proved")
-        if not has_verdict or unreadable(lines) or not all(any(body.is_of(name) for _, body in batch) for name in names):
+        functions = [body.name for _, body in batch]
+        check = self.check([mutant for mutant, _ in batch], functions, f"{len(batch)} mutants of {self.crate.name}")
+        names = check.rejected(OF_FUNCTIONS)
+        if check.unreadable or not all(any(body.is_of(name) for _, body in batch) for name in names):
             return []
+        self.asked.update(functions)
         return [(mutant, body) for mutant, body in batch if any(map(body.is_of, names))]
 
     def test(self, mutants: list[Mutant]) -> list[str]:
         """Tests the mutants, and returns what is wrong with them."""
-        left = [(mutant, body) for mutant in mutants if (body := mutant.body())]
+        bodies = [(mutant, None if mutant.function else mutant.body()) for mutant in mutants]
+        left = [(mutant, body) for mutant, body in bodies if body]
         while len(batch := batch_of(left)) > 1 and (rejected := self.rejected_of(batch)):
             left = [it for it in left if it not in rejected]
-        single = [it for it in mutants if not it.body()] + [mutant for mutant, _ in left]
-        return [f"{it.name}: {why}" for it in single if (why := self.rejects(it))]
+        single = [it for it in bodies if not it[1]] + left
+        return [f"{mutant.name}: {why}" for mutant, body in single if (why := self.rejects(mutant, body))]
 
     def is_sound(self) -> bool:
-        """Whether the crate itself is proved over what the checks of its mutants left."""
-        return self.check([], f"{self.crate.name} unchanged")[0] == 0
+        """Whether all functions that were asked for are proved without mutants, over what the checks of the mutants left."""
+        functions = [] if self.has_asked_for_all else sorted(self.asked)
+        return self.check([], functions, f"{self.crate.name} unchanged").status == 0
 
 
 @dataclass

@@ -2,7 +2,7 @@
 """Test scripts/mutants.py with a stand-in for the prover, on a small repository: tests/mutants_check.py
 
 The stand-in rejects a function whose body has the word `wrong`, and says of one that calls it that a function it calls is not
-proved. So a mutant with another change is one that the prover accepts.
+proved. If the constant is 2, it rejects the function that uses it. So a mutant with another change is one that the prover accepts.
 """
 
 import os
@@ -28,14 +28,22 @@ RATTLE = """#!{python}
 import re, sys
 from pathlib import Path
 
+asked = [name for flag, name in zip(sys.argv, sys.argv[1:]) if flag == "--only"]
 with open("{checks}", "a") as checks:
-    checks.write("check\\n")
+    checks.write(" ".join(["check", *asked]) + "\\n")
 bodies = {{}}
 for file in sorted(Path("src").glob("*.rt")):
     module = "" if file.stem == "lib" else f"{{file.stem}}::"
     for name, body in re.findall(r"fn (\\w+)\\(\\) -> u8 {{\\n(.*?)\\n}}", file.read_text(), re.S):
         bodies[f"low::{{module}}{{name}}"] = body
+for name in asked:
+    if not any(it.endswith(f"::{{name}}") for it in bodies):
+        print(f"rattle: error: `low` has no function `{{name}}`: help: write the name that a check prints")
+        sys.exit(2)
+if "LIMIT: u8 = 2" in Path("src/lib.rt").read_text():
+    bodies["low::limit"] = "wrong"
 wrong = [name for name, body in bodies.items() if "wrong" in body]
+bodies = {{name: body for name, body in bodies.items() if not asked or any(name.endswith(f"::{{it}}") for it in asked)}}
 for name, body in bodies.items():
     calls = [other for other in wrong if other != name and other.rpartition("::")[2] + "()" in body]
     reason = "; it calls `" + calls[0] + "`, which is not proved" if calls else ""
@@ -45,8 +53,9 @@ for name, body in bodies.items():
         print(f"fn {{name}}: no proof: {{reason[2:]}}" if calls else f"fn {{name}}: proved")
 if "unreadable" in Path("src/lib.rt").read_text():
     print("src/lib.rt:1:1: error: `unreadable` is not in scope")
-print("logic=not-proved" if wrong else "logic=proved")
-sys.exit(bool(wrong))
+failed = [name for name in bodies if name in wrong]
+print(f"only={{len(bodies)}} proved={{len(bodies) - len(failed)}}" if asked else "logic=not-proved" if failed else "logic=proved")
+sys.exit(bool(failed))
 """
 
 LIB = """mod high;
@@ -59,6 +68,10 @@ pub fn one() -> u8 {
 
 pub fn two() -> u8 {
     2
+}
+
+pub fn limit() -> u8 {
+    LIMIT
 }
 """
 
@@ -87,11 +100,12 @@ class Mutants(unittest.TestCase):
             (tools / name).write_text(text)
             (tools / name).chmod(0o755)
 
-    def add(self, name: str, old: str, new: str, file: str = "src/lib.rt") -> None:
-        (self.crate / "must-fail" / f"{name}.edit").write_text(f"file: {file}\nold: {old}\nnew: {new}\n")
+    def add(self, name: str, old: str, new: str, file: str = "src/lib.rt", function: str | None = None) -> None:
+        named = f"function: {function}\n" if function else ""
+        (self.crate / "must-fail" / f"{name}.edit").write_text(f"file: {file}\n{named}old: {old}\nnew: {new}\n")
 
-    def run_mutants(self) -> tuple[int, str, int]:
-        """The exit status, the output, and the number of checks."""
+    def run_mutants(self) -> tuple[int, str, list[str]]:
+        """The exit status, the output, and what each check was asked for."""
         ran = subprocess.run(
             [sys.executable, "scripts/mutants.py"],
             cwd=self.folder,
@@ -99,26 +113,51 @@ class Mutants(unittest.TestCase):
             capture_output=True, text=True, timeout=60, check=False,
         )
         checks = self.checks.read_text().splitlines() if self.checks.exists() else []
-        return ran.returncode, ran.stdout + ran.stderr, len(checks)
+        return ran.returncode, ran.stdout + ran.stderr, checks
 
     def test_mutants_of_different_functions_are_checked_together(self) -> None:
         self.add("one", "    1", "    wrong")
         self.add("two", "    2", "    wrong + 2")
         status, said, checks = self.run_mutants()
-        self.assertEqual((status, checks), (0, 2), said)
+        self.assertEqual((status, checks), (0, ["check two one", "check one two"]), said)
         self.assertIn("low: 2 of 2 mutants rejected", said)
 
     def test_mutants_of_one_function_are_checked_one_after_another(self) -> None:
         self.add("one", "    1", "    wrong")
         self.add("another", "    1", "    wrong + 1")
         status, said, checks = self.run_mutants()
-        self.assertEqual((status, checks), (0, 3), said)
+        self.assertEqual((status, checks), (0, ["check one"] * 3), said)
 
     def test_a_function_that_only_calls_a_rejected_one_is_not_rejected_for_itself(self) -> None:
         self.add("one", "    1", "    wrong")
         self.add("three", "    one() + two()", "    one() + wrong", "src/high.rt")
         status, said, checks = self.run_mutants()
-        self.assertEqual((status, checks), (0, 3), said)
+        both = "check high::three one"
+        self.assertEqual((status, checks), (0, [both, "check high::three", "check high::three one"]), said)
+
+    def test_a_mutant_of_a_constant_is_checked_by_the_function_that_it_names(self) -> None:
+        self.add("constant", "u8 = 1;", "u8 = 2;", function="limit")
+        status, said, checks = self.run_mutants()
+        self.assertEqual((status, checks), (0, ["check limit"] * 2), said)
+
+    def test_a_mutant_of_a_constant_that_names_no_function_is_checked_with_the_whole_crate(self) -> None:
+        self.add("constant", "u8 = 1;", "u8 = 2;")
+        status, said, checks = self.run_mutants()
+        self.assertEqual((status, checks), (0, ["check"] * 2), said)
+
+    def test_where_the_named_function_is_proved_the_whole_crate_is_checked(self) -> None:
+        self.add("constant", "u8 = 1;", "u8 = 2;", function="two")
+        self.add("accepted", "u8 = 1;", "u8 = 3;", function="limit")
+        status, said, checks = self.run_mutants()
+        self.assertEqual((status, checks), (1, ["check limit", "check", "check two", "check", "check"]), said)
+        self.assertIn("low/accepted: NOT REJECTED: the crate is proved with it", said)
+        self.assertIn("1 mutants rejected, 1 not", said)
+
+    def test_a_name_of_no_function_is_reported(self) -> None:
+        self.add("constant", "u8 = 1;", "u8 = 2;", function="absent")
+        status, said, _ = self.run_mutants()
+        self.assertEqual(status, 1)
+        self.assertIn("low/constant: `low` has no function `absent`", said)
 
     def test_an_accepted_mutant_is_reported(self) -> None:
         self.add("one", "    1", "    wrong")
@@ -136,11 +175,11 @@ class Mutants(unittest.TestCase):
 
     def test_a_mutant_whose_text_is_not_there_once_is_reported(self) -> None:
         self.add("absent", "    7", "    wrong")
-        self.add("twice", "u8 {", "u16 {")
+        self.add("thrice", "u8 {", "u16 {")
         status, said, _ = self.run_mutants()
         self.assertEqual(status, 1)
         self.assertIn("low/absent: its text is in src/lib.rt 0 times", said)
-        self.assertIn("low/twice: its text is in src/lib.rt 2 times", said)
+        self.assertIn("low/thrice: its text is in src/lib.rt 3 times", said)
 
 
 if __name__ == "__main__":
