@@ -1,8 +1,10 @@
 -- Lines of MPS that are printed for one entry after another.
-use Rattle.std.specs.Prelude.{ℕ, Bool, true, false, not, List, [], ◌∷◌, Option, Some, None, ◌==◌, if◌then◌else◌}
+use Rattle.std.specs.Prelude.{◌≡◌, ◌+◌, ◌<◌, ℕ, Bool, true, false, not, List, [], ◌∷◌, length, slice_get, slice_index_or, Option, Some, None, ◌==◌, if◌then◌else◌}
+use Rattle.std.specs.Option.{option_map}
+use Rattle.std.specs.Borrow.{Bor}
 use Rattle.mpslp_decimal.specs.Decimal.{Number, is_zero}
 use Rattle.mpslp_model_core.specs.Model.{LinearModel, CoefficientKey, Column}
-use Rattle.mpslp_model_core.specs.Views.{coefficient_at, column_elements, letter_G, letter_R}
+use Rattle.mpslp_model_core.specs.Views.{coefficient_at, column_name, column_elements, letter_G, letter_R}
 use Rattle.mpslp_types.specs.declared.kinds.Kind.{Kind}
 use Rattle.mpslp_types.specs.declared.kinds.Limit.{Limit}
 use Rattle.mpslp_types.specs.declared.kinds.Limit.TheVariants.{MinusInf, Finite, PlusInf}
@@ -27,6 +29,14 @@ of_part part lines_of column = if is_wanted part (is_integer_column column) then
 -- the line of a coefficient of a row
 abbrev pub element_lines : List ℕ → CoefficientKey × Number → Lines
 element_lines column element = coefficient_line column (element.0.row, element.1) ∷ []
+
+-- the row of coefficient `k` of column `j`, among its coefficients in rows
+abbrev pub IsRowOf : LinearModel → ℕ → ℕ → List ℕ → Type 0
+IsRowOf m j k row = option_map (λ (e : CoefficientKey × Number). e.0.row) (slice_get (column_elements m (column_name m j)) k) ≡ Some row
+
+-- the rows of `count` of these coefficients from number `from` on, as far as there are so many
+abbrev pub AreRowsOf : LinearModel → ℕ → ℕ → ℕ → List (Bor (List ℕ)) → Type 0
+AreRowsOf m j from count rows = (n : ℕ) (default : Bor (List ℕ)) → n < count → from + n < length (column_elements m (column_name m j)) → IsRowOf m j (from + n) (slice_index_or rows n default).now
 
 -- The line of the objective, with its value there: a column has it if that is not 0, or if it has no other coefficients.
 abbrev pub objective_line_at : List ℕ → List ℕ → Number → List (CoefficientKey × Number) → Lines

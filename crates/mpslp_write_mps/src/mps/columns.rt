@@ -1,13 +1,13 @@
 //! The section COLUMNS.
 
-ghost use Rattle.std.specs.Prelude.{◌≡◌, ◌<◌, [], ◌∷◌, length};
+ghost use Rattle.std.specs.Prelude.{◌≡◌, ◌+◌, ◌<◌, ◌≤◌, [], ◌∷◌, length};
 ghost use Rattle.std.specs.List.{flat_map};
 ghost use Rattle.std.specs.FinMap.{entries};
 ghost use Rattle.mpslp_model_core.specs.Views.{num_columns, column_name, column_elements};
 ghost use Rattle.mpslp_canonical_mps.specs.CanonicalMps.{line_text, column_lines, columns_section, integer_part};
 ghost use Rattle.mpslp_model_core.specs.Model.{listing_of};
 ghost use Rattle.mpslp_output.specs.LinesAt.{lines_at};
-ghost use Rattle.mpslp_write_mps.specs.MpsLinesAt.{is_wanted, of_part, element_lines, objective_lines};
+ghost use Rattle.mpslp_write_mps.specs.MpsLinesAt.{is_wanted, of_part, element_lines, IsRowOf, AreRowsOf, objective_lines};
 ghost use Rattle.mpslp_output.specs.Printing.{Prints, PrintsSection};
 
 use crate::mps::lines::put_value_line;
@@ -24,19 +24,50 @@ enum Part {
     Integers,
 }
 
+/// How many rows are looked up before their lines are printed. The look-ups do not wait for one another, so that their misses of
+/// the cache overlap.
+const AHEAD: usize = 8;
+
+/// The name of the row of coefficient `from + n` of column `j`, among its coefficients in rows. Empty if there is none.
+fn row_of(model: &Model, j: usize, from: usize, n: usize) -> &[u8]
+    requires column { j < num_columns model.now }
+    requires within { from ≤ length (column_elements model.now (column_name model.now j)) }
+    ensures { from + n < length (column_elements model.now (column_name model.now j)) → IsRowOf model.now j (from + n) result.now }
+{
+    if n >= model.column_len(j) - from {
+        return &[];
+    }
+    let (i, _value) = model.entry(j, from + n);
+    model.row_text(i)
+}
+
+/// The names of the rows of the coefficients of column `j` in rows, from number `from` on.
+fn rows_from(model: &Model, j: usize, from: usize) -> [&[u8]; AHEAD]
+    requires column { j < num_columns model.now }
+    requires within { from ≤ length (column_elements model.now (column_name model.now j)) }
+    ensures { AreRowsOf model.now j from AHEAD result }
+{
+    [
+        row_of(model, j, from, 0),
+        row_of(model, j, from, 1),
+        row_of(model, j, from, 2),
+        row_of(model, j, from, 3),
+        row_of(model, j, from, 4),
+        row_of(model, j, from, 5),
+        row_of(model, j, from, 6),
+        row_of(model, j, from, 7),
+    ]
+}
+
 /// Prints the line of coefficient `k` of column `j`, among its coefficients in rows.
-fn put_element<W: Sink>(model: &Model, j: usize, k: usize, output: &mut Output<W>)
+fn put_element<W: Sink>(model: &Model, j: usize, k: usize, row: &[u8], output: &mut Output<W>)
     requires column { j < num_columns model.now }
     requires element { k < length (column_elements model.now (column_name model.now j)) }
+    requires row { IsRowOf model.now j k row.now }
     ensures { Prints line_text W.Sink output.old output.new (lines_at (element_lines (column_name model.now j)) (column_elements model.now (column_name model.now j)) k) }
 {
-    let (i, value) = model.entry(j, k);
-    put_value_line(
-        output,
-        model.column_name(j).as_bytes(),
-        model.row_text(i),
-        value,
-    );
+    let (_i, value) = model.entry(j, k);
+    put_value_line(output, model.column_name(j).as_bytes(), row, value);
 }
 
 /// Prints the lines of the coefficients of column `j` in rows.
@@ -44,8 +75,14 @@ fn put_elements<W: Sink>(model: &Model, j: usize, output: &mut Output<W>)
     requires { j < num_columns model.now }
     ensures { Prints line_text W.Sink output.old output.new (flat_map (element_lines (column_name model.now j)) (column_elements model.now (column_name model.now j))) }
 {
+    let mut from = 0;
+    let mut rows = rows_from(model, j, from);
     for k in 0..model.column_len(j) {
-        put_element(model, j, k, output);
+        if k - from == AHEAD {
+            from = k;
+            rows = rows_from(model, j, from);
+        }
+        put_element(model, j, k, rows[k - from], output);
     }
 }
 
