@@ -1,14 +1,15 @@
 -- The parts of a map's entries by their names, and how they change if an entry is added or written.
-use Rattle.std.proofs.Common.{◌≡◌, refl, sym, ap, ◌∙◌, ℕ, zero, suc, List, [], ◌∷◌, ◌++◌, Bool, true, false, cond}
+use Rattle.std.proofs.Common.{◌≡◌, refl, sym, ap, ◌∙◌, ℕ, zero, suc, ◌+◌, List, [], ◌∷◌, ◌++◌, Bool, true, false, cond, not, arith}
 use Rattle.std.specs.Prelude.{Option, Some, None, is_some, slice_get, ◌||◌, Result, Ok, Err, OnOk, OnErr}
+use Rattle.std.specs.List.{position_or_len}
 use Rattle.std.specs.Option.{option_map, option_map_or}
 use Rattle.std.specs.Ordering.{is_eq, eq_by_cmp, nat_cmp}
 use Rattle.std.specs.Cmp.{tied_itself}
 use Rattle.std.specs.Cmp.Lexicographic.{texts_ties, bytes_decides}
 use Rattle.std.specs.FinMap.{find, put}
 use Rattle.std.specs.FinMap.Entries.{find_tied}
-use Rattle.std.specs.Map.{lookup, lookup_key}
-use Rattle.indexmap.specs.IndexMap.{set_value_at}
+use Rattle.std.specs.Map.{keys_of, lookup, lookup_key}
+use Rattle.indexmap.specs.IndexMap.{set_value_at, insert_entry}
 use Rattle.mpslp_decimal.specs.Decimal.{Number}
 use Rattle.mpslp_types.specs.Name.{same_bytes, bytes_cmp}
 use Rattle.mpslp_model_core.specs.Model.{CoefficientKey, key_cmp}
@@ -174,6 +175,19 @@ set_same {K} {X} (e ∷ es) zero k x y at same =
     let here : ◌≡◌ {A = K × X} e (k, x) = cc in
     ap (λ (z : X). (e.0, z) ∷ es) (same ∙ ap (λ (z : K × X). z.1) (sym here))
 set_same {K} {X} (e ∷ es) (suc i) k x y at same = ap (λ (more : List (K × X)). e ∷ more) (set_same es i k x y at same)
+
+-- an entry gets its own value back, after another one was put in its place
+pub put_back : {V : Type 0} (q : List ℕ) (x y : V) (es : List (List ℕ × V)) → Some y ≡ lookup (λ k. same_bytes q k) es
+    → set_value_at (insert_entry (λ a b. same_bytes a b) es q x) (position_or_len (λ k. same_bytes q k) (keys_of es)) y ≡ es
+put_back q x y [] h = cc
+put_back {V} q x y (e ∷ es) h =
+    elim (same_bytes q e.0) as (λ b. Some y ≡ cond b (Some e.1) (lookup (λ k. same_bytes q k) es)
+    → set_value_at (cond b ((e.0, x) ∷ es) (e ∷ insert_entry (λ a b. same_bytes a b) es q x)) (cond (not b) (1 + position_or_len (λ k. same_bytes q k) (keys_of es)) 0) y ≡ e ∷ es) [
+      | true ↦ λ is. let same : y ≡ e.1 = cc in ap (λ (z : V). (e.0, z) ∷ es) same
+      | false ↦ λ is.
+          let next : 1 + position_or_len (λ k. same_bytes q k) (keys_of es) ≡ suc (position_or_len (λ k. same_bytes q k) (keys_of es)) = omega arith in
+          ap (λ (n : ℕ). set_value_at (e ∷ insert_entry (λ a b. same_bytes a b) es q x) n y) next ∙ ap (λ (more : List (List ℕ × V)). e ∷ more) (put_back q x y es is)
+    ] h
 
 pub on_err : {A E P Q : Type 0} (r : Result A E) → (P → Q) → OnErr r P → OnErr r Q
 on_err (Ok a) f h = tt

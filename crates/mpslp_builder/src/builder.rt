@@ -9,10 +9,12 @@ ghost use Rattle.mpslp_builder.specs.Declaration.{empty_draft, with_declaration,
 ghost use Rattle.mpslp_builder.specs.Refusal.{refusals, bounds_refusals};
 ghost use Rattle.mpslp_builder.specs.Answer.{Answers, IsNotOutOfMemory};
 
+use crate::refusals::have_infinite_limit;
 use crate::tables::Tables;
 use mpslp_decimal::Decimal;
 use mpslp_decimal::laws::each_value_is_a_decimal;
 use mpslp_model_core::{PackedRowDefinition, RowLimits};
+use mpslp_types::laws::each_name_is_legal;
 use mpslp_types::{BuildFault, Limit, Name, RowType, Sense};
 use std::alloc::Global;
 use std::marker::Model;
@@ -115,13 +117,9 @@ impl Builder {
     pub fn row(&mut self, name: Name, row_type: RowType) -> Result<(), BuildFault>
         ensures { Answers (refusals self.old (declare_row name (by_type row_type))) result (self.new ≡ with_declaration self.old (declare_row name (by_type row_type))) (self.new ≡ self.old) }
     {
-        self.check_row(name.as_bytes())?;
-        if !self.tables.has_room() {
-            return Err(BuildFault::OutOfMemory);
-        }
+        each_name_is_legal(&name);
         self.tables
-            .add_row(name, PackedRowDefinition::of_type(row_type))?;
-        Ok(())
+            .add_row(name, PackedRowDefinition::of_type(row_type))
     }
 
     /// Declares a row by its limits. A finite limit must have a magnitude below 10^20. No right-hand side and no range can be
@@ -136,13 +134,19 @@ impl Builder {
         requires upper { IsTrue (is_given upper) }
         ensures { let declared = declare_row name (by_limits lower upper) in Answers (refusals self.old declared) result (self.new ≡ with_declaration self.old declared) (self.new ≡ self.old) }
     {
-        self.check_row_limits(name.as_bytes(), &lower, &upper)?;
-        if !self.tables.has_room() {
-            return Err(BuildFault::OutOfMemory);
+        if have_infinite_limit(&lower, &upper) {
+            return Err(
+                self.tables
+                    .row_fault(name.as_bytes(), BuildFault::InfiniteValue),
+            );
         }
-        let definition = PackedRowDefinition::of_limits(self.alloc, RowLimits { lower, upper })?;
-        self.tables.add_row(name, definition)?;
-        Ok(())
+        match PackedRowDefinition::of_limits(self.alloc, RowLimits { lower, upper }) {
+            Ok(definition) => self.tables.add_row(name, definition),
+            Err(_) => Err(
+                self.tables
+                    .row_fault(name.as_bytes(), BuildFault::OutOfMemory),
+            ),
+        }
     }
 
     /// Declares the right-hand side of a row. For the objective it is the negated constant. For a row of type

@@ -2,14 +2,18 @@
 
 pub(crate) mod file_faults;
 
-ghost use Rattle.std.specs.Prelude.{◌≡◌, ◌<◌, ◌||◌, IsTrue, IfSome, OnOk, OnErr, Some, None, true, false, suc, is_some};
+ghost use Rattle.std.specs.Prelude.{◌≡◌, ◌<◌, ◌||◌, IsTrue, IfSome, OnOk, OnErr, Some, None, true, false, suc, is_some, if◌then◌else◌};
 ghost use Rattle.std.specs.Option.{option_map_or};
 ghost use Rattle.std.specs.Ordering.{nat_cmp};
 ghost use Rattle.std.specs.FinMap.{find};
 ghost use Rattle.indexmap.specs.IndexMap.{index_map_len};
 ghost use Rattle.mpslp_types.specs.Name.{same_bytes};
+ghost use Rattle.mpslp_types.specs.Lists.{those_of, when};
+ghost use Rattle.mpslp_types.specs.declared.faults.BuildFault.TheVariants.{DuplicateRow};
 ghost use Rattle.mpslp_builder.specs.Declaration.{has_row, has_column, has_name, is_objective, is_free_row, is_free_definition, is_definition_by_limits};
 ghost use Rattle.mpslp_builder.specs.Consistency.{has_objective_rhs};
+ghost use Rattle.mpslp_builder.specs.Refusal.{row_tests};
+ghost use Rattle.mpslp_builder.specs.Answer.{Answers};
 ghost use Rattle.mpslp_builder.specs.Tables.{draft, IsNumbered};
 ghost use Rattle.mpslp_builder.specs.Calls.{row_key_of, row_name, column_name, row_tells, has_limits, column_tells, cells_at, new_column, with_cell, with_bounds, IsOnceEach, IsEmptyTables, IsSameTables, HasObjective, HasRowAdded, HasRowChanged, HasColumnAdded, HasColumnChanged, HasRhsPut};
 
@@ -17,7 +21,7 @@ use indexmap::IndexMap;
 use mpslp_builder_parts::{ColumnParts, ObjectiveParts, RowParts};
 use mpslp_decimal::{Decimal, PackedDecimal};
 use mpslp_model_core::PackedRowDefinition;
-use mpslp_types::{Limit, Name, NameBytes};
+use mpslp_types::{BuildFault, Limit, Name, NameBytes};
 use std::alloc::{AllocError, Global};
 
 /// A map by names, which their bytes find, in the order of insertion.
@@ -336,26 +340,62 @@ impl Tables {
     }
 
     /// Whether one more row can be numbered.
-    pub(crate) fn has_room(&self) -> bool
+    fn has_room(&self) -> bool
         ensures { IsTrue result → index_map_len self.now.rows < MOST_ROWS }
     {
         self.rows.len() < MOST_ROWS
     }
 
-    /// Adds a row without right-hand side and range. Its name must be new.
+    /// The error of a row of this name that cannot be added. That the name is declared already comes before the given error.
+    pub(crate) fn row_fault(&self, name: &[u8], fault: BuildFault) -> BuildFault
+        ensures { result ≡ (if has_row (draft None None self.now) name.now then DuplicateRow else fault) }
+    {
+        if self.has_row(name) {
+            return BuildFault::DuplicateRow;
+        }
+        fault
+    }
+
+    /// Adds a row without right-hand side and range, if neither a row nor the objective has its name. The name is hashed only
+    /// once, which counts where a model has many rows.
+    ///
+    /// # Errors
+    ///
+    /// `DuplicateRow` if a row or the objective has the name; `OutOfMemory`, also if no more rows can be numbered.
     pub(crate) fn add_row(
         &mut self,
         name: Name,
         definition: PackedRowDefinition,
-    ) -> Result<(), AllocError>
-        requires { has_name (draft None None self.old).rows name ≡ false }
-        ensures ok { OnOk result (HasRowAdded self.old name (record { definition = definition; rhs = None; range = None }) self.new) }
-        ensures err { OnErr result (IsSameTables self.old self.new) }
+    ) -> Result<(), BuildFault>
+        ensures { Answers (those_of (row_tests (draft None None self.old) name)) result (HasRowAdded self.old name (record { definition = definition; rhs = None; range = None }) self.new × (index_map_len self.old.rows < MOST_ROWS)) (IsSameTables self.old self.new) }
     {
-        self.recent_row = self.rows.len();
-        let parts = RowParts::new(&definition);
-        self.rows.insert(name, parts)?;
-        Ok(())
+        if self.is_objective(name.as_bytes()) {
+            return Err(BuildFault::DuplicateRow);
+        }
+        if !self.has_room() {
+            return Err(self.row_fault(name.as_bytes(), BuildFault::OutOfMemory));
+        }
+        self.insert_row(name, RowParts::new(&definition))
+    }
+
+    /// Adds a row, if no row has its name; the objective does not count.
+    fn insert_row(&mut self, name: Name, parts: RowParts) -> Result<(), BuildFault>
+        ensures { Answers (when (has_name (draft None None self.old).rows name) DuplicateRow) result (HasRowAdded self.old name parts self.new) (IsSameTables self.old self.new) }
+    {
+        let (index, earlier) = match self.rows.insert_full(name, parts) {
+            Ok(found) => found,
+            Err(_) => return Err(BuildFault::OutOfMemory),
+        };
+        self.recent_row = index;
+        match earlier {
+            None => Ok(()),
+            Some(earlier) => {
+                // The row of this name has the new parts now, and gets its own ones back.
+                let (_key, row) = self.rows.pair_mut(index);
+                *row = earlier;
+                Err(BuildFault::DuplicateRow)
+            }
+        }
     }
 
     /// Adds a column without coefficients. Its name must be new.
