@@ -196,10 +196,8 @@ impl Builder {
     pub fn column(&mut self, name: Name) -> Result<(), BuildFault>
         ensures { Answers (refusals self.old (declare_column name)) result (self.new ≡ with_declaration self.old (declare_column name)) (self.new ≡ self.old) }
     {
-        if self.has_column(name.as_bytes()) {
-            return Ok(());
-        }
-        self.tables.add_column(self.alloc, name)?;
+        each_name_is_legal(&name);
+        self.tables.start_column(self.alloc, name)?;
         Ok(())
     }
 

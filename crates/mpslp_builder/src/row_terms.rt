@@ -197,7 +197,10 @@ impl Tables {
         self.each_name_stands_once();
         match self.column_from(name, guess) {
             Some(column) => Ok(column),
-            None => self.start_column(alloc, Name::from_legal(alloc, name)?),
+            None => {
+                let place = self.start_column(alloc, Name::from_legal(alloc, name)?)?;
+                Ok(place.number())
+            }
         }
     }
 

@@ -2,7 +2,7 @@
 
 pub(crate) mod file_faults;
 
-ghost use Rattle.std.specs.Prelude.{◌≡◌, ◌<◌, ◌||◌, IsTrue, IfSome, OnOk, OnErr, Some, None, true, false, suc, is_some, if◌then◌else◌};
+ghost use Rattle.std.specs.Prelude.{◌≡◌, ◌<◌, ◌||◌, IsTrue, IfSome, IfOk, OnOk, OnErr, Some, None, true, false, suc, is_some, if◌then◌else◌};
 ghost use Rattle.std.specs.Option.{option_map_or};
 ghost use Rattle.std.specs.Ordering.{nat_cmp};
 ghost use Rattle.std.specs.FinMap.{find};
@@ -15,7 +15,7 @@ ghost use Rattle.mpslp_builder.specs.Consistency.{has_objective_rhs};
 ghost use Rattle.mpslp_builder.specs.Refusal.{row_tests};
 ghost use Rattle.mpslp_builder.specs.Answer.{Answers};
 ghost use Rattle.mpslp_builder.specs.Tables.{draft, IsNumbered};
-ghost use Rattle.mpslp_builder.specs.Calls.{row_key_of, row_name, column_name, row_tells, has_limits, column_tells, cells_at, new_column, with_cell, with_bounds, IsOnceEach, IsEmptyTables, IsSameTables, HasObjective, HasRowAdded, HasRowChanged, HasColumnAdded, HasColumnChanged, HasRhsPut};
+ghost use Rattle.mpslp_builder.specs.Calls.{row_key_of, row_name, column_name, row_tells, has_limits, column_tells, cells_at, column_number_of, with_cell, with_bounds, IsOnceEach, IsEmptyTables, IsSameTables, HasObjective, HasRowAdded, HasRowChanged, HasColumnChanged, HasRhsPut, IsColumnPlace};
 
 use indexmap::IndexMap;
 use mpslp_builder_parts::{ColumnParts, ObjectiveParts, RowParts};
@@ -70,6 +70,27 @@ impl RowRef {
         match self {
             RowRef::Objective => 0,
             RowRef::Row(index) => index as u32 + 1,
+        }
+    }
+}
+
+/// The number of a column, and whether it was there before.
+#[derive(Clone, Copy)]
+pub(crate) enum ColumnPlace {
+    /// A new column has this number.
+    New(usize),
+    /// A column that was declared before has this number.
+    Known(usize),
+}
+
+impl ColumnPlace {
+    /// The number.
+    pub(crate) fn number(self) -> usize
+        ensures { result ≡ column_number_of self }
+    {
+        match self {
+            ColumnPlace::New(number) => number,
+            ColumnPlace::Known(number) => number,
         }
     }
 }
@@ -398,16 +419,30 @@ impl Tables {
         }
     }
 
-    /// Adds a column without coefficients. Its name must be new.
-    pub(crate) fn add_column(&mut self, alloc: Global, name: Name) -> Result<(), AllocError>
-        requires { has_name (draft None None self.old).columns name ≡ false }
-        ensures ok { OnOk result (HasColumnAdded self.old name new_column self.new) }
+    /// Adds a column without coefficients, if no column has its name, which is hashed only once. The column of the name is then
+    /// the one that was used last.
+    pub(crate) fn add_column(
+        &mut self,
+        alloc: Global,
+        name: Name,
+    ) -> Result<ColumnPlace, AllocError>
+        ensures ok { IfOk result (λ place. IsColumnPlace self.old name place self.new) }
         ensures err { OnErr result (IsSameTables self.old self.new) }
     {
-        let parts = ColumnParts::new(alloc);
-        self.recent = self.columns.len();
-        self.columns.insert(name, parts)?;
-        Ok(())
+        let (number, earlier) = match self.columns.insert_full(name, ColumnParts::new(alloc)) {
+            Ok(found) => found,
+            Err(_) => return Err(AllocError),
+        };
+        self.recent = number;
+        match earlier {
+            None => Ok(ColumnPlace::New(number)),
+            Some(earlier) => {
+                // The column of this name has no coefficients now, and gets its own ones back.
+                let (_key, parts) = self.columns.pair_mut(number);
+                *parts = earlier;
+                Ok(ColumnPlace::Known(number))
+            }
+        }
     }
 
     /// Stores a coefficient at a free place.
