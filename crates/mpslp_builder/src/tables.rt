@@ -38,9 +38,14 @@ pub(crate) struct Tables {
     pub(crate) columns: NameMap<ColumnParts>,
     /// The index of the row that was used last. It only speeds up look-ups, so any number is correct.
     pub(crate) recent_row: usize,
+    /// How many rows were used since one came right after the one before it. It only speeds up look-ups, so any number is correct.
+    pub(crate) since_rise: usize,
     /// The number of the column that was used last. It only speeds up look-ups, so any number is correct.
     pub(crate) recent: usize,
 }
+
+/// So long after a row came right after the one before it, this is not expected again: rows come in an order of their own.
+const RISE_ENDS: usize = 16;
 
 /// Whether two names are the same. Their last bytes are compared first, because most names that differ have other ones.
 fn is_same_name(name: &[u8], other: &[u8]) -> bool
@@ -105,6 +110,7 @@ impl Tables {
             rows: IndexMap::new(alloc),
             columns: IndexMap::new(alloc),
             recent_row: 0,
+            since_rise: 0,
             recent: 0,
         }
     }
@@ -188,8 +194,25 @@ impl Tables {
         }
     }
 
-    /// The row of this name, or the objective. The row that was used last and the one after it are compared first, which saves a
-    /// look-up if rows are used in the order of their declarations.
+    /// The index of the row that may be used next: that after the row that was used last, if rows often come in this order, and
+    /// else that row again.
+    fn next_row(&self) -> usize {
+        if self.since_rise < RISE_ENDS {
+            return self.recent_row.saturating_add(1);
+        }
+        self.recent_row
+    }
+
+    /// How many rows were used since one came right after the one before it, if the row at this index is used now.
+    fn since_rise_with(&self, index: usize) -> usize {
+        if index == self.recent_row.saturating_add(1) {
+            return 0;
+        }
+        self.since_rise.saturating_add(1)
+    }
+
+    /// The row of this name, or the objective. The row that was used last and the one that may be next are compared first, which
+    /// saves a look-up if rows are used in the order of their declarations.
     pub(crate) fn row_ref(&self, name: &[u8]) -> Option<RowRef>
         ensures place { IfSome result (λ place. row_name self.now (row_key_of place) ≡ Some name.now) }
         ensures found { is_some result ≡ has_row (draft None None self.now) name.now }
@@ -200,7 +223,7 @@ impl Tables {
         if self.is_row_at(self.recent_row, name) {
             return Some(RowRef::Row(self.recent_row));
         }
-        let next = self.recent_row.saturating_add(1);
+        let next = self.next_row();
         if self.is_row_at(next, name) {
             return Some(RowRef::Row(next));
         }
@@ -457,7 +480,9 @@ impl Tables {
         ensures ok { OnOk result (HasColumnChanged self.old column (with_cell row value) self.new) }
         ensures err { OnErr result (IsSameTables self.old self.new) }
     {
-        self.recent_row = row.saturating_sub(1) as usize;
+        let index = row.saturating_sub(1) as usize;
+        self.since_rise = self.since_rise_with(index);
+        self.recent_row = index;
         self.recent = column;
         let (_key, parts) = self.columns.pair_mut(column);
         parts.cells.put(row, value)
@@ -469,6 +494,7 @@ impl Tables {
         requires typed { has_limits self.old (RowRef.Row index) ≡ false }
         ensures { HasRowChanged self.old index (λ row. record row { rhs = Some value }) self.new }
     {
+        self.since_rise = self.since_rise_with(index);
         self.recent_row = index;
         let (_key, row) = self.rows.pair_mut(index);
         row.put_rhs(value);
@@ -502,6 +528,7 @@ impl Tables {
         requires typed { has_limits self.old (RowRef.Row index) ≡ false }
         ensures { HasRowChanged self.old index (λ row. record row { range = Some value }) self.new }
     {
+        self.since_rise = self.since_rise_with(index);
         self.recent_row = index;
         let (_key, row) = self.rows.pair_mut(index);
         row.put_range(value);
