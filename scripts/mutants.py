@@ -32,7 +32,8 @@ from crates import LIBRARIES, PARTS, Crate, crates_of_repository, words_of
 from kit import ROOT, kit_folder, require_kit
 from prove import LOGS
 
-IMPL = re.compile(r"impl\b(?:<.*?>)? (?:(?:\w+::)*(\w+)(?:<.*>)? for )?(\w+)")
+# An `impl`: its parameters, its trait if it has one, and its type.
+IMPL = re.compile(r"impl\b(<.*?>)? (?:(.*) for )?(.*?)(?: where\b.*)?(?: \{)?$")
 FUNCTION = re.compile(r"( *)(?:pub(?:\([^)]*\))? )?(?:const |unsafe )*fn (\w+)")
 NOT_PROVED = re.compile(r"fn (\S+): (?:not proved|no proof)(?:[:;] (.*))?$")
 # Why a function is not proved if nothing is wrong with it.
@@ -52,7 +53,7 @@ class Body:
     function: str
     first: int
     last: int
-    # The type whose method it is, and after it the trait, if it is one of a trait, as the prover writes them.
+    # The type whose method it is, and the trait, if it is one of a trait, as the prover writes them.
     owner: str | None = None
 
     @property
@@ -74,12 +75,26 @@ class Body:
         return parts[-1] == self.function and (is_here or is_method) or is_here and inner[:2] == ["fn", self.function]
 
 
+def written(type_or_trait: str, parameters: set[str]) -> str:
+    """How the prover writes a type or trait in the name of a function: `RefSliceU8` for `&[u8]`, `QueryName` for `Query<Name>`.
+    Parameters of the `impl` are left out."""
+    text = re.sub(r"'\w+|\bmut\b|\w+::", "", type_or_trait)
+    words = [{"&": "Ref", "[": "Slice"}.get(it, it[0].upper() + it[1:]) for it in re.findall(r"&|\[|\w+", text) if it not in parameters]
+    return "".join(words)
+
+
+def owner_of(block: re.Match[str]) -> str:
+    """The type of an `impl`, and its trait, as the prover writes them."""
+    parameters = set(re.findall(r"[<,] *(\w+)", block[1] or ""))
+    return (written(block[3], parameters) or "Any") + written(block[2] or "", parameters)
+
+
 def bodies_of(file: str, text: str) -> list[Body]:
     """The bodies of the functions in a file that has the layout of `rt fmt`."""
     lines, found, owner = text.split("\n"), [], None
     for number, line in enumerate(lines):
         if block := IMPL.match(line):
-            owner = block[2] + (block[1] or "")
+            owner = owner_of(block)
         if header := FUNCTION.match(line):
             indent, name = header[1], header[2]
             first = number
