@@ -2,16 +2,16 @@
 """Tests that the prover rejects the mutants: scripts/mutants.py [CRATE ..]
 
 A mutant is a wrong version of a crate, written as an edit of its sources, in must-fail/ of the crate or in tests/wrong-bodies/.
-`rt must-fail` checks a whole crate once for each mutant. Here a check asks only for the functions that are to be rejected, and
-one check tests many mutants: a function is proved from the contracts of the functions that it calls, so mutants that change
-nothing but the bodies of different functions do not influence one another. Such a mutant counts as rejected only if the prover
-rejects the function that it changes for itself, and not only because it calls a function that is not proved, and if it rejects
-no function for itself that no mutant changes. Mutants that remain are checked together again, without those that were rejected,
-and at last one at a time.
+`rt must-fail` checks a whole crate once for each mutant. Here a check asks only for the functions that are to be rejected, with
+holes for the proofs of the others: a function is proved from the contracts of the functions that it calls, whatever their bodies
+and proofs. So one check also tests many mutants that change nothing but the bodies of different functions. Such a mutant counts
+as rejected only if the prover rejects the function that it changes for itself, and not only because it calls a function that is
+not proved, and if it rejects no function for itself that no mutant changes. Mutants that remain are checked together again,
+without those that were rejected, and at last one at a time.
 
 Other mutants, of definitions, invariants and constants, are checked one at a time. The line `function:` of such an edit names a
-function that the prover then rejects. Without that line, or if the function is proved all the same, the whole crate is checked.
-At last all functions that were asked for are proved without any mutant.
+function that the prover then rejects. Without that line, or if the function is not rejected, the whole crate is checked. At last
+all functions that were asked for are checked in the same way without any mutant, and none may be rejected.
 
 The libraries below the crates have to be proved and built, as `make` leaves them. One line is printed for each crate.
 """
@@ -41,8 +41,15 @@ OF_ITS_CALLS = re.compile(r"it (?:calls|passes the block) `[^;]*, which (?:is|ar
 # What the prover says of a text that it cannot read. A mutant is a statement that reads well and is false.
 UNREADABLE = re.compile(r"is not in scope|has no field|is no name|operand is missing|expected the end|cannot continue")
 
+# A function whose proof is right, with or without holes in the proofs of the functions that it calls.
+RIGHT = re.compile(r"fn (\S+): (?:no holes|proved|depends on a hole in )")
 # What it says if it was asked for a function that is not there, or for one of several.
 UNNAMED = re.compile(r"rattle: error: (.* has no function .*|several functions are named .*)")
+
+
+def is_named(name: str, ending: str) -> bool:
+    """Whether the end of a function's name, as a check is asked for it, is that of this name."""
+    return f"::{name}".endswith(f"::{ending}")
 
 
 @dataclass(frozen=True)
@@ -68,11 +75,10 @@ class Body:
     def is_of(self, name: str) -> bool:
         """Whether the prover's name is that of the function, CRATE::MODULE::FUNCTION or CRATE::MODULE::TYPE::FUNCTION, or of a
         closure in it, CRATE::MODULE::fn::FUNCTION::... The module of a method is that of its file or that of its type."""
-        parts = name.split("::")
-        inner = parts[1 + len(self.modules) :]
-        is_here = parts[1 : 1 + len(self.modules)] == self.modules
-        is_method = self.owner is not None and len(parts) > 2 and parts[-2] == self.owner
-        return parts[-1] == self.function and (is_here or is_method) or is_here and inner[:2] == ["fn", self.function]
+        parts = name.split("::")[1:]
+        inner = parts[len(self.modules) :]
+        is_here = parts[: len(self.modules)] == self.modules
+        return is_named(name, self.name) or is_here and inner[:1] == ["fn"] and self.function in inner[1:3]
 
 
 def written(type_or_trait: str, parameters: set[str]) -> str:
@@ -171,8 +177,8 @@ def read_mutant(crate: Crate, path: Path) -> Mutant:
 
 
 def batch_of(mutants: list[tuple[Mutant, Body]]) -> list[tuple[Mutant, Body]]:
-    """As many of the mutants as change functions with different names."""
-    return list({body.function: (mutant, body) for mutant, body in reversed(mutants)}.values())
+    """As many of the mutants as change different functions."""
+    return list({body.name: (mutant, body) for mutant, body in reversed(mutants)}.values())
 
 
 def unreadable(lines: list[str]) -> str | None:
@@ -198,16 +204,51 @@ class Check:
     lines: list[str]
 
     @property
+    def has_ended(self) -> bool:
+        """Whether it came to the end that a check of some functions has."""
+        return self.lines[-1].startswith("only=")
+
+    @property
     def unreadable(self) -> str | None:
         return unreadable(self.lines)
 
-    def rejected(self, ending: str) -> list[str]:
-        """The functions that it rejects for themselves. None if it came to no end, whose line starts like this."""
-        return rejected_for_themselves(self.lines) if self.status == 1 and self.lines[-1].startswith(ending) else []
+    @property
+    def unnamed(self) -> str | None:
+        """What it says if it was asked for a function that is not there."""
+        return next((it[1] for line in self.lines if (it := UNNAMED.match(line))), None)
+
+    @property
+    def rejected(self) -> list[str]:
+        """The functions that it rejects for themselves."""
+        return rejected_for_themselves(self.lines) if self.has_ended else []
+
+    def accepts(self, functions: list[str]) -> bool:
+        """Whether it rejects no function, and has found the proofs of these ones right."""
+        right = [it[1] for line in self.lines if (it := RIGHT.match(line))]
+        is_right = all(any(is_named(name, it) for name in right) for it in functions)
+        return self.has_ended and is_right and not any(map(NOT_PROVED.match, self.lines))
 
 
-# How the last line of a check starts that rejects something: of a whole crate, or of the functions that it was asked for.
-OF_CRATE, OF_FUNCTIONS = "logic=not-proved", "only="
+# Where a function has its proof, and a proof of a function that another check proves.
+PROOF_FILES = ("Invariants.antt", "Answers.antt", "Proof.antt")
+HOLE = """use Rattle.{module}.Statement.{{statement}}
+
+pub {name}_spec : {{M : Type 1}} → statement M
+{name}_spec = ?
+"""
+
+
+def leave_out_proofs(crate: Crate, room: Path, functions: list[str]) -> None:
+    """Puts holes in the place of all proofs of functions in this copy of the crate but those of these functions. Proofs of closures,
+    and of functions that call one another, stay."""
+    proofs = room / "proofs"
+    for folder in [file.parent for file in sorted(proofs.rglob("*.antt")) if file.name in PROOF_FILES]:
+        parts = folder.relative_to(proofs).parts
+        if "fn" in parts or parts[-1].startswith("+") or any(is_named("::".join(parts), it) for it in functions):
+            continue
+        for name in PROOF_FILES:
+            (folder / name).unlink(missing_ok=True)
+        (folder / "Proof.antt").write_text(HOLE.format(module=".".join([crate.name, "proofs", *parts]), name=parts[-1]))
 
 
 class Prover:
@@ -236,8 +277,12 @@ class Prover:
                     shutil.copytree(self.crate.folder / part, room / part)
             for file, text in texts.items():
                 (room / file).write_text(text)
+            words = self.words
+            if functions:
+                leave_out_proofs(self.crate, room, functions)
+                words = [*words, "--allow-holes", *(word for it in functions for word in ("--only", it))]
             ran = subprocess.run(
-                [*self.words, *(word for it in functions for word in ("--only", it))],
+                words,
                 cwd=room,
                 stdin=subprocess.DEVNULL,
                 stdout=subprocess.PIPE,
@@ -255,16 +300,16 @@ class Prover:
         function = mutant.function or (body and body.name)
         if function:
             check = self.check([mutant], [function], f"{mutant.name}: {function}")
-            if unnamed := next((it[1] for line in check.lines if (it := UNNAMED.match(line))), None):
-                return unnamed
-            if not check.unreadable and any(f"::{it}".endswith(f"::{function}") for it in check.rejected(OF_FUNCTIONS)):
+            if check.unnamed:
+                return check.unnamed
+            if not check.unreadable and any(is_named(it, function) for it in check.rejected):
                 self.asked.add(function)
                 return None
         self.has_asked_for_all = True
         check = self.check([mutant], [], mutant.name)
         if line := check.unreadable:
             return f"the prover cannot read it: {line[:160]}"
-        if check.status == 1 and check.lines[-1].startswith(OF_CRATE):
+        if check.status == 1 and check.lines[-1].startswith("logic=not-proved"):
             return None
         return "NOT REJECTED: the crate is proved with it" if check.status == 0 else f"no verdict: {check.lines[-1][:160]}"
 
@@ -272,7 +317,7 @@ class Prover:
         """Those mutants of a batch of which one check shows that they are rejected."""
         functions = [body.name for _, body in batch]
         check = self.check([mutant for mutant, _ in batch], functions, f"{len(batch)} mutants of {self.crate.name}")
-        names = check.rejected(OF_FUNCTIONS)
+        names = check.rejected
         if check.unreadable or not all(any(body.is_of(name) for _, body in batch) for name in names):
             return []
         self.asked.update(functions)
@@ -288,9 +333,11 @@ class Prover:
         return [f"{mutant.name}: {why}" for mutant, body in single if (why := self.rejects(mutant, body))]
 
     def is_sound(self) -> bool:
-        """Whether all functions that were asked for are proved without mutants, over what the checks of the mutants left."""
-        functions = [] if self.has_asked_for_all else sorted(self.asked)
-        return self.check([], functions, f"{self.crate.name} unchanged").status == 0
+        """Whether the functions that were asked for are accepted without mutants, over what the checks of the mutants left, and the
+        whole crate if that was asked for."""
+        unchanged, asked = f"{self.crate.name} unchanged", sorted(self.asked)
+        is_right = not asked or self.check([], asked, unchanged).accepts(asked)
+        return is_right and (not self.has_asked_for_all or self.check([], [], unchanged).status == 0)
 
 
 @dataclass
