@@ -2,17 +2,31 @@
 
 use mpslp_builder_parts::Cells;
 use mpslp_decimal::Decimal;
+use std::alloc::{AllocError, Global};
 use std::test::Fail;
+
+/// The coefficients of these rows, put in turn.
+fn of_rows(alloc: Global, rows: &[u32]) -> Result<Cells, AllocError> {
+    let mut cells = Cells::new(alloc);
+    for row in rows {
+        if !cells.has(*row) {
+            cells.put(*row, Decimal::zero())?;
+        }
+    }
+    Ok(cells)
+}
+
+/// Whether the rows 3, 7 and 9 have coefficients, and whether 0 and 8 have any.
+fn presence(cells: &Cells) -> ([bool; 3], [bool; 2]) {
+    (
+        [cells.has(3), cells.has(7), cells.has(9)],
+        [cells.has(0), cells.has(8)],
+    )
+}
 
 #[test]
 fn keeps_coefficients_in_any_order(rt: HostRuntime) -> Result<(), Fail> {
-    let mut cells = Cells::new(rt.alloc());
-    for row in [7, 3, 9] {
-        if !cells.has(row) {
-            cells.put(row, Decimal::zero())?;
-        }
-    }
-    assert!(rt; cells.has(3) && cells.has(7) && cells.has(9));
-    assert!(rt; !cells.has(0) && !cells.has(8));
+    let present = presence(&of_rows(rt.alloc(), &[7, 3, 9])?);
+    assert_eq!(rt; present, ([true; 3], [false; 2]));
     Ok(())
 }

@@ -1,287 +1,326 @@
 //! Tests of literals, texts and queries of decimals, through the public calls.
 
 use mpslp_decimal::{Decimal, DecimalText, NumberFault, PackedDecimal, laws};
+use std::alloc::{AllocError, Global};
 use std::test::Fail;
 
 /// Literals of few digits, and their canonical texts.
-const SHORT: [(&str, &str); 8] = [
-    ("-0.0", "0"),
-    ("0e999", "0"),
-    ("0e99999999999999999999999999999999999999", "0"),
-    (".5", "0.5"),
-    ("3.", "3"),
-    ("1.50", "1.5"),
-    ("+7", "7"),
-    ("000000000000000000000000000001", "1"),
-];
+const SHORT: &str = "\
+-0.0 0
+0e999 0
+0e99999999999999999999999999999999999999 0
+.5 0.5
+3. 3
+1.50 1.5
++7 7
+000000000000000000000000000001 1";
 
 /// Literals of many digits, and their canonical texts.
-const LONG: [(&str, &str); 9] = [
-    ("123456789012345678", "123456789012345678"),
-    ("1234567890123456780", "1234567890123456780"),
-    ("1234567890123456789", "1234567890123456789"),
-    ("0.1234567890123456789", "1234567890123456789e-19"),
-    ("18446744073709551615", "18446744073709551615"),
-    ("-18446744073709551616", "-18446744073709551616"),
-    (
-        "123456789012345678901234567890123456",
-        "123456789012345678901234567890123456",
-    ),
-    (
-        "-999999999999999999999999999999999999.00",
-        "-999999999999999999999999999999999999",
-    ),
-    (
-        "1234567890123456789012345678901234560e-10",
-        "123456789012345678901234567.890123456",
-    ),
-];
+const LONG: &str = "\
+123456789012345678 123456789012345678
+1234567890123456780 1234567890123456780
+1234567890123456789 1234567890123456789
+0.1234567890123456789 1234567890123456789e-19
+18446744073709551615 18446744073709551615
+-18446744073709551616 -18446744073709551616
+123456789012345678901234567890123456 123456789012345678901234567890123456
+-999999999999999999999999999999999999.00 -999999999999999999999999999999999999
+1234567890123456789012345678901234560e-10 123456789012345678901234567.890123456";
 
 /// Literals with an exponent and others, and their canonical texts.
-const WITH_EXPONENT: [(&str, &str); 11] = [
-    ("1e5", "100000"),
-    ("1e6", "1e6"),
-    ("12.50e-20", "125e-21"),
-    ("-15e-18", "-0.000000000000000015"),
-    ("123456789012345678e-18", "0.123456789012345678"),
-    ("-123456789012345678e-17", "-1.23456789012345678"),
-    ("1e500", "1e500"),
-    ("1000e497", "1e500"),
-    ("1E-500", "1e-500"),
-    ("3.0000000000", "3"),
-    ("-1e+00", "-1"),
-];
+const WITH_EXPONENT: &str = "\
+1e5 100000
+1e6 1e6
+12.50e-20 125e-21
+-15e-18 -0.000000000000000015
+123456789012345678e-18 0.123456789012345678
+-123456789012345678e-17 -1.23456789012345678
+1e500 1e500
+1000e497 1e500
+1E-500 1e-500
+3.0000000000 3
+-1e+00 -1";
 
-/// Literals that are rejected, and their errors.
-const REFUSED: [(&str, NumberFault); 16] = [
-    ("", NumberFault::BadNumber),
-    (".", NumberFault::BadNumber),
-    ("e5", NumberFault::BadNumber),
-    ("1e", NumberFault::BadNumber),
-    ("1e+", NumberFault::BadNumber),
-    ("+-1", NumberFault::BadNumber),
-    ("1 ", NumberFault::BadNumber),
-    ("1.2.3", NumberFault::BadNumber),
-    ("1x", NumberFault::BadNumber),
-    ("1e5.0", NumberFault::BadNumber),
-    ("inf", NumberFault::BadNumber),
-    (
-        "1234567890123456789012345678901234567",
-        NumberFault::TooManyDigits,
-    ),
-    (
-        "1000000000000000000000000000000000001e600",
-        NumberFault::TooManyDigits,
-    ),
-    ("1e501", NumberFault::ExponentRange),
-    ("10e500", NumberFault::ExponentRange),
-    (
-        "1e-99999999999999999999999999999999999",
-        NumberFault::ExponentRange,
-    ),
-];
+/// Texts that are rejected, and their errors. A text ends before the colon.
+const REFUSED: &str = "\
+:BadNumber
+.:BadNumber
+e5:BadNumber
+1e:BadNumber
+1e+:BadNumber
++-1:BadNumber
+1 :BadNumber
+1.2.3:BadNumber
+1x:BadNumber
+1e5.0:BadNumber
+inf:BadNumber
+1234567890123456789012345678901234567:TooManyDigits
+1000000000000000000000000000000000001e600:TooManyDigits
+1e501:ExponentRange
+10e500:ExponentRange
+1e-99999999999999999999999999999999999:ExponentRange";
 
 /// Whether a literal has this canonical text.
-fn is_printed(literal: &str, want: &str) -> Result<bool, NumberFault> {
+fn has_text(literal: &[u8], want: &str) -> bool {
     let mut text = DecimalText::new();
-    Ok(text.put(Decimal::parse(literal.as_bytes())?) == want.as_bytes())
+    match Decimal::parse(literal) {
+        Ok(value) => text.put(value) == want.as_bytes(),
+        Err(_) => false,
+    }
+}
+
+/// Whether a literal has the canonical text after it.
+fn is_printed(line: &str) -> bool {
+    let (literal, want) = line.split_once(' ').unwrap_or((line, ""));
+    has_text(literal.as_bytes(), want)
+}
+
+/// The name of the error of a text that is no decimal.
+fn fault_of(text: &[u8]) -> &'static str {
+    match Decimal::parse(text) {
+        Ok(_) => "",
+        Err(NumberFault::BadNumber) => "BadNumber",
+        Err(NumberFault::LongNumber) => "LongNumber",
+        Err(NumberFault::TooManyDigits) => "TooManyDigits",
+        Err(NumberFault::ExponentRange) => "ExponentRange",
+    }
+}
+
+/// Whether a text has the error after the colon.
+fn is_refused(line: &str) -> bool {
+    match line.split_once(':') {
+        Some((text, fault)) => fault_of(text.as_bytes()) == fault,
+        None => false,
+    }
 }
 
 #[test]
-fn reads_and_prints_short_literals(rt: HostRuntime) -> Result<(), Fail> {
-    for (literal, want) in SHORT {
-        assert!(rt; is_printed(literal, want)?, "at {literal}");
+fn reads_and_prints_short_literals(rt: HostRuntime) {
+    for line in SHORT.lines() {
+        assert!(rt; is_printed(line), "at {line}");
     }
-    Ok(())
 }
 
 #[test]
-fn reads_and_prints_long_literals(rt: HostRuntime) -> Result<(), Fail> {
-    for (literal, want) in LONG {
-        assert!(rt; is_printed(literal, want)?, "at {literal}");
+fn reads_and_prints_long_literals(rt: HostRuntime) {
+    for line in LONG.lines() {
+        assert!(rt; is_printed(line), "at {line}");
     }
-    Ok(())
 }
 
 #[test]
-fn reads_and_prints_scaled_literals(rt: HostRuntime) -> Result<(), Fail> {
-    for (literal, want) in WITH_EXPONENT {
-        assert!(rt; is_printed(literal, want)?, "at {literal}");
+fn reads_and_prints_scaled_literals(rt: HostRuntime) {
+    for line in WITH_EXPONENT.lines() {
+        assert!(rt; is_printed(line), "at {line}");
     }
-    Ok(())
 }
 
 #[test]
 fn refuses_what_is_no_decimal(rt: HostRuntime) {
-    for (literal, want) in REFUSED {
-        assert!(rt;
-            Decimal::parse(literal.as_bytes()) == Err(want),
-            "at {literal}"
-        );
+    for line in REFUSED.lines() {
+        assert!(rt; is_refused(line), "at {line}");
     }
+}
+
+/// The digit 1, so many zeros, and an end.
+fn long_literal(alloc: Global, zeros: usize, end: &[u8]) -> Result<Vec<u8>, AllocError> {
+    let mut literal = vec![in alloc; b'0'; zeros]?;
+    literal.insert(0, b'1')?;
+    literal.extend_from_slice(end)?;
+    Ok(literal)
+}
+
+/// Whether a 1 and 254 zeros, 255 bytes, are a literal, and the errors of two longer texts.
+fn of_long_literals(alloc: Global) -> Result<(bool, [&'static str; 2]), AllocError> {
+    let is_taken = has_text(&long_literal(alloc, 254, b"")?, "1e254");
+    let too_long = fault_of(&long_literal(alloc, 255, b"")?);
+    let no_number = fault_of(&long_literal(alloc, 255, b"x")?);
+    Ok((is_taken, [too_long, no_number]))
 }
 
 #[test]
 fn keeps_the_limit_of_length(rt: HostRuntime) -> Result<(), Fail> {
-    let mut literal = vec![in rt.alloc(); b'0'; 255]?;
-    literal[0] = b'1';
-    let mut text = DecimalText::new();
-    assert_eq!(rt; text.put(Decimal::parse(&literal)?), b"1e254".as_slice());
-    literal.push(b'0')?;
-    assert!(rt; Decimal::parse(&literal) == Err(NumberFault::LongNumber));
-    literal.push(b'x')?;
-    assert!(rt; Decimal::parse(&literal) == Err(NumberFault::BadNumber));
+    let (is_taken, faults) = of_long_literals(rt.alloc())?;
+    assert!(rt; is_taken);
+    assert_eq!(rt; faults, ["LongNumber", "BadNumber"]);
     Ok(())
 }
 
 /// Literals with the mantissa and the exponent of their value.
-const PARTS: [(&str, i128, i32); 9] = [
-    ("-0.0", 0, 0),
-    ("0e999", 0, 0),
-    ("000000000000000000000000000001", 1, 0),
-    ("1234567890123456780", 123456789012345678, 1),
-    ("12.50e-20", 125, -21),
-    ("-15e-18", -15, -18),
-    ("1e500", 1, 500),
-    ("1000e497", 1, 500),
-    ("1000000000000000000", 1, 18),
-];
+const PARTS: &str = "\
+-0.0 0 0
+0e999 0 0
+000000000000000000000000000001 1 0
+1234567890123456780 123456789012345678 1
+12.50e-20 125 -21
+-15e-18 -15 -18
+1e500 1 500
+1000e497 1 500
+1000000000000000000 1 18";
+
+/// Whether the literal of a line has the mantissa and the exponent after it.
+fn has_parts(line: &str) -> Result<bool, NumberFault> {
+    let mut words = line.split(' ');
+    let value = Decimal::parse(words.next().unwrap_or("").as_bytes())?;
+    let mantissa = words.next().unwrap_or("").parse::<i128>().ok();
+    let exponent = words.next().unwrap_or("").parse::<i32>().ok();
+    Ok((mantissa, exponent) == (Some(value.mantissa()), Some(value.exponent())))
+}
 
 #[test]
 fn mantissas_do_not_end_with_0(rt: HostRuntime) -> Result<(), Fail> {
-    for (literal, mantissa, exponent) in PARTS {
-        let value = Decimal::parse(literal.as_bytes())?;
-        assert!(rt;
-            value.mantissa() == mantissa && value.exponent() == exponent,
-            "at {literal}"
-        );
+    for line in PARTS.lines() {
+        assert!(rt; has_parts(line)?, "at {line}");
     }
     Ok(())
+}
+
+/// Whether a number is negative, and whether it is zero.
+fn signs(value: Decimal) -> (bool, bool) {
+    (value.is_negative(), value.is_zero())
+}
+
+/// Whether the second number is the opposite of the first, and the absolute value of both.
+fn are_opposite(value: Decimal, opposite: Decimal) -> [bool; 3] {
+    [
+        value.negate() == opposite,
+        value.abs() == opposite,
+        opposite.abs() == opposite,
+    ]
 }
 
 #[test]
 fn answers_what_is_asked_of_a_decimal(rt: HostRuntime) -> Result<(), Fail> {
     let value = Decimal::parse(b"-12.50")?;
-    assert!(rt; value.mantissa() == -125 && value.exponent() == -1);
-    assert!(rt; value.negate() == Decimal::parse(b"12.5")?);
-    assert!(rt;
-        value.is_negative() && !value.negate().is_negative() && !Decimal::zero().is_negative()
-    );
-    assert!(rt; value.abs() == value.negate() && value.negate().abs() == value.negate());
-    assert!(rt; !value.is_zero() && Decimal::zero().is_zero());
-    assert!(rt; Decimal::zero() == Decimal::parse(b"-0e5")?);
-    for (literal, is_infinite) in [
-        ("1e20", true),
-        ("-1e20", true),
-        ("99999999999999999900", false),
-        ("100000000000000001000", true),
-        ("1e19", false),
-        ("0", false),
-        ("1e500", true),
-        ("-1e30", true),
-        ("1e-500", false),
-    ] {
-        assert_eq!(rt;
-            Decimal::parse(literal.as_bytes())?.is_infinite_size(),
-            is_infinite,
-            "at {literal}"
-        );
+    let opposite = Decimal::parse(b"12.5")?;
+    let zero = Decimal::parse(b"-0e5")?;
+    let parts = (value.mantissa(), value.exponent());
+    let signs = [signs(value), signs(opposite), signs(Decimal::zero())];
+    assert_eq!(rt; parts, (-125, -1));
+    assert_eq!(rt; signs, [(true, false), (false, false), (false, true)]);
+    assert_eq!(rt; are_opposite(value, opposite), [true; 3]);
+    assert!(rt; Decimal::zero() == zero);
+    Ok(())
+}
+
+/// Literals of infinite size, separated by spaces.
+const INFINITE: &str = "1e20 -1e20 100000000000000001000 1e500 -1e30";
+
+/// Literals of finite size, separated by spaces.
+const FINITE: &str = "99999999999999999900 1e19 0 1e-500";
+
+fn is_infinite(literal: &str) -> Result<bool, NumberFault> {
+    Ok(Decimal::parse(literal.as_bytes())?.is_infinite_size())
+}
+
+/// The first of these literals that is of infinite size, or that is not.
+fn first_with(literals: &str, is_wanted: bool) -> Result<Option<&str>, NumberFault> {
+    for literal in literals.split(' ') {
+        if is_infinite(literal)? == is_wanted {
+            return Ok(Some(literal));
+        }
+    }
+    Ok(None)
+}
+
+#[test]
+fn sizes_are_infinite_from_10_to_the_20_on(rt: HostRuntime) -> Result<(), Fail> {
+    let finite = first_with(INFINITE, false)?;
+    let infinite = first_with(FINITE, true)?;
+    assert_eq!(rt; (finite, infinite), (None, None));
+    Ok(())
+}
+
+/// Two literals, and their sum or `none` if it is no decimal.
+const SUMS: &str = "\
+0.1 0.2 0.3
+999999999999999999 1 1e18
+999999999999999999 0.1 999999999999999999.1
+999999999999999999999999999999999999 1 1e36
+999999999999999999999999999999999999 0.1 none
+999999999999999999999999999999999999 999999999999999999999999999999999999 none
+-999999999999999999999999999999999999 999999999999999999999999999999999998 -1
+5e500 5e500 none
+1 -1 0
+0 1e-500 1e-500
+1e500 0 1e500
+1e17 1 100000000000000001
+1e18 1 1000000000000000001
+1e36 1 none
+1e500 1e-500 none";
+
+/// Whether the third number is the sum of the others, and their difference with the second number negated.
+fn is_sum(left: Decimal, right: Decimal, sum: Option<Decimal>) -> bool {
+    left.checked_add(right) == sum && left.checked_sub(right.negate()) == sum
+}
+
+/// Whether the third word of a line is the sum of the two before it.
+fn has_its_sum(line: &str) -> Result<bool, NumberFault> {
+    let mut words = line.split(' ');
+    let left = Decimal::parse(words.next().unwrap_or("").as_bytes())?;
+    let right = Decimal::parse(words.next().unwrap_or("").as_bytes())?;
+    let sum = match words.next().unwrap_or("") {
+        "none" => None,
+        literal => Some(Decimal::parse(literal.as_bytes())?),
+    };
+    Ok(is_sum(left, right, sum))
+}
+
+#[test]
+fn adds_and_subtracts_exactly(rt: HostRuntime) -> Result<(), Fail> {
+    for line in SUMS.lines() {
+        assert!(rt; has_its_sum(line)?, "at {line}");
     }
     Ok(())
 }
 
-/// Two literals, and their sum if it is a decimal.
-const SUMS: [(&str, &str, Option<&str>); 15] = [
-    ("0.1", "0.2", Some("0.3")),
-    ("999999999999999999", "1", Some("1e18")),
-    ("999999999999999999", "0.1", Some("999999999999999999.1")),
-    ("999999999999999999999999999999999999", "1", Some("1e36")),
-    ("999999999999999999999999999999999999", "0.1", None),
-    (
-        "999999999999999999999999999999999999",
-        "999999999999999999999999999999999999",
-        None,
-    ),
-    (
-        "-999999999999999999999999999999999999",
-        "999999999999999999999999999999999998",
-        Some("-1"),
-    ),
-    ("5e500", "5e500", None),
-    ("1", "-1", Some("0")),
-    ("0", "1e-500", Some("1e-500")),
-    ("1e500", "0", Some("1e500")),
-    ("1e17", "1", Some("100000000000000001")),
-    ("1e18", "1", Some("1000000000000000001")),
-    ("1e36", "1", None),
-    ("1e500", "1e-500", None),
-];
+/// Literals whose values rise.
+const RISING: &str = "\
+-1e500
+-1e36
+-1
+-1e-500
+0
+1e-500
+0.5
+1
+1.5
+1e20
+999999999999999999999999999999999999
+1e36
+1e37
+1e500";
 
-#[test]
-fn adds_and_subtracts_exactly(rt: HostRuntime) -> Result<(), Fail> {
-    for (left, right, want) in SUMS {
-        let left_value = Decimal::parse(left.as_bytes())?;
-        let right_value = Decimal::parse(right.as_bytes())?;
-        let sum = match want {
-            Some(literal) => Some(Decimal::parse(literal.as_bytes())?),
-            None => None,
-        };
-        assert!(rt;
-            left_value.checked_add(right_value) == sum,
-            "at {left} + {right}"
-        );
-        assert!(rt;
-            left_value.checked_sub(right_value.negate()) == sum,
-            "at {left} - -{right}"
-        );
-    }
-    Ok(())
+/// Whether two literals have the order of their places.
+fn are_in_order(one: (usize, &str), other: (usize, &str)) -> Result<bool, NumberFault> {
+    let value = Decimal::parse(one.1.as_bytes())?;
+    let other_value = Decimal::parse(other.1.as_bytes())?;
+    Ok(value.cmp(&other_value) == one.0.cmp(&other.0))
 }
 
 #[test]
 fn orders_by_value(rt: HostRuntime) -> Result<(), Fail> {
-    let rising = [
-        "-1e500",
-        "-1e36",
-        "-1",
-        "-1e-500",
-        "0",
-        "1e-500",
-        "0.5",
-        "1",
-        "1.5",
-        "1e20",
-        "999999999999999999999999999999999999",
-        "1e36",
-        "1e37",
-        "1e500",
-    ];
-    for (place, literal) in rising.iter().enumerate() {
-        let value = Decimal::parse(literal.as_bytes())?;
-        for (other_place, other_literal) in rising.iter().enumerate() {
-            let other = Decimal::parse(other_literal.as_bytes())?;
-            assert!(rt;
-                value.cmp(&other) == place.cmp(&other_place),
-                "at {literal} and {other_literal}"
-            );
+    for one in RISING.lines().enumerate() {
+        for other in RISING.lines().enumerate() {
+            assert!(rt; are_in_order(one, other)?, "at {} and {}", one.1, other.1);
         }
     }
     Ok(())
 }
 
+/// Literals of the least and the greatest parts, separated by spaces.
+const PACKED: &str =
+    "0 -1 0.1 999999999999999999999999999999999999e464 -999999999999999999999999999999999999e-500 1e500";
+
+fn is_packed(literal: &str) -> Result<bool, NumberFault> {
+    let value = Decimal::parse(literal.as_bytes())?;
+    Ok(PackedDecimal::of(value).value() == value)
+}
+
 #[test]
 fn packs_decimals(rt: HostRuntime) -> Result<(), Fail> {
-    let literals = [
-        "0",
-        "-1",
-        "0.1",
-        "999999999999999999999999999999999999e464",
-        "-999999999999999999999999999999999999e-500",
-        "1e500",
-    ];
-    for literal in literals {
-        let value = Decimal::parse(literal.as_bytes())?;
-        assert!(rt; PackedDecimal::of(value).value() == value, "{literal}");
+    for literal in PACKED.split(' ') {
+        assert!(rt; is_packed(literal)?, "at {literal}");
     }
     Ok(())
 }

@@ -1,71 +1,70 @@
 //! Tests of the limits of rows and the bounds of columns, on worked examples. `building.rt` tests models and their accessors.
 
+use crate::texts::{number, row_type, side, side_if_given};
 use mpslp_decimal::Decimal;
 use mpslp_model_core::{
     ColumnBounds, ColumnFault, DeclaredColumn, PackedColumn, PackedLimit, PackedRow, RowFault,
     RowLimits, UnpackedRowDefinition, is_faulty_row, kind_of_column_fault, kind_of_row_fault,
     limits_of, plain_limits, row_has,
 };
-use mpslp_types::{FaultKind, Kind, Limit, RowType};
-use std::test::Fail;
+use mpslp_types::{Kind, Limit, RowType};
 
-/// The number of a literal.
-fn number(text: &str) -> Decimal {
-    match Decimal::parse(text.as_bytes()) {
-        Ok(value) => value,
-        Err(_) => Decimal::zero(),
-    }
+/// A row: its type or its limits, its right-hand side and its range, if it has one.
+#[derive(Clone, Copy)]
+struct Row {
+    definition: UnpackedRowDefinition,
+    rhs: Decimal,
+    range: Option<Decimal>,
 }
 
-/// The number of a literal, if there is one.
-fn number_if_told(text: &str) -> Option<Decimal> {
-    if text.is_empty() {
-        None
-    } else {
-        Some(number(text))
-    }
-}
-
-/// The limit of a literal, which is infinite from 10^20 on.
-fn side(text: &str) -> Limit {
-    Limit::of(number(text))
-}
-
-/// The limit of a literal, if there is one.
-fn side_if_told(text: &str) -> Option<Limit> {
-    if text.is_empty() {
-        None
-    } else {
-        Some(side(text))
+/// The row of this type, right-hand side and range, separated by spaces. Without a range it has `-`.
+fn row_of(text: &str) -> Row {
+    let mut words = text.split(' ');
+    let row_type = row_type(words.next().unwrap_or(""));
+    let rhs = number(words.next().unwrap_or(""));
+    let range = match words.next() {
+        None | Some("-") => None,
+        Some(range) => Some(number(range)),
+    };
+    Row {
+        definition: UnpackedRowDefinition::ByType(row_type),
+        rhs,
+        range,
     }
 }
 
 /// Rows by type, right-hand side and optional range, and their limits.
-const LIMITED: [(RowType, &str, &str, &str, &str); 9] = [
-    (RowType::Free, "7", "", "-1e20", "1e20"),
-    (RowType::AtMost, "4", "", "-1e20", "4"),
-    (RowType::AtLeast, "4", "", "4", "1e20"),
-    (RowType::Equal, "4", "", "4", "4"),
-    (RowType::AtMost, "4", "-2.5", "1.5", "4"),
-    (RowType::AtLeast, "4", "-2.5", "4", "6.5"),
-    (RowType::Equal, "4", "2.5", "4", "6.5"),
-    (RowType::Equal, "4", "-2.5", "1.5", "4"),
-    (RowType::Equal, "4", "0", "4", "4"),
-];
+const LIMITED: &str = "\
+N 7 - => -1e20 1e20
+L 4 - => -1e20 4
+G 4 - => 4 1e20
+E 4 - => 4 4
+L 4 -2.5 => 1.5 4
+G 4 -2.5 => 4 6.5
+E 4 2.5 => 4 6.5
+E 4 -2.5 => 1.5 4
+E 4 0 => 4 4";
 
-/// The limits of a row by type, right-hand side and optional range.
-fn limits_by_type(row_type: RowType, rhs: &str, range: &str) -> RowLimits {
-    let definition = UnpackedRowDefinition::ByType(row_type);
-    let found = limits_of(&definition, number(rhs), &number_if_told(range));
-    found.unwrap_or(plain_limits(RowType::Free, Decimal::zero()))
+/// The limits of a row, or none if it has none.
+fn limits_of_row(row: Row) -> RowLimits {
+    limits_of(&row.definition, row.rhs, &row.range).unwrap_or(plain_limits(
+        RowType::Free,
+        Decimal::zero(),
+    ))
+}
+
+/// Whether a row has the limits after the arrow.
+fn is_limited(line: &str) -> bool {
+    let (row, limits) = line.split_once(" => ").unwrap_or((line, ""));
+    let (lower, upper) = limits.split_once(' ').unwrap_or(("", ""));
+    let limits = limits_of_row(row_of(row));
+    limits.lower == side(lower) && limits.upper == side(upper)
 }
 
 #[test]
 fn limits_rows_by_their_type(rt: HostRuntime) {
-    for (row_type, rhs, range, lower, upper) in &LIMITED {
-        let limits = limits_by_type(*row_type, rhs, range);
-        assert!(rt; limits.lower == side(lower), "lower of {rhs} with {range}");
-        assert!(rt; limits.upper == side(upper), "upper of {rhs} with {range}");
+    for line in LIMITED.lines() {
+        assert!(rt; is_limited(line), "at {line}");
     }
 }
 
@@ -80,12 +79,8 @@ fn limits_a_row_by_both_limits(rt: HostRuntime) {
     assert!(rt; limits.upper == Limit::PlusInf);
 }
 
-/// The first error of a row.
-fn row_fault(
-    definition: &UnpackedRowDefinition,
-    rhs: Decimal,
-    range: &Option<Decimal>,
-) -> Option<FaultKind> {
+/// The name of the first error of a row, or none.
+fn row_fault(row: &Row) -> &'static str {
     let faults = [
         RowFault::InfiniteLimit,
         RowFault::RangeInexact,
@@ -93,93 +88,105 @@ fn row_fault(
         RowFault::LimitsCrossed,
     ];
     for fault in faults {
-        if row_has(fault, definition, rhs, range) {
-            return Some(kind_of_row_fault(fault));
+        if row_has(fault, &row.definition, row.rhs, &row.range) {
+            return kind_of_row_fault(fault).text();
         }
     }
-    None
+    ""
 }
 
 /// Rows by type, right-hand side and optional range, and their first error.
-const FAULTY_ROWS: [(RowType, &str, &str, Option<FaultKind>); 8] = [
-    (RowType::AtMost, "4", "2", None),
-    (RowType::AtMost, "1e20", "", None),
-    (RowType::AtMost, "-1e20", "", Some(FaultKind::InfiniteLimit)),
-    (RowType::AtLeast, "1e20", "", Some(FaultKind::InfiniteLimit)),
-    (RowType::Equal, "1e25", "", Some(FaultKind::InfiniteLimit)),
-    (RowType::AtMost, "1e20", "1", Some(FaultKind::InfiniteLimit)),
-    (
-        RowType::AtMost,
-        "1",
-        "1e-500",
-        Some(FaultKind::RangeInexact),
-    ),
-    (
-        RowType::AtLeast,
-        "9e19",
-        "1e19",
-        Some(FaultKind::LimitTooLarge),
-    ),
-];
+const FAULTY_ROWS: &str = "\
+L 4 2
+L 1e20 -
+L -1e20 -: InfiniteLimit
+G 1e20 -: InfiniteLimit
+E 1e25 -: InfiniteLimit
+L 1e20 1: InfiniteLimit
+L 1 1e-500: RangeInexact
+G 9e19 1e19: LimitTooLarge";
+
+/// Whether a row has the error after the colon, or none.
+fn row_has_its_fault(line: &str) -> bool {
+    let (row, fault) = line.split_once(": ").unwrap_or((line, ""));
+    let row = row_of(row);
+    let is_faulty = is_faulty_row(&row.definition, row.rhs, &row.range);
+    row_fault(&row) == fault && is_faulty != fault.is_empty()
+}
 
 #[test]
 fn tells_what_is_wrong_with_a_row(rt: HostRuntime) {
-    for (row_type, rhs, range, fault) in FAULTY_ROWS {
-        let definition = UnpackedRowDefinition::ByType(row_type);
-        let told = number_if_told(range);
-        assert_eq!(rt;
-            row_fault(&definition, number(rhs), &told),
-            fault,
-            "{rhs} with {range}"
-        );
-        assert_eq!(rt;
-            is_faulty_row(&definition, number(rhs), &told),
-            fault.is_some(),
-            "{rhs} with {range}"
-        );
+    for line in FAULTY_ROWS.lines() {
+        assert!(rt; row_has_its_fault(line), "at {line}");
     }
-    let crossed = UnpackedRowDefinition::ByLimits(side("2"), side("1"));
-    assert_eq!(rt;
-        row_fault(&crossed, Decimal::zero(), &None),
-        Some(FaultKind::LimitsCrossed)
-    );
+    let crossed = Row {
+        definition: UnpackedRowDefinition::ByLimits(side("2"), side("1")),
+        rhs: Decimal::zero(),
+        range: None,
+    };
+    assert_eq!(rt; row_fault(&crossed), "LimitsCrossed");
 }
 
-/// A column of which only these bounds are declared.
-fn sided(lower: &str, upper: &str) -> DeclaredColumn {
+/// The column of these bounds and this mark, separated by spaces: `-` for a bound that is not declared, then `marked`, `binary`,
+/// `semi` or no mark.
+fn column_of(text: &str) -> DeclaredColumn {
+    let mut words = text.split(' ');
+    let lower = side_if_given(words.next().unwrap_or("-"));
+    let upper = side_if_given(words.next().unwrap_or("-"));
+    let mark = words.next().unwrap_or("");
     DeclaredColumn {
-        lower: side_if_told(lower),
-        upper: side_if_told(upper),
-        marked: false,
+        lower,
+        upper,
+        marked: mark == "marked",
         integer: false,
-        binary: false,
-        semi: false,
+        binary: mark == "binary",
+        semi: mark == "semi",
+    }
+}
+
+/// Columns by what is declared of them, and their bounds and their kind.
+const BOUNDED: &str = "\
+- - => 0 1e20 continuous
+-3 2.5 => -3 2.5 continuous
+- - marked => 0 1 integer
+- - binary => 0 1 integer";
+
+fn name_of_kind(kind: Kind) -> &'static str {
+    match kind {
+        Kind::Continuous => "continuous",
+        Kind::Integer => "integer",
+        Kind::Semi => "semi",
+    }
+}
+
+/// Whether these are the bounds and the kind of a text.
+fn are_bounds(bounds: ColumnBounds, text: &str) -> bool {
+    let mut words = text.split(' ');
+    let lower = side(words.next().unwrap_or(""));
+    let upper = side(words.next().unwrap_or(""));
+    let kind = words.next().unwrap_or("");
+    bounds.lower == lower && (bounds.upper == upper && name_of_kind(bounds.kind) == kind)
+}
+
+/// Whether a column has the bounds and the kind after the arrow.
+fn is_bounded(line: &str) -> bool {
+    match line.split_once(" => ") {
+        Some((column, bounds)) => are_bounds(column_of(column).bounds(), bounds),
+        None => false,
     }
 }
 
 #[test]
 fn bounds_columns_by_what_is_declared(rt: HostRuntime) {
-    let plain = sided("", "").bounds();
-    assert!(rt; plain.lower == side("0") && plain.upper == Limit::PlusInf);
-    assert!(rt; plain.kind == Kind::Continuous);
-    let given = sided("-3", "2.5").bounds();
-    assert!(rt; given.lower == side("-3") && given.upper == side("2.5"));
-    let marked = DeclaredColumn {
-        marked: true,
-        ..sided("", "")
-    };
+    for line in BOUNDED.lines() {
+        assert!(rt; is_bounded(line), "at {line}");
+    }
+    let marked = column_of("- - marked");
     assert!(rt; marked.is_integer() && !marked.is_faulty());
-    assert!(rt; marked.bounds().upper == side("1"));
-    let binary = DeclaredColumn {
-        binary: true,
-        ..sided("", "")
-    };
-    assert!(rt; binary.bounds().kind == Kind::Integer);
-    assert!(rt; binary.bounds().upper == side("1"));
 }
 
-/// The first error of a column.
-fn column_fault(column: &DeclaredColumn) -> Option<FaultKind> {
+/// The name of the first error of a column, or none.
+fn column_fault(column: &DeclaredColumn) -> &'static str {
     let faults = [
         ColumnFault::NegativeUpper,
         ColumnFault::BoundsCrossed,
@@ -188,34 +195,34 @@ fn column_fault(column: &DeclaredColumn) -> Option<FaultKind> {
     ];
     for fault in faults {
         if column.has_fault(fault) {
-            return Some(kind_of_column_fault(fault));
+            return kind_of_column_fault(fault).text();
         }
     }
-    None
+    ""
+}
+
+/// Columns by what is declared of them, and their first error.
+const FAULTY_COLUMNS: &str = "\
+-1 1
+- -1: NegativeUpper
+2 1: BoundsCrossed
+0 2 binary: BinaryBounds
+0 1e20 semi: SemiBounds";
+
+/// Whether a column has the error after the colon, or none.
+fn column_has_its_fault(line: &str) -> bool {
+    let (column, fault) = line.split_once(": ").unwrap_or((line, ""));
+    column_fault(&column_of(column)) == fault
 }
 
 #[test]
 fn tells_what_is_wrong_with_a_column(rt: HostRuntime) {
-    assert_eq!(rt; column_fault(&sided("-1", "1")), None);
-    assert_eq!(rt;
-        column_fault(&sided("", "-1")),
-        Some(FaultKind::NegativeUpper)
-    );
-    assert_eq!(rt;
-        column_fault(&sided("2", "1")),
-        Some(FaultKind::BoundsCrossed)
-    );
-    let binary = DeclaredColumn {
-        binary: true,
-        ..sided("0", "2")
-    };
-    assert_eq!(rt; column_fault(&binary), Some(FaultKind::BinaryBounds));
-    let semi = DeclaredColumn {
-        semi: true,
-        ..sided("0", "1e20")
-    };
-    assert_eq!(rt; column_fault(&semi), Some(FaultKind::SemiBounds));
-    assert!(rt; semi.is_faulty() && semi.bounds().kind == Kind::Semi);
+    for line in FAULTY_COLUMNS.lines() {
+        assert!(rt; column_has_its_fault(line), "at {line}");
+    }
+    let semi = column_of("0 1e20 semi");
+    let is_semi = semi.bounds().kind == Kind::Semi;
+    assert_eq!(rt; (semi.is_faulty(), is_semi), (true, true));
 }
 
 #[test]

@@ -25,3 +25,5 @@ mod order;
 mod pieces;
 #[cfg(test)]
 mod streams;
+#[cfg(test)]
+mod texts;

@@ -26,25 +26,24 @@ fn copies_the_bytes_of_a_legal_name(rt: HostRuntime) -> Result<(), Fail> {
     Ok(())
 }
 
+/// The error of a text that is no name.
+fn fault_of(alloc: Global, text: &[u8]) -> Option<NameFault> {
+    Name::new(alloc, text).err()
+}
+
 #[test]
 fn refuses_what_is_no_name(rt: HostRuntime) {
     let alloc = rt.alloc();
+    let lengths = [fault_of(alloc, b""), fault_of(alloc, &[b'a'; 256])];
+    let bytes = [fault_of(alloc, b"a b"), fault_of(alloc, b"'MARKER'")];
+    let checked = [
+        Name::check(b"LIM1".as_slice()),
+        Name::check(b"a b".as_slice()),
+    ];
+    assert_eq!(rt; lengths, [Some(NameFault::NameLength); 2]);
     assert_eq!(rt;
-        Name::new(alloc, b"".as_slice()).err(),
-        Some(NameFault::NameLength)
+        bytes,
+        [Some(NameFault::NameByte), Some(NameFault::NameMarker)]
     );
-    assert_eq!(rt;
-        Name::new(alloc, [b'a'; 256].as_slice()).err(),
-        Some(NameFault::NameLength)
-    );
-    assert_eq!(rt;
-        Name::new(alloc, b"a b".as_slice()).err(),
-        Some(NameFault::NameByte)
-    );
-    assert_eq!(rt;
-        Name::new(alloc, b"'MARKER'".as_slice()).err(),
-        Some(NameFault::NameMarker)
-    );
-    assert_eq!(rt; Name::check(b"LIM1".as_slice()), Ok(()));
-    assert_eq!(rt; Name::check(b"a b".as_slice()), Err(NameFault::NameByte));
+    assert_eq!(rt; checked, [Ok(()), Err(NameFault::NameByte)]);
 }

@@ -5,28 +5,25 @@ use mpslp_types::Name;
 use std::alloc::Global;
 use std::test::Fail;
 
-fn named(alloc: Global, names: &[&[u8]]) -> Result<Vec<(Name, u8)>, Fail> {
+/// Entries with these names.
+fn named(alloc: Global, names: &str) -> Result<Vec<(Name, u8)>, Fail> {
     let mut entries = Vec::new(alloc);
-    for name in names {
-        entries.push((Name::new(alloc, name)?, 0))?;
+    for name in names.split(' ') {
+        entries.push((Name::new(alloc, name.as_bytes())?, 0))?;
     }
     Ok(entries)
 }
 
+/// The places of these names, in their byte order.
+fn places(alloc: Global, names: &str) -> Result<Vec<usize>, Fail> {
+    let entries = named(alloc, names)?;
+    Ok(order_of(alloc, &entries)?)
+}
+
 #[test]
 fn names_come_in_byte_order(rt: HostRuntime) -> Result<(), Fail> {
-    let alloc = rt.alloc();
-    let names = [
-        b"same_front_2".as_slice(),
-        b"same_fron",
-        b"b",
-        b"same_front_1",
-        b"B",
-        b"same_front",
-        b"~",
-    ];
-    let entries = named(alloc, &names)?;
-    let order = order_of(alloc, &entries)?;
+    let names = "same_front_2 same_fron b same_front_1 B same_front ~";
+    let order = places(rt.alloc(), names)?;
     assert_eq!(rt; order.as_slice(), [4usize, 2, 1, 5, 3, 0, 6].as_slice());
     Ok(())
 }

@@ -109,16 +109,22 @@ fn flushes<S: Sink>(
     sink.flush() == answer && (sink.has_failed() == has_failed && sink.calls() == calls)
 }
 
+/// Whether a source has two bytes, then one, and then none, and puts them into the buffer.
+fn reads_three_bytes<S: Source>(source: &mut S) -> [bool; 6] {
+    let mut buffer = [0; 2];
+    let is_new = source.calls() == 0;
+    let reads_two = reads(source, &mut buffer, Ok(2), false, 1);
+    let has_two = buffer.as_slice() == b"ab".as_slice();
+    let reads_one = reads(source, &mut buffer, Ok(1), false, 2);
+    let has_one = buffer[0] == b'c';
+    let reads_none = reads(source, &mut buffer, Ok(0), false, 3);
+    [is_new, reads_two, has_two, reads_one, has_one, reads_none]
+}
+
 #[test]
 fn reads_to_the_end(rt: HostRuntime) {
-    let mut source = FromRead::new(b"abc".as_slice());
-    let mut buffer = [0; 2];
-    assert_eq!(rt; source.calls(), 0);
-    assert!(rt; reads(&mut source, &mut buffer, Ok(2), false, 1));
-    assert_eq!(rt; buffer.as_slice(), b"ab".as_slice());
-    assert!(rt; reads(&mut source, &mut buffer, Ok(1), false, 2));
-    assert_eq!(rt; buffer[0], b'c');
-    assert!(rt; reads(&mut source, &mut buffer, Ok(0), false, 3));
+    let answers = reads_three_bytes(&mut FromRead::new(b"abc".as_slice()));
+    assert_eq!(rt; answers, [true; 6]);
 }
 
 #[test]
@@ -162,11 +168,16 @@ fn takes_and_flushes<S: Sink>(sink: &mut S) -> bool {
     is_new && (takes_bytes && (takes_none && is_flushed))
 }
 
+/// Whether a sink into a vector takes three bytes and is flushed, and whether the vector has the bytes then.
+fn writes_into_a_vector(alloc: Global) -> (bool, bool) {
+    let mut held = Vec::new(alloc);
+    let is_taken = takes_and_flushes(&mut ToWrite::new(&mut held));
+    (is_taken, held.as_slice() == b"abc".as_slice())
+}
+
 #[test]
 fn writes_and_flushes(rt: HostRuntime) {
-    let mut held = Vec::new(rt.alloc());
-    assert!(rt; takes_and_flushes(&mut ToWrite::new(&mut held)));
-    assert_eq!(rt; held.as_slice(), b"abc".as_slice());
+    assert_eq!(rt; writes_into_a_vector(rt.alloc()), (true, true));
 }
 
 /// Whether a sink with room for 10 bytes takes them and then fails.

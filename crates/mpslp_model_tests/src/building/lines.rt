@@ -1,121 +1,125 @@
 //! Tests of the calls that declare a line of a column.
 
-use super::{WITH_ROWS, built, finished, has_line, named, number, text_of};
+use super::calls::{built, named};
+use super::{WITH_ROWS, first_absent, text_of_finished};
+use crate::texts::number;
 use mpslp_builder::{Builder, Entries, Entry};
 use mpslp_types::BuildFault;
 use std::alloc::Global;
 use std::test::Fail;
 
-/// A row and its value, as texts.
-type Pair<'a> = (&'a str, &'a str);
-
-/// A line of a new column or of the column before, with one or two values.
-#[derive(Clone, Copy)]
-enum Line<'a> {
-    First(&'a str, bool, Pair<'a>, Option<Pair<'a>>),
-    Next(&'a str, bool, Pair<'a>, Option<Pair<'a>>),
-}
-
-/// A coefficient.
-fn entry_of<'a>(pair: Pair<'a>) -> Entry<'a> {
+/// The coefficient of a row and a value, as in `r 2`.
+fn entry_of(text: &str) -> Entry<'_> {
+    let (row, value) = text.split_once(' ').unwrap_or((text, ""));
     Entry {
-        row: pair.0.as_bytes(),
-        value: number(pair.1),
+        row: row.as_bytes(),
+        value: number(value),
     }
 }
 
-/// One or two coefficients.
-fn entries_of<'a>(first: Pair<'a>, second: Option<Pair<'a>>) -> Entries<'a> {
-    let first = entry_of(first);
-    match second {
-        Some(pair) => Entries {
-            first,
-            second: Some(entry_of(pair)),
+/// One coefficient, or two with a comma between them.
+fn entries_of(text: &str) -> Entries<'_> {
+    match text.split_once(", ") {
+        Some((first, second)) => Entries {
+            first: entry_of(first),
+            second: Some(entry_of(second)),
         },
         None => Entries {
-            first,
+            first: entry_of(text),
             second: None,
         },
     }
 }
 
-/// Declares a line. Whether it is taken.
-fn line_of(builder: &mut Builder, alloc: Global, line: Line<'_>) -> Result<bool, BuildFault> {
-    match line {
-        Line::First(column, is_marked, pair, other) => {
-            let Entries { first, second } = entries_of(pair, other);
-            builder.first_line(named(alloc, column)?, is_marked, &Entries { first, second })
-        }
-        Line::Next(column, is_marked, pair, other) => {
-            let Entries { first, second } = entries_of(pair, other);
-            builder.next_line(column.as_bytes(), is_marked, &Entries { first, second })
-        }
+/// Declares a line of the column of a text such as `first x` or `next x marked`. Whether it is taken.
+fn declare(
+    builder: &mut Builder,
+    alloc: Global,
+    column: &str,
+    entries: &Entries<'_>,
+) -> Result<bool, BuildFault> {
+    let mut words = column.split(' ');
+    let place = words.next().unwrap_or("");
+    let name = words.next().unwrap_or("");
+    let is_marked = words.next().unwrap_or("") == "marked";
+    if place == "first" {
+        builder.first_line(named(alloc, name)?, is_marked, entries)
+    } else {
+        builder.next_line(name.as_bytes(), is_marked, entries)
     }
 }
 
-/// Lines in turn, and whether each is taken.
-const LINES: [(Line<'static>, bool); 10] = [
-    (Line::First("x", false, ("f", "1"), Some(("r", "2"))), true),
-    (Line::Next("x", false, ("s", "3"), None), true),
-    (Line::Next("x", false, ("s", "4"), None), false),
-    (Line::First("x", false, ("r", "5"), None), false),
-    (Line::First("y", true, ("r", "1"), Some(("r", "2"))), false),
-    (Line::First("y", true, ("r", "1"), Some(("q", "1"))), false),
-    (Line::Next("y", true, ("r", "1"), None), false),
-    (Line::First("y", true, ("r", "6"), None), true),
-    (Line::Next("y", true, ("s", "7"), Some(("f", "8"))), true),
-    (Line::Next("y", true, ("s", "7"), Some(("f", "8"))), false),
-];
+/// Declares the line before the arrow. Whether it is taken.
+fn declare_line(builder: &mut Builder, alloc: Global, line: &str) -> Result<bool, BuildFault> {
+    let (column, entries) = line.split_once(": ").unwrap_or((line, ""));
+    let Entries { first, second } = entries_of(entries);
+    declare(builder, alloc, column, &Entries { first, second })
+}
 
-/// The index of the first line with another result.
-fn first_other_line(
+/// Lines in turn, and whether each is taken.
+const LINES: &str = "\
+first x: f 1, r 2 => taken
+next x: s 3 => taken
+next x: s 4 => not taken
+first x: r 5 => not taken
+first y marked: r 1, r 2 => not taken
+first y marked: r 1, q 1 => not taken
+next y marked: r 1 => not taken
+first y marked: r 6 => taken
+next y marked: s 7, f 8 => taken
+next y marked: s 7, f 8 => not taken";
+
+/// Declares the line before the arrow. Whether it is taken or not, as after the arrow.
+fn is_right(builder: &mut Builder, alloc: Global, line: &str) -> Result<bool, BuildFault> {
+    let (line, expected) = line.split_once(" => ").unwrap_or((line, ""));
+    let is_taken = declare_line(builder, alloc, line)?;
+    let answer = if is_taken { "taken" } else { "not taken" };
+    Ok(answer == expected)
+}
+
+/// The first line with another result.
+fn first_wrong<'a>(
     builder: &mut Builder,
     alloc: Global,
-    lines: &[(Line<'_>, bool)],
-) -> Result<Option<usize>, BuildFault> {
-    let mut index: usize = 0;
-    for (line, is_taken) in lines {
-        if line_of(builder, alloc, *line)? != *is_taken {
-            return Ok(Some(index));
+    lines: &'a str,
+) -> Result<Option<&'a str>, BuildFault> {
+    for line in lines.lines() {
+        if !is_right(builder, alloc, line)? {
+            return Ok(Some(line));
         }
-        index = index.saturating_add(1);
     }
     Ok(None)
 }
 
-/// The index of the first line of one builder with another result.
-fn first_other_line_of(
+/// A builder after these lines, and the first of them with another result, after which none is declared.
+fn with_lines<'a>(alloc: Global, lines: &'a str) -> Result<(Builder, Option<&'a str>), BuildFault> {
+    let mut builder = built(alloc, WITH_ROWS)?;
+    let wrong = first_wrong(&mut builder, alloc, lines)?;
+    Ok((builder, wrong))
+}
+
+/// The first line of one builder with another result, and the accessors' results after the lines up to it.
+fn outcome_of_lines<'a>(
     alloc: Global,
-    lines: &[(Line<'_>, bool)],
-) -> Result<Option<usize>, BuildFault> {
-    let mut builder = built(alloc, &WITH_ROWS)?;
-    first_other_line(&mut builder, alloc, lines)
+    lines: &'a str,
+) -> Result<(Option<&'a str>, Vec<u8>), BuildFault> {
+    let (builder, wrong) = with_lines(alloc, lines)?;
+    Ok((wrong, text_of_finished(alloc, builder)?))
 }
 
-/// The builder after these lines.
-fn with_lines(alloc: Global, lines: &[(Line<'_>, bool)]) -> Result<Builder, BuildFault> {
-    let mut builder = built(alloc, &WITH_ROWS)?;
-    for (line, _) in lines {
-        line_of(&mut builder, alloc, *line)?;
-    }
-    Ok(builder)
-}
-
-/// The accessors' results after these lines.
-fn views_of_lines(alloc: Global, lines: &[(Line<'_>, bool)]) -> Result<Vec<u8>, BuildFault> {
-    let answer = finished(with_lines(alloc, lines)?);
-    Ok(text_of(alloc, &answer)?)
-}
+/// Lines of the model.
+const EXPECTED: &str = "\
+column x continuous 0 inf objective 1
+column y integer 0 1 objective 8
+entry r 2 2
+entry s 3 3
+entry r 6 6
+entry s 7 7";
 
 #[test]
 fn declares_lines_of_columns(rt: HostRuntime) -> Result<(), Fail> {
-    let lines = LINES.as_slice();
-    assert_eq!(rt; first_other_line_of(rt.alloc(), lines)?, None);
-    let views = views_of_lines(rt.alloc(), lines)?;
-    let text = views.as_slice();
-    assert!(rt; has_line(text, "column x continuous 0 inf objective 1"));
-    assert!(rt; has_line(text, "column y integer 0 1 objective 8"));
-    assert!(rt; has_line(text, "entry r 2 2") && has_line(text, "entry s 3 3"));
-    assert!(rt; has_line(text, "entry r 6 6") && has_line(text, "entry s 7 7"));
+    let (wrong, views) = outcome_of_lines(rt.alloc(), LINES)?;
+    let absent = first_absent(&views, EXPECTED);
+    assert_eq!(rt; (wrong, absent), (None, None));
     Ok(())
 }

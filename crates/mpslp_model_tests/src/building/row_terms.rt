@@ -1,50 +1,65 @@
 //! Tests of the calls that declare the terms of a row.
 
-use super::{WITH_ROWS, built, finished, has_line, named, number, text_of};
+use super::calls::{built, named};
+use super::{WITH_ROWS, first_absent, has_line, text_of_finished};
+use crate::texts::number;
 use mpslp_builder::{Builder, RowTerms};
 use mpslp_types::BuildFault;
 use mpslp_types::laws::each_name_is_legal;
 use std::alloc::Global;
 use std::test::Fail;
 
-/// A column and its value, as texts.
-type Term<'a> = (&'a str, &'a str);
+/// Terms out of byte order. Each is a column and its value.
+const TERMS: &str = "\
+b 2
+d 4
+c 3
+a 1";
 
-/// Terms out of byte order.
-const TERMS: [Term<'static>; 4] = [("b", "2"), ("d", "4"), ("c", "3"), ("a", "1")];
+/// The column and the value of a term.
+fn parts_of(term: &str) -> (&str, &str) {
+    term.split_once(' ').unwrap_or((term, ""))
+}
 
 /// Adds a term. Whether its column is new.
-fn add(alloc: Global, terms: &mut RowTerms, term: Term<'_>) -> Result<bool, BuildFault> {
-    let name = named(alloc, term.0)?;
+fn add(alloc: Global, terms: &mut RowTerms, term: &str) -> Result<bool, BuildFault> {
+    let (column, value) = parts_of(term);
+    let name = named(alloc, column)?;
     each_name_is_legal(&name);
-    Ok(terms.add(alloc, name.as_bytes(), number(term.1))?)
+    Ok(terms.add(alloc, name.as_bytes(), number(value))?)
 }
 
 /// Whether the column of each of these terms is new among those before it.
-fn are_new(alloc: Global, terms: &[Term<'_>]) -> Result<bool, BuildFault> {
+fn are_new(alloc: Global, terms: &str) -> Result<bool, BuildFault> {
     let mut kept = RowTerms::new(alloc);
-    for term in terms {
-        if !add(alloc, &mut kept, *term)? {
+    for term in terms.lines() {
+        if !add(alloc, &mut kept, term)? {
             return Ok(false);
         }
     }
     Ok(kept.are_few())
 }
 
-/// Declares these terms of a row by one call.
-fn declare(
-    alloc: Global,
-    builder: &mut Builder,
-    row: &str,
-    terms: &[Term<'_>],
-) -> Result<(), BuildFault> {
-    let mut kept = RowTerms::new(alloc);
-    add(alloc, &mut kept, ("x", "7"))?;
-    kept.clear();
-    for term in terms {
-        add(alloc, &mut kept, *term)?;
+/// Adds these terms.
+fn add_all(alloc: Global, kept: &mut RowTerms, terms: &str) -> Result<(), BuildFault> {
+    for term in terms.lines() {
+        add(alloc, kept, term)?;
     }
-    builder.row_terms(row.as_bytes(), &kept)
+    Ok(())
+}
+
+/// These terms, added after another one was cleared.
+fn terms_of(alloc: Global, terms: &str) -> Result<RowTerms, BuildFault> {
+    let mut kept = RowTerms::new(alloc);
+    add(alloc, &mut kept, "x 7")?;
+    kept.clear();
+    add_all(alloc, &mut kept, terms)?;
+    Ok(kept)
+}
+
+/// Declares these terms of a row by one call.
+fn declare(alloc: Global, builder: &mut Builder, row: &str, terms: &str) -> Result<(), BuildFault> {
+    builder.row_terms(row.as_bytes(), &terms_of(alloc, terms)?)
 }
 
 /// Declares a term of a row.
@@ -52,76 +67,84 @@ fn declare_one(
     alloc: Global,
     builder: &mut Builder,
     row: &str,
-    term: Term<'_>,
+    term: &str,
 ) -> Result<(), BuildFault> {
-    let name = named(alloc, term.0)?;
+    let (column, value) = parts_of(term);
+    let name = named(alloc, column)?;
     each_name_is_legal(&name);
-    builder.row_term(row.as_bytes(), name.as_bytes(), number(term.1))
+    builder.row_term(row.as_bytes(), name.as_bytes(), number(value))
 }
 
 /// A builder with the objective f, the rows r and s, and these terms of r.
-fn with_terms(alloc: Global, terms: &[Term<'_>]) -> Result<Builder, BuildFault> {
-    let mut builder = built(alloc, &WITH_ROWS)?;
+fn with_terms(alloc: Global, terms: &str) -> Result<Builder, BuildFault> {
+    let mut builder = built(alloc, WITH_ROWS)?;
     declare(alloc, &mut builder, "r", terms)?;
     Ok(builder)
 }
 
 /// Declares a term of s and one of the objective.
 fn declare_others(alloc: Global, builder: &mut Builder) -> Result<(), BuildFault> {
-    declare_one(alloc, builder, "s", ("e", "5"))?;
-    declare_one(alloc, builder, "f", ("a", "6"))
+    declare_one(alloc, builder, "s", "e 5")?;
+    declare_one(alloc, builder, "f", "a 6")
 }
 
 /// The builder after these terms of r and some others.
-fn with_all_terms(alloc: Global, terms: &[Term<'_>]) -> Result<Builder, BuildFault> {
+fn with_all_terms(alloc: Global, terms: &str) -> Result<Builder, BuildFault> {
     let mut builder = with_terms(alloc, terms)?;
     declare_others(alloc, &mut builder)?;
     Ok(builder)
 }
 
 /// The accessors' results after these terms of r and some others.
-fn views_of_terms(alloc: Global, terms: &[Term<'_>]) -> Result<Vec<u8>, BuildFault> {
-    let answer = finished(with_all_terms(alloc, terms)?);
-    Ok(text_of(alloc, &answer)?)
+fn views_of_terms(alloc: Global, terms: &str) -> Result<Vec<u8>, BuildFault> {
+    let builder = with_all_terms(alloc, terms)?;
+    Ok(text_of_finished(alloc, builder)?)
 }
+
+/// Lines of the model.
+const EXPECTED: &str = "\
+column a continuous 0 inf objective 6
+entry r 1 1
+entry r 2 2
+entry r 3 3
+entry r 4 4
+entry s 5 5";
 
 #[test]
 fn declares_terms_of_rows(rt: HostRuntime) -> Result<(), Fail> {
-    let views = views_of_terms(rt.alloc(), &TERMS)?;
-    let text = views.as_slice();
-    assert!(rt; has_line(text, "column a continuous 0 inf objective 6"));
-    assert!(rt; has_line(text, "entry r 1 1") && has_line(text, "entry r 2 2"));
-    assert!(rt; has_line(text, "entry r 3 3") && has_line(text, "entry r 4 4"));
-    assert!(rt; has_line(text, "entry s 5 5") && !has_line(text, "entry r 7 7"));
+    let views = views_of_terms(rt.alloc(), TERMS)?;
+    let has_cleared_term = has_line(&views, "entry r 7 7");
+    let absent = first_absent(&views, EXPECTED);
+    assert_eq!(rt; (absent, has_cleared_term), (None, false));
     Ok(())
 }
 
 #[test]
 fn finds_columns_twice_in_a_row(rt: HostRuntime) -> Result<(), Fail> {
-    assert!(rt; are_new(rt.alloc(), &TERMS)?);
-    assert!(rt; !are_new(rt.alloc(), &[("a", "1"), ("b", "2"), ("a", "3")])?);
-    assert!(rt; !are_new(rt.alloc(), &[("b", "1"), ("a", "2"), ("a", "3")])?);
+    assert!(rt; are_new(rt.alloc(), TERMS)?);
+    assert!(rt; !are_new(rt.alloc(), "a 1\nb 2\na 3")?);
+    assert!(rt; !are_new(rt.alloc(), "b 1\na 2\na 3")?);
     Ok(())
 }
 
 /// Whether a builder rejects a second term of r, and a term of no row.
 fn refuses_one(alloc: Global, builder: &mut Builder) -> bool {
-    let second = declare_one(alloc, builder, "r", ("c", "1"));
-    let unknown = declare_one(alloc, builder, "q", ("c", "1"));
+    let second = declare_one(alloc, builder, "r", "c 1");
+    let unknown = declare_one(alloc, builder, "q", "c 1");
     second == Err(BuildFault::DuplicateEntry) && unknown == Err(BuildFault::UnknownRow)
 }
 
 /// Whether a builder rejects these terms of r once more, and of no row, but not that no row has no terms.
-fn refuses_all(alloc: Global, builder: &mut Builder, terms: &[Term<'_>]) -> bool {
+fn refuses_all(alloc: Global, builder: &mut Builder, terms: &str) -> bool {
     let second = declare(alloc, builder, "r", terms);
     let unknown = declare(alloc, builder, "q", terms);
-    let none = declare(alloc, builder, "q", &[]);
+    let none = declare(alloc, builder, "q", "");
     second == Err(BuildFault::DuplicateEntry)
         && (unknown == Err(BuildFault::UnknownRow) && none == Ok(()))
 }
 
 /// Whether a second term of a row and a term of no row have their errors, and whether several have them.
-fn are_refused(alloc: Global, terms: &[Term<'_>]) -> Result<(bool, bool), BuildFault> {
+fn are_refused(alloc: Global, terms: &str) -> Result<(bool, bool), BuildFault> {
     let mut builder = with_terms(alloc, terms)?;
     let is_one_refused = refuses_one(alloc, &mut builder);
     let are_all_refused = refuses_all(alloc, &mut builder, terms);
@@ -130,7 +153,7 @@ fn are_refused(alloc: Global, terms: &[Term<'_>]) -> Result<(bool, bool), BuildF
 
 #[test]
 fn refuses_terms(rt: HostRuntime) -> Result<(), Fail> {
-    let (is_one_refused, are_all_refused) = are_refused(rt.alloc(), &TERMS)?;
+    let (is_one_refused, are_all_refused) = are_refused(rt.alloc(), TERMS)?;
     assert!(rt; is_one_refused && are_all_refused);
     Ok(())
 }
