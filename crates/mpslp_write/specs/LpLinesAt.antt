@@ -1,8 +1,9 @@
 -- Lines of canonical LP that are printed for one entry after another.
 use Rattle.std.specs.Prelude.{◌≡◌, ◌+◌, ◌<◌, ℕ, Bool, true, false, List, [], ◌∷◌, length, slice_get, slice_index_or, Option, Some, None, if◌then◌else◌}
+use Rattle.std.specs.Borrow.{Bor}
 use Rattle.std.specs.FinMap.{entries}
 use Rattle.mpslp_model_core.specs.Model.{LinearModel, Column, Listing, listing_of}
-use Rattle.mpslp_model_core.specs.Views.{row_name, row_columns, column_name, coefficient_at}
+use Rattle.mpslp_model_core.specs.Views.{row_name, row_columns, column_name, column_names, coefficient_at}
 use Rattle.mpslp_types.specs.declared.kinds.Kind.{Kind}
 use Rattle.mpslp_decimal.specs.Decimal.{Number, have_same_value}
 use Rattle.mpslp_types.specs.declared.kinds.Sense.{Sense}
@@ -41,6 +42,10 @@ pub record IsTerm (m : LinearModel) (i k : ℕ) (term : ℕ × Number) : Type 0 
 -- `count` terms of row `i` from number `from` on, as far as there are so many
 abbrev pub AreTerms : LinearModel → ℕ → ℕ → ℕ → List (ℕ × Number) → Type 0
 AreTerms m i from count terms = (n : ℕ) (default : ℕ × Number) → n < count → from + n < length (row_columns m (row_name m i)) → IsTerm m i (from + n) (slice_index_or terms n default)
+
+-- the names of their columns
+abbrev pub AreNamesOf : LinearModel → ℕ → ℕ → ℕ → List (ℕ × Number) → List (Bor (List ℕ)) → Type 0
+AreNamesOf m i from count terms names = (n : ℕ) (term : ℕ × Number) (name : Bor (List ℕ)) → n < count → from + n < length (row_columns m (row_name m i)) → slice_get (column_names m) (slice_index_or terms n term).0 ≡ Some (slice_index_or names n name).now
 
 abbrev pub has_lines : Lines → Bool
 has_lines [] = false

@@ -1,14 +1,14 @@
 //! The rows of canonical LP.
 
-ghost use Rattle.std.specs.Prelude.{◌<◌, ◌≤◌, [], ◌∷◌, length, map};
+ghost use Rattle.std.specs.Prelude.{◌≡◌, ◌+◌, ◌<◌, ◌≤◌, Some, [], ◌∷◌, length, map, slice_get};
 ghost use Rattle.std.specs.List.{flat_map};
 ghost use Rattle.std.specs.FinMap.{entries};
-ghost use Rattle.mpslp_model_core.specs.Views.{num_rows, row_name, row_columns};
+ghost use Rattle.mpslp_model_core.specs.Views.{num_rows, row_name, row_columns, column_names};
 ghost use Rattle.mpslp_canonical_lp.specs.Printed.{line_text};
 ghost use Rattle.mpslp_model_core.specs.Model.{listing_of};
 ghost use Rattle.mpslp_canonical_lp.specs.CanonicalLp.{term_line, row_terms, left_lines, last_line, row_lines, rows_section};
 ghost use Rattle.mpslp_output.specs.LinesAt.{lines_at};
-ghost use Rattle.mpslp_write.specs.LpLinesAt.{IsTerm, AreTerms, numbered_term_lines, left_between, last_between};
+ghost use Rattle.mpslp_write.specs.LpLinesAt.{IsTerm, AreTerms, AreNamesOf, numbered_term_lines, left_between, last_between};
 ghost use Rattle.mpslp_output.specs.Printing.{Prints, PrintsSection};
 
 use crate::lp::lines::{
@@ -21,20 +21,22 @@ use mpslp_model::{Limit, Model, Sink};
 use mpslp_output::{Output, put_each};
 use mpslp_write_mps::have_same_value;
 
-/// Prints term `k` of row `i`.
+/// Prints term `k` of row `i`, whose column has this name.
 fn put_term<W: Sink>(
     model: &Model,
     i: usize,
     k: usize,
     term: (usize, Decimal),
+    name: &[u8],
     output: &mut Output<W>,
 )
     requires row { i < num_rows model.now }
     requires term { IsTerm model.now i k term }
+    requires name { slice_get (column_names model.now) term.0 ≡ Some name.now }
     ensures { Prints line_text W.Sink output.old output.new (lines_at (numbered_term_lines model.now (row_name model.now i)) (row_columns model.now (row_name model.now i)) k) }
 {
-    let (j, value) = term;
-    put_term_line(output, model.column_name(j).as_bytes(), value);
+    let (_j, value) = term;
+    put_term_line(output, name, value);
 }
 
 /// How many terms are looked up before they are printed. The look-ups do not wait for one another, so that their misses of the
@@ -55,6 +57,43 @@ fn terms_from(model: &Model, i: usize, from: usize) -> [(usize, Decimal); AHEAD]
     terms
 }
 
+/// The name of the column of term `from + n` of row `i`, which is this one. Empty if there is no such term.
+fn name_of(model: &Model, i: usize, from: usize, n: usize, term: (usize, Decimal)) -> &[u8]
+    requires row { i < num_rows model.now }
+    requires within { from ≤ length (row_columns model.now (row_name model.now i)) }
+    requires term { from + n < length (row_columns model.now (row_name model.now i)) → IsTerm model.now i (from + n) term }
+    ensures { from + n < length (row_columns model.now (row_name model.now i)) → slice_get (column_names model.now) term.0 ≡ Some result.now }
+{
+    if n >= model.row_len(i) - from {
+        return &[];
+    }
+    model.column_name(term.0).as_bytes()
+}
+
+/// The names of the columns of these terms of row `i`, which are those from number `from` on.
+fn names_of<'a>(
+    model: &'a Model,
+    i: usize,
+    from: usize,
+    terms: &[(usize, Decimal); AHEAD],
+) -> [&'a [u8]; AHEAD]
+    requires row { i < num_rows model.now }
+    requires within { from ≤ length (row_columns model.now (row_name model.now i)) }
+    requires terms { AreTerms model.now i from AHEAD terms.now }
+    ensures { AreNamesOf model.now i from AHEAD terms.now result }
+{
+    [
+        name_of(model, i, from, 0, terms[0]),
+        name_of(model, i, from, 1, terms[1]),
+        name_of(model, i, from, 2, terms[2]),
+        name_of(model, i, from, 3, terms[3]),
+        name_of(model, i, from, 4, terms[4]),
+        name_of(model, i, from, 5, terms[5]),
+        name_of(model, i, from, 6, terms[6]),
+        name_of(model, i, from, 7, terms[7]),
+    ]
+}
+
 /// Prints the terms of row `i`.
 fn put_terms<W: Sink>(model: &Model, i: usize, output: &mut Output<W>)
     requires { i < num_rows model.now }
@@ -62,12 +101,14 @@ fn put_terms<W: Sink>(model: &Model, i: usize, output: &mut Output<W>)
 {
     let mut from = 0;
     let mut terms = terms_from(model, i, from);
+    let mut names = names_of(model, i, from, &terms);
     for k in 0..model.row_len(i) {
         if k - from == AHEAD {
             from = k;
             terms = terms_from(model, i, from);
+            names = names_of(model, i, from, &terms);
         }
-        put_term(model, i, k, terms[k - from], output);
+        put_term(model, i, k, terms[k - from], names[k - from], output);
     }
 }
 

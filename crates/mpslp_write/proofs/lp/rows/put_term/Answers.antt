@@ -3,23 +3,18 @@ use Rattle.std.specs.Prelude.{Option}
 use Rattle.std.specs.Option.{option_map_or}
 use Rattle.std.proofs.lemmas.Option.{get_or_from_slice_get}
 use Rattle.mpslp_model_core.specs.Views.{row_name, column_name, column_names}
-use Rattle.mpslp_model_core.proofs.ByRowLemmas.{column_below}
 use Rattle.mpslp_canonical_lp.specs.CanonicalLp.{term_line}
 use Rattle.mpslp_write.specs.LpLinesAt.{numbered_term_lines}
 use Rattle.mpslp_write.proofs.LpTerms.{term-listed}
 use Rattle.mpslp_output.proofs.OutputLemmas.{prints_same}
 use Rattle.mpslp_write.proofs.lp.rows.put_term.Goals as goal
 
-pub column_name-requires : goal.column_name-requires
-column_name-requires g c =
-    column_below c.args.model.now c.args.i c.args.k _ c.requires.term.column
-
 pub returns : goal.returns
 returns g c =
     let m = c.args.model.now in
     let row = row_name m c.args.i in
     let j = c.args.term.0 in
-    let column : c.as_bytes.result.now ≡ column_name m j = c.as_bytes.ensures ∙ sym (get_or_from_slice_get (column_names m) j _ [] c.column_name.ensures) in
+    let column : c.args.name.now ≡ column_name m j = sym (get_or_from_slice_get (column_names m) j _ [] c.requires.name) in
     prints_same ((λ i. term_line (column i, c.requires.term.value i) ∷ []) ∙ term-listed m row c.args.k j c.requires.term.column
     ∙ ap (λ (o : Option ℕ). option_map_or (numbered_term_lines m row) o []) (sym c.requires.term.column))
     c.put_term_line.ensures
