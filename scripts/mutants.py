@@ -36,11 +36,15 @@ from prove import LOGS
 IMPL = re.compile(r"impl\b(<.*?>)? (?:(.*) for )?(.*?)(?: where\b.*)?(?: \{)?$")
 FUNCTION = re.compile(r"( *)(?:pub(?:\([^)]*\))? )?(?:const |unsafe )*fn (\w+)")
 NOT_PROVED = re.compile(r"fn (\S+): (?:not proved|no proof)(?:[:;] (.*))?$")
-# Why a function is not proved if nothing is wrong with it.
-OF_ITS_CALLS = re.compile(r"it (?:calls|passes the block) `[^;]*, which (?:is|are) not proved(?:; it (?:calls|passes the block) `[^;]*, which (?:is|are) not proved)*")
+# Why a function is not proved if nothing is wrong with it: it needs a function, or the proof of one, that is not right.
+OF_ITS_CALLS = re.compile(r"it (?:calls|passes the block) `.*, which (?:is|are) not proved")
+OF_PROOFS = re.compile(r"it stands on (`.*`), which antt refuses")
+PROOF = re.compile(r"`Rattle\.\w+\.proofs\.(\S+)\.(?:Answers|Invariants|Proof)\.\S+`")
 # What the prover says of a text that it cannot read. A mutant is a statement that reads well and is false.
 UNREADABLE = re.compile(r"is not in scope|has no field|is no name|operand is missing|expected the end|cannot continue")
 
+# Where in the code the prover has not found a proof that it looks for itself.
+OPEN_GOAL = re.compile(r"note: (?:\./)?(src/\S+?):(\d+):\d+: it is not proved that ")
 # A function whose proof is right, with or without holes in the proofs of the functions that it calls.
 RIGHT = re.compile(r"fn (\S+): (?:no holes|proved|depends on a hole in )")
 # What it says if it was asked for a function that is not there, or for one of several.
@@ -58,6 +62,8 @@ class Body:
 
     file: str
     function: str
+    # The line in which the function begins, and those of its body.
+    header: int
     first: int
     last: int
     # The type whose method it is, and the trait, if it is one of a trait, as the prover writes them.
@@ -110,7 +116,7 @@ def bodies_of(file: str, text: str) -> list[Body]:
                     break
             else:
                 last = next((it for it in range(first, len(lines)) if lines[it] == f"{indent}}}"), first)
-                found.append(Body(file, name, first + 1, last, owner if indent else None))
+                found.append(Body(file, name, number, first + 1, last, owner if indent else None))
     return found
 
 
@@ -190,10 +196,24 @@ def unreadable(lines: list[str]) -> str | None:
     return None
 
 
-def rejected_for_themselves(lines: list[str]) -> list[str]:
-    """The functions that the prover rejects, and not only because they call one that is not proved."""
+def is_of_others(name: str, reason: str) -> bool:
+    """Whether a function is not proved only because of functions that it calls, or because its proof cites proofs of others."""
+
+    def cites_others(part: str) -> bool:
+        cited = re.findall(r"`[^`]+`", it[1]) if (it := OF_PROOFS.fullmatch(part)) else []
+        folders = [it[1] if (it := PROOF.fullmatch(proof)) else None for proof in cited]
+        return bool(folders) and all(folder and folder != ".".join(name.split("::")[1:]) for folder in folders)
+
+    return all(OF_ITS_CALLS.fullmatch(part) or cites_others(part) for part in reason.split("; "))
+
+
+def rejected_for_themselves(lines: list[str], bodies: list[Body]) -> list[str]:
+    """The functions that the prover rejects for themselves. One with an open goal of its own is rejected for that, although the
+    prover says only that it calls a function with a hole in its proof."""
     found = [it for line in lines if (it := NOT_PROVED.match(line))]
-    return [it[1] for it in found if not OF_ITS_CALLS.fullmatch(it[2] or "")]
+    goals = [(it[1], int(it[2]) - 1) for line in lines if (it := OPEN_GOAL.match(line))]
+    open_bodies = [it for it in bodies if any(it.file == file and it.header <= line <= it.last for file, line in goals)]
+    return [it[1] for it in found if not is_of_others(it[1], it[2] or "") or any(body.is_of(it[1]) for body in open_bodies)]
 
 
 @dataclass(frozen=True)
@@ -202,6 +222,8 @@ class Check:
 
     status: int
     lines: list[str]
+    # Those of the crate.
+    bodies: list[Body]
 
     @property
     def has_ended(self) -> bool:
@@ -220,7 +242,7 @@ class Check:
     @property
     def rejected(self) -> list[str]:
         """The functions that it rejects for themselves."""
-        return rejected_for_themselves(self.lines) if self.has_ended else []
+        return rejected_for_themselves(self.lines, self.bodies) if self.has_ended else []
 
     def accepts(self, functions: list[str]) -> bool:
         """Whether it rejects no function, and has found the proofs of these ones right."""
@@ -256,6 +278,7 @@ class Prover:
 
     def __init__(self, crate: Crate, crates: dict[str, Crate], libraries: Path, kept: Path, log: Path):
         self.crate, self.log, self.checks = crate, log, 0
+        self.bodies = [it for file in crate.files() for it in bodies_of(str(file.relative_to(crate.folder)), file.read_text()) if file.suffix == ".rt"]
         # The functions that checks were asked for, and whether one was asked for the whole crate.
         self.asked: set[str] = set()
         self.has_asked_for_all = False
@@ -293,7 +316,7 @@ class Prover:
             )
         with self.log.open("a") as log:
             log.write(f"== {what}, {time.monotonic() - begun:.0f} s, status {ran.returncode}\n{ran.stdout}")
-        return Check(ran.returncode, ran.stdout.rstrip("\n").split("\n"))
+        return Check(ran.returncode, ran.stdout.rstrip("\n").split("\n"), self.bodies)
 
     def rejects(self, mutant: Mutant, body: Body | None) -> str | None:
         """None if the prover rejects the mutant, or else why that is not known."""

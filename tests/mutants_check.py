@@ -14,6 +14,9 @@ import unittest
 from pathlib import Path
 
 ROOT = Path(__file__).resolve().parent.parent
+sys.path.insert(0, str(ROOT / "scripts"))
+
+from mutants import bodies_of, rejected_for_themselves
 
 KIT_SUM = (ROOT / "kit-sum").read_text().strip()
 
@@ -180,6 +183,32 @@ class Mutants(unittest.TestCase):
         self.assertEqual(status, 1)
         self.assertIn("low/absent: its text is in src/lib.rt 0 times", said)
         self.assertIn("low/thrice: its text is in src/lib.rt 3 times", said)
+
+
+class Rejections(unittest.TestCase):
+    """Of which functions a check says that they are rejected for themselves."""
+
+    BODIES = bodies_of("src/lib.rt", LIB)
+
+    def rejected(self, *lines: str) -> list[str]:
+        return rejected_for_themselves(list(lines), self.BODIES)
+
+    def test_a_proof_that_is_refused_is_one(self) -> None:
+        line = "fn low::one: not proved; it stands on `Rattle.low.proofs.one.Answers.returns`, which antt refuses; it calls `low::two`, which is not proved"
+        self.assertEqual(self.rejected(line), ["low::one"])
+
+    def test_a_refused_lemma_is_one(self) -> None:
+        line = "fn low::one: not proved; it stands on `Rattle.low.proofs.Lemmas.sum`, which antt refuses"
+        self.assertEqual(self.rejected(line), ["low::one"])
+
+    def test_a_proof_of_another_function_is_none(self) -> None:
+        line = "fn low::one: not proved; it stands on `Rattle.low.proofs.two.Answers.returns`, which antt refuses; it calls `low::two`, which is not proved"
+        self.assertEqual(self.rejected(line), [])
+
+    def test_an_open_goal_is_one(self) -> None:
+        calls = "fn low::{}: not proved; it calls `low::limit`, which is not proved"
+        goal = "note: src/lib.rt:6:5: it is not proved that the sum fits its type"
+        self.assertEqual(self.rejected(goal, calls.format("one"), calls.format("two")), ["low::one"])
 
 
 if __name__ == "__main__":
