@@ -1,6 +1,6 @@
 -- The result of a call by its first error, and what is known if it has none.
 use Rattle.std.proofs.Common.{◌≡◌, refl, sym, ap, subst, ◌∙◌, ℕ, Bool, true, false, cond, not, List, [], ◌∷◌}
-use Rattle.std.specs.Prelude.{◌||◌, ◌&&◌, IsTrue, Option, Some, None, is_some, Ok, Err, if◌then◌else◌}
+use Rattle.std.specs.Prelude.{◌||◌, ◌&&◌, IsTrue, Option, Some, None, is_some, Ok, Err}
 use Rattle.std.specs.List.{list_all}
 use Rattle.std.specs.Result.{IsErrAnd}
 use Rattle.std.specs.Option.{ForSome, option_map_or}
@@ -67,24 +67,6 @@ pub want_of_memory : (faults : List BuildFault) (answer : Answer) (P Q : Type 0)
     → Answers faults answer P Q
 want_of_memory faults (Ok x) P Q told none q = absurd told
 want_of_memory faults (Err e) P Q told none q = subst (λ (t : BuildFault). Answers faults (Err t) P Q) (sym told) (no_memory faults P Q none q)
-
--- of two errors the first is returned
-pub first_of_two : (b : Bool) (first fault : BuildFault) (more : List (Bool × BuildFault)) (P Q : Type 0) → Answers (those_of more) (Err fault) P Q → Q
-    → Answers (those_of ((b, first) ∷ more)) (Err (if b then first else fault)) P Q
-first_of_two true first fault more P Q h q = (refl, q)
-first_of_two false first fault more P Q h q = h
-
--- what is guaranteed of each result may be replaced by what follows from it
-pub answers_as : (faults : List BuildFault) (answer : Answer) {P R Q S : Type 0} → (faults ≡ [] → P → R) → (Q → S) → Answers faults answer P Q → Answers faults answer R S
-answers_as [] (Ok x) f g h = f refl h
-answers_as [] (Err e) f g h = (h.0, g h.1)
-answers_as (fault ∷ later) answer f g h = (h.0, g h.1)
-
--- what follows from each of the results holds
-pub answered_so : (faults : List BuildFault) (answer : Answer) {P Q R : Type 0} → (faults ≡ [] → P → R) → (Q → R) → Answers faults answer P Q → R
-answered_so [] (Ok x) f g h = f refl h
-answered_so [] (Err e) f g h = g h.1
-answered_so (fault ∷ later) answer f g h = g h.1
 
 -- ---- what is known if a call has no error
 

@@ -29,7 +29,6 @@ pub mod ColumnDrafts
 pub mod RowDrafts
 pub mod TestLemmas
 pub mod CallLemmas
-pub mod RowAnswers
 pub mod LineLemmas
 pub mod LineRefusals
 pub mod OrderedParts

@@ -1,7 +1,6 @@
 -- Lines of a column by number: what each step declares, and what is still known after it.
 use Rattle.std.proofs.Common.{◌≡◌, refl, sym, ap, subst, ◌∙◌, ℕ, zero, suc, List, [], ◌∷◌, ◌++◌, Bool, true, false, cond, length}
-use Rattle.std.specs.Prelude.{◌≢◌, Option, Some, None, is_some, slice_get, ◌||◌, Result, Ok, Err, IfOk, OnOk, OnErr}
-use Rattle.std.specs.declared.alloc.AllocError.{AllocError}
+use Rattle.std.specs.Prelude.{◌≢◌, Option, Some, None, is_some, slice_get, ◌||◌, Result, Ok, Err, OnOk, OnErr}
 use Rattle.std.specs.Option.{option_map, option_map_or}
 use Rattle.std.specs.Ordering.{nat_cmp, is_eq}
 use Rattle.std.specs.declared.cmp.Ordering.{Ordering}
@@ -20,12 +19,10 @@ use Rattle.mpslp_builder.specs.Declaration.{Draft, Declarations, with_declaratio
 use Rattle.mpslp_builder.specs.Refusal.{refusals, refusals_in_turn}
 use Rattle.mpslp_builder.specs.Made.{IsMade}
 use Rattle.mpslp_builder.specs.Tables.{definition_of, no_part, cells_of, name_of_row_key, draft, IsNumbered}
-use Rattle.mpslp_builder.specs.Calls.{row_name, column_name, column_tells, cells_at, new_column, with_cell, IsOnceEach, IsSameTables, HasColumnAdded, HasColumnChanged, IsColumnPlace}
+use Rattle.mpslp_builder.specs.Calls.{row_name, column_name, column_tells, cells_at, new_column, with_cell, IsOnceEach, IsSameTables, HasColumnAdded, HasColumnChanged}
 use Rattle.mpslp_builder.specs.ColumnLine.{entry_declared, TakesLine}
-use Rattle.mpslp_builder.specs.LineTables.{IsLaid, Follows, HasStarted, IsStartedPlace}
+use Rattle.mpslp_builder.specs.LineTables.{IsLaid, Follows, HasStarted}
 use Rattle.mpslp_builder_parts.specs.declared.parts.ColumnParts.{ColumnParts}
-use Rattle.mpslp_builder.specs.declared.tables.ColumnPlace.{ColumnPlace}
-use Rattle.mpslp_builder.specs.declared.tables.ColumnPlace.TheVariants.{New, Known}
 use Rattle.mpslp_builder.specs.declared.tables.Tables.{Tables}
 use Rattle.mpslp_builder.proofs.AnswerLemmas.{made_after}
 use Rattle.mpslp_builder.proofs.MadeDrafts.{with_declarations-append, refusals_in_turn-append}
@@ -236,24 +233,6 @@ module _ (t u : Tables) (numbered : IsNumbered t) where
           cells = ap (λ (o : Option (List ℕ × ColumnParts)). option_map_or (λ e. cells_of e.1) o []) here;
           semi = ap (λ (o : Option (List ℕ × ColumnParts)). option_map_or (λ e. e.1.semi) o false) here;
         }
-
--- a column that is added if it is new
-module _ (t u : Tables) (numbered : IsNumbered t) (name : List ℕ) where
-  pub place_started : (result : Result ColumnPlace AllocError) → IfOk result (λ place. IsColumnPlace t name place u) → IfOk result (λ place. IsStartedPlace t name place u)
-  place_started (Ok (New i)) h = (subst (λ (n : ℕ). HasStarted t name n u) (sym h.last) (started t u numbered name h.added h.absent), h.absent)
-  place_started (Ok (Known i)) h = h
-  place_started (Err e) h = tt
-
-  pub place_follows : is_mps_name name ≡ true → (result : Result ColumnPlace AllocError) → IfOk result (λ place. IsColumnPlace t name place u) → OnErr result (IsSameTables t u) → Follows t u
-  place_follows legal (Ok (New i)) h same = start_follows t u numbered name h.added h.absent legal
-  place_follows legal (Ok (Known i)) h same = follows_same t u numbered h.same
-  place_follows legal (Err e) h same = follows_same t u numbered same
-
-pub place_rows : (t u : Tables) (name : List ℕ) (result : Result ColumnPlace AllocError) → IfOk result (λ place. IsColumnPlace t name place u) → OnErr result (IsSameTables t u)
-    → u.rows.entries ≡ t.rows.entries
-place_rows t u name (Ok (New i)) h same = h.added.rows
-place_rows t u name (Ok (Known i)) h same = h.same.rows
-place_rows t u name (Err e) h same = same.rows
 
 -- a column that is declared may be declared again
 pub taken_next : (earlier later : Draft) (column : List ℕ) (more : Declarations) → with_declaration earlier (declare_column column) ≡ earlier → refusals_in_turn earlier more ≡ []

@@ -1,15 +1,14 @@
 -- The parts of a map's entries by their names, and how they change if an entry is added or written.
-use Rattle.std.proofs.Common.{◌≡◌, refl, sym, ap, ◌∙◌, ℕ, zero, suc, ◌+◌, List, [], ◌∷◌, ◌++◌, Bool, true, false, cond, not, arith}
-use Rattle.std.specs.Prelude.{Option, Some, None, is_some, length, slice_get, ◌||◌, Result, Ok, Err, OnOk, OnErr}
-use Rattle.std.specs.List.{position_or_len}
+use Rattle.std.proofs.Common.{◌≡◌, refl, sym, ap, ◌∙◌, ℕ, zero, suc, List, [], ◌∷◌, ◌++◌, Bool, true, false, cond}
+use Rattle.std.specs.Prelude.{Option, Some, None, is_some, slice_get, ◌||◌, Result, Ok, Err, OnOk, OnErr}
 use Rattle.std.specs.Option.{option_map, option_map_or}
 use Rattle.std.specs.Ordering.{is_eq, eq_by_cmp, nat_cmp}
 use Rattle.std.specs.Cmp.{tied_itself}
 use Rattle.std.specs.Cmp.Lexicographic.{texts_ties, bytes_decides}
 use Rattle.std.specs.FinMap.{find, put}
 use Rattle.std.specs.FinMap.Entries.{find_tied}
-use Rattle.std.specs.Map.{keys_of, lookup, lookup_key}
-use Rattle.indexmap.specs.IndexMap.{set_value_at, insert_entry}
+use Rattle.std.specs.Map.{lookup, lookup_key}
+use Rattle.indexmap.specs.IndexMap.{set_value_at}
 use Rattle.mpslp_decimal.specs.Decimal.{Number}
 use Rattle.mpslp_types.specs.Name.{same_bytes, bytes_cmp}
 use Rattle.mpslp_model_core.specs.Model.{CoefficientKey, key_cmp}
@@ -176,41 +175,6 @@ set_same {K} {X} (e ∷ es) zero k x y at same =
     ap (λ (z : X). (e.0, z) ∷ es) (same ∙ ap (λ (z : K × X). z.1) (sym here))
 set_same {K} {X} (e ∷ es) (suc i) k x y at same = ap (λ (more : List (K × X)). e ∷ more) (set_same es i k x y at same)
 
--- an entry gets its own value back, after another one was put in its place
-pub put_back : {V : Type 0} (q : List ℕ) (x y : V) (es : List (List ℕ × V)) → Some y ≡ lookup (λ k. same_bytes q k) es
-    → set_value_at (insert_entry (λ a b. same_bytes a b) es q x) (position_or_len (λ k. same_bytes q k) (keys_of es)) y ≡ es
-put_back q x y [] h = cc
-put_back {V} q x y (e ∷ es) h =
-    elim (same_bytes q e.0) as (λ b. Some y ≡ cond b (Some e.1) (lookup (λ k. same_bytes q k) es)
-    → set_value_at (cond b ((e.0, x) ∷ es) (e ∷ insert_entry (λ a b. same_bytes a b) es q x)) (cond (not b) (1 + position_or_len (λ k. same_bytes q k) (keys_of es)) 0) y ≡ e ∷ es) [
-      | true ↦ λ is. let same : y ≡ e.1 = cc in ap (λ (z : V). (e.0, z) ∷ es) same
-      | false ↦ λ is.
-          let next : 1 + position_or_len (λ k. same_bytes q k) (keys_of es) ≡ suc (position_or_len (λ k. same_bytes q k) (keys_of es)) = omega arith in
-          ap (λ (n : ℕ). set_value_at (e ∷ insert_entry (λ a b. same_bytes a b) es q x) n y) next ∙ ap (λ (more : List (List ℕ × V)). e ∷ more) (put_back q x y es is)
-    ] h
-
--- a name that is new gets the next number
-pub last_place : {V : Type 0} (q : List ℕ) (es : List (List ℕ × V)) → lookup (λ k. same_bytes q k) es ≡ None → position_or_len (λ k. same_bytes q k) (keys_of es) ≡ length es
-last_place q [] h = refl
-last_place {V} q (e ∷ es) h =
-    elim (same_bytes q e.0) as (λ b. cond b (Some e.1) (lookup (λ k. same_bytes q k) es) ≡ None → cond (not b) (1 + position_or_len (λ k. same_bytes q k) (keys_of es)) 0 ≡ suc (length es)) [
-      | true ↦ λ none. cc
-      | false ↦ λ none. let more : position_or_len (λ k. same_bytes q k) (keys_of es) ≡ length es = last_place q es none in omega (arith, more)
-    ] h
-
--- the entry of a name that is there already has it
-pub own_place : {V : Type 0} (q : List ℕ) (x : V) (es : List (List ℕ × V)) → Some x ≡ lookup (λ k. same_bytes q k) es
-    → option_map (λ e. e.0) (slice_get es (position_or_len (λ k. same_bytes q k) (keys_of es))) ≡ Some q
-own_place q x [] h = cc
-own_place {V} q x (e ∷ es) h =
-    elim (same_bytes q e.0) as (λ b. same_bytes q e.0 ≡ b → Some x ≡ cond b (Some e.1) (lookup (λ k. same_bytes q k) es)
-    → option_map (λ e. e.0) (slice_get (e ∷ es) (cond (not b) (1 + position_or_len (λ k. same_bytes q k) (keys_of es)) 0)) ≡ Some q) [
-      | true ↦ λ passes _. ap Some (sym ((bytes_decides q e.0).0 passes))
-      | false ↦ λ _ is.
-          let next : 1 + position_or_len (λ k. same_bytes q k) (keys_of es) ≡ suc (position_or_len (λ k. same_bytes q k) (keys_of es)) = omega arith in
-          ap (λ (i : ℕ). option_map (λ (e : List ℕ × V). e.0) (slice_get (e ∷ es) i)) next ∙ own_place q x es is
-    ] refl h
-
 pub on_err : {A E P Q : Type 0} (r : Result A E) → (P → Q) → OnErr r P → OnErr r Q
 on_err (Ok a) f h = tt
 on_err (Err e) f h = f h
@@ -222,6 +186,10 @@ on_ok (Err e) f h = tt
 pub or_right : (a b r : Bool) → false ≡ a → r ≡ b → r ≡ (a || b)
 or_right true b r h e = cc
 or_right false b r h e = e
+
+-- a name that is not in the map is no key
+pub absent_key : {V X : Type 0} (f : V → X) (q : List ℕ) (es : List (List ℕ × V)) → has_name (sorted_of bytes_cmp (each_part f es)) q ≡ false → lookup (λ k. same_bytes q k) es ≡ None
+absent_key f q es h = none_there (lookup (λ k. same_bytes q k) es) (has_name-each_part f q es ∙ h)
 
 -- ---- a part that is put, whether it was declared or not
 

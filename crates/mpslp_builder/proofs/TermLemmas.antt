@@ -2,7 +2,7 @@
 use Rattle.std.proofs.Common.{◌≡◌, refl, sym, ap, subst, ◌∙◌, ℕ, zero, suc, List, [], ◌∷◌, ◌++◌, Bool, true, false, cond, length, drop, get_or, not, inl, inr, ◌+◌, ◌<◌, ◌≤◌, arith}
 use Rattle.std.specs.Prelude.{◌≢◌, Option, Some, None, is_some, slice_get, insert, ◌||◌, Result, Ok, Err, IfOk, ◌-◌}
 use Rattle.std.specs.declared.alloc.AllocError.{AllocError}
-use Rattle.std.specs.Option.{option_map, option_map_or}
+use Rattle.std.specs.Option.{option_map_or}
 use Rattle.std.specs.List.{list_any, flat_map}
 use Rattle.std.specs.Result.{IsErrAnd}
 use Rattle.std.specs.Map.{lookup}
@@ -28,16 +28,12 @@ use Rattle.mpslp_builder.specs.Answer.{Answer}
 use Rattle.mpslp_builder.specs.Declaration.{Draft, Declarations, with_declaration, with_declarations, declare_column, declare_coefficient, is_objective, has_row, has_column, has_coefficient, has_name}
 use Rattle.mpslp_builder.specs.Refusal.{refusals, refusals_in_turn}
 use Rattle.mpslp_builder.specs.Tables.{definition_of, no_part, draft, IsNumbered}
-use Rattle.mpslp_builder.specs.Calls.{row_name, column_name, column_number_of, cells_at, with_cell, IsOnceEach, HasColumnChanged}
-use Rattle.mpslp_builder.specs.LineTables.{IsLaid, Follows, IsStartedPlace}
+use Rattle.mpslp_builder.specs.Calls.{row_name, column_name, cells_at, with_cell, IsOnceEach, HasColumnChanged}
+use Rattle.mpslp_builder.specs.LineTables.{IsLaid, Follows, HasStarted}
 use Rattle.mpslp_builder.specs.RowTerms.{term_declared, DeclaresInTurn}
 use Rattle.mpslp_builder.specs.TermTables.{HasColumn, IsLaidUnless}
-use Rattle.mpslp_builder_parts.specs.declared.parts.ColumnParts.{ColumnParts}
-use Rattle.mpslp_builder.specs.declared.tables.ColumnPlace.{ColumnPlace}
-use Rattle.mpslp_builder.specs.declared.tables.ColumnPlace.TheVariants.{New, Known}
 use Rattle.mpslp_builder.specs.declared.tables.Tables.{Tables}
 use Rattle.mpslp_builder.proofs.AnswerLemmas.{put_again}
-use Rattle.mpslp_builder.proofs.CallLemmas.{same_tables}
 use Rattle.mpslp_builder.proofs.MadeDrafts.{refusals_in_turn-append}
 use Rattle.mpslp_builder.proofs.SortedDrafts.{bytes_total}
 use Rattle.mpslp_builder.proofs.ReadingLemmas.{number_there}
@@ -113,15 +109,6 @@ there_laid t name i is = record {
       ap (λ (columns : List (List ℕ × Unit {0})). record (draft sense constant t) { columns = columns })
       (put_again name (draft sense constant t).columns (is_sorted-sorted_of bytes_cmp bytes_total (each_part no_part t.columns.entries)) (sym (number_there no_part t.columns.entries i name is)));
 }
-
--- the place of a column that is declared if it is new
-pub place_laid : (t u : Tables) (name : List ℕ) (place : ColumnPlace) → IsStartedPlace t name place u → HasColumn t name (column_number_of place) u
-place_laid t u name (New i) h = record { named = h.0.named; laid = h.0.laid }
-place_laid t u name (Known i) h =
-    let there = there_laid t name i h.named in record {
-      named = ap (λ (es : List (List ℕ × ColumnParts)). option_map (λ (e : List ℕ × ColumnParts). e.0) (slice_get es i)) h.same.columns ∙ h.named;
-      laid = record { free = there.free; laid = λ sense constant. same_tables sense constant t u h.same ∙ there.laid sense constant };
-    }
 
 pub unless_then : (t u v : Tables) (ds es : Declarations) (answer : Answer) → IsLaid t ds u → IsLaidUnless u es answer v → IsLaidUnless t (ds ++ es) answer v
 unless_then t u v ds es (Ok x) a b = laid_then t u v ds es a b
@@ -204,6 +191,11 @@ cell_others_there t u numbered once i n row x h absent m other = by (row_name t 
     by : (name : Option (List ℕ)) → row_name t n ≡ name → is_some name ≡ true → find nat_cmp m (cells_at u i) ≡ find nat_cmp m (cells_at t i)
     by None is there = cc
     by (Some name) is there = cell_others t u numbered once i n name is x h absent m other
+
+-- a column that has started is there
+pub started_column : (t u : Tables) (name : List ℕ) (r : Result ℕ AllocError) → IfOk r (λ column. HasStarted t name column u) → IfOk r (λ column. HasColumn t name column u)
+started_column t u name (Ok column) h = record { named = h.named; laid = h.laid }
+started_column t u name (Err e) h = h
 
 -- ---- terms in turn
 

@@ -1,5 +1,5 @@
 -- What tables state by number, and what each call changes in them.
-use Rattle.std.specs.Prelude.{◌≡◌, ℕ, zero, suc, Bool, true, false, ◌&&◌, List, [], ◌∷◌, ◌++◌, Option, None, Some, length, slice_get, Result, Ok, Err}
+use Rattle.std.specs.Prelude.{◌≡◌, ℕ, zero, suc, Bool, true, false, ◌&&◌, List, [], ◌∷◌, ◌++◌, Option, None, Some, slice_get, Result, Ok, Err}
 use Rattle.std.specs.Option.{option_map, option_map_or}
 use Rattle.std.specs.Ordering.{nat_cmp}
 use Rattle.std.specs.FinMap.{put}
@@ -12,12 +12,10 @@ use Rattle.mpslp_model_core.specs.Limits.{is_definition_by_limits}
 pub use Rattle.mpslp_builder_parts.specs.Parts.{new_column, with_bounds}
 use Rattle.mpslp_builder.specs.Answer.{Answer}
 use Rattle.mpslp_builder.specs.Declaration.{Draft, has_row, has_column, has_coefficient}
-use Rattle.mpslp_builder.specs.Tables.{definition_of, cells_of, name_of_row_key, cells_by_name, draft}
+use Rattle.mpslp_builder.specs.Tables.{definition_of, cells_of, name_of_row_key, cells_by_name}
 use Rattle.mpslp_builder_parts.specs.declared.parts.ObjectiveParts.{ObjectiveParts}
 use Rattle.mpslp_builder_parts.specs.RowParts.{RowParts}
 use Rattle.mpslp_builder_parts.specs.declared.parts.ColumnParts.{ColumnParts}
-use Rattle.mpslp_builder.specs.declared.tables.ColumnPlace.{ColumnPlace}
-use Rattle.mpslp_builder.specs.declared.tables.ColumnPlace.TheVariants.{New, Known}
 use Rattle.mpslp_builder.specs.declared.tables.RowRef.{RowRef}
 use Rattle.mpslp_builder.specs.declared.tables.RowRef.TheVariants.{Objective, Row}
 use Rattle.mpslp_builder.specs.declared.tables.Tables.{Tables}
@@ -103,26 +101,6 @@ pub record HasColumnAdded (old : Tables) (name : List ℕ) (parts : ColumnParts)
   pub objective : new.objective ≡ old.objective
   pub rows : new.rows.entries ≡ old.rows.entries
   pub columns : new.columns.entries ≡ old.columns.entries ++ (name, parts) ∷ []
-
--- one more column, which is new and has this number
-pub record IsNewColumn (old : Tables) (name : List ℕ) (i : ℕ) (new : Tables) : Type 0 where
-  pub absent : has_column (draft None None old) name ≡ false
-  pub added : HasColumnAdded old name new_column new
-  pub last : i ≡ length old.columns.entries
-
--- a column of this name had this number already
-pub record IsKnownColumn (old : Tables) (name : List ℕ) (i : ℕ) (new : Tables) : Type 0 where
-  pub same : IsSameTables old new
-  pub named : column_name old i ≡ Some name
-
--- the place of a column of this name, which is added if it is new
-abbrev pub IsColumnPlace : Tables → List ℕ → ColumnPlace → Tables → Type 0
-IsColumnPlace old name (New i) new = IsNewColumn old name i new
-IsColumnPlace old name (Known i) new = IsKnownColumn old name i new
-
-abbrev pub column_number_of : ColumnPlace → ℕ
-column_number_of (New i) = i
-column_number_of (Known i) = i
 
 -- only the column of a number is changed, to these parts
 pub record HasColumnWritten (old : Tables) (i : ℕ) (parts : ColumnParts) (new : Tables) : Type 0 where

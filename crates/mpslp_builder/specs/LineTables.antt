@@ -9,13 +9,11 @@ use Rattle.mpslp_builder.specs.Declaration.{declare_column, Declarations, with_d
 use Rattle.mpslp_builder.specs.Refusal.{refusals_in_turn}
 use Rattle.mpslp_builder.specs.Made.{IsMade}
 use Rattle.mpslp_builder.specs.Tables.{draft, IsNumbered}
-use Rattle.mpslp_builder.specs.Calls.{row_name, column_name, column_tells, cells_at, IsKnownColumn}
+use Rattle.mpslp_builder.specs.Calls.{row_name, column_name, column_tells, cells_at}
 use Rattle.mpslp_builder.specs.ColumnLine.{listed, column_line}
 use Rattle.mpslp_builder.specs.declared.lines.Entries.{Entries}
 use Rattle.mpslp_builder.specs.declared.lines.RowNumbers.{RowNumbers}
 use Rattle.mpslp_builder.specs.declared.lines.LinePlace.{LinePlace}
-use Rattle.mpslp_builder.specs.declared.tables.ColumnPlace.{ColumnPlace}
-use Rattle.mpslp_builder.specs.declared.tables.ColumnPlace.TheVariants.{New, Known}
 use Rattle.mpslp_builder.specs.declared.tables.Tables.{Tables}
 
 -- these are the numbers of the rows, which differ
@@ -66,8 +64,3 @@ pub record HasStarted (t : Tables) (name : List ℕ) (column : ℕ) (u : Tables)
   pub laid : IsLaid t (declare_column name ∷ []) u
   pub cells : cells_at u column ≡ []
   pub semi : column_tells u column (λ parts. parts.semi) ≡ false
-
--- a column of this name is new and has nothing yet, or it was there before
-abbrev pub IsStartedPlace : Tables → List ℕ → ColumnPlace → Tables → Type 0
-IsStartedPlace t name (New column) u = HasStarted t name column u × (has_column (draft None None t) name ≡ false)
-IsStartedPlace t name (Known column) u = IsKnownColumn t name column u

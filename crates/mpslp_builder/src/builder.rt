@@ -9,12 +9,10 @@ ghost use Rattle.mpslp_builder.specs.Declaration.{empty_draft, with_declaration,
 ghost use Rattle.mpslp_builder.specs.Refusal.{refusals, bounds_refusals};
 ghost use Rattle.mpslp_builder.specs.Answer.{Answers, IsNotOutOfMemory};
 
-use crate::refusals::have_infinite_limit;
 use crate::tables::Tables;
 use mpslp_decimal::Decimal;
 use mpslp_decimal::laws::each_value_is_a_decimal;
 use mpslp_model_core::{PackedRowDefinition, RowLimits};
-use mpslp_types::laws::each_name_is_legal;
 use mpslp_types::{BuildFault, Limit, Name, RowType, Sense};
 use std::alloc::Global;
 use std::marker::Model;
@@ -117,9 +115,13 @@ impl Builder {
     pub fn row(&mut self, name: Name, row_type: RowType) -> Result<(), BuildFault>
         ensures { Answers (refusals self.old (declare_row name (by_type row_type))) result (self.new ≡ with_declaration self.old (declare_row name (by_type row_type))) (self.new ≡ self.old) }
     {
-        each_name_is_legal(&name);
+        self.check_row(name.as_bytes())?;
+        if !self.tables.has_room() {
+            return Err(BuildFault::OutOfMemory);
+        }
         self.tables
-            .add_row(name, PackedRowDefinition::of_type(row_type))
+            .add_row(name, PackedRowDefinition::of_type(row_type))?;
+        Ok(())
     }
 
     /// Declares a row by its limits. A finite limit must have a magnitude below 10^20. No right-hand side and no range can be
@@ -134,19 +136,13 @@ impl Builder {
         requires upper { IsTrue (is_given upper) }
         ensures { let declared = declare_row name (by_limits lower upper) in Answers (refusals self.old declared) result (self.new ≡ with_declaration self.old declared) (self.new ≡ self.old) }
     {
-        if have_infinite_limit(&lower, &upper) {
-            return Err(
-                self.tables
-                    .row_fault(name.as_bytes(), BuildFault::InfiniteValue),
-            );
+        self.check_row_limits(name.as_bytes(), &lower, &upper)?;
+        if !self.tables.has_room() {
+            return Err(BuildFault::OutOfMemory);
         }
-        match PackedRowDefinition::of_limits(self.alloc, RowLimits { lower, upper }) {
-            Ok(definition) => self.tables.add_row(name, definition),
-            Err(_) => Err(
-                self.tables
-                    .row_fault(name.as_bytes(), BuildFault::OutOfMemory),
-            ),
-        }
+        let definition = PackedRowDefinition::of_limits(self.alloc, RowLimits { lower, upper })?;
+        self.tables.add_row(name, definition)?;
+        Ok(())
     }
 
     /// Declares the right-hand side of a row. For the objective it is the negated constant. For a row of type
@@ -196,8 +192,10 @@ impl Builder {
     pub fn column(&mut self, name: Name) -> Result<(), BuildFault>
         ensures { Answers (refusals self.old (declare_column name)) result (self.new ≡ with_declaration self.old (declare_column name)) (self.new ≡ self.old) }
     {
-        each_name_is_legal(&name);
-        self.tables.start_column(self.alloc, name)?;
+        if self.has_column(name.as_bytes()) {
+            return Ok(());
+        }
+        self.tables.add_column(self.alloc, name)?;
         Ok(())
     }
 

@@ -1,24 +1,23 @@
 //! Lines of a column: one call declares the column, whether it is marked, and its coefficients, so that each name is looked up
 //! only once.
 
-ghost use Rattle.std.specs.Prelude.{◌≡◌, ◌≢◌, ◌&&◌, ◌++◌, ℕ, List, [], ◌∷◌, IfOk, IfSome, OnOk, OnErr, Ok, None, Some, false, true, is_some};
+ghost use Rattle.std.specs.Prelude.{◌≡◌, ◌≢◌, ◌&&◌, ◌++◌, ℕ, List, [], ◌∷◌, IfOk, IfSome, OnOk, Ok, None, Some, false, true, is_some};
 ghost use Rattle.std.specs.List.{flat_map};
 ghost use Rattle.std.specs.Ordering.{nat_cmp};
 ghost use Rattle.std.specs.FinMap.{find};
 ghost use Rattle.mpslp_types.specs.Name.{is_mps_name};
 ghost use Rattle.mpslp_types.specs.Lists.{when};
-ghost use Rattle.mpslp_builder.specs.Declaration.{has_row, has_column, declare_column, declare_marked};
+ghost use Rattle.mpslp_builder.specs.Declaration.{has_name, has_row, has_column, declare_column, declare_marked};
 ghost use Rattle.mpslp_builder.specs.Refusal.{refusals_in_turn};
 ghost use Rattle.mpslp_builder.specs.ColumnLine.{listed, entry_declared, column_line, TakesLine};
 ghost use Rattle.mpslp_builder.specs.Tables.{draft, IsNumbered};
-ghost use Rattle.mpslp_builder.specs.Calls.{row_name, column_name, column_tells, cells_at, IsSameTables};
-ghost use Rattle.mpslp_builder.specs.LineTables.{AreRows, AreKnownRows, AreFree, IsLinePlace, IsFreeLine, IsLaid, Follows, IsStartedPlace};
+ghost use Rattle.mpslp_builder.specs.Calls.{row_name, column_name, column_tells, cells_at};
+ghost use Rattle.mpslp_builder.specs.LineTables.{AreRows, AreKnownRows, AreFree, IsLinePlace, IsFreeLine, IsLaid, Follows, HasStarted};
 
 use crate::builder::Builder;
-use crate::tables::{ColumnPlace, Tables};
+use crate::tables::Tables;
 use mpslp_decimal::Decimal;
 use mpslp_decimal::laws::each_value_is_a_decimal;
-use mpslp_types::laws::each_name_is_legal;
 use mpslp_types::{BuildFault, Name};
 use std::alloc::{AllocError, Global};
 
@@ -125,20 +124,18 @@ impl Tables {
         Some(LinePlace { column, rows })
     }
 
-    /// Adds a column without coefficients, if no column has its name.
-    pub(crate) fn start_column(
-        &mut self,
-        alloc: Global,
-        name: Name,
-    ) -> Result<ColumnPlace, AllocError>
+    /// Adds a column without coefficients. Its name must be new. Returns its number.
+    pub(crate) fn start_column(&mut self, alloc: Global, name: Name) -> Result<usize, AllocError>
         requires numbered { IsNumbered self.old }
+        requires absent { has_name (draft None None self.old).columns name ≡ false }
         requires legal { is_mps_name name ≡ true }
         ensures kept { Follows self.old self.new }
         ensures rows { self.new.rows.entries ≡ self.old.rows.entries }
-        ensures ok { IfOk result (λ place. IsStartedPlace self.old name place self.new) }
-        ensures err { OnErr result (IsSameTables self.old self.new) }
+        ensures ok { IfOk result (λ column. HasStarted self.old name column self.new) }
     {
-        self.add_column(alloc, name)
+        let column = self.columns.len();
+        self.add_column(alloc, name)?;
+        Ok(column)
     }
 
     /// Marks a column, if its line is in an integer block.
@@ -252,7 +249,7 @@ impl Builder {
 
     /// Declares a new column with one or two coefficients, and that it is marked if it is in an integer block of an MPS file. It
     /// does what [`column`](Self::column), [`marked`](Self::marked) and [`coefficient`](Self::coefficient) do, and looks each
-    /// name up only once.
+    /// row up only once.
     ///
     /// Returns `false`, and changes nothing, if the column is declared already or one of these calls, made in turn, would be
     /// rejected, and for no other reason. Those calls return the error. The name is then dropped.
@@ -274,14 +271,11 @@ impl Builder {
         let Some(rows) = self.tables.row_numbers(entries) else {
             return Ok(false);
         };
-        each_name_is_legal(&name);
-        let place = self.tables.start_column(self.alloc, name)?;
-        match place {
-            ColumnPlace::New(column) => {
-                self.tables.put_line(column, is_marked, rows, entries)?;
-                Ok(true)
-            }
-            ColumnPlace::Known(_) => Ok(false),
+        if self.has_column(name.as_bytes()) {
+            return Ok(false);
         }
+        let column = self.tables.start_column(self.alloc, name)?;
+        self.tables.put_line(column, is_marked, rows, entries)?;
+        Ok(true)
     }
 }

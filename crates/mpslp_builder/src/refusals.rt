@@ -44,7 +44,7 @@ fn have_infinite_side(lower: &Option<Limit>, upper: &Option<Limit>) -> bool
 }
 
 /// Whether no value meets the limits: the lower one is plus infinity, or the upper one is minus infinity.
-pub(crate) fn have_infinite_limit(lower: &Limit, upper: &Limit) -> bool
+fn have_infinite_limit(lower: &Limit, upper: &Limit) -> bool
     ensures { result ≡ have_infinite_side (by_limits lower.now upper.now) }
 {
     match (lower, upper) {

@@ -31,9 +31,6 @@ const FEW: usize = 256;
 /// How many columns are looked up before their coefficients are stored. The look-ups do not wait for one another.
 const AHEAD: usize = 16;
 
-/// The guess for a column that was looked up and is not declared. It is the number of no column.
-const NO_COLUMN: usize = usize::MAX;
-
 /// The terms of a row that is not yet declared: columns, each once, and their values. Contracts see them in the order in which
 /// they were added.
 ///
@@ -156,11 +153,11 @@ impl RowTerms {
 }
 
 impl Tables {
-    /// The numbers that the columns of the first terms may have, [`NO_COLUMN`] where there is none. They only speed up later
-    /// look-ups, so any numbers are correct.
+    /// The numbers that the columns of the first terms may have, 0 where there is none. They only speed up later look-ups, so any
+    /// numbers are correct.
     fn guesses(&self, row: u32, terms: &[(Name, Decimal)]) -> [usize; AHEAD] {
         let count = terms.len().min(AHEAD);
-        let mut guesses = [NO_COLUMN; AHEAD];
+        let mut guesses = [0usize; AHEAD];
         let mut next = self.recent;
         for i in 0..count {
             if let Some(column) = self.column_from(terms[i].0.as_bytes(), next) {
@@ -189,17 +186,6 @@ impl Tables {
         self.column_by_hash(name)
     }
 
-    /// The number of the column of this name, if it is found. A name that was looked up when its column was guessed is not looked
-    /// up again: it is inserted at once.
-    fn guessed_column(&self, name: &[u8], guess: usize) -> Option<usize>
-        ensures number { IfSome result (λ i. column_name self.now i ≡ Some name.now) }
-    {
-        if guess == NO_COLUMN {
-            return None;
-        }
-        self.column_from(name, guess)
-    }
-
     /// The number of the column of this name, which is declared if it is not yet.
     fn term_column(&mut self, alloc: Global, name: &[u8], guess: usize) -> Result<usize, AllocError>
         requires numbered { IsNumbered self.old }
@@ -209,12 +195,9 @@ impl Tables {
         ensures ok { IfOk result (λ column. HasColumn self.old name.now column self.new) }
     {
         self.each_name_stands_once();
-        match self.guessed_column(name, guess) {
+        match self.column_from(name, guess) {
             Some(column) => Ok(column),
-            None => {
-                let place = self.start_column(alloc, Name::from_legal(alloc, name)?)?;
-                Ok(place.number())
-            }
+            None => self.start_column(alloc, Name::from_legal(alloc, name)?),
         }
     }
 

@@ -2,26 +2,22 @@
 
 pub(crate) mod file_faults;
 
-ghost use Rattle.std.specs.Prelude.{◌≡◌, ◌<◌, ◌||◌, IsTrue, IfSome, IfOk, OnOk, OnErr, Some, None, true, false, suc, is_some, if◌then◌else◌};
+ghost use Rattle.std.specs.Prelude.{◌≡◌, ◌<◌, ◌||◌, IsTrue, IfSome, OnOk, OnErr, Some, None, true, false, suc, is_some};
 ghost use Rattle.std.specs.Option.{option_map_or};
 ghost use Rattle.std.specs.Ordering.{nat_cmp};
 ghost use Rattle.std.specs.FinMap.{find};
 ghost use Rattle.indexmap.specs.IndexMap.{index_map_len};
 ghost use Rattle.mpslp_types.specs.Name.{same_bytes};
-ghost use Rattle.mpslp_types.specs.Lists.{those_of, when};
-ghost use Rattle.mpslp_types.specs.declared.faults.BuildFault.TheVariants.{DuplicateRow};
 ghost use Rattle.mpslp_builder.specs.Declaration.{has_row, has_column, has_name, is_objective, is_free_row, is_free_definition, is_definition_by_limits};
 ghost use Rattle.mpslp_builder.specs.Consistency.{has_objective_rhs};
-ghost use Rattle.mpslp_builder.specs.Refusal.{row_tests};
-ghost use Rattle.mpslp_builder.specs.Answer.{Answers};
 ghost use Rattle.mpslp_builder.specs.Tables.{draft, IsNumbered};
-ghost use Rattle.mpslp_builder.specs.Calls.{row_key_of, row_name, column_name, row_tells, has_limits, column_tells, cells_at, column_number_of, with_cell, with_bounds, IsOnceEach, IsEmptyTables, IsSameTables, HasObjective, HasRowAdded, HasRowChanged, HasColumnChanged, HasRhsPut, IsColumnPlace};
+ghost use Rattle.mpslp_builder.specs.Calls.{row_key_of, row_name, column_name, row_tells, has_limits, column_tells, cells_at, new_column, with_cell, with_bounds, IsOnceEach, IsEmptyTables, IsSameTables, HasObjective, HasRowAdded, HasRowChanged, HasColumnAdded, HasColumnChanged, HasRhsPut};
 
 use indexmap::IndexMap;
 use mpslp_builder_parts::{ColumnParts, ObjectiveParts, RowParts};
 use mpslp_decimal::{Decimal, PackedDecimal};
 use mpslp_model_core::PackedRowDefinition;
-use mpslp_types::{BuildFault, Limit, Name, NameBytes};
+use mpslp_types::{Limit, Name, NameBytes};
 use std::alloc::{AllocError, Global};
 
 /// A map by names, which their bytes find, in the order of insertion.
@@ -38,14 +34,9 @@ pub(crate) struct Tables {
     pub(crate) columns: NameMap<ColumnParts>,
     /// The index of the row that was used last. It only speeds up look-ups, so any number is correct.
     pub(crate) recent_row: usize,
-    /// How many rows were used since one came right after the one before it. It only speeds up look-ups, so any number is correct.
-    pub(crate) since_rise: usize,
     /// The number of the column that was used last. It only speeds up look-ups, so any number is correct.
     pub(crate) recent: usize,
 }
-
-/// So long after a row came right after the one before it, this is not expected again: rows come in an order of their own.
-const RISE_ENDS: usize = 16;
 
 /// Whether two names are the same. Their last bytes are compared first, because most names that differ have other ones.
 fn is_same_name(name: &[u8], other: &[u8]) -> bool
@@ -79,27 +70,6 @@ impl RowRef {
     }
 }
 
-/// The number of a column, and whether it was there before.
-#[derive(Clone, Copy)]
-pub(crate) enum ColumnPlace {
-    /// A new column has this number.
-    New(usize),
-    /// A column that was declared before has this number.
-    Known(usize),
-}
-
-impl ColumnPlace {
-    /// The number.
-    pub(crate) fn number(self) -> usize
-        ensures { result ≡ column_number_of self }
-    {
-        match self {
-            ColumnPlace::New(number) => number,
-            ColumnPlace::Known(number) => number,
-        }
-    }
-}
-
 impl Tables {
     /// Tables without declarations.
     pub(crate) fn new(alloc: Global) -> Tables
@@ -110,7 +80,6 @@ impl Tables {
             rows: IndexMap::new(alloc),
             columns: IndexMap::new(alloc),
             recent_row: 0,
-            since_rise: 0,
             recent: 0,
         }
     }
@@ -194,25 +163,8 @@ impl Tables {
         }
     }
 
-    /// The index of the row that may be used next: that after the row that was used last, if rows often come in this order, and
-    /// else that row again.
-    fn next_row(&self) -> usize {
-        if self.since_rise < RISE_ENDS {
-            return self.recent_row.saturating_add(1);
-        }
-        self.recent_row
-    }
-
-    /// How many rows were used since one came right after the one before it, if the row at this index is used now.
-    fn since_rise_with(&self, index: usize) -> usize {
-        if index == self.recent_row.saturating_add(1) {
-            return 0;
-        }
-        self.since_rise.saturating_add(1)
-    }
-
-    /// The row of this name, or the objective. The row that was used last and the one that may be next are compared first, which
-    /// saves a look-up if rows are used in the order of their declarations.
+    /// The row of this name, or the objective. The row that was used last and the one after it are compared first, which saves a
+    /// look-up if rows are used in the order of their declarations.
     pub(crate) fn row_ref(&self, name: &[u8]) -> Option<RowRef>
         ensures place { IfSome result (λ place. row_name self.now (row_key_of place) ≡ Some name.now) }
         ensures found { is_some result ≡ has_row (draft None None self.now) name.now }
@@ -223,7 +175,7 @@ impl Tables {
         if self.is_row_at(self.recent_row, name) {
             return Some(RowRef::Row(self.recent_row));
         }
-        let next = self.next_row();
+        let next = self.recent_row.saturating_add(1);
         if self.is_row_at(next, name) {
             return Some(RowRef::Row(next));
         }
@@ -384,88 +336,38 @@ impl Tables {
     }
 
     /// Whether one more row can be numbered.
-    fn has_room(&self) -> bool
+    pub(crate) fn has_room(&self) -> bool
         ensures { IsTrue result → index_map_len self.now.rows < MOST_ROWS }
     {
         self.rows.len() < MOST_ROWS
     }
 
-    /// The error of a row of this name that cannot be added. That the name is declared already comes before the given error.
-    pub(crate) fn row_fault(&self, name: &[u8], fault: BuildFault) -> BuildFault
-        ensures { result ≡ (if has_row (draft None None self.now) name.now then DuplicateRow else fault) }
-    {
-        if self.has_row(name) {
-            return BuildFault::DuplicateRow;
-        }
-        fault
-    }
-
-    /// Adds a row without right-hand side and range, if neither a row nor the objective has its name. The name is hashed only
-    /// once, which counts where a model has many rows.
-    ///
-    /// # Errors
-    ///
-    /// `DuplicateRow` if a row or the objective has the name; `OutOfMemory`, also if no more rows can be numbered.
+    /// Adds a row without right-hand side and range. Its name must be new.
     pub(crate) fn add_row(
         &mut self,
         name: Name,
         definition: PackedRowDefinition,
-    ) -> Result<(), BuildFault>
-        ensures { Answers (those_of (row_tests (draft None None self.old) name)) result (HasRowAdded self.old name (record { definition = definition; rhs = None; range = None }) self.new × (index_map_len self.old.rows < MOST_ROWS)) (IsSameTables self.old self.new) }
-    {
-        if self.is_objective(name.as_bytes()) {
-            return Err(BuildFault::DuplicateRow);
-        }
-        if !self.has_room() {
-            return Err(self.row_fault(name.as_bytes(), BuildFault::OutOfMemory));
-        }
-        self.insert_row(name, RowParts::new(&definition))
-    }
-
-    /// Adds a row, if no row has its name; the objective does not count.
-    fn insert_row(&mut self, name: Name, parts: RowParts) -> Result<(), BuildFault>
-        ensures { Answers (when (has_name (draft None None self.old).rows name) DuplicateRow) result (HasRowAdded self.old name parts self.new) (IsSameTables self.old self.new) }
-    {
-        let (index, earlier) = match self.rows.insert_full(name, parts) {
-            Ok(found) => found,
-            Err(_) => return Err(BuildFault::OutOfMemory),
-        };
-        self.recent_row = index;
-        match earlier {
-            None => Ok(()),
-            Some(earlier) => {
-                // The row of this name has the new parts now, and gets its own ones back.
-                let (_key, row) = self.rows.pair_mut(index);
-                *row = earlier;
-                Err(BuildFault::DuplicateRow)
-            }
-        }
-    }
-
-    /// Adds a column without coefficients, if no column has its name, which is hashed only once. The column of the name is then
-    /// the one that was used last.
-    pub(crate) fn add_column(
-        &mut self,
-        alloc: Global,
-        name: Name,
-    ) -> Result<ColumnPlace, AllocError>
-        ensures ok { IfOk result (λ place. IsColumnPlace self.old name place self.new) }
+    ) -> Result<(), AllocError>
+        requires { has_name (draft None None self.old).rows name ≡ false }
+        ensures ok { OnOk result (HasRowAdded self.old name (record { definition = definition; rhs = None; range = None }) self.new) }
         ensures err { OnErr result (IsSameTables self.old self.new) }
     {
-        let (number, earlier) = match self.columns.insert_full(name, ColumnParts::new(alloc)) {
-            Ok(found) => found,
-            Err(_) => return Err(AllocError),
-        };
-        self.recent = number;
-        match earlier {
-            None => Ok(ColumnPlace::New(number)),
-            Some(earlier) => {
-                // The column of this name has no coefficients now, and gets its own ones back.
-                let (_key, parts) = self.columns.pair_mut(number);
-                *parts = earlier;
-                Ok(ColumnPlace::Known(number))
-            }
-        }
+        self.recent_row = self.rows.len();
+        let parts = RowParts::new(&definition);
+        self.rows.insert(name, parts)?;
+        Ok(())
+    }
+
+    /// Adds a column without coefficients. Its name must be new.
+    pub(crate) fn add_column(&mut self, alloc: Global, name: Name) -> Result<(), AllocError>
+        requires { has_name (draft None None self.old).columns name ≡ false }
+        ensures ok { OnOk result (HasColumnAdded self.old name new_column self.new) }
+        ensures err { OnErr result (IsSameTables self.old self.new) }
+    {
+        let parts = ColumnParts::new(alloc);
+        self.recent = self.columns.len();
+        self.columns.insert(name, parts)?;
+        Ok(())
     }
 
     /// Stores a coefficient at a free place.
@@ -480,9 +382,7 @@ impl Tables {
         ensures ok { OnOk result (HasColumnChanged self.old column (with_cell row value) self.new) }
         ensures err { OnErr result (IsSameTables self.old self.new) }
     {
-        let index = row.saturating_sub(1) as usize;
-        self.since_rise = self.since_rise_with(index);
-        self.recent_row = index;
+        self.recent_row = row.saturating_sub(1) as usize;
         self.recent = column;
         let (_key, parts) = self.columns.pair_mut(column);
         parts.cells.put(row, value)
@@ -494,7 +394,6 @@ impl Tables {
         requires typed { has_limits self.old (RowRef.Row index) ≡ false }
         ensures { HasRowChanged self.old index (λ row. record row { rhs = Some value }) self.new }
     {
-        self.since_rise = self.since_rise_with(index);
         self.recent_row = index;
         let (_key, row) = self.rows.pair_mut(index);
         row.put_rhs(value);
@@ -528,7 +427,6 @@ impl Tables {
         requires typed { has_limits self.old (RowRef.Row index) ≡ false }
         ensures { HasRowChanged self.old index (λ row. record row { range = Some value }) self.new }
     {
-        self.since_rise = self.since_rise_with(index);
         self.recent_row = index;
         let (_key, row) = self.rows.pair_mut(index);
         row.put_range(value);

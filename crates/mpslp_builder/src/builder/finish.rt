@@ -116,7 +116,6 @@ pub(crate) fn into_model(
         rows,
         columns,
         recent_row: _,
-        since_rise: _,
         recent: _,
     } = tables;
     let (row_order, rows) = ordered(alloc, rows_in(alloc, rows)?)?;

@@ -1,33 +1,69 @@
-use Rattle.std.proofs.Common.{refl, sym, ap, ◌∙◌, ℕ, List, [], ◌∷◌, Bool}
-use Rattle.std.specs.Prelude.{◌&&◌, None, if◌then◌else◌}
+use Rattle.std.proofs.Common.{◌≡◌, refl, sym, ap, ◌∙◌, ℕ, List, Bool, false, [], ◌∷◌}
+use Rattle.std.specs.Prelude.{◌&&◌}
 use Rattle.mpslp_types.specs.Name.{is_mps_name}
 use Rattle.mpslp_types.specs.Limit.{is_given}
-use Rattle.mpslp_types.specs.Lists.{those_of}
-use Rattle.mpslp_types.specs.declared.faults.BuildFault.TheVariants.{DuplicateRow, InfiniteValue, OutOfMemory}
+use Rattle.mpslp_types.specs.declared.faults.BuildFault.{BuildFault}
+use Rattle.mpslp_types.specs.declared.faults.BuildFault.TheVariants.{DuplicateRow, InfiniteValue}
 use Rattle.mpslp_types.proofs.BoolLemmas.{both_so}
-use Rattle.mpslp_builder.specs.Declaration.{by_limits, has_row}
+use Rattle.mpslp_builder.specs.Answer.{first_refusal}
+use Rattle.mpslp_builder.specs.Declaration.{Draft, with_declaration, by_limits, declare_row, has_row, have_infinite_side}
+use Rattle.mpslp_builder.specs.Refusal.{refusals}
 use Rattle.mpslp_builder.specs.Tables.{draft}
-use Rattle.mpslp_builder.proofs.AnswerLemmas.{no_memory}
-use Rattle.mpslp_builder.proofs.RowAnswers.{row_kept, row_answered, row_refused}
+use Rattle.mpslp_builder.proofs.AnswerLemmas.{none_refused, made_after, answered, handed_on, want_of_memory}
+use Rattle.mpslp_builder.proofs.RefusalLemmas.{first_none}
+use Rattle.mpslp_builder.proofs.CallLemmas.{same_tables, row_added, row_added_numbered}
 use Rattle.mpslp_builder.proofs.builder.Builder.row_limits.Goals as goal
 
-pub invariant_of-self : goal.invariant_of-self
-invariant_of-self c =
+pub invariant_of-self-2 : goal.invariant_of-self-2
+invariant_of-self-2 c =
     let b = c.self.inside in
+    let inner = draft b.sense b.constant b.tables in
+    let all = c.args.self.now in
+    let definition = by_limits c.args.lower c.args.upper in
+    let d = declare_row c.args.name definition in
+    let unrefused = c.in_ok-check_row_limits.ensures ∙ ap (λ (n : List ℕ). first_refusal (refusals all (declare_row n definition))) c.as_bytes.ensures in
+    let none : refusals inner d ≡ [] = ap (λ (before : Draft). refusals before d) c.self.view_is ∙ none_refused (refusals all d) unrefused in
+    let infinite : List (Bool × BuildFault) = (have_infinite_side definition, InfiniteValue) ∷ [] in
+    let absent : has_row inner c.args.name ≡ false = first_none (has_row inner c.args.name) DuplicateRow infinite none in
+    let added = c.in_ok-add_row.ensures.ok in
+    let after = row_added b.sense b.constant b.tables c.add_row.new.self c.args.name c.in_ok-definition.definition c.self.invariant.1 added absent
+    ∙ (λ i. with_declaration inner (declare_row c.args.name (c.in_ok-definition.ensures i))) in
     let given = both_so (is_given c.args.lower) (is_given c.args.upper) c.requires.lower c.requires.upper in
-    let legal = both_so (is_mps_name c.args.name) (is_given c.args.lower && is_given c.args.upper) (ap is_mps_name (sym c.name.view_is) ∙ c.name.invariant) given in
-    row_kept b.sense b.constant b.tables c.add_row.new.self c.args.name (by_limits c.args.lower c.args.upper) c.in-Ok.definition c.add_row.result c.self.invariant.1
-    (sym c.if-have_infinite_limit.ensures) c.in-Ok.ensures c.add_row.ensures c.self.invariant.0 legal
+    let legal = both_so (is_mps_name c.args.name) (is_given c.args.lower && is_given c.args.upper) (ap is_mps_name (sym c.name.view_is) ∙ c.name.invariant) given in (
+      made_after d after c.self.invariant.0 legal none refl,
+      row_added_numbered b.sense b.constant b.tables c.add_row.new.self c.args.name c.in_ok-definition.definition c.self.invariant.1 added (c.has_room.ensures c.if-not-has_room.false) absent,
+    )
 
-pub returns-in-Ok : goal.returns-in-Ok
-returns-in-Ok c =
-    let b = c.self.inside in
-    row_answered b.sense b.constant b.tables c.add_row.new.self c.args.name (by_limits c.args.lower c.args.upper) c.in-Ok.definition c.add_row.result c.self.invariant.1
-    (sym c.if-have_infinite_limit.ensures) c.in-Ok.ensures c.add_row.ensures c.args.self.now c.self.view_is
+pub returns-in_err-check_row_limits : goal.returns-in_err-check_row_limits
+returns-in_err-check_row_limits c =
+    let all = c.args.self.now in
+    let definition = by_limits c.args.lower c.args.upper in
+    let d = declare_row c.args.name definition in
+    let refused = c.in_err-check_row_limits.ensures ∙ ap (λ (n : List ℕ). first_refusal (refusals all (declare_row n definition))) c.as_bytes.ensures in
+    handed_on (refusals all d) c.from_residual.result c.in_err-check_row_limits.field-0.0 _ _ c.from_residual.ensures.1 refused refl
 
-pub returns-in-Err : goal.returns-in-Err
-returns-in-Err c =
+pub returns-in_err-add_row : goal.returns-in_err-add_row
+returns-in_err-add_row c =
     let b = c.self.inside in
-    let fault = c.row_fault-in-Err.ensures ∙ ap (λ (n : List ℕ). if has_row (draft None None b.tables) n then DuplicateRow else OutOfMemory) c.as_bytes-in-Err.ensures in
-    row_refused b.sense b.constant b.tables c.args.name (by_limits c.args.lower c.args.upper) c.args.self.now OutOfMemory c.row_fault-in-Err.result _ _ c.self.view_is fault
-    (no_memory _ _ _ (ap (λ (b : Bool). those_of ((b, InfiniteValue) ∷ [])) (sym c.if-have_infinite_limit.ensures)) refl) refl
+    let all = c.args.self.now in
+    let definition = by_limits c.args.lower c.args.upper in
+    let d = declare_row c.args.name definition in
+    let unrefused = c.in_ok-check_row_limits.ensures ∙ ap (λ (n : List ℕ). first_refusal (refusals all (declare_row n definition))) c.as_bytes.ensures in
+    let same = same_tables b.sense b.constant b.tables c.add_row.new.self c.in_err-add_row.ensures.err ∙ c.self.view_is in
+    want_of_memory (refusals all d) c.from_residual-in_err-add_row.result _ _ c.from_residual-in_err-add_row.ensures.1 (none_refused (refusals all d) unrefused) same
+
+pub returns : goal.returns
+returns c =
+    let b = c.self.inside in
+    let inner = draft b.sense b.constant b.tables in
+    let all = c.args.self.now in
+    let definition = by_limits c.args.lower c.args.upper in
+    let d = declare_row c.args.name definition in
+    let unrefused = c.in_ok-check_row_limits.ensures ∙ ap (λ (n : List ℕ). first_refusal (refusals all (declare_row n definition))) c.as_bytes.ensures in
+    let none : refusals inner d ≡ [] = ap (λ (before : Draft). refusals before d) c.self.view_is ∙ none_refused (refusals all d) unrefused in
+    let infinite : List (Bool × BuildFault) = (have_infinite_side definition, InfiniteValue) ∷ [] in
+    let absent : has_row inner c.args.name ≡ false = first_none (has_row inner c.args.name) DuplicateRow infinite none in
+    let added = c.in_ok-add_row.ensures.ok in
+    let after = row_added b.sense b.constant b.tables c.add_row.new.self c.args.name c.in_ok-definition.definition c.self.invariant.1 added absent
+    ∙ (λ i. with_declaration inner (declare_row c.args.name (c.in_ok-definition.ensures i))) in
+    answered d c.self.view_is after none

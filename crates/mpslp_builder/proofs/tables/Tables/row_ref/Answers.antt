@@ -28,4 +28,4 @@ returns-then-is_row_at-clause-found c =
 pub returns-then-is_row_at-2-clause-found : goal.returns-then-is_row_at-2-clause-found
 returns-then-is_row_at-2-clause-found c =
     or_right (is_objective (draft None None c.args.self.now) c.args.name.now) (has_name (draft None None c.args.self.now).rows c.args.name.now) true c.if-is_objective.ensures
-    (number_there definition_of c.args.self.now.rows.entries c.next_row-next.result c.args.name.now (c.is_row_at-2.ensures c.if-is_row_at-2.true))
+    (number_there definition_of c.args.self.now.rows.entries c.saturating_add-next.result c.args.name.now (c.is_row_at-2.ensures c.if-is_row_at-2.true))
