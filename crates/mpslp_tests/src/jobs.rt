@@ -25,6 +25,33 @@ rows 0 columns 1 elements 0
 column 0 x continuous 0 inf objective 1
 ";
 
+/// A file with a column whose name is not legal in LP.
+const UNFIT: &str = "ROWS\n N c\nCOLUMNS\n x[1] c 1\nENDATA\n";
+
+/// The files of the cases below.
+fn file(name: &str) -> &'static str {
+    match name {
+        "small.mps" | "mps.lp" => SMALL,
+        "canonical.mps" => SMALL_CANONICAL,
+        "small.lp" => SMALL_LP,
+        "canonical.lp" => SMALL_CANONICAL_LP,
+        "other.lp" => OTHER_LP,
+        "cut.lp" => CUT_LP,
+        "unfit.mps" => UNFIT,
+        "open.mps" => "ROWS\n",
+        _ => "",
+    }
+}
+
+/// The format of a file, by the end of its name.
+fn form_of(name: &str) -> Form {
+    if name.ends_with("lp") {
+        Form::Lp
+    } else {
+        Form::Mps
+    }
+}
+
 /// The exit status, standard output and standard error of a job.
 #[derive(Drop)]
 struct Ended {
@@ -38,6 +65,18 @@ impl Ended {
         self.status == status
             && self.out.as_slice() == out.as_bytes()
             && self.err.as_slice() == err.as_bytes()
+    }
+
+    /// Whether the exit status is the one that is written so, standard output is this text, and standard error this line or empty.
+    fn is_as(&self, status: &str, out: &str, line: &str) -> bool {
+        let is_line = match self.err.as_slice() {
+            [] => line.is_empty(),
+            [text @ .., b'\n'] => !line.is_empty() && text == line.as_bytes(),
+            _ => false,
+        };
+        matches!(status.parse::<u8>(), Ok(status) if status == self.status)
+            && self.out.as_slice() == out.as_bytes()
+            && is_line
     }
 }
 
@@ -81,101 +120,81 @@ fn same(alloc: Global, first_form: Form, second_form: Form) -> Result<Job, JobFa
     })
 }
 
-/// The formats of a file and of its text, the file, the exit status, the text, and the line of the error.
-const CONVERTED: [(Form, Form, &str, u8, &str, &str); 6] = [
-    (Form::Mps, Form::Mps, SMALL, 0, SMALL_CANONICAL, ""),
-    (Form::Mps, Form::Lp, SMALL, 0, SMALL_CANONICAL_LP, ""),
-    (Form::Lp, Form::Mps, SMALL_LP, 0, SMALL_CANONICAL, ""),
-    (Form::Lp, Form::Lp, SMALL_LP, 0, SMALL_CANONICAL_LP, ""),
-    (Form::Lp, Form::Lp, CUT_LP, 2, "", "file: MissingEnd\n"),
-    (
-        Form::Mps,
-        Form::Lp,
-        "ROWS\n N c\nCOLUMNS\n x[1] c 1\nENDATA\n",
-        2,
-        "",
-        "column 0: NotLp\n",
-    ),
-];
+/// The case of a line, whose parts are separated by `|`.
+#[derive(Clone, Copy)]
+struct Case<'a> {
+    first: &'a str,
+    second: &'a str,
+    status: &'a str,
+    out: &'a str,
+    line: &'a str,
+}
 
-#[test]
-fn files_are_converted(rt: HostRuntime) {
-    for (from, to, text, status, out, err) in CONVERTED {
-        let job = canon(rt.alloc(), from, to);
-        assert!(rt;
-            performed(rt.alloc(), &job, text, SMALL).is(status, out, err),
-            "at {text}"
-        );
+impl<'a> Case<'a> {
+    fn of(text: &'a str) -> Case<'a> {
+        let mut parts = text.split('|');
+        Case {
+            first: parts.next().unwrap_or(""),
+            second: parts.next().unwrap_or(""),
+            status: parts.next().unwrap_or(""),
+            out: parts.next().unwrap_or(""),
+            line: parts.next().unwrap_or(""),
+        }
     }
 }
 
-/// Two files with their formats, the exit status, the result, and the line of the error.
-const COMPARED: [(Form, &str, Form, &str, u8, &str, &str); 7] = [
-    (Form::Mps, SMALL, Form::Lp, SMALL_LP, 0, "same\n", ""),
-    (
-        Form::Lp,
-        SMALL_LP,
-        Form::Mps,
-        SMALL_CANONICAL,
-        0,
-        "same\n",
-        "",
-    ),
-    (
-        Form::Mps,
-        SMALL,
-        Form::Mps,
-        SMALL_CANONICAL,
-        0,
-        "same\n",
-        "",
-    ),
-    (
-        Form::Mps,
-        SMALL,
-        Form::Lp,
-        OTHER_LP,
-        1,
-        "not the same\n",
-        "",
-    ),
-    (
-        Form::Mps,
-        SMALL,
-        Form::Lp,
-        CUT_LP,
-        2,
-        "",
-        "second: file: MissingEnd\n",
-    ),
-    (
-        Form::Lp,
-        CUT_LP,
-        Form::Mps,
-        "ROWS\n",
-        2,
-        "",
-        "first: file: MissingEnd\n",
-    ),
-    (
-        Form::Lp,
-        SMALL_LP,
-        Form::Lp,
-        SMALL,
-        2,
-        "",
-        "second: line 1: BadToken\n",
-    ),
-];
+/// Files, the formats to which they are converted, the exit status, the file that is written, and the line of the error.
+const CONVERTED: &str = "small.mps|mps|0|canonical.mps|
+small.mps|lp|0|canonical.lp|
+small.lp|mps|0|canonical.mps|
+small.lp|lp|0|canonical.lp|
+cut.lp|lp|2||file: MissingEnd
+unfit.mps|lp|2||column 0: NotLp
+";
+
+/// Whether a file is converted as the case says.
+fn is_converted(alloc: Global, case: Case<'_>) -> bool {
+    let job = canon(alloc, form_of(case.first), form_of(case.second));
+    performed(alloc, &job, file(case.first), SMALL).is_as(case.status, file(case.out), case.line)
+}
+
+#[test]
+fn files_are_converted(rt: HostRuntime) {
+    for case in CONVERTED.lines() {
+        assert!(rt; is_converted(rt.alloc(), Case::of(case)), "at {case}");
+    }
+}
+
+/// Two files, the exit status, the result, and the line of the error.
+const COMPARED: &str = "small.mps|small.lp|0|same|
+small.lp|canonical.mps|0|same|
+small.mps|canonical.mps|0|same|
+small.mps|other.lp|1|not the same|
+small.mps|cut.lp|2||second: file: MissingEnd
+cut.lp|open.mps|2||first: file: MissingEnd
+small.lp|mps.lp|2||second: line 1: BadToken
+";
+
+/// What is printed for this answer.
+fn printed(answer: &str) -> &'static str {
+    match answer {
+        "same" => "same\n",
+        "not the same" => "not the same\n",
+        _ => "",
+    }
+}
+
+/// Whether two files are compared as the case says.
+fn is_compared(alloc: Global, case: Case<'_>) -> bool {
+    let job = same(alloc, form_of(case.first), form_of(case.second));
+    let ended = performed(alloc, &job, file(case.first), file(case.second));
+    ended.is_as(case.status, printed(case.out), case.line)
+}
 
 #[test]
 fn two_files_are_compared(rt: HostRuntime) {
-    for (first_form, first, second_form, second, status, out, err) in COMPARED {
-        let job = same(rt.alloc(), first_form, second_form);
-        assert!(rt;
-            performed(rt.alloc(), &job, first, second).is(status, out, err),
-            "at {second}"
-        );
+    for case in COMPARED.lines() {
+        assert!(rt; is_compared(rt.alloc(), Case::of(case)), "at {case}");
     }
 }
 

@@ -6,39 +6,50 @@ use mpslp_model::{FaultKind, Model, ModelReader, ReadFault};
 use mpslp_mps::{MpsReader, read_mps};
 use std::alloc::Global;
 
-/// MPS texts with their canonical text or the line of their error.
-const MPS: [(&str, &str); 4] = [
-    (SMALL, SMALL_CANONICAL),
-    (SMALL_CANONICAL, SMALL_CANONICAL),
-    ("NAME\nROWS\n N  C\n X  R\n", "line 4: BadType\n"),
-    ("", "file: MissingEnd\n"),
-];
+/// Whether the canonical text of a model, or the line of the error, is this one.
+fn has_text(alloc: Global, answer: Result<Model, ReadFault>, wanted: &str) -> bool {
+    told(alloc, answer).as_slice() == wanted.as_bytes()
+}
 
-/// LP texts with their canonical text or the line of their error.
-const LP: [(&str, &str); 4] = [
-    (SMALL_LP, SMALL_CANONICAL),
-    (
-        "min COST: X + 2Y st LIM1: X <= 4 MYG: 1.5 Y >= 1 end",
-        SMALL_CANONICAL,
-    ),
-    ("min x\nst\nx + x <= 1\nend\n", "line 3: DuplicateEntry\n"),
-    ("min x\nsemis\nx\nend\n", "file: SemiBounds x\n"),
-];
+/// Whether an MPS text has this canonical text, or this line of its error.
+fn mps_is(alloc: Global, text: &str, wanted: &str) -> bool {
+    has_text(alloc, read_mps(alloc, text.as_bytes()), wanted)
+}
+
+/// Whether an LP text has this canonical text, or this line of its error.
+fn lp_is(alloc: Global, text: &str, wanted: &str) -> bool {
+    has_text(alloc, read_lp(alloc, text.as_bytes()), wanted)
+}
+
+/// An LP text of the same model in one line.
+const ONE_LINE: &str = "min COST: X + 2Y st LIM1: X <= 4 MYG: 1.5 Y >= 1 end";
 
 #[test]
 fn mps_is_read(rt: HostRuntime) {
-    for (text, wanted) in MPS {
-        let found = told(rt.alloc(), read_mps(rt.alloc(), text.as_bytes()));
-        assert_eq!(rt; found.as_slice(), wanted.as_bytes());
-    }
+    let alloc = rt.alloc();
+    let are_read = [
+        mps_is(alloc, SMALL, SMALL_CANONICAL),
+        mps_is(alloc, SMALL_CANONICAL, SMALL_CANONICAL),
+        mps_is(alloc, "NAME\nROWS\n N  C\n X  R\n", "line 4: BadType\n"),
+        mps_is(alloc, "", "file: MissingEnd\n"),
+    ];
+    assert_eq!(rt; are_read, [true; 4]);
 }
 
 #[test]
 fn lp_is_read(rt: HostRuntime) {
-    for (text, wanted) in LP {
-        let found = told(rt.alloc(), read_lp(rt.alloc(), text.as_bytes()));
-        assert_eq!(rt; found.as_slice(), wanted.as_bytes());
-    }
+    let alloc = rt.alloc();
+    let are_read = [
+        lp_is(alloc, SMALL_LP, SMALL_CANONICAL),
+        lp_is(alloc, ONE_LINE, SMALL_CANONICAL),
+        lp_is(
+            alloc,
+            "min x\nst\nx + x <= 1\nend\n",
+            "line 3: DuplicateEntry\n",
+        ),
+        lp_is(alloc, "min x\nsemis\nx\nend\n", "file: SemiBounds x\n"),
+    ];
+    assert_eq!(rt; are_read, [true; 4]);
 }
 
 /// Feeds pieces until one is rejected.

@@ -2,77 +2,113 @@
 
 use mpslp_lp::{Section, TokenKind, next_token, tokens_of};
 use mpslp_lp_tokens::{SectionWord, WordClass, class_of, is_word};
+use std::alloc::{AllocError, Global};
 use std::test::Fail;
 
-/// A line, and the texts of its tokens, separated by spaces.
-const LINES: [(&str, &str); 18] = [
-    ("", ""),
-    (" \t ", ""),
-    ("\\ a comment", ""),
-    (
-        "c1: 3x + 2.5 y >= -1e3 \\ behind",
-        "c1 : 3 x + 2.5 y >= - 1e3",
-    ),
-    ("1e", "1 e"),
-    ("1e+", "1 e +"),
-    ("1e-7x", "1e-7 x"),
-    ("1ex", "1 ex"),
-    ("1.5.5", "1.5 .5"),
-    ("1..", "1. ."),
-    (".e5", ". e5"),
-    (".5E5E5", ".5E5 E5"),
-    ("x.y2z", "x.y2z"),
-    ("a::b:c->d-> -e", "a :: b : c -> d -> - e"),
-    ("<<==<=>>==", "< <= =< => >= ="),
-    ("[x^2*y]/2", "[ x ^ 2 * y ] /2"),
-    ("a\x01=", "a \x01 ="),
-    ("00012.e01", "00012.e01"),
-];
+/// The two parts of a case, which `|` separates.
+fn parts(case: &str) -> (&str, &str) {
+    case.split_once('|').unwrap_or((case, ""))
+}
+
+/// Lines, and the texts of their tokens, separated by spaces.
+const LINES: &str = "|
+ \t |
+\\ a comment|
+c1: 3x + 2.5 y >= -1e3 \\ behind|c1 : 3 x + 2.5 y >= - 1e3
+1e|1 e
+1e+|1 e +
+1e-7x|1e-7 x
+1ex|1 ex
+1.5.5|1.5 .5
+1..|1. .
+.e5|. e5
+.5E5E5|.5E5 E5
+x.y2z|x.y2z
+a::b:c->d-> -e|a :: b : c -> d -> - e
+<<==<=>>==|< <= =< => >= =
+[x^2*y]/2|[ x ^ 2 * y ] /2
+a\x01=|a \x01 =
+00012.e01|00012.e01
+";
+
+/// The texts of the tokens of a line, separated by spaces.
+fn cut(alloc: Global, line: &str) -> Result<String, AllocError> {
+    let mut found = String::new(alloc);
+    for token in tokens_of(line.as_bytes()) {
+        if !found.is_empty() {
+            found.push(' ')?;
+        }
+        for byte in token.text {
+            found.push(char::from(*byte))?;
+        }
+    }
+    Ok(found)
+}
 
 #[test]
 fn cuts_worked_lines(rt: HostRuntime) -> Result<(), Fail> {
-    for (line, want) in LINES {
-        let mut found = String::new(rt.alloc());
-        for token in tokens_of(line.as_bytes()) {
-            if !found.is_empty() {
-                found.push(' ')?;
-            }
-            for byte in token.text {
-                found.push(char::from(*byte))?;
-            }
-        }
-        assert_eq!(rt; found.as_str(), want, "at {line}");
+    for case in LINES.lines() {
+        let (line, wanted) = parts(case);
+        assert_eq!(rt; cut(rt.alloc(), line)?.as_str(), wanted, "at {line}");
     }
     Ok(())
 }
 
-#[test]
-fn names_what_a_token_is(rt: HostRuntime) -> Result<(), Fail> {
-    for (text, kind) in [
-        ("x1", TokenKind::Word),
-        ("1x", TokenKind::Number),
-        (".5", TokenKind::Number),
-        ("<=", TokenKind::Less),
-        ("=>", TokenKind::Greater),
-        ("= <", TokenKind::Equal),
-        ("::", TokenKind::DoubleColon),
-        (": :", TokenKind::Colon),
-        ("->", TokenKind::Arrow),
-        ("+", TokenKind::Plus),
-        ("-1", TokenKind::Minus),
-        ("[", TokenKind::OpenBracket),
-        ("]", TokenKind::CloseBracket),
-        ("^2", TokenKind::Caret),
-        ("*", TokenKind::Star),
-        (".x", TokenKind::Period),
-        ("\x7f", TokenKind::Unknown),
-    ] {
-        match next_token(text.as_bytes(), 0) {
-            Some(token) => assert!(rt; token.kind == kind && token.start == 0, "at {text}"),
-            None => assert!(rt; false, "at {text}"),
-        }
+/// Texts that begin with a token, and what the token is.
+const KINDS: &str = "x1|word
+1x|number
+.5|number
+<=|less
+=>|greater
+= <|equal
+::|double colon
+: :|colon
+->|arrow
++|plus
+-1|minus
+[|open bracket
+]|close bracket
+^2|caret
+*|star
+.x|period
+\x7f|unknown
+";
+
+fn text_of_kind(kind: TokenKind) -> &'static str {
+    match kind {
+        TokenKind::Word => "word",
+        TokenKind::Number => "number",
+        TokenKind::Less => "less",
+        TokenKind::Greater => "greater",
+        TokenKind::Equal => "equal",
+        TokenKind::DoubleColon => "double colon",
+        TokenKind::Colon => "colon",
+        TokenKind::Arrow => "arrow",
+        TokenKind::Plus => "plus",
+        TokenKind::Minus => "minus",
+        TokenKind::OpenBracket => "open bracket",
+        TokenKind::CloseBracket => "close bracket",
+        TokenKind::Caret => "caret",
+        TokenKind::Star => "star",
+        TokenKind::Period => "period",
+        TokenKind::Unknown => "unknown",
     }
-    Ok(())
+}
+
+/// Whether a text begins with a token of this kind.
+fn begins_with(text: &str, kind: &str) -> bool {
+    match next_token(text.as_bytes(), 0) {
+        Some(token) => text_of_kind(token.kind) == kind && token.start == 0,
+        None => false,
+    }
+}
+
+#[test]
+fn names_what_a_token_is(rt: HostRuntime) {
+    for case in KINDS.lines() {
+        let (text, kind) = parts(case);
+        assert!(rt; begins_with(text, kind), "at {text}");
+    }
 }
 
 const TOUCHING: [(TokenKind, usize, &str); 4] = [
@@ -101,23 +137,42 @@ fn tokens_that_touch_are_cut(rt: HostRuntime) {
     assert!(rt; has_tokens(b"  3x1>=2", &TOUCHING));
 }
 
-/// What words mean.
-const MEANINGS: [(&str, WordClass); 9] = [
-    ("min", WordClass::Opens(SectionWord::Minimize)),
-    ("MAXIMUM", WordClass::Opens(SectionWord::Maximize)),
-    ("s.t.", WordClass::Opens(SectionWord::Rows)),
-    ("Integers", WordClass::Opens(SectionWord::Generals)),
-    ("END", WordClass::Opens(SectionWord::End)),
-    ("infinity", WordClass::Infinity),
-    ("free", WordClass::Free),
-    ("sos2", WordClass::Sos),
-    ("minimise", WordClass::Name),
-];
+/// Words, and what they mean.
+const MEANINGS: &str = "min|minimize
+MAXIMUM|maximize
+s.t.|rows
+Integers|generals
+END|end
+infinity|infinity
+free|free
+sos2|sos
+minimise|name
+";
+
+fn text_of_class(class: WordClass) -> &'static str {
+    match class {
+        WordClass::Opens(SectionWord::Minimize) => "minimize",
+        WordClass::Opens(SectionWord::Maximize) => "maximize",
+        WordClass::Opens(SectionWord::Rows) => "rows",
+        WordClass::Opens(SectionWord::Generals) => "generals",
+        WordClass::Opens(SectionWord::End) => "end",
+        WordClass::Opens(_) => "another section",
+        WordClass::Infinity => "infinity",
+        WordClass::Free => "free",
+        WordClass::Sos => "sos",
+        WordClass::Name => "name",
+    }
+}
 
 #[test]
 fn words_have_a_meaning(rt: HostRuntime) {
-    for (text, meaning) in MEANINGS {
-        assert!(rt; class_of(text.as_bytes()) == meaning, "at {text}");
+    for case in MEANINGS.lines() {
+        let (text, meaning) = parts(case);
+        assert_eq!(rt;
+            text_of_class(class_of(text.as_bytes())),
+            meaning,
+            "at {text}"
+        );
     }
 }
 
