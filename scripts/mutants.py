@@ -2,9 +2,10 @@
 """Tests that the prover rejects the mutants: scripts/mutants.py [CRATE ..]
 
 A mutant is a wrong version of a crate, written as an edit of its sources, in must-fail/ of the crate or in tests/wrong-bodies/.
-`rt must-fail` checks a whole crate once for each mutant. Here a check asks only for the functions that are to be rejected, with
-holes for the proofs of the others: a function is proved from the contracts of the functions that it calls, whatever their bodies
-and proofs. So one check also tests many mutants that change nothing but the bodies of different functions. Such a mutant counts
+`rt must-fail` checks a whole crate once for each mutant. Here a check asks only for the functions that are to be rejected. The others
+have `loop {}` as their body, which calls nothing, and a hole as its proof: a function is proved from the contracts of the functions
+that it calls, whatever their bodies and proofs. So one check also tests many mutants that change nothing but the bodies of different
+functions. Such a mutant counts
 as rejected only if the prover rejects the function that it changes for itself, and not only because it calls a function that is
 not proved, and if it rejects no function for itself that no mutant changes. Mutants that remain are checked together again,
 without those that were rejected, and at last one at a time.
@@ -34,7 +35,9 @@ from prove import LOGS
 
 # An `impl`: its parameters, its trait if it has one, and its type.
 IMPL = re.compile(r"impl\b(<.*?>)? (?:(.*) for )?(.*?)(?: where\b.*)?(?: \{)?$")
-FUNCTION = re.compile(r"( *)(?:pub(?:\([^)]*\))? )?(?:const |unsafe )*fn (\w+)")
+TRAIT = re.compile(r"(?:pub(?:\([^)]*\))? )?trait ")
+TYPE = re.compile(r"(?:pub(?:\([^)]*\))? )?(?:struct|enum) (\w+)", re.M)
+FUNCTION = re.compile(r"( *)(?:pub(?:\([^)]*\))? )?((?:const |unsafe )*)fn (\w+)")
 NOT_PROVED = re.compile(r"fn (\S+): (?:not proved|no proof)(?:[:;] (.*))?$")
 # Why a function is not proved if nothing is wrong with it: it needs a function, or the proof of one, that is not right.
 OF_ITS_CALLS = re.compile(r"it (?:calls|passes the block) `.*, which (?:is|are) not proved")
@@ -56,6 +59,11 @@ def is_named(name: str, ending: str) -> bool:
     return f"::{name}".endswith(f"::{ending}")
 
 
+def modules_of(file: str) -> list[str]:
+    """The modules of a file, from the root of its crate."""
+    return [it for it in Path(file).with_suffix("").parts[1:] if it not in ("lib", "main", "mod")]
+
+
 @dataclass(frozen=True)
 class Body:
     """The body of a function, as the lines of a file that it takes up."""
@@ -68,15 +76,24 @@ class Body:
     last: int
     # The type whose method it is, and the trait, if it is one of a trait, as the prover writes them.
     owner: str | None = None
+    is_of_trait: bool = False
+    # Whether something else than a call needs it: a constant, or the types that take a method from their trait.
+    is_needed: bool = False
 
     @property
     def modules(self) -> list[str]:
-        return [it for it in Path(self.file).with_suffix("").parts[1:] if it not in ("lib", "main", "mod")]
+        return modules_of(self.file)
 
     @property
     def name(self) -> str:
         """The function's name for a check that asks for it: MODULE::FUNCTION or TYPE::FUNCTION."""
         return "::".join([*([self.owner] if self.owner else self.modules), self.function])
+
+    def path(self, types: dict[str, list[str]]) -> list[str]:
+        """Where the prover has the function: a method of a type is in the module of that type, one of a trait in that of its file.
+        The modules of the types of the crate are given."""
+        modules = types.get(self.owner or "", self.modules) if not self.is_of_trait else self.modules
+        return [*modules, *([self.owner] if self.owner else []), self.function]
 
     def is_of(self, name: str) -> bool:
         """Whether the prover's name is that of the function, CRATE::MODULE::FUNCTION or CRATE::MODULE::TYPE::FUNCTION, or of a
@@ -101,22 +118,28 @@ def owner_of(block: re.Match[str]) -> str:
     return (written(block[3], parameters) or "Any") + written(block[2] or "", parameters)
 
 
+def opening_of(lines: list[str], header: int, indent: str) -> int | None:
+    """The line that opens the body of the function with this header, or None if the body is empty."""
+    opening = re.compile(indent + r"(?! ).*\{(\}?)$")
+    found = next((it for it in range(header, len(lines)) if opening.match(lines[it])), None)
+    return None if found is None or lines[found].endswith("}") else found
+
+
 def bodies_of(file: str, text: str) -> list[Body]:
     """The bodies of the functions in a file that has the layout of `rt fmt`."""
-    lines, found, owner = text.split("\n"), [], None
+    lines, found, block = text.split("\n"), [], None
     for number, line in enumerate(lines):
-        if block := IMPL.match(line):
-            owner = owner_of(block)
-        if header := FUNCTION.match(line):
-            indent, name = header[1], header[2]
-            first = number
-            while not (lines[first].startswith(indent) and lines[first][len(indent) : len(indent) + 1] != " " and lines[first].endswith("{")):
-                first += 1
-                if first == len(lines):
-                    break
-            else:
-                last = next((it for it in range(first, len(lines)) if lines[it] == f"{indent}}}"), first)
-                found.append(Body(file, name, number, first + 1, last, owner if indent else None))
+        if TRAIT.match(line):
+            block = None
+        block = IMPL.match(line) or block
+        header = FUNCTION.match(line)
+        opening = opening_of(lines, number, header[1]) if header else None
+        if header and opening is not None:
+            indent, of = header[1], block if header[1] else None
+            last = next((it for it in range(opening, len(lines)) if lines[it] == f"{indent}}}"), opening)
+            is_needed = "const" in header[2] or (of is None and indent != "")
+            owner, is_of_trait = owner_of(of) if of else None, of is not None and of[2] is not None
+            found.append(Body(file, header[3], number, opening + 1, last, owner, is_of_trait, is_needed))
     return found
 
 
@@ -260,17 +283,39 @@ pub {name}_spec : {{M : Type 1}} → statement M
 """
 
 
-def leave_out_proofs(crate: Crate, room: Path, functions: list[str]) -> None:
-    """Puts holes in the place of all proofs of functions in this copy of the crate but those of these functions. Proofs of closures,
-    and of functions that call one another, stay."""
+def put_hole(crate: Crate, room: Path, path: list[str]) -> None:
+    """Puts a hole in the place of the proof of this function in this copy of the crate."""
+    folder = room.joinpath("proofs", *path)
+    folder.mkdir(parents=True, exist_ok=True)
+    for name in PROOF_FILES:
+        (folder / name).unlink(missing_ok=True)
+    (folder / "Proof.antt").write_text(HOLE.format(module=".".join([crate.name, "proofs", *path]), name=path[-1]))
+
+
+def leave_out(crate: Crate, room: Path, functions: list[str]) -> None:
+    """Leaves out the bodies and proofs of all functions but these in this copy of the crate. Functions that call one another stay,
+    with all functions beside them, and so do bodies that something else than a call needs."""
     proofs = room / "proofs"
-    for folder in [file.parent for file in sorted(proofs.rglob("*.antt")) if file.name in PROOF_FILES]:
-        parts = folder.relative_to(proofs).parts
-        if "fn" in parts or parts[-1].startswith("+") or any(is_named("::".join(parts), it) for it in functions):
-            continue
-        for name in PROOF_FILES:
-            (folder / name).unlink(missing_ok=True)
-        (folder / "Proof.antt").write_text(HOLE.format(module=".".join([crate.name, "proofs", *parts]), name=parts[-1]))
+    for folder in {file.parent for file in proofs.rglob("*.antt") if file.name in PROOF_FILES}:
+        path = list(folder.relative_to(proofs).parts)
+        if not ("fn" in path or path[-1].startswith("+") or any(is_named("::".join(path), it) for it in functions)):
+            put_hole(crate, room, path)
+    cycles = {it.parent.relative_to(proofs).parts for it in proofs.rglob("+*")}
+    texts = {str(file.relative_to(room)): file.read_text() for file in sorted((room / "src").rglob("*.rt"))}
+    types = {it: modules_of(file) for file, text in texts.items() for it in TYPE.findall(text)}
+    for file, text in texts.items():
+        lines, end = text.split("\n"), 0
+        for body in bodies_of(file, text):
+            path = body.path(types)
+            stays = body.is_needed or tuple(path[:-1]) in cycles or any(is_named("::".join(path), it) for it in functions)
+            if stays or body.header < end:
+                continue
+            end = body.last
+            lines[body.first : end] = ["loop {}", *[""] * (end - body.first - 1)]
+            put_hole(crate, room, path)
+            for closures in (["fn", body.function], ["fn", body.owner or "", body.function]):
+                shutil.rmtree(proofs.joinpath(*body.modules, *closures), ignore_errors=True)
+        (room / file).write_text("\n".join(lines))
 
 
 class Prover:
@@ -302,7 +347,7 @@ class Prover:
                 (room / file).write_text(text)
             words = self.words
             if functions:
-                leave_out_proofs(self.crate, room, functions)
+                leave_out(self.crate, room, functions)
                 words = [*words, "--allow-holes", *(word for it in functions for word in ("--only", it))]
             ran = subprocess.run(
                 words,

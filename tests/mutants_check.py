@@ -16,7 +16,8 @@ from pathlib import Path
 ROOT = Path(__file__).resolve().parent.parent
 sys.path.insert(0, str(ROOT / "scripts"))
 
-from mutants import bodies_of, rejected_for_themselves
+from crates import Crate
+from mutants import bodies_of, leave_out, rejected_for_themselves
 
 KIT_SUM = (ROOT / "kit-sum").read_text().strip()
 
@@ -80,6 +81,53 @@ pub fn limit() -> u8 {
 
 HIGH = """pub fn three() -> u8 {
     one() + two()
+}
+"""
+
+PAIR = """pub trait Size {
+    fn size(&self) -> u8;
+
+    fn is_large(&self) -> bool {
+        self.size() > LEAST
+    }
+}
+
+const LEAST: u8 = least();
+
+const fn least() -> u8 {
+    1
+}
+
+pub struct Pair;
+
+impl Pair {
+    pub fn one(&self) -> u8
+        ensures { result ≡ 1 }
+    {
+        1
+    }
+
+    pub fn both(&self) -> bool {
+        let [first, second] = [1, 2];
+        first < second
+    }
+}
+
+impl Size for Pair {
+    fn size(&self) -> u8 {
+        2
+    }
+}
+
+pub fn empty()
+    ensures { Pair }
+{}
+"""
+
+MORE = """impl Pair {
+    pub fn more(&self) -> u8 {
+        3
+    }
 }
 """
 
@@ -209,6 +257,48 @@ class Rejections(unittest.TestCase):
         calls = "fn low::{}: not proved; it calls `low::limit`, which is not proved"
         goal = "note: src/lib.rt:6:5: it is not proved that the sum fits its type"
         self.assertEqual(self.rejected(goal, calls.format("one"), calls.format("two")), ["low::one"])
+
+
+class LeftOut(unittest.TestCase):
+    """What a check has of the functions that it is not asked for."""
+
+    def setUp(self) -> None:
+        self.room = Path(tempfile.mkdtemp(prefix="mpslp-mutants-"))
+        self.addCleanup(shutil.rmtree, self.room)
+        for file, text in (("lib.rt", "mod more;\nmod pair;\n"), ("pair.rt", PAIR), ("more.rt", MORE)):
+            (self.room / "src").mkdir(exist_ok=True)
+            (self.room / "src" / file).write_text(text)
+        for path in ("pair/Pair/one/Answers", "pair/Pair/both/Answers", "pair/fn/Pair/both/first/Proof", "pair/empty/Proof"):
+            file = self.room / "proofs" / f"{path}.antt"
+            file.parent.mkdir(parents=True)
+            file.write_text("a proof")
+        self.leave_out()
+
+    def leave_out(self) -> None:
+        leave_out(Crate("low", "low:", (), ()), self.room, ["Pair::one"])
+
+    def text(self, file: str) -> str:
+        return "\n".join(line for line in (self.room / "src" / file).read_text().split("\n") if line)
+
+    def test_only_the_bodies_of_calls_are_left_out(self) -> None:
+        left = PAIR.replace("        let [first, second] = [1, 2];\n        first < second\n", "loop {}\n").replace("        2\n", "loop {}\n")
+        self.assertEqual(self.text("pair.rt"), "\n".join(line for line in left.split("\n") if line))
+        self.assertEqual(self.text("more.rt"), MORE.replace("        3\n", "loop {}\n").rstrip("\n"))
+
+    def test_functions_that_call_one_another_stay(self) -> None:
+        (self.room / "src" / "more.rt").write_text("fn again() -> u8 {\n    again()\n}\n")
+        (self.room / "proofs" / "more" / "+again").mkdir(parents=True)
+        self.leave_out()
+        self.assertIn("    again()\n", (self.room / "src" / "more.rt").read_text())
+
+    def test_lines_keep_their_numbers(self) -> None:
+        self.assertEqual((self.room / "src" / "pair.rt").read_text().count("\n"), PAIR.count("\n"))
+
+    def test_their_proofs_are_holes(self) -> None:
+        proofs = self.room / "proofs"
+        found = {str(it.relative_to(proofs)): "?" in it.read_text() for it in proofs.rglob("*.antt")}
+        holes = ("pair/Pair/both", "pair/Pair/more", "pair/PairSize/size", "pair/empty")
+        self.assertEqual(found, {"pair/Pair/one/Answers.antt": False} | {f"{it}/Proof.antt": True for it in holes})
 
 
 if __name__ == "__main__":
