@@ -175,9 +175,9 @@ cut.lp|open.mps|2||first: file: MissingEnd
 small.lp|mps.lp|2||second: line 1: BadToken
 ";
 
-/// What is printed for this answer.
-fn printed(answer: &str) -> &'static str {
-    match answer {
+/// What is printed for this outcome.
+fn printed(outcome: &str) -> &'static str {
+    match outcome {
         "same" => "same\n",
         "not the same" => "not the same\n",
         _ => "",

@@ -5,15 +5,14 @@ use std::alloc::{AllocError, Global};
 use std::test::Fail;
 
 /// Arguments, and the job that they request.
-const JOBS: [(&str, &str); 7] = [
-    ("canon mps lp -", "canon mps lp -"),
-    ("canon lp mps a.lp", "canon lp mps a.lp"),
-    ("canon -- mps mps -a", "canon mps mps -a"),
-    ("same mps a lp b", "same mps a lp b"),
-    ("same mps - mps b", "same mps - mps b"),
-    ("same lp a lp -", "same lp a lp -"),
-    ("show lp -", "show lp -"),
-];
+const JOBS: &str = "canon mps lp -|canon mps lp -
+canon lp mps a.lp|canon lp mps a.lp
+canon -- mps mps -a|canon mps mps -a
+same mps a lp b|same mps a lp b
+same mps - mps b|same mps - mps b
+same lp a lp -|same lp a lp -
+show lp -|show lp -
+";
 
 /// Arguments that are a usage error, and the beginning of its text.
 const USAGES: [(&str, &str); 9] = [
@@ -69,13 +68,17 @@ const HELPS: [(&str, &str); 6] = [
 ];
 
 /// Arguments with an unknown format, and the first such format.
-const UNKNOWN: [(&str, &str); 5] = [
-    ("canon mps xml -", "xml"),
-    ("canon MPS lp -", "MPS"),
-    ("same foo - bar -", "foo"),
-    ("same mps - bar -", "bar"),
-    ("show a b", "a"),
-];
+const UNKNOWN: &str = "canon mps xml -|xml
+canon MPS lp -|MPS
+same foo - bar -|foo
+same mps - bar -|bar
+show a b|a
+";
+
+/// The two parts of a case, which `|` separates.
+fn parts(case: &str) -> (&str, &str) {
+    case.split_once('|').unwrap_or((case, ""))
+}
 
 /// The job of the arguments in a line, which are separated by spaces.
 fn job_of_line(alloc: Global, line: &str) -> Result<Result<Job, JobFault>, AllocError> {
@@ -120,7 +123,8 @@ fn name(form: Form) -> &'static str {
 
 #[test]
 fn words_ask_for_jobs(rt: HostRuntime) -> Result<(), Fail> {
-    for (line, wanted) in JOBS {
+    for case in JOBS.lines() {
+        let (line, wanted) = parts(case);
         match &job_of_line(rt.alloc(), line)? {
             Ok(found) => {
                 let text = line_of(rt.alloc(), &found)?;
@@ -164,7 +168,8 @@ fn help_and_version_are_texts(rt: HostRuntime) -> Result<(), Fail> {
 
 #[test]
 fn the_first_unknown_format_is_told(rt: HostRuntime) -> Result<(), Fail> {
-    for (line, word) in UNKNOWN {
+    for case in UNKNOWN.lines() {
+        let (line, word) = parts(case);
         match &job_of_line(rt.alloc(), line)? {
             Err(JobFault::UnknownFormat(text)) => assert_eq!(rt; text.as_str(), word),
             _ => assert!(rt; false, "at {line}"),
