@@ -29,7 +29,7 @@ COPY = ROOT / "build" / "ci"
 LEFT_OUT = shutil.ignore_patterns("must-fail", "out")
 
 # Each check takes up to 4 GB of memory, so there are at most so many side by side, and fewer while `rt ci` runs.
-MOST_CHECKS, MOST_BESIDE_CI = 4, 2
+MOST_CHECKS, MOST_BESIDE_CI = 4, 3
 MEMORY_OF_A_CHECK = 4_000_000_000
 # How often the gate looks for what `rt ci` has built.
 SECONDS_BETWEEN_LOOKS = 5
@@ -266,7 +266,7 @@ class Gate:
     def room(self) -> int:
         """How many jobs may run side by side now."""
         if self.ci == Ci.RUNNING:
-            return min(MOST_BESIDE_CI, processors() // 2) if free_memory() > MEMORY_OF_A_CHECK else 0
+            return min(MOST_BESIDE_CI, processors() - 1) if free_memory() > MEMORY_OF_A_CHECK else 0
         return processors() if self.ci == Ci.PASSED else 0
 
     def end_ci(self, passed: bool, closing: str) -> None:
