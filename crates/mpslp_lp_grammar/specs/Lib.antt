@@ -12,3 +12,4 @@ pub mod FirstToken
 pub mod TokenStep
 pub mod Declares
 pub mod TerminalToken
+pub mod Laws

@@ -6,8 +6,8 @@
 //! `FirstToken`, `TokenStep`).
 //!
 //! [`classify`] returns what the grammar sees of a token, or the lexical error of the token. [`take`] takes a token, going from
-//! one [`State`] to the next, and passes what it declares to the builder in the [`Context`]. `proofs/TakingLemmas` proves that
-//! both definitions of the grammar agree. `mpslp_lp` takes the tokens of lines.
+//! one [`State`] to the next, and passes what it declares to the builder in the [`Context`]. [`laws`] has that both
+//! definitions of the grammar agree. `mpslp_lp` takes the tokens of lines.
 #![tactic(auto)]
 
 mod answers;
@@ -16,6 +16,7 @@ mod context;
 mod first_token;
 mod given_limit;
 mod items;
+pub mod laws;
 mod lp_builder;
 mod relations;
 mod rows;

@@ -1,0 +1,5 @@
+use Rattle.mpslp_lp_grammar.proofs.TakingLemmas.{take-says}
+use Rattle.mpslp_lp_grammar.proofs.laws.steps_follow_rules.Goals as goal
+
+pub returns : goal.returns
+returns c = λ context state token. take-says context state token.line token.terminal

@@ -1,0 +1,14 @@
+//! Laws of the grammar. Each is the contract of a function that does nothing: to cite the law, call the function.
+
+ghost use Rattle.mpslp_lp_grammar.specs.Laws.{StepsFollowRules, TextsEndAfterEnd};
+
+/// A token is taken as the rules of the grammar say: what they say of some tokens is what they say of those after the first
+/// one, in the state that [`take`](crate::take) leads to, or the error that it returns.
+pub fn steps_follow_rules()
+    ensures { StepsFollowRules }
+{}
+
+/// A text may end only after its `end`.
+pub fn texts_end_after_end()
+    ensures { TextsEndAfterEnd }
+{}
