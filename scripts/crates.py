@@ -62,6 +62,12 @@ def crates_of_repository() -> dict[str, Crate]:
     return {name: Crate(name, line, uses, tuple(use for use in uses if use in lines)) for name, (line, uses) in lines.items()}
 
 
+def seconds_of_crates(table: str) -> dict[str, float]:
+    """The seconds that a table of scripts/ has for each crate."""
+    rows = [line.split("\t") for line in (ROOT / "scripts" / table).read_text().splitlines()[1:]]
+    return {name: float(seconds) for name, seconds in rows}
+
+
 def below(crates: dict[str, Crate], *tops: str) -> list[Crate]:
     """These crates and all crates below them, lowest first."""
     order: dict[str, Crate] = {}

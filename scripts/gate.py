@@ -13,24 +13,26 @@ import shutil
 import subprocess
 import sys
 import time
+from collections.abc import Iterator
 from concurrent.futures import FIRST_COMPLETED, Future, ThreadPoolExecutor, wait
+from contextlib import contextmanager
 from dataclasses import dataclass
 from enum import Enum, auto
 from pathlib import Path
+from threading import Lock
 
 from crates import Crate, below, crates_of_repository, mark, sums_of
 from kit import ROOT, require_kit
 from mutants import Outcome, crates_with_mutants, test_crate
-from prove import LOGS
+from prove import LOGS, MEMORY_OF_A_LANE, default_lanes, free_memory
 
 # Where `rt ci` runs, and what it leaves there: the library of each crate, its program and its tests.
 COPY = ROOT / "build" / "ci"
 # What a crate has that `rt ci` does not read here.
 LEFT_OUT = shutil.ignore_patterns("must-fail", "out")
 
-# Each check takes up to 4 GB of memory, so there are at most so many side by side, and fewer while `rt ci` runs.
+# There are at most so many checks side by side, since each takes memory, and fewer while `rt ci` runs.
 MOST_CHECKS, MOST_BESIDE_CI = 4, 3
-MEMORY_OF_A_CHECK = 4_000_000_000
 # How often the gate looks for what `rt ci` has built.
 SECONDS_BETWEEN_LOOKS = 5
 
@@ -93,8 +95,42 @@ def processors() -> int:
     return min(MOST_CHECKS, len(os.sched_getaffinity(0)))
 
 
-def free_memory() -> int:
-    return int(re.search(r"MemAvailable:\s+(\d+)", Path("/proc/meminfo").read_text())[1]) * 1024
+def proofs_of_ci() -> int:
+    """How many proofs `rt ci` runs now."""
+
+    def is_proof(process: Path) -> bool:
+        try:
+            return (process / "comm").read_text() == "rattle\n" and (process / "cwd").readlink().is_relative_to(COPY)
+        except OSError:
+            # It has ended.
+            return False
+
+    return sum(map(is_proof, Path("/proc").glob("[0-9]*")))
+
+
+class Turns:
+    """Lets a check of mutants begin only when a processor is idle. More checks than processors take a fifth more processor time
+    each, since one takes the caches from another."""
+
+    def __init__(self) -> None:
+        self.lock, self.checks = Lock(), 0
+
+    @contextmanager
+    def turn(self) -> Iterator[None]:
+        while not self.begins():
+            time.sleep(1)
+        try:
+            yield
+        finally:
+            with self.lock:
+                self.checks -= 1
+
+    def begins(self) -> bool:
+        """Whether a check can begin now, and then it counts as begun."""
+        with self.lock:
+            is_idle = self.checks + proofs_of_ci() < processors()
+            self.checks += is_idle
+            return is_idle
 
 
 def copy_crates() -> None:
@@ -118,9 +154,9 @@ def take_programs() -> None:
 def prove_all(report: Report, proved: set[str]) -> tuple[bool, str]:
     """Runs `rt ci`, and returns whether it passed, and its closing line. Adds the name of each crate that it has proved."""
     log, closing = LOGS / "rt-ci.log", ""
-    # Without RT_JOBS `rt ci` proves as many crates side by side as there are processors and memory for, and gives idle processors
-    # to a crate for which others wait.
-    environment = {name: value for name, value in os.environ.items() if name != "RT_JOBS"}
+    # With RT_JOBS each proof has one process. With several a proof takes up to a third more processor time, and the mutants use what
+    # the proofs leave idle.
+    environment = {**os.environ, "RT_JOBS": str(min(processors(), default_lanes()))}
     with log.open("w") as output, subprocess.Popen(
         ["rt", "ci"], cwd=COPY, stdout=subprocess.PIPE, stderr=subprocess.STDOUT, text=True, errors="replace", env=environment
     ) as ci:
@@ -213,15 +249,16 @@ class Job:
         which are complete once `rt ci` has proved that crate over them."""
         return ci == Ci.PASSED or (isinstance(self.of, Crate) and self.of.name in proved)
 
-    def run(self, crates: dict[str, Crate]) -> Result:
-        return run_test(self.of) if isinstance(self.of, Test) else test_crate(self.of, crates, COPY / "crates")
+    def run(self, crates: dict[str, Crate], turns: Turns) -> Result:
+        return run_test(self.of) if isinstance(self.of, Test) else test_crate(self.of, crates, COPY / "crates", turns.turn)
 
     def report(self, report: Report, result: Result) -> Tally:
         return report_mutants(report, result) if isinstance(result, Outcome) else report_test(report, self.of, *result)
 
 
 def all_jobs(crates: dict[str, Crate]) -> list[Job]:
-    """All jobs, in the order in which they begin: the script that takes longest, the mutants of the largest crates, .."""
+    """All jobs, in the order in which they begin: the script that takes longest, and the mutants and scripts in the order of their
+    time."""
     scripts = [Job(test) for test in TESTS]
     mutants = [Job(it) for it in crates_with_mutants(crates)]
     return [scripts[0], *mutants, *scripts[1:]]
@@ -234,6 +271,7 @@ class Gate:
         self.report, self.crates = report, crates_of_repository()
         self.ci, self.waiting, self.tally = Ci.RUNNING, all_jobs(self.crates), Tally()
         self.proved: set[str] = set()
+        self.turns = Turns()
 
     def run(self) -> Tally:
         """Runs everything, and returns what passed and failed."""
@@ -255,7 +293,7 @@ class Gate:
         room = self.room() - sum(job is not None for job in running.values())
         for job in [it for it in self.waiting if it.is_ready(self.ci, self.proved)][: max(0, room)]:
             self.waiting.remove(job)
-            running[pool.submit(job.run, self.crates)] = job
+            running[pool.submit(job.run, self.crates, self.turns)] = job
 
     def left_out(self) -> Tally:
         """What was never begun counts as failed, whatever else passed."""
@@ -266,7 +304,7 @@ class Gate:
     def room(self) -> int:
         """How many jobs may run side by side now."""
         if self.ci == Ci.RUNNING:
-            return min(MOST_BESIDE_CI, processors() - 1) if free_memory() > MEMORY_OF_A_CHECK else 0
+            return min(MOST_BESIDE_CI, processors() - 1) if free_memory() > MEMORY_OF_A_LANE else 0
         return processors() if self.ci == Ci.PASSED else 0
 
     def end_ci(self, passed: bool, closing: str) -> None:

@@ -25,11 +25,13 @@ import subprocess
 import sys
 import tempfile
 import time
+from collections.abc import Callable
 from concurrent.futures import ThreadPoolExecutor, as_completed
+from contextlib import AbstractContextManager, nullcontext
 from dataclasses import dataclass, field
 from pathlib import Path
 
-from crates import LIBRARIES, PARTS, Crate, crates_of_repository, words_of
+from crates import LIBRARIES, PARTS, Crate, crates_of_repository, seconds_of_crates, words_of
 from kit import ROOT, kit_folder, require_kit
 from prove import LOGS
 
@@ -94,6 +96,15 @@ class Body:
         The modules of the types of the crate are given."""
         modules = types.get(self.owner or "", self.modules) if not self.is_of_trait else self.modules
         return [*modules, *([self.owner] if self.owner else []), self.function]
+
+    def has(self, line: int) -> bool:
+        return self.first <= line <= self.last
+
+    def begins_with(self, line: int, old: str, new: str) -> bool:
+        """Whether an edit of this line only adds text at the beginning of the body, or a body of its own right after the contract."""
+        added = new.removeprefix(old) if new.startswith(old) else ""
+        is_at_opening = line == self.first - 1 and old.endswith("{") and added != ""
+        return is_at_opening or line == self.first - 2 and added.lstrip().startswith("{")
 
     def is_of(self, name: str) -> bool:
         """Whether the prover's name is that of the function, CRATE::MODULE::FUNCTION or CRATE::MODULE::TYPE::FUNCTION, or of a
@@ -172,10 +183,10 @@ class Mutant:
     def body(self) -> Body | None:
         """The body of the function that the mutant changes, if it changes nothing else."""
         found = set()
-        for file, old, _ in self.changes:
+        for file, old, new in self.changes:
             text = (self.crate.folder / file).read_text()
             line = text[: text.find(old)].count("\n")
-            around = [it for it in bodies_of(file, text) if it.first <= line <= it.last]
+            around = [it for it in bodies_of(file, text) if it.has(line) or it.begins_with(line, old, new)]
             found.add(max(around, key=lambda it: it.first) if around and file.startswith("src/") else None)
         return found.pop() if len(found) == 1 else None
 
@@ -274,6 +285,9 @@ class Check:
         return self.has_ended and is_right and not any(map(NOT_PROVED.match, self.lines))
 
 
+# What a check waits for, and holds while it runs.
+Turn = Callable[[], AbstractContextManager[None]]
+
 # Where a function has its proof, and a proof of a function that another check proves.
 PROOF_FILES = ("Invariants.antt", "Answers.antt", "Proof.antt")
 HOLE = """use Rattle.{module}.Statement.{{statement}}
@@ -321,8 +335,8 @@ def leave_out(crate: Crate, room: Path, functions: list[str]) -> None:
 class Prover:
     """Checks edited copies of a crate, each over what the checks before it proved."""
 
-    def __init__(self, crate: Crate, crates: dict[str, Crate], libraries: Path, kept: Path, log: Path):
-        self.crate, self.log, self.checks = crate, log, 0
+    def __init__(self, crate: Crate, crates: dict[str, Crate], libraries: Path, kept: Path, log: Path, turn: Turn):
+        self.crate, self.log, self.turn, self.checks = crate, log, turn, 0
         self.bodies = [it for file in crate.files() for it in bodies_of(str(file.relative_to(crate.folder)), file.read_text()) if file.suffix == ".rt"]
         # The functions that checks were asked for, and whether one was asked for the whole crate.
         self.asked: set[str] = set()
@@ -337,7 +351,6 @@ class Prover:
         for mutant in mutants:
             mutant.apply(texts)
         self.checks += 1
-        begun = time.monotonic()
         with tempfile.TemporaryDirectory(prefix="mutant-") as name:
             room = Path(name)
             for part in PARTS:
@@ -349,16 +362,18 @@ class Prover:
             if functions:
                 leave_out(self.crate, room, functions)
                 words = [*words, "--allow-holes", *(word for it in functions for word in ("--only", it))]
-            ran = subprocess.run(
-                words,
-                cwd=room,
-                stdin=subprocess.DEVNULL,
-                stdout=subprocess.PIPE,
-                stderr=subprocess.STDOUT,
-                text=True,
-                errors="replace",
-                check=False,
-            )
+            with self.turn():
+                begun = time.monotonic()
+                ran = subprocess.run(
+                    words,
+                    cwd=room,
+                    stdin=subprocess.DEVNULL,
+                    stdout=subprocess.PIPE,
+                    stderr=subprocess.STDOUT,
+                    text=True,
+                    errors="replace",
+                    check=False,
+                )
         with self.log.open("a") as log:
             log.write(f"== {what}, {time.monotonic() - begun:.0f} s, status {ran.returncode}\n{ran.stdout}")
         return Check(ran.returncode, ran.stdout.rstrip("\n").split("\n"), self.bodies)
@@ -425,15 +440,15 @@ class Outcome:
         return f"{self.crate.name}: {self.rejected} of {self.mutants} mutants rejected, {self.checks} checks in {self.seconds:.0f} s"
 
 
-def test_crate(crate: Crate, crates: dict[str, Crate], libraries: Path) -> Outcome:
-    """Tests all mutants of a crate, over the proved libraries in this directory."""
+def test_crate(crate: Crate, crates: dict[str, Crate], libraries: Path, turn: Turn = nullcontext) -> Outcome:
+    """Tests all mutants of a crate, over the proved libraries in this directory. Each check waits for its turn."""
     begun = time.monotonic()
     mutants = [read_mutant(crate, path) for path in edits_of(crate)]
     problems = [f"{it.name}: {it.problem}" for it in mutants if it.problem]
     log = LOGS / f"mutants-{crate.name}.log"
     log.unlink(missing_ok=True)
     with tempfile.TemporaryDirectory(prefix="mutants-") as kept:
-        prover = Prover(crate, crates, libraries, Path(kept), log)
+        prover = Prover(crate, crates, libraries, Path(kept), log, turn)
         problems += prover.test([it for it in mutants if not it.problem])
         if not prover.is_sound():
             problems = [f"{it.name}: the crate itself is not proved over what its mutants left" for it in mutants]
@@ -441,9 +456,9 @@ def test_crate(crate: Crate, crates: dict[str, Crate], libraries: Path) -> Outco
 
 
 def crates_with_mutants(crates: dict[str, Crate]) -> list[Crate]:
-    """The crates that have mutants, the largest first."""
-    found = [it for it in crates.values() if edits_of(it)]
-    return sorted(found, key=lambda it: -sum(file.stat().st_size for file in it.files()))
+    """The crates that have mutants, first those whose mutants take longest."""
+    known = seconds_of_crates("mutant-seconds.tsv")
+    return sorted((it for it in crates.values() if edits_of(it)), key=lambda it: -known.get(it.name, 0.0))
 
 
 def main() -> int:

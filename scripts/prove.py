@@ -24,7 +24,7 @@ from concurrent.futures import FIRST_COMPLETED, Future, ThreadPoolExecutor, wait
 from contextlib import contextmanager
 from pathlib import Path
 
-from crates import LIBRARIES, Crate, below, built, crates_of_repository, is_current, is_proved_and_built, mark, sums_of, unmark, words_of
+from crates import LIBRARIES, Crate, below, built, crates_of_repository, is_current, is_proved_and_built, mark, seconds_of_crates, sums_of, unmark, words_of
 from kit import ROOT, kit_folder, require_kit
 
 LOGS = ROOT / "build" / "log"
@@ -43,9 +43,7 @@ class Estimate:
     """An estimate of the time left, from the time of each crate in scripts/proof-seconds.tsv."""
 
     def __init__(self, crates: list[Crate]):
-        table = ROOT / "scripts" / "proof-seconds.tsv"
-        rows = [line.split("\t") for line in table.read_text().splitlines()[1:]]
-        known = {name: float(seconds) for name, seconds in rows}
+        known = seconds_of_crates("proof-seconds.tsv")
         self.seconds = {crate.name: known.get(crate.name, 60.0) for crate in crates}
         self.crates = {crate.name: crate for crate in crates}
         self.begun = time.monotonic()
@@ -243,10 +241,13 @@ def report(name: str) -> None:
         print(f"    {line[:300]}", file=sys.stderr)
 
 
+def free_memory() -> int:
+    return int(re.search(r"MemAvailable:\s+(\d+)", Path("/proc/meminfo").read_text())[1]) * 1024
+
+
 def default_lanes() -> int:
     """As many crates side by side as there are processors and memory for."""
-    pages = int(re.search(r"MemAvailable:\s+(\d+)", Path("/proc/meminfo").read_text())[1]) * 1024
-    return max(1, min(len(os.sched_getaffinity(0)), pages // MEMORY_OF_A_LANE))
+    return max(1, min(len(os.sched_getaffinity(0)), free_memory() // MEMORY_OF_A_LANE))
 
 
 @contextmanager
@@ -287,7 +288,7 @@ def prove_over(top: str, libraries: Path) -> bool:
     """Proves and builds one crate over proved libraries that are in another directory, and returns whether it is proved."""
     crates = crates_of_repository()
     with only_run():
-        is_built = Prover(crates, libraries).build(crates[top], 2)
+        is_built = Prover(crates, libraries).build(crates[top], 1)
     if not is_built:
         report(top)
     return is_built

@@ -259,6 +259,28 @@ class Rejections(unittest.TestCase):
         self.assertEqual(self.rejected(goal, calls.format("one"), calls.format("two")), ["low::one"])
 
 
+class Additions(unittest.TestCase):
+    """Which edits before a body only add to it."""
+
+    CLAUSE = "ensures { result ≡ 1 }"
+    HEADER = "    fn size(&self) -> u8 {"
+
+    def adds_to(self, function: str, old: str, new: str) -> bool:
+        body = next(it for it in bodies_of("src/pair.rt", PAIR) if it.name == function)
+        return body.begins_with(PAIR[: PAIR.find(old)].count("\n"), old, new)
+
+    def test_a_body_right_after_the_contract(self) -> None:
+        self.assertTrue(self.adds_to("Pair::one", self.CLAUSE, f"{self.CLAUSE} {{ 2 }} fn other(&self) -> u8"))
+
+    def test_text_after_the_opening_brace(self) -> None:
+        self.assertTrue(self.adds_to("PairSize::size", self.HEADER, f"{self.HEADER} if true {{ return 3; }}"))
+
+    def test_no_other_clause_and_no_other_function(self) -> None:
+        self.assertFalse(self.adds_to("Pair::one", self.CLAUSE, f"{self.CLAUSE} requires {{ Pair }}"))
+        self.assertFalse(self.adds_to("Pair::one", self.CLAUSE, "ensures { Pair }"))
+        self.assertFalse(self.adds_to("Pair::both", self.CLAUSE, f"{self.CLAUSE} {{ 2 }} fn other(&self) -> u8"))
+
+
 class LeftOut(unittest.TestCase):
     """What a check has of the functions that it is not asked for."""
 
