@@ -156,7 +156,7 @@ def prove_all(report: Report, proved: set[str]) -> tuple[bool, str]:
     log, closing = LOGS / "rt-ci.log", ""
     # With RT_JOBS each proof has one process. With several a proof takes up to a third more processor time, and the mutants use what
     # the proofs leave idle.
-    environment = {**os.environ, "RT_JOBS": str(min(processors(), default_lanes()))}
+    environment = {**os.environ, "RT_JOBS": str(default_lanes())}
     with log.open("w") as output, subprocess.Popen(
         ["rt", "ci"], cwd=COPY, stdout=subprocess.PIPE, stderr=subprocess.STDOUT, text=True, errors="replace", env=environment
     ) as ci:

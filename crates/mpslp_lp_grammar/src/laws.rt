@@ -8,7 +8,7 @@ pub fn steps_follow_rules()
     ensures { StepsFollowRules }
 {}
 
-/// A text may end only after its `end`.
+/// A text is complete only after its `end`, and then it declares what its tokens declared.
 pub fn texts_end_after_end()
     ensures { TextsEndAfterEnd }
 {}
