@@ -1,5 +1,7 @@
 //! Reads LP text line by line.
 
+ghost use Rattle.std.specs.Prelude.{◌≡◌};
+
 use crate::read_line::read_line;
 use mpslp_lines::{LineError, ReadLines, read_fault};
 use mpslp_lp_grammar::{Context, Place, State};
@@ -13,6 +15,15 @@ pub struct LineReader {
     state: State,
     /// The number of the next line, up to 2^64 - 1.
     number: u64,
+}
+
+impl LineReader {
+    /// The context, without the state. Only here is the state dropped.
+    fn into_context(self) -> Context
+        ensures { result ≡ self.context }
+    {
+        self.context
+    }
 }
 
 impl ReadLines for LineReader {
@@ -57,14 +68,16 @@ impl ReadLines for LineReader {
     }
 
     fn finish(self) -> Result<Model, ReadFault> {
-        if !self.is_at_end() {
+        let is_at_end = self.is_at_end();
+        let context = self.into_context();
+        if !is_at_end {
             return Err(ReadFault::File(Fault {
                 kind: FaultKind::MissingEnd,
                 line: 0,
                 name: None,
             }));
         }
-        self.context.into_builder().finish_by_columns()
+        context.into_builder().finish_by_columns()
     }
 
     ghost behind_end = { read-behind_end };

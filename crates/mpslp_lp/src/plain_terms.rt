@@ -30,6 +30,14 @@ pub(crate) struct PlainTerm<'a> {
     column: &'a [u8],
 }
 
+/// Replaces the state. Only here is one dropped: the proof of a function that drops it goes through all that it may hold.
+#[inline(always)]
+pub(crate) fn set_state(state: &mut State, next: State)
+    ensures { state.new ≡ next }
+{
+    *state = next;
+}
+
 /// The next token, if it is a sign.
 #[inline(always)]
 fn next_sign(tokens: &mut Tokens<'_>) -> Option<Sign>
@@ -150,13 +158,13 @@ fn take_first_terms<'a>(
 {
     let mut left = tokens.again();
     let Some(term) = plain_term(&mut left) else {
-        *state = State::RowLabel(name);
+        set_state(state, State::RowLabel(name));
         return Ok(tokens);
     };
     let mut row = row_without_terms(context, name)?;
     take_plain_term(context, &mut row, term, left.again())?;
     let rest = take_plain_terms(context, &mut row, left)?;
-    *state = State::Between(Place::InRow(row));
+    set_state(state, State::Between(Place::InRow(row)));
     Ok(rest)
 }
 
@@ -225,7 +233,7 @@ pub(crate) fn take_terms<'a>(
         State::RowLabel(_) => match replace(state, State::AfterEnd) {
             State::RowLabel(name) => take_first_terms(context, name, state, tokens),
             other => {
-                *state = other;
+                set_state(state, other);
                 Ok(tokens)
             }
         },

@@ -10,7 +10,7 @@ ghost use Rattle.mpslp_lp_grammar.specs.Declares.{error_before, lesser_of, IsLea
 ghost use Rattle.mpslp_lp.specs.LineByLine.{token_faults, take_tokens, take_line};
 ghost use Rattle.mpslp_lp.specs.Laws.{has_legal_bytes};
 
-use crate::plain_terms::take_terms;
+use crate::plain_terms::{set_state, take_terms};
 use bstr::ByteSlice;
 use mpslp_lines::{LineError, are_legal_bytes, has_legal_length, lesser_kind};
 use mpslp_lp_grammar::{Context, State, TerminalToken, classify, take};
@@ -64,8 +64,36 @@ pub(crate) fn least_error(kind: FaultKind, tokens: Tokens<'_>) -> LineError
     }
 }
 
+/// Takes a token and the plain terms after it on its line. Returns the tokens after them. After a token with an error, only the
+/// lexical errors of the others matter.
+#[inline(always)]
+fn take_token<'a>(
+    context: &mut Context,
+    state: &mut State,
+    raw_token: Token<'a>,
+    left: Tokens<'a>,
+) -> Result<Tokens<'a>, LineError>
+    ensures { MatchResult result
+        (λ rest. (take_tokens context.new state.new rest ≡ take_tokens context.old state.old (token_of raw_token.entry ∷ left.entry)) × (length rest ≤ length left.entry))
+        (λ error. TakesToken (take_tokens context.old state.old (token_of raw_token.entry ∷ left.entry)) (Err error) context.new) }
+{
+    let kind = match classify(raw_token.kind, raw_token.text) {
+        Ok(kind) => kind,
+        Err(kind) => return Err(least_error(kind, left)),
+    };
+    let token = TerminalToken {
+        kind,
+        text: raw_token.text,
+    };
+    match take(context, replace(state, State::AfterEnd), &token) {
+        Ok(next) => set_state(state, next),
+        Err(error) => return Err(error_before(error, left)),
+    }
+    take_terms(context, state, left)
+}
+
 /// Takes a token and the tokens after it on its line. Each is classified once, except where a plain term could begin but does
-/// not. After a token with an error, only the lexical errors of the others matter.
+/// not.
 #[inline(never)]
 fn take_others<'a>(
     context: &mut Context,
@@ -77,29 +105,13 @@ fn take_others<'a>(
         (λ _. take_tokens context.old state.old (token_of first.entry ∷ left.entry) ≡ Goes context.new state.new)
         (λ error. TakesToken (take_tokens context.old state.old (token_of first.entry ∷ left.entry)) (Err error) context.new) }
 {
-    let mut current = replace(state, State::AfterEnd);
     let mut raw_token = first;
     let mut tokens = left;
     'tokens: loop {
-        let kind = match classify(raw_token.kind, raw_token.text) {
-            Ok(kind) => kind,
-            Err(kind) => return Err(least_error(kind, tokens)),
-        };
-        let token = TerminalToken {
-            kind,
-            text: raw_token.text,
-        };
-        current = match take(context, current, &token) {
-            Ok(next) => next,
-            Err(error) => return Err(error_before(error, tokens)),
-        };
-        tokens = take_terms(context, &mut current, tokens)?;
+        tokens = take_token(context, state, raw_token, tokens)?;
         match tokens.next() {
             Some(next) => raw_token = next,
-            None => {
-                *state = current;
-                return Ok(());
-            }
+            None => return Ok(()),
         }
     }
 }

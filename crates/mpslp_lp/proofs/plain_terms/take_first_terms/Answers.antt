@@ -4,6 +4,7 @@ use Rattle.mpslp_lp_grammar.specs.declared.signs.Sign.{Sign}
 use Rattle.mpslp_lp_grammar.specs.Rows.{without_terms}
 use Rattle.mpslp_lp_grammar.specs.declared.context.Context.{Context}
 use Rattle.mpslp_lp_grammar.specs.declared.states.Place.TheVariants.{InRow}
+use Rattle.mpslp_lp_grammar.specs.declared.states.State.{State}
 use Rattle.mpslp_lp_grammar.specs.declared.states.State.TheVariants.{Between, RowLabel}
 use Rattle.mpslp_lp_tokens.specs.Token.{Token}
 use Rattle.mpslp_lp.specs.PlainTerm.{IsPlainTerm}
@@ -28,7 +29,8 @@ returns c =
     let same : c.row_without_terms.new.context ≡ c.args.context.now = search rules in
     let left : c.again.result ≡ c.plain_term.new.tokens = search rules in
     let fewer = term_shortens c.args.tokens term.sign term.literal.now term.column.now c.again.result plain in (
-      c.in_ok-rest.ensures.0
+      ap (λ (state : State). take_tokens c.row_without_terms.new.context state c.in_ok-rest.rest) c.set_state-2.ensures
+          ∙ c.in_ok-rest.ensures.0
           ∙ ap (λ (tokens : List Token). take_tokens c.row_without_terms.new.context (Between (InRow c.take_plain_term.new.row)) tokens) (sym left)
           ∙ c.in_ok-take_plain_term.ensures.first c.args.tokens c.args.name plain row
           ∙ ap (λ (context : Context). take_tokens context (RowLabel c.args.name) c.args.tokens) same,

@@ -1,0 +1,26 @@
+use Rattle.std.proofs.Common.{sym, subst, ◌∷◌}
+use Rattle.std.specs.Prelude.{Err}
+use Rattle.mpslp_lines.specs.declared.errors.LineError.{LineError}
+use Rattle.mpslp_lp_tokens.specs.Scan.{token_of}
+use Rattle.mpslp_lp_grammar.specs.AfterToken.{AfterToken}
+use Rattle.mpslp_lp_grammar.specs.Terminal.{Terminal}
+use Rattle.mpslp_lp_grammar.specs.TerminalToken.{terminal_of_token}
+use Rattle.mpslp_lp_grammar.specs.declared.states.State.{State}
+use Rattle.mpslp_lp_grammar.specs.TokenStep.{take}
+use Rattle.mpslp_lp.specs.LineByLine.{take_tokens}
+use Rattle.mpslp_lp_grammar.specs.Declares.{TakesToken}
+use Rattle.mpslp_lp.proofs.LineTokens.{tokens-refused}
+use Rattle.mpslp_lp.proofs.read_line.take_token.Goals as goal
+
+pub returns-in-Err-take : goal.returns-in-Err-take
+returns-in-Err-take c =
+    let context = c.args.context.now in
+    let after = c.take.new.context in
+    let state = c.args.state.now in
+    let raw_token = token_of c.args.raw_token in
+    let more = c.args.left in
+    let error = c.in-Err-take.error in
+    subst (λ (told : LineError). TakesToken (take_tokens context state (raw_token ∷ more)) (Err told) after) (sym c.error_before.ensures)
+    (tokens-refused context after state raw_token more error c.in-Ok.ensures.0
+    (subst (λ (terminal : Terminal). TakesToken (take context state terminal) (Err error) after) c.in-Ok.ensures.1
+    (subst (λ (taken : State). TakesToken (take context taken (terminal_of_token (record { kind = c.in-Ok.kind; text = c.args.raw_token.text }))) (Err error) after) c.replace.ensures.value c.in-Err-take.ensures)))
