@@ -1,15 +1,16 @@
 -- The pieces of a line of LP, one after another, are its text; and a text is not empty.
-use Rattle.std.proofs.Common.{◌≡◌, refl, sym, ap, ◌∙◌, ℕ, ◌<◌, List, [], ◌∷◌, ◌++◌, length, append_assoc, append-nil, arith}
+use Rattle.std.proofs.Common.{◌≡◌, refl, sym, ap, ◌∙◌, ℕ, ◌<◌, List, [], ◌∷◌, ◌++◌, Bool, true, false, length, append_assoc, append-nil, arith}
 use Rattle.std.specs.Prelude.{codes, replicate}
 use Rattle.std.specs.List.{flat_map}
 use Rattle.std.specs.Fmt.{digits}
-use Rattle.mpslp_decimal.specs.Decimal.{trailing_zeros}
+use Rattle.mpslp_decimal.specs.Decimal.{Number, is_negative, size_of, trailing_zeros}
+use Rattle.mpslp_decimal.specs.NumberText.{number_text}
 use Rattle.mpslp_model_core.specs.Model.{LinearModel}
 use Rattle.mpslp_types.specs.declared.kinds.Sense.{Sense}
 use Rattle.mpslp_types.specs.declared.kinds.Sense.TheVariants.{Minimize, Maximize}
 use Rattle.mpslp_lp_grammar.specs.declared.relations.Relation.TheVariants.{AtLeast}
-use Rattle.mpslp_canonical_lp.specs.Printed.{Lexeme, lexeme_text, line_text}
-use Rattle.mpslp_canonical_lp.specs.CanonicalLp.{Lines, heading, under_heading, semi_heading, under_semi_heading, right_line, minus_large, canonical_lp}
+use Rattle.mpslp_canonical_lp.specs.Printed.{Lexeme, lexeme_text, line_text, sign, sign_bytes, label, number}
+use Rattle.mpslp_canonical_lp.specs.CanonicalLp.{Lines, heading, under_heading, semi_heading, under_semi_heading, long_line, label_line, signed_lexemes, right_line, minus_large, canonical_lp}
 use Rattle.mpslp_output.specs.TextBuffer.{text_by, text_under}
 
 -- ---- one line
@@ -34,6 +35,20 @@ line-text indent piece lexemes =
     sym (append-nil ((blanks ++ (lexeme_text piece ++ spaced lexemes)) ++ 10 ∷ [])
     ∙ append_assoc blanks (lexeme_text piece ++ spaced lexemes) (10 ∷ [])
     ∙ ap (λ (l : List ℕ). blanks ++ l) (append_assoc (lexeme_text piece) (spaced lexemes) (10 ∷ []) ∙ ap (λ (l : List ℕ). lexeme_text piece ++ l) (behind-spaced lexemes)))
+
+pub label-text : (name : List ℕ) → codes " " ++ (name ++ codes ":\n") ≡ text_by line_text (label_line name ∷ [])
+label-text name = ap (λ (l : List ℕ). codes " " ++ l) (sym (append_assoc name (codes ":") (10 ∷ []))) ∙ line-text 1 (label name) []
+
+-- a sign and an absolute value, and what follows them
+pub signed-text : (value : Number) (lexemes : List Lexeme)
+    → ((codes "  " ++ (sign_bytes (is_negative value) ++ codes " ")) ++ number_text (size_of value)) ++ behind lexemes
+    ≡ text_by line_text (long_line (signed_lexemes value ++ lexemes) ∷ [])
+signed-text value lexemes = by (is_negative value)
+  where
+    by : (minus : Bool) → ((codes "  " ++ (sign_bytes minus ++ codes " ")) ++ number_text (size_of value)) ++ behind lexemes
+        ≡ text_by line_text (long_line (sign minus ∷ number (size_of value) ∷ lexemes) ∷ [])
+    by true = line-text 2 (sign true) (number (size_of value) ∷ lexemes)
+    by false = line-text 2 (sign false) (number (size_of value) ∷ lexemes)
 
 pub unlimited-text : codes "  >= -1e20\n" ≡ text_by line_text (right_line AtLeast minus_large ∷ [])
 unfolding digits trailing_zeros
