@@ -50,7 +50,7 @@ bench:
 
 # Refuses each growth of memory in turn.
 refused: program
-	python3 scripts/prove.py try_refused
+	python3 scripts/prove.py try_library
 	python3 tests/refused.py
 
 # Compares the program with a reader that was written only from docs/FORMATS.md and docs/ERRORS.md, on random models in many

@@ -19,7 +19,7 @@ from pathlib import Path
 HERE = Path(__file__).resolve().parent
 EXAMPLES = HERE.parent / "examples"
 INSTALLED = Path("/usr/share/doc/glpk-utils/examples")
-READER = HERE.parent / "crates" / "bench_read" / "out" / "bench_read"
+READER = HERE.parent / "crates" / "try_library" / "out" / "try_library"
 
 COUNTS = re.compile(r"^(\d+) rows?, (\d+) columns?, (\d+) non-zeros?$", re.MULTILINE)
 OURS = re.compile(r"^rows (\d+) columns (\d+) elements (\d+)$", re.MULTILINE)
@@ -35,7 +35,7 @@ def counts_of_glpsol(path):
 def answer_of_mpslp(reader, path):
     """Its counts without the objective, or the line of its error."""
     with open(path, "rb") as source:
-        output = subprocess.run([str(reader)], stdin=source, capture_output=True, text=True).stdout
+        output = subprocess.run([str(reader), "read"], stdin=source, capture_output=True, text=True).stdout
     found = OURS.search(output)
     return tuple(int(count) for count in found.groups()) if found else output.strip()
 
@@ -75,7 +75,7 @@ def agree(reader, path):
 
 def main():
     parser = argparse.ArgumentParser(description=__doc__, formatter_class=argparse.RawDescriptionHelpFormatter)
-    parser.add_argument("--reader", default=READER, help="the path of bench_read")
+    parser.add_argument("--reader", default=READER, help="the path of try_library")
     parser.add_argument("paths", nargs="*", type=Path)
     options = parser.parse_args()
     if shutil.which("glpsol") is None:

@@ -4,7 +4,7 @@
 set -eu
 
 cd "$(dirname "$0")"
-ours=../crates/bench_numbers/out/bench_numbers
+ours=../crates/try_library/out/try_library
 count=${COUNT:-1000000}
 literals=data/numbers-$count.txt
 
@@ -18,9 +18,9 @@ fi
 
 ./data/numbers "$literals" > data/numbers-lines.txt
 if [ -x "$ours" ]; then
-    "$ours" < "$literals" 2>> data/numbers-lines.txt
+    "$ours" numbers < "$literals" 2>> data/numbers-lines.txt
 else
-    echo "bench_numbers is not built: left out" >&2
+    echo "try_library is not built: left out" >&2
 fi
 awk '
     BEGIN { print "| what | million numbers a second |"; print "|---|---|" }

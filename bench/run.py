@@ -31,7 +31,7 @@ GENERATOR = HERE / "generate.py"
 SOURCES = (GENERATOR, HERE / "literals.py")
 CRATES = HERE.parent / "crates"
 DEFAULT_PROGRAM = CRATES / "mpslp" / "out" / "mpslp"
-DEFAULT_READER = CRATES / "bench_read" / "out" / "bench_read"
+DEFAULT_READER = CRATES / "try_library" / "out" / "try_library"
 
 # The full kinds leave out OBJSENSE, which glpsol does not read.
 KINDS = {
@@ -93,7 +93,7 @@ def programs(path_of_ours, source, target):
 
 
 def readers(path_of_ours, source):
-    own_words = ("lp",) if source == "lp" else ()
+    own_words = ("read", "lp") if source == "lp" else ("read",)
     return [
         Program(OURS, found(path_of_ours), own_words, by_streams=True),
         Program("glpsol", found("glpsol"), (GLPSOL_READS[source], "INPUT", "--check"), by_streams=True),
@@ -282,7 +282,7 @@ def arguments():
     parser.add_argument("--limit", type=int, default=600, help="seconds after which a run is stopped")
     parser.add_argument("--read", action="store_true", help="read files, and write none")
     parser.add_argument("--program", default=DEFAULT_PROGRAM, help="the path of mpslp")
-    parser.add_argument("--reader", default=DEFAULT_READER, help="the path of bench_read")
+    parser.add_argument("--reader", default=DEFAULT_READER, help="the path of try_library")
     options = parser.parse_args()
     check(parser, options)
     return options

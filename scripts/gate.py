@@ -50,7 +50,7 @@ class Test:
 TESTS = (
     Test("C library and Python package", ("sh", "tests/callers.sh")),
     Test("program on vectors/", ("python3", "tests/vectors.py")),
-    Test("library on vectors/", ("../crates/try_vectors/out/try_vectors",), ROOT / "vectors"),
+    Test("library on vectors/", ("../crates/try_library/out/try_library", "vectors"), ROOT / "vectors"),
     Test("refused memory", ("python3", "tests/refused.py")),
     Test("independent reader", ("python3", "tests/independent_check.py", "--runs", "20000")),
     Test("make and make run", ("python3", "tests/commands_check.py")),
@@ -61,6 +61,7 @@ TESTS = (
     Test("rules for other dialects", ("python3", "tests/adapt_rules.py", "--wrong")),
     Test("what other programs read otherwise", ("python3", "tests/portable_rules.py", "--wrong")),
     Test("digests of canonical texts", ("python3", "tests/digests.py")),
+    Test("library on standard input", ("python3", "tests/library.py")),
     Test("version", ("sh", "release/version.sh", "crates/mpslp/out/mpslp")),
 )
 

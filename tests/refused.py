@@ -1,13 +1,14 @@
 #!/usr/bin/env python3
 """Make each allocation fail in turn.
 
-`try_refused` makes each call of the library that allocates with its first allocation
-failing, then with its second one, and so on until none fails: names, words, jobs, the
-calls of a builder, and readers, conversions, comparisons, runs and jobs on each file of
-vectors/. The same is done with the program, on some files. If an allocation fails, the
-result must be out of memory, and nothing else; otherwise the result that vectors/ has,
-or the file with the crate's output. A builder's call that ran out of memory is repeated,
-and then all that follows must be as if no allocation had failed.
+`try_library refused` makes each call of the library that allocates with its first
+allocation failing, then with its second one, and so on until none fails: names, words,
+jobs, the calls of a builder, and readers, conversions, comparisons, runs and jobs on
+each file of vectors/. The same is done with the program, on some files. If an
+allocation fails, the result must be out of memory, and nothing else; otherwise the
+result that vectors/ has, or the file with the crate's output. A builder's call that ran
+out of memory is repeated, and then all that follows must be as if no allocation had
+failed.
 
 refuse.c says what counts as an allocation. This needs the programs that `rt ci` builds,
 and glibc; without a C compiler it reports that and tests nothing. Exits with 1 if a
@@ -31,8 +32,8 @@ from pathlib import Path
 HERE = Path(__file__).resolve().parent
 VECTORS = HERE.parent / "vectors"
 CRATES = HERE.parent / "crates"
-CALLS = CRATES / "try_refused" / "out" / "try_refused"
-PRINTED = CRATES / "try_refused" / "stdout"
+CALLS = CRATES / "try_library" / "out" / "try_library"
+PRINTED = CRATES / "try_library" / "stdout"
 PROGRAM = CRATES / "mpslp" / "out" / "mpslp"
 SOURCE = HERE / "refuse.c"
 
@@ -121,7 +122,7 @@ def entries():
 
 
 def calls_of(output):
-    """The calls that `try_refused` prints, each with its results."""
+    """The calls that `try_library refused` prints, each with its results."""
     calls = {}
     while output:
         line, _, output = output.partition(b"\n")
@@ -135,7 +136,7 @@ def calls_of(output):
 
 
 def ended(status, out=b"", err=b""):
-    """What `try_refused` prints for a job."""
+    """What `try_library refused` prints for a job."""
     return out + b"status %d\n" % status + err
 
 
@@ -161,7 +162,7 @@ def refusal_of(name, whole):
 
 
 def take_calls(tally, place, run, whole):
-    """Takes the output of `try_refused`. `whole` has the results if no allocation fails, or None for a model that is shown."""
+    """Takes the output of `try_library refused`. `whole` has the results if no allocation fails, or None for a model that is shown."""
     (status, output, told), counts = run
     calls = calls_of(output)
     if (status, told, calls.keys(), sum(map(len, calls.values()))) != (0, b"", whole.keys(), len(counts)):
@@ -218,10 +219,10 @@ def check_calls(workers, refusing, program):
     """The calls that need no file, and those on each file."""
     tally = Tally("calls of the library")
     printed = {name: answers[-1] for name, answers in calls_of(PRINTED.read_bytes()).items()}
-    take_calls(tally, "without files", refusing.run([program]), printed)
+    take_calls(tally, "without files", refusing.run([program, "refused"]), printed)
     by_name = {entry.input: entry for entry in entries()}
     pairs = [(entry, by_name[OTHER_OF_ITSELF if entry.input == OTHER else OTHER]) for entry in by_name.values()]
-    commands = [[program, *(word for entry in pair for word in (form_of(entry.input), entry.input))] for pair in pairs]
+    commands = [[program, "refused", *(word for entry in pair for word in (form_of(entry.input), entry.input))] for pair in pairs]
     for (entry, other), run in zip(pairs, workers.map(refusing.run, commands)):
         take_calls(tally, entry.input, run, answers_of(entry, other))
     return tally
@@ -257,7 +258,7 @@ def check_program(workers, refusing, program):
 def arguments():
     parser = argparse.ArgumentParser(description=__doc__, formatter_class=argparse.RawDescriptionHelpFormatter)
     parser.add_argument("--program", type=Path, default=PROGRAM, help="the path of mpslp")
-    parser.add_argument("--calls", type=Path, default=CALLS, help="the path of try_refused")
+    parser.add_argument("--calls", type=Path, default=CALLS, help="the path of try_library")
     return parser.parse_args()
 
 

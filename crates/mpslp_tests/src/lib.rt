@@ -2,7 +2,7 @@
 //! laws.
 //!
 //! This crate has only tests: a crate that has tests is proved twice, and the crates below are large. The results for each kind
-//! of line are in `vectors/`, which the program `try_vectors` checks through the same calls.
+//! of line are in `vectors/`, which `try_library vectors` checks through the same calls.
 #![tactic(auto)]
 
 #[cfg(test)]

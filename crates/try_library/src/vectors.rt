@@ -1,8 +1,7 @@
-//! Checks the calls of the library on the files of `vectors/`, whose README says what the results are.
+//! Checks of the library's calls on the files of `vectors/`, whose README says what the results are.
 //!
-//! Run it in that directory; it exits with 1 if the tables are missing. For each table it prints the number of checks. Each
-//! unexpected result is reported on standard error with the name of its input, and the exit status is then 1.
-#![tactic(auto)]
+//! They are read from the directory in which the program runs. For each table the number of checks is printed. Each unexpected
+//! result is reported on standard error with the name of its input.
 
 mod answers;
 mod checks;
@@ -21,7 +20,6 @@ use mpslp_convert::Form;
 use numbers::{is_read, is_sum};
 use std::alloc::{AllocError, Global};
 use std::io;
-use std::process::ExitCode;
 use std::rt::Files;
 use tables::{
     Entry, Expected, content, entries, entry_named, entry_of_text, field, fields, form_of, number,
@@ -354,8 +352,8 @@ fn try_numbers<R: Files + Print + Eprint>(rt: &R, alloc: Global) -> io::Result<b
     tally.end(rt, "numbers")
 }
 
-/// Whether all results are as expected.
-fn try_all<R: Files + Print + Eprint>(rt: &R, alloc: Global) -> io::Result<bool> {
+/// Makes all checks, and returns whether all results are as expected. It is an error if a table or a file is missing.
+pub(crate) fn try_all<R: Files + Print + Eprint>(rt: &R, alloc: Global) -> io::Result<bool> {
     let entries = entries(rt, alloc)?;
     let parts = [
         try_index(rt, alloc, &entries)?,
@@ -368,9 +366,4 @@ fn try_all<R: Files + Print + Eprint>(rt: &R, alloc: Global) -> io::Result<bool>
         try_numbers(rt, alloc)?,
     ];
     Ok(!parts.contains(&false))
-}
-
-fn main(rt: HostRuntime) -> io::Result<ExitCode> {
-    let is_right = try_all(&rt, rt.alloc())?;
-    Ok(ExitCode::from(if is_right { 0 } else { 1 }))
 }

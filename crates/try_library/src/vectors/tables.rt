@@ -1,6 +1,6 @@
 //! The tables of `vectors/` and the files that they name.
 
-use crate::answers::Answer;
+use crate::vectors::answers::Answer;
 use mpslp_convert::Form;
 use std::alloc::{AllocError, Global};
 use std::io::{Error, ErrorKind, Read};

@@ -1,14 +1,13 @@
-//! Makes calls of the library repeatedly, so that each of their allocations can fail in turn.
+//! Calls of the library that are made repeatedly, so that each of their allocations can fail in turn.
 //!
 //! A call is made with its first allocation failing, then with its second one, and so on, until its result is not out of
 //! memory. The library `tests/refuse.c`, loaded before this program, makes allocations fail; without it none fails, and each
-//! call is made once. Without arguments the calls are those that need no file: names, words, jobs, and the calls of a builder.
-//! Otherwise the arguments are two formats with paths, such as `mps a.mps lp b.lp`, and the calls are those on the first text,
-//! and on both.
+//! call is made once. Without further words the calls are those that need no file: names, words, jobs, and the calls of a builder.
+//! Otherwise the words are two formats with paths, such as `mps a.mps lp b.lp`, and the calls are those on the first text, and
+//! on both.
 //!
-//! Prints `call` and the name of each call; then, each time that it is made, `answer`, the length of its result in bytes, and
-//! the result. `tests/refused.py` compares them with the expected results.
-#![tactic(auto)]
+//! `call` and the name of each call are printed; then, each time that it is made, `answer`, the length of its result in bytes,
+//! and the result. `tests/refused.py` compares them with the expected results.
 
 mod answers;
 mod building;
@@ -21,8 +20,8 @@ use building::{EACH_CALL, EACH_KIND, built, calls_of_many_rows};
 use mpslp_convert::Form;
 use std::alloc::{AllocError, Global};
 use std::io::{Read, Write};
-use std::rt::{Env, Files};
-use std::{env, fs, io};
+use std::rt::Files;
+use std::{fs, io};
 use texts::{TEXT_CALLS, Text, TextCall, answer_to};
 use words::{COMMAND_LINES, job_of, name, word};
 
@@ -110,12 +109,15 @@ fn content<R: Files>(rt: &R, alloc: Global, path: &str) -> io::Result<Vec<u8>> {
     Ok(text)
 }
 
-fn main(rt: HostRuntime) -> io::Result<()> {
-    let alloc = rt.alloc();
-    let words = env::args(&rt)?.skip(1).collect::<Vec<String>>(alloc)?;
+/// Makes the calls of these words of the command line, and prints their results.
+pub(crate) fn make_calls<R: Files + Print>(
+    rt: &R,
+    alloc: Global,
+    words: &[String],
+) -> io::Result<()> {
     if words.is_empty() {
-        tell_without_files(&rt, alloc)
+        tell_without_files(rt, alloc)
     } else {
-        tell_with_files(&rt, alloc, &words)
+        tell_with_files(rt, alloc, words)
     }
 }

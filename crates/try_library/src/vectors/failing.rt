@@ -1,7 +1,7 @@
 //! What is checked with an input or an output that fails.
 
-use crate::answers::{MUCH, model_in, run_in, show_in};
-use crate::tables::Entry;
+use crate::vectors::answers::{MUCH, model_in, run_in, show_in};
+use crate::vectors::tables::Entry;
 use mpslp_convert::{Form, RunFault, load};
 use mpslp_io::{Sink, Source};
 use mpslp_model::{Format, Model, WriteFault};

@@ -4,8 +4,8 @@ ghost use Rattle.std.specs.Prelude.{IsTrue};
 ghost use Rattle.std.specs.Option.{ForSome};
 ghost use Rattle.mpslp_types.specs.Limit.{is_given};
 
-use crate::answers::{Answer, put, roomy};
-use crate::refusing::{refuse, refuse_none};
+use crate::refused::answers::{Answer, put, roomy};
+use crate::refused::refusing::{refuse, refuse_none};
 use mpslp_convert::{RunFault, report};
 use mpslp_decimal::Decimal;
 use mpslp_model::{BuildFault, Builder, Limit, Model, Name, ReadFault, RowType, Sense};

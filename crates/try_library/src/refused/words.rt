@@ -1,7 +1,7 @@
 //! Calls that make a name, a word, or a job of arguments.
 
-use crate::answers::{Answer, put, roomy};
-use crate::refusing::{refuse, refuse_none};
+use crate::refused::answers::{Answer, put, roomy};
+use crate::refused::refusing::{refuse, refuse_none};
 use mpslp_command::job;
 use mpslp_convert::{Form, Job, JobFault, RunFault, Word};
 use mpslp_model::{Name, NameFault};

@@ -1,8 +1,7 @@
-//! Measures how fast number literals are read and printed.
+//! How fast number literals are read and printed.
 //!
-//! Reads one literal per line from standard input. Prints the number of literals on standard output, and the best speed of
-//! several rounds, in millions of numbers a second, on standard error.
-#![tactic(auto)]
+//! They come from standard input, one a line. The number of literals is printed on standard output, and the best speed of several
+//! rounds, in millions of numbers a second, on standard error.
 
 use bstr::ByteSlice;
 use mpslp_decimal::{Decimal, DecimalText};
@@ -44,7 +43,11 @@ fn report(rt: &impl Eprint, name: &str, count: usize, micros: u128) -> io::Resul
     eprintln!(rt; "{name} {}.{} million/s", tenths / 10, tenths % 10)
 }
 
-fn run<R: Input + Print + Eprint + Clock + AllocGlobal>(rt: &R, alloc: Global) -> io::Result<()> {
+/// Reads and prints the literals, and prints their number and the speeds.
+pub(crate) fn measure_numbers<R: Input + Print + Eprint + Clock + AllocGlobal>(
+    rt: &R,
+    alloc: Global,
+) -> io::Result<()> {
     let mut text = Vec::new(alloc);
     rt.reader().read_to_end(&mut text)?;
     let mut numbers = Vec::new(alloc);
@@ -66,8 +69,4 @@ fn run<R: Input + Print + Eprint + Clock + AllocGlobal>(rt: &R, alloc: Global) -
         "{} numbers, {bytes} bytes of canonical text",
         numbers.len()
     )
-}
-
-fn main(rt: HostRuntime) -> io::Result<()> {
-    run(&rt, rt.alloc())
 }

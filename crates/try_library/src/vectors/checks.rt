@@ -1,9 +1,9 @@
 //! What is checked of an input.
 
-use crate::answers::{
+use crate::vectors::answers::{
     MUCH, canonical_in, fed_in, is_canonical_in, line_of, read_in, run_of, same_in, shown_of,
 };
-use crate::tables::{Entry, Expected};
+use crate::vectors::tables::{Entry, Expected};
 use mpslp_convert::{ConvertFault, Form};
 use std::alloc::Global;
 

@@ -1,6 +1,6 @@
 //! What is checked of numbers: the decimal of a literal, its text, and exact sums and differences.
 
-use crate::tables::field;
+use crate::vectors::tables::field;
 use mpslp_decimal::{Decimal, DecimalText, NumberFault};
 use std::io;
 

@@ -1,17 +1,16 @@
-//! Measures how fast the text of a model is read: MPS, or LP if the only argument is `lp`.
+//! How fast the text of a model is read.
 //!
-//! Reads the text from standard input. Prints the counts of its model, or its error, on standard output, and the time of the
+//! The text comes from standard input. The counts of its model, or its error, are printed on standard output, and the time of the
 //! reader, without that of the input, on standard error.
-#![tactic(auto)]
 
 use mpslp_lp::read_lp;
 use mpslp_model::{Fault, ReadFault};
 use mpslp_mps::read_mps;
 use std::alloc::Global;
+use std::io;
 use std::io::Read;
 use std::rt::Clock;
 use std::time::Instant;
-use std::{env, io};
 
 /// Prints an error like the program: the line or the file, the kind, and the row or column if it has one.
 fn tell(rt: &impl Print, alloc: Global, fault: &Fault) -> io::Result<()> {
@@ -26,7 +25,8 @@ fn tell(rt: &impl Print, alloc: Global, fault: &Fault) -> io::Result<()> {
     }
 }
 
-fn run<R: Input + Print + Eprint + Clock + AllocGlobal>(
+/// Reads a text, MPS or LP, and prints what it came to and the time.
+pub(crate) fn measure_reading<R: Input + Print + Eprint + Clock + AllocGlobal>(
     rt: &R,
     alloc: Global,
     is_lp: bool,
@@ -58,12 +58,4 @@ fn run<R: Input + Print + Eprint + Clock + AllocGlobal>(
         tenths / 10,
         tenths % 10
     )
-}
-
-fn main(rt: HostRuntime) -> io::Result<()> {
-    let alloc = rt.alloc();
-    let is_lp = env::args(&rt)?
-        .nth(1)
-        .is_some_and(|word| word.as_str() == "lp");
-    run(&rt, alloc, is_lp)
 }

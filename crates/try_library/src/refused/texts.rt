@@ -1,7 +1,7 @@
 //! Calls on the texts of two files.
 
-use crate::answers::{Answer, put, roomy};
-use crate::refusing::{refuse, refuse_none};
+use crate::refused::answers::{Answer, put, roomy};
+use crate::refused::refusing::{refuse, refuse_none};
 use mpslp_convert::{
     Form, Job, JobFault, Word, canonical, is_canonical, load, perform, run, same_model, show,
 };
