@@ -61,6 +61,7 @@ TESTS = (
     Test("rules for other dialects", ("python3", "tests/adapt_rules.py", "--wrong")),
     Test("what other programs read otherwise", ("python3", "tests/portable_rules.py", "--wrong")),
     Test("digests of canonical texts", ("python3", "tests/digests.py")),
+    Test("program on files", ("python3", "tests/program.py")),
     Test("library on standard input", ("python3", "tests/library.py")),
     Test("version", ("sh", "release/version.sh", "crates/mpslp/out/mpslp")),
 )

@@ -10,6 +10,3 @@ mod writer;
 
 pub use reader::FailingReader;
 pub use writer::FailingWriter;
-
-#[cfg(test)]
-mod tests;

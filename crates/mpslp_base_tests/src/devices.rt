@@ -1,7 +1,7 @@
-//! Tests of what the devices return and take, call by call.
+//! Tests of what the devices of mpslp_vectors return and take, call by call.
 
-use crate::{FailingReader, FailingWriter};
 use mpslp_io::{IoFailed, Sink, Source};
+use mpslp_vectors::{FailingReader, FailingWriter};
 use std::test::Fail;
 
 #[test]

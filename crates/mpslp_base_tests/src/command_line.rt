@@ -1,6 +1,7 @@
 //! Tests of arguments and the jobs that they request.
 
-use mpslp_convert::{Form, Job, JobFault, Word, job};
+use mpslp_command::job;
+use mpslp_jobs::{Form, Job, JobFault, Word};
 use std::alloc::{AllocError, Global};
 use std::test::Fail;
 

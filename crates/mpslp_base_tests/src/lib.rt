@@ -1,0 +1,27 @@
+//! Tests of the public calls of the crates that do not use the builder, which succeed with ample memory: numbers, devices, maps,
+//! names, the parts of rows and columns, the devices for tests, and the command line.
+//!
+//! This crate has only tests: a crate that has tests is proved twice, the second time together with them. Tests of the model's
+//! definitions share functions with those of the builder, and so are in mpslp_model_tests.
+#![tactic(auto)]
+
+#[cfg(test)]
+mod cells;
+#[cfg(test)]
+mod command_line;
+#[cfg(test)]
+mod decimals;
+#[cfg(test)]
+mod devices;
+#[cfg(test)]
+mod lp_names;
+#[cfg(test)]
+mod maps;
+#[cfg(test)]
+mod names;
+#[cfg(test)]
+mod order;
+#[cfg(test)]
+mod pieces;
+#[cfg(test)]
+mod streams;
