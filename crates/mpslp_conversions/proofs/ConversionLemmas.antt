@@ -1,12 +1,13 @@
 -- The result of a conversion from the results of its parts.
-use Rattle.std.proofs.Common.{◌≡◌, ℕ, List, Bool, true, false, refl, sym, ◌∙◌, subst, inl, inr, None, Some, Result, Ok, Err, Vec}
+use Rattle.std.proofs.Common.{◌≡◌, ℕ, List, Bool, true, false, refl, sym, ap, ◌∙◌, subst, inl, inr, None, Some, Result, Ok, Err, Vec}
 use Rattle.std.specs.Prelude.{IfOk, IsOkUnless}
 use Rattle.std.specs.Bool.{Decides}
 use Rattle.std.specs.declared.alloc.Global.{Global}
 use Rattle.std.proofs.lemmas.Bool.Decides.{not_from_Decides}
 use Rattle.mpslp_model_core.specs.Model.{LinearModel}
+use Rattle.mpslp_types.specs.declared.faults.Fault.{Fault}
 use Rattle.mpslp_types.specs.declared.faults.NameAt.{NameAt}
-use Rattle.mpslp_conversions.specs.Conversions.{HasFirstFault, IsText, IsConversion, IsComparison, IsTestOfText, IsErrUnless}
+use Rattle.mpslp_conversions.specs.Conversions.{HasFirstFault, IsText, IsConversion, IsTestOfModel, IsComparison, IsTestOfText, IsErrUnless}
 use Rattle.mpslp_conversions.specs.Laws.{Declares, Unfit, TextOf}
 use Rattle.mpslp_conversions.specs.declared.faults.ConvertFault.{ConvertFault}
 use Rattle.mpslp_conversions.specs.declared.faults.ConvertFault.TheVariants.{First, Second, NotLp, OutOfMemory}
@@ -44,14 +45,37 @@ pub text_keeps : (declares : Declares) (unfit : Unfit) (text : TextOf) (m : Line
 text_keeps declares unfit text m (Ok out) law h = subst (λ bytes. declares bytes m) (sym h.1) (law h.0)
 text_keeps declares unfit text m (Err fault) law h = tt
 
--- two texts that declare models are compared by their models
+-- a text that declares a model and another one are compared by their models
 pub comparison_of : (declares : Declares) (first_fault : HasFirstFault) (declares' : Declares) (first_fault' : HasFirstFault) (first second : List ℕ)
-    (m n : LinearModel) (same : Bool) → Decides same (m ≡ n) → declares first m → declares' second n
-    → IsComparison declares first_fault declares' first_fault' first second (Ok same)
-comparison_of declares first_fault declares' first_fault' first second m n true told one other =
+    (m : LinearModel) (result : Result Bool ConvertFault) → declares first m → IsTestOfModel declares' first_fault' m second result
+    → IsComparison declares first_fault declares' first_fault' first second result
+comparison_of declares first_fault declares' first_fault' first second m (Ok true) one (n, other, told) =
     (m, one, subst (declares' second) (sym (told.0 refl)) other)
-comparison_of declares first_fault declares' first_fault' first second m n false told one other =
+comparison_of declares first_fault declares' first_fault' first second m (Ok false) one (n, other, told) =
     (m, n, one, other, not_from_Decides false told refl)
+comparison_of declares first_fault declares' first_fault' first second m (Err (First fault)) one h = absurd h
+comparison_of declares first_fault declares' first_fault' first second m (Err (Second fault)) one h = (m, one, h)
+comparison_of declares first_fault declares' first_fault' first second m (Err (NotLp name_at)) one h = absurd h
+comparison_of declares first_fault declares' first_fault' first second m (Err OutOfMemory) one h = tt
+
+-- a second text that declares a model has a result
+pub second_is_accepted : (declares : Declares) (first_fault : HasFirstFault) (m n : LinearModel) (bytes : List ℕ) (result : Result Bool ConvertFault)
+    → ((fault : Fault) → first_fault bytes fault → ⊥) → IsTestOfModel declares first_fault m bytes result → IsOkUnless result OutOfMemory
+second_is_accepted declares first_fault m n bytes (Ok same) no_fault h = tt
+second_is_accepted declares first_fault m n bytes (Err (First fault)) no_fault h = absurd h
+second_is_accepted declares first_fault m n bytes (Err (Second fault)) no_fault h = absurd (no_fault fault h)
+second_is_accepted declares first_fault m n bytes (Err (NotLp name_at)) no_fault h = absurd h
+second_is_accepted declares first_fault m n bytes (Err OutOfMemory) no_fault h = refl
+
+-- the error of a second text is returned
+pub second_is_refused : (declares : Declares) (first_fault : HasFirstFault) (m : LinearModel) (fault : Fault) (bytes : List ℕ) (result : Result Bool ConvertFault)
+    → ((n : LinearModel) → declares bytes n → ⊥) → ((found : Fault) → first_fault bytes found → found ≡ fault)
+    → IsTestOfModel declares first_fault m bytes result → IsErrUnless result (Second fault) OutOfMemory
+second_is_refused declares first_fault m fault bytes (Ok same) no_model one_fault (n, declared, told) = absurd (no_model n declared)
+second_is_refused declares first_fault m fault bytes (Err (First found)) no_model one_fault h = absurd h
+second_is_refused declares first_fault m fault bytes (Err (Second found)) no_model one_fault h = inl (ap Second (one_fault found h))
+second_is_refused declares first_fault m fault bytes (Err (NotLp name_at)) no_model one_fault h = absurd h
+second_is_refused declares first_fault m fault bytes (Err OutOfMemory) no_model one_fault h = inr refl
 
 -- a text that declares a model is compared with the text of the model
 pub test_of : (declares : Declares) (first_fault : HasFirstFault) (text : TextOf) (bytes : List ℕ) (m : LinearModel) (same : Bool)

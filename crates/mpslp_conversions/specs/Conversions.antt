@@ -1,5 +1,6 @@
 -- The results of the conversions and comparisons of whole texts, for any formats.
 use Rattle.std.specs.Prelude.{◌≡◌, ◌≢◌, ◌⊎◌, ℕ, List, Bool, true, false, None, Some, Result, Ok, Err, Vec}
+use Rattle.std.specs.Bool.{Decides}
 use Rattle.std.specs.declared.alloc.Global.{Global}
 use Rattle.mpslp_model_core.specs.Model.{LinearModel}
 use Rattle.mpslp_types.specs.declared.faults.Fault.{Fault}
@@ -40,6 +41,14 @@ IsConversion declares first_fault unfit text bytes (Err (First fault)) = first_f
 IsConversion declares first_fault unfit text bytes (Err (Second fault)) = ⊥
 IsConversion declares first_fault unfit text bytes (Err (NotLp name_at)) = (m : LinearModel) × declares bytes m × (unfit m ≡ Some name_at)
 IsConversion declares first_fault unfit text bytes (Err OutOfMemory) = Unit {0}
+
+-- Whether a second text declares this model; or its first error.
+abbrev pub IsTestOfModel : Declares → HasFirstFault → LinearModel → List ℕ → Result Bool ConvertFault → Type 0
+IsTestOfModel declares first_fault m bytes (Ok same) = (n : LinearModel) × declares bytes n × Decides same (m ≡ n)
+IsTestOfModel declares first_fault m bytes (Err (First fault)) = ⊥
+IsTestOfModel declares first_fault m bytes (Err (Second fault)) = first_fault bytes fault
+IsTestOfModel declares first_fault m bytes (Err (NotLp name_at)) = ⊥
+IsTestOfModel declares first_fault m bytes (Err OutOfMemory) = Unit {0}
 
 -- Whether two texts declare the same model; or the first error of the first text; or, if the first has none, that of the
 -- second.

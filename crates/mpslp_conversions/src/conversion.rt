@@ -4,7 +4,7 @@ ghost use Rattle.std.specs.Prelude.{◌≡◌, None, Some, IfOk, IsOkUnless};
 ghost use Rattle.mpslp_model_core.specs.Model.{LinearModel};
 ghost use Rattle.mpslp_types.specs.declared.faults.Fault.{Fault};
 ghost use Rattle.mpslp_types.specs.declared.faults.NameAt.{NameAt};
-ghost use Rattle.mpslp_conversions.specs.Conversions.{IsReadingOfFirst, IsText, IsConversion, IsComparison, IsTestOfText, IsErrUnless};
+ghost use Rattle.mpslp_conversions.specs.Conversions.{IsReadingOfFirst, IsText, IsConversion, IsTestOfModel, IsComparison, IsTestOfText, IsErrUnless};
 
 use crate::collecting_sink::Collected;
 use crate::comparing_sink::Comparison;
@@ -67,6 +67,18 @@ pub fn canonical<A: Format, B: Format>(alloc: Global, bytes: &[u8]) -> Result<Ve
     text_of::<B>(alloc, &model)
 }
 
+/// Returns whether a second text declares this model in B.
+fn is_model_of<B: Format>(alloc: Global, model: &Model, bytes: &[u8]) -> Result<bool, ConvertFault>
+    ensures { IsTestOfModel B.declares B.first_fault model.now bytes.now result }
+{
+    match B::read(alloc, bytes) {
+        Ok(other) => Ok(model.same(&other)),
+        Err(ReadFault::File(fault)) => Err(ConvertFault::Second(fault)),
+        Err(ReadFault::Failed) => unreachable!(),
+        Err(ReadFault::OutOfMemory) => Err(ConvertFault::OutOfMemory),
+    }
+}
+
 /// Returns whether the first text declares in A the model that the second one declares in B.
 ///
 /// # Errors
@@ -88,12 +100,7 @@ pub fn same_model<A: Format, B: Format>(
         → IsErrUnless result (ConvertFault.Second fault) ConvertFault.OutOfMemory }
 {
     let one = model_of::<A>(alloc, first)?;
-    match B::read(alloc, second) {
-        Ok(other) => Ok(one.same(&other)),
-        Err(ReadFault::File(fault)) => Err(ConvertFault::Second(fault)),
-        Err(ReadFault::Failed) => unreachable!(),
-        Err(ReadFault::OutOfMemory) => Err(ConvertFault::OutOfMemory),
-    }
+    is_model_of::<B>(alloc, &one, second)
 }
 
 /// Returns whether the bytes are the canonical text in A of the model that they declare in A. The text is compared while it

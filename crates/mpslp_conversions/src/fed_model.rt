@@ -5,7 +5,7 @@ ghost use Rattle.mpslp_conversions.specs.Feeding.{IsFedOn, IsModelOf, IsReading,
 ghost use Rattle.mpslp_conversions.specs.Runs.{ReadsWithin, TakesAtMost};
 
 use crate::faults::RunFault;
-use crate::source_to_sink::PIECE;
+use crate::source_to_sink::{PIECE, bytes_to_ask};
 use mpslp_model::{Fault, Format, Model, ModelReader, ReadFault, Source};
 use std::alloc::{AllocError, Global};
 
@@ -65,11 +65,7 @@ pub(crate) fn read_model<A: Format, R: Source>(
     let mut room = max_bytes;
     let mut buffer = [0u8; PIECE];
     'reads: loop {
-        let ask = if room < PIECE as u64 {
-            room as usize + 1
-        } else {
-            PIECE
-        };
+        let ask = bytes_to_ask(room);
         let taken = match source.read(&mut buffer[..ask]) {
             Ok(0) => return finish_fed(reader, fault),
             Ok(taken) => taken,

@@ -6,6 +6,7 @@ ghost use Rattle.mpslp_model_core.specs.Model.{LinearModel};
 ghost use Rattle.mpslp_types.specs.declared.faults.Fault.{Fault};
 ghost use Rattle.mpslp_types.specs.declared.faults.NameAt.{NameAt};
 ghost use Rattle.mpslp_conversions.specs.Conversions.{IsErrUnless};
+ghost use Rattle.mpslp_conversions.specs.declared.source_to_sink.TheConstants.{PIECE};
 ghost use Rattle.mpslp_conversions.specs.Feeding.{IsReading};
 ghost use Rattle.mpslp_conversions.specs.Runs.{SourceHeld, SourceHeldMore, IsLoad, IsPut, IsRun, TakesAtMost};
 
@@ -17,6 +18,18 @@ use std::alloc::Global;
 
 /// The maximum number of bytes that one read requests.
 pub(crate) const PIECE: usize = 65_536;
+
+/// How many bytes a read of a source requests that may have this many left: one more, so that a longer source is noticed, but at
+/// most a piece.
+pub(crate) fn bytes_to_ask(room: u64) -> usize
+    ensures { result ≡ min (room + 1) PIECE }
+{
+    if room < PIECE as u64 {
+        room as usize + 1
+    } else {
+        PIECE
+    }
+}
 
 /// Returns all bytes of a source.
 ///
@@ -43,11 +56,7 @@ pub fn load<R: Source>(alloc: Global, max_bytes: u64, source: &mut R) -> Result<
     let mut room = max_bytes;
     let mut buffer = [0u8; PIECE];
     'reads: loop {
-        let ask = if room < PIECE as u64 {
-            room as usize + 1
-        } else {
-            PIECE
-        };
+        let ask = bytes_to_ask(room);
         let taken = match source.read(&mut buffer[..ask]) {
             Ok(0) => return Ok(bytes),
             Ok(taken) => taken,

@@ -1,24 +1,24 @@
-use Rattle.std.proofs.Common.{ap, inl}
-use Rattle.mpslp_conversions.specs.declared.faults.ConvertFault.TheVariants.{Second}
-use Rattle.mpslp_conversions.proofs.ConversionLemmas.{comparison_of}
+use Rattle.mpslp_conversions.proofs.ConversionLemmas.{comparison_of, second_is_accepted, second_is_refused}
 use Rattle.mpslp_conversions.proofs.conversion.same_model.Goals as goal
 
-pub returns-in-Ok-clause-answer : goal.returns-in-Ok-clause-answer
-returns-in-Ok-clause-answer g c =
+pub returns-clause-answer : goal.returns-clause-answer
+returns-clause-answer g c =
     let one = g.A.Format in
     let other = g.B.Format in
-    comparison_of one.declares one.first_fault other.declares other.first_fault c.args.first.now c.args.second.now _ _ c.same.result c.same.ensures c.in_ok-one.ensures c.in-Ok.ensures
+    comparison_of one.declares one.first_fault other.declares other.first_fault c.args.first.now c.args.second.now c.in_ok-one.one _ c.in_ok-one.ensures c.is_model_of.ensures
 
-pub returns-in-Err-File-clause-answer : goal.returns-in-Err-File-clause-answer
-returns-in-Err-File-clause-answer g c =
-    (c.in_ok-one.one, c.in_ok-one.ensures, rw c.in-Err-File.field-0-is at c.in-Err-File.ensures)
+pub returns-clause-accepts : goal.returns-clause-accepts
+returns-clause-accepts g c = λ m n one declared.
+    let other = g.B.Format in
+    let bytes = c.args.second.now in
+    second_is_accepted other.declares other.first_fault c.in_ok-one.one n bytes _ (λ fault found. g.met.B.Format.no_fault bytes n fault declared found) c.is_model_of.ensures
 
-pub returns-in-Err-File-clause-accepts : goal.returns-in-Err-File-clause-accepts
-returns-in-Err-File-clause-accepts g c = λ m n one other.
-    let told = rw c.in-Err-File.field-0-is at c.in-Err-File.ensures in
-    absurd (g.met.B.Format.no_fault c.args.second.now n c.in-Err-File.fault other told)
+pub returns-clause-refuses : goal.returns-clause-refuses
+returns-clause-refuses g c = λ fault found. absurd (g.met.A.Format.no_fault c.args.first.now c.in_ok-one.one fault c.in_ok-one.ensures found)
 
-pub returns-in-Err-File-clause-refuses_second : goal.returns-in-Err-File-clause-refuses_second
-returns-in-Err-File-clause-refuses_second g c = λ m fault one other.
-    let told = rw c.in-Err-File.field-0-is at c.in-Err-File.ensures in
-    inl (ap Second (g.met.B.Format.one_fault c.args.second.now c.in-Err-File.fault fault told other))
+pub returns-clause-refuses_second : goal.returns-clause-refuses_second
+returns-clause-refuses_second g c = λ m fault one found.
+    let other = g.B.Format in
+    let bytes = c.args.second.now in
+    second_is_refused other.declares other.first_fault c.in_ok-one.one fault bytes _ (λ n declared. g.met.B.Format.no_fault bytes n fault declared found)
+    (λ other_fault told. g.met.B.Format.one_fault bytes other_fault fault told found) c.is_model_of.ensures
