@@ -128,14 +128,15 @@ def is_proved_and_built(crates: list[Crate]) -> bool:
 
 
 def words_of(crate: Crate, crates: dict[str, Crate], libraries: Path) -> list[str]:
-    """The words that name a crate to the kit's `rattle`, in the directory of the crate: its libraries, and the kit's logic."""
+    """The words that name a crate to the kit's `rattle`, in the directory of the crate: its libraries, and the kit's logic.
+
+    A static library is read as a library here: so less is read, and the functions and their proofs are the same. Who builds it adds
+    `--crate-type staticlib`."""
     kit, folders = kit_folder(), {it.name: library_folder(libraries, it.name) for it in below(crates, *crate.uses)}
     words = ["--crate-name", crate.name, "src/main.rt" if crate.is_program else "src/lib.rt"]
     for name in ("std", *crate.libraries):
         words += ["--extern", f"{name}={folders.get(name, kit / 'rlibs') / name}.rlib"]
     for folder in (kit / "rlibs", *folders.values()):
         words += ["-L", f"dependency={folder}"]
-    if crate.is_static:
-        words += ["--crate-type", "staticlib"]
     words += ["--antt-project", f"{kit}/rattle/logic/antt-project.json", "--logic-built", f"{kit}/logic_built"]
     return [*words, "--links", f"{crate.name}="]

@@ -134,6 +134,7 @@ class Prover:
         """Whether `rattle` proves the crate and writes what it builds of it."""
         toolchain = ["--toolchain", f"{kit_folder()}/toolchain"]
         words = ["build", *words_of(crate, self.crates, self.libraries)]
+        words += ["--crate-type", "staticlib"] if crate.is_static else []
         words += ["--statements"] if crate.is_library else [*toolchain, "--backend", "llvm"]
         words += ["-o", str(object_of(crate) if crate.is_program else built(crate))]
         # The others leave the processors to the crates for which the longest chains of crates wait.
