@@ -5,6 +5,26 @@ use Rattle.mpslp_c.specs.Stored.{declares, bounds, column_steps, kind_steps}
 use Rattle.mpslp_c.proofs.StepLemmas.{steps_are, call_err, call_then, column_taken, name_made}
 use Rattle.mpslp_c.proofs.stored_items.declare_column.Goals as goal
 
+pub returns-in_err-column : goal.returns-in_err-column
+returns-in_err-column c =
+    let all = c.args.names.now in
+    let objective = c.args.objective.now in
+    let column = c.args.column in
+    let old = c.args.builder.now in
+    let name = c.in_ok-name.name.now in
+    let lower = c.in_ok-lower.lower in
+    let upper = c.in_ok-upper.upper in
+    let cost = c.in_ok-cost.cost in
+    let new_name = c.in_ok-new.field-0 in
+    let made : new_name ≡ name = name_made all column.name name new_name c.in_ok-name.ensures c.in_ok-new.ensures.taken in
+    let d = declare_column new_name in
+    let more = bounds name lower upper ∷ declares (declare_coefficient (record { row = objective; column = name }) cost) ∷ kind_steps name column.kind in
+    let steps : column_steps all objective column ≡ declares d ∷ more =
+    column_taken all objective column name lower upper cost c.in_ok-name.ensures c.in_ok-lower.ensures.limit c.in_ok-upper.ensures.limit c.in_ok-cost.ensures
+    ∙ (λ i. declares (declare_column (sym made i)) ∷ more) in
+    steps_are (column_steps all objective column) (declares d ∷ more) old _ _ steps
+    (call_err (declares d) more old _ _ (refusals old d) c.in_err-column.field-0.0 (old ≡ old) _ refl c.in_err-column.ensures c.from_residual-in_err-column.ensures.1)
+
 pub returns-in_err-bounds : goal.returns-in_err-bounds
 returns-in_err-bounds c =
     let all = c.args.names.now in
