@@ -49,72 +49,93 @@ column with its coefficients. Rows and columns are numbered from 0 in the byte o
 Example:
   mpslp show mps model.mps";
 
-/// A required positional argument.
-fn argument<'a>(alloc: Global, id: &'a str, name: &'a str, help: &'a str) -> Arg<'a> {
-    Arg::new(alloc, id)
-        .required(true)
-        .value_name(name)
-        .help(help)
+/// A required positional argument: its identifier, its name in the help, and its description.
+type Argument = [&'static str; 3];
+
+const CANON_ARGUMENTS: [Argument; 3] = [
+    ["from", "FROM", "The format of the file: mps or lp"],
+    ["to", "TO", "The format of the text: mps or lp"],
+    ["path", "PATH", "The file, or - for standard input"],
+];
+
+const SAME_ARGUMENTS: [Argument; 4] = [
+    [
+        "first-form",
+        "FROM",
+        "The format of the first file: mps or lp",
+    ],
+    ["first", "PATH", "The first file, or - for standard input"],
+    [
+        "second-form",
+        "FROM",
+        "The format of the second file: mps or lp",
+    ],
+    ["second", "PATH", "The second file, or - for standard input"],
+];
+
+const SHOW_ARGUMENTS: [Argument; 2] = [
+    ["from", "FROM", "The format of the file: mps or lp"],
+    ["path", "PATH", "The file, or - for standard input"],
+];
+
+/// Adds arguments to a subcommand. The proof of a function goes through all that a command may hold wherever it may drop one, so
+/// this is done here only.
+fn with_arguments<'a>(
+    alloc: Global,
+    subcommand: Command<'a>,
+    arguments: &[Argument],
+) -> Result<Command<'a>, AllocError> {
+    let mut subcommand = subcommand;
+    for [id, name, help] in arguments {
+        let argument = Arg::new(alloc, *id)
+            .required(true)
+            .value_name(*name)
+            .help(*help);
+        subcommand = subcommand.arg(argument)?;
+    }
+    Ok(subcommand)
 }
 
 fn canon<'a>(alloc: Global) -> Result<Command<'a>, AllocError> {
-    Command::new(alloc, "canon")
+    let subcommand = Command::new(alloc, "canon")
         .about("Writes the canonical text of a model file")
-        .after_help(CANON)
-        .arg(argument(alloc, "from", "FROM", "The format of the file: mps or lp"))?
-        .arg(argument(alloc, "to", "TO", "The format of the text: mps or lp"))?
-        .arg(argument(alloc, "path", "PATH", "The file, or - for standard input"))
+        .after_help(CANON);
+    with_arguments(alloc, subcommand, &CANON_ARGUMENTS)
 }
 
 fn same<'a>(alloc: Global) -> Result<Command<'a>, AllocError> {
-    Command::new(alloc, "same")
+    let subcommand = Command::new(alloc, "same")
         .about("Compares two model files")
-        .after_help(SAME)
-        .arg(argument(
-            alloc,
-            "first-form",
-            "FROM",
-            "The format of the first file: mps or lp",
-        ))?
-        .arg(argument(
-            alloc,
-            "first",
-            "PATH",
-            "The first file, or - for standard input",
-        ))?
-        .arg(argument(
-            alloc,
-            "second-form",
-            "FROM",
-            "The format of the second file: mps or lp",
-        ))?
-        .arg(argument(
-            alloc,
-            "second",
-            "PATH",
-            "The second file, or - for standard input",
-        ))
+        .after_help(SAME);
+    with_arguments(alloc, subcommand, &SAME_ARGUMENTS)
 }
 
 fn show<'a>(alloc: Global) -> Result<Command<'a>, AllocError> {
-    Command::new(alloc, "show")
+    let subcommand = Command::new(alloc, "show")
         .about("Prints the model of a file, one line for each row, column and coefficient")
-        .after_help(SHOW)
-        .arg(argument(alloc, "from", "FROM", "The format of the file: mps or lp"))?
-        .arg(argument(alloc, "path", "PATH", "The file, or - for standard input"))
+        .after_help(SHOW);
+    with_arguments(alloc, subcommand, &SHOW_ARGUMENTS)
+}
+
+/// Adds a subcommand, if memory sufficed for it.
+fn with_subcommand<'a>(
+    program: Command<'a>,
+    subcommand: Result<Command<'a>, AllocError>,
+) -> Result<Command<'a>, AllocError> {
+    program.subcommand(subcommand?)
 }
 
 /// The whole command line. Its arguments do not include the program's name.
 pub(crate) fn command<'a>(alloc: Global) -> Result<Command<'a>, AllocError> {
-    Command::new(alloc, "mpslp")
+    let program = Command::new(alloc, "mpslp")
         .bin_name("mpslp")?
         .version(VERSION)
         .about(ABOUT)
         .after_help(STATUSES)
         .no_binary_name(true)
         .subcommand_required(true)
-        .arg_required_else_help(true)
-        .subcommand(canon(alloc)?)?
-        .subcommand(same(alloc)?)?
-        .subcommand(show(alloc)?)
+        .arg_required_else_help(true);
+    let program = with_subcommand(program, canon(alloc))?;
+    let program = with_subcommand(program, same(alloc))?;
+    with_subcommand(program, show(alloc))
 }
