@@ -1,4 +1,5 @@
 -- Each error that depends on other lines is as `FaultsInWords` defines its kind.
+use Rattle.std.proofs.lemmas.Bool.{false≢true, true≢false}
 use Rattle.std.proofs.Common.{◌≡◌, refl, sym, ap, ◌∙◌, List, [], ◌∷◌, ◌++◌, ℕ, Bool, true, false, cond, map}
 use Rattle.std.specs.Prelude.{Option, Some, None, is_none, is_some, not, filter_map, nat_lt, ◌||◌, ◌&&◌, codes}
 use Rattle.std.specs.List.{list_any, last_or, flat_map}
@@ -30,7 +31,7 @@ use Rattle.mpslp_mps.proofs.FaultedLines.{holds_of, in-words}
 -- ---- SectionRepeated
 
 repeated : (before : List LineContent) (earlier : Draft) (item : LineContent) → Told before earlier → holds_of kinds.SectionRepeated (item_tests (context_of before) earlier item) ≡ true → repeats_section before item ≡ true
-repeated before earlier skipped known h = cc
+repeated before earlier skipped known h = absurd (false≢true h)
 repeated before earlier (header keyword more) known h = by (section_named keyword) h
   where
     by : (o : Option Section) → holds_of kinds.SectionRepeated (header_tests (context_of before) earlier keyword more o) ≡ true → option_map_or (has_section before) o false ≡ true
@@ -62,7 +63,7 @@ section-repeated = in-words kinds.SectionRepeated repeats_section refl refl refl
 -- ---- BadMarker
 
 wrong-marker : (before : List LineContent) (earlier : Draft) (item : LineContent) → Told before earlier → holds_of kinds.BadMarker (item_tests (context_of before) earlier item) ≡ true → is_wrong_marker before item ≡ true
-wrong-marker before earlier skipped known h = cc
+wrong-marker before earlier skipped known h = absurd (false≢true h)
 wrong-marker before earlier (header keyword more) known h = no-header kinds.BadMarker (context_of before) earlier keyword more (section_named keyword) refl h
 wrong-marker before earlier (data_line fields) known h = by (current_section before) h
   where
@@ -77,7 +78,7 @@ wrong-marker before earlier (data_line fields) known h = by (current_section bef
       where
         turn : (b : Bool) → not b ≡ true → b ≡ true → ⊥
         turn true p q = cc
-        turn false p q = cc
+        turn false p q = absurd (false≢true q)
     of word k false e = refl
 
     line : (b : Bool) → holds_of kinds.BadMarker (cond b (marker_tests (context_of before) fields) (judged_by (column_tests (context_of before) earlier) (column_shape fields))) ≡ true
@@ -86,7 +87,7 @@ wrong-marker before earlier (data_line fields) known h = by (current_section bef
       where
         marker : (o : Option (List ℕ)) → holds_of kinds.BadMarker (judged_by (marker_word_tests (context_of before)) o) ≡ true
             → option_map_or (λ word. not (alternate opening_word closing_word (words ++ word ∷ []))) o false ≡ true
-        marker None e = cc
+        marker None e = absurd (false≢true e)
         marker (Some word) e = of word (left_alone (not (same_bytes word due)) false refl e) (alternate opening_word closing_word (words ++ word ∷ [])) refl
     line false k =
         absurd (never (holds_of kinds.BadMarker (judged_by (column_tests (context_of before) earlier) (column_shape fields))) k
@@ -110,7 +111,7 @@ bad-marker = in-words kinds.BadMarker is_wrong_marker refl refl refl (by-form ki
 -- ---- ColumnSplit
 
 split : (before : List LineContent) (earlier : Draft) (item : LineContent) → Told before earlier → holds_of kinds.ColumnSplit (item_tests (context_of before) earlier item) ≡ true → splits_column before item ≡ true
-split before earlier skipped known h = cc
+split before earlier skipped known h = absurd (false≢true h)
 split before earlier (header keyword more) known h = no-header kinds.ColumnSplit (context_of before) earlier keyword more (section_named keyword) refl h
 split before earlier (data_line fields) known h = by (current_section before) h
   where
@@ -129,7 +130,7 @@ split before earlier (data_line fields) known h = by (current_section before) h
       where
         column : (o : Option ValuesLine) → holds_of kinds.ColumnSplit (judged_by (column_tests (context_of before) earlier) o) ≡ true
             → not (stand_together (columns_of before ++ option_map (λ (l : ValuesLine). l.name) o ∷ [])) ≡ true
-        column None e = cc
+        column None e = absurd (false≢true e)
         column (Some l) e = of l.name (left_alone (is_split (context_of before) earlier l.name) false refl e) (stand_together (columns_of before ++ Some l.name ∷ [])) refl
 
     by : (o : Option Section) → holds_of kinds.ColumnSplit (data_tests (context_of before) earlier fields o) ≡ true
@@ -152,16 +153,16 @@ column-split = in-words kinds.ColumnSplit splits_column refl refl refl (by-form 
 
 -- a name other than the first one
 other-first : (sets : List (List ℕ)) (set : List ℕ) → option_map_or (λ name. not (same_bytes name set)) (head_of sets) false ≡ true → differs_from sets set ≡ true
-other-first [] set h = cc
+other-first [] set h = absurd (false≢true h)
 other-first (first ∷ sets) set h = or_left (not (same_bytes first set)) (differs_from sets set) h
 
 second : (before : List LineContent) (earlier : Draft) (item : LineContent) → Told before earlier → holds_of kinds.SecondSet (item_tests (context_of before) earlier item) ≡ true → is_of_second_set before item ≡ true
-second before earlier skipped known h = cc
+second before earlier skipped known h = absurd (false≢true h)
 second before earlier (header keyword more) known h = no-header kinds.SecondSet (context_of before) earlier keyword more (section_named keyword) refl h
 second before earlier (data_line fields) known h = by (current_section before) h
   where
     vector : (sets : List (List ℕ)) (o : Option ValuesLine) → holds_of kinds.SecondSet (judged_by (vector_tests (head_of sets)) o) ≡ true → option_map_or (differs_from sets) (option_map (λ (l : ValuesLine). l.name) o) false ≡ true
-    vector sets None k = cc
+    vector sets None k = absurd (false≢true k)
     vector sets (Some line) k = other-first sets line.name (left_alone (option_map_or (λ name. not (same_bytes name line.name)) (head_of sets) false) false refl k)
 
     sets_before : List (List ℕ)
@@ -173,16 +174,16 @@ second before earlier (data_line fields) known h = by (current_section before) h
     literal line (Some text) k = other-first sets_before line.set (left_alone (option_map_or (λ name. not (same_bytes name line.set)) (head_of sets_before) false) false refl k)
 
     shape : (o : Option BoundLine) → holds_of kinds.SecondSet (judged_by (bound_tests (context_of before)) o) ≡ true → option_map_or (differs_from sets_before) (option_map (λ (l : BoundLine). l.set) o) false ≡ true
-    shape None k = cc
+    shape None k = absurd (false≢true k)
     shape (Some line) k = literal line line.literal k
 
     bound : (fs : Fields) → holds_of kinds.SecondSet (bound_line_tests (context_of before) fs) ≡ true → option_map_or (differs_from sets_before) (bound_set fs) false ≡ true
-    bound [] k = cc
+    bound [] k = absurd (false≢true k)
     bound (letters ∷ more) k = typed (bound_type letters) k
       where
         typed : (o : Option BoundType) → holds_of kinds.SecondSet (typed_bound_tests (context_of before) more o) ≡ true
             → option_map_or (differs_from sets_before) (option_map_or (λ type. option_map (λ (l : BoundLine). l.set) (bound_shape type more)) o None) false ≡ true
-        typed None e = cc
+        typed None e = absurd (false≢true e)
         typed (Some type) e = shape (bound_shape type more) e
 
     by : (o : Option Section) → holds_of kinds.SecondSet (data_tests (context_of before) earlier fields o) ≡ true → has_second_set before fields o ≡ true
@@ -217,15 +218,15 @@ with-its_word section test before takes (without_word, (a, b, c, d)) here own w 
 with-its_word section test before takes (with_word, (a, b, c)) here own w = both_so (takes_word section) (has_its_word before section) takes (one (words_in section before) a)
   where
     one : (words : List Fields) → is_one_word test words ≡ true → is_nonempty (flat_map (λ (fields : Fields). fields) words) ≡ true
-    one [] h = cc
+    one [] h = absurd (false≢true h)
     one ((word ∷ []) ∷ []) h = refl
     one ([] ∷ (word ∷ []) ∷ []) h = refl
-    one ([] ∷ []) h = cc
-    one ([] ∷ [] ∷ more) h = cc
-    one ([] ∷ (word ∷ []) ∷ next ∷ more) h = cc
-    one ([] ∷ (word ∷ other ∷ rest) ∷ more) h = cc
-    one ((word ∷ []) ∷ next ∷ more) h = cc
-    one ((word ∷ other ∷ rest) ∷ more) h = cc
+    one ([] ∷ []) h = absurd (false≢true h)
+    one ([] ∷ [] ∷ more) h = absurd (false≢true h)
+    one ([] ∷ (word ∷ []) ∷ next ∷ more) h = absurd (false≢true h)
+    one ([] ∷ (word ∷ other ∷ rest) ∷ more) h = absurd (false≢true h)
+    one ((word ∷ []) ∷ next ∷ more) h = absurd (false≢true h)
+    one ((word ∷ other ∷ rest) ∷ more) h = absurd (false≢true h)
 
 -- a section that has begun has a later place
 later-place : (p q : Section → Bool) (sections_seen : List Section) → ((x : Section) → p x ≡ true → q x ≡ true) → list_any p sections_seen ≡ true → list_any q sections_seen ≡ true
@@ -237,15 +238,15 @@ later-place p q (x ∷ sections_seen) h k = by (λ e. later-place p q sections_s
     by rest false e l = or_right (q x) (list_any q sections_seen) (rest l)
 
 rows-later : (x : Section) → is_section Rows (Some x) ≡ true → nat_lt 1 (section_rank x) ≡ true
-rows-later Name h = cc
-rows-later ObjSense h = cc
-rows-later ObjName h = cc
+rows-later Name h = absurd (false≢true h)
+rows-later ObjSense h = absurd (false≢true h)
+rows-later ObjName h = absurd (false≢true h)
 rows-later Rows h = refl
-rows-later Columns h = cc
-rows-later Rhs h = cc
-rows-later Ranges h = cc
-rows-later Bounds h = cc
-rows-later EndData h = cc
+rows-later Columns h = absurd (false≢true h)
+rows-later Rhs h = absurd (false≢true h)
+rows-later Ranges h = absurd (false≢true h)
+rows-later Bounds h = absurd (false≢true h)
+rows-later EndData h = absurd (false≢true h)
 
 -- any section that has begun, and is not NAME, has a later place than NAME
 first-later : (sections_seen : List Section) → is_none (last_or None sections_seen) ≡ false → has sections_seen Name ≡ false → list_any (λ other. nat_lt 0 (section_rank other)) sections_seen ≡ true
@@ -265,13 +266,13 @@ first-later (x ∷ sections_seen) h k = or_left (nat_lt 0 (section_rank x)) (lis
 
 turned : (b : Bool) → not b ≡ false → b ≡ true
 turned true h = refl
-turned false h = cc
+turned false h = absurd (true≢false h)
 
 misplaced : (before : List LineContent) (s : Section) → has_section before s ≡ false → may_begin (context_of before) s ≡ false → (comes_early before s || comes_late before s) ≡ true
 misplaced before Name f g = first-later (seen_sections before) g f
 misplaced before ObjSense f g = later-place (λ x. is_section Rows (Some x)) (λ other. nat_lt 1 (section_rank other)) (seen_sections before) rows-later (turned (has_section before Rows) g)
 misplaced before ObjName f g = later-place (λ x. is_section Rows (Some x)) (λ other. nat_lt 1 (section_rank other)) (seen_sections before) rows-later (turned (has_section before Rows) g)
-misplaced before Rows f g = cc
+misplaced before Rows f g = absurd (true≢false g)
 misplaced before Columns f g = or_left (not (has_section before Rows)) (comes_late before Columns) (so_not (has_section before Rows) g)
 misplaced before Rhs f g = or_left (not (has_section before Columns)) (comes_late before Rhs) (so_not (has_section before Columns) g)
 misplaced before Ranges f g = or_left (not (has_section before Columns)) (comes_late before Ranges) (so_not (has_section before Columns) g)
@@ -279,20 +280,20 @@ misplaced before Bounds f g = or_left (not (has_section before Columns)) (comes_
 misplaced before EndData f g = or_left (not (has_section before Columns)) (comes_late before EndData) (so_not (has_section before Columns) g)
 
 out-of-place : (before : List LineContent) (earlier : Draft) (item : LineContent) → Told before earlier → holds_of kinds.SectionOrder (item_tests (context_of before) earlier item) ≡ true → stands_out_of_order before item ≡ true
-out-of-place before earlier skipped known h = cc
+out-of-place before earlier skipped known h = absurd (false≢true h)
 out-of-place before earlier (header keyword more) known h = by (section_named keyword) h
   where
     word_due_after : (o : Option Section) → current_section before ≡ o → is_some (word_due before) ≡ true → option_map_or (is_without_word before) o false ≡ true
-    word_due_after None e w = let no : false ≡ true = sym (ap (λ (o : Option Section). is_section ObjSense o || is_section ObjName o) e) ∙ known.known.there w in cc
+    word_due_after None e w = let no : false ≡ true = sym (ap (λ (o : Option Section). is_section ObjSense o || is_section ObjName o) e) ∙ known.known.there w in absurd (false≢true no)
     word_due_after (Some ObjSense) e w = without-word ObjSense is_sense before refl known.known.words.sense e refl w
     word_due_after (Some ObjName) e w = without-word ObjName (λ _. true) before refl known.known.words.name e refl w
-    word_due_after (Some Name) e w = let no : false ≡ true = sym (ap (λ (o : Option Section). is_section ObjSense o || is_section ObjName o) e) ∙ known.known.there w in cc
-    word_due_after (Some Rows) e w = let no : false ≡ true = sym (ap (λ (o : Option Section). is_section ObjSense o || is_section ObjName o) e) ∙ known.known.there w in cc
-    word_due_after (Some Columns) e w = let no : false ≡ true = sym (ap (λ (o : Option Section). is_section ObjSense o || is_section ObjName o) e) ∙ known.known.there w in cc
-    word_due_after (Some Rhs) e w = let no : false ≡ true = sym (ap (λ (o : Option Section). is_section ObjSense o || is_section ObjName o) e) ∙ known.known.there w in cc
-    word_due_after (Some Ranges) e w = let no : false ≡ true = sym (ap (λ (o : Option Section). is_section ObjSense o || is_section ObjName o) e) ∙ known.known.there w in cc
-    word_due_after (Some Bounds) e w = let no : false ≡ true = sym (ap (λ (o : Option Section). is_section ObjSense o || is_section ObjName o) e) ∙ known.known.there w in cc
-    word_due_after (Some EndData) e w = let no : false ≡ true = sym (ap (λ (o : Option Section). is_section ObjSense o || is_section ObjName o) e) ∙ known.known.there w in cc
+    word_due_after (Some Name) e w = let no : false ≡ true = sym (ap (λ (o : Option Section). is_section ObjSense o || is_section ObjName o) e) ∙ known.known.there w in absurd (false≢true no)
+    word_due_after (Some Rows) e w = let no : false ≡ true = sym (ap (λ (o : Option Section). is_section ObjSense o || is_section ObjName o) e) ∙ known.known.there w in absurd (false≢true no)
+    word_due_after (Some Columns) e w = let no : false ≡ true = sym (ap (λ (o : Option Section). is_section ObjSense o || is_section ObjName o) e) ∙ known.known.there w in absurd (false≢true no)
+    word_due_after (Some Rhs) e w = let no : false ≡ true = sym (ap (λ (o : Option Section). is_section ObjSense o || is_section ObjName o) e) ∙ known.known.there w in absurd (false≢true no)
+    word_due_after (Some Ranges) e w = let no : false ≡ true = sym (ap (λ (o : Option Section). is_section ObjSense o || is_section ObjName o) e) ∙ known.known.there w in absurd (false≢true no)
+    word_due_after (Some Bounds) e w = let no : false ≡ true = sym (ap (λ (o : Option Section). is_section ObjSense o || is_section ObjName o) e) ∙ known.known.there w in absurd (false≢true no)
+    word_due_after (Some EndData) e w = let no : false ≡ true = sym (ap (λ (o : Option Section). is_section ObjSense o || is_section ObjName o) e) ∙ known.known.there w in absurd (false≢true no)
 
     idle : Bool
     idle = option_map_or (is_without_word before) (current_section before) false
@@ -300,8 +301,8 @@ out-of-place before earlier (header keyword more) known h = by (section_named ke
     of : (s : Section) (w f g : Bool) → is_some (word_due before) ≡ w → has_section before s ≡ f → may_begin (context_of before) s ≡ g → (w || not (f || g)) ≡ true
         → (idle || (not (has_section before s) && (comes_early before s || comes_late before s))) ≡ true
     of s true f g p q r k = or_left idle (not (has_section before s) && (comes_early before s || comes_late before s)) (word_due_after (current_section before) refl p)
-    of s false true g p q r k = cc
-    of s false false true p q r k = cc
+    of s false true g p q r k = absurd (false≢true k)
+    of s false false true p q r k = absurd (false≢true k)
     of s false false false p q r k =
         or_right idle (not (has_section before s) && (comes_early before s || comes_late before s))
         (both_so (not (has_section before s)) (comes_early before s || comes_late before s) (so_not (has_section before s) q) (misplaced before s q r))
@@ -325,14 +326,14 @@ out-of-place before earlier (data_line fields) known h = by (current_section bef
       where
         word : (b : Bool) (o : Option (List ℕ)) → holds_of kinds.SectionOrder ((not b, kinds.SectionOrder) ∷ judged_by word_tests o) ≡ true → b ≡ false
         word false o l = refl
-        word true None l = cc
-        word true (Some x) l = cc
+        word true None l = absurd (false≢true l)
+        word true (Some x) l = absurd (false≢true l)
     stands ObjName k e = with-its_word ObjName (λ _. true) before refl known.known.words.name e refl (word (is_some (word_due before)) (word_shape fields) k)
       where
         word : (b : Bool) (o : Option (List ℕ)) → holds_of kinds.SectionOrder ((not b, kinds.SectionOrder) ∷ judged_by (λ _. []) o) ≡ true → b ≡ false
         word false o l = refl
-        word true None l = cc
-        word true (Some x) l = cc
+        word true None l = absurd (false≢true l)
+        word true (Some x) l = absurd (false≢true l)
     stands Rows k e = no-data kinds.SectionOrder (context_of before) earlier fields (Some Rows) refl k
     stands Columns k e = no-data kinds.SectionOrder (context_of before) earlier fields (Some Columns) refl k
     stands Rhs k e = no-data kinds.SectionOrder (context_of before) earlier fields (Some Rhs) refl k

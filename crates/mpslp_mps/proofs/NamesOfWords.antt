@@ -1,4 +1,5 @@
 -- A draft has the rows, coefficients and sense of the lines before by `TextInWords`; each row that they name exists.
+use Rattle.std.proofs.lemmas.Bool.{false≢true, true≢false}
 use Rattle.std.proofs.Common.{◌≡◌, refl, sym, ap, ◌∙◌, subst, List, [], ◌∷◌, ◌++◌, ℕ, Bool, true, false, cond}
 use Rattle.std.specs.Prelude.{Option, Some, None, is_none, is_some, not, filter_map, ◌||◌, ◌&&◌, codes}
 use Rattle.std.specs.List.{list_any, list_all, flat_map, cons_option}
@@ -69,7 +70,7 @@ no-rows-header context earlier more (Some Name) h = refl
 no-rows-header context earlier more (Some ObjSense) h = sense-passes _ (λ _. refl) more
 no-rows-header context earlier more (Some ObjName) h = refl
 no-rows-header context earlier more (Some Rows) h = refl
-no-rows-header context earlier more (Some Columns) h = cc
+no-rows-header context earlier more (Some Columns) h = absurd (true≢false h)
 no-rows-header context earlier more (Some Rhs) h = refl
 no-rows-header context earlier more (Some Ranges) h = refl
 no-rows-header context earlier more (Some Bounds) h = refl
@@ -140,7 +141,7 @@ rows_there-kept before earlier item good there name h = by (names_row before nam
 
     row : (o : Option RowLine) → option_map_or (λ (line : RowLine). is_some (row_type line.letter) && is_mps_name line.name) o false ≡ true → is_named name (cons_option (option_map (λ (line : RowLine). line.name) o) []) ≡ true
         → has_row (with_declarations earlier (declared_if_some (row_declared (context_of before) earlier) o)) name ≡ true
-    row None g e = cc
+    row None g e = absurd (false≢true e)
     row (Some line) g e = typed line (row_type line.letter) (first_so (is_some (row_type line.letter)) (is_mps_name line.name) g) (first (same_bytes name line.name) e)
 
     under : (fields : Fields) → IsGood before earlier (data_line fields) → (b : Bool) → is_section Rows (current_section before) ≡ b → is_named name (filter_map row_name (when b fields)) ≡ true
@@ -149,11 +150,11 @@ rows_there-kept before earlier item good there name h = by (names_row before nam
         let here = section-is Rows (current_section before) e in
         subst (λ o. has_row (with_declarations earlier (data_declared (context_of before) earlier fields o)) name ≡ true) (sym here)
         (row (row_shape fields) (row-fields fields (subst (λ o. those_of (data_tests (context_of before) earlier fields o) ≡ []) here g)) k)
-    under fields g false e k = cc
+    under fields g false e k = absurd (false≢true k)
 
     new : (x : LineContent) → IsGood before earlier x → is_named name (filter_map row_name (fields_under Rows (current_section before) x)) ≡ true → has_row (with_declarations earlier (line_declares (context_of before) earlier x)) name ≡ true
-    new skipped g k = cc
-    new (header keyword more) g k = cc
+    new skipped g k = absurd (false≢true k)
+    new (header keyword more) g k = absurd (false≢true k)
     new (data_line fields) g k = under fields g (is_section Rows (current_section before)) refl k
 
     by : (b : Bool) → names_row before name ≡ b → (x : LineContent) → IsGood before earlier x → (b || is_named name (filter_map row_name (fields_under Rows (current_section before) x))) ≡ true
@@ -179,7 +180,7 @@ row_lines-kept before earlier item have name h =
         of : (m n : Bool) → (m || n) ≡ true → ((m || a) || (n || b)) ≡ true
         of true n e = refl
         of false true e = or_right a true refl
-        of false false e = cc
+        of false false e = absurd (false≢true e)
 
     of_line : (line : RowLine) (type : RowType) → has_row (with_declarations earlier (row_of_type (context_of before) earlier line.name type)) name ≡ true → ((same_bytes name line.name || false) || has_row earlier name) ≡ true
     of_line line type k = of type k
@@ -246,7 +247,7 @@ declares_entry (declare_coefficient _ _) = true
 declares_entry _ = false
 
 entry-kept : (all : Draft) (d : Declaration) (key : CoefficientKey) → not (declares_entry d) ≡ true → has_coefficient (with_declaration all d) key ≡ has_coefficient all key
-entry-kept all (declare_coefficient _ _) key h = cc
+entry-kept all (declare_coefficient _ _) key h = absurd (false≢true h)
 entry-kept all (declare_objective _) key h = refl
 entry-kept all (declare_row _ _) key h = refl
 entry-kept all (declare_sense _) key h = refl
@@ -298,7 +299,7 @@ no-entries-data context earlier fields (Some ObjName) h = refl
 no-entries-data context earlier fields (Some Rows) h =
     each-declared (λ d. not (declares_entry d)) (row_declared context earlier) (row_shape fields)
     (λ line. each-declared (λ d. not (declares_entry d)) (row_of_type context earlier line.name) (row_type line.letter) (λ type. no-entries-row context earlier line.name type))
-no-entries-data context earlier fields (Some Columns) h = cc
+no-entries-data context earlier fields (Some Columns) h = absurd (true≢false h)
 no-entries-data context earlier fields (Some Rhs) h = sides-passes (λ d. not (declares_entry d)) (λ r v. refl) earlier fields
 no-entries-data context earlier fields (Some Ranges) h = ranges-passes (λ d. not (declares_entry d)) (λ r v. refl) fields
 no-entries-data context earlier fields (Some Bounds) h = bounds-passes (λ d. not (declares_entry d)) passes-entries fields
@@ -380,7 +381,7 @@ declares_sense (declare_sense _) = true
 declares_sense _ = false
 
 sense-kept : (all : Draft) (d : Declaration) → not (declares_sense d) ≡ true → (with_declaration all d).sense ≡ all.sense
-sense-kept all (declare_sense _) h = cc
+sense-kept all (declare_sense _) h = absurd (false≢true h)
 sense-kept all (declare_objective _) h = refl
 sense-kept all (declare_row _ _) h = refl
 sense-kept all (declare_constant _) h = refl
@@ -407,7 +408,7 @@ passes-senses = record { lower = λ _ _. refl; upper = λ _ _. refl; integer = �
 no-senses-header : (context : Context) (earlier : Draft) (more : Fields) (o : Option Section) → is_section ObjSense o ≡ false → list_all (λ d. not (declares_sense d)) (header_declared context earlier more o) ≡ true
 no-senses-header context earlier more None h = refl
 no-senses-header context earlier more (Some Name) h = refl
-no-senses-header context earlier more (Some ObjSense) h = cc
+no-senses-header context earlier more (Some ObjSense) h = absurd (true≢false h)
 no-senses-header context earlier more (Some ObjName) h = refl
 no-senses-header context earlier more (Some Rows) h = refl
 no-senses-header context earlier more (Some Columns) h =
@@ -444,7 +445,7 @@ no-senses-column context fields = by (is_marker_line fields)
 no-senses-data : (context : Context) (earlier : Draft) (fields : Fields) (o : Option Section) → is_section ObjSense o ≡ false → list_all (λ d. not (declares_sense d)) (data_declared context earlier fields o) ≡ true
 no-senses-data context earlier fields None h = refl
 no-senses-data context earlier fields (Some Name) h = refl
-no-senses-data context earlier fields (Some ObjSense) h = cc
+no-senses-data context earlier fields (Some ObjSense) h = absurd (true≢false h)
 no-senses-data context earlier fields (Some ObjName) h = refl
 no-senses-data context earlier fields (Some Rows) h =
     each-declared (λ d. not (declares_sense d)) (row_declared context earlier) (row_shape fields)
@@ -464,7 +465,7 @@ sense_word-kept before earlier item have h =
     words = flat_map (λ fields. fields) (words_in ObjSense before)
 
     left : (xs ys : List (List ℕ)) → is_nonempty xs ≡ true → is_nonempty (xs ++ ys) ≡ true
-    left [] ys k = cc
+    left [] ys k = absurd (false≢true k)
     left (x ∷ xs) ys k = refl
 
     right : (xs : List (List ℕ)) (y : List ℕ) (ys : List (List ℕ)) → is_nonempty (xs ++ y ∷ ys) ≡ true
@@ -508,7 +509,7 @@ word-push section before item h =
     ∙ left (flat_map (λ fields. fields) (words_in section before)) (flat_map (λ fields. fields) (word_fields section (current_section before) item)) h)
   where
     left : (xs ys : List (List ℕ)) → is_nonempty xs ≡ true → is_nonempty (xs ++ ys) ≡ true
-    left [] ys k = cc
+    left [] ys k = absurd (false≢true k)
     left (x ∷ xs) ys k = refl
 
 -- an objective that exists is an N row, or COLUMNS has begun
@@ -527,7 +528,7 @@ free_line-kept before earlier item have h =
         of : (m n : Bool) → (m || n) ≡ true → ((m || a) || (n || b)) ≡ true
         of true n e = refl
         of false true e = or_right a true refl
-        of false false e = cc
+        of false false e = absurd (false≢true e)
 
     same : (ds : Declarations) → are_unnamed ds ≡ true → is_some (with_declarations earlier ds).objective ≡ true → is_some earlier.objective ≡ true
     same ds e k = sym (ap (λ (o : Option (List ℕ)). is_some o) (objective-kept ds earlier e)) ∙ k
@@ -575,9 +576,9 @@ free_named-kept before earlier item have h = by item (sym (free_line-push before
         (ap (λ (o : Option (List ℕ)). is_some o) (objname-push before x) ∙ first (objname before) (objname_word (current_section before) x) f)
       where
         first : (a b : Option (List ℕ)) → is_some a ≡ true → is_some (option_or a b) ≡ true
-        first None b g = cc
+        first None b g = absurd (false≢true g)
         first (Some y) b g = refl
-    stays x false false e f k = cc
+    stays x false false e f k = absurd (false≢true k)
 
     old : (x : LineContent) → has_free_line before ≡ true → (is_some (with_declarations earlier (line_declares (context_of before) earlier x)).objective || is_some (objname (before ++ x ∷ []))) ≡ true
     old x e = stays x (is_some earlier.objective) (is_some (objname before)) refl refl (have e)
@@ -586,7 +587,7 @@ free_named-kept before earlier item have h = by item (sym (free_line-push before
     kept_back : (name : List ℕ) (o n : Option (List ℕ)) → (is_none o && option_map_or (same_bytes name) n true) ≡ false → (is_some o || is_some n) ≡ true
     kept_back name (Some x) n e = refl
     kept_back name None (Some y) e = refl
-    kept_back name None None e = cc
+    kept_back name None None e = absurd (true≢false e)
 
     fresh : (fields : Fields) (line : RowLine) (o : Option RowType) → is_free o ≡ true → data_declared (context_of before) earlier fields (current_section before) ≡ declared_if_some (row_of_type (context_of before) earlier line.name) o
         → (is_some (with_declarations earlier (line_declares (context_of before) earlier (data_line fields))).objective || is_some (objname (before ++ data_line fields ∷ []))) ≡ true
@@ -630,7 +631,7 @@ free_named-kept before earlier item have h = by item (sym (free_line-push before
         under : (b : Bool) → is_section Rows (current_section before) ≡ b → list_any is_free_row_line (when b fields) ≡ true
             → (is_some (with_declarations earlier (line_declares (context_of before) earlier (data_line fields))).objective || is_some (objname (before ++ data_line fields ∷ []))) ≡ true
         under true e f = row (row_shape fields) f (ap (data_declared (context_of before) earlier fields) (section-is Rows (current_section before) e))
-        under false e f = cc
+        under false e f = absurd (false≢true f)
 
 -- if there is none, and OBJNAME has no word, `obj` exists from the header of COLUMNS on
 abbrev pub IsDefaultThere : List LineContent → Draft → Type 0
@@ -642,7 +643,7 @@ no-word before h = sym (ap head_of (told-words None before)) ∙ none (words_in 
     none : (words : List Fields) → is_nonempty (flat_map (λ (fields : Fields). fields) words) ≡ false → head_of (filter_map word_shape words) ≡ None
     none [] e = refl
     none ([] ∷ more) e = none more e
-    none ((word ∷ rest) ∷ more) e = cc
+    none ((word ∷ rest) ∷ more) e = absurd (true≢false e)
 
 default_there-kept : (before : List LineContent) (earlier : Draft) (item : LineContent) → IsFreeLine before earlier → IsDefaultThere before earlier → IsDefaultThere (before ++ item ∷ []) (with_declarations earlier (line_declares (context_of before) earlier item))
 default_there-kept before earlier item free there begun default = by (has_section before Columns) refl item (sym (has_section-push Columns before item) ∙ begun) free_before (no_word item word_after)
@@ -668,7 +669,7 @@ default_there-kept before earlier item free there begun default = by (has_sectio
       where
         of : (o : Option (List ℕ)) → is_some o ≡ false → is_none o ≡ true
         of None k = refl
-        of (Some y) k = cc
+        of (Some y) k = absurd (true≢false k)
 
     declares : (o : Option Section) (more : Fields) → is_section Columns o ≡ true → is_none earlier.objective ≡ true → is_none (objname before) ≡ true → has_row (with_declarations earlier (header_declared (context_of before) earlier more o)) (codes "obj") ≡ true
     declares o more e f g =

@@ -1,4 +1,5 @@
 -- The objective of a draft and its rows without limits are those that the lines before name as such.
+use Rattle.std.proofs.lemmas.Bool.{false≢true}
 use Rattle.std.proofs.Common.{◌≡◌, refl, sym, ap, ◌∙◌, subst, List, [], ◌∷◌, ◌++◌, ℕ, Bool, true, false, cond}
 use Rattle.std.specs.Prelude.{Option, Some, None, is_none, is_some, filter_map, ◌||◌, ◌&&◌, codes}
 use Rattle.std.specs.List.{list_any, flat_map, cons_option}
@@ -41,7 +42,7 @@ free-part : (row : List ℕ) → IsPartOf Rows (λ all. is_free_row all row)
 free-part row = record { headed = λ _. refl; objective = λ _ _. refl; other = by }
   where
     by : (all : Draft) (d : Declaration) → is_elsewhere Rows d ≡ true → is_free_row (with_declaration all d) row ≡ is_free_row all row
-    by all (declare_row _ _) h = cc
+    by all (declare_row _ _) h = absurd (false≢true h)
     by all _ h = refl
 
 abbrev pub HaveFreeLines : List LineContent → Draft → Type 0
@@ -105,7 +106,7 @@ free-after before after row e h =
     ap (λ (o : Option RowDefinition). option_map_or is_free_definition o false) (e.row row found.0 found.1 ∙ sym found.1) ∙ h
   where
     there : (o : Option RowDefinition) → option_map_or is_free_definition o false ≡ true → is_some o ≡ true
-    there None k = cc
+    there None k = absurd (false≢true k)
     there (Some d) k = refl
 
 pub rows_free-kept : (before : List LineContent) (earlier : Draft) (item : LineContent) → Extends earlier (with_declarations earlier (line_declares (context_of before) earlier item)) → AreRowsFree before earlier
@@ -134,15 +135,15 @@ rows_free-kept before earlier item e have row h =
 
     typed : (line : RowLine) (o : Option RowType) → (is_free o && same_bytes line.name row) ≡ true
         → (is_free_row (with_declarations earlier (declared_if_some (row_of_type (context_of before) earlier line.name) o)) row || is_objective (with_declarations earlier (declared_if_some (row_of_type (context_of before) earlier line.name) o)) row) ≡ true
-    typed line None k = cc
+    typed line None k = absurd (false≢true k)
     typed line (Some Free) k = new line (is_new_objective (context_of before) earlier line.name) k
-    typed line (Some AtMost) k = cc
-    typed line (Some AtLeast) k = cc
-    typed line (Some Equal) k = cc
+    typed line (Some AtMost) k = absurd (false≢true k)
+    typed line (Some AtLeast) k = absurd (false≢true k)
+    typed line (Some Equal) k = absurd (false≢true k)
 
     shaped : (o : Option RowLine) → option_map_or (λ (line : RowLine). is_free (row_type line.letter) && same_bytes line.name row) o false ≡ true
         → (is_free_row (with_declarations earlier (declared_if_some (row_declared (context_of before) earlier) o)) row || is_objective (with_declarations earlier (declared_if_some (row_declared (context_of before) earlier) o)) row) ≡ true
-    shaped None k = cc
+    shaped None k = absurd (false≢true k)
     shaped (Some line) k = typed line (row_type line.letter) k
 
     one : (b : Bool) → (b || false) ≡ true → b ≡ true
@@ -153,11 +154,11 @@ rows_free-kept before earlier item e have row h =
     under fields true s k =
         subst (λ o. (is_free_row (with_declarations earlier (data_declared (context_of before) earlier fields o)) row || is_objective (with_declarations earlier (data_declared (context_of before) earlier fields o)) row) ≡ true)
         (sym (section-is Rows (current_section before) s)) (shaped (row_shape fields) (one (is_free_row_named row fields) k))
-    under fields false s k = cc
+    under fields false s k = absurd (false≢true k)
 
     here : (x : LineContent) → list_any (is_free_row_named row) (fields_under Rows (current_section before) x) ≡ true → (is_free_row (next x) row || is_objective (next x) row) ≡ true
-    here skipped k = cc
-    here (header keyword more) k = cc
+    here skipped k = absurd (false≢true k)
+    here (header keyword more) k = absurd (false≢true k)
     here (data_line fields) k = under fields (is_section Rows (current_section before)) refl k
 
     by : (b : Bool) → has_free_row before row ≡ b → (x : LineContent) → Extends earlier (next x) → (b || list_any (is_free_row_named row) (fields_under Rows (current_section before) x)) ≡ true
@@ -190,15 +191,15 @@ objname-told before stage = sym (ap head_of (told-words None before)) ∙ by (wo
     nothing words = head_of (filter_map word_shape words) ≡ head_of (flat_map (λ fields. fields) words)
 
     word : (words : List Fields) → is_one_word (λ _. true) words ≡ true → nothing words
-    word [] h = cc
+    word [] h = absurd (false≢true h)
     word ((x ∷ []) ∷ []) h = refl
     word ([] ∷ (x ∷ []) ∷ []) h = refl
-    word ([] ∷ []) h = cc
-    word ([] ∷ [] ∷ more) h = cc
-    word ([] ∷ (x ∷ []) ∷ next ∷ more) h = cc
-    word ([] ∷ (x ∷ other ∷ rest) ∷ more) h = cc
-    word ((x ∷ []) ∷ next ∷ more) h = cc
-    word ((x ∷ other ∷ rest) ∷ more) h = cc
+    word ([] ∷ []) h = absurd (false≢true h)
+    word ([] ∷ [] ∷ more) h = absurd (false≢true h)
+    word ([] ∷ (x ∷ []) ∷ next ∷ more) h = absurd (false≢true h)
+    word ([] ∷ (x ∷ other ∷ rest) ∷ more) h = absurd (false≢true h)
+    word ((x ∷ []) ∷ next ∷ more) h = absurd (false≢true h)
+    word ((x ∷ other ∷ rest) ∷ more) h = absurd (false≢true h)
 
     at : IsUnderway ObjName (λ _. true) before → nothing (words_in ObjName before)
     at (missing, (a, b, c)) = subst nothing (sym a) refl
@@ -213,7 +214,7 @@ free-named : (fields : Fields) → is_free_row_line fields ≡ true → is_some 
 free-named fields h = ap (λ (b : Bool). is_some (cond b (option_map (λ (line : RowLine). line.name) (row_shape fields)) None)) h ∙ by (row_shape fields) h
   where
     by : (o : Option RowLine) → option_map_or (λ (line : RowLine). is_free (row_type line.letter)) o false ≡ true → is_some (option_map (λ (line : RowLine). line.name) o) ≡ true
-    by None k = cc
+    by None k = absurd (false≢true k)
     by (Some line) k = refl
 
 -- no line of type N
@@ -340,7 +341,7 @@ first_named-kept before earlier item good told extends have name h =
     no_free n e = no-free (data_lines Rows before) (of (list_any is_free_row_line (data_lines Rows before)) refl)
       where
         neither : (o p : Option (List ℕ)) → is_none o ≡ true → p ≡ None → (is_some o || is_some p) ≡ true → ⊥
-        neither None None f g k = cc
+        neither None None f g k = absurd (false≢true k)
         neither None (Some y) f g k = cc
         neither (Some y) p f g k = cc
 
@@ -357,7 +358,7 @@ first_named-kept before earlier item good told extends have name h =
 
     unnamed_so : (o : Option (List ℕ)) → is_none o ≡ true → o ≡ None
     unnamed_so None e = refl
-    unnamed_so (Some x) e = cc
+    unnamed_so (Some x) e = absurd (false≢true e)
 
     -- `obj` at the header of COLUMNS
     default : is_none earlier.objective ≡ true → is_none (objname before) ≡ true → same_bytes name (codes "obj") ≡ true → is_first (told_names before ++ []) (free_names before ++ []) ≡ true
@@ -382,7 +383,7 @@ first_named-kept before earlier item good told extends have name h =
     unchanged x e f k = absurd (nobody (next x).objective (ap is_none f ∙ e) k)
       where
         nobody : (o : Option (List ℕ)) → is_none o ≡ true → option_map_or (same_bytes name) o false ≡ true → ⊥
-        nobody None g l = cc
+        nobody None g l = absurd (false≢true l)
         nobody (Some y) g l = cc
 
     at_header : (keyword : List ℕ) (more : Fields) → is_none earlier.objective ≡ true → (o : Option Section) → section_named keyword ≡ o → is_objective (with_declarations earlier (header_declared (context_of before) earlier more o)) name ≡ true → Goal (header keyword more)
@@ -393,7 +394,7 @@ first_named-kept before earlier item good told extends have name h =
         obj false f l = absurd (nobody earlier.objective e l)
           where
             nobody : (p : Option (List ℕ)) → is_none p ≡ true → option_map_or (same_bytes name) p false ≡ true → ⊥
-            nobody None g m = cc
+            nobody None g m = absurd (false≢true m)
             nobody (Some y) g m = cc
 
         of : (b : Bool) → is_section Columns o ≡ b → Goal (header keyword more)
@@ -410,7 +411,7 @@ first_named-kept before earlier item good told extends have name h =
     nobody_here e k = of earlier.objective e k
       where
         of : (p : Option (List ℕ)) → is_none p ≡ true → option_map_or (same_bytes name) p false ≡ true → ⊥
-        of None g m = cc
+        of None g m = absurd (false≢true m)
         of (Some y) g m = cc
 
     in_rows : (fields : Fields) → is_none earlier.objective ≡ true → is_objective (with_declarations earlier (declared_if_some (row_declared (context_of before) earlier) (row_shape fields))) name ≡ true

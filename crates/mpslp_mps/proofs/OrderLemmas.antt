@@ -1,4 +1,5 @@
 -- The order of sections in well-formed lines, and so the lines in which rows and columns are declared.
+use Rattle.std.proofs.lemmas.Bool.{false≢true, true≢false}
 use Rattle.std.proofs.Common.{◌≡◌, refl, sym, ap, ◌∙◌, List, [], ◌∷◌, ◌++◌, ℕ, Bool, true, false, cond, map}
 use Rattle.std.specs.Prelude.{Option, Some, None, is_some, ◌||◌, not}
 use Rattle.std.specs.List.{list_all, flat_map}
@@ -54,7 +55,7 @@ header-begins context earlier keyword more section h =
     by : (sections_seen may : Bool) → sections_seen ≡ false → not (sections_seen || may) ≡ false → may ≡ true
     by true may e f = cc
     by false true e f = refl
-    by false false e f = cc
+    by false false e f = absurd (true≢false f)
 
 -- at COLUMNS there is a row with the name that OBJNAME gives
 pub header-complete : (context : Context) (earlier : Draft) (keyword : List ℕ) (more : Fields) → those_of (header_tests context earlier keyword more (Some Columns)) ≡ []
@@ -73,28 +74,28 @@ pub record Past (section : Section) (before : List LineContent) : Type 0 where
   pub left : is_section section (current_section before) ≡ false
 
 rows-again : (context : Context) (earlier : Draft) (keyword : List ℕ) (more : Fields) (o : Option Section) → those_of (header_tests context earlier keyword more o) ≡ [] → is_section Rows o ≡ true → has context.sections_seen Rows ≡ false
-rows-again context earlier keyword more None h e = cc
-rows-again context earlier keyword more (Some Name) h e = cc
-rows-again context earlier keyword more (Some ObjSense) h e = cc
-rows-again context earlier keyword more (Some ObjName) h e = cc
+rows-again context earlier keyword more None h e = absurd (false≢true e)
+rows-again context earlier keyword more (Some Name) h e = absurd (false≢true e)
+rows-again context earlier keyword more (Some ObjSense) h e = absurd (false≢true e)
+rows-again context earlier keyword more (Some ObjName) h e = absurd (false≢true e)
 rows-again context earlier keyword more (Some Rows) h e = header-fresh context earlier keyword more Rows h
-rows-again context earlier keyword more (Some Columns) h e = cc
-rows-again context earlier keyword more (Some Rhs) h e = cc
-rows-again context earlier keyword more (Some Ranges) h e = cc
-rows-again context earlier keyword more (Some Bounds) h e = cc
-rows-again context earlier keyword more (Some EndData) h e = cc
+rows-again context earlier keyword more (Some Columns) h e = absurd (false≢true e)
+rows-again context earlier keyword more (Some Rhs) h e = absurd (false≢true e)
+rows-again context earlier keyword more (Some Ranges) h e = absurd (false≢true e)
+rows-again context earlier keyword more (Some Bounds) h e = absurd (false≢true e)
+rows-again context earlier keyword more (Some EndData) h e = absurd (false≢true e)
 
 columns-again : (context : Context) (earlier : Draft) (keyword : List ℕ) (more : Fields) (o : Option Section) → those_of (header_tests context earlier keyword more o) ≡ [] → is_section Columns o ≡ true → has context.sections_seen Columns ≡ false
-columns-again context earlier keyword more None h e = cc
-columns-again context earlier keyword more (Some Name) h e = cc
-columns-again context earlier keyword more (Some ObjSense) h e = cc
-columns-again context earlier keyword more (Some ObjName) h e = cc
-columns-again context earlier keyword more (Some Rows) h e = cc
+columns-again context earlier keyword more None h e = absurd (false≢true e)
+columns-again context earlier keyword more (Some Name) h e = absurd (false≢true e)
+columns-again context earlier keyword more (Some ObjSense) h e = absurd (false≢true e)
+columns-again context earlier keyword more (Some ObjName) h e = absurd (false≢true e)
+columns-again context earlier keyword more (Some Rows) h e = absurd (false≢true e)
 columns-again context earlier keyword more (Some Columns) h e = header-fresh context earlier keyword more Columns h
-columns-again context earlier keyword more (Some Rhs) h e = cc
-columns-again context earlier keyword more (Some Ranges) h e = cc
-columns-again context earlier keyword more (Some Bounds) h e = cc
-columns-again context earlier keyword more (Some EndData) h e = cc
+columns-again context earlier keyword more (Some Rhs) h e = absurd (false≢true e)
+columns-again context earlier keyword more (Some Ranges) h e = absurd (false≢true e)
+columns-again context earlier keyword more (Some Bounds) h e = absurd (false≢true e)
+columns-again context earlier keyword more (Some EndData) h e = absurd (false≢true e)
 
 stays-left : (section : Section) (o current : Option Section) → (is_section section o ≡ true → ⊥) → is_section section current ≡ false → is_section section (option_or o current) ≡ false
 stays-left section None current h e = e
@@ -119,9 +120,9 @@ past-rows before earlier item h past =
     }
   where
     by : (x : LineContent) → IsGood before earlier x → is_section Rows (section_of_header x) ≡ true → ⊥
-    by skipped g e = cc
+    by skipped g e = absurd (false≢true e)
     by (header keyword more) g e = never (has_section before Rows) past.begun (rows-again (context_of before) earlier keyword more (section_named keyword) g e)
-    by (data_line fields) g e = cc
+    by (data_line fields) g e = absurd (false≢true e)
 
 pub past-columns : (before : List LineContent) (earlier : Draft) (item : LineContent) → IsGood before earlier item → Past Columns before → Past Columns (before ++ item ∷ [])
 past-columns before earlier item h past =
@@ -131,9 +132,9 @@ past-columns before earlier item h past =
     }
   where
     by : (x : LineContent) → IsGood before earlier x → is_section Columns (section_of_header x) ≡ true → ⊥
-    by skipped g e = cc
+    by skipped g e = absurd (false≢true e)
     by (header keyword more) g e = never (has_section before Columns) past.begun (columns-again (context_of before) earlier keyword more (section_named keyword) g e)
-    by (data_line fields) g e = cc
+    by (data_line fields) g e = absurd (false≢true e)
 
 -- ---- the order of sections
 
@@ -154,29 +155,29 @@ ordered-nil = record { rows = λ h. cc; columns = λ h. cc }
 
 -- COLUMNS begins after ROWS; what begins after COLUMNS
 columns-after : (context : Context) (earlier : Draft) (keyword : List ℕ) (more : Fields) (o : Option Section) → those_of (header_tests context earlier keyword more o) ≡ [] → is_section Columns o ≡ true → has context.sections_seen Rows ≡ true
-columns-after context earlier keyword more None h e = cc
-columns-after context earlier keyword more (Some Name) h e = cc
-columns-after context earlier keyword more (Some ObjSense) h e = cc
-columns-after context earlier keyword more (Some ObjName) h e = cc
-columns-after context earlier keyword more (Some Rows) h e = cc
+columns-after context earlier keyword more None h e = absurd (false≢true e)
+columns-after context earlier keyword more (Some Name) h e = absurd (false≢true e)
+columns-after context earlier keyword more (Some ObjSense) h e = absurd (false≢true e)
+columns-after context earlier keyword more (Some ObjName) h e = absurd (false≢true e)
+columns-after context earlier keyword more (Some Rows) h e = absurd (false≢true e)
 columns-after context earlier keyword more (Some Columns) h e = header-begins context earlier keyword more Columns h
-columns-after context earlier keyword more (Some Rhs) h e = cc
-columns-after context earlier keyword more (Some Ranges) h e = cc
-columns-after context earlier keyword more (Some Bounds) h e = cc
-columns-after context earlier keyword more (Some EndData) h e = cc
+columns-after context earlier keyword more (Some Rhs) h e = absurd (false≢true e)
+columns-after context earlier keyword more (Some Ranges) h e = absurd (false≢true e)
+columns-after context earlier keyword more (Some Bounds) h e = absurd (false≢true e)
+columns-after context earlier keyword more (Some EndData) h e = absurd (false≢true e)
 
 late-after : (context : Context) (earlier : Draft) (keyword : List ℕ) (more : Fields) (o current : Option Section) → those_of (header_tests context earlier keyword more o) ≡ []
     → (is_late current ≡ true → has context.sections_seen Columns ≡ true) → is_late (option_or o current) ≡ true → (has context.sections_seen Columns || is_section Columns o) ≡ true
 late-after context earlier keyword more None current h old e = or_left (has context.sections_seen Columns) false (old e)
-late-after context earlier keyword more (Some Name) current h old e = cc
-late-after context earlier keyword more (Some ObjSense) current h old e = cc
-late-after context earlier keyword more (Some ObjName) current h old e = cc
-late-after context earlier keyword more (Some Rows) current h old e = cc
+late-after context earlier keyword more (Some Name) current h old e = absurd (false≢true e)
+late-after context earlier keyword more (Some ObjSense) current h old e = absurd (false≢true e)
+late-after context earlier keyword more (Some ObjName) current h old e = absurd (false≢true e)
+late-after context earlier keyword more (Some Rows) current h old e = absurd (false≢true e)
 late-after context earlier keyword more (Some Columns) current h old e = or_right (has context.sections_seen Columns) true refl
 late-after context earlier keyword more (Some Rhs) current h old e = or_left (has context.sections_seen Columns) false (header-begins context earlier keyword more Rhs h)
 late-after context earlier keyword more (Some Ranges) current h old e = or_left (has context.sections_seen Columns) false (header-begins context earlier keyword more Ranges h)
 late-after context earlier keyword more (Some Bounds) current h old e = or_left (has context.sections_seen Columns) false (header-begins context earlier keyword more Bounds h)
-late-after context earlier keyword more (Some EndData) current h old e = cc
+late-after context earlier keyword more (Some EndData) current h old e = absurd (false≢true e)
 
 pub ordered-push : (before : List LineContent) (earlier : Draft) (item : LineContent) → IsGood before earlier item → Ordered before → Ordered (before ++ item ∷ [])
 ordered-push before earlier item h o =
@@ -186,9 +187,9 @@ ordered-push before earlier item h o =
     }
   where
     new_rows : (x : LineContent) → IsGood before earlier x → begins Columns x ≡ true → has_section before Rows ≡ true
-    new_rows skipped g e = cc
+    new_rows skipped g e = absurd (false≢true e)
     new_rows (header keyword more) g e = columns-after (context_of before) earlier keyword more (section_named keyword) g e
-    new_rows (data_line fields) g e = cc
+    new_rows (data_line fields) g e = absurd (false≢true e)
 
     earlier_rows : (b : Bool) → has_section before Columns ≡ b → (b || begins Columns item) ≡ true → has_section before Rows ≡ true
     earlier_rows true e k = o.rows e
@@ -217,8 +218,8 @@ abbrev pub no_columns : Declarations → Bool
 no_columns ds = list_all (λ d. not (declares_column d)) ds
 
 row-kept : (all : Draft) (d : Declaration) (r : List ℕ) → not (declares_row d) ≡ true → has_row (with_declaration all d) r ≡ has_row all r
-row-kept all (declare_objective _) r h = cc
-row-kept all (declare_row _ _) r h = cc
+row-kept all (declare_objective _) r h = absurd (false≢true h)
+row-kept all (declare_row _ _) r h = absurd (false≢true h)
 row-kept all (declare_sense _) r h = refl
 row-kept all (declare_constant _) r h = refl
 row-kept all (declare_rhs _ _) r h = refl
@@ -238,7 +239,7 @@ rows-kept (d ∷ ds) all r h =
     rows-kept ds (with_declaration all d) r (second_so (not (declares_row d)) (no_rows ds) h) ∙ row-kept all d r (first_so (not (declares_row d)) (no_rows ds) h)
 
 column-kept : (all : Draft) (d : Declaration) (c : List ℕ) → not (declares_column d) ≡ true → has_column (with_declaration all d) c ≡ has_column all c
-column-kept all (declare_column _) c h = cc
+column-kept all (declare_column _) c h = absurd (false≢true h)
 column-kept all (declare_objective _) c h = refl
 column-kept all (declare_row _ _) c h = refl
 column-kept all (declare_sense _) c h = refl
