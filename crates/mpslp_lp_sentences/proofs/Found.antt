@@ -1,6 +1,7 @@
 -- What tokens have to be if a rule reads them: the phrases of the text, from the first token on.
 use Rattle.std.proofs.Common.{◌≡◌, refl, sym, ap, subst, ◌∙◌, ℕ, List, [], ◌∷◌, ◌++◌}
 use Rattle.std.specs.Prelude.{Option, Some, None, unwrap_or}
+use Rattle.std.proofs.lemmas.Option.{none-some}
 use Rattle.mpslp_decimal.specs.Decimal.{Number as Decimal}
 use Rattle.mpslp_types.specs.Limit.{limit_of}
 use Rattle.mpslp_types.specs.declared.kinds.Limit.{Limit}
@@ -88,7 +89,7 @@ pub record GoesUnrefused (context : Context) (refusals : List BuildFault) (place
 pub unless-heard : (context : Context) (token : TerminalAt) (refusals : List BuildFault) (place : Place) (first : Declarations) (line : ℕ → ℕ) (xs : List Terminal) (made : Declarations)
     → Heard (unless_refused context token refusals place first) line xs made → GoesUnrefused context refusals place first line xs made
 unless-heard context token [] place first line xs made h = record { none = refl; goes = goes-heard context place first line xs made h }
-unless-heard context token (refusal ∷ more) place first line xs made h = absurd cc
+unless-heard context token (refusal ∷ more) place first line xs made h = absurd (none-some made h)
 
 -- ---- items
 
@@ -107,7 +108,7 @@ pub data SignedItem (sign : SignOf) (following : Item → PhraseRule Follows) (l
 
 pub number-heard : (sign : SignOf) (value : Decimal) (following : Item → PhraseRule Follows) (xs : List Terminal) (line : ℕ → ℕ) (made : Declarations) → Heard (number_item sign value >>= following) (onward line) xs made
     → SignedItem sign following line (Number value ∷ xs) made
-number-heard sign value following [] line made h = absurd cc
+number-heard sign value following [] line made h = absurd (none-some made h)
 number-heard sign value following (Name column ∷ xs) line made h =
     signed_term [] (Some value) column xs (line 1) refl
     (sym (listened-one (following (items.Term (apply_sign sign value) column (at (line 1) (Name column))) (all_at (onward (onward line)) xs)) (at (line 1) (Name column)) (all_at (onward (onward line)) xs)) ∙ h)
@@ -116,7 +117,7 @@ number-heard sign value following (y ∷ xs) line made h =
 
 signed-heard : (xs : List Terminal) (context : Context) (sign : SignOf) (following : Item → PhraseRule Follows) (line : ℕ → ℕ) (made : Declarations) → Heard (signed_item context sign >>= following) line xs made
     → SignedItem sign following line xs made
-signed-heard [] context sign following line made h = absurd cc
+signed-heard [] context sign following line made h = absurd (none-some made h)
 signed-heard (Sign more ∷ xs) context sign following line made h =
     by (signed-heard xs context (product sign more) following (onward line) made
     (sym (heard-later (signed_item context (product sign more) (all_at (onward line) xs)) following (at (line 0) (Sign more)) (all_at (onward line) xs)) ∙ h))
@@ -129,7 +130,7 @@ signed-heard (Name column ∷ xs) context sign following line made h =
     (sym (listened-one (following (items.Term (apply_sign sign one) column (at (line 0) (Name column))) (all_at (onward line) xs)) (at (line 0) (Name column)) (all_at (onward line) xs)) ∙ h)
 signed-heard (Number value ∷ xs) context sign following line made h =
     number-heard sign value following xs line made (sym (heard-later (number_item sign value (all_at (onward line) xs)) following (at (line 0) (Number value)) (all_at (onward line) xs)) ∙ h)
-signed-heard (_ ∷ xs) context sign following line made h = absurd cc
+signed-heard (_ ∷ xs) context sign following line made h = absurd (none-some made h)
 
 -- A whole item.
 pub data AnItem (following : Item → PhraseRule Follows) (line : ℕ → ℕ) (xs : List Terminal) (made : Declarations) : Type 0 where
@@ -157,7 +158,7 @@ sign-heard xs context sign following line made h = item-from_signed sign followi
 -- a number first
 pub first_number-heard : (xs : List Terminal) (value : Decimal) (following : Item → PhraseRule Follows) (line : ℕ → ℕ) (made : Declarations) → Heard (number_item Plus value >>= following) (onward line) xs made
     → AnItem following line (Number value ∷ xs) made
-first_number-heard [] value following line made h = absurd cc
+first_number-heard [] value following line made h = absurd (none-some made h)
 first_number-heard (Name column ∷ xs) value following line made h =
     found_term [] (Some value) column xs (line 1) refl
     (sym (listened-one (following (items.Term value column (at (line 1) (Name column))) (all_at (onward (onward line)) xs)) (at (line 1) (Name column)) (all_at (onward (onward line)) xs)) ∙ h)
@@ -170,7 +171,7 @@ item-heard (Sign sign) xs context following line made h = sign-heard xs context 
 item-heard (Name column) xs context following line made h =
     found_term [] None column xs (line 0) refl (sym (listened-gives (items.Term one column (at (line 0) (Name column))) following (all_at (onward line) xs)) ∙ h)
 item-heard (Number value) xs context following line made h = first_number-heard xs value following line made h
-item-heard _ xs context following line made h = absurd cc
+item-heard _ xs context following line made h = absurd (none-some made h)
 
 -- ---- sides and relations
 
@@ -189,7 +190,7 @@ pub side_from-heard : (x : Terminal) (xs : List Terminal) (context : Context) (f
 side_from-heard (Number value) xs context following line made h =
     record { part = side None (Some value); rest = xs; last = at (line 0) (Number value); same = refl; heard = limit-heard following _ (onward line) xs made h }
 side_from-heard Infinity xs context following line made h = record { part = side None None; rest = xs; last = at (line 0) Infinity; same = refl; heard = limit-heard following _ (onward line) xs made h }
-side_from-heard (Sign sign) [] context following line made h = absurd cc
+side_from-heard (Sign sign) [] context following line made h = absurd (none-some made h)
 side_from-heard (Sign sign) (Number value ∷ xs) context following line made h =
     let token : TerminalAt = at (line 1) (Number value) in
     record {
@@ -212,11 +213,11 @@ side_from-heard (Sign sign) (Infinity ∷ xs) context following line made h =
           (limit-heard following _ (onward (onward line)) xs made
           (sym (heard-later (unsigned_side context sign token (all_at (onward (onward line)) xs)) following token (all_at (onward (onward line)) xs)) ∙ h));
     }
-side_from-heard (Sign sign) (_ ∷ xs) context following line made h = absurd cc
-side_from-heard _ xs context following line made h = absurd cc
+side_from-heard (Sign sign) (_ ∷ xs) context following line made h = absurd (none-some made h)
+side_from-heard _ xs context following line made h = absurd (none-some made h)
 
 pub side-heard : (xs : List Terminal) (context : Context) (following : SideOf → PhraseRule Follows) (line : ℕ → ℕ) (made : Declarations) → Heard (side_rule context >>= following) line xs made → ASide following line xs made
-side-heard [] context following line made h = absurd cc
+side-heard [] context following line made h = absurd (none-some made h)
 side-heard (x ∷ xs) context following line made h =
     side_from-heard x xs context following line made
     (sym (heard-later (side_from context (at (line 0) x) (all_at (onward line) xs)) following (at (line 0) x) (all_at (onward line) xs)) ∙ h)
@@ -228,7 +229,7 @@ pub record ARelation (following : Relation → PhraseRule Follows) (line : ℕ �
   pub heard : Heard (following relation) (onward line) rest made
 
 pub relation-heard : (xs : List Terminal) (context : Context) (following : Relation → PhraseRule Follows) (line : ℕ → ℕ) (made : Declarations) → Heard (next_relation context >>= following) line xs made → ARelation following line xs made
-relation-heard [] context following line made h = absurd cc
+relation-heard [] context following line made h = absurd (none-some made h)
 relation-heard (Compares relation ∷ xs) context following line made h =
     record {
       relation = relation;
@@ -237,4 +238,4 @@ relation-heard (Compares relation ∷ xs) context following line made h =
       heard = sym (listened-none (following relation (all_at (onward line) xs)) (all_at (onward line) xs))
           ∙ sym (heard-later (gives relation (all_at (onward line) xs)) following (at (line 0) (Compares relation)) (all_at (onward line) xs)) ∙ h;
     }
-relation-heard (_ ∷ xs) context following line made h = absurd cc
+relation-heard (_ ∷ xs) context following line made h = absurd (none-some made h)

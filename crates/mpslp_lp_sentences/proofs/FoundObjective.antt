@@ -2,6 +2,7 @@
 use Rattle.std.proofs.Common.{◌≡◌, ◌≤◌, ◌<◌, refl, sym, ap, subst, ◌∙◌, ℕ, List, [], ◌∷◌, ◌++◌, Bool, true, append_assoc, length, arith}
 use Rattle.std.specs.Prelude.{Option, Some, None}
 use Rattle.std.specs.List.{flat_map, list_all}
+use Rattle.std.proofs.lemmas.Option.{none-some}
 use Rattle.mpslp_types.specs.declared.kinds.Sense.{Sense}
 use Rattle.mpslp_types.specs.declared.kinds.Sense.TheVariants.{Minimize, Maximize}
 use Rattle.mpslp_builder.specs.Declaration.{Declarations, Draft, empty_draft, with_declarations}
@@ -114,7 +115,7 @@ one-item name seen from earlier line (Sign sign) xs made no_opening after h =
       heard = found.heard;
       shorter = item-shorter found.it found.rest (Sign sign ∷ xs) found.same;
     }
-one-item name seen from earlier line _ xs made no_opening after h = absurd cc
+one-item name seen from earlier line _ xs made no_opening after h = absurd (none-some made h)
 
 -- ---- all items
 
@@ -168,7 +169,7 @@ items-after name seen earlier line xs made first =
 
 all-items : (name : List ℕ) (seen : SectionsSeen) (earlier : Draft) (line : ℕ → ℕ) (xs : List Terminal) (made : Declarations) → Complete (point_at (BeforeItems name) seen earlier) line xs made
     → ItemsFound are_items name seen earlier line xs made
-all-items name seen earlier line [] made h = absurd cc
+all-items name seen earlier line [] made h = absurd (none-some made h)
 all-items name seen earlier line (Opens word ∷ xs) made h =
     record { its = []; good_its = refl; word = word; rest = xs; more = made; same = refl; is = refl; place = BeforeItems name; may = refl; heard = h }
 all-items name seen earlier line (x ∷ xs) made h =
@@ -204,7 +205,7 @@ record BodyFound (sense : Sense) (line : ℕ → ℕ) (xs : List Terminal) (made
   heard : Complete (point_at place after_word (with_declarations empty_draft (objective_declares (objective sense label its)))) (onwards (label_tokens label ++ flat_map item_tokens its) line) (Opens word ∷ rest) more
 
 body-heard : (sense : Sense) (line : ℕ → ℕ) (xs : List Terminal) (made : Declarations) → Heard (objective_rule (here after_word empty_draft) sense) line xs made → BodyFound sense line xs made
-body-heard sense line [] made h = absurd cc
+body-heard sense line [] made h = absurd (none-some made h)
 body-heard sense line (Name name ∷ []) made h =
     no_more (heard-next (λ (first : TerminalAt). ahead >>= objective_named (here after_word empty_draft) sense name) line (Name name) [] made
     (heard-ahead (objective_from (here after_word empty_draft) sense) line (Name name) [] made h))
@@ -287,7 +288,7 @@ objective-from_body sense line xs made body =
     }
 
 pub objective-heard : (line : ℕ → ℕ) (xs : List Terminal) (made : Declarations) → Complete start line xs made → ObjectiveFound line xs made
-objective-heard line [] made h = absurd cc
+objective-heard line [] made h = absurd (none-some made h)
 objective-heard line (Opens words.Minimize ∷ xs) made h = objective-from_body Minimize line xs made (body-heard Minimize (onward line) xs made (complete-phrase start line (Opens words.Minimize) xs made h))
 objective-heard line (Opens words.Maximize ∷ xs) made h = objective-from_body Maximize line xs made (body-heard Maximize (onward line) xs made (complete-phrase start line (Opens words.Maximize) xs made h))
-objective-heard line (_ ∷ xs) made h = absurd cc
+objective-heard line (_ ∷ xs) made h = absurd (none-some made h)

@@ -3,6 +3,7 @@ use Rattle.std.proofs.Common.{◌≡◌, ◌≤◌, ◌<◌, refl, sym, ap, subs
 use Rattle.std.specs.Prelude.{Option, Some, None}
 use Rattle.std.specs.List.{flat_map, list_all}
 use Rattle.std.proofs.lemmas.List.{length-append}
+use Rattle.std.proofs.lemmas.Option.{none-some}
 use Rattle.mpslp_types.proofs.BoolLemmas.{both_so}
 use Rattle.mpslp_types.specs.declared.kinds.Limit.{Limit}
 use Rattle.mpslp_builder.specs.Declaration.{Declaration, Declarations, Draft, declare_column, with_declarations}
@@ -104,7 +105,7 @@ module _ {A S : Type 0} (tokens_of : A → List Terminal) (declares : Draft → 
 
   pub all-phrases : Reading → (n : ℕ) (from : S) (earlier : Draft) (line : ℕ → ℕ) (xs : List Terminal) (made : Declarations) → length xs ≤ n → Next from xs
       → Complete (point_at (place_of from) seen earlier) line xs made → AllPhrases earlier line xs made
-  all-phrases reading n from earlier line [] made fits after h = absurd cc
+  all-phrases reading n from earlier line [] made fits after h = absurd (none-some made h)
   all-phrases reading n from earlier line (Opens word ∷ xs) made fits after h =
       record { its = []; good_its = refl; word = word; rest = xs; more = made; same = refl; is = refl; to = from; heard = h }
   all-phrases reading zero from earlier line (x ∷ xs) made fits after h = absurd (omega (arith, fits))
@@ -170,7 +171,7 @@ OneBound seen earlier line xs made = OnePhrase bound_tokens bound_declared any_b
 -- after a bound without a left side no relation follows
 pub none-follows : (seen : SectionsSeen) (earlier : Draft) (line : ℕ → ℕ) (xs : List Terminal) (made : Declarations) → Complete (point_at (InBounds None) seen earlier) line xs made → is_no_relation (first_of_all xs) ≡ true
 none-follows seen earlier line [] made h = refl
-none-follows seen earlier line (Compares relation ∷ xs) made h = absurd cc
+none-follows seen earlier line (Compares relation ∷ xs) made h = absurd (none-some made h)
 none-follows seen earlier line (_ ∷ xs) made h = refl
 
 -- bounds of a column that were read
@@ -183,7 +184,7 @@ sides-heard seen earlier front column limits token place line xs made h =
 -- a column first
 column-heard : (seen : SectionsSeen) (earlier : Draft) (column : List ℕ) (line : ℕ → ℕ) (xs : List Terminal) (made : Declarations) → Heard (next >>= bound_after (here seen earlier) column) (onward line) xs made
     → OneBound seen earlier line (Name column ∷ xs) made
-column-heard seen earlier column line [] made h = absurd cc
+column-heard seen earlier column line [] made h = absurd (none-some made h)
 column-heard seen earlier column line (Free ∷ xs) made h =
     let found = sides-heard seen earlier (declare_column column ∷ []) column no_limits (at (line 1) Free) (InBounds None) (onward (onward line)) xs made
     (heard-next (bound_after (here seen earlier) column) (onward line) Free xs made h) in
@@ -219,7 +220,7 @@ column-heard seen earlier column line (Compares relation ∷ xs) made h =
       heard = subst (λ (ds : Declarations). Complete (point_at (InBounds None) seen (with_declarations earlier ds)) (onwards (side_tokens part.part) (onward (onward line))) part.rest found.more) declared found.rest;
       shorter = omega (arith, short);
     }
-column-heard seen earlier column line (_ ∷ xs) made h = absurd cc
+column-heard seen earlier column line (_ ∷ xs) made h = absurd (none-some made h)
 
 -- ---- a side first
 
@@ -239,7 +240,7 @@ left-column : (seen : SectionsSeen) (earlier : Draft) (value : Limit) (relation 
     → (column : List ℕ) × (rest : List Terminal) × (xs ≡ Name column ∷ rest)
     × Goes (point_at (InBounds (Some (column, relation))) seen (with_declarations earlier (declare_column column ∷ limits_declared column (limits_by (flip relation) value))))
     (declare_column column ∷ limits_declared column (limits_by (flip relation) value)) (onward line) rest made
-left-column seen earlier value relation line [] made h = absurd cc
+left-column seen earlier value relation line [] made h = absurd (none-some made h)
 left-column seen earlier value relation line (Name column ∷ xs) made h = (
   column,
   xs,
@@ -247,7 +248,7 @@ left-column seen earlier value relation line (Name column ∷ xs) made h = (
   sides-heard seen earlier (declare_column column ∷ []) column (limits_by (flip relation) value) (at (line 0) (Name column)) (InBounds (Some (column, relation))) (onward line) xs made
       (heard-next (bound_column (here seen earlier) value relation) line (Name column) xs made h),
 )
-left-column seen earlier value relation line (_ ∷ xs) made h = absurd cc
+left-column seen earlier value relation line (_ ∷ xs) made h = absurd (none-some made h)
 
 left-heard : (seen : SectionsSeen) (earlier : Draft) (line : ℕ → ℕ) (xs : List Terminal) (made : Declarations) → ASide (bound_left (here seen earlier)) line xs made → LeftBound seen earlier line xs made
 left-heard seen earlier line xs made part =
@@ -395,4 +396,4 @@ one-bound seen left earlier line Infinity xs made no_opening after h =
     left-bound seen earlier line made Infinity xs
     (left-heard seen earlier line (Infinity ∷ xs) made
     (side_from-heard Infinity xs (here seen earlier) (bound_left (here seen earlier)) line made (complete-phrase (point_at (InBounds left) seen earlier) line Infinity xs made h)))
-one-bound seen left earlier line _ xs made no_opening after h = absurd cc
+one-bound seen left earlier line _ xs made no_opening after h = absurd (none-some made h)

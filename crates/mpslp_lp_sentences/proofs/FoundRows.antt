@@ -3,6 +3,7 @@ use Rattle.std.proofs.Common.{◌≡◌, ◌≤◌, ◌<◌, refl, sym, ap, subs
 use Rattle.std.specs.Prelude.{Option, Some, None, if◌then◌else◌}
 use Rattle.std.specs.List.{flat_map, list_all, list_any, enumerate_from}
 use Rattle.std.proofs.lemmas.List.{append-nil}
+use Rattle.std.proofs.lemmas.Option.{none-some}
 use Rattle.mpslp_decimal.specs.Decimal.{Number as Decimal}
 use Rattle.mpslp_types.specs.Name.{same_bytes}
 use Rattle.mpslp_types.specs.Limit.{limit_of}
@@ -165,7 +166,7 @@ begun-heard seen earlier name line (Number value) xs made h =
     number-begins seen earlier name line (Number value ∷ xs) made (plain-side value xs) (first_number-heard xs value (row_number (here seen earlier) name) line made h)
 begun-heard seen earlier name line (Name column) xs made h =
     begun-plain seen earlier name line (Name column ∷ xs) made (term-found seen earlier name None line (Name column ∷ xs) made (found_term [] None column xs (line 0) refl h))
-begun-heard seen earlier name line (Sign sign) [] made h = absurd cc
+begun-heard seen earlier name line (Sign sign) [] made h = absurd (none-some made h)
 begun-heard seen earlier name line (Sign sign) (Infinity ∷ xs) made h =
     begun-sided seen earlier name (side (Some sign) None) line (Sign sign ∷ Infinity ∷ xs) xs made refl
     (subst (λ (v : Limit). AfterLeft seen earlier name v (onward (onward line)) xs made) (infinity-is sign)
@@ -183,7 +184,7 @@ begun-heard seen earlier name line (Sign sign) (y ∷ xs) made h =
     (term-found seen earlier name None line (Sign sign ∷ y ∷ xs) made
     (sign-heard (y ∷ xs) (here seen earlier) sign (row_item (here seen earlier) (without_terms name None)) line made
     (heard-ahead (row_signed (here seen earlier) name sign) (onward line) y xs made h)))
-begun-heard seen earlier name line _ xs made h = absurd cc
+begun-heard seen earlier name line _ xs made h = absurd (none-some made h)
 
 -- ---- the label
 
@@ -195,7 +196,7 @@ record Labelled (seen : SectionsSeen) (earlier : Draft) (line : ℕ → ℕ) (xs
 
 after_colon : (seen : SectionsSeen) (earlier : Draft) (name : List ℕ) (line : ℕ → ℕ) (xs : List Terminal) (made : Declarations) → Heard (next >>= row_from (here seen earlier) name) line xs made
     → Begun seen earlier name line xs made
-after_colon seen earlier name line [] made h = absurd cc
+after_colon seen earlier name line [] made h = absurd (none-some made h)
 after_colon seen earlier name line (y ∷ xs) made h = begun-heard seen earlier name line y xs made (heard-next (row_from (here seen earlier) name) line y xs made h)
 
 unlabelled-heard : (seen : SectionsSeen) (earlier : Draft) (line : ℕ → ℕ) (x : Terminal) (xs : List Terminal) (made : Declarations)
@@ -205,7 +206,7 @@ unlabelled-heard seen earlier line x xs made h =
 
 named-heard : (seen : SectionsSeen) (earlier : Draft) (name : List ℕ) (line : ℕ → ℕ) (xs : List Terminal) (made : Declarations) → Heard (colon >>= row_named (here seen earlier) name) (onward line) xs made
     → Labelled seen earlier line (Name name ∷ xs) made
-named-heard seen earlier name line [] made h = absurd cc
+named-heard seen earlier name line [] made h = absurd (none-some made h)
 named-heard seen earlier name line (Colon ∷ xs) made h =
     record {
       label = Some name;
@@ -302,7 +303,7 @@ term-shorter signs number column rest xs same = subst (λ (ys : List Terminal). 
 
 terms-heard : (n : ℕ) (seen : SectionsSeen) (earlier : Draft) (name : List ℕ) (left : Option (Limit × Relation)) (before : List Pair) (line : ℕ → ℕ) (xs : List Terminal) (made : Declarations) → length xs ≤ n
     → Complete (in_row seen earlier name left before) line xs made → Ended seen earlier name left before line xs made
-terms-heard n seen earlier name left before line [] made fits h = absurd cc
+terms-heard n seen earlier name left before line [] made fits h = absurd (none-some made h)
 terms-heard n seen earlier name left before line (Compares relation ∷ xs) made fits h =
     end-heard seen earlier name left before line relation (line 0) xs made (complete-phrase (in_row seen earlier name left before) line (Compares relation) xs made h)
 terms-heard zero seen earlier name left before line (Sign sign ∷ xs) made fits h = absurd (omega (arith, fits))
@@ -348,7 +349,7 @@ terms-heard (suc n) seen earlier name left before line (Sign sign ∷ xs) made f
         (taken signs number column rest n (onwards (term_tokens (term signs number column)) line) (list_any (λ (t : Pair). same_bytes column t.0) before) k))
     by (found_lone signs value y rest n same k) later =
         absurd (no_constant seen earlier (row_at name left before) (signed (product_of signs) value) y n (onwards (constant_tokens signs value) line) (y ∷ rest) made k)
-terms-heard n seen earlier name left before line (_ ∷ xs) made fits h = absurd cc
+terms-heard n seen earlier name left before line (_ ∷ xs) made fits h = absurd (none-some made h)
 
 -- ---- a whole row
 

@@ -3,6 +3,7 @@ use Rattle.std.proofs.Common.{◌≡◌, ◌≤◌, ◌<◌, refl, sym, ap, subs
 use Rattle.std.specs.Prelude.{Option, Some, None, ◌==◌, ◌&&◌, ◌||◌, if◌then◌else◌, unwrap_or}
 use Rattle.std.specs.List.{flat_map, list_all, list_any}
 use Rattle.std.specs.Cmp.{first_so, second_so}
+use Rattle.std.proofs.lemmas.Option.{none-some}
 use Rattle.mpslp_types.proofs.BoolLemmas.{both_so, both_false, so_not}
 use Rattle.mpslp_types.specs.declared.faults.FaultKind.{FaultKind}
 use Rattle.mpslp_types.specs.declared.faults.FaultKind.TheVariants.{SectionRepeated, SectionOrder, BadToken}
@@ -381,7 +382,7 @@ pub record LastWordFound (wanted : LastWord) (context : Context) (line : ℕ →
   pub heard : Complete (point_at (opened_by wanted) context.sections_seen context.earlier) (onward line) tail made
 
 pub last_word-heard : (wanted : LastWord) (context : Context) (line : ℕ → ℕ) (xs : List Terminal) (made : Declarations) → Heard (next >>= last_word context wanted) line xs made → LastWordFound wanted context line xs made
-last_word-heard wanted context line [] made h = absurd cc
+last_word-heard wanted context line [] made h = absurd (none-some made h)
 last_word-heard wanted context line (x ∷ xs) made h = by x (heard-next (last_word context wanted) line x xs made h)
   where
     named : (word : List ℕ) (b : Bool) → is_last_word wanted word ≡ b
@@ -395,7 +396,7 @@ last_word-heard wanted context line (x ∷ xs) made h = by x (heard-next (last_w
 
 semi-body : (seen : SectionsSeen) (earlier : Draft) (line : ℕ → ℕ) (xs : List Terminal) (made : Declarations)
     → Heard (ahead >>= semi_from (here (with_section seen kinds.SemiContinuous) earlier)) (onward line) xs made → SomeBody kinds.SemiContinuous seen line (Opens words.Semi ∷ xs) made
-semi-body seen earlier line [] made h = absurd cc
+semi-body seen earlier line [] made h = absurd (none-some made h)
 semi-body seen earlier line (Sign Minus ∷ xs) made h =
     let context : Context = here (with_section seen kinds.SemiContinuous) earlier in
     let found = last_word-heard Continuous context (onward (onward line)) xs made
