@@ -2,6 +2,7 @@
 use Rattle.std.proofs.Common.{◌≡◌, ◌≤◌, ◌<◌, refl, sym, ap, subst, ◌∙◌, ℕ, List, [], ◌∷◌, ◌++◌, Bool, true, append_assoc, length, arith}
 use Rattle.std.specs.Prelude.{Option, Some, None}
 use Rattle.std.specs.List.{flat_map, list_all}
+use Rattle.std.proofs.lemmas.Bool.{false≢true}
 use Rattle.std.proofs.lemmas.Option.{none-some}
 use Rattle.mpslp_types.specs.declared.kinds.Sense.{Sense}
 use Rattle.mpslp_types.specs.declared.kinds.Sense.TheVariants.{Minimize, Maximize}
@@ -99,7 +100,7 @@ abbrev in_objective : List ℕ → Unit {0} → Place
 in_objective name from = InObjective name
 
 one-item : (name : List ℕ) (seen : SectionsSeen) → Reading item_tokens (item_declared name) is_signed_item (in_objective name) Anything seen
-one-item name seen from earlier line (Opens word) xs made no_opening after h = absurd cc
+one-item name seen from earlier line (Opens word) xs made no_opening after h = absurd (false≢true no_opening)
 one-item name seen from earlier line (Sign sign) xs made no_opening after h =
     let found = item-found name seen earlier line (Sign sign ∷ xs) made
     (sign-heard xs (here seen earlier) sign (objective_item (here seen earlier) name) line made (complete-phrase (point_at (InObjective name) seen earlier) line (Sign sign) xs made h)) in

@@ -3,6 +3,7 @@ use Rattle.std.proofs.Common.{◌≡◌, ◌≤◌, ◌<◌, refl, sym, ap, subs
 use Rattle.std.specs.Prelude.{Option, Some, None}
 use Rattle.std.specs.List.{flat_map, list_all}
 use Rattle.std.proofs.lemmas.List.{length-append}
+use Rattle.std.proofs.lemmas.Bool.{false≢true}
 use Rattle.std.proofs.lemmas.Option.{none-some}
 use Rattle.mpslp_types.proofs.BoolLemmas.{both_so}
 use Rattle.mpslp_types.specs.declared.kinds.Limit.{Limit}
@@ -381,7 +382,7 @@ left-bound seen earlier line made x tail left = by left.rest refl
 -- ---- a bound
 
 pub one-bound : (seen : SectionsSeen) → Reading bound_tokens bound_declared any_bound InBounds NoRelation seen
-one-bound seen left earlier line (Opens word) xs made no_opening after h = absurd cc
+one-bound seen left earlier line (Opens word) xs made no_opening after h = absurd (false≢true no_opening)
 one-bound seen left earlier line (Compares relation) xs made no_opening after h = absurd cc
 one-bound seen left earlier line (Name column) xs made no_opening after h = column-heard seen earlier column line xs made (complete-phrase (point_at (InBounds left) seen earlier) line (Name column) xs made h)
 one-bound seen left earlier line (Number value) xs made no_opening after h =

@@ -3,6 +3,7 @@ use Rattle.std.proofs.Common.{◌≡◌, ◌≤◌, ◌<◌, refl, sym, ap, subs
 use Rattle.std.specs.Prelude.{Option, Some, None, if◌then◌else◌}
 use Rattle.std.specs.List.{flat_map, list_all, list_any, enumerate_from}
 use Rattle.std.proofs.lemmas.List.{append-nil}
+use Rattle.std.proofs.lemmas.Bool.{false≢true}
 use Rattle.std.proofs.lemmas.Option.{none-some}
 use Rattle.mpslp_decimal.specs.Decimal.{Number as Decimal}
 use Rattle.mpslp_types.specs.Name.{same_bytes}
@@ -234,7 +235,7 @@ named-heard seen earlier name line (y ∷ xs) made h =
 
 labelled-heard : (seen : SectionsSeen) (earlier : Draft) (line : ℕ → ℕ) (x : Terminal) (xs : List Terminal) (made : Declarations) → is_no_opening x ≡ true → Complete (point_at BetweenRows seen earlier) line (x ∷ xs) made
     → Labelled seen earlier line (x ∷ xs) made
-labelled-heard seen earlier line (Opens word) xs made no_opening h = absurd cc
+labelled-heard seen earlier line (Opens word) xs made no_opening h = absurd (false≢true no_opening)
 labelled-heard seen earlier line (Name name) xs made no_opening h = named-heard seen earlier name line xs made (complete-phrase (point_at BetweenRows seen earlier) line (Name name) xs made h)
 labelled-heard seen earlier line x xs made no_opening h = unlabelled-heard seen earlier line x xs made (complete-phrase (point_at BetweenRows seen earlier) line x xs made h)
 

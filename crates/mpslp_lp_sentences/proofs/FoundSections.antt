@@ -3,6 +3,7 @@ use Rattle.std.proofs.Common.{◌≡◌, ◌≤◌, ◌<◌, refl, sym, ap, subs
 use Rattle.std.specs.Prelude.{Option, Some, None, ◌==◌, ◌&&◌, ◌||◌, if◌then◌else◌, unwrap_or}
 use Rattle.std.specs.List.{flat_map, list_all, list_any}
 use Rattle.std.specs.Cmp.{first_so, second_so}
+use Rattle.std.proofs.lemmas.Bool.{false≢true}
 use Rattle.std.proofs.lemmas.Option.{none-some}
 use Rattle.mpslp_types.proofs.BoolLemmas.{both_so, both_false, so_not}
 use Rattle.mpslp_types.specs.declared.faults.FaultKind.{FaultKind}
@@ -280,15 +281,15 @@ names-found place kind seen reads earlier line xs made h =
     }
 
 reads-generals : (seen : SectionsSeen) → ReadsNames InGenerals declare_integer seen
-reads-generals seen earlier n (Opens word) tokens h = absurd cc
+reads-generals seen earlier n (Opens word) tokens h = absurd (false≢true h)
 reads-generals seen earlier n _ tokens h = refl
 
 reads-binaries : (seen : SectionsSeen) → ReadsNames InBinaries declare_binary seen
-reads-binaries seen earlier n (Opens word) tokens h = absurd cc
+reads-binaries seen earlier n (Opens word) tokens h = absurd (false≢true h)
 reads-binaries seen earlier n _ tokens h = refl
 
 reads-semis : (seen : SectionsSeen) → ReadsNames InSemis declare_semi seen
-reads-semis seen earlier n (Opens word) tokens h = absurd cc
+reads-semis seen earlier n (Opens word) tokens h = absurd (false≢true h)
 reads-semis seen earlier n _ tokens h = refl
 
 generals-body : (seen : SectionsSeen) (earlier : Draft) (line : ℕ → ℕ) (xs : List Terminal) (made : Declarations)
