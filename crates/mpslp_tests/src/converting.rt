@@ -10,7 +10,7 @@ use mpslp_convert::{
 use mpslp_model::{FaultKind, Format, FromRead, NameAt, Sink, Source, ToWrite};
 use mpslp_vectors::{FailingReader, FailingWriter};
 use mpslp_write::{Lp, Mps};
-use std::alloc::Global;
+use std::alloc::{AllocError, Global};
 use std::io;
 use std::io::Read;
 use std::test::Fail;
@@ -41,64 +41,110 @@ fn becomes<A: Format, B: Format>(alloc: Global, text: &str, wanted: &str) -> boo
 #[test]
 fn texts_are_converted(rt: HostRuntime) {
     let alloc = rt.alloc();
-    assert_eq!(rt; SMALL_CANONICAL.len(), 149);
-    assert_eq!(rt; SMALL_CANONICAL_LP.len(), 92);
-    assert!(rt; becomes::<Mps, Mps>(alloc, SMALL, SMALL_CANONICAL));
-    assert!(rt; becomes::<Mps, Lp>(alloc, SMALL, SMALL_CANONICAL_LP));
-    assert!(rt; becomes::<Lp, Mps>(alloc, SMALL_LP, SMALL_CANONICAL));
-    assert!(rt; becomes::<Lp, Lp>(alloc, SMALL_LP, SMALL_CANONICAL_LP));
+    let lengths = [SMALL_CANONICAL.len(), SMALL_CANONICAL_LP.len()];
+    let are_converted = [
+        becomes::<Mps, Mps>(alloc, SMALL, SMALL_CANONICAL),
+        becomes::<Mps, Lp>(alloc, SMALL, SMALL_CANONICAL_LP),
+        becomes::<Lp, Mps>(alloc, SMALL_LP, SMALL_CANONICAL),
+        becomes::<Lp, Lp>(alloc, SMALL_LP, SMALL_CANONICAL_LP),
+    ];
+    assert_eq!(rt; lengths, [149, 92]);
+    assert_eq!(rt; are_converted, [true; 4]);
 }
 
 /// A text with a column whose name is not legal in LP.
 const UNFIT: &str = "ROWS\n N C\nCOLUMNS\n x-1 C 1\nENDATA\n";
 
+/// Whether a conversion of MPS to LP stops at a name that is not legal in LP, which is at this place.
+fn stops_at(alloc: Global, text: &str, place: NameAt) -> bool {
+    let converted = canonical::<Mps, Lp>(alloc, text.as_bytes());
+    matches!(&converted, Err(ConvertFault::NotLp(found)) if *found == place)
+}
+
+/// Whether a conversion of LP to MPS has this error of this line.
+fn is_refused(alloc: Global, text: &str, line: u64, kind: FaultKind) -> bool {
+    let converted = canonical::<Lp, Mps>(alloc, text.as_bytes());
+    matches!(&converted, Err(ConvertFault::First(fault)) if fault.line == line && fault.kind == kind)
+}
+
 #[test]
 fn what_is_not_converted_is_told(rt: HostRuntime) {
     let alloc = rt.alloc();
-    let unfit = canonical::<Mps, Lp>(alloc, UNFIT.as_bytes());
-    assert!(rt; matches!(unfit, Err(ConvertFault::NotLp(NameAt::Column(0)))));
-    let refused = canonical::<Lp, Mps>(alloc, SMALL.as_bytes());
-    assert!(rt;
-        matches!(&refused, Err(ConvertFault::First(fault)) if fault.line == 1 && fault.kind == FaultKind::BadToken)
-    );
+    let stops = stops_at(alloc, UNFIT, NameAt::Column(0));
+    let is_refused = is_refused(alloc, SMALL, 1, FaultKind::BadToken);
+    assert_eq!(rt; [stops, is_refused], [true; 2]);
+}
+
+/// Whether a text is canonical, or `None` for an error.
+fn is_known<A: Format>(alloc: Global, text: &[u8]) -> Option<bool> {
+    match is_canonical::<A>(alloc, text) {
+        Ok(is_canonical) => Some(is_canonical),
+        Err(_) => None,
+    }
+}
+
+/// Whether the test for a canonical text has this error.
+fn is_unknown<A: Format>(alloc: Global, text: &[u8], kind: FaultKind) -> bool {
+    let answer = is_canonical::<A>(alloc, text);
+    matches!(&answer, Err(ConvertFault::First(fault)) if fault.kind == kind)
 }
 
 #[test]
 fn canonical_texts_are_known(rt: HostRuntime) {
     let alloc = rt.alloc();
     let text = SMALL_CANONICAL.as_bytes();
-    assert!(rt; matches!(is_canonical::<Mps>(alloc, SMALL.as_bytes()), Ok(false)));
-    assert!(rt; matches!(is_canonical::<Mps>(alloc, text), Ok(true)));
-    assert!(rt; matches!(is_canonical::<Mps>(alloc, &text[..148]), Ok(false)));
-    assert!(rt; matches!(is_canonical::<Lp>(alloc, SMALL_LP.as_bytes()), Ok(false)));
-    assert!(rt;
-        matches!(
-            is_canonical::<Lp>(alloc, SMALL_CANONICAL_LP.as_bytes()),
-            Ok(true)
-        )
-    );
-    let refused = is_canonical::<Mps>(alloc, b"NAME\n");
-    assert!(rt;
-        matches!(&refused, Err(ConvertFault::First(fault)) if fault.kind == FaultKind::MissingEnd)
-    );
+    let are_known = [
+        is_known::<Mps>(alloc, SMALL.as_bytes()),
+        is_known::<Mps>(alloc, text),
+        is_known::<Mps>(alloc, &text[..148]),
+        is_known::<Lp>(alloc, SMALL_LP.as_bytes()),
+        is_known::<Lp>(alloc, SMALL_CANONICAL_LP.as_bytes()),
+    ];
+    let is_refused = is_unknown::<Mps>(alloc, b"NAME\n", FaultKind::MissingEnd);
+    let wanted = [
+        Some(false),
+        Some(true),
+        Some(false),
+        Some(false),
+        Some(true),
+    ];
+    assert_eq!(rt; are_known, wanted);
+    assert_eq!(rt; is_refused, true);
+}
+
+/// Whether two texts declare the same model, or `None` for an error.
+fn are_same<A: Format, B: Format>(alloc: Global, first: &[u8], second: &[u8]) -> Option<bool> {
+    match same_model::<A, B>(alloc, first, second) {
+        Ok(are_same) => Some(are_same),
+        Err(_) => None,
+    }
+}
+
+/// The line of the error for which two MPS texts are not compared, as that of the first text or of the second one.
+fn fault_lines(alloc: Global, first: &[u8], second: &[u8]) -> [Option<u64>; 2] {
+    match &same_model::<Mps, Mps>(alloc, first, second) {
+        Err(ConvertFault::First(fault)) => [Some(fault.line), None],
+        Err(ConvertFault::Second(fault)) => [None, Some(fault.line)],
+        _ => [None, None],
+    }
 }
 
 #[test]
 fn models_are_compared(rt: HostRuntime) {
     let alloc = rt.alloc();
     let (mps, lp) = (SMALL.as_bytes(), SMALL_LP.as_bytes());
-    assert!(rt; matches!(same_model::<Mps, Lp>(alloc, mps, lp), Ok(true)));
-    assert!(rt; matches!(same_model::<Lp, Mps>(alloc, lp, mps), Ok(true)));
-    assert!(rt;
-        matches!(
-            same_model::<Mps, Mps>(alloc, mps, UNFIT.as_bytes()),
-            Ok(false)
-        )
+    let are_same = [
+        are_same::<Mps, Lp>(alloc, mps, lp),
+        are_same::<Lp, Mps>(alloc, lp, mps),
+        are_same::<Mps, Mps>(alloc, mps, UNFIT.as_bytes()),
+    ];
+    let [in_first, no_second] = fault_lines(alloc, b"", b"X\n");
+    let [no_first, in_second] = fault_lines(alloc, mps, b"X\n");
+    assert_eq!(rt; are_same, [Some(true), Some(true), Some(false)]);
+    assert_eq!(rt;
+        [in_first, no_second, no_first, in_second],
+        [Some(0), None, None, Some(1)]
     );
-    let first = same_model::<Mps, Mps>(alloc, b"", b"X\n");
-    assert!(rt; matches!(&first, Err(ConvertFault::First(fault)) if fault.line == 0));
-    let second = same_model::<Mps, Mps>(alloc, mps, b"X\n");
-    assert!(rt; matches!(&second, Err(ConvertFault::Second(fault)) if fault.line == 1));
 }
 
 const SHOWN: &str = "sense minimize
@@ -112,29 +158,50 @@ column 1 Y continuous 0 inf objective 2
 entry 1 1 1.5
 ";
 
+/// Whether the model of an LP text is shown as this text, and the number of calls of the sink.
+fn shown(alloc: Global, text: &str, wanted: &str) -> (bool, u64) {
+    let mut source = FromRead::new(text.as_bytes());
+    let mut sink = ToWrite::new(Vec::new(alloc));
+    let answer = show::<Lp, _, _>(alloc, MUCH, &mut source, &mut sink);
+    let calls = sink.calls();
+    let found = told_of_run(answer, sink.into_inner());
+    (found.as_slice() == wanted.as_bytes(), calls)
+}
+
 #[test]
 fn a_model_is_shown(rt: HostRuntime) {
-    let mut output = Vec::new(rt.alloc());
-    let mut source = FromRead::new(SMALL_LP.as_bytes());
-    let mut sink = ToWrite::new(&mut output);
-    let answer = show::<Lp, _, _>(rt.alloc(), MUCH, &mut source, &mut sink);
-    assert!(rt; matches!(&answer, Ok(())));
-    assert_eq!(rt; sink.calls(), 2);
-    assert_eq!(rt; output.as_slice(), SHOWN.as_bytes());
+    assert_eq!(rt; shown(rt.alloc(), SMALL_LP, SHOWN), (true, 2));
+}
+
+/// Whether an input with these bytes is loaded within this limit, and gives the same bytes.
+fn is_loaded(alloc: Global, max_bytes: u64, bytes: &[u8]) -> bool {
+    let loaded = load(alloc, max_bytes, &mut FromRead::new(bytes));
+    matches!(&loaded, Ok(found) if found.as_slice() == bytes)
+}
+
+/// Whether an input with these bytes is too long to be loaded within this limit.
+fn is_too_long(alloc: Global, max_bytes: u64, bytes: &[u8]) -> bool {
+    let loaded = load(alloc, max_bytes, &mut FromRead::new(bytes));
+    matches!(&loaded, Err(RunFault::TooLong))
+}
+
+/// Whether an MPS text is too long for a run within this limit.
+fn is_too_long_to_run(alloc: Global, max_bytes: u64, bytes: &[u8]) -> bool {
+    let ran = run_in_memory::<Mps, Mps>(alloc, max_bytes, bytes);
+    matches!(&ran, Err(RunFault::TooLong))
 }
 
 #[test]
 fn an_input_has_at_most_so_many_bytes(rt: HostRuntime) {
     let alloc = rt.alloc();
     let text = SMALL.as_bytes();
+    let are_limits = [
+        is_too_long(alloc, 146, text),
+        is_loaded(alloc, 147, text),
+        is_too_long_to_run(alloc, 146, text),
+    ];
     assert_eq!(rt; text.len(), 147);
-    let mut source = FromRead::new(text);
-    assert!(rt; matches!(load(alloc, 146, &mut source), Err(RunFault::TooLong)));
-    let mut source = FromRead::new(text);
-    let loaded = load(alloc, 147, &mut source);
-    assert!(rt; matches!(&loaded, Ok(bytes) if bytes.as_slice() == text));
-    let refused = run_in_memory::<Mps, Mps>(alloc, 146, text);
-    assert!(rt; matches!(&refused, Err(RunFault::TooLong)));
+    assert_eq!(rt; are_limits, [true; 3]);
 }
 
 /// Returns a whole text, then 0 bytes, and then the text again.
@@ -156,51 +223,64 @@ impl Read for PausingReader<'_> {
     }
 }
 
+/// Whether a text is loaded from a reader that pauses after it, the number of calls of the source, and the number of reads.
+fn loaded_up_to_pause(alloc: Global, text: &[u8]) -> (bool, [u64; 2]) {
+    let mut source = FromRead::new(PausingReader { text, reads: 0 });
+    let loaded = load(alloc, MUCH, &mut source);
+    let is_loaded = matches!(&loaded, Ok(found) if found.as_slice() == text);
+    let calls = source.calls();
+    (is_loaded, [calls, source.into_inner().reads])
+}
+
 #[test]
 fn a_read_of_0_bytes_is_the_end(rt: HostRuntime) {
-    let mut source = FromRead::new(PausingReader {
-        text: SMALL.as_bytes(),
-        reads: 0,
-    });
-    let loaded = load(rt.alloc(), MUCH, &mut source);
-    assert!(rt; matches!(&loaded, Ok(bytes) if bytes.as_slice() == SMALL.as_bytes()));
-    assert_eq!(rt; source.calls(), 2);
-    assert_eq!(rt; source.into_inner().reads, 2);
+    let loaded = loaded_up_to_pause(rt.alloc(), SMALL.as_bytes());
+    assert_eq!(rt; loaded, (true, [2, 2]));
+}
+
+/// Whether an MPS text is converted to the expected one by a run into a sink with this room, and the numbers of calls of the
+/// source and of the sink.
+fn run_with_calls(
+    alloc: Global,
+    text: &str,
+    room: usize,
+    wanted: &str,
+) -> Result<(bool, [u64; 2]), AllocError> {
+    let mut source = FromRead::new(text.as_bytes());
+    let mut sink = FailingWriter::new(alloc, room)?;
+    let answer = run::<Mps, Mps, _, _>(alloc, text.len() as u64, &mut source, &mut sink);
+    let is_run = matches!(&answer, Ok(())) && sink.bytes() == wanted.as_bytes();
+    Ok((is_run, [source.calls(), sink.calls()]))
 }
 
 #[test]
 fn a_run_writes_once_and_flushes_once(rt: HostRuntime) -> Result<(), Fail> {
-    let mut source = FromRead::new(SMALL.as_bytes());
-    let mut sink = FailingWriter::new(rt.alloc(), 150)?;
-    let answer = run::<Mps, Mps, _, _>(rt.alloc(), 147, &mut source, &mut sink);
-    assert!(rt; matches!(&answer, Ok(())));
-    assert_eq!(rt; source.calls(), 2);
-    assert_eq!(rt; sink.calls(), 2);
-    assert_eq!(rt; sink.bytes(), SMALL_CANONICAL.as_bytes());
+    let ran = run_with_calls(rt.alloc(), SMALL, 150, SMALL_CANONICAL)?;
+    assert_eq!(rt; ran, (true, [2, 2]));
     Ok(())
 }
 
 /// A text with an error on line 3, and lines after it.
 const FAULTY: &str = "NAME\nROWS\n X  C\n L  R\nCOLUMNS\n    X  C  1\nENDATA\n";
 
-/// The result of a run whose input comes byte by byte and fails in the given read, or never if that is 0.
-fn told_of_failing(alloc: Global, max_bytes: u64, text: &str, fail_at: u64) -> Vec<u8> {
+/// Whether a run has this result, if its input comes byte by byte and fails in the given read, or never if that is 0.
+fn failing_is(alloc: Global, max_bytes: u64, text: &str, fail_at: u64, wanted: &str) -> bool {
     let mut source = FailingReader::new(text.as_bytes(), 1, fail_at);
     let mut sink = ToWrite::new(Vec::new(alloc));
     let answer = run::<Mps, Mps, _, _>(alloc, max_bytes, &mut source, &mut sink);
-    told_of_run(answer, sink.into_inner())
+    told_of_run(answer, sink.into_inner()).as_slice() == wanted.as_bytes()
 }
 
 #[test]
 fn a_source_that_fails_is_told_before_a_fault_of_the_file(rt: HostRuntime) {
     let alloc = rt.alloc();
     let len = FAULTY.len() as u64;
-    let told = told_of_failing(alloc, MUCH, FAULTY, 0);
-    assert_eq!(rt; told.as_slice(), b"line 3: BadType\n".as_slice());
-    let told = told_of_failing(alloc, MUCH, FAULTY, len + 1);
-    assert_eq!(rt; told.as_slice(), b"read failed\n".as_slice());
-    let told = told_of_failing(alloc, len - 1, FAULTY, len + 1);
-    assert_eq!(rt; told.as_slice(), b"file: TooLong\n".as_slice());
+    let are_told = [
+        failing_is(alloc, MUCH, FAULTY, 0, "line 3: BadType\n"),
+        failing_is(alloc, MUCH, FAULTY, len + 1, "read failed\n"),
+        failing_is(alloc, len - 1, FAULTY, len + 1, "file: TooLong\n"),
+    ];
+    assert_eq!(rt; are_told, [true; 3]);
 }
 
 #[test]
