@@ -78,7 +78,7 @@ impl Write for FailingWriter {
 }
 
 /// Whether a read has this result, after which the source has failed or not and was called so many times.
-fn reads<S: Source>(
+pub(crate) fn reads<S: Source>(
     source: &mut S,
     buffer: &mut [u8],
     answer: Result<usize, IoFailed>,
@@ -89,7 +89,7 @@ fn reads<S: Source>(
 }
 
 /// Whether a write has this result, after which the sink has failed or not and was called so many times.
-fn writes<S: Sink>(
+pub(crate) fn writes<S: Sink>(
     sink: &mut S,
     piece: &[u8],
     answer: Result<usize, IoFailed>,
@@ -100,7 +100,7 @@ fn writes<S: Sink>(
 }
 
 /// Whether a flush has this result, after which the sink has failed or not and was called so many times.
-fn flushes<S: Sink>(
+pub(crate) fn flushes<S: Sink>(
     sink: &mut S,
     answer: Result<(), IoFailed>,
     has_failed: bool,
