@@ -55,24 +55,40 @@ fn texts_are_converted(rt: HostRuntime) {
 /// A text with a column whose name is not legal in LP.
 const UNFIT: &str = "ROWS\n N C\nCOLUMNS\n x-1 C 1\nENDATA\n";
 
-/// Whether a conversion of MPS to LP stops at a name that is not legal in LP, which is at this place.
-fn stops_at(alloc: Global, text: &str, place: NameAt) -> bool {
-    let converted = canonical::<Mps, Lp>(alloc, text.as_bytes());
-    matches!(&converted, Err(ConvertFault::NotLp(found)) if *found == place)
+/// Whether no text is converted because a name at this place is not legal in LP.
+fn is_illegal_name(fault: &ConvertFault, place: NameAt) -> bool {
+    matches!(fault, ConvertFault::NotLp(found) if *found == place)
 }
 
-/// Whether a conversion of LP to MPS has this error of this line.
+/// Whether no text is converted because of this error in this line of it.
+fn is_fault(fault: &ConvertFault, line: u64, kind: FaultKind) -> bool {
+    matches!(fault, ConvertFault::First(found) if found.line == line && found.kind == kind)
+}
+
+/// Whether an MPS text is not converted to LP because a name at this place is not legal in LP.
+fn is_stopped(alloc: Global, text: &str, place: NameAt) -> bool {
+    match canonical::<Mps, Lp>(alloc, text.as_bytes()) {
+        Ok(_) => false,
+        Err(fault) => is_illegal_name(&fault, place),
+    }
+}
+
+/// Whether an LP text is not converted because of this error in this line of it.
 fn is_refused(alloc: Global, text: &str, line: u64, kind: FaultKind) -> bool {
-    let converted = canonical::<Lp, Mps>(alloc, text.as_bytes());
-    matches!(&converted, Err(ConvertFault::First(fault)) if fault.line == line && fault.kind == kind)
+    match canonical::<Lp, Mps>(alloc, text.as_bytes()) {
+        Ok(_) => false,
+        Err(fault) => is_fault(&fault, line, kind),
+    }
 }
 
 #[test]
 fn what_is_not_converted_is_told(rt: HostRuntime) {
     let alloc = rt.alloc();
-    let stops = stops_at(alloc, UNFIT, NameAt::Column(0));
-    let is_refused = is_refused(alloc, SMALL, 1, FaultKind::BadToken);
-    assert_eq!(rt; [stops, is_refused], [true; 2]);
+    let are_told = [
+        is_stopped(alloc, UNFIT, NameAt::Column(0)),
+        is_refused(alloc, SMALL, 1, FaultKind::BadToken),
+    ];
+    assert_eq!(rt; are_told, [true; 2]);
 }
 
 /// Whether a text is canonical, or `None` for an error.
@@ -83,10 +99,12 @@ fn is_known<A: Format>(alloc: Global, text: &[u8]) -> Option<bool> {
     }
 }
 
-/// Whether the test for a canonical text has this error.
-fn is_unknown<A: Format>(alloc: Global, text: &[u8], kind: FaultKind) -> bool {
-    let answer = is_canonical::<A>(alloc, text);
-    matches!(&answer, Err(ConvertFault::First(fault)) if fault.kind == kind)
+/// Whether it is not known if an MPS text is canonical, because of this error in this line of it.
+fn is_unknown(alloc: Global, text: &[u8], line: u64, kind: FaultKind) -> bool {
+    match is_canonical::<Mps>(alloc, text) {
+        Ok(_) => false,
+        Err(fault) => is_fault(&fault, line, kind),
+    }
 }
 
 #[test]
@@ -100,7 +118,7 @@ fn canonical_texts_are_known(rt: HostRuntime) {
         is_known::<Lp>(alloc, SMALL_LP.as_bytes()),
         is_known::<Lp>(alloc, SMALL_CANONICAL_LP.as_bytes()),
     ];
-    let is_refused = is_unknown::<Mps>(alloc, b"NAME\n", FaultKind::MissingEnd);
+    let is_refused = is_unknown(alloc, b"NAME\n", 0, FaultKind::MissingEnd);
     let wanted = [
         Some(false),
         Some(true),
@@ -120,12 +138,20 @@ fn are_same<A: Format, B: Format>(alloc: Global, first: &[u8], second: &[u8]) ->
     }
 }
 
-/// The line of the error for which two MPS texts are not compared, as that of the first text or of the second one.
-fn fault_lines(alloc: Global, first: &[u8], second: &[u8]) -> [Option<u64>; 2] {
-    match &same_model::<Mps, Mps>(alloc, first, second) {
-        Err(ConvertFault::First(fault)) => [Some(fault.line), None],
-        Err(ConvertFault::Second(fault)) => [None, Some(fault.line)],
-        _ => [None, None],
+/// The line of an error in the first or in the second of two texts.
+fn fault_lines(fault: &ConvertFault) -> (Option<u64>, Option<u64>) {
+    match fault {
+        ConvertFault::First(fault) => (Some(fault.line), None),
+        ConvertFault::Second(fault) => (None, Some(fault.line)),
+        _ => (None, None),
+    }
+}
+
+/// The line of the error in the first or in the second of two MPS texts, because of which they are not compared.
+fn lines_refused(alloc: Global, first: &[u8], second: &[u8]) -> (Option<u64>, Option<u64>) {
+    match same_model::<Mps, Mps>(alloc, first, second) {
+        Ok(_) => (None, None),
+        Err(fault) => fault_lines(&fault),
     }
 }
 
@@ -138,13 +164,10 @@ fn models_are_compared(rt: HostRuntime) {
         are_same::<Lp, Mps>(alloc, lp, mps),
         are_same::<Mps, Mps>(alloc, mps, UNFIT.as_bytes()),
     ];
-    let [in_first, no_second] = fault_lines(alloc, b"", b"X\n");
-    let [no_first, in_second] = fault_lines(alloc, mps, b"X\n");
+    let in_first = lines_refused(alloc, b"", b"X\n");
+    let in_second = lines_refused(alloc, mps, b"X\n");
     assert_eq!(rt; are_same, [Some(true), Some(true), Some(false)]);
-    assert_eq!(rt;
-        [in_first, no_second, no_first, in_second],
-        [Some(0), None, None, Some(1)]
-    );
+    assert_eq!(rt; [in_first, in_second], [(Some(0), None), (None, Some(1))]);
 }
 
 const SHOWN: &str = "sense minimize

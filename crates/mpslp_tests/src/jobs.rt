@@ -198,27 +198,51 @@ fn two_files_are_compared(rt: HostRuntime) {
     }
 }
 
+/// Whether the model of an LP text is shown as this text.
+fn is_shown(alloc: Global, text: &str, wanted: &str) -> bool {
+    let job = show(alloc, Form::Lp);
+    performed(alloc, &job, text, "").is(0, wanted, "")
+}
+
 #[test]
 fn a_file_is_shown(rt: HostRuntime) {
-    let job = show(rt.alloc(), Form::Lp);
-    assert!(rt; performed(rt.alloc(), &job, "min c: x st end\n", "").is(0, TINY_SHOWN, ""));
+    assert!(rt; is_shown(rt.alloc(), "min c: x st end\n", TINY_SHOWN));
+}
+
+/// Whether this reason that there is no job has this exit status, standard output and standard error.
+fn is_reported(alloc: Global, fault: JobFault, status: u8, out: &str, err: &str) -> bool {
+    performed(alloc, &Err(fault), SMALL, SMALL).is(status, out, err)
+}
+
+/// Whether an unknown format is reported so.
+fn is_unknown(alloc: Global, format: &str, err: &str) -> Result<bool, AllocError> {
+    let fault = JobFault::UnknownFormat(word(alloc, format)?);
+    Ok(is_reported(alloc, fault, 3, "", err))
+}
+
+/// Whether the text of a usage error is reported as it is.
+fn is_usage(alloc: Global, text: &str) -> Result<bool, AllocError> {
+    let fault = JobFault::Usage(word(alloc, text)?);
+    Ok(is_reported(alloc, fault, 3, "", text))
+}
+
+/// Whether the text of help is printed as it is.
+fn is_help(alloc: Global, text: &str) -> Result<bool, AllocError> {
+    let fault = JobFault::Help(word(alloc, text)?);
+    Ok(is_reported(alloc, fault, 0, text, ""))
 }
 
 #[test]
 fn refusals_are_told(rt: HostRuntime) -> Result<(), Fail> {
     let alloc = rt.alloc();
-    let unknown: Result<Job, JobFault> = Err(JobFault::UnknownFormat(word(alloc, "xml")?));
-    assert!(rt; performed(alloc, &unknown, SMALL, SMALL).is(3, "", "unknown format: xml\n"));
-    let usage: Result<Job, JobFault> = Err(JobFault::Usage(word(alloc, "error\n")?));
-    assert!(rt; performed(alloc, &usage, SMALL, SMALL).is(3, "", "error\n"));
-    let help: Result<Job, JobFault> = Err(JobFault::Help(word(alloc, "h")?));
-    assert!(rt; performed(alloc, &help, SMALL, SMALL).is(0, "h", ""));
-    assert!(rt;
-        performed(alloc, &Err(JobFault::BothInputs), SMALL, SMALL).is(3, "", "both inputs are -\n")
-    );
-    assert!(rt;
-        performed(alloc, &Err(JobFault::OutOfMemory), SMALL, SMALL).is(5, "", "out of memory\n")
-    );
+    let are_told = [
+        is_unknown(alloc, "xml", "unknown format: xml\n")?,
+        is_usage(alloc, "error\n")?,
+        is_help(alloc, "h")?,
+        is_reported(alloc, JobFault::BothInputs, 3, "", "both inputs are -\n"),
+        is_reported(alloc, JobFault::OutOfMemory, 5, "", "out of memory\n"),
+    ];
+    assert_eq!(rt; are_told, [true; 5]);
     Ok(())
 }
 
@@ -237,55 +261,65 @@ const OUTPUTS: [(usize, u8, &str); 4] = [
     (0, 4, "write failed\n"),
 ];
 
+/// Whether the comparison of a text with itself, if the output takes only so many bytes, has this exit status, this line of
+/// its error, and a part of its result as output.
+fn ends_with_room(alloc: Global, room: usize, wanted: u8, line: &str) -> Result<bool, AllocError> {
+    let mut out = FailingWriter::new(alloc, room)?;
+    let mut err = Vec::new(alloc);
+    let status = perform(
+        alloc,
+        MUCH,
+        &same(alloc, Form::Mps, Form::Mps),
+        &mut FromRead::new(SMALL.as_bytes()),
+        &mut FromRead::new(SMALL.as_bytes()),
+        &mut out,
+        &mut ToWrite::new(&mut err),
+    );
+    let has_line = err.as_slice() == line.as_bytes();
+    let has_front = b"same\n".starts_with(out.bytes());
+    Ok(status == wanted && (has_line && has_front))
+}
+
 #[test]
 fn an_output_that_fails_is_told(rt: HostRuntime) -> Result<(), Fail> {
-    let alloc = rt.alloc();
-    let job = same(alloc, Form::Mps, Form::Mps);
-    for (room, wanted, line) in OUTPUTS {
-        let mut out = FailingWriter::new(alloc, room)?;
-        let mut err = Vec::new(alloc);
-        let status = perform(
-            alloc,
-            MUCH,
-            &job,
-            &mut FromRead::new(SMALL.as_bytes()),
-            &mut FromRead::new(SMALL.as_bytes()),
-            &mut out,
-            &mut ToWrite::new(&mut err),
+    for (room, status, line) in OUTPUTS {
+        assert!(rt;
+            ends_with_room(rt.alloc(), room, status, line)?,
+            "at {room}"
         );
-        assert_eq!(rt; status, wanted, "at {room}");
-        assert_eq!(rt; err.as_slice(), line.as_bytes(), "at {room}");
-        assert!(rt; b"same\n".starts_with(out.bytes()), "at {room}");
     }
     Ok(())
+}
+
+/// The exit status of a comparison whose first text has no end and whose error stream takes only so many bytes, how many it
+/// took, and whether they are a part of the line of the error.
+fn ended_with_error_room(alloc: Global, room: usize) -> Result<(u8, usize, bool), AllocError> {
+    let mut out = Vec::new(alloc);
+    let mut err = FailingWriter::new(alloc, room)?;
+    let status = perform(
+        alloc,
+        MUCH,
+        &same(alloc, Form::Mps, Form::Mps),
+        &mut FromRead::new(b"ROWS\n".as_slice()),
+        &mut FromRead::new(SMALL.as_bytes()),
+        &mut ToWrite::new(&mut out),
+        &mut err,
+    );
+    let has_front = b"first: file: MissingEnd\n".starts_with(err.bytes());
+    Ok((status, err.bytes().len(), has_front))
 }
 
 #[test]
 fn a_failing_error_stream_changes_no_status(rt: HostRuntime) -> Result<(), Fail> {
-    let alloc = rt.alloc();
-    let job = same(alloc, Form::Mps, Form::Mps);
     for room in [0, 3, 7] {
-        let mut out = Vec::new(alloc);
-        let mut err = FailingWriter::new(alloc, room)?;
-        let status = perform(
-            alloc,
-            MUCH,
-            &job,
-            &mut FromRead::new(b"ROWS\n".as_slice()),
-            &mut FromRead::new(SMALL.as_bytes()),
-            &mut ToWrite::new(&mut out),
-            &mut err,
-        );
-        assert_eq!(rt; status, 2);
-        assert_eq!(rt; err.bytes().len(), room);
-        assert!(rt; b"first: file: MissingEnd\n".starts_with(err.bytes()));
+        assert_eq!(rt; ended_with_error_room(rt.alloc(), room)?, (2, room, true));
     }
     Ok(())
 }
 
-#[test]
-fn a_second_source_that_fails_is_told(rt: HostRuntime) {
-    let alloc = rt.alloc();
+/// The exit status of a comparison whose second source fails, whether this is its standard error, and whether nothing is
+/// printed.
+fn ended_without_second(alloc: Global, wanted: &str) -> (u8, bool, bool) {
     let mut out = Vec::new(alloc);
     let mut err = Vec::new(alloc);
     let status = perform(
@@ -297,7 +331,12 @@ fn a_second_source_that_fails_is_told(rt: HostRuntime) {
         &mut ToWrite::new(&mut out),
         &mut ToWrite::new(&mut err),
     );
-    assert_eq!(rt; status, 4);
-    assert_eq!(rt; err.as_slice(), b"second: read failed\n".as_slice());
-    assert_eq!(rt; out.is_empty(), true);
+    let is_told = err.as_slice() == wanted.as_bytes();
+    (status, is_told, out.is_empty())
+}
+
+#[test]
+fn a_second_source_that_fails_is_told(rt: HostRuntime) {
+    let ended = ended_without_second(rt.alloc(), "second: read failed\n");
+    assert_eq!(rt; ended, (4, true, true));
 }

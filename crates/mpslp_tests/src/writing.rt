@@ -4,7 +4,7 @@ use mpslp_model::{NameAt, Sink, ToWrite, WriteFault};
 use mpslp_mps::read_mps;
 use mpslp_vectors::FailingWriter;
 use mpslp_write::{first_unfit_name, write_lp, write_mps};
-use std::alloc::Global;
+use std::alloc::{AllocError, Global};
 use std::test::Fail;
 
 /// A file whose lines are in another order and spelled differently from the canonical text.
@@ -161,22 +161,32 @@ fn write_lp_file<W: Sink>(
     }
 }
 
+/// Whether the canonical text of a file's model is this one, and in how many calls it is written.
+fn written(alloc: Global, file: &str, wanted: &str) -> (bool, u64) {
+    let mut sink = ToWrite::new(Vec::new(alloc));
+    let answer = write_file(alloc, file, &mut sink);
+    let calls = sink.calls();
+    let has_text = sink.into_inner().as_slice() == wanted.as_bytes();
+    (answer == Some(Ok(())) && has_text, calls)
+}
+
 #[test]
 fn canonical_texts_are_written_in_one_call(rt: HostRuntime) {
-    let mut held = Vec::new(rt.alloc());
-    let mut sink = ToWrite::new(&mut held);
-    assert!(rt; matches!(write_file(rt.alloc(), FILE, &mut sink), Some(Ok(()))));
-    assert_eq!(rt; sink.calls(), 1);
-    assert_eq!(rt; held.as_slice(), TEXT.as_bytes());
+    assert_eq!(rt; written(rt.alloc(), FILE, TEXT), (true, 1));
+}
+
+/// Whether the canonical LP text of a file's model is this one, and in how many calls it is written.
+fn lp_written(alloc: Global, file: &str, wanted: &str) -> (bool, u64) {
+    let mut sink = ToWrite::new(Vec::new(alloc));
+    let answer = write_lp_file(alloc, file, &mut sink);
+    let calls = sink.calls();
+    let has_text = sink.into_inner().as_slice() == wanted.as_bytes();
+    (answer == Some(Ok(())) && has_text, calls)
 }
 
 #[test]
 fn canonical_lp_texts_are_written_in_one_call(rt: HostRuntime) {
-    let mut held = Vec::new(rt.alloc());
-    let mut sink = ToWrite::new(&mut held);
-    assert!(rt; matches!(write_lp_file(rt.alloc(), FILE, &mut sink), Some(Ok(()))));
-    assert_eq!(rt; sink.calls(), 1);
-    assert_eq!(rt; held.as_slice(), LP_TEXT.as_bytes());
+    assert_eq!(rt; lp_written(rt.alloc(), FILE, LP_TEXT), (true, 1));
 }
 
 /// The place of the first name of a file's model that is not legal in LP.
@@ -187,27 +197,53 @@ fn unfit_name_of(alloc: Global, file: &str) -> Option<NameAt> {
     }
 }
 
+/// The result of writing a file's model as LP into a sink with room for nine bytes, and the number of calls.
+fn lp_calls(
+    alloc: Global,
+    file: &str,
+) -> Result<(Option<Result<(), WriteFault>>, u64), AllocError> {
+    let mut sink = FailingWriter::new(alloc, 9)?;
+    let answer = write_lp_file(alloc, file, &mut sink);
+    Ok((answer, sink.calls()))
+}
+
 #[test]
 fn a_name_that_lp_cannot_tell_is_told_before_any_byte(rt: HostRuntime) -> Result<(), Fail> {
     for (file, place) in [(BRACKETS, NameAt::Row(1)), (FREE, NameAt::Column(1))] {
-        let mut sink = FailingWriter::new(rt.alloc(), 9)?;
-        let answer = write_lp_file(rt.alloc(), file, &mut sink);
+        let (answer, calls) = lp_calls(rt.alloc(), file)?;
+        let unfit = unfit_name_of(rt.alloc(), file);
         assert_eq!(rt; answer, Some(Err(WriteFault::NotLp(place))));
-        assert_eq!(rt; sink.calls(), 0);
-        assert_eq!(rt; unfit_name_of(rt.alloc(), file), Some(place));
+        assert_eq!(rt; (calls, unfit), (0, Some(place)));
     }
     Ok(())
 }
 
+/// Whether a write into a sink with room for nine bytes stopped there, and the sink has the first nine bytes of this text.
+fn has_stopped(answer: Option<Result<(), WriteFault>>, sink: &FailingWriter, text: &str) -> bool {
+    let bytes = sink.bytes();
+    let is_front = bytes.len() == 9 && text.as_bytes().starts_with(bytes);
+    answer == Some(Err(WriteFault::Write { written: 9 })) && is_front
+}
+
+/// Whether writing a file's model into a sink with room for nine bytes stops there, with the first nine bytes of this text.
+fn stops(alloc: Global, file: &str, text: &str) -> Result<bool, AllocError> {
+    let mut sink = FailingWriter::new(alloc, 9)?;
+    let answer = write_file(alloc, file, &mut sink);
+    Ok(has_stopped(answer, &sink, text))
+}
+
+/// Whether writing a file's model as LP into a sink with room for nine bytes stops there, with the first nine bytes of this
+/// text.
+fn lp_stops(alloc: Global, file: &str, text: &str) -> Result<bool, AllocError> {
+    let mut sink = FailingWriter::new(alloc, 9)?;
+    let answer = write_lp_file(alloc, file, &mut sink);
+    Ok(has_stopped(answer, &sink, text))
+}
+
 #[test]
 fn a_sink_that_fails_is_told(rt: HostRuntime) -> Result<(), Fail> {
-    let mut sink = FailingWriter::new(rt.alloc(), 9)?;
-    let answer = write_file(rt.alloc(), FILE, &mut sink);
-    assert!(rt; matches!(answer, Some(Err(WriteFault::Write { written: 9 }))));
-    assert_eq!(rt; sink.bytes(), &TEXT.as_bytes()[..9]);
-    let mut sink = FailingWriter::new(rt.alloc(), 9)?;
-    let answer = write_lp_file(rt.alloc(), FILE, &mut sink);
-    assert!(rt; matches!(answer, Some(Err(WriteFault::Write { written: 9 }))));
-    assert_eq!(rt; sink.bytes(), &LP_TEXT.as_bytes()[..9]);
+    let stops = stops(rt.alloc(), FILE, TEXT)?;
+    let lp_stops = lp_stops(rt.alloc(), FILE, LP_TEXT)?;
+    assert_eq!(rt; [stops, lp_stops], [true; 2]);
     Ok(())
 }
