@@ -108,7 +108,7 @@ fn name(form: Form) -> &'static str {
     }
 }
 
-/// What is requested in place of a job as a text: a word for the kind, and the text of help, of an error or of a format.
+/// What is requested instead of a job, as a text: a word for the kind, and the text of help, of an error or of a format.
 fn text_of_fault(alloc: Global, fault: &JobFault) -> Result<String, AllocError> {
     match fault {
         JobFault::Help(text) => format!(in alloc; "help {}", text.as_str()),

@@ -220,13 +220,13 @@ fn is_unknown(alloc: Global, format: &str, err: &str) -> Result<bool, AllocError
     Ok(is_reported(alloc, fault, 3, "", err))
 }
 
-/// Whether the text of a usage error is reported as it is.
+/// Whether the text of a usage error is reported unchanged.
 fn is_usage(alloc: Global, text: &str) -> Result<bool, AllocError> {
     let fault = JobFault::Usage(word(alloc, text)?);
     Ok(is_reported(alloc, fault, 3, "", text))
 }
 
-/// Whether the text of help is printed as it is.
+/// Whether the text of help is printed unchanged.
 fn is_help(alloc: Global, text: &str) -> Result<bool, AllocError> {
     let fault = JobFault::Help(word(alloc, text)?);
     Ok(is_reported(alloc, fault, 0, text, ""))
