@@ -13,9 +13,7 @@ import tempfile
 from itertools import pairwise
 from pathlib import Path
 
-from crates import LIBRARIES, crates_of_repository, words_of
-from kit import kit_folder, require_kit
-from prove import prove_all
+from check import check, crate_to_check
 
 # Modules that took less are not printed.
 SECONDS = 1.0
@@ -29,17 +27,9 @@ def slow_modules(kept: Path) -> list[tuple[float, str]]:
 
 
 def main() -> int:
-    crates, flags = crates_of_repository(), sys.argv[2:]
-    if len(sys.argv) < 2 or sys.argv[1] not in crates:
-        print(__doc__, file=sys.stderr)
-        return 2
-    require_kit()
-    crate = crates[sys.argv[1]]
-    if not prove_all(crate.uses):
-        return 1
+    crate = crate_to_check(__doc__)
     with tempfile.TemporaryDirectory() as kept:
-        words = [f"{kit_folder()}/bin/rattle", "check", *words_of(crate, crates, LIBRARIES), "--jobs", "1", "--incremental", kept, *flags]
-        status = subprocess.run(words, cwd=crate.folder, stdout=subprocess.DEVNULL, check=False).returncode
+        status = check(crate, Path(kept), ["--jobs", "1", *sys.argv[2:]], subprocess.DEVNULL)
         for seconds, name in slow_modules(Path(kept)):
             print(f"{seconds:6.1f}  {name}")
     return status

@@ -18,7 +18,7 @@ pub struct LineReader {
 }
 
 impl LineReader {
-    /// The context, without the state. Only here is the state dropped.
+    /// The context, without the state, which is dropped here and not on each path of `finish`.
     fn into_context(self) -> Context
         ensures { result ≡ self.context }
     {

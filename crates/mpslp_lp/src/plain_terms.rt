@@ -30,7 +30,8 @@ pub(crate) struct PlainTerm<'a> {
     column: &'a [u8],
 }
 
-/// Replaces the state. Only here is one dropped: the proof of a function that drops it goes through all that it may hold.
+/// Replaces the state. It is a function of its own because the proof of each function that drops a state goes through all that a
+/// state may hold.
 #[inline(always)]
 pub(crate) fn set_state(state: &mut State, next: State)
     ensures { state.new ≡ next }
