@@ -3,7 +3,7 @@
 
 `rt ci` proves every crate and its tests, and runs the tests and programs, on a copy of the crates in build/ci/. The copy has no
 mutants, since `rt ci` would check a whole crate for each: scripts/mutants.py checks that the prover rejects them, those of a
-crate as soon as `rt ci` has proved it, on processors that `rt ci` leaves idle. At last the scripts of TESTS test what was built.
+crate as soon as `rt ci` has built what it needs, on processors that `rt ci` leaves idle. The scripts of TESTS test what was built.
 One line is printed for each crate, its mutants and each script; all of their output goes to build/log/.
 """
 
@@ -15,7 +15,7 @@ import sys
 import time
 from collections.abc import Iterator
 from concurrent.futures import FIRST_COMPLETED, Future, ThreadPoolExecutor, wait
-from contextlib import contextmanager
+from contextlib import contextmanager, nullcontext
 from dataclasses import dataclass
 from enum import Enum, auto
 from pathlib import Path
@@ -28,6 +28,8 @@ from prove import LOGS, MEMORY_OF_A_LANE, default_lanes, free_memory
 
 # Where `rt ci` runs, and what it leaves there: the library of each crate, its program and its tests.
 COPY = ROOT / "build" / "ci"
+# The crate of the program that `make` builds.
+PROGRAM = "mpslp"
 # What a crate has that `rt ci` does not read here.
 LEFT_OUT = shutil.ignore_patterns("must-fail", "out")
 
@@ -39,16 +41,17 @@ SECONDS_BETWEEN_LOOKS = 5
 
 @dataclass(frozen=True)
 class Test:
-    """A script that tests what `rt ci` built."""
+    """A script that tests what `rt ci` built: all of it, or only these crates and those below them."""
 
     name: str
     words: tuple[str, ...]
     folder: Path = ROOT
+    needs: frozenset[str] = frozenset()
 
 
-# The longest first.
+# The longest first. It takes minutes on one processor, so it begins before `rt ci` has ended.
 TESTS = (
-    Test("C library and Python package", ("sh", "tests/callers.sh")),
+    Test("C library and Python package", ("sh", "tests/callers.sh"), needs=frozenset({PROGRAM, "mpslp_c"})),
     Test("program on vectors/", ("python3", "tests/vectors.py")),
     Test("library on vectors/", ("../crates/try_library/out/try_library", "vectors"), ROOT / "vectors"),
     Test("refused memory", ("python3", "tests/refused.py")),
@@ -144,13 +147,20 @@ def copy_crates() -> None:
     (COPY / ".git").mkdir()
 
 
-def take_programs() -> None:
-    """Puts the programs and tests that `rt ci` built where the scripts look for them."""
-    for file in COPY.glob("crates/*/out/*"):
+def take_programs(crate: str) -> None:
+    """Puts the programs and tests that `rt ci` built of this crate where the scripts look for them. What runs there goes on with the
+    file that it has."""
+    for file in COPY.glob(f"crates/{crate}/out/*"):
         if file.is_file():
             to = ROOT / file.relative_to(COPY)
             to.parent.mkdir(exist_ok=True)
-            shutil.copy2(file, to)
+            shutil.copy2(file, to.with_name(f"{to.name}.part")).replace(to)
+
+
+def mark_program() -> None:
+    """Records that the program of `rt ci` is the proved one of these sources, so that `make` and `make run` use it."""
+    crates = below(crates_of_repository(), PROGRAM)
+    mark(crates[-1], sums_of(crates)[PROGRAM])
 
 
 def prove_all(report: Report, proved: set[str]) -> tuple[bool, str]:
@@ -168,6 +178,9 @@ def prove_all(report: Report, proved: set[str]) -> tuple[bool, str]:
             line = line.rstrip("\n")
             if found := PROVED.match(line):
                 report.say(f"{found[1]}: proved")
+                take_programs(found[1])
+                if found[1] == PROGRAM:
+                    mark_program()
                 proved.add(found[1])
             elif found := TESTS_PROVED.match(line):
                 report.say(f"{found[1]}: its tests proved")
@@ -177,7 +190,9 @@ def prove_all(report: Report, proved: set[str]) -> tuple[bool, str]:
                 closing = line
     passed = ci.returncode == 0
     if passed:
-        take_programs()
+        for crate in crates_of_repository():
+            take_programs(crate)
+        mark_program()
     else:
         show_failures(log)
     return passed, closing or "0 passed, 1 failed"
@@ -246,13 +261,20 @@ class Job:
 
     of: Crate | Test
 
-    def is_ready(self, ci: Ci, proved: set[str]) -> bool:
-        """Whether `rt ci` has built what the job needs. Scripts need all of it, and mutants the libraries of the crates below theirs,
-        which are complete once `rt ci` has proved that crate over them."""
-        return ci == Ci.PASSED or (isinstance(self.of, Crate) and self.of.name in proved)
+    def is_ready(self, ci: Ci, proved: list[Crate]) -> bool:
+        """Whether `rt ci` has built what the job needs: all of it, or what these crates are that it has proved. Mutants need the
+        libraries of the crates below theirs. A library is complete once a crate over it is proved."""
+        if isinstance(self.of, Crate):
+            has_built = self.of in proved or {*self.of.uses} <= {use for crate in proved for use in crate.uses}
+        else:
+            has_built = bool(self.of.needs) and self.of.needs <= {crate.name for crate in proved}
+        return ci == Ci.PASSED or has_built
 
     def run(self, crates: dict[str, Crate], turns: Turns) -> Result:
-        return run_test(self.of) if isinstance(self.of, Test) else test_crate(self.of, crates, COPY / "crates", turns.turn)
+        if isinstance(self.of, Crate):
+            return test_crate(self.of, crates, COPY / "crates", turns.turn)
+        with turns.turn() if self.of.needs else nullcontext():
+            return run_test(self.of)
 
     def report(self, report: Report, result: Result) -> Tally:
         return report_mutants(report, result) if isinstance(result, Outcome) else report_test(report, self.of, *result)
@@ -293,7 +315,8 @@ class Gate:
     def begin(self, running: dict[Future, Job | None], pool: ThreadPoolExecutor) -> None:
         """Starts the jobs that can run now."""
         room = self.room() - sum(job is not None for job in running.values())
-        for job in [it for it in self.waiting if it.is_ready(self.ci, self.proved)][: max(0, room)]:
+        proved = [crate for name, crate in self.crates.items() if name in self.proved]
+        for job in [it for it in self.waiting if it.is_ready(self.ci, proved)][: max(0, room)]:
             self.waiting.remove(job)
             running[pool.submit(job.run, self.crates, self.turns)] = job
 
@@ -313,14 +336,6 @@ class Gate:
         print(closing, flush=True)
         self.ci = Ci.PASSED if passed else Ci.FAILED
         self.tally += Tally(*map(int, CLOSING.match(closing).groups()))
-        if passed:
-            mark_program()
-
-
-def mark_program() -> None:
-    """Records that the program of `rt ci` is the proved one of these sources, so that `make` and `make run` use it."""
-    crates = below(crates_of_repository(), "mpslp")
-    mark(crates[-1], sums_of(crates)["mpslp"])
 
 
 def main() -> int:

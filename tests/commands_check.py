@@ -260,6 +260,10 @@ class Commands(unittest.TestCase):
         self.assertIn("build the program with `make` first", made.stderr)
 
 
+# Crates of a repository, and what each uses.
+CRATES_OF_GATE = (("low", ()), ("middle", ("low",)), ("high", ("low", "middle")), ("other", ("middle",)))
+
+
 class Gate(unittest.TestCase):
     def tally(self, ci_passes: bool) -> gate.Tally:
         """What the gate counts over a stand-in for `rt ci` and two scripts, without memory for anything beside `rt ci`."""
@@ -269,7 +273,6 @@ class Gate(unittest.TestCase):
             LOGS=Path(logs),
             copy_crates=lambda: None,
             crates_of_repository=dict,
-            mark_program=lambda: None,
             free_memory=lambda: 0,
             all_jobs=lambda crates: scripts,
             prove_all=lambda report, proved: (ci_passes, "3 passed, 0 failed" if ci_passes else "2 passed, 1 failed"),
@@ -282,6 +285,29 @@ class Gate(unittest.TestCase):
 
     def test_what_is_not_run_counts_as_failed(self) -> None:
         self.assertEqual(self.tally(ci_passes=False), gate.Tally(passed=2, failed=3))
+
+    def test_mutants_begin_once_the_libraries_below_them_are_complete(self) -> None:
+        low, middle, high, other = [gate.Crate(name, "", uses, uses) for name, uses in CRATES_OF_GATE]
+        for proved, is_ready in (
+            ([], False),
+            ([low], False),
+            # The library of a crate is still to be built when it is proved.
+            ([low, middle], False),
+            ([low, middle, other], True),
+            ([low, middle, high], True),
+        ):
+            self.assertEqual(gate.Job(high).is_ready(gate.Ci.RUNNING, proved), is_ready)
+        self.assertTrue(gate.Job(low).is_ready(gate.Ci.RUNNING, []))
+
+    def test_a_script_begins_once_what_it_needs_is_built(self) -> None:
+        low, middle = [gate.Crate(name, "", uses, uses) for name, uses in CRATES_OF_GATE[:2]]
+        of_two, of_all = [gate.Job(gate.Test("", (), needs=frozenset(needs))) for needs in (("low", "middle"), ())]
+        for job, proved, ready_in in (
+            (of_two, [low], {gate.Ci.PASSED}),
+            (of_two, [low, middle], set(gate.Ci)),
+            (of_all, [low, middle], {gate.Ci.PASSED}),
+        ):
+            self.assertEqual({ci for ci in gate.Ci if job.is_ready(ci, proved)}, ready_in)
 
 
 if __name__ == "__main__":
