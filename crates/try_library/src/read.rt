@@ -4,7 +4,7 @@
 //! reader, without that of the input, on standard error.
 
 use mpslp_lp::read_lp;
-use mpslp_model::{Fault, ReadFault};
+use mpslp_model::{Fault, Model, ReadFault};
 use mpslp_mps::read_mps;
 use std::alloc::Global;
 use std::io;
@@ -13,7 +13,7 @@ use std::rt::Clock;
 use std::time::Instant;
 
 /// Prints an error like the program: the line or the file, the kind, and the row or column if it has one.
-fn tell(rt: &impl Print, alloc: Global, fault: &Fault) -> io::Result<()> {
+fn put_fault(rt: &impl Print, alloc: Global, fault: &Fault) -> io::Result<()> {
     if fault.line == 0 {
         print!(rt; "file: {}", fault.kind.text())?;
     } else {
@@ -25,7 +25,50 @@ fn tell(rt: &impl Print, alloc: Global, fault: &Fault) -> io::Result<()> {
     }
 }
 
-/// Reads a text, MPS or LP, and prints what it came to and the time.
+/// Prints the counts of a model.
+fn put_counts(rt: &impl Print, model: &Model) -> io::Result<()> {
+    println!(rt;
+        "rows {} columns {} elements {}",
+        model.num_rows(),
+        model.num_cols(),
+        model.num_elements()
+    )
+}
+
+/// Prints the counts of the model that was read, or the error.
+fn put_result(rt: &impl Print, alloc: Global, read: Result<Model, ReadFault>) -> io::Result<()> {
+    match read {
+        Ok(model) => put_counts(rt, &model),
+        Err(ReadFault::File(fault)) => put_fault(rt, alloc, &fault),
+        Err(ReadFault::Failed) => println!(rt; "failed"),
+        Err(ReadFault::OutOfMemory) => println!(rt; "out of memory"),
+    }
+}
+
+/// The model of a text, MPS or LP.
+fn read(alloc: Global, text: &[u8], is_lp: bool) -> Result<Model, ReadFault> {
+    if is_lp {
+        read_lp(alloc, text)
+    } else {
+        read_mps(alloc, text)
+    }
+}
+
+/// Reads a text, prints what it came to, and returns the microseconds of the reader.
+fn timed_reading<R: Print + Clock>(
+    rt: &R,
+    alloc: Global,
+    text: &[u8],
+    is_lp: bool,
+) -> io::Result<u128> {
+    let start = Instant::now(rt)?;
+    let model = read(alloc, text, is_lp);
+    let elapsed = start.elapsed(rt);
+    put_result(rt, alloc, model)?;
+    Ok(elapsed?.as_micros())
+}
+
+/// Reads the text of standard input, MPS or LP, and prints what it came to and the time.
 pub(crate) fn measure_reading<R: Input + Print + Eprint + Clock + AllocGlobal>(
     rt: &R,
     alloc: Global,
@@ -33,24 +76,7 @@ pub(crate) fn measure_reading<R: Input + Print + Eprint + Clock + AllocGlobal>(
 ) -> io::Result<()> {
     let mut text = Vec::new(alloc);
     rt.reader().read_to_end(&mut text)?;
-    let start = Instant::now(rt)?;
-    let answer = if is_lp {
-        read_lp(alloc, text.as_slice())
-    } else {
-        read_mps(alloc, text.as_slice())
-    };
-    let micros = start.elapsed(rt)?.as_micros().max(1);
-    match &answer {
-        Ok(model) => println!(rt;
-            "rows {} columns {} elements {}",
-            model.num_rows(),
-            model.num_cols(),
-            model.num_elements()
-        )?,
-        Err(ReadFault::File(fault)) => tell(rt, alloc, fault)?,
-        Err(ReadFault::Failed) => println!(rt; "failed")?,
-        Err(ReadFault::OutOfMemory) => println!(rt; "out of memory")?,
-    }
+    let micros = timed_reading(rt, alloc, text.as_slice(), is_lp)?.max(1);
     let tenths = (text.len() as u128).saturating_mul(10) / micros;
     eprintln!(rt;
         "read {} bytes, {micros} microseconds, {}.{} MB/s",

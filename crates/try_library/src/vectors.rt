@@ -216,30 +216,67 @@ fn try_changed_lines<R: Files + Print + Eprint>(
     tally.end(rt, "changed lines")
 }
 
-/// Checks the inputs of a line of `cuts.tsv`.
-fn try_cuts_of<R: Files + Eprint>(
+/// A line of `cuts.tsv`: the beginnings of a file, from the shortest to the longest.
+#[derive(Clone, Copy)]
+struct Cuts<'a> {
+    line: &'a str,
+    name: &'a str,
+    shortest: usize,
+    longest: usize,
+    answer: &'a str,
+}
+
+impl<'a> Cuts<'a> {
+    fn of_line(alloc: Global, line: &'a str) -> io::Result<Cuts<'a>> {
+        Cuts::of_fields(line, &fields(alloc, line)?)
+    }
+
+    fn of_fields(line: &'a str, fields: &[&'a str]) -> io::Result<Cuts<'a>> {
+        Ok(Cuts {
+            line,
+            name: field(fields, 0)?,
+            shortest: number(fields, 1)?,
+            longest: number(fields, 2)?,
+            answer: field(fields, 3)?,
+        })
+    }
+
+    fn form(&self) -> Form {
+        form_of(self.name)
+    }
+}
+
+/// Checks that each beginning of a text that a line names has this result.
+fn try_each_cut<R: Eprint>(
+    rt: &R,
+    alloc: Global,
+    tally: &mut Tally,
+    cuts: &Cuts<'_>,
+    text: &[u8],
+    expected: &Expected,
+) -> io::Result<()> {
+    for len in cuts.shortest..=cuts.longest {
+        let is_right = is_converted(alloc, cuts.form(), &text[..len.min(text.len())], expected);
+        tally.note(rt, is_right, cuts.name, cuts.line)?;
+    }
+    Ok(())
+}
+
+/// Checks the inputs of a line of `cuts.tsv`, which are cut from this text.
+fn try_cuts_of<R: Eprint>(
     rt: &R,
     alloc: Global,
     tally: &mut Tally,
     entries: &[Entry],
-    line: &str,
+    cuts: &Cuts<'_>,
+    text: &[u8],
 ) -> io::Result<()> {
-    let fields = fields(alloc, line)?;
-    let name = field(&fields, 0)?;
-    let form = form_of(name);
-    let text = content(rt, alloc, name)?;
-    let answer = field(&fields, 3)?;
-    let refused = Expected::fault(alloc, answer)?;
-    let expected = if answer == "model" {
-        &entry_of_text(entries, form, &text)?.expected
-    } else {
-        &refused
-    };
-    for len in number(&fields, 1)?..=number(&fields, 2)? {
-        let cut = &text[..len.min(text.len())];
-        tally.note(rt, is_converted(alloc, form, cut, expected), name, line)?;
+    if cuts.answer == "model" {
+        let entry = entry_of_text(entries, cuts.form(), text)?;
+        return try_each_cut(rt, alloc, tally, cuts, text, &entry.expected);
     }
-    Ok(())
+    let expected = Expected::fault(alloc, cuts.answer)?;
+    try_each_cut(rt, alloc, tally, cuts, text, &expected)
 }
 
 fn try_cuts<R: Files + Print + Eprint>(
@@ -249,7 +286,9 @@ fn try_cuts<R: Files + Print + Eprint>(
 ) -> io::Result<bool> {
     let mut tally = Tally::new();
     for line in table(rt, alloc, "cuts.tsv")?.as_str().lines().skip(1) {
-        try_cuts_of(rt, alloc, &mut tally, entries, line)?;
+        let cuts = Cuts::of_line(alloc, line)?;
+        let text = content(rt, alloc, cuts.name)?;
+        try_cuts_of(rt, alloc, &mut tally, entries, &cuts, &text)?;
     }
     tally.end(rt, "cuts")
 }
@@ -338,17 +377,29 @@ fn try_long_lines<R: Files + Print + Eprint>(
     tally.end(rt, "long lines")
 }
 
-/// Checks each line of the tables of numbers.
-fn try_numbers<R: Files + Print + Eprint>(rt: &R, alloc: Global) -> io::Result<bool> {
-    let mut tally = Tally::new();
+/// Checks each line of `literals.tsv`.
+fn try_literals<R: Files + Eprint>(rt: &R, alloc: Global, tally: &mut Tally) -> io::Result<()> {
     for line in table(rt, alloc, "literals.tsv")?.as_str().lines().skip(1) {
         let is_right = is_read(&fields(alloc, line)?)?;
         tally.note(rt, is_right, line, "literal")?;
     }
+    Ok(())
+}
+
+/// Checks each line of `sums.tsv`.
+fn try_sums<R: Files + Eprint>(rt: &R, alloc: Global, tally: &mut Tally) -> io::Result<()> {
     for line in table(rt, alloc, "sums.tsv")?.as_str().lines().skip(1) {
         let is_right = is_sum(&fields(alloc, line)?)?;
         tally.note(rt, is_right, line, "sum")?;
     }
+    Ok(())
+}
+
+/// Checks each line of the tables of numbers.
+fn try_numbers<R: Files + Print + Eprint>(rt: &R, alloc: Global) -> io::Result<bool> {
+    let mut tally = Tally::new();
+    try_literals(rt, alloc, &mut tally)?;
+    try_sums(rt, alloc, &mut tally)?;
     tally.end(rt, "numbers")
 }
 

@@ -106,6 +106,21 @@ impl Expected {
         })
     }
 
+    /// The results of the input of a line of the index.
+    fn of_fields<R: Files>(rt: &R, alloc: Global, fields: &[&str]) -> io::Result<Expected> {
+        let answer = field(fields, 2)?;
+        if answer != "model" {
+            return Ok(Expected::fault(alloc, answer)?);
+        }
+        Expected::of_model(
+            rt,
+            alloc,
+            field(fields, 3)?,
+            field(fields, 4)?,
+            field(fields, 5)?,
+        )
+    }
+
     fn of_model<R: Files>(
         rt: &R,
         alloc: Global,
@@ -127,25 +142,17 @@ impl Expected {
 
 impl Entry {
     fn of_line<R: Files>(rt: &R, alloc: Global, line: &str) -> io::Result<Entry> {
-        let fields = fields(alloc, line)?;
-        let name = field(&fields, 1)?;
-        let answer = field(&fields, 2)?;
-        let expected = if answer == "model" {
-            Expected::of_model(
-                rt,
-                alloc,
-                field(&fields, 3)?,
-                field(&fields, 4)?,
-                field(&fields, 5)?,
-            )?
-        } else {
-            Expected::fault(alloc, answer)?
-        };
+        Entry::of_fields(rt, alloc, &fields(alloc, line)?)
+    }
+
+    fn of_fields<R: Files>(rt: &R, alloc: Global, fields: &[&str]) -> io::Result<Entry> {
+        let name = field(fields, 1)?;
+        let text = content(rt, alloc, name)?;
         Ok(Entry {
             name: String::from_str(alloc, name)?,
             form: form_of(name),
-            text: content(rt, alloc, name)?,
-            expected,
+            text,
+            expected: Expected::of_fields(rt, alloc, fields)?,
         })
     }
 
