@@ -157,15 +157,21 @@ def take_programs(crate: str) -> None:
             shutil.copy2(file, to.with_name(f"{to.name}.part")).replace(to)
 
 
-def mark_program() -> None:
-    """Records that the program of `rt ci` is the proved one of these sources, so that `make` and `make run` use it."""
-    crates = below(crates_of_repository(), PROGRAM)
-    mark(crates[-1], sums_of(crates)[PROGRAM])
+def sum_of_program() -> str:
+    """A checksum of everything that the proof of the program reads."""
+    return sums_of(below(crates_of_repository(), PROGRAM))[PROGRAM]
+
+
+def mark_program(sum: str) -> None:
+    """Records that the program of `rt ci` is the proved one of the sources with this checksum, so that `make` and `make run` use it."""
+    mark(crates_of_repository()[PROGRAM], sum)
 
 
 def prove_all(report: Report, proved: set[str]) -> tuple[bool, str]:
     """Runs `rt ci`, and returns whether it passed, and its closing line. Adds the name of each crate that it has proved."""
     log, closing = LOGS / "rt-ci.log", ""
+    # That of the sources which are copied, whatever is edited while they are proved.
+    sum = sum_of_program()
     # With RT_JOBS each proof has one process. With several a proof takes up to a third more processor time, and the mutants use what
     # the proofs leave idle.
     environment = {**os.environ, "RT_JOBS": str(default_lanes())}
@@ -180,7 +186,7 @@ def prove_all(report: Report, proved: set[str]) -> tuple[bool, str]:
                 report.say(f"{found[1]}: proved")
                 take_programs(found[1])
                 if found[1] == PROGRAM:
-                    mark_program()
+                    mark_program(sum)
                 proved.add(found[1])
             elif found := TESTS_PROVED.match(line):
                 report.say(f"{found[1]}: its tests proved")
@@ -192,7 +198,7 @@ def prove_all(report: Report, proved: set[str]) -> tuple[bool, str]:
     if passed:
         for crate in crates_of_repository():
             take_programs(crate)
-        mark_program()
+        mark_program(sum)
     else:
         show_failures(log)
     return passed, closing or "0 passed, 1 failed"

@@ -283,6 +283,32 @@ class Gate(unittest.TestCase):
     def test_scripts_run_after_rt_ci_if_nothing_ran_beside_it(self) -> None:
         self.assertEqual(self.tally(ci_passes=True), gate.Tally(passed=4, failed=1))
 
+    def test_a_program_is_marked_with_the_sum_of_the_sources_that_were_copied(self) -> None:
+        marks, sums = [], iter(("of what was copied", "of what was edited since"))
+        with tempfile.TemporaryDirectory() as name:
+            root = Path(name)
+            copy = root / "build" / "ci"
+            for top in (root, copy):
+                (top / "crates" / gate.PROGRAM / "out").mkdir(parents=True)
+            (copy / "crates" / gate.PROGRAM / "out" / gate.PROGRAM).write_text("proved\n")
+            kit = root / "rt"
+            kit.write_text(f"#!/bin/sh\necho 'rt: {gate.PROGRAM} proved'\necho 'rt: ok'\necho '1 passed, 0 failed'\n")
+            kit.chmod(0o755)
+            proved: set[str] = set()
+            with patch.multiple(
+                gate,
+                ROOT=root,
+                COPY=copy,
+                LOGS=root,
+                crates_of_repository=lambda: {gate.PROGRAM: gate.Crate(gate.PROGRAM, "", (), ())},
+                sum_of_program=lambda: next(sums),
+                mark=lambda crate, sum: marks.append((crate.name, sum)),
+            ), patch.dict(os.environ, PATH=f"{root}:{os.environ['PATH']}"), open(os.devnull, "w") as silent, patch("sys.stdout", silent):
+                result = gate.prove_all(gate.Report(), proved)
+            self.assertEqual((result, proved), ((True, "1 passed, 0 failed"), {gate.PROGRAM}))
+            self.assertEqual((root / "crates" / gate.PROGRAM / "out" / gate.PROGRAM).read_text(), "proved\n")
+            self.assertEqual({*marks}, {(gate.PROGRAM, "of what was copied")})
+
     def test_what_is_not_run_counts_as_failed(self) -> None:
         self.assertEqual(self.tally(ci_passes=False), gate.Tally(passed=2, failed=3))
 
