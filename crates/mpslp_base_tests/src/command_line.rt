@@ -158,7 +158,7 @@ fn words_ask_for_jobs(rt: HostRuntime) -> Result<(), Fail> {
 }
 
 #[test]
-fn words_that_are_no_command_are_told(rt: HostRuntime) -> Result<(), Fail> {
+fn words_that_are_no_command_are_reported(rt: HostRuntime) -> Result<(), Fail> {
     assert_eq!(rt; first_wrong(rt.alloc(), USAGES)?, None);
     Ok(())
 }
@@ -170,7 +170,7 @@ fn help_and_version_are_texts(rt: HostRuntime) -> Result<(), Fail> {
 }
 
 #[test]
-fn the_first_unknown_format_is_told(rt: HostRuntime) -> Result<(), Fail> {
+fn the_first_unknown_format_is_reported(rt: HostRuntime) -> Result<(), Fail> {
     assert_eq!(rt; first_wrong(rt.alloc(), UNKNOWN)?, None);
     Ok(())
 }

@@ -29,7 +29,7 @@ fn first_with<'a>(
 }
 
 #[test]
-fn tells_names_that_are_legal_in_lp(rt: HostRuntime) -> Result<(), Fail> {
+fn finds_names_that_are_legal_in_lp(rt: HostRuntime) -> Result<(), Fail> {
     let refused = first_with(rt.alloc(), LEGAL, false)?;
     let taken = first_with(rt.alloc(), OTHERS, true)?;
     assert_eq!(rt; (refused, taken), (None, None));

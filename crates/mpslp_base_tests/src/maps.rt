@@ -78,7 +78,7 @@ fn with_room(alloc: Global) -> Result<SortedMap<Name, u8>, Fail> {
 }
 
 #[test]
-fn entries_stand_in_byte_order(rt: HostRuntime) -> Result<(), Fail> {
+fn entries_are_in_byte_order(rt: HostRuntime) -> Result<(), Fail> {
     let (counts, places, value) = of_entries(with_room(rt.alloc())?);
     assert_eq!(rt; counts, [3, 3]);
     assert_eq!(rt; places, [Some(0), Some(2), None]);
@@ -107,7 +107,7 @@ fn of_numbers(map: SortedMap<u32, u8>) -> (usize, [bool; 2], Option<usize>) {
 }
 
 #[test]
-fn numbers_stand_in_their_order(rt: HostRuntime) -> Result<(), Fail> {
+fn numbers_are_in_their_order(rt: HostRuntime) -> Result<(), Fail> {
     let (length, ends, place) = of_numbers(two_numbers(rt.alloc())?);
     assert!(rt; empty_ends_below_0(rt.alloc()));
     assert_eq!(rt; (length, ends, place), (2, [true, false], Some(1)));

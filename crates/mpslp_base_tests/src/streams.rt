@@ -135,7 +135,7 @@ fn a_buffer_without_room_is_a_read(rt: HostRuntime) {
 }
 
 #[test]
-fn a_failure_without_room_is_told(rt: HostRuntime) {
+fn a_failure_without_room_is_reported(rt: HostRuntime) {
     let mut source = FromRead::new(FailingReader {
         fails_in: 1,
         reads: 0,
@@ -226,7 +226,7 @@ fn fails_in_flush<S: Sink>(sink: &mut S) -> bool {
 }
 
 #[test]
-fn a_flush_that_fails_is_told(rt: HostRuntime) {
+fn a_flush_that_fails_is_reported(rt: HostRuntime) {
     let mut writer = FailingWriter::new(rt.alloc(), 3, Refusal::HasError);
     assert!(rt; fails_in_flush(&mut ToWrite::new(&mut writer)));
     assert_eq!(rt; writer.calls, 2);

@@ -44,14 +44,14 @@ first_answered (first ∷ later) fault P Q h q = (h, q)
 
 -- the result of a query is passed on
 pub handed_on : (faults : List BuildFault) (answer : Answer) (fault : BuildFault) (P Q : Type 0)
-    → IsErrAnd answer (λ told. told ≡ fault) → Err fault ≡ first_refusal faults → Q → Answers faults answer P Q
-handed_on faults (Ok x) fault P Q told first q = absurd told
-handed_on faults (Err e) fault P Q told first q = first_answered faults e P Q (cc) q
+    → IsErrAnd answer (λ stated. stated ≡ fault) → Err fault ≡ first_refusal faults → Q → Answers faults answer P Q
+handed_on faults (Ok x) fault P Q stated first q = absurd stated
+handed_on faults (Err e) fault P Q stated first q = first_answered faults e P Q (cc) q
 
 -- if there is no error, none is returned
-pub none_told : {X : Type 0} (faults : List BuildFault) (fault : BuildFault) → faults ≡ [] → Err fault ≡ first_refusal faults → X
-none_told [] fault none told = absurd cc
-none_told (first ∷ later) fault none told = absurd cc
+pub none_reported : {X : Type 0} (faults : List BuildFault) (fault : BuildFault) → faults ≡ [] → Err fault ≡ first_refusal faults → X
+none_reported [] fault none stated = absurd cc
+none_reported (first ∷ later) fault none stated = absurd cc
 
 -- there is no error, and the declaration is made
 pub declared : (faults : List BuildFault) (P Q : Type 0) → faults ≡ [] → P → Answers faults (Ok tt) P Q
@@ -63,10 +63,10 @@ pub no_memory : (faults : List BuildFault) (P Q : Type 0) → faults ≡ [] → 
 no_memory [] P Q h q = (refl, q)
 no_memory (first ∷ later) P Q h q = cc
 
-pub want_of_memory : (faults : List BuildFault) (answer : Answer) (P Q : Type 0) → IsErrAnd answer (λ told. told ≡ OutOfMemory) → faults ≡ [] → Q
+pub want_of_memory : (faults : List BuildFault) (answer : Answer) (P Q : Type 0) → IsErrAnd answer (λ stated. stated ≡ OutOfMemory) → faults ≡ [] → Q
     → Answers faults answer P Q
-want_of_memory faults (Ok x) P Q told none q = absurd told
-want_of_memory faults (Err e) P Q told none q = subst (λ (t : BuildFault). Answers faults (Err t) P Q) (sym told) (no_memory faults P Q none q)
+want_of_memory faults (Ok x) P Q stated none q = absurd stated
+want_of_memory faults (Err e) P Q stated none q = subst (λ (t : BuildFault). Answers faults (Err t) P Q) (sym stated) (no_memory faults P Q none q)
 
 -- ---- what is known if a call has no error
 

@@ -32,20 +32,20 @@ abbrev pub fixed : Kind → (Number → Number → Bool) → Number → Number �
 fixed Semi same l u = false
 fixed _ same l u = same l u
 
-abbrev pub lower_told : Kind → Limit → Limit → (Number → Number → Bool) → Option Limit
-lower_told kind MinusInf _ same = Some MinusInf
-lower_told kind (Finite l) (Finite u) same = if fixed kind same l u then Some (Finite u) else unless_zero l
-lower_told kind (Finite l) _ same = unless_zero l
-lower_told kind PlusInf _ same = None
+abbrev pub lower_stated : Kind → Limit → Limit → (Number → Number → Bool) → Option Limit
+lower_stated kind MinusInf _ same = Some MinusInf
+lower_stated kind (Finite l) (Finite u) same = if fixed kind same l u then Some (Finite u) else unless_zero l
+lower_stated kind (Finite l) _ same = unless_zero l
+lower_stated kind PlusInf _ same = None
 
 -- an upper bound: plus infinity is printed if both bounds are infinite, and for integer columns
-abbrev pub upper_told : Kind → Limit → Limit → Option Limit
-upper_told kind _ (Finite u) = Some (Finite u)
-upper_told kind MinusInf PlusInf = Some PlusInf
-upper_told Integer _ PlusInf = Some PlusInf
-upper_told Continuous _ PlusInf = None
-upper_told Semi _ PlusInf = None
-upper_told kind _ MinusInf = None
+abbrev pub upper_stated : Kind → Limit → Limit → Option Limit
+upper_stated kind _ (Finite u) = Some (Finite u)
+upper_stated kind MinusInf PlusInf = Some PlusInf
+upper_stated Integer _ PlusInf = Some PlusInf
+upper_stated Continuous _ PlusInf = None
+upper_stated Semi _ PlusInf = None
+upper_stated kind _ MinusInf = None
 
 -- the column follows from its type and bounds
 pub column_of-is : (all : Draft) (name : List ℕ) (column : Column) → is_integer all name ≡ is_integer_kind column.kind → is_semi all name ≡ is_semi_kind column.kind → lower_bound all name ≡ column.lower
@@ -78,7 +78,7 @@ module _ (same : Number → Number → Bool) where
 
   -- a lower bound follows from what is printed and the default
   pub lower_back : (kind : Kind) (l u : Limit) → is_lower_side l ≡ true → ((a b : Number) → l ≡ Finite a → u ≡ Finite b → same a b ≡ true → a ≡ b)
-      → ((a : Number) → l ≡ Finite a → is_zero a ≡ true → a ≡ zero_number) → unwrap_or (lower_told kind l u same) zero_limit ≡ l
+      → ((a : Number) → l ≡ Finite a → is_zero a ≡ true → a ≡ zero_number) → unwrap_or (lower_stated kind l u same) zero_limit ≡ l
   lower_back kind MinusInf u h s z = refl
   lower_back kind (Finite l) MinusInf h s z = lower_unless l (is_zero l) refl (z l refl)
   lower_back kind (Finite l) (Finite u) h s z = lower_either kind l u (fixed kind same l u) refl (s l u refl refl) (z l refl)
@@ -87,7 +87,7 @@ module _ (same : Number → Number → Bool) where
 
   -- the default is 1 only for a marked column without a printed bound
   pub upper_back : (kind : Kind) (l u : Limit) → is_upper_side u ≡ true
-      → unwrap_or (upper_told kind l u) (if is_integer_kind kind && (is_none (lower_told kind l u same) && is_none (upper_told kind l u)) then one_limit else PlusInf) ≡ u
+      → unwrap_or (upper_stated kind l u) (if is_integer_kind kind && (is_none (lower_stated kind l u same) && is_none (upper_stated kind l u)) then one_limit else PlusInf) ≡ u
   upper_back kind l MinusInf h = cc
   upper_back kind MinusInf (Finite u) h = refl
   upper_back kind (Finite l) (Finite u) h = refl
@@ -101,8 +101,8 @@ module _ (same : Number → Number → Bool) where
   upper_back Semi PlusInf PlusInf h = refl
 
   -- a draft with these bounds of a column, and its mark or its semi-continuous type, gives the column back
-  pub column_back : (all : Draft) (name : List ℕ) (column : Column) → at_name all.lowers name ≡ lower_told column.kind column.lower column.upper same
-      → at_name all.uppers name ≡ upper_told column.kind column.lower column.upper → has_name all.marked name ≡ is_integer_kind column.kind
+  pub column_back : (all : Draft) (name : List ℕ) (column : Column) → at_name all.lowers name ≡ lower_stated column.kind column.lower column.upper same
+      → at_name all.uppers name ≡ upper_stated column.kind column.lower column.upper → has_name all.marked name ≡ is_integer_kind column.kind
       → has_name all.integers name ≡ false → has_name all.binaries name ≡ false → has_name all.semis name ≡ is_semi_kind column.kind → is_lower_side column.lower ≡ true → is_upper_side column.upper ≡ true
       → ((a b : Number) → column.lower ≡ Finite a → column.upper ≡ Finite b → same a b ≡ true → a ≡ b) → ((a : Number) → column.lower ≡ Finite a → is_zero a ≡ true → a ≡ zero_number)
       → column_of all name ≡ column

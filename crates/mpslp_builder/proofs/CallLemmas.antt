@@ -10,7 +10,7 @@ use Rattle.mpslp_model_core.specs.Limits.{RowDefinition, is_definition_by_limits
 use Rattle.mpslp_model_core.proofs.CellLemmas.{at}
 use Rattle.mpslp_builder.specs.Declaration.{with_declaration, with_declarations, declare_row, declare_objective, declare_column, declare_coefficient, declare_rhs, declare_range, declare_marked, declare_integer, declare_binary, declare_semi, bounds_declared, has_row, has_column, has_coefficient}
 use Rattle.mpslp_builder.specs.Tables.{cells_of, name_of_objective, draft_from, draft, AreNumbered, IsNumbered}
-use Rattle.mpslp_builder.specs.Calls.{row_key_of, row_name, row_tells, column_name, new_column, with_cell, with_bounds, IsOnceEach, IsSameTables, HasObjective, HasRowAdded, HasRowChanged, HasColumnAdded, HasColumnChanged, HasObjectiveChanged, HasRhsPut}
+use Rattle.mpslp_builder.specs.Calls.{row_key_of, row_name, row_satisfies, column_name, new_column, with_cell, with_bounds, IsOnceEach, IsSameTables, HasObjective, HasRowAdded, HasRowChanged, HasColumnAdded, HasColumnChanged, HasObjectiveChanged, HasRhsPut}
 use Rattle.mpslp_builder_parts.specs.declared.parts.ObjectiveParts.{ObjectiveParts}
 use Rattle.mpslp_builder_parts.specs.RowParts.{RowParts}
 use Rattle.mpslp_builder_parts.specs.declared.parts.ColumnParts.{ColumnParts}
@@ -116,7 +116,7 @@ module _ (sense : Option Sense) (constant : Option Number) (t u : Tables) where
 
   -- a right-hand side that was not declared
   pub rhs_added : IsNumbered t → IsOnceEach t → (p : RowRef) (r : List ℕ) (x : Number) (b : Bool) → row_name t (row_key_of p) ≡ Some r
-      → row_tells t p (λ o. is_some o.rhs || b) (λ row. is_some row.rhs || is_definition_by_limits row.definition) ≡ false → HasRhsPut t p x u
+      → row_satisfies t p (λ o. is_some o.rhs || b) (λ row. is_some row.rhs || is_definition_by_limits row.definition) ≡ false → HasRhsPut t p x u
       → draft sense constant u ≡ with_declaration (draft sense constant t) (declare_rhs r x)
   rhs_added numbered once Objective r x b is absent h =
       let none = ap (λ (o : Option ObjectiveParts). option_map_or (λ o. is_some o.rhs || b) o false) (sym h.was) ∙ absent in

@@ -27,13 +27,13 @@ use Rattle.mpslp_builder.proofs.MeaningFromNoFault.{sorted-filtered}
 -- ---- the part of a list that passes a test
 
 -- if none of the first ones passes, the result is that of the others
-filter_behind : {X : Type 0} (q : X → Bool) (xs : List X) (i : ℕ) → i ≤ length xs
+filter_after : {X : Type 0} (q : X → Bool) (xs : List X) (i : ℕ) → i ≤ length xs
     → AllWithin (λ x. q x ≡ false) xs 0 i → filter q xs ≡ filter q (drop i xs)
-filter_behind q xs zero le none = refl
-filter_behind q [] (suc i) le none = absurd (omega arith)
-filter_behind {X} q (x ∷ xs) (suc i) le none =
+filter_after q xs zero le none = refl
+filter_after q [] (suc i) le none = absurd (omega arith)
+filter_after {X} q (x ∷ xs) (suc i) le none =
     ap (λ (b : Bool). cond b (x ∷ filter q xs) (filter q xs)) (none 0 x (omega arith) (omega arith))
-    ∙ filter_behind q xs i (omega arith) (λ k d low high. none (suc k) d (omega arith) (omega arith))
+    ∙ filter_after q xs i (omega arith) (λ k d low high. none (suc k) d (omega arith) (omega arith))
 
 filter_none : {X : Type 0} (q : X → Bool) (xs : List X) → AllWithin (λ x. q x ≡ false) xs 0 (length xs) → filter q xs ≡ []
 filter_none q [] none = refl
@@ -203,7 +203,7 @@ module _ {X : Type 0} where
   -- those of the column come next
   pub own_parted : (column : List ℕ) (es : List (CoefficientKey × X)) (start : ℕ) → is_sorted key_cmp es ≡ true
       → AllWithin (λ e. is_gt (bytes_cmp column e.0.column) ≡ false) es start (length es) → IsPartitionedBy (λ e. same_bytes column e.0.column) (drop start es)
-  own_parted column es start sorted behind i j d le in' own =
+  own_parted column es start sorted following i j d le in' own =
       let x = get_or es (start + i) d in
       let y = get_or es (start + j) d in
       let longer : length (drop start es) ≡ length es - start = length-drop start es in
@@ -212,7 +212,7 @@ module _ {X : Type 0} where
       let same : CoefficientKey × X → Bool = λ e. same_bytes column e.0.column in
       let tie : is_eq (bytes_cmp column y.0.column) ≡ true = sym (texts_ties column y.0.column) ∙ ap same (sym (get_or-drop start es j d)) ∙ own in
       ap same (get_or-drop start es i d) ∙ texts_ties column x.0.column
-      ∙ ties_too bytes_cmp nat_list_cmp_total column x.0.column y.0.column rise (behind (start + i) d (omega arith) (omega arith)) tie
+      ∙ ties_too bytes_cmp nat_list_cmp_total column x.0.column y.0.column rise (following (start + i) d (omega arith) (omega arith)) tie
 
   -- a lower column is not the column
   lower_fails : (column : List ℕ) (e : CoefficientKey × X) → is_gt (bytes_cmp column e.0.column) ≡ true → same_bytes column e.0.column ≡ false
@@ -225,7 +225,7 @@ module _ {X : Type 0} where
       → take count (drop start es) ≡ filter (λ e. same_bytes column e.0.column) es
   own_part column es start count le few lower own =
       let same : CoefficientKey × X → Bool = λ e. same_bytes column e.0.column in
-      sym (filter_behind same es start le (λ k d low high. lower_fails column (get_or es k d) (lower.0 k d low high))
+      sym (filter_after same es start le (λ k d low high. lower_fails column (get_or es k d) (lower.0 k d low high))
       ∙ filter_front same (drop start es) count few own)
 
   -- they are sorted
@@ -274,7 +274,7 @@ before_left_out xs i k d below in' =
     let long : length (remove xs i) + 1 ≡ length xs = length-remove xs i in' in
     slice_get-get_or (remove xs i) k d (omega arith) ∙ ap Some (get_or-remove_below xs i d k below in') ∙ sym (slice_get-get_or xs k d (omega arith))
 
-pub behind_left_out : {X : Type 0} (xs : List X) (i k : ℕ) (d : X) → i ≤ k → i < length xs → k + 1 < length xs → slice_get (remove xs i) k ≡ slice_get xs (k + 1)
-behind_left_out xs i k d above in' inside =
+pub after_left_out : {X : Type 0} (xs : List X) (i k : ℕ) (d : X) → i ≤ k → i < length xs → k + 1 < length xs → slice_get (remove xs i) k ≡ slice_get xs (k + 1)
+after_left_out xs i k d above in' inside =
     let long : length (remove xs i) + 1 ≡ length xs = length-remove xs i in' in
     slice_get-get_or (remove xs i) k d (omega arith) ∙ ap Some (get_or-remove_above xs i d k above in') ∙ sym (slice_get-get_or xs (k + 1) d inside)

@@ -32,10 +32,10 @@ module _ {K : Type 0} (same : K → K → Bool) where
   pub distinct-append : (xs ys : List K) → are_distinct same xs ≡ true → are_distinct same ys ≡ true → Each (λ x. IsNew x ys) xs → are_distinct same (xs ++ ys) ≡ true
   distinct-append [] ys h k apart = k
   distinct-append (x ∷ xs) ys h k apart =
-      let alone = list_any (λ later. same later x) xs in
-      let here = not_of alone (first_so (not alone) (are_distinct same xs) h) in
+      let only = list_any (λ later. same later x) xs in
+      let here = not_of only (first_so (not only) (are_distinct same xs) h) in
       both (not (list_any (λ later. same later x) (xs ++ ys))) (are_distinct same (xs ++ ys)) (ap not (new_append x xs ys here apart.0))
-      (distinct-append xs ys (second_so (not alone) (are_distinct same xs) h) k apart.1)
+      (distinct-append xs ys (second_so (not only) (are_distinct same xs) h) k apart.1)
 
   new_flat : {X : Type 0} (f : X → List K) (k : K) (xs : List X) → Each (λ x. IsNew k (f x)) xs → IsNew k (flat_map f xs)
   new_flat f k [] h = refl

@@ -10,7 +10,7 @@ use Rattle.mpslp_decimal.specs.Decimal.{Number, negated, zero_number}
 use Rattle.mpslp_types.specs.Name.{bytes_cmp}
 use Rattle.mpslp_types.specs.declared.kinds.Sense.{Sense}
 use Rattle.mpslp_types.proofs.EachLemmas.{Each, Each-weaker}
-use Rattle.mpslp_model_core.specs.Numbered.{sorted_of, each_part, given_parts, TellsApart}
+use Rattle.mpslp_model_core.specs.Numbered.{sorted_of, each_part, given_parts, IsInjective}
 use Rattle.mpslp_model_core.proofs.KeyLemmas.{bytes_total}
 use Rattle.mpslp_model_core.proofs.SortedLemmas.{find-sorted_of}
 use Rattle.mpslp_model_core.proofs.CellLemmas.{or_else, find-two, name_same, name_tied}
@@ -55,7 +55,7 @@ apart_rows o (e ∷ rows) h = (
   apart_rows o rows (λ i d is same. h (suc i) d is same),
 )
 
-pub objective_says : (o : ObjectiveParts) (rows : List (List ℕ × RowParts)) → TellsApart (name_of_row_key (Some o) rows) → at_name (sorted_of bytes_cmp (objective_rhs (Some o) ++ given_parts rhs_of rows)) o.name ≡ o.rhs
+pub objective_says : (o : ObjectiveParts) (rows : List (List ℕ × RowParts)) → IsInjective (name_of_row_key (Some o) rows) → at_name (sorted_of bytes_cmp (objective_rhs (Some o) ++ given_parts rhs_of rows)) o.name ≡ o.rhs
 objective_says o rows apart =
     let given = given_parts rhs_of rows in
     let none : find bytes_cmp o.name given ≡ None = no_part-found rhs_of o.name rows
@@ -66,7 +66,7 @@ objective_says o rows apart =
       | Some value ↦ ap (λ (b : Bool). or_else (cond b (Some value) None) (find bytes_cmp o.name given)) (name_tied o.name o.name refl)
     ]
 
-pub constant_is : (sense : Option Sense) (constant : Option Number) (objective : Option ObjectiveParts) (rows : List (List ℕ × RowParts)) (columns : List (List ℕ × ColumnParts)) → is_some objective ≡ true → TellsApart (name_of_row_key objective rows)
+pub constant_is : (sense : Option Sense) (constant : Option Number) (objective : Option ObjectiveParts) (rows : List (List ℕ × RowParts)) (columns : List (List ℕ × ColumnParts)) → is_some objective ≡ true → IsInjective (name_of_row_key objective rows)
     → unwrap_or constant (negated (unwrap_or (rhs_in objective) zero_number)) ≡ constant_of (draft_from sense constant objective rows columns)
 constant_is sense constant None rows columns there apart = cc
 constant_is sense constant (Some o) rows columns there apart = ap (λ (r : Option Number). unwrap_or constant (negated (unwrap_or r zero_number))) (sym (objective_says o rows apart))

@@ -18,14 +18,14 @@ first_there (Some x) other = Some x
 first_there None other = other
 
 -- what a value makes, if there is one
-abbrev pub then_told : {X V : Type 0} → (X → Option V) → Option X → Option V
-then_told f None = None
-then_told f (Some x) = f x
+abbrev pub then_stated : {X V : Type 0} → (X → Option V) → Option X → Option V
+then_stated f None = None
+then_stated f (Some x) = f x
 
 -- an entry, if there is a value
-abbrev pub told : {K V : Type 0} → K → Option V → List (K × V)
-told key None = []
-told key (Some value) = (key, value) ∷ []
+abbrev pub stated : {K V : Type 0} → K → Option V → List (K × V)
+stated key None = []
+stated key (Some value) = (key, value) ∷ []
 
 below_not_tied : (r : Ordering) → is_lt r ≡ true → is_eq r ≡ false
 below_not_tied Less h = refl
@@ -146,17 +146,17 @@ module _ {K X : Type 0} (R : K → K → Ordering) where
 
     -- what is found among the entries whose values are kept
     pub find-kept : (keep : X → Bool) (q : K) (es : List (K × X)) → is_sorted R es ≡ true
-        → find R q (filter (λ e. keep e.1) es) ≡ then_told (λ x. cond (keep x) (Some x) None) (find R q es)
+        → find R q (filter (λ e. keep e.1) es) ≡ then_stated (λ x. cond (keep x) (Some x) None) (find R q es)
     find-kept keep q [] h = refl
     find-kept keep q (e ∷ es) h = by (eq_by_cmp R q e.0) refl (find-kept keep q es (second_so (below_all R e.0 es) (is_sorted R es) h))
       where
-        by : (b : Bool) → eq_by_cmp R q e.0 ≡ b → find R q (filter (λ x. keep x.1) es) ≡ then_told (λ x. cond (keep x) (Some x) None) (find R q es)
-            → find R q (cond (keep e.1) (e ∷ filter (λ x. keep x.1) es) (filter (λ x. keep x.1) es)) ≡ then_told (λ x. cond (keep x) (Some x) None) (cond b (Some e.1) (find R q es))
+        by : (b : Bool) → eq_by_cmp R q e.0 ≡ b → find R q (filter (λ x. keep x.1) es) ≡ then_stated (λ x. cond (keep x) (Some x) None) (find R q es)
+            → find R q (cond (keep e.1) (e ∷ filter (λ x. keep x.1) es) (filter (λ x. keep x.1) es)) ≡ then_stated (λ x. cond (keep x) (Some x) None) (cond b (Some e.1) (find R q es))
         by true tie more = elim (keep e.1) as (λ k. find R q (cond k (e ∷ filter (λ x. keep x.1) es) (filter (λ x. keep x.1) es)) ≡ cond k (Some e.1) None) [
           | true ↦ ap (λ (b : Bool). cond b (Some e.1) (find R q (filter (λ x. keep x.1) es))) tie
-          | false ↦ more ∙ ap (then_told (λ x. cond (keep x) (Some x) None)) (none-tied q e.0 es tie (first_so (below_all R e.0 es) (is_sorted R es) h))
+          | false ↦ more ∙ ap (then_stated (λ x. cond (keep x) (Some x) None)) (none-tied q e.0 es tie (first_so (below_all R e.0 es) (is_sorted R es) h))
         ]
-        by false tie more = elim (keep e.1) as (λ k. find R q (cond k (e ∷ filter (λ x. keep x.1) es) (filter (λ x. keep x.1) es)) ≡ then_told (λ x. cond (keep x) (Some x) None) (find R q es)) [
+        by false tie more = elim (keep e.1) as (λ k. find R q (cond k (e ∷ filter (λ x. keep x.1) es) (filter (λ x. keep x.1) es)) ≡ then_stated (λ x. cond (keep x) (Some x) None) (find R q es)) [
           | true ↦ ap (λ (b : Bool). cond b (Some e.1) (find R q (filter (λ x. keep x.1) es))) tie ∙ more
           | false ↦ more
         ]
@@ -180,44 +180,44 @@ module _ {K X : Type 0} (R : K → K → Ordering) where
         no_none : false ≡ true → ⊥
         no_none e = cc
 
-        alike : (q : K) (f : Option X) → find R q (puts R es []) ≡ f → then_told (λ x. cond (keep x) (Some x) None) f ≡ find R q target
+        alike : (q : K) (f : Option X) → find R q (puts R es []) ≡ f → then_stated (λ x. cond (keep x) (Some x) None) f ≡ find R q target
         alike q (Some x) is = sym (found-puts (λ k v. find R k target ≡ cond (keep v) (Some v) None) es [] own (λ k y none. absurd (never y none)) q x is)
         alike q None is = none_of (find R q target) (λ there. no_none (sym (ap is_some is) ∙ some-puts q es [] (all q there)))
 
 -- the entries that some elements make
-abbrev pub all_told : {K X V : Type 0} → (X → Option V) → List (K × X) → List (K × V)
-all_told f xs = flat_map (λ x. told x.0 (f x.1)) xs
+abbrev pub all_stated : {K X V : Type 0} → (X → Option V) → List (K × X) → List (K × V)
+all_stated f xs = flat_map (λ x. stated x.0 (f x.1)) xs
 
 module _ {K X V : Type 0} (R : K → K → Ordering) (f : X → Option V) where
-  below-told : (k : K) (xs : List (K × X)) → below_all R k xs ≡ true → below_all R k (all_told f xs) ≡ true
-  below-told k [] h = refl
-  below-told k (x ∷ xs) h =
-      let rest = below-told k xs (second_so (is_lt (R k x.0)) (below_all R k xs) h) in
-      elim (f x.1) as (λ v. below_all R k (told x.0 v ++ all_told f xs) ≡ true) [
+  below-stated : (k : K) (xs : List (K × X)) → below_all R k xs ≡ true → below_all R k (all_stated f xs) ≡ true
+  below-stated k [] h = refl
+  below-stated k (x ∷ xs) h =
+      let rest = below-stated k xs (second_so (is_lt (R k x.0)) (below_all R k xs) h) in
+      elim (f x.1) as (λ v. below_all R k (stated x.0 v ++ all_stated f xs) ≡ true) [
         | None ↦ rest
-        | Some v ↦ both_so (is_lt (R k x.0)) (below_all R k (all_told f xs)) (first_so (is_lt (R k x.0)) (below_all R k xs) h) rest
+        | Some v ↦ both_so (is_lt (R k x.0)) (below_all R k (all_stated f xs)) (first_so (is_lt (R k x.0)) (below_all R k xs) h) rest
       ]
 
   -- entries that some of sorted ones make are sorted
-  pub sorted-told : (xs : List (K × X)) → is_sorted R xs ≡ true → is_sorted R (all_told f xs) ≡ true
-  sorted-told [] h = refl
-  sorted-told (x ∷ xs) h =
-      let rest = sorted-told xs (second_so (below_all R x.0 xs) (is_sorted R xs) h) in
-      elim (f x.1) as (λ v. is_sorted R (told x.0 v ++ all_told f xs) ≡ true) [
+  pub sorted-stated : (xs : List (K × X)) → is_sorted R xs ≡ true → is_sorted R (all_stated f xs) ≡ true
+  sorted-stated [] h = refl
+  sorted-stated (x ∷ xs) h =
+      let rest = sorted-stated xs (second_so (below_all R x.0 xs) (is_sorted R xs) h) in
+      elim (f x.1) as (λ v. is_sorted R (stated x.0 v ++ all_stated f xs) ≡ true) [
         | None ↦ rest
-        | Some v ↦ both_so (below_all R x.0 (all_told f xs)) (is_sorted R (all_told f xs)) (below-told x.0 xs (first_so (below_all R x.0 xs) (is_sorted R xs) h)) rest
+        | Some v ↦ both_so (below_all R x.0 (all_stated f xs)) (is_sorted R (all_stated f xs)) (below-stated x.0 xs (first_so (below_all R x.0 xs) (is_sorted R xs) h)) rest
       ]
 
   -- what is found among them
-  pub find-told : (o : IsTotalOrder R) (same : (x y : K) → R x y ≡ Equal → x ≡ y) (q : K) (xs : List (K × X)) → is_sorted R xs ≡ true → find R q (all_told f xs) ≡ then_told f (find R q xs)
-  find-told o same q [] h = refl
-  find-told o same q (x ∷ xs) h = by (eq_by_cmp R q x.0) refl (f x.1) refl (find-told o same q xs (second_so (below_all R x.0 xs) (is_sorted R xs) h))
+  pub find-stated : (o : IsTotalOrder R) (same : (x y : K) → R x y ≡ Equal → x ≡ y) (q : K) (xs : List (K × X)) → is_sorted R xs ≡ true → find R q (all_stated f xs) ≡ then_stated f (find R q xs)
+  find-stated o same q [] h = refl
+  find-stated o same q (x ∷ xs) h = by (eq_by_cmp R q x.0) refl (f x.1) refl (find-stated o same q xs (second_so (below_all R x.0 xs) (is_sorted R xs) h))
     where
-      by : (b : Bool) → eq_by_cmp R q x.0 ≡ b → (v : Option V) → f x.1 ≡ v → find R q (all_told f xs) ≡ then_told f (find R q xs)
-          → find R q (told x.0 v ++ all_told f xs) ≡ then_told f (cond b (Some x.1) (find R q xs))
-      by true tie (Some v) is more = ap (λ (b : Bool). cond b (Some v) (find R q (all_told f xs))) tie ∙ sym is
-      by true tie None is more = more ∙ ap (then_told f) (none-tied R o same q x.0 xs tie (first_so (below_all R x.0 xs) (is_sorted R xs) h)) ∙ sym is
-      by false tie (Some v) is more = ap (λ (b : Bool). cond b (Some v) (find R q (all_told f xs))) tie ∙ more
+      by : (b : Bool) → eq_by_cmp R q x.0 ≡ b → (v : Option V) → f x.1 ≡ v → find R q (all_stated f xs) ≡ then_stated f (find R q xs)
+          → find R q (stated x.0 v ++ all_stated f xs) ≡ then_stated f (cond b (Some x.1) (find R q xs))
+      by true tie (Some v) is more = ap (λ (b : Bool). cond b (Some v) (find R q (all_stated f xs))) tie ∙ sym is
+      by true tie None is more = more ∙ ap (then_stated f) (none-tied R o same q x.0 xs tie (first_so (below_all R x.0 xs) (is_sorted R xs) h)) ∙ sym is
+      by false tie (Some v) is more = ap (λ (b : Bool). cond b (Some v) (find R q (all_stated f xs))) tie ∙ more
       by false tie None is more = more
 
 -- ---- lists in two parts

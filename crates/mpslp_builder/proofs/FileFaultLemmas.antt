@@ -59,8 +59,8 @@ none_mapped : {X Y : Type 0} (f : X → Y) (xs : List X) → map f xs ≡ [] →
 none_mapped f [] h = refl
 none_mapped f (x ∷ xs) h = cc
 
-abbrev told : FaultKind → List ℕ → Fault
-told kind name = whole_fault kind (Some name)
+abbrev stated : FaultKind → List ℕ → Fault
+stated kind name = whole_fault kind (Some name)
 
 no_first : {X Y : Type 0} (f : X → Y) (xs : List X) → option_map f (head_of xs) ≡ None → xs ≡ []
 no_first f [] h = refl
@@ -79,19 +79,19 @@ first_join None rest h k = k
 first_join (Some x) rest h k = cc
 
 abbrev fault_of : Draft → FaultKind → Option Fault
-fault_of all kind = option_map (told kind) (head_of (names_with all kind))
+fault_of all kind = option_map (stated kind) (head_of (names_with all kind))
 
 abbrev faults_from : Draft → List FaultKind → List Fault
 faults_from all kinds = filter_map (fault_of all) kinds
 
 here : (all : Draft) (kind : FaultKind) (more : List FaultKind) → head_of (faults_from all (kind ∷ more)) ≡ None → names_with all kind ≡ []
-here all kind more h = no_first (told kind) (names_with all kind) (first_left (fault_of all kind) (faults_from all more) h)
+here all kind more h = no_first (stated kind) (names_with all kind) (first_left (fault_of all kind) (faults_from all more) h)
 
 later : (all : Draft) (kind : FaultKind) (more : List FaultKind) → head_of (faults_from all (kind ∷ more)) ≡ None → head_of (faults_from all more) ≡ None
 later all kind more h = first_right (fault_of all kind) (faults_from all more) h
 
 add : (all : Draft) (kind : FaultKind) (more : List FaultKind) → names_with all kind ≡ [] → head_of (faults_from all more) ≡ None → head_of (faults_from all (kind ∷ more)) ≡ None
-add all kind more h k = first_join (fault_of all kind) (faults_from all more) (ap (λ (names : List (List ℕ)). option_map (told kind) (head_of names)) h) k
+add all kind more h k = first_join (fault_of all kind) (faults_from all more) (ap (λ (names : List (List ℕ)). option_map (stated kind) (head_of names)) h) k
 
 rows_pass : (all : Draft) (test : RowDefinition → Number → Option Number → Bool) → rows_where all test ≡ [] → passes_rows all test ≡ true
 rows_pass all test h = none_filtered (row_passes all test) all.rows (none_mapped (λ (entry : List ℕ × RowDefinition). entry.0) _ h)

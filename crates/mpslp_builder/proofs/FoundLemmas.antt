@@ -283,9 +283,9 @@ none_left f none [] = refl
 none_left {Y = Y} f none (x ∷ xs) = ap (λ (o : Option Y). head_of (cons_option o (filter_map f xs))) (none x) ∙ none_left f none xs
 
 -- the name at an index, and the error that is reported for it
-pub told : (kind : FaultKind) (name : Option (List ℕ)) (least : Option (List ℕ)) → name ≡ least → is_some name ≡ true → option_map (λ n. whole_fault kind (Some n)) least ≡ Some (whole_fault kind name)
-told kind None least same h = cc
-told kind (Some n) least same h = ap (option_map (λ (n : List ℕ). whole_fault kind (Some n))) (sym same)
+pub stated : (kind : FaultKind) (name : Option (List ℕ)) (least : Option (List ℕ)) → name ≡ least → is_some name ≡ true → option_map (λ n. whole_fault kind (Some n)) least ≡ Some (whole_fault kind name)
+stated kind None least same h = cc
+stated kind (Some n) least same h = ap (option_map (λ (n : List ℕ). whole_fault kind (Some n))) (sym same)
 
 pub entry_named : {V : Type 0} (es : List (List ℕ × V)) (i : ℕ) → i < length es → is_some (entry_name es i) ≡ true
 entry_named [] i h = absurd (omega (arith, h))

@@ -19,7 +19,7 @@ use Rattle.mpslp_builder.specs.Declaration.{Draft, Declarations, with_declaratio
 use Rattle.mpslp_builder.specs.Refusal.{refusals, refusals_in_turn}
 use Rattle.mpslp_builder.specs.Made.{IsMade}
 use Rattle.mpslp_builder.specs.Tables.{definition_of, no_part, cells_of, name_of_row_key, draft, IsNumbered}
-use Rattle.mpslp_builder.specs.Calls.{row_name, column_name, column_tells, cells_at, new_column, with_cell, IsOnceEach, IsSameTables, HasColumnAdded, HasColumnChanged}
+use Rattle.mpslp_builder.specs.Calls.{row_name, column_name, column_satisfies, cells_at, new_column, with_cell, IsOnceEach, IsSameTables, HasColumnAdded, HasColumnChanged}
 use Rattle.mpslp_builder.specs.ColumnLine.{entry_declared, TakesLine}
 use Rattle.mpslp_builder.specs.LineTables.{IsLaid, Follows, HasStarted}
 use Rattle.mpslp_builder_parts.specs.declared.parts.ColumnParts.{ColumnParts}
@@ -27,8 +27,8 @@ use Rattle.mpslp_builder.specs.declared.tables.Tables.{Tables}
 use Rattle.mpslp_builder.proofs.AnswerLemmas.{made_after}
 use Rattle.mpslp_builder.proofs.MadeDrafts.{with_declarations-append, refusals_in_turn-append}
 use Rattle.mpslp_builder.proofs.RefusalLemmas.{join_none}
-use Rattle.mpslp_builder.proofs.ReadingLemmas.{number_there, stands, cell_at}
-use Rattle.mpslp_builder.proofs.TestLemmas.{integer_told, cell_told}
+use Rattle.mpslp_builder.proofs.ReadingLemmas.{number_there, entry_at, cell_at}
+use Rattle.mpslp_builder.proofs.TestLemmas.{integer_stated, cell_stated}
 use Rattle.mpslp_builder.proofs.CallLemmas.{same_tables, same_numbered, cell_added, cell_added_numbered, mark_added, column_changed_numbered, column_added, column_added_numbered}
 
 -- ---- entries by number
@@ -145,9 +145,9 @@ module _ (t u : Tables) (numbered : IsNumbered t) where
   module _ (once : IsOnceEach t) (i : ℕ) where
     -- ---- the mark
 
-    module _ (h : HasColumnChanged t i (λ parts. record parts { marked = true }) u) (semi : column_tells t i (λ parts. parts.semi) ≡ false) where
+    module _ (h : HasColumnChanged t i (λ parts. record parts { marked = true }) u) (semi : column_satisfies t i (λ parts. parts.semi) ≡ false) where
       mark_free : (c : List ℕ) → column_name t i ≡ Some c → (sense : Option Sense) (constant : Option Number) → refusals (draft sense constant t) (declare_marked c) ≡ []
-      mark_free c is sense constant = integer_told constant t once i c is (number_there no_part t.columns.entries i c is) false (sym semi)
+      mark_free c is sense constant = integer_stated constant t once i c is (number_there no_part t.columns.entries i c is) false (sym semi)
 
       mark_draft : (c : List ℕ) → column_name t i ≡ Some c → (sense : Option Sense) (constant : Option Number) → draft sense constant u ≡ with_declaration (draft sense constant t) (declare_marked c)
       mark_draft c is sense constant = mark_added sense constant t u once i c is h
@@ -176,12 +176,12 @@ module _ (t u : Tables) (numbered : IsNumbered t) where
     module _ (n : ℕ) (r : List ℕ) (row : row_name t n ≡ Some r) (x : Number) (h : HasColumnChanged t i (with_cell n x) u) (absent : find nat_cmp n (cells_at t i) ≡ None) where
       cell_free : (c : List ℕ) → column_name t i ≡ Some c → (sense : Option Sense) (constant : Option Number) → refusals (draft sense constant t) (declare_coefficient (at r c) x) ≡ []
       cell_free c is sense constant =
-          cell_told constant t once i c is (number_there no_part t.columns.entries i c is) n r false numbered row (row_there None constant t n r row) (sym (ap is_some absent))
+          cell_stated constant t once i c is (number_there no_part t.columns.entries i c is) n r false numbered row (row_there None constant t n r row) (sym (ap is_some absent))
 
       cell_draft : (c : List ℕ) → column_name t i ≡ Some c → (sense : Option Sense) (constant : Option Number) → draft sense constant u ≡ with_declaration (draft sense constant t) (declare_coefficient (at r c) x)
       cell_draft c is sense constant =
           cell_added sense constant t u once i c is numbered n r row x h
-          (cell_at sense constant t once i c (stands t.columns.entries i c is) n r numbered row ∙ ap is_some absent)
+          (cell_at sense constant t once i c (entry_at t.columns.entries i c is) n r numbered row ∙ ap is_some absent)
 
       pub cell_laid : (c : List ℕ) → column_name t i ≡ Some c → IsLaid t (entry_declared c (r, x)) u
       cell_laid c is = laid_one t u (declare_coefficient (at r c) x) (cell_free c is) (cell_draft c is)

@@ -15,7 +15,7 @@ use Rattle.mpslp_model_core.proofs.CellLemmas.{at}
 use Rattle.mpslp_builder.specs.Declaration.{Draft, with_declaration, declare_column, declare_marked, declare_coefficient, has_row, has_column, has_coefficient, is_semi}
 use Rattle.mpslp_builder.specs.Refusal.{refusals, refusals_in_turn}
 use Rattle.mpslp_builder.specs.Tables.{draft, IsNumbered}
-use Rattle.mpslp_builder.specs.Calls.{row_name, column_name, column_tells, cells_at, IsOnceEach}
+use Rattle.mpslp_builder.specs.Calls.{row_name, column_name, column_satisfies, cells_at, IsOnceEach}
 use Rattle.mpslp_builder.specs.ColumnLine.{pair_of, pair_if_some, listed, entry_declared, column_line}
 use Rattle.mpslp_builder.specs.LineTables.{AreRows, AreKnownRows, AreFree}
 use Rattle.mpslp_builder.specs.declared.lines.Entry.{Entry}
@@ -26,7 +26,7 @@ use Rattle.mpslp_builder.proofs.AnswerLemmas.{known_row}
 use Rattle.mpslp_builder.proofs.PartLemmas.{none_there}
 use Rattle.mpslp_builder.proofs.RefusalLemmas.{first_none, rest_none, left_none, right_none}
 use Rattle.mpslp_builder.proofs.SlotLemmas.{has-put_key}
-use Rattle.mpslp_builder.proofs.ReadingLemmas.{stands, flag_at, cell_at}
+use Rattle.mpslp_builder.proofs.ReadingLemmas.{entry_at, flag_at, cell_at}
 
 -- ---- drafts
 
@@ -111,9 +111,9 @@ module _ (sense : Option Sense) (constant : Option Number) (t : Tables) (is_mark
 
   module _ (once : IsOnceEach t) (i : ℕ) (is : column_name t i ≡ Some column) where
     -- a column that may be marked is not semi-continuous
-    pub mark_allowed : (is_marked && column_tells t i (λ parts. parts.semi)) ≡ false
+    pub mark_allowed : (is_marked && column_satisfies t i (λ parts. parts.semi)) ≡ false
     mark_allowed =
-        ap (λ (b : Bool). is_marked && b) (sym (flag_at sense constant t once i column (stands t.columns.entries i column is) (λ parts. parts.semi)))
+        ap (λ (b : Bool). is_marked && b) (sym (flag_at sense constant t once i column (entry_at t.columns.entries i column is) (λ parts. parts.semi)))
         ∙ line_parts.0
 
     -- and its places are free
@@ -122,7 +122,7 @@ module _ (sense : Option Sense) (constant : Option Number) (t : Tables) (is_mark
       where
         no_cell : (n : ℕ) (r : List ℕ) → row_name t n ≡ Some r → has_coefficient (draft sense constant t) (at r column) ≡ false → find nat_cmp n (cells_at t i) ≡ None
         no_cell n r row none =
-            none_there (find nat_cmp n (cells_at t i)) (sym (cell_at sense constant t once i column (stands t.columns.entries i column is) n r numbered row) ∙ none)
+            none_there (find nat_cmp n (cells_at t i)) (sym (cell_at sense constant t once i column (entry_at t.columns.entries i column is) n r numbered row) ∙ none)
 
         first_free : find nat_cmp rows.first (cells_at t i) ≡ None
         first_free = no_cell rows.first entries.first.row.now are.first line_parts.1.1

@@ -10,7 +10,7 @@ use Rattle.mpslp_builder.specs.Declaration.{at_name, has_name, names_in}
 use Rattle.mpslp_types.proofs.EachLemmas.{Each}
 use Rattle.mpslp_types.proofs.BoolLemmas.{or_left, or_right, T_from}
 use Rattle.mpslp_model_core.proofs.PutsLemmas.{finds_own}
-use Rattle.mpslp_builder.proofs.EntryLemmas.{then_told}
+use Rattle.mpslp_builder.proofs.EntryLemmas.{then_stated}
 use Rattle.mpslp_builder.proofs.MeaningFromNoFault.{sorted-mapped}
 use Rattle.mpslp_builder.proofs.SortedDrafts.{bytes_total, tied_names}
 
@@ -48,10 +48,10 @@ own-found es h = finds_own bytes_cmp bytes_total tied_names es (T_from (is_sorte
 pub names_sorted : {X Y : Type 0} (g : X → Y) (es : List (List ℕ × X)) → is_sorted bytes_cmp es ≡ true → is_sorted bytes_cmp (map (λ e. (e.0, g e.1)) es) ≡ true
 names_sorted g es h = sorted-mapped (λ e. g e.1) es ∙ h
 
-pub at-mapped : {X Y : Type 0} (g : X → Y) (q : List ℕ) (es : List (List ℕ × X)) → at_name (map (λ e. (e.0, g e.1)) es) q ≡ then_told (λ x. Some (g x)) (at_name es q)
+pub at-mapped : {X Y : Type 0} (g : X → Y) (q : List ℕ) (es : List (List ℕ × X)) → at_name (map (λ e. (e.0, g e.1)) es) q ≡ then_stated (λ x. Some (g x)) (at_name es q)
 at-mapped g q [] = refl
 at-mapped {X} {Y} g q (e ∷ es) =
-    elim (eq_by_cmp bytes_cmp q e.0) as (λ b. cond b (Some (g e.1)) (at_name (map (λ d. (d.0, g d.1)) es) q) ≡ then_told (λ x. Some (g x)) (cond b (Some e.1) (at_name es q))) [
+    elim (eq_by_cmp bytes_cmp q e.0) as (λ b. cond b (Some (g e.1)) (at_name (map (λ d. (d.0, g d.1)) es) q) ≡ then_stated (λ x. Some (g x)) (cond b (Some e.1) (at_name es q))) [
       | true ↦ refl
       | false ↦ at-mapped g q es
     ]

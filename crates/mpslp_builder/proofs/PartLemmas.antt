@@ -16,7 +16,7 @@ use Rattle.mpslp_model_core.proofs.PutsLemmas.{equal_from}
 use Rattle.mpslp_model_core.proofs.KeyLemmas.{bytes_total, key_total, tied_names}
 use Rattle.mpslp_builder.specs.Declaration.{at_name, has_name}
 use Rattle.mpslp_model_core.proofs.SortedLemmas.{find-sorted_of}
-use Rattle.mpslp_model_core.specs.Numbered.{sorted_of, each_part, given_parts, column_cells, all_cells, TellsApart, IsOnce}
+use Rattle.mpslp_model_core.specs.Numbered.{sorted_of, each_part, given_parts, column_cells, all_cells, IsInjective, IsOnce}
 pub use Rattle.mpslp_builder_parts.proofs.PassLemmas.{each_part-append}
 use Rattle.mpslp_model_core.proofs.CellLemmas.{at, or_else, find-two, first_none, find-put_cell, swapped, clear}
 
@@ -61,7 +61,7 @@ module _ {V X : Type 0} (f : V → X) where
 
 -- ---- coefficients
 
-module _ {V : Type 0} (f : V → List (ℕ × Number)) (name : ℕ → Option (List ℕ)) (apart : TellsApart name) where
+module _ {V : Type 0} (f : V → List (ℕ × Number)) (name : ℕ → Option (List ℕ)) (apart : IsInjective name) where
   -- a coefficient is put at a free place
   pub find-put_in_column : (q : CoefficientKey) (n : ℕ) (x : Number) (r : List ℕ) (es : List (List ℕ × V)) (i : ℕ) (k : List ℕ) (v w : V) → name n ≡ Some r → slice_get es i ≡ Some (k, v)
       → f w ≡ put nat_cmp n x (f v) → find key_cmp (at r k) (all_cells name (each_part f es)) ≡ None

@@ -18,7 +18,7 @@ use Rattle.mpslp_model_core.proofs.CellLemmas.{at, or_else, find-two}
 use Rattle.mpslp_builder.specs.Declaration.{at_name, has_name, has_coefficient, is_objective, is_free_row, is_row_by_limits, is_integer}
 use Rattle.mpslp_builder.specs.Consistency.{has_objective_rhs}
 use Rattle.mpslp_builder.specs.Tables.{definition_of, rhs_of, range_of, cells_of, as_part, name_of_objective, objective_rhs, draft, IsNumbered}
-use Rattle.mpslp_builder.specs.Calls.{row_key_of, row_name, row_tells, column_tells, cells_at, is_objective_ref, IsOnceEach}
+use Rattle.mpslp_builder.specs.Calls.{row_key_of, row_name, row_satisfies, column_satisfies, cells_at, is_objective_ref, IsOnceEach}
 use Rattle.mpslp_builder_parts.specs.declared.parts.ObjectiveParts.{ObjectiveParts}
 use Rattle.mpslp_builder_parts.specs.RowParts.{RowParts}
 use Rattle.mpslp_builder_parts.specs.declared.parts.ColumnParts.{ColumnParts}
@@ -42,25 +42,25 @@ number_there part es i name is =
 -- ---- the entry of a number
 
 -- the entry at a number has this name
-pub record Stands {V : Type 0} (es : List (List ℕ × V)) (i : ℕ) (wanted : List ℕ) : Type 0 where
+pub record HasEntryAt {V : Type 0} (es : List (List ℕ × V)) (i : ℕ) (wanted : List ℕ) : Type 0 where
   pub key : List ℕ
   pub parts : V
   pub at : slice_get es i ≡ Some (key, parts)
   pub named : key ≡ wanted
 
-pub stands : {V : Type 0} (es : List (List ℕ × V)) (i : ℕ) (name : List ℕ) → option_map (λ e. e.0) (slice_get es i) ≡ Some name → Stands es i name
-stands [] i name h = cc
-stands (e ∷ es) zero name h = record { key = e.0; parts = e.1; at = refl; named = cc }
-stands (e ∷ es) (suc i) name h =
-    let s = stands es i name h in
+pub entry_at : {V : Type 0} (es : List (List ℕ × V)) (i : ℕ) (name : List ℕ) → option_map (λ e. e.0) (slice_get es i) ≡ Some name → HasEntryAt es i name
+entry_at [] i name h = cc
+entry_at (e ∷ es) zero name h = record { key = e.0; parts = e.1; at = refl; named = cc }
+entry_at (e ∷ es) (suc i) name h =
+    let s = entry_at es i name h in
     record { key = s.key; parts = s.parts; at = s.at; named = s.named }
 
 -- it is one of the map's
-pub within : {V : Type 0} (es : List (List ℕ × V)) (i : ℕ) (name : List ℕ) → Stands es i name → i < length es
+pub within : {V : Type 0} (es : List (List ℕ × V)) (i : ℕ) (name : List ℕ) → HasEntryAt es i name → i < length es
 within es i name s = slice_get_within es i (s.key, s.parts) s.at
 
 -- the entry at the number
-pub own_parts : {V : Type 0} (es : List (List ℕ × V)) (i : ℕ) (name : List ℕ) (s : Stands es i name) (key : List ℕ) (parts : V) → slice_get es i ≡ Some (key, parts) → (key ≡ name) × (parts ≡ s.parts)
+pub own_parts : {V : Type 0} (es : List (List ℕ × V)) (i : ℕ) (name : List ℕ) (s : HasEntryAt es i name) (key : List ℕ) (parts : V) → slice_get es i ≡ Some (key, parts) → (key ≡ name) × (parts ≡ s.parts)
 own_parts {V} es i name s key parts is =
     let same : ◌≡◌ {A = List ℕ × V} (key, parts) (s.key, s.parts) = let both : ◌≡◌ {A = Option (List ℕ × V)} (Some (key, parts)) (Some (s.key, s.parts)) = sym is ∙ s.at in cc in
     (ap (λ (e : List ℕ × V). e.0) same ∙ s.named, ap (λ (e : List ℕ × V). e.1) same)
@@ -81,7 +81,7 @@ found_first (Some x) = refl
 module _ (sense : Option Sense) (constant : Option Number) (t : Tables) (once : IsOnceEach t) where
   -- ---- columns
 
-  module _ (i : ℕ) (c : List ℕ) (s : Stands t.columns.entries i c) where
+  module _ (i : ℕ) (c : List ℕ) (s : HasEntryAt t.columns.entries i c) where
     -- a part of the column is what is found by its name
     pub given_at : {X : Type 0} (f : ColumnParts → Option X) → at_name (sorted_of bytes_cmp (given_parts f t.columns.entries)) c ≡ f s.parts
     given_at f =
@@ -89,22 +89,22 @@ module _ (sense : Option Sense) (constant : Option Number) (t : Tables) (once : 
         ∙ ap (λ (name : List ℕ). find bytes_cmp name (given_parts f t.columns.entries)) (sym s.named)
         ∙ find_given_own cells_of f t.columns.entries i s.key s.parts once.columns s.at
 
-    pub told_at : (f : ColumnParts → Bool) → column_tells t i f ≡ f s.parts
-    told_at f = ap (λ (o : Option (List ℕ × ColumnParts)). option_map_or (λ e. f e.1) o false) s.at
+    pub stated_at : (f : ColumnParts → Bool) → column_satisfies t i f ≡ f s.parts
+    stated_at f = ap (λ (o : Option (List ℕ × ColumnParts)). option_map_or (λ e. f e.1) o false) s.at
 
     -- whether a part is declared
-    pub part_at : {X : Type 0} (f : ColumnParts → Option X) → has_name (sorted_of bytes_cmp (given_parts f t.columns.entries)) c ≡ column_tells t i (λ parts. is_some (f parts))
-    part_at f = ap is_some (given_at f) ∙ sym (told_at (λ parts. is_some (f parts)))
+    pub part_at : {X : Type 0} (f : ColumnParts → Option X) → has_name (sorted_of bytes_cmp (given_parts f t.columns.entries)) c ≡ column_satisfies t i (λ parts. is_some (f parts))
+    part_at f = ap is_some (given_at f) ∙ sym (stated_at (λ parts. is_some (f parts)))
 
     -- whether the column passes a test
-    pub flag_at : (f : ColumnParts → Bool) → has_name (sorted_of bytes_cmp (given_parts (λ parts. as_part (f parts)) t.columns.entries)) c ≡ column_tells t i f
-    flag_at f = ap is_some (given_at (λ parts. as_part (f parts))) ∙ part_there (f s.parts) ∙ sym (told_at f)
+    pub flag_at : (f : ColumnParts → Bool) → has_name (sorted_of bytes_cmp (given_parts (λ parts. as_part (f parts)) t.columns.entries)) c ≡ column_satisfies t i f
+    flag_at f = ap is_some (given_at (λ parts. as_part (f parts))) ∙ part_there (f s.parts) ∙ sym (stated_at f)
 
-    pub integer_at : is_integer (draft sense constant t) c ≡ column_tells t i (λ parts. parts.marked || (parts.integer || parts.binary))
+    pub integer_at : is_integer (draft sense constant t) c ≡ column_satisfies t i (λ parts. parts.marked || (parts.integer || parts.binary))
     integer_at =
-        (λ j. (flag_at (λ parts. parts.marked) ∙ told_at (λ parts. parts.marked)) j
-        || ((flag_at (λ parts. parts.integer) ∙ told_at (λ parts. parts.integer)) j || (flag_at (λ parts. parts.binary) ∙ told_at (λ parts. parts.binary)) j))
-        ∙ sym (told_at (λ parts. parts.marked || (parts.integer || parts.binary)))
+        (λ j. (flag_at (λ parts. parts.marked) ∙ stated_at (λ parts. parts.marked)) j
+        || ((flag_at (λ parts. parts.integer) ∙ stated_at (λ parts. parts.integer)) j || (flag_at (λ parts. parts.binary) ∙ stated_at (λ parts. parts.binary)) j))
+        ∙ sym (stated_at (λ parts. parts.marked || (parts.integer || parts.binary)))
 
     pub own_cells : cells_at t i ≡ cells_of s.parts
     own_cells = ap (λ (o : Option (List ℕ × ColumnParts)). option_map_or (λ e. cells_of e.1) o []) s.at
@@ -119,9 +119,9 @@ module _ (sense : Option Sense) (constant : Option Number) (t : Tables) (once : 
   -- ---- rows
 
   module _ (numbered : IsNumbered t) where
-    module _ (i : ℕ) (r : List ℕ) (s : Stands t.rows.entries i r) where
-      row_told : (f : RowParts → Bool) → option_map_or (λ (e : List ℕ × RowParts). f e.1) (slice_get t.rows.entries i) false ≡ f s.parts
-      row_told f = ap (λ (o : Option (List ℕ × RowParts)). option_map_or (λ e. f e.1) o false) s.at
+    module _ (i : ℕ) (r : List ℕ) (s : HasEntryAt t.rows.entries i r) where
+      row_stated : (f : RowParts → Bool) → option_map_or (λ (e : List ℕ × RowParts). f e.1) (slice_get t.rows.entries i) false ≡ f s.parts
+      row_stated f = ap (λ (o : Option (List ℕ × RowParts)). option_map_or (λ e. f e.1) o false) s.at
 
       form_at : at_name (draft sense constant t).rows r ≡ Some (definition_of s.parts)
       form_at =
@@ -214,50 +214,50 @@ module _ (sense : Option Sense) (constant : Option Number) (t : Tables) (once : 
     objective_there (Some o) r h = (o, (refl, cc))
 
     -- the objective has parts, with the name
-    objective_told : (o : ObjectiveParts) → t.objective ≡ Some o → (f : ObjectiveParts → Bool) → option_map_or f t.objective false ≡ f o
-    objective_told o there f = ap (λ (parts : Option ObjectiveParts). option_map_or f parts false) there
+    objective_stated : (o : ObjectiveParts) → t.objective ≡ Some o → (f : ObjectiveParts → Bool) → option_map_or f t.objective false ≡ f o
+    objective_stated o there f = ap (λ (parts : Option ObjectiveParts). option_map_or f parts false) there
 
-    pub free_at : (p : RowRef) (r : List ℕ) → row_name t (row_key_of p) ≡ Some r → is_free_row (draft sense constant t) r ≡ row_tells t p (λ o. false) (λ row. is_free_definition row.definition)
+    pub free_at : (p : RowRef) (r : List ℕ) → row_name t (row_key_of p) ≡ Some r → is_free_row (draft sense constant t) r ≡ row_satisfies t p (λ o. false) (λ row. is_free_definition row.definition)
     free_at Objective r is =
         let o = objective_there t.objective r is in
         ap (λ (name : List ℕ). is_free_row (draft sense constant t) name) (sym o.1.1)
         ∙ ap (λ (definition : Option RowDefinition). option_map_or is_free_definition definition false) (no_form o.0 o.1.0)
-        ∙ sym (objective_told o.0 o.1.0 (λ o. false))
+        ∙ sym (objective_stated o.0 o.1.0 (λ o. false))
     free_at (Row i) r is =
-        let s = stands t.rows.entries i r is in
-        ap (λ (definition : Option RowDefinition). option_map_or is_free_definition definition false) (form_at i r s) ∙ sym (row_told i r s (λ row. is_free_definition row.definition))
+        let s = entry_at t.rows.entries i r is in
+        ap (λ (definition : Option RowDefinition). option_map_or is_free_definition definition false) (form_at i r s) ∙ sym (row_stated i r s (λ row. is_free_definition row.definition))
 
     pub objective_at : (p : RowRef) (r : List ℕ) → row_name t (row_key_of p) ≡ Some r → is_objective (draft sense constant t) r ≡ is_objective_ref p
     objective_at Objective r is =
         let o = objective_there t.objective r is in
         ap (λ (name : List ℕ). is_objective (draft sense constant t) name) (sym o.1.1) ∙ own_name o.0 o.1.0
-    objective_at (Row i) r is = no_objective i r (stands t.rows.entries i r is)
+    objective_at (Row i) r is = no_objective i r (entry_at t.rows.entries i r is)
 
     pub has_range_at : (p : RowRef) (r : List ℕ) → row_name t (row_key_of p) ≡ Some r
-        → (has_name (draft sense constant t).ranges r || is_row_by_limits (draft sense constant t) r) ≡ row_tells t p (λ o. false) (λ row. is_some row.range || is_definition_by_limits row.definition)
+        → (has_name (draft sense constant t).ranges r || is_row_by_limits (draft sense constant t) r) ≡ row_satisfies t p (λ o. false) (λ row. is_some row.range || is_definition_by_limits row.definition)
     has_range_at Objective r is =
         let o = objective_there t.objective r is in
         ap (λ (name : List ℕ). has_name (draft sense constant t).ranges name || is_row_by_limits (draft sense constant t) name) (sym o.1.1)
         ∙ (λ j. is_some (no_range o.0 o.1.0 j) || option_map_or is_definition_by_limits (no_form o.0 o.1.0 j) false)
-        ∙ sym (objective_told o.0 o.1.0 (λ o. false))
+        ∙ sym (objective_stated o.0 o.1.0 (λ o. false))
     has_range_at (Row i) r is =
-        let s = stands t.rows.entries i r is in
+        let s = entry_at t.rows.entries i r is in
         (λ j. is_some (range_at i r s j) || option_map_or is_definition_by_limits (form_at i r s j) false)
-        ∙ sym (row_told i r s (λ row. is_some row.range || is_definition_by_limits row.definition))
+        ∙ sym (row_stated i r s (λ row. is_some row.range || is_definition_by_limits row.definition))
 
     pub has_rhs_at : (b : Bool) (p : RowRef) (r : List ℕ) → row_name t (row_key_of p) ≡ Some r
         → (has_name (draft sense constant t).rhs_values r || (is_row_by_limits (draft sense constant t) r || (is_objective (draft sense constant t) r && b)))
-        ≡ row_tells t p (λ o. is_some o.rhs || b) (λ row. is_some row.rhs || is_definition_by_limits row.definition)
+        ≡ row_satisfies t p (λ o. is_some o.rhs || b) (λ row. is_some row.rhs || is_definition_by_limits row.definition)
     has_rhs_at b Objective r is =
         let o = objective_there t.objective r is in
         ap (λ (name : List ℕ). has_name (draft sense constant t).rhs_values name || (is_row_by_limits (draft sense constant t) name || (is_objective (draft sense constant t) name && b))) (sym o.1.1)
         ∙ (λ j. is_some (objective_rhs_at o.0 o.1.0 j) || (option_map_or is_definition_by_limits (no_form o.0 o.1.0 j) false || (own_name o.0 o.1.0 j && b)))
-        ∙ sym (objective_told o.0 o.1.0 (λ o. is_some o.rhs || b))
+        ∙ sym (objective_stated o.0 o.1.0 (λ o. is_some o.rhs || b))
     has_rhs_at b (Row i) r is =
-        let s = stands t.rows.entries i r is in
+        let s = entry_at t.rows.entries i r is in
         (λ j. is_some (rhs_at i r s j) || (option_map_or is_definition_by_limits (form_at i r s j) false || (no_objective i r s j && b)))
         ∙ or_nothing (is_some (rhs_of s.parts)) (is_definition_by_limits (definition_of s.parts))
-        ∙ sym (row_told i r s (λ row. is_some row.rhs || is_definition_by_limits row.definition))
+        ∙ sym (row_stated i r s (λ row. is_some row.rhs || is_definition_by_limits row.definition))
 
     -- ---- numbers
 
@@ -265,6 +265,6 @@ module _ (sense : Option Sense) (constant : Option Number) (t : Tables) (once : 
     pub number_fits : (p : RowRef) (r : List ℕ) → row_name t (row_key_of p) ≡ Some r → row_key_of p < 4294967296
     number_fits Objective r is = omega arith
     number_fits (Row i) r is =
-        let below : i < length t.rows.entries = within t.rows.entries i r (stands t.rows.entries i r is) in
+        let below : i < length t.rows.entries = within t.rows.entries i r (entry_at t.rows.entries i r is) in
         let few : length t.rows.entries < 4294967295 = numbered.few in
         omega arith

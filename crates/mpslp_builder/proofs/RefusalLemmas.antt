@@ -477,7 +477,7 @@ not_semi all c apart is = so_not (is_semi all c) (not_both (is_semi all c) (is_i
 
 pub allowed-after : (before after : Draft) (d : Declaration) → Extends before after → HasDeclaredNames after → HasKindsApart after → says_kind after d ≡ true
     → is_known before d ≡ true → is_allowed before d ≡ true → is_allowed after d ≡ true
-allowed-after before after (declare_range row v) e w apart told known h =
+allowed-after before after (declare_range row v) e w apart stated known h =
     let free = is_objective before row || is_free_row before row in
     let none = nor (is_objective before row) (is_free_row before row) (not_so free (first_so (not free) (not (is_infinite_size v)) h)) in
     let there : has_name before.rows row ≡ true = ap (λ (b : Bool). b || has_name before.rows row) (sym none.0) ∙ known in
@@ -488,14 +488,14 @@ allowed-after before after (declare_range row v) e w apart told known h =
     both_so (not (is_objective after row || is_free_row after row)) (not (is_infinite_size v))
     (so_not (is_objective after row || is_free_row after row) (both_false (is_objective after row) (is_free_row after row) is_no_objective is_not_free))
     (second_so (not free) (not (is_infinite_size v)) h)
-allowed-after before after (declare_row name definition) e w apart told known h = h
-allowed-after before after (declare_lower c l) e w apart told known h = h
-allowed-after before after (declare_upper c l) e w apart told known h = h
-allowed-after before after (declare_marked c) e w apart told known h = not_semi after c apart told
-allowed-after before after (declare_integer c) e w apart told known h = not_semi after c apart told
-allowed-after before after (declare_binary c) e w apart told known h = not_semi after c apart told
-allowed-after before after (declare_semi c) e w apart told known h = so_not (is_integer after c) (apart c told)
-allowed-after before after _ e w apart told known h = refl
+allowed-after before after (declare_row name definition) e w apart stated known h = h
+allowed-after before after (declare_lower c l) e w apart stated known h = h
+allowed-after before after (declare_upper c l) e w apart stated known h = h
+allowed-after before after (declare_marked c) e w apart stated known h = not_semi after c apart stated
+allowed-after before after (declare_integer c) e w apart stated known h = not_semi after c apart stated
+allowed-after before after (declare_binary c) e w apart stated known h = not_semi after c apart stated
+allowed-after before after (declare_semi c) e w apart stated known h = so_not (is_integer after c) (apart c stated)
+allowed-after before after _ e w apart stated known h = refl
 
 pub none-fine : (declarations : Declarations) (before : Draft) → HasDeclaredNames before → HasKindsApart before → has_one_constant before ≡ true → refusals_in_turn before declarations ≡ []
     → AreFineInTurn before declarations
@@ -508,11 +508,11 @@ none-fine (d ∷ more) before w apart one h =
     let fresh = both_so (are_fresh before (slots_of d)) (are_fresh_in_turn (with_declaration before d) more) f.fresh r.fresh in
     let after = with_declarations (with_declaration before d) more in
     let e = extends-in_turn (d ∷ more) before fresh in
-    let told = said-after (with_declaration before d) after d (extends-in_turn more (with_declaration before d) r.fresh) (said before d) in
+    let stated = said-after (with_declaration before d) after d (extends-in_turn more (with_declaration before d) r.fresh) (said before d) in
     record {
       fresh = fresh;
       known = both_so (is_known after d) (list_all (is_known after) more) (known-after before after d e f.known) r.known;
-      allowed = both_so (is_allowed after d) (list_all (is_allowed after) more) (allowed-after before after d e r.declared_names r.kinds_apart told f.known f.allowed) r.allowed;
+      allowed = both_so (is_allowed after d) (list_all (is_allowed after) more) (allowed-after before after d e r.declared_names r.kinds_apart stated f.known f.allowed) r.allowed;
       one_constant = r.one_constant;
       declared_names = r.declared_names;
       kinds_apart = r.kinds_apart;

@@ -71,10 +71,10 @@ right_false true b h = cc
 right_false false b h = h
 
 -- one more entry in front of others
-pub find-behind : {X : Type 0} (q k : List ℕ) (x : X) (front back more : List (List ℕ × X)) → find bytes_cmp k front ≡ None
+pub find-after : {X : Type 0} (q k : List ℕ) (x : X) (front back more : List (List ℕ × X)) → find bytes_cmp k front ≡ None
     → find bytes_cmp q more ≡ cond (eq_by_cmp bytes_cmp q k) (Some x) (find bytes_cmp q back)
     → find bytes_cmp q (front ++ more) ≡ cond (eq_by_cmp bytes_cmp q k) (Some x) (find bytes_cmp q (front ++ back))
-find-behind {X} q k x front back more absent put_there =
+find-after {X} q k x front back more absent put_there =
     find-two bytes_cmp q front more
     ∙ ap (or_else (find bytes_cmp q front)) put_there
     ∙ elim (eq_by_cmp bytes_cmp q k) as (λ b. eq_by_cmp bytes_cmp q k ≡ b → or_else (find bytes_cmp q front) (cond b (Some x) (find bytes_cmp q back)) ≡ cond b (Some x) (or_else (find bytes_cmp q front) (find bytes_cmp q back))) [
@@ -225,7 +225,7 @@ module _ (sense : Option Sense) (constant : Option Number) (objective : Option O
         let front = objective_rhs objective in
         let rhs_values : sorted_of bytes_cmp (front ++ given_parts rhs_of (set_value_at rows i w)) ≡ put bytes_cmp k x (sorted_of bytes_cmp (front ++ given_parts rhs_of rows)) =
         sorted_of-put bytes_cmp bytes_total tied_names k x (front ++ given_parts rhs_of (set_value_at rows i w)) (front ++ given_parts rhs_of rows)
-        (λ q. find-behind q k x front (given_parts rhs_of rows) (given_parts rhs_of (set_value_at rows i w)) (other_rhs numbered)
+        (λ q. find-after q k x front (given_parts rhs_of rows) (given_parts rhs_of (set_value_at rows i w)) (other_rhs numbered)
         (find-given_any rhs_of q x rows i k v w row (ap rhs_of is) (once_too definition_of (λ (y : RowParts). y) rows once))) in
         λ j. record (draft_from sense constant objective rows columns) {
           rows = same_forms (ap definition_of is) j;

@@ -37,8 +37,8 @@ limit-finite d h = by (is_infinite_size d) refl (second_so (is_decimal d) (not (
     by false e n = rw e refl
 
 -- a value that is printed unless it is 0
-pub side-told : (d : Number) → (is_zero d ≡ true → d ≡ zero_number) → unwrap_or (if is_zero d then None else Some d) zero_number ≡ d
-side-told d h = by (is_zero d) refl
+pub side-stated : (d : Number) → (is_zero d ≡ true → d ≡ zero_number) → unwrap_or (if is_zero d then None else Some d) zero_number ≡ d
+side-stated d h = by (is_zero d) refl
   where
     by : (b : Bool) → is_zero d ≡ b → unwrap_or (cond b None (Some d)) zero_number ≡ d
     by true e = sym (h e)

@@ -10,7 +10,7 @@ use Rattle.mpslp_types.specs.declared.kinds.Sense.{Sense}
 use Rattle.mpslp_types.specs.declared.kinds.RowType.TheVariants.{Free}
 use Rattle.mpslp_types.proofs.EachLemmas.{Each, Each-both, Each-weaker}
 use Rattle.mpslp_model_core.specs.Limits.{limits_of, plain_limits, declared_column}
-use Rattle.mpslp_model_core.specs.Numbered.{sorted_of, each_part, given_parts, IsOnce, TellsApart}
+use Rattle.mpslp_model_core.specs.Numbered.{sorted_of, each_part, given_parts, IsOnce, IsInjective}
 use Rattle.mpslp_model_core.proofs.KeyLemmas.{bytes_total}
 use Rattle.mpslp_model_core.proofs.SortedLemmas.{find-sorted_of}
 use Rattle.mpslp_model_core.proofs.CellLemmas.{or_else, find-two, name_same}
@@ -35,7 +35,7 @@ each-from_get P (x ∷ xs) h = (h zero x refl, each-from_get P xs (λ i y is. h 
 abbrev pub SaysRow : Draft → List ℕ × RowParts → Type 0
 SaysRow d e = (at_name d.rhs_values e.0 ≡ e.1.rhs) × (at_name d.ranges e.0 ≡ e.1.range)
 
-no_objective : (objective : Option ObjectiveParts) (rows : List (List ℕ × RowParts)) → TellsApart (name_of_row_key objective rows) → (i : ℕ) (e : List ℕ × RowParts) → slice_get rows i ≡ Some e
+no_objective : (objective : Option ObjectiveParts) (rows : List (List ℕ × RowParts)) → IsInjective (name_of_row_key objective rows) → (i : ℕ) (e : List ℕ × RowParts) → slice_get rows i ≡ Some e
     → find bytes_cmp e.0 (objective_rhs objective) ≡ None
 no_objective None rows apart i e is = refl
 no_objective (Some o) rows apart i e is =
@@ -52,7 +52,7 @@ no_objective (Some o) rows apart i e is =
     ]
 
 pub rows_say : (sense : Option Sense) (constant : Option Number) (objective : Option ObjectiveParts) (rows : List (List ℕ × RowParts)) (columns : List (List ℕ × ColumnParts))
-    → TellsApart (name_of_row_key objective rows) → IsOnce (each_part definition_of rows) → Each (SaysRow (draft_from sense constant objective rows columns)) rows
+    → IsInjective (name_of_row_key objective rows) → IsOnce (each_part definition_of rows) → Each (SaysRow (draft_from sense constant objective rows columns)) rows
 rows_say sense constant objective rows columns apart once =
     Each-both (λ e. at_name (sorted_of bytes_cmp (objective_rhs objective ++ given_parts rhs_of rows)) e.0 ≡ e.1.rhs) (λ e. at_name (sorted_of bytes_cmp (given_parts range_of rows)) e.0 ≡ e.1.range)
     (SaysRow (draft_from sense constant objective rows columns)) (λ e a b. (a, b)) rows

@@ -19,7 +19,7 @@ use Rattle.mpslp_types.specs.declared.kinds.Sense.{Sense}
 use Rattle.mpslp_types.specs.declared.faults.BuildFault.{BuildFault}
 use Rattle.mpslp_types.specs.declared.faults.BuildFault.TheVariants.{OutOfMemory, UnknownRow, UnknownColumn, DuplicateEntry}
 use Rattle.mpslp_maps.proofs.PutKeyLemmas.{put-insert}
-use Rattle.mpslp_maps.proofs.SearchLemmas.{found_nowhere, place_behind, sorted-put}
+use Rattle.mpslp_maps.proofs.SearchLemmas.{found_nowhere, place_after, sorted-put}
 use Rattle.mpslp_types.specs.Lists.{head_of, those_of}
 use Rattle.mpslp_model_core.specs.Numbered.{each_part}
 use Rattle.mpslp_model_core.proofs.CellLemmas.{at}
@@ -37,7 +37,7 @@ use Rattle.mpslp_builder.proofs.AnswerLemmas.{put_again}
 use Rattle.mpslp_builder.proofs.MadeDrafts.{refusals_in_turn-append}
 use Rattle.mpslp_builder.proofs.SortedDrafts.{bytes_total}
 use Rattle.mpslp_builder.proofs.ReadingLemmas.{number_there}
-use Rattle.mpslp_builder.proofs.TestLemmas.{cell_told}
+use Rattle.mpslp_builder.proofs.TestLemmas.{cell_stated}
 use Rattle.mpslp_builder.proofs.NamedEntries.{any-name, one_of-names}
 use Rattle.mpslp_builder.proofs.LineLemmas.{laid_none, laid_then, cell_follows, cell_others}
 
@@ -50,16 +50,16 @@ Terms = List (List ℕ × Number)
 pub above_absent : (name : List ℕ) (terms : Terms) → is_sorted bytes_cmp terms ≡ true → option_map_or (λ last. is_gt (bytes_cmp name last.0)) (slice_get terms (length terms - 1)) true ≡ true
     → find bytes_cmp name terms ≡ None
 above_absent name terms sorted above =
-    let behind = place_behind bytes_cmp bytes_total name terms sorted above in
-    found_nowhere bytes_cmp bytes_total name terms (length terms) sorted behind (omega arith)
+    let following = place_after bytes_cmp bytes_total name terms sorted above in
+    found_nowhere bytes_cmp bytes_total name terms (length terms) sorted following (omega arith)
 
 -- and comes after all
 pub above_sorted : (name : List ℕ) (value : Number) (terms : Terms) → is_sorted bytes_cmp terms ≡ true → option_map_or (λ last. is_gt (bytes_cmp name last.0)) (slice_get terms (length terms - 1)) true ≡ true
     → is_sorted bytes_cmp (terms ++ (name, value) ∷ []) ≡ true
 above_sorted name value terms sorted above =
-    let behind = place_behind bytes_cmp bytes_total name terms sorted above in
+    let following = place_after bytes_cmp bytes_total name terms sorted above in
     ap (is_sorted bytes_cmp)
-    (sym (insert_end terms (name, value)) ∙ ap (λ (i : ℕ). insert terms i (name, value)) behind ∙ sym (put-insert bytes_cmp name value terms (above_absent name terms sorted above)))
+    (sym (insert_end terms (name, value)) ∙ ap (λ (i : ℕ). insert terms i (name, value)) following ∙ sym (put-insert bytes_cmp name value terms (above_absent name terms sorted above)))
     ∙ sorted-put bytes_cmp bytes_total name value terms sorted
 
 -- a name is among those of terms if it is found
@@ -127,10 +127,10 @@ pub unless_memory : (t u : Tables) (ds : Declarations) (answer : Answer) → IsE
 unless_memory t u ds (Ok x) none = absurd none
 unless_memory t u ds (Err fault) none = inl none
 
--- the error that is told
-pub unless_told : (t u : Tables) (ds : Declarations) (answer : Answer) (fault : BuildFault) → IsErrAnd answer (λ told. told ≡ fault) → IsLaidUnless t ds (Err fault) u → IsLaidUnless t ds answer u
-unless_told t u ds (Ok x) fault told h = absurd told
-unless_told t u ds (Err other) fault told h = subst (λ (f : BuildFault). IsLaidUnless t ds (Err f) u) (sym told) h
+-- the error that is reported
+pub unless_reported : (t u : Tables) (ds : Declarations) (answer : Answer) (fault : BuildFault) → IsErrAnd answer (λ stated. stated ≡ fault) → IsLaidUnless t ds (Err fault) u → IsLaidUnless t ds answer u
+unless_reported t u ds (Ok x) fault stated h = absurd stated
+unless_reported t u ds (Err other) fault stated h = subst (λ (f : BuildFault). IsLaidUnless t ds (Err f) u) (sym stated) h
 
 head-first : (faults more : List BuildFault) (fault : BuildFault) → head_of faults ≡ Some fault → head_of (faults ++ more) ≡ Some fault
 head-first [] more fault h = cc
@@ -159,11 +159,11 @@ row_there constant t (suc i) r is =
 -- the coefficient is declared already
 pub taken_place : (t u v : Tables) (once : IsOnceEach u) (numbered : IsNumbered u) (n i : ℕ) (r c : List ℕ) (x : Number) → HasColumn t c i u → row_name u n ≡ Some r
     → true ≡ is_some (find nat_cmp n (cells_at u i)) → IsLaidUnless t (term_declared r (c, x)) (Err DuplicateEntry) v
-taken_place t u v once numbered n i r c x column row told =
+taken_place t u v once numbered n i r c x column row stated =
     inr (λ sense constant.
     ap (λ (all : Draft). head_of (refusals all (declare_coefficient (at r c) x) ++ [])) (sym (column.laid.laid sense constant))
     ∙ ap (λ (faults : List BuildFault). head_of (faults ++ []))
-    (cell_told constant u once i c column.named (number_there no_part u.columns.entries i c column.named) n r true numbered row (row_there constant u n r row) told))
+    (cell_stated constant u once i c column.named (number_there no_part u.columns.entries i c column.named) n r true numbered row (row_there constant u n r row) stated))
 
 -- no row has the name
 pub row_unknown : (all : Draft) (row : List ℕ) (term : List ℕ × Number) (more : Declarations) → has_row all row ≡ false
@@ -212,10 +212,10 @@ pub decides_next : (t u v : Tables) (first left all : Declarations) → IsLaid u
 decides_next t u v first left all laid before = λ answer w rest. before answer w (unless_then u v w first left answer laid rest)
 
 -- an error of the next of these declarations decides
-pub decides_err : (t u v : Tables) (first left all : Declarations) (answer : Answer) (fault : BuildFault) → IsErrAnd answer (λ told. told ≡ fault) → IsLaidUnless u first (Err fault) v
+pub decides_err : (t u v : Tables) (first left all : Declarations) (answer : Answer) (fault : BuildFault) → IsErrAnd answer (λ stated. stated ≡ fault) → IsLaidUnless u first (Err fault) v
     → Decides u (first ++ left) t all → IsLaidUnless t all answer v
-decides_err t u v first left all answer fault told refused before =
-    before answer v (unless_told u v (first ++ left) answer fault told (unless_err u v v first left fault refused))
+decides_err t u v first left all answer fault stated refused before =
+    before answer v (unless_reported u v (first ++ left) answer fault stated (unless_err u v v first left fault refused))
 
 -- nothing is left
 pub decides_all : (t u : Tables) (all : Declarations) → Decides u [] t all → IsLaid t all u
@@ -262,5 +262,5 @@ module _ (t u v : Tables) (name column : List ℕ) (term : List ℕ × Number) (
   pub term_laid : IsLaid u (term_declared name (column, term.1)) v → Decides v rest t all
   term_laid laid = decides_next t u v (term_declared name (column, term.1)) rest all laid decides
 
-  pub term_refused : (answer : Answer) (fault : BuildFault) → IsErrAnd answer (λ told. told ≡ fault) → IsLaidUnless u (term_declared name (column, term.1)) (Err fault) v → IsLaidUnless t all answer v
-  term_refused answer fault told refused = decides_err t u v (term_declared name (column, term.1)) rest all answer fault told refused decides
+  pub term_refused : (answer : Answer) (fault : BuildFault) → IsErrAnd answer (λ stated. stated ≡ fault) → IsLaidUnless u (term_declared name (column, term.1)) (Err fault) v → IsLaidUnless t all answer v
+  term_refused answer fault stated refused = decides_err t u v (term_declared name (column, term.1)) rest all answer fault stated refused decides

@@ -14,62 +14,62 @@ use Rattle.mpslp_model_core.proofs.CellLemmas.{at}
 use Rattle.mpslp_builder.specs.Declaration.{declare_range, has_row, has_column}
 use Rattle.mpslp_builder.specs.Refusal.{rhs_tests, coefficient_tests, integer_tests, semi_tests, refusals, bounds_refusals}
 use Rattle.mpslp_builder.specs.Tables.{draft, lower_of, upper_of, IsNumbered}
-use Rattle.mpslp_builder.specs.Calls.{row_key_of, row_name, column_name, row_tells, has_limits, column_tells, cells_at, is_objective_ref, IsOnceEach}
+use Rattle.mpslp_builder.specs.Calls.{row_key_of, row_name, column_name, row_satisfies, has_limits, column_satisfies, cells_at, is_objective_ref, IsOnceEach}
 use Rattle.mpslp_builder_parts.specs.RowParts.{RowParts}
 use Rattle.mpslp_builder_parts.specs.declared.parts.ObjectiveParts.{ObjectiveParts}
 use Rattle.mpslp_builder.specs.declared.tables.RowRef.{RowRef}
 use Rattle.mpslp_builder.specs.declared.tables.RowRef.TheVariants.{Objective, Row}
 use Rattle.mpslp_builder.specs.declared.tables.Tables.{Tables}
-use Rattle.mpslp_builder.proofs.ReadingLemmas.{stands, part_at, flag_at, integer_at, cell_at, objective_at, free_at, has_range_at, has_rhs_at}
+use Rattle.mpslp_builder.proofs.ReadingLemmas.{entry_at, part_at, flag_at, integer_at, cell_at, objective_at, free_at, has_range_at, has_rhs_at}
 
 module _ (constant : Option Number) (t : Tables) (once : IsOnceEach t) where
   -- ---- columns
 
   module _ (i : ℕ) (c : List ℕ) (is : column_name t i ≡ Some c) (there : true ≡ has_column (draft None constant t) c) where
-    pub integer_told : (b : Bool) → b ≡ column_tells t i (λ parts. parts.semi)
+    pub integer_stated : (b : Bool) → b ≡ column_satisfies t i (λ parts. parts.semi)
         → those_of (integer_tests (draft None constant t) c) ≡ those_of ((b, SemiContinuous) ∷ [])
-    integer_told b told =
-        let s = stands t.columns.entries i c is in
-        let semi = flag_at None constant t once i c s (λ parts. parts.semi) ∙ sym told in
+    integer_stated b stated =
+        let s = entry_at t.columns.entries i c is in
+        let semi = flag_at None constant t once i c s (λ parts. parts.semi) ∙ sym stated in
         λ j. those_of ((not (sym there j), UnknownColumn) ∷ (semi j, SemiContinuous) ∷ [])
 
-    pub semi_told : (b : Bool) → b ≡ column_tells t i (λ parts. parts.marked || (parts.integer || parts.binary))
+    pub semi_stated : (b : Bool) → b ≡ column_satisfies t i (λ parts. parts.marked || (parts.integer || parts.binary))
         → those_of (semi_tests (draft None constant t) c) ≡ those_of ((b, SemiContinuous) ∷ [])
-    semi_told b told =
-        let integer = integer_at None constant t once i c (stands t.columns.entries i c is) ∙ sym told in
+    semi_stated b stated =
+        let integer = integer_at None constant t once i c (entry_at t.columns.entries i c is) ∙ sym stated in
         λ j. those_of ((not (sym there j), UnknownColumn) ∷ (integer j, SemiContinuous) ∷ [])
 
-    pub sides_told : (lower upper : Option Limit) (b infinite : Bool)
-        → b ≡ ((is_some lower && column_tells t i (λ parts. is_some parts.sides.lower)) || (is_some upper && column_tells t i (λ parts. is_some parts.sides.upper)))
+    pub sides_stated : (lower upper : Option Limit) (b infinite : Bool)
+        → b ≡ ((is_some lower && column_satisfies t i (λ parts. is_some parts.sides.lower)) || (is_some upper && column_satisfies t i (λ parts. is_some parts.sides.upper)))
         → infinite ≡ (option_map_or is_plus_infinite lower false || option_map_or is_minus_infinite upper false)
         → bounds_refusals (draft None constant t) c lower upper ≡ those_of ((b, DuplicateBound) ∷ (infinite, InfiniteValue) ∷ [])
-    sides_told lower upper b infinite told end =
-        let s = stands t.columns.entries i c is in
+    sides_stated lower upper b infinite stated end =
+        let s = entry_at t.columns.entries i c is in
         let lowers = part_at None constant t once i c s lower_of in
         let uppers = part_at None constant t once i c s upper_of in
         (λ j. those_of ((not (sym there j), UnknownColumn) ∷ ((is_some lower && lowers j) || (is_some upper && uppers j), DuplicateBound) ∷ (sym end j, InfiniteValue) ∷ []))
-        ∙ ap (λ (duplicate : Bool). those_of ((duplicate, DuplicateBound) ∷ (infinite, InfiniteValue) ∷ [])) (sym told)
+        ∙ ap (λ (duplicate : Bool). those_of ((duplicate, DuplicateBound) ∷ (infinite, InfiniteValue) ∷ [])) (sym stated)
 
-    pub cell_told : (n : ℕ) (r : List ℕ) (b : Bool) → IsNumbered t → row_name t n ≡ Some r → true ≡ has_row (draft None constant t) r → b ≡ is_some (find nat_cmp n (cells_at t i))
+    pub cell_stated : (n : ℕ) (r : List ℕ) (b : Bool) → IsNumbered t → row_name t n ≡ Some r → true ≡ has_row (draft None constant t) r → b ≡ is_some (find nat_cmp n (cells_at t i))
         → those_of (coefficient_tests (draft None constant t) (at r c)) ≡ those_of ((b, DuplicateEntry) ∷ [])
-    cell_told n r b numbered row row_there told =
-        let entry = cell_at None constant t once i c (stands t.columns.entries i c is) n r numbered row ∙ sym told in
+    cell_stated n r b numbered row row_there stated =
+        let entry = cell_at None constant t once i c (entry_at t.columns.entries i c is) n r numbered row ∙ sym stated in
         λ j. those_of ((not (sym row_there j), UnknownRow) ∷ (not (sym there j), UnknownColumn) ∷ (entry j, DuplicateEntry) ∷ [])
 
   -- ---- rows
 
   module _ (numbered : IsNumbered t) (p : RowRef) (r : List ℕ) (is : row_name t (row_key_of p) ≡ Some r) (there : true ≡ has_row (draft None constant t) r) where
-    pub rhs_told : (b : Bool) → b ≡ row_tells t p (λ o. is_some o.rhs || is_some constant) (λ row. is_some row.rhs || is_definition_by_limits row.definition)
+    pub rhs_stated : (b : Bool) → b ≡ row_satisfies t p (λ o. is_some o.rhs || is_some constant) (λ row. is_some row.rhs || is_definition_by_limits row.definition)
         → those_of (rhs_tests (draft None constant t) r) ≡ those_of ((b, DuplicateRhs) ∷ [])
-    rhs_told b told =
-        let duplicate = has_rhs_at None constant t once numbered (is_some constant) p r is ∙ sym told in
+    rhs_stated b stated =
+        let duplicate = has_rhs_at None constant t once numbered (is_some constant) p r is ∙ sym stated in
         λ j. those_of ((not (sym there j), UnknownRow) ∷ (duplicate j, DuplicateRhs) ∷ [])
 
-    pub range_told : (value : Number) (b free : Bool) → b ≡ row_tells t p (λ o. false) (λ row. is_some row.range || is_definition_by_limits row.definition)
-        → (is_objective_ref p || row_tells t p (λ o. false) (λ row. is_free_definition row.definition)) ≡ free
+    pub range_stated : (value : Number) (b free : Bool) → b ≡ row_satisfies t p (λ o. false) (λ row. is_some row.range || is_definition_by_limits row.definition)
+        → (is_objective_ref p || row_satisfies t p (λ o. false) (λ row. is_free_definition row.definition)) ≡ free
         → refusals (draft None constant t) (declare_range r value) ≡ those_of ((b, DuplicateRange) ∷ (free, RangeOnFree) ∷ (is_infinite_size value, InfiniteValue) ∷ [])
-    range_told value b free told is_free =
-        let duplicate = has_range_at None constant t once numbered p r is ∙ sym told in
+    range_stated value b free stated is_free =
+        let duplicate = has_range_at None constant t once numbered p r is ∙ sym stated in
         let no_sides = (λ j. objective_at None constant t once numbered p r is j || free_at None constant t once numbered p r is j) ∙ is_free in
         λ j. those_of ((not (sym there j), UnknownRow) ∷ (duplicate j, DuplicateRange) ∷ (no_sides j, RangeOnFree) ∷ (is_infinite_size value, InfiniteValue) ∷ [])
 
@@ -89,7 +89,7 @@ no_row None = refl
 no_row (Some o) = refl
 
 -- a place whose right-hand side or range may be declared is no row by limits
-pub typed_place : (t : Tables) (of_objective : ObjectiveParts → Bool) (test : RowParts → Bool) (p : RowRef) → row_tells t p of_objective (λ row. test row || is_definition_by_limits row.definition) ≡ false
+pub typed_place : (t : Tables) (of_objective : ObjectiveParts → Bool) (test : RowParts → Bool) (p : RowRef) → row_satisfies t p of_objective (λ row. test row || is_definition_by_limits row.definition) ≡ false
     → has_limits t p ≡ false
 typed_place t of_objective test Objective h = no_row t.objective
 typed_place t of_objective test (Row i) h = typed_row test (slice_get t.rows.entries i) h

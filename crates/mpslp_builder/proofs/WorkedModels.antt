@@ -161,8 +161,8 @@ minus_one = Finite (whole (negsuc 0))
 no_bounds : column_of (bounded_by []) x ≡ record { kind = Continuous; lower = zero_limit; upper = PlusInf }
 no_bounds = refl
 
-marked_alone : column_of (bounded_by (declare_marked x ∷ [])) x ≡ record { kind = Integer; lower = zero_limit; upper = one_limit }
-marked_alone = refl
+marked_only : column_of (bounded_by (declare_marked x ∷ [])) x ≡ record { kind = Integer; lower = zero_limit; upper = one_limit }
+marked_only = refl
 
 marked_with_side : column_of (bounded_by (declare_marked x ∷ declare_lower x one_limit ∷ [])) x ≡ record { kind = Integer; lower = one_limit; upper = PlusInf }
 marked_with_side = refl
@@ -260,8 +260,8 @@ semi_and_binary = refl
 nothing : file_fault empty_draft ≡ Some (whole_fault kinds.NoColumns None)
 nothing = refl
 
-objective_alone : file_fault (draft_of (declare_objective f ∷ [])) ≡ Some (whole_fault kinds.NoColumns None)
-objective_alone = refl
+objective_only : file_fault (draft_of (declare_objective f ∷ [])) ≡ Some (whole_fault kinds.NoColumns None)
+objective_only = refl
 
 -- the first kind, with its least name in byte order: an error of a row comes before one of a column
 abbrev crossed : List ℕ → Declaration

@@ -37,17 +37,17 @@ abbrev pub column_name : Tables → ℕ → Option (List ℕ)
 column_name t i = option_map (λ e. e.0) (slice_get t.columns.entries i)
 
 -- whether the objective, or the row at an index, passes its test
-abbrev pub row_tells : Tables → RowRef → (ObjectiveParts → Bool) → (RowParts → Bool) → Bool
-row_tells t Objective of_objective of_row = option_map_or of_objective t.objective false
-row_tells t (Row i) of_objective of_row = option_map_or (λ e. of_row e.1) (slice_get t.rows.entries i) false
+abbrev pub row_satisfies : Tables → RowRef → (ObjectiveParts → Bool) → (RowParts → Bool) → Bool
+row_satisfies t Objective of_objective of_row = option_map_or of_objective t.objective false
+row_satisfies t (Row i) of_objective of_row = option_map_or (λ e. of_row e.1) (slice_get t.rows.entries i) false
 
 -- whether it is a row that is declared by its limits
 abbrev pub has_limits : Tables → RowRef → Bool
-has_limits t place = row_tells t place (λ o. false) (λ row. is_definition_by_limits row.definition)
+has_limits t place = row_satisfies t place (λ o. false) (λ row. is_definition_by_limits row.definition)
 
 -- whether the column of a number passes a test
-abbrev pub column_tells : Tables → ℕ → (ColumnParts → Bool) → Bool
-column_tells t i test = option_map_or (λ e. test e.1) (slice_get t.columns.entries i) false
+abbrev pub column_satisfies : Tables → ℕ → (ColumnParts → Bool) → Bool
+column_satisfies t i test = option_map_or (λ e. test e.1) (slice_get t.columns.entries i) false
 
 -- the coefficients of the column of a number
 abbrev pub cells_at : Tables → ℕ → List (ℕ × Number)

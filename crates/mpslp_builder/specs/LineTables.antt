@@ -9,7 +9,7 @@ use Rattle.mpslp_builder.specs.Declaration.{declare_column, Declarations, with_d
 use Rattle.mpslp_builder.specs.Refusal.{refusals_in_turn}
 use Rattle.mpslp_builder.specs.Made.{IsMade}
 use Rattle.mpslp_builder.specs.Tables.{draft, IsNumbered}
-use Rattle.mpslp_builder.specs.Calls.{row_name, column_name, column_tells, cells_at}
+use Rattle.mpslp_builder.specs.Calls.{row_name, column_name, column_satisfies, cells_at}
 use Rattle.mpslp_builder.specs.ColumnLine.{listed, column_line}
 use Rattle.mpslp_builder.specs.declared.lines.Entries.{Entries}
 use Rattle.mpslp_builder.specs.declared.lines.RowNumbers.{RowNumbers}
@@ -35,7 +35,7 @@ pub record AreFree (t : Tables) (column : ℕ) (rows : RowNumbers) : Type 0 wher
 
 pub record IsLinePlace (t : Tables) (name : List ℕ) (is_marked : Bool) (entries : Entries) (place : LinePlace) : Type 0 where
   pub column : column_name t place.column ≡ Some name
-  pub apart : (is_marked && column_tells t place.column (λ parts. parts.semi)) ≡ false
+  pub apart : (is_marked && column_satisfies t place.column (λ parts. parts.semi)) ≡ false
   pub rows : AreRows t entries place.rows
   pub free : AreFree t place.column place.rows
 
@@ -63,4 +63,4 @@ pub record HasStarted (t : Tables) (name : List ℕ) (column : ℕ) (u : Tables)
   pub named : column_name u column ≡ Some name
   pub laid : IsLaid t (declare_column name ∷ []) u
   pub cells : cells_at u column ≡ []
-  pub semi : column_tells u column (λ parts. parts.semi) ≡ false
+  pub semi : column_satisfies u column (λ parts. parts.semi) ≡ false

@@ -5,7 +5,7 @@ use Rattle.mpslp_decimal.specs.Decimal.{Number}
 use Rattle.mpslp_types.specs.Name.{bytes_cmp}
 use Rattle.mpslp_types.specs.declared.kinds.Sense.{Sense}
 use Rattle.mpslp_model_core.specs.Model.{key_cmp}
-use Rattle.mpslp_model_core.specs.Numbered.{sorted_of, each_part, given_parts, name_of, all_cells, all_named, TellsApart}
+use Rattle.mpslp_model_core.specs.Numbered.{sorted_of, each_part, given_parts, name_of, all_cells, all_named, IsInjective}
 use Rattle.mpslp_builder.specs.Declaration.{Draft}
 pub use Rattle.mpslp_builder_parts.specs.Parts.{definition_of, rhs_of, range_of, no_part, cells_of, lower_of, upper_of, as_part, mark_of, integer_of, binary_of, semi_of}
 use Rattle.mpslp_builder_parts.specs.declared.parts.ObjectiveParts.{ObjectiveParts}
@@ -56,7 +56,7 @@ draft sense constant t = draft_from sense constant t.objective t.rows.entries t.
 -- The rows fit numbers of 32 bits, different numbers have different names, and the number of each coefficient has a name.
 pub record AreNumbered (objective : Option ObjectiveParts) (rows : List (List ℕ × RowParts)) (columns : List (List ℕ × ColumnParts)) : Type 0 where
   pub few : length rows < 4294967295
-  pub apart : TellsApart (name_of_row_key objective rows)
+  pub apart : IsInjective (name_of_row_key objective rows)
   pub named : all_named (name_of_row_key objective rows) (cells_by_name columns) ≡ true
 
 abbrev pub IsNumbered : Tables → Type 0

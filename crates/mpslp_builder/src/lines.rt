@@ -11,7 +11,7 @@ ghost use Rattle.mpslp_builder.specs.Declaration.{has_name, has_row, has_column,
 ghost use Rattle.mpslp_builder.specs.Refusal.{refusals_in_turn};
 ghost use Rattle.mpslp_builder.specs.ColumnLine.{listed, entry_declared, column_line, TakesLine};
 ghost use Rattle.mpslp_builder.specs.Tables.{draft, IsNumbered};
-ghost use Rattle.mpslp_builder.specs.Calls.{row_name, column_name, column_tells, cells_at};
+ghost use Rattle.mpslp_builder.specs.Calls.{row_name, column_name, column_satisfies, cells_at};
 ghost use Rattle.mpslp_builder.specs.LineTables.{AreRows, AreKnownRows, AreFree, IsLinePlace, IsFreeLine, IsLaid, Follows, HasStarted};
 
 use crate::builder::Builder;
@@ -108,7 +108,7 @@ impl Tables {
         ensures place { IfSome result (λ place. IsLinePlace self.now column.now is_marked entries.now place) }
         ensures found { IsFreeLine self.now column.now is_marked entries.now → is_some result ≡ true }
     {
-        self.each_name_stands_once();
+        self.each_name_occurs_once();
         let Some(column) = self.column_number(column) else {
             return None;
         };
@@ -142,12 +142,12 @@ impl Tables {
     fn mark_if(&mut self, column: usize, is_marked: bool)
         requires numbered { IsNumbered self.old }
         requires column { is_some (column_name self.old column) ≡ true }
-        requires apart { (is_marked && column_tells self.old column (λ parts. parts.semi)) ≡ false }
+        requires apart { (is_marked && column_satisfies self.old column (λ parts. parts.semi)) ≡ false }
         ensures kept { Follows self.old self.new }
         ensures laid { (name : List ℕ) → column_name self.old column ≡ Some name → IsLaid self.old (when is_marked (declare_marked name)) self.new }
         ensures cells { cells_at self.new column ≡ cells_at self.old column }
     {
-        self.each_name_stands_once();
+        self.each_name_occurs_once();
         if is_marked {
             self.put_mark(column);
         }
@@ -170,7 +170,7 @@ impl Tables {
         ensures cells { (other : ℕ) → other ≢ row → find nat_cmp other (cells_at self.new column) ≡ find nat_cmp other (cells_at self.old column) }
     {
         each_value_is_a_decimal(value);
-        self.each_name_stands_once();
+        self.each_name_occurs_once();
         self.put_cell(column, row, value)
     }
 
@@ -206,7 +206,7 @@ impl Tables {
     ) -> Result<(), AllocError>
         requires numbered { IsNumbered self.old }
         requires column { is_some (column_name self.old column) ≡ true }
-        requires apart { (is_marked && column_tells self.old column (λ parts. parts.semi)) ≡ false }
+        requires apart { (is_marked && column_satisfies self.old column (λ parts. parts.semi)) ≡ false }
         requires rows { AreRows self.old entries.now rows }
         requires free { AreFree self.old column rows }
         ensures kept { Follows self.old self.new }

@@ -13,7 +13,7 @@ ghost use Rattle.mpslp_builder.specs.Declaration.{by_limits, declare_objective, 
 ghost use Rattle.mpslp_builder.specs.Refusal.{has_constant, sense_tests, constant_tests, row_tests, rhs_tests, integer_tests, semi_tests, coefficient_tests, refusals, bounds_refusals};
 ghost use Rattle.mpslp_builder.specs.Answer.{first_refusal};
 ghost use Rattle.mpslp_builder.specs.Tables.{draft, IsNumbered};
-ghost use Rattle.mpslp_builder.specs.Calls.{CoefficientsAreKnown, row_key_of, row_name, column_name, row_tells, has_limits, column_tells, cells_at, answer_of, IsOnceEach};
+ghost use Rattle.mpslp_builder.specs.Calls.{CoefficientsAreKnown, row_key_of, row_name, column_name, row_satisfies, has_limits, column_satisfies, cells_at, answer_of, IsOnceEach};
 
 use crate::builder::Builder;
 use crate::tables::{RowRef, Tables};
@@ -70,11 +70,11 @@ impl Tables {
     ) -> Result<RowRef, BuildFault>
         requires { IsNumbered self.now }
         ensures place { IfOk result (λ place. row_name self.now (row_key_of place) ≡ Some row.now) }
-        ensures absent { IfOk result (λ place. row_tells self.now place (λ objective. is_some objective.rhs || is_some constant.now) (λ row. is_some row.rhs || is_definition_by_limits row.definition) ≡ false) }
+        ensures absent { IfOk result (λ place. row_satisfies self.now place (λ objective. is_some objective.rhs || is_some constant.now) (λ row. is_some row.rhs || is_definition_by_limits row.definition) ≡ false) }
         ensures once { IsOnceEach self.now }
         ensures answer { answer_of result ≡ first_refusal (those_of (rhs_tests (draft None constant.now self.now) row.now)) }
     {
-        self.each_name_stands_once();
+        self.each_name_occurs_once();
         let Some(place) = self.row_ref(row) else {
             return Err(BuildFault::UnknownRow);
         };
@@ -92,7 +92,7 @@ impl Tables {
         ensures once { IsOnceEach self.now }
         ensures answer { answer_of result ≡ first_refusal (refusals (draft None None self.now) (declare_range row.now value)) }
     {
-        self.each_name_stands_once();
+        self.each_name_occurs_once();
         let Some(place) = self.row_ref(row) else {
             return Err(BuildFault::UnknownRow);
         };
@@ -117,7 +117,7 @@ impl Tables {
         requires known { CoefficientsAreKnown (draft None None self.now) }
         ensures { result ≡ has_coefficient (draft None None self.now) (record { row = row.now; column = column.now }) }
     {
-        self.each_name_stands_once();
+        self.each_name_occurs_once();
         // A column that is not declared yet saves the look-up of the row.
         let Some(number) = self.column_number(column) else {
             return false;
@@ -141,7 +141,7 @@ impl Tables {
         ensures once { IsOnceEach self.now }
         ensures answer { answer_of result ≡ first_refusal (those_of (coefficient_tests (draft None None self.now) (record { row = row.now; column = column.now }))) }
     {
-        self.each_name_stands_once();
+        self.each_name_occurs_once();
         let Some(place) = self.row_ref(row) else {
             return Err(BuildFault::UnknownRow);
         };
@@ -157,7 +157,7 @@ impl Tables {
 
     /// Whether the column of a number already has a declaration of a given bound.
     fn has_side(&self, column: usize, lower: &Option<Limit>, upper: &Option<Limit>) -> bool
-        ensures { result ≡ ((is_some lower.now && column_tells self.now column (λ parts. is_some parts.sides.lower)) || (is_some upper.now && column_tells self.now column (λ parts. is_some parts.sides.upper))) }
+        ensures { result ≡ ((is_some lower.now && column_satisfies self.now column (λ parts. is_some parts.sides.lower)) || (is_some upper.now && column_satisfies self.now column (λ parts. is_some parts.sides.upper))) }
     {
         (lower.is_some() && self.has_lower(column)) || (upper.is_some() && self.has_upper(column))
     }
@@ -173,7 +173,7 @@ impl Tables {
         ensures once { IsOnceEach self.now }
         ensures answer { answer_of result ≡ first_refusal (bounds_refusals (draft None None self.now) column.now lower.now upper.now) }
     {
-        self.each_name_stands_once();
+        self.each_name_occurs_once();
         let Some(number) = self.column_number(column) else {
             return Err(BuildFault::UnknownColumn);
         };
@@ -192,7 +192,7 @@ impl Tables {
         ensures once { IsOnceEach self.now }
         ensures answer { answer_of result ≡ first_refusal (those_of (integer_tests (draft None None self.now) column.now)) }
     {
-        self.each_name_stands_once();
+        self.each_name_occurs_once();
         let Some(number) = self.column_number(column) else {
             return Err(BuildFault::UnknownColumn);
         };
@@ -208,7 +208,7 @@ impl Tables {
         ensures once { IsOnceEach self.now }
         ensures answer { answer_of result ≡ first_refusal (those_of (semi_tests (draft None None self.now) column.now)) }
     {
-        self.each_name_stands_once();
+        self.each_name_occurs_once();
         let Some(number) = self.column_number(column) else {
             return Err(BuildFault::UnknownColumn);
         };

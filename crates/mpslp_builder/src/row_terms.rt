@@ -194,7 +194,7 @@ impl Tables {
         ensures rows { self.new.rows.entries ≡ self.old.rows.entries }
         ensures ok { IfOk result (λ column. HasColumn self.old name.now column self.new) }
     {
-        self.each_name_stands_once();
+        self.each_name_occurs_once();
         match self.column_from(name, guess) {
             Some(column) => Ok(column),
             None => self.start_column(alloc, Name::from_legal(alloc, name)?),
@@ -218,7 +218,7 @@ impl Tables {
         ensures laid { (name : List ℕ) → row_name self.old row ≡ Some name → IsLaidUnless self.old (term_declared name (column.now, value)) result self.new }
     {
         let number = self.term_column(alloc, column, guess)?;
-        self.each_name_stands_once();
+        self.each_name_occurs_once();
         if self.has_cell(number, row) {
             return Err(BuildFault::DuplicateEntry);
         }

@@ -11,7 +11,7 @@ ghost use Rattle.mpslp_types.specs.Name.{same_bytes};
 ghost use Rattle.mpslp_builder.specs.Declaration.{has_row, has_column, has_name, is_objective, is_free_row, is_free_definition, is_definition_by_limits};
 ghost use Rattle.mpslp_builder.specs.Consistency.{has_objective_rhs};
 ghost use Rattle.mpslp_builder.specs.Tables.{draft, IsNumbered};
-ghost use Rattle.mpslp_builder.specs.Calls.{row_key_of, row_name, column_name, row_tells, has_limits, column_tells, cells_at, new_column, with_cell, with_bounds, IsOnceEach, IsEmptyTables, IsSameTables, HasObjective, HasRowAdded, HasRowChanged, HasColumnAdded, HasColumnChanged, HasRhsPut};
+ghost use Rattle.mpslp_builder.specs.Calls.{row_key_of, row_name, column_name, row_satisfies, has_limits, column_satisfies, cells_at, new_column, with_cell, with_bounds, IsOnceEach, IsEmptyTables, IsSameTables, HasObjective, HasRowAdded, HasRowChanged, HasColumnAdded, HasColumnChanged, HasRhsPut};
 
 use indexmap::IndexMap;
 use mpslp_builder_parts::{ColumnParts, ObjectiveParts, RowParts};
@@ -85,7 +85,7 @@ impl Tables {
     }
 
     /// No map has two entries of one name. Every `IndexMap` guarantees that, so nothing is tested.
-    pub(crate) fn each_name_stands_once(&self)
+    pub(crate) fn each_name_occurs_once(&self)
         ensures { IsOnceEach self.now }
     {
         let _rows = self.rows.len();
@@ -104,7 +104,7 @@ impl Tables {
         requires { IsNumbered self.now }
         ensures { result ≡ has_objective_rhs (draft None None self.now) }
     {
-        self.each_name_stands_once();
+        self.each_name_occurs_once();
         match &self.objective {
             Some(objective) => objective.rhs.is_some(),
             None => false,
@@ -238,7 +238,7 @@ impl Tables {
 
     /// Whether the right-hand side is declared, as such, by the limits of the row, or by the constant of the objective.
     pub(crate) fn has_rhs(&self, place: RowRef, has_constant: bool) -> bool
-        ensures { result ≡ row_tells self.now place (λ objective. is_some objective.rhs || has_constant) (λ row. is_some row.rhs || is_definition_by_limits row.definition) }
+        ensures { result ≡ row_satisfies self.now place (λ objective. is_some objective.rhs || has_constant) (λ row. is_some row.rhs || is_definition_by_limits row.definition) }
     {
         match place {
             RowRef::Objective => match &self.objective {
@@ -254,7 +254,7 @@ impl Tables {
 
     /// Whether the range is declared, as such or by the limits of the row.
     pub(crate) fn has_range(&self, place: RowRef) -> bool
-        ensures { result ≡ row_tells self.now place (λ objective. false) (λ row. is_some row.range || is_definition_by_limits row.definition) }
+        ensures { result ≡ row_satisfies self.now place (λ objective. false) (λ row. is_some row.range || is_definition_by_limits row.definition) }
     {
         match place {
             RowRef::Objective => false,
@@ -267,7 +267,7 @@ impl Tables {
 
     /// Whether this is a row of type N. The objective does not count.
     pub(crate) fn is_free(&self, place: RowRef) -> bool
-        ensures { result ≡ row_tells self.now place (λ objective. false) (λ row. is_free_definition row.definition) }
+        ensures { result ≡ row_satisfies self.now place (λ objective. false) (λ row. is_free_definition row.definition) }
     {
         match place {
             RowRef::Objective => false,
@@ -290,7 +290,7 @@ impl Tables {
 
     /// Whether the lower bound of the column of a number is declared.
     pub(crate) fn has_lower(&self, column: usize) -> bool
-        ensures { result ≡ column_tells self.now column (λ parts. is_some parts.sides.lower) }
+        ensures { result ≡ column_satisfies self.now column (λ parts. is_some parts.sides.lower) }
     {
         match self.columns.get_index(column) {
             Some((_key, parts)) => parts.sides.has_lower(),
@@ -300,7 +300,7 @@ impl Tables {
 
     /// Whether the upper bound of the column of a number is declared.
     pub(crate) fn has_upper(&self, column: usize) -> bool
-        ensures { result ≡ column_tells self.now column (λ parts. is_some parts.sides.upper) }
+        ensures { result ≡ column_satisfies self.now column (λ parts. is_some parts.sides.upper) }
     {
         match self.columns.get_index(column) {
             Some((_key, parts)) => parts.sides.has_upper(),
@@ -310,7 +310,7 @@ impl Tables {
 
     /// Whether the column of a number is declared marked, integer or binary.
     pub(crate) fn is_integer(&self, column: usize) -> bool
-        ensures { result ≡ column_tells self.now column (λ parts. parts.marked || (parts.integer || parts.binary)) }
+        ensures { result ≡ column_satisfies self.now column (λ parts. parts.marked || (parts.integer || parts.binary)) }
     {
         match self.columns.get_index(column) {
             Some((_key, parts)) => parts.marked || (parts.integer || parts.binary),
@@ -320,7 +320,7 @@ impl Tables {
 
     /// Whether the column of a number is declared semi-continuous.
     pub(crate) fn is_semi(&self, column: usize) -> bool
-        ensures { result ≡ column_tells self.now column (λ parts. parts.semi) }
+        ensures { result ≡ column_satisfies self.now column (λ parts. parts.semi) }
     {
         match self.columns.get_index(column) {
             Some((_key, parts)) => parts.semi,

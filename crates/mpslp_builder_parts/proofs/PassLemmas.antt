@@ -5,11 +5,11 @@ use Rattle.mpslp_model_core.specs.Numbered.{each_part}
 
 -- the first remaining item is appended to those that are done
 pub passed_on : {X : Type 0} (done later left all : List X) (x : X) → later ≡ done ++ x ∷ [] → done ++ x ∷ left ≡ all → later ++ left ≡ all
-passed_on {X} done later left all x is before = ap (λ (xs : List X). xs ++ left) is ∙ behind done ∙ before
+passed_on {X} done later left all x is before = ap (λ (xs : List X). xs ++ left) is ∙ after done ∙ before
   where
-    behind : (xs : List X) → (xs ++ x ∷ []) ++ left ≡ xs ++ x ∷ left
-    behind [] = refl
-    behind (y ∷ ys) = ap (λ (more : List X). y ∷ more) (behind ys)
+    after : (xs : List X) → (xs ++ x ∷ []) ++ left ≡ xs ++ x ∷ left
+    after [] = refl
+    after (y ∷ ys) = ap (λ (more : List X). y ∷ more) (after ys)
 
 -- a property of all remaining items is one of the first, and of the others
 pub holds_first : {X : Type 0} (P : X → Type 0) (xs ys : List X) (x : X) → xs ≡ x ∷ ys → All P xs → P x

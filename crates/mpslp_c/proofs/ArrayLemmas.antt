@@ -5,7 +5,7 @@ use Rattle.std.proofs.lemmas.List.Sums.{sum_by_more}
 use Rattle.mpslp_model_core.specs.Model.{LinearModel}
 use Rattle.mpslp_model_core.specs.Views.{num_columns, row_name, column_name, column_names, numbered_elements}
 use Rattle.mpslp_decimal.specs.Decimal.{Number}
-use Rattle.mpslp_c.specs.Arrays.{KeepsNames, TellsRow, TellsRows, KeepsElements, TellsElement, TellsElements, TellsColumnHead, TellsColumn, TellsColumns, column_len, elements_before}
+use Rattle.mpslp_c.specs.Arrays.{KeepsNames, RepresentsRow, RepresentsRows, KeepsElements, RepresentsElement, RepresentsElements, RepresentsColumnHead, RepresentsColumn, RepresentsColumns, column_len, elements_before}
 use Rattle.mpslp_c.specs.declared.arrays.MpslpColumn.{MpslpColumn}
 use Rattle.mpslp_c.specs.declared.arrays.MpslpElement.{MpslpElement}
 use Rattle.mpslp_c.specs.declared.arrays.MpslpRow.{MpslpRow}
@@ -48,56 +48,56 @@ each-more {X} P xs n x counted each here i y h =
 -- ---- names that are kept
 
 pub keeps_all : (names : List ℕ) → KeepsNames names names
-keeps_all names name told h = h
+keeps_all names name in_c h = h
 
 pub keeps_then : {a b c : List ℕ} → KeepsNames a b → KeepsNames b c → KeepsNames a c
-keeps_then one other name told h = other name told (one name told h)
+keeps_then one other name in_c h = other name in_c (one name in_c h)
 
-pub row_kept : (m : LinearModel) (names names' : List ℕ) (i : ℕ) (told : MpslpRow) → KeepsNames names names' → TellsRow m names i told → TellsRow m names' i told
-row_kept m names names' i told keeps row = record { name = keeps (row_name m i) told.name row.name; lower = row.lower; upper = row.upper }
+pub row_kept : (m : LinearModel) (names names' : List ℕ) (i : ℕ) (in_c : MpslpRow) → KeepsNames names names' → RepresentsRow m names i in_c → RepresentsRow m names' i in_c
+row_kept m names names' i in_c keeps row = record { name = keeps (row_name m i) in_c.name row.name; lower = row.lower; upper = row.upper }
 
-pub rows_kept : (m : LinearModel) (names names' : List ℕ) (rows : List MpslpRow) → KeepsNames names names' → TellsRows m names rows → TellsRows m names' rows
-rows_kept m names names' rows keeps each = λ i told at. row_kept m names names' i told keeps (each i told at)
+pub rows_kept : (m : LinearModel) (names names' : List ℕ) (rows : List MpslpRow) → KeepsNames names names' → RepresentsRows m names rows → RepresentsRows m names' rows
+rows_kept m names names' rows keeps each = λ i in_c at. row_kept m names names' i in_c keeps (each i in_c at)
 
 -- one row more
-pub rows_more : (m : LinearModel) (names names' : List ℕ) (rows : List MpslpRow) (i : ℕ) (told : MpslpRow) → length rows ≡ i → KeepsNames names names'
-    → TellsRows m names rows → TellsRow m names' i told → TellsRows m names' (rows ++ told ∷ [])
-rows_more m names names' rows i told counted keeps rest here =
-    each-more (TellsRow m names') rows i told counted (λ k row at. row_kept m names names' k row keeps (rest k row at)) here
+pub rows_more : (m : LinearModel) (names names' : List ℕ) (rows : List MpslpRow) (i : ℕ) (in_c : MpslpRow) → length rows ≡ i → KeepsNames names names'
+    → RepresentsRows m names rows → RepresentsRow m names' i in_c → RepresentsRows m names' (rows ++ in_c ∷ [])
+rows_more m names names' rows i in_c counted keeps rest here =
+    each-more (RepresentsRow m names') rows i in_c counted (λ k row at. row_kept m names names' k row keeps (rest k row at)) here
 
 -- ---- elements that are kept
 
-element_kept : (entry : Option (Option ℕ × Number)) (old new : Option MpslpElement) → ((told : MpslpElement) → old ≡ Some told → new ≡ Some told) → TellsElement entry old → TellsElement entry new
+element_kept : (entry : Option (Option ℕ × Number)) (old new : Option MpslpElement) → ((in_c : MpslpElement) → old ≡ Some in_c → new ≡ Some in_c) → RepresentsElement entry old → RepresentsElement entry new
 element_kept None old new keeps h = absurd h
 element_kept (Some entry) None new keeps h = absurd h
-element_kept (Some entry) (Some told) new keeps h = subst (λ (o : Option MpslpElement). TellsElement (Some entry) o) (sym (keeps told refl)) h
+element_kept (Some entry) (Some in_c) new keeps h = subst (λ (o : Option MpslpElement). RepresentsElement (Some entry) o) (sym (keeps in_c refl)) h
 
-pub column_kept : (m : LinearModel) (names names' : List ℕ) (all all' : List MpslpElement) (j : ℕ) (told : MpslpColumn) → KeepsNames names names' → KeepsElements all all'
-    → TellsColumn m names all j told → TellsColumn m names' all' j told
-column_kept m names names' all all' j told keeps keeps_elements column =
+pub column_kept : (m : LinearModel) (names names' : List ℕ) (all all' : List MpslpElement) (j : ℕ) (in_c : MpslpColumn) → KeepsNames names names' → KeepsElements all all'
+    → RepresentsColumn m names all j in_c → RepresentsColumn m names' all' j in_c
+column_kept m names names' all all' j in_c keeps keeps_elements column =
     let head = column.head in
     record {
       head = record {
-        name = keeps (column_name m j) told.name head.name;
+        name = keeps (column_name m j) in_c.name head.name;
         lower = head.lower;
         upper = head.upper;
         cost = head.cost;
         kind = head.kind;
         first = head.first;
       };
-      elements = λ k below. element_kept (slice_get (numbered_elements m (column_name m j)) k) (slice_get all (told.first + k)) (slice_get all' (told.first + k))
-          (keeps_elements (told.first + k)) (column.elements k below);
+      elements = λ k below. element_kept (slice_get (numbered_elements m (column_name m j)) k) (slice_get all (in_c.first + k)) (slice_get all' (in_c.first + k))
+          (keeps_elements (in_c.first + k)) (column.elements k below);
     }
 
 -- one column more, and its elements
-pub columns_more : (m : LinearModel) (names names' : List ℕ) (all all' : List MpslpElement) (columns : List MpslpColumn) (j : ℕ) (told : MpslpColumn)
+pub columns_more : (m : LinearModel) (names names' : List ℕ) (all all' : List MpslpElement) (columns : List MpslpColumn) (j : ℕ) (in_c : MpslpColumn)
     → length columns ≡ j → length all ≡ elements_before m j → KeepsNames names names' → KeepsElements all all'
-    → TellsColumns m names all columns → TellsColumnHead m names' j told → TellsElements m j (length all) (column_len m (column_name m j)) all'
-    → TellsColumns m names' all' (columns ++ told ∷ [])
-columns_more m names names' all all' columns j told counted elements_counted keeps keeps_elements rest head elements =
-    each-more (TellsColumn m names' all') columns j told counted
+    → RepresentsColumns m names all columns → RepresentsColumnHead m names' j in_c → RepresentsElements m j (length all) (column_len m (column_name m j)) all'
+    → RepresentsColumns m names' all' (columns ++ in_c ∷ [])
+columns_more m names names' all all' columns j in_c counted elements_counted keeps keeps_elements rest head elements =
+    each-more (RepresentsColumn m names' all') columns j in_c counted
     (λ k column at. column_kept m names names' all all' k column keeps keeps_elements (rest k column at))
-    (record { head = head; elements = subst (λ (first : ℕ). TellsElements m j first (column_len m (column_name m j)) all') (elements_counted ∙ sym head.first) elements })
+    (record { head = head; elements = subst (λ (first : ℕ). RepresentsElements m j first (column_len m (column_name m j)) all') (elements_counted ∙ sym head.first) elements })
 
 -- the elements of one column more
 pub before_more : (m : LinearModel) (j : ℕ) → j < num_columns m → elements_before m (j + 1) ≡ elements_before m j + column_len m (column_name m j)

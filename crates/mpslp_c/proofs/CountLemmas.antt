@@ -29,7 +29,7 @@ sum-both f g [] = refl
 sum-both {X} f g (x ∷ xs) =
     omega (arith, sum_by-cons (λ (y : X). f y + g y) x xs, sum_by-cons f x xs, sum_by-cons g x xs, sum-both f g xs)
 
--- ---- a name stands once among the keys of a map
+-- ---- a name occurs once among the keys of a map
 
 not_same : (n c : List ℕ) → is_lt (bytes_cmp c n) ≡ true → same_bytes n c ≡ false
 not_same n c below =

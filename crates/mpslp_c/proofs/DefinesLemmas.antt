@@ -162,49 +162,49 @@ objective_there [] before h = let no : ⊥ = cc in absurd no
 objective_there (declare_objective name ∷ more) before h = objective_kept more (with_declaration before (declare_objective name)) refl
 objective_there (d ∷ more) before h = objective_there more (with_declaration before d) h
 
-names_objective : (told : MpslpModel) → list_all is_good (objective_steps told) ≡ true → (more : Declarations) → has_objective (flat_map step_declared (objective_steps told) ++ more) ≡ true
-names_objective told good more =
-    elim (name_given told.names.now told.objective) as (λ r. list_all is_good (steps_with r (λ name. steps_with (number_given told.constant) (λ constant. declares (declare_objective name) ∷ declares (declare_constant constant) ∷ sense_steps told.sense))) ≡ true
-    → has_objective (flat_map step_declared (steps_with r (λ name. steps_with (number_given told.constant) (λ constant. declares (declare_objective name) ∷ declares (declare_constant constant) ∷ sense_steps told.sense))) ++ more) ≡ true) [
+names_objective : (arrays : MpslpModel) → list_all is_good (objective_steps arrays) ≡ true → (more : Declarations) → has_objective (flat_map step_declared (objective_steps arrays) ++ more) ≡ true
+names_objective arrays good more =
+    elim (name_given arrays.names.now arrays.objective) as (λ r. list_all is_good (steps_with r (λ name. steps_with (number_given arrays.constant) (λ constant. declares (declare_objective name) ∷ declares (declare_constant constant) ∷ sense_steps arrays.sense))) ≡ true
+    → has_objective (flat_map step_declared (steps_with r (λ name. steps_with (number_given arrays.constant) (λ constant. declares (declare_objective name) ∷ declares (declare_constant constant) ∷ sense_steps arrays.sense))) ++ more) ≡ true) [
       | Err kind ↦ λ bad. let no : ⊥ = cc in absurd no
-      | Ok name ↦ elim (number_given told.constant) as (λ r. list_all is_good (steps_with r (λ constant. declares (declare_objective name) ∷ declares (declare_constant constant) ∷ sense_steps told.sense)) ≡ true
-          → has_objective (flat_map step_declared (steps_with r (λ constant. declares (declare_objective name) ∷ declares (declare_constant constant) ∷ sense_steps told.sense)) ++ more) ≡ true) [
+      | Ok name ↦ elim (number_given arrays.constant) as (λ r. list_all is_good (steps_with r (λ constant. declares (declare_objective name) ∷ declares (declare_constant constant) ∷ sense_steps arrays.sense)) ≡ true
+          → has_objective (flat_map step_declared (steps_with r (λ constant. declares (declare_objective name) ∷ declares (declare_constant constant) ∷ sense_steps arrays.sense)) ++ more) ≡ true) [
             | Err kind ↦ λ bad. let no : ⊥ = cc in absurd no
             | Ok constant ↦ λ _. refl
           ]
     ] good
 
-objective_of : (told : MpslpModel) → list_all is_good_item (items told) ≡ true → has_objective (flat_map declared_by (items told)) ≡ true
-objective_of told good = names_objective told (first_so (list_all is_good (objective_steps told)) _ good) _
+objective_of : (arrays : MpslpModel) → list_all is_good_item (items arrays) ≡ true → has_objective (flat_map declared_by (items arrays)) ≡ true
+objective_of arrays good = names_objective arrays (first_so (list_all is_good (objective_steps arrays)) _ good) _
 
 -- ---- the model
 
 -- the objective is declared if no item has an error
-pub objective-declared : (told : MpslpModel) → first_item_fault empty_draft (items told) ≡ None → is_some (after_items empty_draft (items told)).objective ≡ true
-objective-declared told none =
-    let free = items_free (items told) empty_draft none in
-    ap (λ (d : Draft). is_some d.objective) (items-after (items told) empty_draft)
-    ∙ objective_there (flat_map declared_by (items told)) empty_draft (objective_of told free.good)
+pub objective-declared : (arrays : MpslpModel) → first_item_fault empty_draft (items arrays) ≡ None → is_some (after_items empty_draft (items arrays)).objective ≡ true
+objective-declared arrays none =
+    let free = items_free (items arrays) empty_draft none in
+    ap (λ (d : Draft). is_some d.objective) (items-after (items arrays) empty_draft)
+    ∙ objective_there (flat_map declared_by (items arrays)) empty_draft (objective_of arrays free.good)
 
-pub defines-from_none : (told : MpslpModel) (m : LinearModel) → first_item_fault empty_draft (items told) ≡ None → DraftMeans (after_items empty_draft (items told)) m → Defines told m
-defines-from_none told m none meant =
-    let free = items_free (items told) empty_draft none in
+pub defines-from_none : (arrays : MpslpModel) (m : LinearModel) → first_item_fault empty_draft (items arrays) ≡ None → DraftMeans (after_items empty_draft (items arrays)) m → Defines arrays m
+defines-from_none arrays m none meant =
+    let free = items_free (items arrays) empty_draft none in
     record {
       good = free.good;
       means = record {
-        consistent = consistent-from_none (flat_map declared_by (items told)) (objective_of told free.good) free.free;
-        meant = subst (λ (d : Draft). DraftMeans d m) (items-after (items told) empty_draft) meant;
+        consistent = consistent-from_none (flat_map declared_by (items arrays)) (objective_of arrays free.good) free.free;
+        meant = subst (λ (d : Draft). DraftMeans d m) (items-after (items arrays) empty_draft) meant;
       };
     }
 
-pub meant-from_defines : (told : MpslpModel) (m : LinearModel) → Defines told m → DraftMeans (after_items empty_draft (items told)) m
-meant-from_defines told m defines = subst (λ (d : Draft). DraftMeans d m) (sym (items-after (items told) empty_draft)) defines.means.meant
+pub meant-from_defines : (arrays : MpslpModel) (m : LinearModel) → Defines arrays m → DraftMeans (after_items empty_draft (items arrays)) m
+meant-from_defines arrays m defines = subst (λ (d : Draft). DraftMeans d m) (sym (items-after (items arrays) empty_draft)) defines.means.meant
 
-pub none-from_defines : (told : MpslpModel) (m : LinearModel) → are_known_in_turn empty_draft (flat_map declared_by (items told)) ≡ true → Defines told m
-    → first_item_fault empty_draft (items told) ≡ None
-none-from_defines told m known defines =
-    items_none (items told) empty_draft defines.good (none-from_consistent (flat_map declared_by (items told)) defines.means.consistent known)
+pub none-from_defines : (arrays : MpslpModel) (m : LinearModel) → are_known_in_turn empty_draft (flat_map declared_by (items arrays)) ≡ true → Defines arrays m
+    → first_item_fault empty_draft (items arrays) ≡ None
+none-from_defines arrays m known defines =
+    items_none (items arrays) empty_draft defines.good (none-from_consistent (flat_map declared_by (items arrays)) defines.means.consistent known)
 
 -- arrays define one model
-pub one_model : (told : MpslpModel) (m n : LinearModel) → Defines told m → Defines told n → m ≡ n
-one_model told m n a b = a.means.meant.model ∙ sym b.means.meant.model
+pub one_model : (arrays : MpslpModel) (m n : LinearModel) → Defines arrays m → Defines arrays n → m ≡ n
+one_model arrays m n a b = a.means.meant.model ∙ sym b.means.meant.model

@@ -71,9 +71,9 @@ steps_name : {X : Type 0} (given : Result X FaultKind) (steps : X → List Step)
 steps_name (Ok x) steps each = each x
 steps_name (Err kind) steps each = refl
 
-objective_names : (told : MpslpModel) → list_all names_nothing (steps_declare (objective_steps told)) ≡ true
-objective_names told =
-    steps_name (name_given told.names.now told.objective) _ (λ name. steps_name (number_given told.constant) _ (λ constant. sense_names told.sense))
+objective_names : (arrays : MpslpModel) → list_all names_nothing (steps_declare (objective_steps arrays)) ≡ true
+objective_names arrays =
+    steps_name (name_given arrays.names.now arrays.objective) _ (λ name. steps_name (number_given arrays.constant) _ (λ constant. sense_names arrays.sense))
 
 row_names : (all : List ℕ) (row : MpslpRow) → list_all names_nothing (steps_declare (row_steps all row)) ≡ true
 row_names all row = steps_name (name_given all row.name) _ (λ name. steps_name (limit_given row.lower) _ (λ lower. steps_name (limit_given row.upper) _ (λ upper. refl)))
@@ -289,31 +289,31 @@ none_declared (column ∷ columns) =
       | false ↦ refl
     ]
 
-pub items-known : (told : MpslpModel) (m : LinearModel) → Defines told m → are_known_in_turn empty_draft (flat_map declared_by (items told)) ≡ true
-items-known told m defines =
-    let names = told.names.now in
-    let objective = steps_declare (objective_steps told) in
-    let row_list = row_items names 0 told.rows.now in
+pub items-known : (arrays : MpslpModel) (m : LinearModel) → Defines arrays m → are_known_in_turn empty_draft (flat_map declared_by (items arrays)) ≡ true
+items-known arrays m defines =
+    let names = arrays.names.now in
+    let objective = steps_declare (objective_steps arrays) in
+    let row_list = row_items names 0 arrays.rows.now in
     let rows = flat_map declared_by row_list in
-    let column_list = column_items names (bytes_at names told.objective) told.rows.now told.elements.now 0 told.columns.now in
+    let column_list = column_items names (bytes_at names arrays.objective) arrays.rows.now arrays.elements.now 0 arrays.columns.now in
     let columns = flat_map declared_by column_list in
     let front = objective ++ rows in
     let before = draft_of front in
-    let after = draft_of (flat_map declared_by (items told)) in
-    let start : Item = record { place = AT_COLUMN; number = 0; steps = first_column_steps told.columns.now } in
-    let whole : flat_map declared_by (items told) ≡ front ++ columns =
+    let after = draft_of (flat_map declared_by (items arrays)) in
+    let start : Item = record { place = AT_COLUMN; number = 0; steps = first_column_steps arrays.columns.now } in
+    let whole : flat_map declared_by (items arrays) ≡ front ++ columns =
     ap (λ (ds : Declarations). objective ++ ds) (flat_map-append declared_by row_list (start ∷ column_list)
-    ∙ ap (λ (ds : Declarations). rows ++ (ds ++ columns)) (none_declared told.columns.now))
+    ∙ ap (λ (ds : Declarations). rows ++ (ds ++ columns)) (none_declared arrays.columns.now))
     ∙ sym (append_assoc objective rows columns) in
-    let good = second_so (list_all is_good (objective_steps told)) (list_all is_good_item (row_list ++ (start ∷ column_list))) defines.good in
+    let good = second_so (list_all is_good (objective_steps arrays)) (list_all is_good_item (row_list ++ (start ∷ column_list))) defines.good in
     let later = (all-parts is_good_item row_list (start ∷ column_list) good).1 in
-    let columns_good = second_so (list_all is_good (first_column_steps told.columns.now)) (list_all is_good_item column_list) later in
+    let columns_good = second_so (list_all is_good (first_column_steps arrays.columns.now)) (list_all is_good_item column_list) later in
     let known : list_all (is_known after) (front ++ columns) ≡ true = sym (ap (list_all (is_known after)) whole) ∙ defines.means.consistent.known in
     let ends : after ≡ with_declarations before columns = ap draft_of whole ∙ with_declarations-append front columns empty_draft in
-    let no_row = columns_no_row names (bytes_at names told.objective) told.rows.now told.elements.now 0 told.columns.now columns_good in
+    let no_row = columns_no_row names (bytes_at names arrays.objective) arrays.rows.now arrays.elements.now 0 arrays.columns.now columns_good in
     let has : HasRows before after = λ row there. sym (rows_stay columns before row no_row) ∙ ap (λ (d : Draft). has_row d row) (sym ends) ∙ there in
     ap (are_known_in_turn empty_draft) whole
     ∙ known-append front columns empty_draft
-    (always_known front empty_draft (all-append names_nothing objective rows (objective_names told) (rows_name names 0 told.rows.now)))
-    (columns_known names (bytes_at names told.objective) told.rows.now told.elements.now 0 told.columns.now before after columns_good has
+    (always_known front empty_draft (all-append names_nothing objective rows (objective_names arrays) (rows_name names 0 arrays.rows.now)))
+    (columns_known names (bytes_at names arrays.objective) arrays.rows.now arrays.elements.now 0 arrays.columns.now before after columns_good has
     (all-parts (is_known after) front columns known).1)

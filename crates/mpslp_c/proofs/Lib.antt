@@ -7,8 +7,8 @@ pub mod NumberLemmas
 pub mod StepLemmas
 pub mod StoredLemmas
 pub mod StoredTexts
-pub mod ToldDeclarations
-pub mod ToldDraft
-pub mod ToldItems
-pub mod ToldMeaning
-pub mod ToldValues
+pub mod StatedDeclarations
+pub mod StatedDraft
+pub mod StatedItems
+pub mod StatedMeaning
+pub mod StatedValues

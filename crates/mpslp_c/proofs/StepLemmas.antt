@@ -79,9 +79,9 @@ step_refused step more old new [] fault P Q are answered =
     subst (λ (e : LineError). TakesSteps (step ∷ more) old new (Err e)) (sym (ap error_of_build answered.0)) tt
 step_refused step more old new (first ∷ later) fault P Q are answered =
     let same : fault ≡ first = err_same answered.0 in
-    let told : head_of (step_faults old step) ≡ Some (kind_of_build_fault fault) = ap head_of are ∙ ap (λ (f : BuildFault). Some (kind_of_build_fault f)) (sym same) in
+    let stated : head_of (step_faults old step) ≡ Some (kind_of_build_fault fault) = ap head_of are ∙ ap (λ (f : BuildFault). Some (kind_of_build_fault f)) (sym same) in
     elim (kinded fault) as (λ _. TakesSteps (step ∷ more) old new (Err (error_of_build fault))) [
-      | inl is ↦ subst (λ (e : LineError). TakesSteps (step ∷ more) old new (Err e)) (sym is) (first_of_step old step more (kind_of_build_fault fault) told)
+      | inl is ↦ subst (λ (e : LineError). TakesSteps (step ∷ more) old new (Err e)) (sym is) (first_of_step old step more (kind_of_build_fault fault) stated)
       | inr is ↦ subst (λ (e : LineError). TakesSteps (step ∷ more) old new (Err e)) (sym is) tt
     ]
   where
@@ -91,9 +91,9 @@ step_refused step more old new (first ∷ later) fault P Q are answered =
 -- the error of a call is returned
 pub call_err : (step : Step) (more : List Step) (old new : Draft) (answer : Result (Unit {0}) LineError) (faults : List BuildFault) (fault : BuildFault) (P Q : Type 0)
     → step_faults old step ≡ map kind_of_build_fault faults → Answers faults (Err fault) P Q → IsErrAnd answer (λ e. e ≡ error_of_build fault) → TakesSteps (step ∷ more) old new answer
-call_err step more old new (Ok _) faults fault P Q are answered told = absurd told
-call_err step more old new (Err error) faults fault P Q are answered told =
-    subst (λ (e : LineError). TakesSteps (step ∷ more) old new (Err e)) (sym told) (step_refused step more old new faults fault P Q are answered)
+call_err step more old new (Ok _) faults fault P Q are answered stated = absurd stated
+call_err step more old new (Err error) faults fault P Q are answered stated =
+    subst (λ (e : LineError). TakesSteps (step ∷ more) old new (Err e)) (sym stated) (step_refused step more old new faults fault P Q are answered)
 
 -- steps after one that was taken
 pub step_then : (step : Step) (more : List Step) (old mid new : Draft) (answer : Result (Unit {0}) LineError) → head_of (step_faults old step) ≡ None
@@ -170,10 +170,10 @@ leads_err all xs ys old now new later (stored.NotLp place) l taken = taken
 leads_err all xs ys old now new later stored.OutOfMemory l taken = tt
 
 -- its error is returned
-pub leads_told : (all xs ys : List Item) (old now new later : Draft) (why : StoreFault) (answer : Result (Unit {0}) StoreFault) → Leads all old (xs ++ ys) now → TakesItems xs now new (Err why)
+pub leads_reported : (all xs ys : List Item) (old now new later : Draft) (why : StoreFault) (answer : Result (Unit {0}) StoreFault) → Leads all old (xs ++ ys) now → TakesItems xs now new (Err why)
     → IsErrAnd answer (λ e. e ≡ why) → TakesItems all old later answer
-leads_told all xs ys old now new later why (Ok _) l taken told = absurd told
-leads_told all xs ys old now new later why (Err e) l taken told = subst (λ (w : StoreFault). TakesItems all old later (Err w)) (sym told) (leads_err all xs ys old now new later why l taken)
+leads_reported all xs ys old now new later why (Ok _) l taken stated = absurd stated
+leads_reported all xs ys old now new later why (Err e) l taken stated = subst (λ (w : StoreFault). TakesItems all old later (Err w)) (sym stated) (leads_err all xs ys old now new later why l taken)
 
 -- the end
 pub leads_end : {all : List Item} {old new : Draft} → Leads all old [] new → TakesItems all old new (Ok tt)
@@ -226,10 +226,10 @@ range_end {X} xs end = let none : end - end ≡ 0 = omega arith in ap (λ (n : �
 
 -- ---- the steps of items whose values are given
 
-pub objective_taken : (told : MpslpModel) (name : List ℕ) (constant : Number) → name_given told.names.now told.objective ≡ Ok name → number_given told.constant ≡ Ok constant
-    → objective_steps told ≡ declares (declare_objective name) ∷ declares (declare_constant constant) ∷ sense_steps told.sense
-objective_taken told name constant h k =
-    (λ i. steps_with (h i) (λ name. steps_with (k i) (λ constant. declares (declare_objective name) ∷ declares (declare_constant constant) ∷ sense_steps told.sense)))
+pub objective_taken : (arrays : MpslpModel) (name : List ℕ) (constant : Number) → name_given arrays.names.now arrays.objective ≡ Ok name → number_given arrays.constant ≡ Ok constant
+    → objective_steps arrays ≡ declares (declare_objective name) ∷ declares (declare_constant constant) ∷ sense_steps arrays.sense
+objective_taken arrays name constant h k =
+    (λ i. steps_with (h i) (λ name. steps_with (k i) (λ constant. declares (declare_objective name) ∷ declares (declare_constant constant) ∷ sense_steps arrays.sense)))
 
 pub row_taken : (all : List ℕ) (row : MpslpRow) (name : List ℕ) (lower upper : Limit) → name_given all row.name ≡ Ok name → limit_given row.lower ≡ Ok lower → limit_given row.upper ≡ Ok upper
     → row_steps all row ≡ declares (declare_row name (by_limits lower upper)) ∷ []
@@ -257,18 +257,18 @@ legal_by true (Some fault) bytes name h = let no : ⊥ = cc in absurd no
 legal_by false refusal bytes name h = let no : ⊥ = cc in absurd no
 
 -- so a name is made of its bytes, unless an allocation fails
-pub name_made : (all : List ℕ) (told : MpslpName) (name made : List ℕ) → name_given all told ≡ Ok name → IfNone (name_refusal name) (made ≡ name) → made ≡ name
-name_made all told name made h taken =
-    let legal = legal_by (nat_le (told.at + told.len) (length all)) (name_refusal (bytes_at all told)) (bytes_at all told) name h in
+pub name_made : (all : List ℕ) (in_c : MpslpName) (name made : List ℕ) → name_given all in_c ≡ Ok name → IfNone (name_refusal name) (made ≡ name) → made ≡ name
+name_made all in_c name made h taken =
+    let legal = legal_by (nat_le (in_c.at + in_c.len) (length all)) (name_refusal (bytes_at all in_c)) (bytes_at all in_c) name h in
     let none : name_refusal name ≡ None = ap name_refusal (sym legal.1) ∙ legal.0 in
     subst (λ (o : Option NameFault). IfNone o (made ≡ name)) none taken
 
-pub given_bytes : (all : List ℕ) (told : MpslpName) (name : List ℕ) → name_given all told ≡ Ok name → bytes_at all told ≡ name
-given_bytes all told name h = (legal_by (nat_le (told.at + told.len) (length all)) (name_refusal (bytes_at all told)) (bytes_at all told) name h).1
+pub given_bytes : (all : List ℕ) (in_c : MpslpName) (name : List ℕ) → name_given all in_c ≡ Ok name → bytes_at all in_c ≡ name
+given_bytes all in_c name h = (legal_by (nat_le (in_c.at + in_c.len) (length all)) (name_refusal (bytes_at all in_c)) (bytes_at all in_c) name h).1
 
 -- ---- the items from an index on
 
--- what stands for an element or a column that is not there
+-- what is used for an element or a column that is not there
 abbrev no_number : MpslpNumber
 no_number = record { low = 0; high = pos 0; exponent = pos 0; infinity = pos 0 }
 

@@ -23,23 +23,23 @@ pub same_some : {X : Type 0} {x y : X} → ◌≡◌ {A = Option X} (Some x) (So
 same_some h = cc
 
 -- arrays that define a model have no item with an error
-pub no_item : (told : MpslpModel) (m : LinearModel) → Defines told m → first_item_fault empty_draft (items told) ≡ None
-no_item told m defines = none-from_defines told m (items-known told m defines) defines
+pub no_item : (arrays : MpslpModel) (m : LinearModel) → Defines arrays m → first_item_fault empty_draft (items arrays) ≡ None
+no_item arrays m defines = none-from_defines arrays m (items-known arrays m defines) defines
 
 -- nor an error of the whole
-pub no_whole : (told : MpslpModel) (m : LinearModel) (all : Draft) → Defines told m → all ≡ after_items empty_draft (items told) → IsMade all → file_fault all ≡ None
-no_whole told m all defines is made =
-    no_fault-from_made all m made (ap (λ (d : Draft). is_some d.objective) is ∙ objective-declared told (no_item told m defines))
-    (subst (λ (d : Draft). DraftMeans d m) (sym is) (meant-from_defines told m defines))
+pub no_whole : (arrays : MpslpModel) (m : LinearModel) (all : Draft) → Defines arrays m → all ≡ after_items empty_draft (items arrays) → IsMade all → file_fault all ≡ None
+no_whole arrays m all defines is made =
+    no_fault-from_made all m made (ap (λ (d : Draft). is_some d.objective) is ∙ objective-declared arrays (no_item arrays m defines))
+    (subst (λ (d : Draft). DraftMeans d m) (sym is) (meant-from_defines arrays m defines))
 
-pub no_fault : (told : MpslpModel) (m : LinearModel) (all : Draft) (fault : Fault) → Defines told m → all ≡ after_items empty_draft (items told) → IsMade all → file_fault all ≡ Some fault → ⊥
-no_fault told m all fault defines is made h = some_none (file_fault all) fault (no_whole told m all defines is made) h
+pub no_fault : (arrays : MpslpModel) (m : LinearModel) (all : Draft) (fault : Fault) → Defines arrays m → all ≡ after_items empty_draft (items arrays) → IsMade all → file_fault all ≡ Some fault → ⊥
+no_fault arrays m all fault defines is made h = some_none (file_fault all) fault (no_whole arrays m all defines is made) h
 
 -- items that were not all taken
-pub not_taken : (told : MpslpModel) (m : LinearModel) (new : Draft) (why : StoreFault) (answer : Result LinearModel StoreFault) → TakesItems (items told) empty_draft new (Err why) → Defines told m
+pub not_taken : (arrays : MpslpModel) (m : LinearModel) (new : Draft) (why : StoreFault) (answer : Result LinearModel StoreFault) → TakesItems (items arrays) empty_draft new (Err why) → Defines arrays m
     → IsErrAnd answer (λ e. e ≡ why) → IsOkUnless answer stored.OutOfMemory
-not_taken told m new why (Ok n) taken defines handed = absurd handed
-not_taken told m new (stored.Item fault) (Err e) taken defines handed = absurd (some_none (first_item_fault empty_draft (items told)) fault (no_item told m defines) taken)
-not_taken told m new (stored.Whole fault) (Err e) taken defines handed = absurd taken
-not_taken told m new (stored.NotLp place) (Err e) taken defines handed = absurd taken
-not_taken told m new stored.OutOfMemory (Err e) taken defines handed = handed
+not_taken arrays m new why (Ok n) taken defines handed = absurd handed
+not_taken arrays m new (stored.Item fault) (Err e) taken defines handed = absurd (some_none (first_item_fault empty_draft (items arrays)) fault (no_item arrays m defines) taken)
+not_taken arrays m new (stored.Whole fault) (Err e) taken defines handed = absurd taken
+not_taken arrays m new (stored.NotLp place) (Err e) taken defines handed = absurd taken
+not_taken arrays m new stored.OutOfMemory (Err e) taken defines handed = handed

@@ -6,7 +6,7 @@ use Rattle.mpslp_jobs.specs.declared.jobs.Form.TheVariants.{Mps, Lp}
 use Rattle.mpslp_convert.specs.Performed.{declares_in, text_in}
 use Rattle.mpslp_c.specs.Laws.{AreStoredAsTheirTexts}
 use Rattle.mpslp_c.proofs.DefinesLemmas.{one_model}
-use Rattle.mpslp_c.proofs.ToldMeaning.{arrays-define}
+use Rattle.mpslp_c.proofs.StatedMeaning.{arrays-define}
 
 declared-sound : (from : Form) (bytes : List ℕ) (m : LinearModel) → declares_in from bytes m → IsSound m
 declared-sound Mps bytes m declares = declares.means.meant.sound
@@ -17,6 +17,6 @@ declared-once Mps bytes m n one other = one.means.meant.model ∙ sym other.mean
 declared-once Lp bytes m n one other = one.means.meant.model ∙ sym other.means.meant.model
 
 pub stored-as-texts : AreStoredAsTheirTexts
-stored-as-texts from to bytes m told text declares loaded stored =
-    let same : stored.0 ≡ m = one_model told stored.0 loaded.0 stored.1 (arrays-define loaded.0 told (declared-sound from bytes loaded.0 loaded.1) loaded.2) ∙ declared-once from bytes loaded.0 m loaded.1 declares in
+stored-as-texts from to bytes m arrays text declares loaded stored =
+    let same : stored.0 ≡ m = one_model arrays stored.0 loaded.0 stored.1 (arrays-define loaded.0 arrays (declared-sound from bytes loaded.0 loaded.1) loaded.2) ∙ declared-once from bytes loaded.0 m loaded.1 declares in
     stored.3 ∙ ap (text_in to) same

@@ -11,10 +11,10 @@ use Rattle.mpslp_conversions.specs.Conversions.{HasFirstFault, IsConversion, IsC
 use Rattle.mpslp_convert.specs.Performed.{declares_in, first_fault_in, unfit_in, text_in}
 use Rattle.mpslp_conversions.specs.declared.faults.ConvertFault.{ConvertFault}
 use Rattle.mpslp_conversions.specs.declared.faults.ConvertFault.TheVariants.{First, Second, NotLp, OutOfMemory}
-use Rattle.mpslp_c.specs.Arrays.{TellsModel}
+use Rattle.mpslp_c.specs.Arrays.{RepresentsModel}
 use Rattle.mpslp_builder.specs.Declaration.{Draft, empty_draft}
 use Rattle.mpslp_builder.specs.FileFault.{file_fault}
-use Rattle.mpslp_c.specs.Faults.{IsFaultTold, IsStoreFaultTold}
+use Rattle.mpslp_c.specs.Faults.{IsFaultSet, IsStoreFaultSet}
 use Rattle.mpslp_c.specs.Stored.{Item, items, first_item_fault, after_items, Defines}
 use Rattle.mpslp_c.specs.declared.answers.TheConstants.{OK, DIFFERS, REFUSED, SECOND_REFUSED, NOT_LP, OUT_OF_MEMORY, UNKNOWN_FORMAT}
 use Rattle.mpslp_c.specs.declared.arrays.MpslpModel.{MpslpModel}
@@ -53,7 +53,7 @@ IsTruthUnless result = (result ≡ OK) ⊎ ((result ≡ DIFFERS) ⊎ (result ≡
 
 -- The bytes declare a model, and the arrays are its. Or the result is the first error of the bytes.
 abbrev pub IsLoading : Declares → HasFirstFault → List ℕ → Result MpslpModel ConvertFault → Type 0
-IsLoading declares first_fault bytes (Ok told) = (m : LinearModel) × declares bytes m × TellsModel m told
+IsLoading declares first_fault bytes (Ok arrays) = (m : LinearModel) × declares bytes m × RepresentsModel m arrays
 IsLoading declares first_fault bytes (Err (First fault)) = first_fault bytes fault
 IsLoading declares first_fault bytes (Err (Second fault)) = ⊥
 IsLoading declares first_fault bytes (Err (NotLp place)) = ⊥
@@ -62,19 +62,19 @@ IsLoading declares first_fault bytes (Err OutOfMemory) = Unit {0}
 -- ---- how results are returned
 
 -- The text is set, or the error. The other one is unchanged.
-abbrev pub IsTextTold : Result (Vec ℕ Global) ConvertFault → ℕ → MpslpText → MpslpText → MpslpFault → MpslpFault → Type 0
-IsTextTold (Ok text) status out out' fault fault' = (status ≡ OK) × (out'.bytes.now ≡ text.items) × (fault' ≡ fault)
-IsTextTold (Err why) status out out' fault fault' = (status ≡ fault_status why) × (out' ≡ out) × IsFaultTold why fault fault'
+abbrev pub IsTextReturned : Result (Vec ℕ Global) ConvertFault → ℕ → MpslpText → MpslpText → MpslpFault → MpslpFault → Type 0
+IsTextReturned (Ok text) status out out' fault fault' = (status ≡ OK) × (out'.bytes.now ≡ text.items) × (fault' ≡ fault)
+IsTextReturned (Err why) status out out' fault fault' = (status ≡ fault_status why) × (out' ≡ out) × IsFaultSet why fault fault'
 
 -- The model is set, or the error. The other one is unchanged.
-abbrev pub IsModelTold : Result MpslpModel ConvertFault → ℕ → MpslpModel → MpslpModel → MpslpFault → MpslpFault → Type 0
-IsModelTold (Ok model) status out out' fault fault' = (status ≡ OK) × (out' ≡ model) × (fault' ≡ fault)
-IsModelTold (Err why) status out out' fault fault' = (status ≡ fault_status why) × (out' ≡ out) × IsFaultTold why fault fault'
+abbrev pub IsModelReturned : Result MpslpModel ConvertFault → ℕ → MpslpModel → MpslpModel → MpslpFault → MpslpFault → Type 0
+IsModelReturned (Ok model) status out out' fault fault' = (status ≡ OK) × (out' ≡ model) × (fault' ≡ fault)
+IsModelReturned (Err why) status out out' fault fault' = (status ≡ fault_status why) × (out' ≡ out) × IsFaultSet why fault fault'
 
 -- The status is that of yes or no, or the error is set.
-abbrev pub IsTruthTold : Result Bool ConvertFault → ℕ → MpslpFault → MpslpFault → Type 0
-IsTruthTold (Ok is_true) status fault fault' = (status ≡ truth_status is_true) × (fault' ≡ fault)
-IsTruthTold (Err why) status fault fault' = (status ≡ fault_status why) × IsFaultTold why fault fault'
+abbrev pub IsTruthReturned : Result Bool ConvertFault → ℕ → MpslpFault → MpslpFault → Type 0
+IsTruthReturned (Ok is_true) status fault fault' = (status ≡ truth_status is_true) × (fault' ≡ fault)
+IsTruthReturned (Err why) status fault fault' = (status ≡ fault_status why) × IsFaultSet why fault fault'
 
 -- ---- the calls
 
@@ -84,10 +84,10 @@ pub record IsConverted (declares : Declares) (first_fault : HasFirstFault) (unfi
     (status : ℕ) (out out' : MpslpText) (fault fault' : MpslpFault) : Type 0 where
   pub answer : Result (Vec ℕ Global) ConvertFault
   pub is : IsConversion declares first_fault unfit text bytes answer
-  pub told : IsTextTold answer status out out' fault fault'
+  pub returned : IsTextReturned answer status out out' fault fault'
   pub accepts : (m : LinearModel) → declares bytes m → unfit m ≡ None → IsUnless OK status
   pub refuses : (first : Fault) → first_fault bytes first → IsUnless REFUSED status
-  pub cannot_tell : (m : LinearModel) (place : NameAt) → declares bytes m → unfit m ≡ Some place → IsUnless NOT_LP status
+  pub cannot_express : (m : LinearModel) (place : NameAt) → declares bytes m → unfit m ≡ Some place → IsUnless NOT_LP status
 
 abbrev pub IsCanonicalAnswer : Option Form → Option Form → List ℕ → ℕ → MpslpText → MpslpText → MpslpFault → MpslpFault → Type 0
 IsCanonicalAnswer (Some from) (Some to) bytes status out out' fault fault' =
@@ -99,7 +99,7 @@ pub record IsCompared (declares : Declares) (first_fault : HasFirstFault) (decla
     (first second : List ℕ) (status : ℕ) (fault fault' : MpslpFault) : Type 0 where
   pub answer : Result Bool ConvertFault
   pub is : IsComparison declares first_fault declares' first_fault' first second answer
-  pub told : IsTruthTold answer status fault fault'
+  pub returned : IsTruthReturned answer status fault fault'
   pub accepts : (m n : LinearModel) → declares first m → declares' second n → IsTruthUnless status
   pub refuses : (found : Fault) → first_fault first found → IsUnless REFUSED status
   pub refuses_second : (m : LinearModel) (found : Fault) → declares first m → first_fault' second found → IsUnless SECOND_REFUSED status
@@ -114,7 +114,7 @@ pub record IsTested (declares : Declares) (first_fault : HasFirstFault) (text : 
     : Type 0 where
   pub answer : Result Bool ConvertFault
   pub is : IsTestOfText declares first_fault text bytes answer
-  pub told : IsTruthTold answer status fault fault'
+  pub returned : IsTruthReturned answer status fault fault'
   pub accepts : (m : LinearModel) → declares bytes m → IsTruthUnless status
   pub refuses : (found : Fault) → first_fault bytes found → IsUnless REFUSED status
 
@@ -128,7 +128,7 @@ pub record IsLoaded (declares : Declares) (first_fault : HasFirstFault) (bytes :
     : Type 0 where
   pub answer : Result MpslpModel ConvertFault
   pub is : IsLoading declares first_fault bytes answer
-  pub told : IsModelTold answer status out out' fault fault'
+  pub returned : IsModelReturned answer status out out' fault fault'
   pub accepts : (m : LinearModel) → declares bytes m → IsUnless OK status
   pub refuses : (found : Fault) → first_fault bytes found → IsUnless REFUSED status
 
@@ -149,27 +149,27 @@ TakesItems taken old new (Err stored.OutOfMemory) = Unit {0}
 
 -- The first error of arrays: that of an item, or if no item has one, that of the whole.
 abbrev pub HasFault : MpslpModel → StoreFault → Type 0
-HasFault told (stored.Item fault) = first_item_fault empty_draft (items told) ≡ Some fault
-HasFault told (stored.Whole fault) =
-    (first_item_fault empty_draft (items told) ≡ None) × (file_fault (after_items empty_draft (items told)) ≡ Some fault)
-HasFault told (stored.NotLp place) = ⊥
-HasFault told stored.OutOfMemory = ⊥
+HasFault arrays (stored.Item fault) = first_item_fault empty_draft (items arrays) ≡ Some fault
+HasFault arrays (stored.Whole fault) =
+    (first_item_fault empty_draft (items arrays) ≡ None) × (file_fault (after_items empty_draft (items arrays)) ≡ Some fault)
+HasFault arrays (stored.NotLp place) = ⊥
+HasFault arrays stored.OutOfMemory = ⊥
 
 -- The model that arrays define, or their first error.
 abbrev pub IsStoredModel : MpslpModel → Result LinearModel StoreFault → Type 0
-IsStoredModel told (Ok m) = Defines told m
-IsStoredModel told (Err (stored.Item fault)) = HasFault told (stored.Item fault)
-IsStoredModel told (Err (stored.Whole fault)) = HasFault told (stored.Whole fault)
-IsStoredModel told (Err (stored.NotLp place)) = ⊥
-IsStoredModel told (Err stored.OutOfMemory) = Unit {0}
+IsStoredModel arrays (Ok m) = Defines arrays m
+IsStoredModel arrays (Err (stored.Item fault)) = HasFault arrays (stored.Item fault)
+IsStoredModel arrays (Err (stored.Whole fault)) = HasFault arrays (stored.Whole fault)
+IsStoredModel arrays (Err (stored.NotLp place)) = ⊥
+IsStoredModel arrays (Err stored.OutOfMemory) = Unit {0}
 
 -- The text of the model that arrays define, or their first error, or the place of the first name that is not legal in the format.
 abbrev pub IsStoring : Unfit → TextOf → MpslpModel → Result (Vec ℕ Global) StoreFault → Type 0
-IsStoring unfit text told (Ok out) = (m : LinearModel) × Defines told m × (unfit m ≡ None) × (out.items ≡ text m)
-IsStoring unfit text told (Err (stored.Item fault)) = HasFault told (stored.Item fault)
-IsStoring unfit text told (Err (stored.Whole fault)) = HasFault told (stored.Whole fault)
-IsStoring unfit text told (Err (stored.NotLp place)) = (m : LinearModel) × Defines told m × (unfit m ≡ Some place)
-IsStoring unfit text told (Err stored.OutOfMemory) = Unit {0}
+IsStoring unfit text arrays (Ok out) = (m : LinearModel) × Defines arrays m × (unfit m ≡ None) × (out.items ≡ text m)
+IsStoring unfit text arrays (Err (stored.Item fault)) = HasFault arrays (stored.Item fault)
+IsStoring unfit text arrays (Err (stored.Whole fault)) = HasFault arrays (stored.Whole fault)
+IsStoring unfit text arrays (Err (stored.NotLp place)) = (m : LinearModel) × Defines arrays m × (unfit m ≡ Some place)
+IsStoring unfit text arrays (Err stored.OutOfMemory) = Unit {0}
 
 abbrev pub store_status : StoreFault → ℕ
 store_status (stored.Item fault) = REFUSED
@@ -178,44 +178,44 @@ store_status (stored.NotLp place) = NOT_LP
 store_status stored.OutOfMemory = OUT_OF_MEMORY
 
 -- The text is set, or the error. The other one is unchanged.
-abbrev pub IsStoreTold : Result (Vec ℕ Global) StoreFault → ℕ → MpslpText → MpslpText → MpslpFault → MpslpFault → Type 0
-IsStoreTold (Ok text) status out out' fault fault' = (status ≡ OK) × (out'.bytes.now ≡ text.items) × (fault' ≡ fault)
-IsStoreTold (Err why) status out out' fault fault' = (status ≡ store_status why) × (out' ≡ out) × IsStoreFaultTold why fault fault'
+abbrev pub IsStoreReturned : Result (Vec ℕ Global) StoreFault → ℕ → MpslpText → MpslpText → MpslpFault → MpslpFault → Type 0
+IsStoreReturned (Ok text) status out out' fault fault' = (status ≡ OK) × (out'.bytes.now ≡ text.items) × (fault' ≡ fault)
+IsStoreReturned (Err why) status out out' fault fault' = (status ≡ store_status why) × (out' ≡ out) × IsStoreFaultSet why fault fault'
 
 -- The text of arrays was made, and the result returned. Arrays that define a model whose names are legal in the format are never
 -- rejected, and so on.
-pub record IsStored (unfit : Unfit) (text : TextOf) (told : MpslpModel) (status : ℕ) (out out' : MpslpText) (fault fault' : MpslpFault) : Type 0 where
+pub record IsStored (unfit : Unfit) (text : TextOf) (arrays : MpslpModel) (status : ℕ) (out out' : MpslpText) (fault fault' : MpslpFault) : Type 0 where
   pub answer : Result (Vec ℕ Global) StoreFault
-  pub is : IsStoring unfit text told answer
-  pub given : IsStoreTold answer status out out' fault fault'
-  pub accepts : (m : LinearModel) → Defines told m → unfit m ≡ None → IsUnless OK status
-  pub refuses : (why : StoreFault) → HasFault told why → IsUnless REFUSED status
-  pub cannot_tell : (m : LinearModel) (place : NameAt) → Defines told m → unfit m ≡ Some place → IsUnless NOT_LP status
+  pub is : IsStoring unfit text arrays answer
+  pub returned : IsStoreReturned answer status out out' fault fault'
+  pub accepts : (m : LinearModel) → Defines arrays m → unfit m ≡ None → IsUnless OK status
+  pub refuses : (why : StoreFault) → HasFault arrays why → IsUnless REFUSED status
+  pub cannot_express : (m : LinearModel) (place : NameAt) → Defines arrays m → unfit m ≡ Some place → IsUnless NOT_LP status
 
 abbrev pub IsStoreAnswer : Option Form → MpslpModel → ℕ → MpslpText → MpslpText → MpslpFault → MpslpFault → Type 0
-IsStoreAnswer (Some to) told status out out' fault fault' = IsStored (unfit_in to) (text_in to) told status out out' fault fault'
-IsStoreAnswer None told status out out' fault fault' = (status ≡ UNKNOWN_FORMAT) × (out' ≡ out) × (fault' ≡ fault)
+IsStoreAnswer (Some to) arrays status out out' fault fault' = IsStored (unfit_in to) (text_in to) arrays status out out' fault fault'
+IsStoreAnswer None arrays status out out' fault fault' = (status ≡ UNKNOWN_FORMAT) × (out' ≡ out) × (fault' ≡ fault)
 
 -- ---- the call that normalizes arrays
 
 -- The arrays of the model that arrays define, or their first error.
 abbrev pub IsNormalizing : MpslpModel → Result MpslpModel StoreFault → Type 0
-IsNormalizing told (Ok out) = (m : LinearModel) × Defines told m × TellsModel m out
-IsNormalizing told (Err (stored.Item fault)) = HasFault told (stored.Item fault)
-IsNormalizing told (Err (stored.Whole fault)) = HasFault told (stored.Whole fault)
-IsNormalizing told (Err (stored.NotLp place)) = ⊥
-IsNormalizing told (Err stored.OutOfMemory) = Unit {0}
+IsNormalizing arrays (Ok out) = (m : LinearModel) × Defines arrays m × RepresentsModel m out
+IsNormalizing arrays (Err (stored.Item fault)) = HasFault arrays (stored.Item fault)
+IsNormalizing arrays (Err (stored.Whole fault)) = HasFault arrays (stored.Whole fault)
+IsNormalizing arrays (Err (stored.NotLp place)) = ⊥
+IsNormalizing arrays (Err stored.OutOfMemory) = Unit {0}
 
 -- The arrays are set, or the error. The other one is unchanged.
-abbrev pub AreArraysGiven : Result MpslpModel StoreFault → ℕ → MpslpModel → MpslpModel → MpslpFault → MpslpFault → Type 0
-AreArraysGiven (Ok model) status out out' fault fault' = (status ≡ OK) × (out' ≡ model) × (fault' ≡ fault)
-AreArraysGiven (Err why) status out out' fault fault' = (status ≡ store_status why) × (out' ≡ out) × IsStoreFaultTold why fault fault'
+abbrev pub AreArraysReturned : Result MpslpModel StoreFault → ℕ → MpslpModel → MpslpModel → MpslpFault → MpslpFault → Type 0
+AreArraysReturned (Ok model) status out out' fault fault' = (status ≡ OK) × (out' ≡ model) × (fault' ≡ fault)
+AreArraysReturned (Err why) status out out' fault fault' = (status ≡ store_status why) × (out' ≡ out) × IsStoreFaultSet why fault fault'
 
 -- The arrays were normalized, and the result returned. Arrays that define a model are never rejected, and those with an error
 -- always are.
-pub record IsNormalized (told : MpslpModel) (status : ℕ) (out out' : MpslpModel) (fault fault' : MpslpFault) : Type 0 where
+pub record IsNormalized (arrays : MpslpModel) (status : ℕ) (out out' : MpslpModel) (fault fault' : MpslpFault) : Type 0 where
   pub answer : Result MpslpModel StoreFault
-  pub is : IsNormalizing told answer
-  pub given : AreArraysGiven answer status out out' fault fault'
-  pub accepts : (m : LinearModel) → Defines told m → IsUnless OK status
-  pub refuses : (why : StoreFault) → HasFault told why → IsUnless REFUSED status
+  pub is : IsNormalizing arrays answer
+  pub returned : AreArraysReturned answer status out out' fault fault'
+  pub accepts : (m : LinearModel) → Defines arrays m → IsUnless OK status
+  pub refuses : (why : StoreFault) → HasFault arrays why → IsUnless REFUSED status

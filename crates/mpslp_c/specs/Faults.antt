@@ -13,38 +13,38 @@ use Rattle.mpslp_c.specs.declared.faults.StoreFault.TheVariants as stored
 use Rattle.mpslp_c.specs.declared.faults.TheConstants.{NAME_ROOM, NOWHERE, AT_OBJECTIVE, AT_ROW, AT_COLUMN}
 
 -- The name of the kind of an error, its line, a place in a model with its index, and a name that is padded with zeros.
-pub record Tells (kind : List ℕ) (line place number : ℕ) (name : List ℕ) (told : MpslpFault) : Type 0 where
-  pub kind_is : told.kind.now ≡ kind
-  pub line_is : told.line ≡ line
-  pub place_is : told.place ≡ place
-  pub number_is : told.number ≡ number
-  pub length_is : told.name_len ≡ length name
-  pub name_is : told.name ≡ name ++ replicate (NAME_ROOM - length name) 0
+pub record HasFields (kind : List ℕ) (line place number : ℕ) (name : List ℕ) (in_c : MpslpFault) : Type 0 where
+  pub kind_is : in_c.kind.now ≡ kind
+  pub line_is : in_c.line ≡ line
+  pub place_is : in_c.place ≡ place
+  pub number_is : in_c.number ≡ number
+  pub length_is : in_c.name_len ≡ length name
+  pub name_is : in_c.name ≡ name ++ replicate (NAME_ROOM - length name) 0
 
 -- The first error of a text: its kind, its line, and the name of the row or column that has it.
-abbrev pub TellsFault : Fault → MpslpFault → Type 0
-TellsFault fault = Tells (kind_name fault.kind) fault.line NOWHERE 0 (unwrap_or fault.name [])
+abbrev pub RepresentsFault : Fault → MpslpFault → Type 0
+RepresentsFault fault = HasFields (kind_name fault.kind) fault.line NOWHERE 0 (unwrap_or fault.name [])
 
 -- The place of a name that is not legal in LP.
-abbrev pub TellsPlace : NameAt → MpslpFault → Type 0
-TellsPlace Objective = Tells (codes "NotLp") 0 AT_OBJECTIVE 0 []
-TellsPlace (Row i) = Tells (codes "NotLp") 0 AT_ROW i []
-TellsPlace (Column j) = Tells (codes "NotLp") 0 AT_COLUMN j []
+abbrev pub RepresentsPlace : NameAt → MpslpFault → Type 0
+RepresentsPlace Objective = HasFields (codes "NotLp") 0 AT_OBJECTIVE 0 []
+RepresentsPlace (Row i) = HasFields (codes "NotLp") 0 AT_ROW i []
+RepresentsPlace (Column j) = HasFields (codes "NotLp") 0 AT_COLUMN j []
 
 -- What is set for an error. An allocation that failed leaves it unchanged.
-abbrev pub IsFaultTold : ConvertFault → MpslpFault → MpslpFault → Type 0
-IsFaultTold (First fault) old new = TellsFault fault new
-IsFaultTold (Second fault) old new = TellsFault fault new
-IsFaultTold (NotLp place) old new = TellsPlace place new
-IsFaultTold OutOfMemory old new = new ≡ old
+abbrev pub IsFaultSet : ConvertFault → MpslpFault → MpslpFault → Type 0
+IsFaultSet (First fault) old new = RepresentsFault fault new
+IsFaultSet (Second fault) old new = RepresentsFault fault new
+IsFaultSet (NotLp place) old new = RepresentsPlace place new
+IsFaultSet OutOfMemory old new = new ≡ old
 
 -- The error of an item of arrays.
-abbrev pub TellsItem : ItemFault → MpslpFault → Type 0
-TellsItem fault = Tells (kind_name fault.kind) 0 fault.place fault.number []
+abbrev pub RepresentsItem : ItemFault → MpslpFault → Type 0
+RepresentsItem fault = HasFields (kind_name fault.kind) 0 fault.place fault.number []
 
 -- What is set for an error of arrays. An allocation that failed leaves it unchanged.
-abbrev pub IsStoreFaultTold : StoreFault → MpslpFault → MpslpFault → Type 0
-IsStoreFaultTold (stored.Item fault) old new = TellsItem fault new
-IsStoreFaultTold (stored.Whole fault) old new = TellsFault fault new
-IsStoreFaultTold (stored.NotLp place) old new = TellsPlace place new
-IsStoreFaultTold stored.OutOfMemory old new = new ≡ old
+abbrev pub IsStoreFaultSet : StoreFault → MpslpFault → MpslpFault → Type 0
+IsStoreFaultSet (stored.Item fault) old new = RepresentsItem fault new
+IsStoreFaultSet (stored.Whole fault) old new = RepresentsFault fault new
+IsStoreFaultSet (stored.NotLp place) old new = RepresentsPlace place new
+IsStoreFaultSet stored.OutOfMemory old new = new ≡ old

@@ -134,10 +134,10 @@ sense_steps (suc zero) = declares (declare_sense Maximize) ∷ []
 sense_steps (suc (suc n)) = fails BadType ∷ []
 
 abbrev pub objective_steps : MpslpModel → List Step
-objective_steps told =
-    steps_with (name_given told.names.now told.objective) (λ name.
-    steps_with (number_given told.constant) (λ constant.
-    declares (declare_objective name) ∷ declares (declare_constant constant) ∷ sense_steps told.sense))
+objective_steps arrays =
+    steps_with (name_given arrays.names.now arrays.objective) (λ name.
+    steps_with (number_given arrays.constant) (λ constant.
+    declares (declare_objective name) ∷ declares (declare_constant constant) ∷ sense_steps arrays.sense))
 
 abbrev pub row_steps : List ℕ → MpslpRow → List Step
 row_steps all row =
@@ -209,11 +209,11 @@ first_column_steps [] = []
 first_column_steps (column ∷ columns) = if nat_le column.first 0 then [] else fails ColumnSplit ∷ []
 
 abbrev pub items : MpslpModel → List Item
-items told =
-    record { place = AT_OBJECTIVE; number = 0; steps = objective_steps told }
-    ∷ (row_items told.names.now 0 told.rows.now
-    ++ (record { place = AT_COLUMN; number = 0; steps = first_column_steps told.columns.now }
-    ∷ column_items told.names.now (bytes_at told.names.now told.objective) told.rows.now told.elements.now 0 told.columns.now))
+items arrays =
+    record { place = AT_OBJECTIVE; number = 0; steps = objective_steps arrays }
+    ∷ (row_items arrays.names.now 0 arrays.rows.now
+    ++ (record { place = AT_COLUMN; number = 0; steps = first_column_steps arrays.columns.now }
+    ∷ column_items arrays.names.now (bytes_at arrays.names.now arrays.objective) arrays.rows.now arrays.elements.now 0 arrays.columns.now))
 
 -- ---- the first error, and the draft
 
@@ -243,9 +243,9 @@ abbrev pub declared_by : Item → Declarations
 declared_by item = flat_map step_declared item.steps
 
 -- The arrays define a model: no item has an error of its own, and what they declare together means the model.
-pub record Defines (told : MpslpModel) (m : LinearModel) : Type 0 where
-  pub good : IsTrue (list_all is_good_item (items told))
-  pub means : Means (flat_map declared_by (items told)) m
+pub record Defines (arrays : MpslpModel) (m : LinearModel) : Type 0 where
+  pub good : IsTrue (list_all is_good_item (items arrays))
+  pub means : Means (flat_map declared_by (items arrays)) m
 
 -- ---- results
 

@@ -2,9 +2,9 @@
 
 ghost use Rattle.std.specs.Prelude.{◌≡◌, ◌<◌, ◌+◌, IfOk, Some, length, slice_get};
 ghost use Rattle.mpslp_model_core.specs.Views.{num_rows, num_columns, column_name, column_elements, numbered_elements};
-ghost use Rattle.mpslp_c.specs.Arrays.{kind_number, sense_number, KeepsNames, TellsName, TellsRow, TellsRows, KeepsElements, TellsElement, TellsElements, TellsColumnHead, TellsColumns, TellsModel, elements_before};
+ghost use Rattle.mpslp_c.specs.Arrays.{kind_number, sense_number, KeepsNames, RepresentsName, RepresentsRow, RepresentsRows, KeepsElements, RepresentsElement, RepresentsElements, RepresentsColumnHead, RepresentsColumns, RepresentsModel, elements_before};
 
-use crate::numbers::{MpslpNumber, told_limit, told_number};
+use crate::numbers::{MpslpNumber, c_limit, c_number};
 use mpslp_model::laws::each_model_is_sound;
 use mpslp_model::{Kind, Model, Name, Sense};
 use std::alloc::{AllocError, Global};
@@ -126,9 +126,9 @@ fn sense_number(sense: Sense) -> u32
 }
 
 /// Appends a name.
-fn told_name(name: &Name, names: &mut Vec<u8>) -> Result<MpslpName, AllocError>
+fn c_name(name: &Name, names: &mut Vec<u8>) -> Result<MpslpName, AllocError>
     ensures keeps { KeepsNames names.old.items names.new.items }
-    ensures tells { IfOk result (TellsName names.new.items name.now) }
+    ensures represents { IfOk result (RepresentsName names.new.items name.now) }
 {
     let bytes = name.as_bytes();
     let at = names.len();
@@ -140,42 +140,42 @@ fn told_name(name: &Name, names: &mut Vec<u8>) -> Result<MpslpName, AllocError>
 }
 
 /// The row of index `i`.
-fn told_row(model: &Model, i: usize, names: &mut Vec<u8>) -> Result<MpslpRow, AllocError>
+fn c_row(model: &Model, i: usize, names: &mut Vec<u8>) -> Result<MpslpRow, AllocError>
     requires { i < num_rows model.now }
     ensures keeps { KeepsNames names.old.items names.new.items }
-    ensures tells { IfOk result (TellsRow model.now names.new.items i) }
+    ensures represents { IfOk result (RepresentsRow model.now names.new.items i) }
 {
     Ok(MpslpRow {
-        name: told_name(model.row_name(i), names)?,
-        lower: told_limit(model.row_lower(i)),
-        upper: told_limit(model.row_upper(i)),
+        name: c_name(model.row_name(i), names)?,
+        lower: c_limit(model.row_lower(i)),
+        upper: c_limit(model.row_upper(i)),
     })
 }
 
 /// All rows.
-fn told_rows(alloc: Global, model: &Model, names: &mut Vec<u8>) -> Result<Vec<MpslpRow>, AllocError>
+fn c_rows(alloc: Global, model: &Model, names: &mut Vec<u8>) -> Result<Vec<MpslpRow>, AllocError>
     ensures keeps { KeepsNames names.old.items names.new.items }
     ensures count { IfOk result (λ rows. length rows.items ≡ num_rows model.now) }
-    ensures tells { IfOk result (λ rows. TellsRows model.now names.new.items rows.items) }
+    ensures represents { IfOk result (λ rows. RepresentsRows model.now names.new.items rows.items) }
 {
     let mut rows = Vec::with_capacity(alloc, model.num_rows())?;
     for i in 0..model.num_rows() {
-        let row = told_row(model, i, names)?;
+        let row = c_row(model, i, names)?;
         rows.push(row)?;
     }
     Ok(rows)
 }
 
 /// The nonzero of index `k` in the column of index `j`.
-fn told_element(model: &Model, j: usize, k: usize) -> MpslpElement
+fn c_element(model: &Model, j: usize, k: usize) -> MpslpElement
     requires column { j < num_columns model.now }
     requires entry { k < length (column_elements model.now (column_name model.now j)) }
-    ensures { TellsElement (slice_get (numbered_elements model.now (column_name model.now j)) k) (Some result) }
+    ensures { RepresentsElement (slice_get (numbered_elements model.now (column_name model.now j)) k) (Some result) }
 {
     let (row, value) = model.entry(j, k);
     MpslpElement {
         row,
-        value: told_number(value),
+        value: c_number(value),
     }
 }
 
@@ -184,17 +184,17 @@ fn put_elements(model: &Model, j: usize, elements: &mut Vec<MpslpElement>) -> Re
     requires { j < num_columns model.now }
     ensures keeps { KeepsElements elements.old.items elements.new.items }
     ensures count { IfOk result (λ _. length elements.new.items ≡ length elements.old.items + length (column_elements model.now (column_name model.now j))) }
-    ensures tells { IfOk result (λ _. TellsElements model.now j (length elements.old.items) (length (column_elements model.now (column_name model.now j))) elements.new.items) }
+    ensures represents { IfOk result (λ _. RepresentsElements model.now j (length elements.old.items) (length (column_elements model.now (column_name model.now j))) elements.new.items) }
 {
     for k in 0..model.column_len(j) {
-        let element = told_element(model, j, k);
+        let element = c_element(model, j, k);
         elements.push(element)?;
     }
     Ok(())
 }
 
 /// The column of index `j` without its nonzeros, the first of which has the index `first`.
-fn told_column(
+fn c_column(
     model: &Model,
     j: usize,
     first: usize,
@@ -203,20 +203,20 @@ fn told_column(
     requires column { j < num_columns model.now }
     requires first { first ≡ elements_before model.now j }
     ensures keeps { KeepsNames names.old.items names.new.items }
-    ensures tells { IfOk result (TellsColumnHead model.now names.new.items j) }
+    ensures represents { IfOk result (RepresentsColumnHead model.now names.new.items j) }
 {
     Ok(MpslpColumn {
-        name: told_name(model.column_name(j), names)?,
-        lower: told_limit(model.col_lower(j)),
-        upper: told_limit(model.col_upper(j)),
-        cost: told_number(model.objective_coefficient(j)),
+        name: c_name(model.column_name(j), names)?,
+        lower: c_limit(model.col_lower(j)),
+        upper: c_limit(model.col_upper(j)),
+        cost: c_number(model.objective_coefficient(j)),
         first,
         kind: kind_number(model.column_kind(j)),
     })
 }
 
 /// All columns, and their nonzeros.
-fn told_columns(
+fn c_columns(
     alloc: Global,
     model: &Model,
     names: &mut Vec<u8>,
@@ -226,11 +226,11 @@ fn told_columns(
     ensures keeps { KeepsNames names.old.items names.new.items }
     ensures count { IfOk result (λ columns. length columns.items ≡ num_columns model.now) }
     ensures elements { IfOk result (λ _. length elements.new.items ≡ elements_before model.now (num_columns model.now)) }
-    ensures tells { IfOk result (λ columns. TellsColumns model.now names.new.items elements.new.items columns.items) }
+    ensures represents { IfOk result (λ columns. RepresentsColumns model.now names.new.items elements.new.items columns.items) }
 {
     let mut columns = Vec::with_capacity(alloc, model.num_cols())?;
     for j in 0..model.num_cols() {
-        let column = told_column(model, j, elements.len(), names)?;
+        let column = c_column(model, j, elements.len(), names)?;
         put_elements(model, j, elements)?;
         columns.push(column)?;
     }
@@ -248,21 +248,21 @@ fn room_for_elements(alloc: Global, model: &Model) -> Result<Vec<MpslpElement>, 
 }
 
 /// The arrays of a model. No array is leaked before all of them are made, so an allocation that fails loses none.
-pub(crate) fn told_model(alloc: Global, model: &Model) -> Result<MpslpModel, AllocError>
-    ensures { IfOk result (TellsModel model.now) }
+pub(crate) fn c_model(alloc: Global, model: &Model) -> Result<MpslpModel, AllocError>
+    ensures { IfOk result (RepresentsModel model.now) }
 {
     let mut names = Vec::new(alloc);
-    let objective = told_name(model.objective_name(), &mut names)?;
-    let rows = told_rows(alloc, model, &mut names)?;
+    let objective = c_name(model.objective_name(), &mut names)?;
+    let rows = c_rows(alloc, model, &mut names)?;
     let mut elements = room_for_elements(alloc, model)?;
-    let columns = told_columns(alloc, model, &mut names, &mut elements)?;
+    let columns = c_columns(alloc, model, &mut names, &mut elements)?;
     each_model_is_sound(model);
     Ok(MpslpModel {
         names: names.leak(),
         rows: rows.leak(),
         columns: columns.leak(),
         elements: elements.leak(),
-        constant: told_number(model.objective_constant()),
+        constant: c_number(model.objective_constant()),
         objective,
         sense: sense_number(model.objective_sense()),
     })

@@ -2,10 +2,10 @@
 //!
 //! `out` and `fault` are unchanged unless the status of the call says that they are set.
 
-ghost use Rattle.mpslp_c.specs.Answers.{form_of, IsCanonicalAnswer, IsSameAnswer, IsTestAnswer, IsTextTold, IsTruthTold};
+ghost use Rattle.mpslp_c.specs.Answers.{form_of, IsCanonicalAnswer, IsSameAnswer, IsTestAnswer, IsTextReturned, IsTruthReturned};
 
 use crate::answers::{OK, UNKNOWN_FORMAT, fault_status, truth_status};
-use crate::faults::{MpslpFault, tell};
+use crate::faults::{MpslpFault, set_fault};
 use crate::texts::{canonical_in, form_of, is_canonical_in, same_in};
 use mpslp_convert::ConvertFault;
 use std::alloc::Global;
@@ -26,7 +26,7 @@ fn give_text(
     out: &mut MpslpText,
     fault: &mut MpslpFault,
 ) -> u32
-    ensures { IsTextTold answer result out.old out.new fault.old fault.new }
+    ensures { IsTextReturned answer result out.old out.new fault.old fault.new }
 {
     match answer {
         Ok(text) => {
@@ -34,7 +34,7 @@ fn give_text(
             OK
         }
         Err(why) => {
-            tell(&why, fault);
+            set_fault(&why, fault);
             fault_status(&why)
         }
     }
@@ -42,12 +42,12 @@ fn give_text(
 
 /// Returns the status of yes or no, or sets the error.
 fn give_truth(answer: Result<bool, ConvertFault>, fault: &mut MpslpFault) -> u32
-    ensures { IsTruthTold answer result fault.old fault.new }
+    ensures { IsTruthReturned answer result fault.old fault.new }
 {
     match answer {
         Ok(is_true) => truth_status(is_true),
         Err(why) => {
-            tell(&why, fault);
+            set_fault(&why, fault);
             fault_status(&why)
         }
     }

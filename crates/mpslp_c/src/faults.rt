@@ -1,7 +1,7 @@
 //! Errors as C sees them.
 
 ghost use Rattle.std.specs.Prelude.{◌≡◌, ◌++◌, [], length, drop, codes};
-ghost use Rattle.mpslp_c.specs.Faults.{Tells, TellsFault, TellsPlace, TellsItem, IsFaultTold, IsStoreFaultTold};
+ghost use Rattle.mpslp_c.specs.Faults.{HasFields, RepresentsFault, RepresentsPlace, RepresentsItem, IsFaultSet, IsStoreFaultSet};
 
 use mpslp_convert::ConvertFault;
 use mpslp_model::laws::each_name_is_legal;
@@ -70,10 +70,10 @@ pub(crate) enum StoreFault {
 }
 
 /// The error of a text.
-fn told_fault(fault: &Fault) -> MpslpFault
-    ensures { TellsFault fault.now result }
+fn c_fault(fault: &Fault) -> MpslpFault
+    ensures { RepresentsFault fault.now result }
 {
-    let mut told = MpslpFault {
+    let mut out = MpslpFault {
         kind: fault.kind.text().as_bytes(),
         line: fault.line,
         place: NOWHERE,
@@ -82,9 +82,9 @@ fn told_fault(fault: &Fault) -> MpslpFault
         name: [0; NAME_ROOM],
     };
     if let Some(name) = &fault.name {
-        told.name_len = put_name(name, &mut told.name);
+        out.name_len = put_name(name, &mut out.name);
     }
-    told
+    out
 }
 
 /// Puts a name into an array, and returns its length.
@@ -100,7 +100,7 @@ fn put_name(name: &Name, to: &mut [u8; NAME_ROOM]) -> usize
 
 /// A name that is not legal in LP, by its place.
 fn not_lp(place: u32, number: usize) -> MpslpFault
-    ensures { Tells (codes "NotLp") 0 place number [] result }
+    ensures { HasFields (codes "NotLp") 0 place number [] result }
 {
     MpslpFault {
         kind: b"NotLp",
@@ -113,8 +113,8 @@ fn not_lp(place: u32, number: usize) -> MpslpFault
 }
 
 /// The error of an item, by its place.
-fn told_item(fault: ItemFault) -> MpslpFault
-    ensures { TellsItem fault result }
+fn c_item(fault: ItemFault) -> MpslpFault
+    ensures { RepresentsItem fault result }
 {
     MpslpFault {
         kind: fault.kind.text().as_bytes(),
@@ -127,8 +127,8 @@ fn told_item(fault: ItemFault) -> MpslpFault
 }
 
 /// The place of a name that is not legal in LP.
-fn told_place(at: NameAt) -> MpslpFault
-    ensures { TellsPlace at result }
+fn c_place(at: NameAt) -> MpslpFault
+    ensures { RepresentsPlace at result }
 {
     match at {
         NameAt::Objective => not_lp(AT_OBJECTIVE, 0),
@@ -138,24 +138,24 @@ fn told_place(at: NameAt) -> MpslpFault
 }
 
 /// Sets the error. An allocation that failed leaves it unchanged.
-pub(crate) fn tell(fault: &ConvertFault, told: &mut MpslpFault)
-    ensures { IsFaultTold fault.now told.old told.new }
+pub(crate) fn set_fault(fault: &ConvertFault, out: &mut MpslpFault)
+    ensures { IsFaultSet fault.now out.old out.new }
 {
     match fault {
-        ConvertFault::First(fault) | ConvertFault::Second(fault) => *told = told_fault(fault),
-        ConvertFault::NotLp(place) => *told = told_place(*place),
+        ConvertFault::First(fault) | ConvertFault::Second(fault) => *out = c_fault(fault),
+        ConvertFault::NotLp(place) => *out = c_place(*place),
         ConvertFault::OutOfMemory => {}
     }
 }
 
 /// Sets the error of arrays. An allocation that failed leaves it unchanged.
-pub(crate) fn tell_stored(fault: &StoreFault, told: &mut MpslpFault)
-    ensures { IsStoreFaultTold fault.now told.old told.new }
+pub(crate) fn set_store_fault(fault: &StoreFault, out: &mut MpslpFault)
+    ensures { IsStoreFaultSet fault.now out.old out.new }
 {
     match fault {
-        StoreFault::Item(fault) => *told = told_item(*fault),
-        StoreFault::Whole(fault) => *told = told_fault(fault),
-        StoreFault::NotLp(place) => *told = told_place(*place),
+        StoreFault::Item(fault) => *out = c_item(*fault),
+        StoreFault::Whole(fault) => *out = c_fault(fault),
+        StoreFault::NotLp(place) => *out = c_place(*place),
         StoreFault::OutOfMemory => {}
     }
 }

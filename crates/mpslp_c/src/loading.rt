@@ -5,11 +5,11 @@ ghost use Rattle.mpslp_model_core.specs.Model.{LinearModel};
 ghost use Rattle.mpslp_types.specs.declared.faults.Fault.{Fault};
 ghost use Rattle.mpslp_conversions.specs.Conversions.{IsErrUnless};
 ghost use Rattle.mpslp_convert.specs.Performed.{declares_in, first_fault_in};
-ghost use Rattle.mpslp_c.specs.Answers.{form_of, IsLoading, IsModelTold, IsLoadAnswer};
+ghost use Rattle.mpslp_c.specs.Answers.{form_of, IsLoading, IsModelReturned, IsLoadAnswer};
 
 use crate::answers::{OK, UNKNOWN_FORMAT, fault_status};
-use crate::arrays::{MpslpModel, told_model};
-use crate::faults::{MpslpFault, tell};
+use crate::arrays::{MpslpModel, c_model};
+use crate::faults::{MpslpFault, set_fault};
 use crate::texts::form_of;
 use mpslp_convert::{ConvertFault, Form, model_of};
 use mpslp_model::Format;
@@ -24,8 +24,8 @@ fn arrays_of<A: Format>(alloc: Global, bytes: &[u8]) -> Result<MpslpModel, Conve
         → IsErrUnless result (ConvertFault.First fault) ConvertFault.OutOfMemory }
 {
     let model = model_of::<A>(alloc, bytes)?;
-    match told_model(alloc, &model) {
-        Ok(told) => Ok(told),
+    match c_model(alloc, &model) {
+        Ok(arrays) => Ok(arrays),
         Err(_) => Err(ConvertFault::OutOfMemory),
     }
 }
@@ -49,7 +49,7 @@ fn give_model(
     out: &mut MpslpModel,
     fault: &mut MpslpFault,
 ) -> u32
-    ensures { IsModelTold answer result out.old out.new fault.old fault.new }
+    ensures { IsModelReturned answer result out.old out.new fault.old fault.new }
 {
     match answer {
         Ok(model) => {
@@ -57,7 +57,7 @@ fn give_model(
             OK
         }
         Err(why) => {
-            tell(&why, fault);
+            set_fault(&why, fault);
             fault_status(&why)
         }
     }

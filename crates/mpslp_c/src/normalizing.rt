@@ -4,11 +4,11 @@ ghost use Rattle.std.specs.Prelude.{◌≡◌, IsOkUnless};
 ghost use Rattle.mpslp_model_core.specs.Model.{LinearModel};
 ghost use Rattle.mpslp_conversions.specs.Conversions.{IsErrUnless};
 ghost use Rattle.mpslp_c.specs.Stored.{Defines};
-ghost use Rattle.mpslp_c.specs.Answers.{HasFault, IsNormalizing, AreArraysGiven, IsNormalized};
+ghost use Rattle.mpslp_c.specs.Answers.{HasFault, IsNormalizing, AreArraysReturned, IsNormalized};
 
 use crate::answers::OK;
-use crate::arrays::{MpslpModel, told_model};
-use crate::faults::{MpslpFault, StoreFault, tell_stored};
+use crate::arrays::{MpslpModel, c_model};
+use crate::faults::{MpslpFault, StoreFault, set_store_fault};
 use crate::storing::{store_status, stored_model};
 use std::alloc::Global;
 
@@ -19,8 +19,8 @@ fn normalized(alloc: Global, model: &MpslpModel) -> Result<MpslpModel, StoreFaul
     ensures refuses { (why : StoreFault) → HasFault model.now why → IsErrUnless result why StoreFault.OutOfMemory }
 {
     let model = stored_model(alloc, model)?;
-    match told_model(alloc, &model) {
-        Ok(told) => Ok(told),
+    match c_model(alloc, &model) {
+        Ok(arrays) => Ok(arrays),
         Err(_) => Err(StoreFault::OutOfMemory),
     }
 }
@@ -31,7 +31,7 @@ fn give_arrays(
     out: &mut MpslpModel,
     fault: &mut MpslpFault,
 ) -> u32
-    ensures { AreArraysGiven answer result out.old out.new fault.old fault.new }
+    ensures { AreArraysReturned answer result out.old out.new fault.old fault.new }
 {
     match answer {
         Ok(model) => {
@@ -39,7 +39,7 @@ fn give_arrays(
             OK
         }
         Err(why) => {
-            tell_stored(&why, fault);
+            set_store_fault(&why, fault);
             store_status(&why)
         }
     }

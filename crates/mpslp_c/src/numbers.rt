@@ -3,7 +3,7 @@
 ghost use Rattle.std.specs.Prelude.{◌≡◌, ◌*◌, ◌+◌, ◌≤◌, ◌/◌, ◌%◌, ◌^◌, ◌++◌, Ok, pos, ◌+ℤ◌, ◌*ℤ◌, length, IfOk, IsTrue, MatchResult};
 ghost use Rattle.std.specs.Int.{cast_signed, w64, w128};
 ghost use Rattle.mpslp_types.specs.Limit.{is_given};
-ghost use Rattle.mpslp_c.specs.Arrays.{TellsNumber, TellsInfinity, TellsLimit};
+ghost use Rattle.mpslp_c.specs.Arrays.{RepresentsNumber, RepresentsInfinity, RepresentsLimit};
 ghost use Rattle.mpslp_c.specs.Stored.{decimal_given, literal_text, number_given, limit_given, IsFaultGiven};
 
 use arrayvec::ArrayVec;
@@ -47,8 +47,8 @@ fn high_part(bits: u128) -> i64
 }
 
 /// A decimal.
-pub(crate) fn told_number(value: Decimal) -> MpslpNumber
-    ensures { TellsNumber value result }
+pub(crate) fn c_number(value: Decimal) -> MpslpNumber
+    ensures { RepresentsNumber value result }
 {
     let bits = value.mantissa().cast_unsigned();
     MpslpNumber {
@@ -60,8 +60,8 @@ pub(crate) fn told_number(value: Decimal) -> MpslpNumber
 }
 
 /// The infinity of a sign.
-fn told_infinity(sign: i32) -> MpslpNumber
-    ensures { TellsInfinity sign result }
+fn c_infinity(sign: i32) -> MpslpNumber
+    ensures { RepresentsInfinity sign result }
 {
     MpslpNumber {
         low: 0,
@@ -72,13 +72,13 @@ fn told_infinity(sign: i32) -> MpslpNumber
 }
 
 /// A limit or a bound.
-pub(crate) fn told_limit(limit: Limit) -> MpslpNumber
-    ensures { TellsLimit limit result }
+pub(crate) fn c_limit(limit: Limit) -> MpslpNumber
+    ensures { RepresentsLimit limit result }
 {
     match limit {
-        Limit::MinusInf => told_infinity(-1),
-        Limit::Finite(value) => told_number(value),
-        Limit::PlusInf => told_infinity(1),
+        Limit::MinusInf => c_infinity(-1),
+        Limit::Finite(value) => c_number(value),
+        Limit::PlusInf => c_infinity(1),
     }
 }
 

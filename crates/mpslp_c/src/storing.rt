@@ -7,13 +7,13 @@ ghost use Rattle.mpslp_builder.specs.Declaration.{Draft};
 ghost use Rattle.mpslp_conversions.specs.Conversions.{IsErrUnless};
 ghost use Rattle.mpslp_convert.specs.Performed.{unfit_in, text_in};
 ghost use Rattle.mpslp_c.specs.Stored.{TakesSteps, placed, row_items, element_items, own_items, elements_end, column_items, first_column_steps, items, Defines};
-ghost use Rattle.mpslp_c.specs.Answers.{form_of, TakesItems, HasFault, IsStoredModel, IsStoring, IsStoreTold, IsStoreAnswer, store_status};
+ghost use Rattle.mpslp_c.specs.Answers.{form_of, TakesItems, HasFault, IsStoredModel, IsStoring, IsStoreReturned, IsStoreAnswer, store_status};
 
 use crate::answers::{NOT_LP, OK, OUT_OF_MEMORY, REFUSED, UNKNOWN_FORMAT};
 use crate::arrays::{MpslpColumn, MpslpElement, MpslpModel, MpslpRow};
 use crate::calls::MpslpText;
 use crate::faults::{
-    AT_COLUMN, AT_ELEMENT, AT_OBJECTIVE, AT_ROW, ItemFault, MpslpFault, StoreFault, tell_stored,
+    AT_COLUMN, AT_ELEMENT, AT_OBJECTIVE, AT_ROW, ItemFault, MpslpFault, StoreFault, set_store_fault,
 };
 use crate::stored_items::{
     bytes_at, declare_column, declare_element, declare_objective, declare_row,
@@ -194,7 +194,7 @@ fn stored_text<B: Format>(alloc: Global, model: &MpslpModel) -> Result<Vec<u8>, 
     ensures answer { IsStoring B.unfit B.text model.now result }
     ensures accepts { (m : LinearModel) → Defines model.now m → B.unfit m ≡ None → IsOkUnless result StoreFault.OutOfMemory }
     ensures refuses { (why : StoreFault) → HasFault model.now why → IsErrUnless result why StoreFault.OutOfMemory }
-    ensures cannot_tell { (m : LinearModel) (place : NameAt) → Defines model.now m → B.unfit m ≡ Some place
+    ensures cannot_express { (m : LinearModel) (place : NameAt) → Defines model.now m → B.unfit m ≡ Some place
         → IsErrUnless result (StoreFault.NotLp place) StoreFault.OutOfMemory }
 {
     let model = stored_model(alloc, model)?;
@@ -210,7 +210,7 @@ fn stored_text_in(alloc: Global, to: Form, model: &MpslpModel) -> Result<Vec<u8>
     ensures answer { IsStoring (unfit_in to) (text_in to) model.now result }
     ensures accepts { (m : LinearModel) → Defines model.now m → unfit_in to m ≡ None → IsOkUnless result StoreFault.OutOfMemory }
     ensures refuses { (why : StoreFault) → HasFault model.now why → IsErrUnless result why StoreFault.OutOfMemory }
-    ensures cannot_tell { (m : LinearModel) (place : NameAt) → Defines model.now m → unfit_in to m ≡ Some place
+    ensures cannot_express { (m : LinearModel) (place : NameAt) → Defines model.now m → unfit_in to m ≡ Some place
         → IsErrUnless result (StoreFault.NotLp place) StoreFault.OutOfMemory }
 {
     match to {
@@ -236,7 +236,7 @@ fn give_stored(
     out: &mut MpslpText,
     fault: &mut MpslpFault,
 ) -> u32
-    ensures { IsStoreTold answer result out.old out.new fault.old fault.new }
+    ensures { IsStoreReturned answer result out.old out.new fault.old fault.new }
 {
     match answer {
         Ok(text) => {
@@ -244,7 +244,7 @@ fn give_stored(
             OK
         }
         Err(why) => {
-            tell_stored(&why, fault);
+            set_store_fault(&why, fault);
             store_status(&why)
         }
     }

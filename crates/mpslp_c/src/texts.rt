@@ -35,7 +35,7 @@ pub(crate) fn canonical_in(
         → IsOkUnless result ConvertFault.OutOfMemory }
     ensures refuses { (fault : Fault) → first_fault_in from bytes.now fault
         → IsErrUnless result (ConvertFault.First fault) ConvertFault.OutOfMemory }
-    ensures cannot_tell { (m : LinearModel) (place : NameAt) → declares_in from bytes.now m → unfit_in to m ≡ Some place
+    ensures cannot_express { (m : LinearModel) (place : NameAt) → declares_in from bytes.now m → unfit_in to m ≡ Some place
         → IsErrUnless result (ConvertFault.NotLp place) ConvertFault.OutOfMemory }
 {
     match (from, to) {

@@ -3,7 +3,7 @@ use Rattle.std.proofs.Common.{◌≡◌, sym, ap, subst, ◌∙◌, List, ℕ}
 use Rattle.mpslp_model_core.specs.Model.{LinearModel}
 use Rattle.mpslp_lp.specs.LpText.{DeclaresLp}
 use Rattle.mpslp_canonical_lp.specs.CanonicalLp.{canonical_lp}
-use Rattle.mpslp_canonical_lp.specs.Laws.{DeclareTheirModels, TellModelsApart, DeclareWhatFits}
+use Rattle.mpslp_canonical_lp.specs.Laws.{DeclareTheirModels, DistinguishModels, DeclareWhatFits}
 use Rattle.mpslp_canonical_lp.proofs.CanonicalText.{canonical-declares_if}
 use Rattle.mpslp_canonical_lp.proofs.UnrefusedText.{listed-consistent, plain-text}
 use Rattle.mpslp_canonical_lp.proofs.ListedMeaning.{listed-means}
@@ -15,8 +15,8 @@ canonical-declares m sound fits = canonical-declares_if m sound fits (plain-text
 pub one-model : (bytes : List ℕ) (m n : LinearModel) → DeclaresLp bytes m → DeclaresLp bytes n → m ≡ n
 one-model bytes m n first second = first.means.meant.model ∙ sym second.means.meant.model
 
-pub tells-apart : TellModelsApart
-tells-apart m n sound fits other fit = (
+pub is-injective : DistinguishModels
+is-injective m n sound fits other fit = (
   λ same. one-model (canonical_lp m) m n (canonical-declares m sound fits) (subst (λ (text : List ℕ). DeclaresLp text n) (sym same) (canonical-declares n other fit)),
   ap canonical_lp,
 )

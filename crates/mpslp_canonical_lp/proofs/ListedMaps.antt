@@ -17,17 +17,17 @@ use Rattle.mpslp_canonical_lp.specs.CanonicalLp.{Term, objective_terms, row_term
 use Rattle.mpslp_canonical_lp.proofs.PhraseLemmas.{column_and}
 use Rattle.mpslp_canonical_lp.proofs.BoundsWalk.{bound_made, column_made}
 use Rattle.mpslp_canonical_lp.proofs.TextWalk.{listed_declarations}
-use Rattle.mpslp_builder.proofs.EntryLemmas.{told, all_told}
+use Rattle.mpslp_builder.proofs.EntryLemmas.{stated, all_stated}
 use Rattle.std.proofs.lemmas.List.Concat.{flat_map_single}
 use Rattle.mpslp_builder.proofs.NamedEntries.{named}
-use Rattle.mpslp_canonical_lp.proofs.ListedParts.{form_told, lower_told, upper_told, column_lower, column_upper, PartsOf, all_parts, listed-parts, nothing, nothing_of, own_name, without-terms, columns-parts, bounds-parts}
+use Rattle.mpslp_canonical_lp.proofs.ListedParts.{form_stated, lower_stated, upper_stated, column_lower, column_upper, PartsOf, all_parts, listed-parts, nothing, nothing_of, own_name, without-terms, columns-parts, bounds-parts}
 
 bounds-none : {Y : Type 0} (part : Declaration → List Y) → ((x : List ℕ) → part (declare_column x) ≡ []) → ((x : List ℕ) (l : Limit) → part (declare_lower x l) ≡ []) → ((x : List ℕ) (l : Limit) → part (declare_upper x l) ≡ [])
     → (column : List ℕ × Column) → flat_map part (column_made column) ≡ []
 bounds-none {Y} part c l u column = by column.1.lower column.1.upper
   where
-    lower_alone : (a : Limit) → flat_map part (column_and column.0 (limits_by AtLeast a)) ≡ []
-    lower_alone a = λ i. c column.0 i ++ (l column.0 a i ++ [])
+    lower_only : (a : Limit) → flat_map part (column_and column.0 (limits_by AtLeast a)) ≡ []
+    lower_only a = λ i. c column.0 i ++ (l column.0 a i ++ [])
 
     both : (a b : Limit) → flat_map part (column_and column.0 (record { lower = Some a; upper = Some b })) ≡ []
     both a b = λ i. c column.0 i ++ (l column.0 a i ++ (u column.0 b i ++ []))
@@ -42,8 +42,8 @@ bounds-none {Y} part c l u column = by column.1.lower column.1.upper
           | true ↦ both (limit_of b) (limit_of b)
           | false ↦ in_turn (limit_of a) (limit_of b)
         ]
-    by (Finite a) MinusInf = elim (is_zero a) as (λ t. flat_map part (if t then [] else column_and column.0 (limits_by AtLeast (limit_of a))) ≡ []) [ true ↦ refl | false ↦ lower_alone (limit_of a) ]
-    by (Finite a) PlusInf = elim (is_zero a) as (λ t. flat_map part (if t then [] else column_and column.0 (limits_by AtLeast (limit_of a))) ≡ []) [ true ↦ refl | false ↦ lower_alone (limit_of a) ]
+    by (Finite a) MinusInf = elim (is_zero a) as (λ t. flat_map part (if t then [] else column_and column.0 (limits_by AtLeast (limit_of a))) ≡ []) [ true ↦ refl | false ↦ lower_only (limit_of a) ]
+    by (Finite a) PlusInf = elim (is_zero a) as (λ t. flat_map part (if t then [] else column_and column.0 (limits_by AtLeast (limit_of a))) ≡ []) [ true ↦ refl | false ↦ lower_only (limit_of a) ]
     by MinusInf MinusInf = both MinusInf PlusInf
     by MinusInf PlusInf = both MinusInf PlusInf
     by PlusInf MinusInf = both MinusInf PlusInf
@@ -53,11 +53,11 @@ bounds-none {Y} part c l u column = by column.1.lower column.1.upper
 -- ---- rows
 
 abbrev pub row_forms : List (List ℕ × Row) → List (List ℕ × RowDefinition)
-row_forms rows = map (λ row. (row.0, form_told row.1)) rows
+row_forms rows = map (λ row. (row.0, form_stated row.1)) rows
 
 pub rows-part : (m : Listing) → flat_map row_part (listed_declarations m) ≡ row_forms m.rows
 rows-part m =
-    listed-parts row_part (λ row. (row.0, form_told row.1) ∷ []) nothing_of nothing nothing nothing (record {
+    listed-parts row_part (λ row. (row.0, form_stated row.1) ∷ []) nothing_of nothing nothing nothing (record {
       of_sense = λ _. refl;
       of_objective = λ _. refl;
       of_constant = λ _. refl;
@@ -67,32 +67,32 @@ rows-part m =
       of_general = λ _. refl;
       of_semi = λ _. refl;
     }) m
-    ∙ without-terms (λ row. (row.0, form_told row.1) ∷ []) m _
-    ∙ (λ i. flat_map_single (λ row. (row.0, form_told row.1)) m.rows i ++ (flat_map-none m.columns i ++ (flat_map-none (filter is_integer_column m.columns) i ++ flat_map-none (filter is_semi_column m.columns) i)))
+    ∙ without-terms (λ row. (row.0, form_stated row.1) ∷ []) m _
+    ∙ (λ i. flat_map_single (λ row. (row.0, form_stated row.1)) m.rows i ++ (flat_map-none m.columns i ++ (flat_map-none (filter is_integer_column m.columns) i ++ flat_map-none (filter is_semi_column m.columns) i)))
     ∙ append-nil (row_forms m.rows)
 
 -- ---- bounds
 
-lower-made : (name : List ℕ) (l u : Limit) → flat_map lower_part (bound_made name l u) ≡ told name (lower_told l u)
+lower-made : (name : List ℕ) (l u : Limit) → flat_map lower_part (bound_made name l u) ≡ stated name (lower_stated l u)
 lower-made name MinusInf (Finite b) = refl
 lower-made name (Finite a) (Finite b) =
     elim (have_same_value a b) as (λ t. flat_map lower_part (if t then column_and name (limits_by EqualTo (limit_of b)) else column_and name (limits_by AtLeast (limit_of a)) ++ bounds_declared name None (Some (limit_of b)))
-    ≡ told name (if t then Some (limit_of b) else Some (limit_of a))) [ true ↦ refl | false ↦ refl ]
+    ≡ stated name (if t then Some (limit_of b) else Some (limit_of a))) [ true ↦ refl | false ↦ refl ]
 lower-made name (Finite a) MinusInf =
-    elim (is_zero a) as (λ t. flat_map lower_part (if t then [] else column_and name (limits_by AtLeast (limit_of a))) ≡ told name (if t then None else Some (limit_of a))) [ true ↦ refl | false ↦ refl ]
+    elim (is_zero a) as (λ t. flat_map lower_part (if t then [] else column_and name (limits_by AtLeast (limit_of a))) ≡ stated name (if t then None else Some (limit_of a))) [ true ↦ refl | false ↦ refl ]
 lower-made name (Finite a) PlusInf =
-    elim (is_zero a) as (λ t. flat_map lower_part (if t then [] else column_and name (limits_by AtLeast (limit_of a))) ≡ told name (if t then None else Some (limit_of a))) [ true ↦ refl | false ↦ refl ]
+    elim (is_zero a) as (λ t. flat_map lower_part (if t then [] else column_and name (limits_by AtLeast (limit_of a))) ≡ stated name (if t then None else Some (limit_of a))) [ true ↦ refl | false ↦ refl ]
 lower-made name MinusInf MinusInf = refl
 lower-made name MinusInf PlusInf = refl
 lower-made name PlusInf MinusInf = refl
 lower-made name PlusInf (Finite b) = refl
 lower-made name PlusInf PlusInf = refl
 
-upper-made : (name : List ℕ) (l u : Limit) → flat_map upper_part (bound_made name l u) ≡ told name (upper_told l u)
+upper-made : (name : List ℕ) (l u : Limit) → flat_map upper_part (bound_made name l u) ≡ stated name (upper_stated l u)
 upper-made name MinusInf (Finite b) = refl
 upper-made name (Finite a) (Finite b) =
     elim (have_same_value a b) as (λ t. flat_map upper_part (if t then column_and name (limits_by EqualTo (limit_of b)) else column_and name (limits_by AtLeast (limit_of a)) ++ bounds_declared name None (Some (limit_of b)))
-    ≡ told name (Some (limit_of b))) [ true ↦ refl | false ↦ refl ]
+    ≡ stated name (Some (limit_of b))) [ true ↦ refl | false ↦ refl ]
 upper-made name (Finite a) MinusInf = elim (is_zero a) as (λ t. flat_map upper_part (if t then [] else column_and name (limits_by AtLeast (limit_of a))) ≡ []) [ true ↦ refl | false ↦ refl ]
 upper-made name (Finite a) PlusInf = elim (is_zero a) as (λ t. flat_map upper_part (if t then [] else column_and name (limits_by AtLeast (limit_of a))) ≡ []) [ true ↦ refl | false ↦ refl ]
 upper-made name MinusInf MinusInf = refl
@@ -101,9 +101,9 @@ upper-made name PlusInf MinusInf = refl
 upper-made name PlusInf (Finite b) = refl
 upper-made name PlusInf PlusInf = refl
 
-pub lowers-part : (m : Listing) → flat_map lower_part (listed_declarations m) ≡ all_told column_lower m.columns
+pub lowers-part : (m : Listing) → flat_map lower_part (listed_declarations m) ≡ all_stated column_lower m.columns
 lowers-part =
-    bounds-parts lower_part (λ column. told column.0 (column_lower column.1)) (record {
+    bounds-parts lower_part (λ column. stated column.0 (column_lower column.1)) (record {
       of_sense = λ _. refl;
       of_objective = λ _. refl;
       of_constant = λ _. refl;
@@ -114,9 +114,9 @@ lowers-part =
       of_semi = λ _. refl;
     })
 
-pub uppers-part : (m : Listing) → flat_map upper_part (listed_declarations m) ≡ all_told column_upper m.columns
+pub uppers-part : (m : Listing) → flat_map upper_part (listed_declarations m) ≡ all_stated column_upper m.columns
 uppers-part =
-    bounds-parts upper_part (λ column. told column.0 (column_upper column.1)) (record {
+    bounds-parts upper_part (λ column. stated column.0 (column_upper column.1)) (record {
       of_sense = λ _. refl;
       of_objective = λ _. refl;
       of_constant = λ _. refl;

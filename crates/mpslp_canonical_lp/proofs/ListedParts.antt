@@ -25,32 +25,32 @@ use Rattle.mpslp_canonical_lp.proofs.TextWalk.{row_left, row_relation, row_right
 
 -- ---- what is declared of a row and of a column
 
-abbrev pub limits_told : Limit → Limit → Limits
-limits_told lower upper = row_limits (left_of (row_left lower upper)) (row_relation lower upper) (limit_of (row_right lower upper))
+abbrev pub limits_stated : Limit → Limit → Limits
+limits_stated lower upper = row_limits (left_of (row_left lower upper)) (row_relation lower upper) (limit_of (row_right lower upper))
 
 abbrev pub form_of : Limits → RowDefinition
 form_of limits = by_limits (unwrap_or limits.lower MinusInf) (unwrap_or limits.upper PlusInf)
 
-abbrev pub form_told : Row → RowDefinition
-form_told row = form_of (limits_told row.lower row.upper)
+abbrev pub form_stated : Row → RowDefinition
+form_stated row = form_of (limits_stated row.lower row.upper)
 
-abbrev pub lower_told : Limit → Limit → Option Limit
-lower_told MinusInf (Finite upper) = Some MinusInf
-lower_told (Finite lower) (Finite upper) = if have_same_value lower upper then Some (limit_of upper) else Some (limit_of lower)
-lower_told (Finite lower) _ = if is_zero lower then None else Some (limit_of lower)
-lower_told _ _ = Some MinusInf
+abbrev pub lower_stated : Limit → Limit → Option Limit
+lower_stated MinusInf (Finite upper) = Some MinusInf
+lower_stated (Finite lower) (Finite upper) = if have_same_value lower upper then Some (limit_of upper) else Some (limit_of lower)
+lower_stated (Finite lower) _ = if is_zero lower then None else Some (limit_of lower)
+lower_stated _ _ = Some MinusInf
 
-abbrev pub upper_told : Limit → Limit → Option Limit
-upper_told MinusInf (Finite upper) = Some (limit_of upper)
-upper_told (Finite lower) (Finite upper) = Some (limit_of upper)
-upper_told (Finite lower) _ = None
-upper_told _ _ = Some PlusInf
+abbrev pub upper_stated : Limit → Limit → Option Limit
+upper_stated MinusInf (Finite upper) = Some (limit_of upper)
+upper_stated (Finite lower) (Finite upper) = Some (limit_of upper)
+upper_stated (Finite lower) _ = None
+upper_stated _ _ = Some PlusInf
 
 abbrev pub column_lower : Column → Option Limit
-column_lower column = lower_told column.lower column.upper
+column_lower column = lower_stated column.lower column.upper
 
 abbrev pub column_upper : Column → Option Limit
-column_upper column = upper_told column.lower column.upper
+column_upper column = upper_stated column.lower column.upper
 
 -- the draft of what the canonical text of these lists declares
 abbrev pub drafted : Listing → Draft
@@ -64,7 +64,7 @@ pub record PartsOf {Y : Type 0} (part : Declaration → List Y) (row : List ℕ 
   pub of_sense : (s : Sense) → part (declare_sense s) ≡ []
   pub of_objective : (name : List ℕ) → part (declare_objective name) ≡ []
   pub of_constant : (value : Number) → part (declare_constant value) ≡ []
-  pub of_row : (entry : List ℕ × Row) → part (declare_row entry.0 (form_told entry.1)) ≡ row entry
+  pub of_row : (entry : List ℕ × Row) → part (declare_row entry.0 (form_stated entry.1)) ≡ row entry
   pub of_term : (name : List ℕ) (t : Term) → flat_map part (term_declared name t) ≡ term name t
   pub of_bound : (column : List ℕ × Column) → flat_map part (column_made column) ≡ bound column
   pub of_general : (column : List ℕ × Column) → flat_map part (general_made column) ≡ general column

@@ -26,9 +26,9 @@ declared_sound = declared-fits
 pub no_fault : (bytes : List ℕ) (m : LinearModel) (fault : Fault) → DeclaresLp bytes m → IsFirstLpFault bytes fault → ⊥
 no_fault = model-or_fault
 
-one-told : (a b : Fault) → Some a ≡ Some b → a ≡ b
-one-told a b e = cc
+one-stated : (a b : Fault) → Some a ≡ Some b → a ≡ b
+one-stated a b e = cc
 
 -- No bytes have two first errors.
 pub one_fault : (bytes : List ℕ) (fault other : Fault) → IsFirstLpFault bytes fault → IsFirstLpFault bytes other → fault ≡ other
-one_fault bytes a b first second = one-told a b (sym first ∙ second)
+one_fault bytes a b first second = one-stated a b (sym first ∙ second)

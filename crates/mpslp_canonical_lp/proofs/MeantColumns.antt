@@ -24,28 +24,28 @@ use Rattle.mpslp_builder.proofs.MeaningFromNoFault.{sorted-mapped}
 use Rattle.mpslp_builder.proofs.SortedDrafts.{bytes_total, tied_names}
 use Rattle.mpslp_canonical_lp.specs.CanonicalLp.{is_integer_kind, is_semi_kind, is_integer_column, is_semi_column}
 use Rattle.mpslp_canonical_lp.proofs.TextWalk.{listed_declarations}
-use Rattle.mpslp_builder.proofs.EntryLemmas.{then_told, all_told, puts-own, find-kept, find-told, sorted-told, sorted-kept}
+use Rattle.mpslp_builder.proofs.EntryLemmas.{then_stated, all_stated, puts-own, find-kept, find-stated, sorted-stated, sorted-kept}
 use Rattle.mpslp_builder.proofs.SoundParts.{column_sides, lower_of, upper_of, bounded_so, bounded_finite}
 use Rattle.mpslp_canonical_lp.proofs.SoundListing.{IsSoundListing, IsOwnColumn, own-columns}
 use Rattle.mpslp_builder.proofs.NamedEntries.{named}
-use Rattle.mpslp_canonical_lp.proofs.ListedParts.{lower_told, upper_told, column_lower, column_upper, drafted}
+use Rattle.mpslp_canonical_lp.proofs.ListedParts.{lower_stated, upper_stated, column_lower, column_upper, drafted}
 use Rattle.mpslp_canonical_lp.proofs.ListedMaps.{lowers-part, uppers-part, integers-part, semis-part, no-marks, no-binaries}
 
 -- ---- bounds, types
 
-lower-at : (m : Listing) → IsSoundListing m → (q : List ℕ) → at_name (drafted m).lowers q ≡ then_told column_lower (at_name m.columns q)
+lower-at : (m : Listing) → IsSoundListing m → (q : List ℕ) → at_name (drafted m).lowers q ≡ then_stated column_lower (at_name m.columns q)
 lower-at m h q =
     ap (λ (es : List (List ℕ × Limit)). at_name es q)
     (lowers-all (listed_declarations m) empty_draft ∙ ap (λ (es : List (List ℕ × Limit)). puts bytes_cmp es []) (lowers-part m)
-    ∙ puts-own bytes_cmp bytes_total tied_names (all_told column_lower m.columns) (sorted-told bytes_cmp column_lower m.columns h.columns_sorted))
-    ∙ find-told bytes_cmp column_lower bytes_total tied_names q m.columns h.columns_sorted
+    ∙ puts-own bytes_cmp bytes_total tied_names (all_stated column_lower m.columns) (sorted-stated bytes_cmp column_lower m.columns h.columns_sorted))
+    ∙ find-stated bytes_cmp column_lower bytes_total tied_names q m.columns h.columns_sorted
 
-upper-at : (m : Listing) → IsSoundListing m → (q : List ℕ) → at_name (drafted m).uppers q ≡ then_told column_upper (at_name m.columns q)
+upper-at : (m : Listing) → IsSoundListing m → (q : List ℕ) → at_name (drafted m).uppers q ≡ then_stated column_upper (at_name m.columns q)
 upper-at m h q =
     ap (λ (es : List (List ℕ × Limit)). at_name es q)
     (uppers-all (listed_declarations m) empty_draft ∙ ap (λ (es : List (List ℕ × Limit)). puts bytes_cmp es []) (uppers-part m)
-    ∙ puts-own bytes_cmp bytes_total tied_names (all_told column_upper m.columns) (sorted-told bytes_cmp column_upper m.columns h.columns_sorted))
-    ∙ find-told bytes_cmp column_upper bytes_total tied_names q m.columns h.columns_sorted
+    ∙ puts-own bytes_cmp bytes_total tied_names (all_stated column_upper m.columns) (sorted-stated bytes_cmp column_upper m.columns h.columns_sorted))
+    ∙ find-stated bytes_cmp column_upper bytes_total tied_names q m.columns h.columns_sorted
 
 -- the names of the columns that pass a test
 named-own : (m : Listing) → IsSoundListing m → (p : List ℕ × Column → Bool) → puts bytes_cmp (map named (filter p m.columns)) [] ≡ map named (filter p m.columns)
@@ -64,7 +64,7 @@ at-named q (column ∷ columns) =
 kind-at : (m : Listing) → IsSoundListing m → (p : Kind → Bool) (q : List ℕ) (column : Column) → at_name m.columns q ≡ Some column → has_name (map named (filter (λ (c : List ℕ × Column). p c.1.kind) m.columns)) q ≡ p column.kind
 kind-at m h p q column is =
     at-named q (filter (λ (c : List ℕ × Column). p c.1.kind) m.columns)
-    ∙ ap is_some (find-kept bytes_cmp bytes_total tied_names (λ (c : Column). p c.kind) q m.columns h.columns_sorted ∙ ap (then_told (λ (c : Column). cond (p c.kind) (Some c) None)) is)
+    ∙ ap is_some (find-kept bytes_cmp bytes_total tied_names (λ (c : Column). p c.kind) q m.columns h.columns_sorted ∙ ap (then_stated (λ (c : Column). cond (p c.kind) (Some c) None)) is)
     ∙ by (p column.kind)
   where
     by : (b : Bool) → is_some (cond b (Some column) None) ≡ b
@@ -104,7 +104,7 @@ either-same a b p q = by (have_same_value a b) refl
 no_side : false ≡ true → ⊥
 no_side e = cc
 
-lower-back : (l u : Limit) → is_lower_side l ≡ true → is_upper_side u ≡ true → unwrap_or (lower_told l u) zero_limit ≡ l
+lower-back : (l u : Limit) → is_lower_side l ≡ true → is_upper_side u ≡ true → unwrap_or (lower_stated l u) zero_limit ≡ l
 lower-back MinusInf (Finite b) p q = refl
 lower-back MinusInf PlusInf p q = refl
 lower-back (Finite a) (Finite b) p q = either-same a b p q
@@ -113,7 +113,7 @@ lower-back MinusInf MinusInf p q = absurd (no_side q)
 lower-back (Finite a) MinusInf p q = absurd (no_side q)
 lower-back PlusInf u p q = absurd (no_side p)
 
-upper-back : (l u : Limit) → is_lower_side l ≡ true → is_upper_side u ≡ true → unwrap_or (upper_told l u) PlusInf ≡ u
+upper-back : (l u : Limit) → is_lower_side l ≡ true → is_upper_side u ≡ true → unwrap_or (upper_stated l u) PlusInf ≡ u
 upper-back MinusInf (Finite b) p q = bounded_finite b q
 upper-back MinusInf PlusInf p q = refl
 upper-back (Finite a) (Finite b) p q = bounded_finite b q
@@ -150,8 +150,8 @@ bounds-back m h column k =
     ∙ or_none (has_name (map named (filter is_integer_column m.columns)) name)
     ∙ kind-at m h is_integer_kind name column.1 k.1 ∙ same_integer column.1.kind)
     (ap (λ (es : List (List ℕ × Unit {0})). has_name es name) (semis-drafted m h) ∙ kind-at m h is_semi_kind name column.1 k.1 ∙ same_semi column.1.kind)
-    (ap (λ (o : Option Limit). unwrap_or o zero_limit) (lower-at m h name ∙ ap (then_told column_lower) k.1) ∙ lower-back l u (lower_of l u sides) (upper_of l u sides))
-    ((λ i. unwrap_or ((upper-at m h name ∙ ap (then_told column_upper) k.1) i)
+    (ap (λ (o : Option Limit). unwrap_or o zero_limit) (lower-at m h name ∙ ap (then_stated column_lower) k.1) ∙ lower-back l u (lower_of l u sides) (upper_of l u sides))
+    ((λ i. unwrap_or ((upper-at m h name ∙ ap (then_stated column_upper) k.1) i)
     (if has_name (binaries i) name || (has_name (marked i) name && (is_none (at_name (drafted m).lowers name) && is_none (at_name (drafted m).uppers name))) then one_limit else PlusInf))
     ∙ upper-back l u (lower_of l u sides) (upper_of l u sides))
 

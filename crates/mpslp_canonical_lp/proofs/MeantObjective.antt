@@ -25,7 +25,7 @@ use Rattle.mpslp_canonical_lp.proofs.ObjectiveWalk.{terms_declared, constant_dec
 use Rattle.mpslp_canonical_lp.proofs.TailWalk.{general_made, semi_made}
 use Rattle.mpslp_canonical_lp.proofs.BoundsWalk.{bound_made, column_made}
 use Rattle.mpslp_canonical_lp.proofs.TextWalk.{row_made, listed_declarations}
-use Rattle.mpslp_canonical_lp.proofs.ListedParts.{form_told, drafted}
+use Rattle.mpslp_canonical_lp.proofs.ListedParts.{form_stated, drafted}
 use Rattle.mpslp_canonical_lp.proofs.ListedMaps.{no-right_sides}
 
 -- ---- the declarations of terms, rows and columns, by their kinds
@@ -51,7 +51,7 @@ module _ (P : Declaration → Type 0) (h : EachKind P) where
       (Each-all (λ (term : Term). Each P (term_declared row term)) (λ term. (h.of_column term.0, (h.of_coefficient (record { row = row; column = term.0 }) term.1, tt))) terms)
 
   each-row : (m : Listing) (row : List ℕ × Row) → Each P (row_made m row)
-  each-row m row = (h.of_row row.0 (form_told row.1), each-terms row.0 (row_terms m row.0))
+  each-row m row = (h.of_row row.0 (form_stated row.1), each-terms row.0 (row_terms m row.0))
 
   both : (x : List ℕ) (a b : Limit) → Each P (column_and x (record { lower = Some a; upper = Some b }))
   both x a b = (h.of_column x, (h.of_lower x a, (h.of_upper x b, tt)))
@@ -87,8 +87,8 @@ module _ (P : Declaration → Type 0) (h : EachKind P) where
       (Each-flat_map P semi_made (filter is_semi_column m.columns) (Each-all (λ column. Each P (semi_made column)) (λ column. (h.of_column column.0, (h.of_semi column.0, tt))) (filter is_semi_column m.columns)))))
 
   -- and in its items
-  each-behind : ((v : Number) → P (declare_constant v)) → (m : Listing) → Each P ((terms_declared m.objective (objective_terms m) ++ constant_declared m.constant) ++ rest_declared m)
-  each-behind k m =
+  each-after : ((v : Number) → P (declare_constant v)) → (m : Listing) → Each P ((terms_declared m.objective (objective_terms m) ++ constant_declared m.constant) ++ rest_declared m)
+  each-after k m =
       Each-append P (terms_declared m.objective (objective_terms m) ++ constant_declared m.constant) (rest_declared m)
       (Each-append P (terms_declared m.objective (objective_terms m)) (constant_declared m.constant) (each-terms m.objective (objective_terms m))
       (elim (is_zero m.constant) as (λ t. Each P (if t then [] else declare_constant m.constant ∷ [])) [ true ↦ tt | false ↦ (k m.constant, tt) ]))
@@ -102,7 +102,7 @@ begun m = with_declarations empty_draft (objective_declared m.sense m.objective)
 pub sense-drafted : (m : Listing) → (drafted m).sense ≡ Some m.sense
 sense-drafted m =
     stays-all (λ d. d.sense) (Some m.sense) _
-    (each-behind (Stays (λ d. d.sense) (Some m.sense)) (record {
+    (each-after (Stays (λ d. d.sense) (Some m.sense)) (record {
       of_row = λ _ _ all is. is;
       of_column = λ _ all is. is;
       of_coefficient = λ _ _ all is. is;
@@ -115,7 +115,7 @@ sense-drafted m =
 pub objective-drafted : (m : Listing) → (drafted m).objective ≡ Some m.objective
 objective-drafted m =
     stays-all (λ d. d.objective) (Some m.objective) _
-    (each-behind (Stays (λ d. d.objective) (Some m.objective)) (record {
+    (each-after (Stays (λ d. d.objective) (Some m.objective)) (record {
       of_row = λ _ _ all is. is;
       of_column = λ _ all is. is;
       of_coefficient = λ _ _ all is. is;
@@ -139,19 +139,19 @@ keeps-constant value = record {
 }
 
 -- it is declared unless it is 0
-abbrev told_constant : Number → Option Number
-told_constant value = if is_zero value then None else Some value
+abbrev stated_constant : Number → Option Number
+stated_constant value = if is_zero value then None else Some value
 
-constant-added : (all : Draft) (value : Number) → all.constant ≡ None → (with_declarations all (constant_declared value)).constant ≡ told_constant value
+constant-added : (all : Draft) (value : Number) → all.constant ≡ None → (with_declarations all (constant_declared value)).constant ≡ stated_constant value
 constant-added all value none =
     elim (is_zero value) as (λ t. (with_declarations all (if t then [] else declare_constant value ∷ [])).constant ≡ (if t then None else Some value)) [ true ↦ none | false ↦ refl ]
 
-constant-drafted : (m : Listing) → (drafted m).constant ≡ told_constant m.constant
+constant-drafted : (m : Listing) → (drafted m).constant ≡ stated_constant m.constant
 constant-drafted m =
     let terms = terms_declared m.objective (objective_terms m) in
     let constant = constant_declared m.constant in
     ap (λ (all : Draft). all.constant) (with_declarations-append (terms ++ constant) (rest_declared m) (begun m))
-    ∙ stays-all (λ d. d.constant) (told_constant m.constant) (rest_declared m) (each-rest (Stays (λ d. d.constant) (told_constant m.constant)) (keeps-constant (told_constant m.constant)) m)
+    ∙ stays-all (λ d. d.constant) (stated_constant m.constant) (rest_declared m) (each-rest (Stays (λ d. d.constant) (stated_constant m.constant)) (keeps-constant (stated_constant m.constant)) m)
     (with_declarations (begun m) (terms ++ constant))
     (ap (λ (all : Draft). all.constant) (with_declarations-append terms constant (begun m))
     ∙ constant-added (with_declarations (begun m) terms) m.constant

@@ -24,12 +24,12 @@ use Rattle.mpslp_canonical_lp.proofs.TextWalk.{listed_declarations}
 use Rattle.mpslp_builder.proofs.EntryLemmas.{puts-own}
 use Rattle.mpslp_builder.proofs.SoundParts.{row_sides, lower_of, upper_of, bounded_so, bounded_finite}
 use Rattle.mpslp_canonical_lp.proofs.SoundListing.{IsSoundListing}
-use Rattle.mpslp_canonical_lp.proofs.ListedParts.{limits_told, form_of, drafted}
+use Rattle.mpslp_canonical_lp.proofs.ListedParts.{limits_stated, form_of, drafted}
 use Rattle.mpslp_canonical_lp.proofs.ListedMaps.{row_forms, rows-part}
 
 -- limits that are equal are the same decimal
-between-told : (a b : Number) → is_bounded_decimal a ≡ true → is_bounded_decimal b ≡ true → form_of (limits_told (Finite a) (Finite b)) ≡ by_limits (Finite a) (Finite b)
-between-told a b p q = by (have_same_value a b) refl
+between-stated : (a b : Number) → is_bounded_decimal a ≡ true → is_bounded_decimal b ≡ true → form_of (limits_stated (Finite a) (Finite b)) ≡ by_limits (Finite a) (Finite b)
+between-stated a b p q = by (have_same_value a b) refl
   where
     by : (t : Bool) → have_same_value a b ≡ t
         → form_of (limits_between (left_of (if t then None else Some a)) (if t then EqualTo else AtMost) (limit_of b)) ≡ by_limits (Finite a) (Finite b)
@@ -37,16 +37,16 @@ between-told a b p q = by (have_same_value a b) refl
     by false e = λ i. by_limits (bounded_finite a p i) (bounded_finite b q i)
 
 -- what is declared of a row are its limits
-pub limits-back : (lower upper : Limit) → are_sides lower upper ≡ true → form_of (limits_told lower upper) ≡ by_limits lower upper
+pub limits-back : (lower upper : Limit) → are_sides lower upper ≡ true → form_of (limits_stated lower upper) ≡ by_limits lower upper
 limits-back lower upper h = by lower upper (lower_of lower upper h) (upper_of lower upper h)
   where
     open_side : false ≡ true → ⊥
     open_side e = cc
 
-    by : (l u : Limit) → is_lower_side l ≡ true → is_upper_side u ≡ true → form_of (limits_told l u) ≡ by_limits l u
+    by : (l u : Limit) → is_lower_side l ≡ true → is_upper_side u ≡ true → form_of (limits_stated l u) ≡ by_limits l u
     by MinusInf (Finite b) p q = ap (by_limits MinusInf) (bounded_finite b q)
     by MinusInf PlusInf p q = refl
-    by (Finite a) (Finite b) p q = between-told a b p q
+    by (Finite a) (Finite b) p q = between-stated a b p q
     by (Finite a) PlusInf p q = ap (λ (l : Limit). by_limits l PlusInf) (bounded_finite a p)
     by MinusInf MinusInf p q = absurd (open_side q)
     by (Finite a) MinusInf p q = absurd (open_side q)

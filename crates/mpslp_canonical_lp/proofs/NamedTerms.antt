@@ -62,11 +62,11 @@ pub row-other : (m : Listing) (row : List ℕ) → AreOther m.columns → AreOth
 row-other m row h = some-other m.columns (filter_map (term_in m row) m.columns) (other-terms (λ column. find key_cmp (record { row = row; column = column.0 }) m.coefficients) m.columns h)
 
 -- terms after others with different columns
-new-behind : (seen terms : List Term) → Each (λ (term : Term). list_any (λ (earlier : Term). same_bytes term.0 earlier.0) seen ≡ false) terms → AreOther terms → AreNew seen terms
-new-behind seen [] h other = tt
-new-behind seen (term ∷ terms) h other = (
+new-after : (seen terms : List Term) → Each (λ (term : Term). list_any (λ (earlier : Term). same_bytes term.0 earlier.0) seen ≡ false) terms → AreOther terms → AreNew seen terms
+new-after seen [] h other = tt
+new-after seen (term ∷ terms) h other = (
   h.0,
-  new-behind (seen ++ term ∷ []) terms
+  new-after (seen ++ term ∷ []) terms
       (Each-both (λ (later : Term). list_any (λ (earlier : Term). same_bytes later.0 earlier.0) seen ≡ false) (λ (later : Term). same_bytes later.0 term.0 ≡ false)
       (λ (later : Term). list_any (λ (earlier : Term). same_bytes later.0 earlier.0) (seen ++ term ∷ []) ≡ false)
       (λ later no apart.
@@ -86,5 +86,5 @@ pub plain-row : (m : Listing) → IsFit m → AreOther m.columns → 0 < length 
 plain-row m fit other some row =
     let terms = filter_map (term_in m row) m.columns in
     some-row m.columns terms some (λ (ts : List Term). Each IsTerm ts → AreOther ts → IsRow ts)
-    (λ term more good apart. (good, new-behind [] (term ∷ more) (Each-all (λ (later : Term). list_any (λ (earlier : Term). same_bytes later.0 earlier.0) [] ≡ false) (λ _. refl) (term ∷ more)) apart))
+    (λ term more good apart. (good, new-after [] (term ∷ more) (Each-all (λ (later : Term). list_any (λ (earlier : Term). same_bytes later.0 earlier.0) [] ≡ false) (λ _. refl) (term ∷ more)) apart))
     (some-fits m.columns terms fit.columns (terms-fit m fit row)) (row-other m row other)

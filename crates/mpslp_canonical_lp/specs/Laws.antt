@@ -31,8 +31,8 @@ abbrev pub DeclareTheirModels : Type 0
 DeclareTheirModels = (m : LinearModel) → IsSound m → unfit m ≡ None → DeclaresLp (canonical_lp m) m
 
 -- Well-formed models with LP names have the same canonical text if and only if they are equal.
-abbrev pub TellModelsApart : Type 0
-TellModelsApart = (m n : LinearModel) → IsSound m → unfit m ≡ None → IsSound n → unfit n ≡ None → (canonical_lp m ≡ canonical_lp n) ↔ (m ≡ n)
+abbrev pub DistinguishModels : Type 0
+DistinguishModels = (m n : LinearModel) → IsSound m → unfit m ≡ None → IsSound n → unfit n ≡ None → (canonical_lp m ≡ canonical_lp n) ↔ (m ≡ n)
 
 -- What LP text declares is well-formed, and LP can express it.
 abbrev pub DeclareWhatFits : Type 0

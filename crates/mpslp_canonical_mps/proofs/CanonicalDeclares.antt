@@ -12,7 +12,7 @@ use Rattle.mpslp_mps.specs.MpsText.{read_lines, has_end, declarations_of, Declar
 use Rattle.mpslp_mps.proofs.ContextLineLemmas.{declared_items, are_well_formed, lines-declare, lines-good}
 use Rattle.mpslp_canonical_mps.proofs.ContentsWalk.{Walk}
 use Rattle.mpslp_canonical_mps.specs.CanonicalMps.{canonical_mps}
-use Rattle.mpslp_canonical_mps.specs.Laws.{IsReadAsPrinted, DeclareTheirModels, TellModelsApart}
+use Rattle.mpslp_canonical_mps.specs.Laws.{IsReadAsPrinted, DeclareTheirModels, DistinguishModels}
 use Rattle.mpslp_canonical_mps.proofs.ReadLemmas.{read-as-line_text}
 use Rattle.mpslp_canonical_mps.proofs.WholeWalk.{whole_items, whole-walk}
 use Rattle.mpslp_canonical_mps.proofs.ListedContents.{whole_of, listed-items}
@@ -51,8 +51,8 @@ pub canonical-declares : DeclareTheirModels
 canonical-declares m sound = declares-if_consistent m sound (consistent-if_once (listing_of m) (sound-listing m sound) (filled-once (listing_of m) (sound-listing m sound)))
 
 -- Well-formed models have the same canonical text if and only if they are equal.
-pub tells-apart : TellModelsApart
-tells-apart m n sound other = (
+pub is-injective : DistinguishModels
+is-injective m n sound other = (
   λ same. one-model (canonical_mps m) m n (canonical-declares m sound) (subst (λ (text : List ℕ). DeclaresMps text n) (sym same) (canonical-declares n other)),
   ap canonical_mps,
 )

@@ -8,7 +8,7 @@ use Rattle.mpslp_types.proofs.EachLemmas.{Each}
 use Rattle.mpslp_mps_fields.specs.Line.{LineContent, begins}
 use Rattle.mpslp_mps.specs.Context.{context_of, is_read, data_lines}
 use Rattle.mpslp_mps.specs.TextInWords.{has_section}
-use Rattle.mpslp_canonical_mps.proofs.HeaderWalk.{is_bare, wants_word, header_item, MayStand, header-good, header-says, current-header, no-lines, settled-after}
+use Rattle.mpslp_canonical_mps.proofs.HeaderWalk.{is_bare, wants_word, header_item, MayBegin, header-good, header-says, current-header, no-lines, settled-after}
 use Rattle.mpslp_mps_fields.specs.declared.sections.Section.{Section}
 use Rattle.mpslp_mps_fields.specs.declared.sections.Section.TheVariants.{Columns, Rhs, Ranges, Bounds, EndData}
 use Rattle.mpslp_mps.proofs.SectionLemmas.{has_section-push, data_lines-push}
@@ -48,17 +48,17 @@ data-settled item reads bare (x ∷ xs) before h =
 
 -- RHS, RANGES or BOUNDS
 pub record IsLateSection (section : Section) : Type 0 where
-  pub stands : (before : List LineContent) (earlier : Draft) → IsLate before earlier → has_section before section ≡ false → MayStand section before
+  pub may_begin : (before : List LineContent) (earlier : Draft) → IsLate before earlier → has_section before section ≡ false → MayBegin section before
   pub bare : is_bare (header_item section) ≡ false
 
 late-rhs : IsLateSection Rhs
-late-rhs = record { stands = λ before earlier h f. record { settled = h.settled; fresh = f; begins = h.columns }; bare = refl }
+late-rhs = record { may_begin = λ before earlier h f. record { settled = h.settled; fresh = f; begins = h.columns }; bare = refl }
 
 late-ranges : IsLateSection Ranges
-late-ranges = record { stands = λ before earlier h f. record { settled = h.settled; fresh = f; begins = h.columns }; bare = refl }
+late-ranges = record { may_begin = λ before earlier h f. record { settled = h.settled; fresh = f; begins = h.columns }; bare = refl }
 
 late-bounds : IsLateSection Bounds
-late-bounds = record { stands = λ before earlier h f. record { settled = h.settled; fresh = f; begins = h.columns }; bare = refl }
+late-bounds = record { may_begin = λ before earlier h f. record { settled = h.settled; fresh = f; begins = h.columns }; bare = refl }
 
 late-header : (section : Section) → IsLateSection section → (before : List LineContent) (earlier : Draft) → IsLate before earlier → IsLate (before ++ header_item section ∷ []) earlier
 late-header section s before earlier h =
@@ -70,7 +70,7 @@ under-walk : {X : Type 0} (section : Section) → IsLateSection section → (ite
 under-walk section s item decl [] before earlier h f w = walk-nil before earlier
 under-walk section s item decl (x ∷ xs) before earlier h f w =
     walk-cons before earlier (header_item section) (map item (x ∷ xs)) [] (flat_map decl (x ∷ xs)) (header-says section (context_of before) earlier (λ _. h.objective))
-    (header-good section before earlier (s.stands before earlier h f) (λ _. h.objective)) w
+    (header-good section before earlier (s.may_begin before earlier h f) (λ _. h.objective)) w
 
 -- the lines of a section that has not begun
 pub none-yet : (section : Section) (before : List LineContent) → begins section (header_item section) ≡ true → has_section before section ≡ false → data_lines section (before ++ header_item section ∷ []) ≡ []

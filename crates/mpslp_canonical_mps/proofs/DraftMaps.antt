@@ -24,8 +24,8 @@ use Rattle.mpslp_builder.proofs.SortedDrafts.{bytes_total, tied_names}
 use Rattle.mpslp_builder.proofs.NamedEntries.{names_sorted, at-mapped, named}
 use Rattle.mpslp_canonical_mps.specs.CanonicalMps.{column_coefficients, printed_coefficients, is_integer_column, is_plain_column}
 use Rattle.mpslp_canonical_mps.proofs.CanonicalContents.{to_cell, cells_in}
-use Rattle.mpslp_builder.proofs.EntryLemmas.{first_there, then_told, told, all_told, sorted-kept, find-puts, puts-own, find-kept, sorted-told, find-told, filter-not_not}
-use Rattle.mpslp_canonical_mps.proofs.ListedParts.{form_told, value_told, side_told, range_told, column_lower, column_upper, semi_told, column_semi, row_forms, own_column, listed_decl, from_cells, rows-part, rhs_values-part, ranges-part, columns-part, marked-part, integers-part, binaries-part, lowers-part, uppers-part, semis-part}
+use Rattle.mpslp_builder.proofs.EntryLemmas.{first_there, then_stated, stated, all_stated, sorted-kept, find-puts, puts-own, find-kept, sorted-stated, find-stated, filter-not_not}
+use Rattle.mpslp_canonical_mps.proofs.ListedParts.{form_stated, value_stated, side_stated, range_stated, column_lower, column_upper, semi_stated, column_semi, row_forms, own_column, listed_decl, from_cells, rows-part, rhs_values-part, ranges-part, columns-part, marked-part, integers-part, binaries-part, lowers-part, uppers-part, semis-part}
 
 -- ---- a well-formed listing
 
@@ -59,58 +59,58 @@ none_is (Some x) h = cc
 pub rows-drafted : (m : Listing) → IsSoundListing m → (drafted m).rows ≡ row_forms m.rows
 rows-drafted m h =
     rows-all (listed_decl m) empty_draft ∙ ap (λ (es : List (List ℕ × RowDefinition)). puts bytes_cmp es []) (rows-part m)
-    ∙ puts-own bytes_cmp bytes_total tied_names (row_forms m.rows) (names_sorted form_told m.rows h.rows_sorted)
+    ∙ puts-own bytes_cmp bytes_total tied_names (row_forms m.rows) (names_sorted form_stated m.rows h.rows_sorted)
 
-pub row-at : (m : Listing) → IsSoundListing m → (q : List ℕ) → at_name (drafted m).rows q ≡ then_told (λ row. Some (form_told row)) (at_name m.rows q)
-row-at m h q = ap (λ (es : List (List ℕ × RowDefinition)). at_name es q) (rows-drafted m h) ∙ at-mapped form_told q m.rows
+pub row-at : (m : Listing) → IsSoundListing m → (q : List ℕ) → at_name (drafted m).rows q ≡ then_stated (λ row. Some (form_stated row)) (at_name m.rows q)
+row-at m h q = ap (λ (es : List (List ℕ × RowDefinition)). at_name es q) (rows-drafted m h) ∙ at-mapped form_stated q m.rows
 
-puts-told : (q : List ℕ) (o : Option Number) → puts bytes_cmp (told q o) [] ≡ told q o
-puts-told q None = refl
-puts-told q (Some d) = refl
+puts-stated : (q : List ℕ) (o : Option Number) → puts bytes_cmp (stated q o) [] ≡ stated q o
+puts-stated q None = refl
+puts-stated q (Some d) = refl
 
 pub right_side-at : (m : Listing) → IsSoundListing m → (q : List ℕ)
-    → at_name (drafted m).rhs_values q ≡ first_there (then_told side_told (at_name m.rows q)) (at_name (told m.objective (value_told (negated m.constant))) q)
+    → at_name (drafted m).rhs_values q ≡ first_there (then_stated side_stated (at_name m.rows q)) (at_name (stated m.objective (value_stated (negated m.constant))) q)
 right_side-at m h q =
-    let mine = told m.objective (value_told (negated m.constant)) in
-    let rows = all_told side_told m.rows in
+    let mine = stated m.objective (value_stated (negated m.constant)) in
+    let rows = all_stated side_stated m.rows in
     ap (λ (es : List (List ℕ × Number)). at_name es q)
     (rhs_values-all (listed_decl m) empty_draft ∙ ap (λ (es : List (List ℕ × Number)). puts bytes_cmp es []) (rhs_values-part m) ∙ puts-append bytes_cmp mine rows []
-    ∙ ap (puts bytes_cmp rows) (puts-told m.objective (value_told (negated m.constant))))
-    ∙ find-puts bytes_cmp bytes_total tied_names q rows mine (sorted-told bytes_cmp side_told m.rows h.rows_sorted)
-    ∙ ap (λ (o : Option Number). first_there o (at_name mine q)) (find-told bytes_cmp side_told bytes_total tied_names q m.rows h.rows_sorted)
+    ∙ ap (puts bytes_cmp rows) (puts-stated m.objective (value_stated (negated m.constant))))
+    ∙ find-puts bytes_cmp bytes_total tied_names q rows mine (sorted-stated bytes_cmp side_stated m.rows h.rows_sorted)
+    ∙ ap (λ (o : Option Number). first_there o (at_name mine q)) (find-stated bytes_cmp side_stated bytes_total tied_names q m.rows h.rows_sorted)
 
-pub range-at : (m : Listing) → IsSoundListing m → (q : List ℕ) → at_name (drafted m).ranges q ≡ then_told range_told (at_name m.rows q)
+pub range-at : (m : Listing) → IsSoundListing m → (q : List ℕ) → at_name (drafted m).ranges q ≡ then_stated range_stated (at_name m.rows q)
 range-at m h q =
     ap (λ (es : List (List ℕ × Number)). at_name es q)
     (ranges-all (listed_decl m) empty_draft ∙ ap (λ (es : List (List ℕ × Number)). puts bytes_cmp es []) (ranges-part m)
-    ∙ puts-own bytes_cmp bytes_total tied_names (all_told range_told m.rows) (sorted-told bytes_cmp range_told m.rows h.rows_sorted))
-    ∙ find-told bytes_cmp range_told bytes_total tied_names q m.rows h.rows_sorted
+    ∙ puts-own bytes_cmp bytes_total tied_names (all_stated range_stated m.rows) (sorted-stated bytes_cmp range_stated m.rows h.rows_sorted))
+    ∙ find-stated bytes_cmp range_stated bytes_total tied_names q m.rows h.rows_sorted
 
 -- ---- columns
 
-pub lower-at : (m : Listing) → IsSoundListing m → (q : List ℕ) → at_name (drafted m).lowers q ≡ then_told column_lower (at_name m.columns q)
+pub lower-at : (m : Listing) → IsSoundListing m → (q : List ℕ) → at_name (drafted m).lowers q ≡ then_stated column_lower (at_name m.columns q)
 lower-at m h q =
     ap (λ (es : List _). at_name es q)
     (lowers-all (listed_decl m) empty_draft ∙ ap (λ (es : List _). puts bytes_cmp es []) (lowers-part m)
-    ∙ puts-own bytes_cmp bytes_total tied_names (all_told column_lower m.columns) (sorted-told bytes_cmp column_lower m.columns h.columns_sorted))
-    ∙ find-told bytes_cmp column_lower bytes_total tied_names q m.columns h.columns_sorted
+    ∙ puts-own bytes_cmp bytes_total tied_names (all_stated column_lower m.columns) (sorted-stated bytes_cmp column_lower m.columns h.columns_sorted))
+    ∙ find-stated bytes_cmp column_lower bytes_total tied_names q m.columns h.columns_sorted
 
-pub upper-at : (m : Listing) → IsSoundListing m → (q : List ℕ) → at_name (drafted m).uppers q ≡ then_told column_upper (at_name m.columns q)
+pub upper-at : (m : Listing) → IsSoundListing m → (q : List ℕ) → at_name (drafted m).uppers q ≡ then_stated column_upper (at_name m.columns q)
 upper-at m h q =
     ap (λ (es : List _). at_name es q)
     (uppers-all (listed_decl m) empty_draft ∙ ap (λ (es : List _). puts bytes_cmp es []) (uppers-part m)
-    ∙ puts-own bytes_cmp bytes_total tied_names (all_told column_upper m.columns) (sorted-told bytes_cmp column_upper m.columns h.columns_sorted))
-    ∙ find-told bytes_cmp column_upper bytes_total tied_names q m.columns h.columns_sorted
+    ∙ puts-own bytes_cmp bytes_total tied_names (all_stated column_upper m.columns) (sorted-stated bytes_cmp column_upper m.columns h.columns_sorted))
+    ∙ find-stated bytes_cmp column_upper bytes_total tied_names q m.columns h.columns_sorted
 
-semi-at : (m : Listing) → IsSoundListing m → (q : List ℕ) → at_name (drafted m).semis q ≡ then_told column_semi (at_name m.columns q)
+semi-at : (m : Listing) → IsSoundListing m → (q : List ℕ) → at_name (drafted m).semis q ≡ then_stated column_semi (at_name m.columns q)
 semi-at m h q =
     ap (λ (es : List _). at_name es q)
     (semis-all (listed_decl m) empty_draft ∙ ap (λ (es : List _). puts bytes_cmp es []) (semis-part m)
-    ∙ puts-own bytes_cmp bytes_total tied_names (all_told column_semi m.columns) (sorted-told bytes_cmp column_semi m.columns h.columns_sorted))
-    ∙ find-told bytes_cmp column_semi bytes_total tied_names q m.columns h.columns_sorted
+    ∙ puts-own bytes_cmp bytes_total tied_names (all_stated column_semi m.columns) (sorted-stated bytes_cmp column_semi m.columns h.columns_sorted))
+    ∙ find-stated bytes_cmp column_semi bytes_total tied_names q m.columns h.columns_sorted
 
 -- a semi-continuous column of a well-formed listing has a finite upper bound, whose line declares its type
-semi-suited : (kind : Kind) (l u : Limit) → suits kind l u ≡ true → is_some (semi_told kind u) ≡ is_semi_kind kind
+semi-suited : (kind : Kind) (l u : Limit) → suits kind l u ≡ true → is_some (semi_stated kind u) ≡ is_semi_kind kind
 semi-suited Continuous l MinusInf h = refl
 semi-suited Continuous l (Finite b) h = refl
 semi-suited Continuous l PlusInf h = refl
@@ -124,7 +124,7 @@ semi-suited Semi l PlusInf h = second_so (is_at_most zero_limit l) false h
 pub semis-at : (m : Listing) → IsSoundListing m → (q : List ℕ) (column : Column) → suits column.kind column.lower column.upper ≡ true → at_name m.columns q ≡ Some column
     → has_name (drafted m).semis q ≡ is_semi_kind column.kind
 semis-at m h q column suited is =
-    ap is_some (semi-at m h q ∙ ap (then_told column_semi) is) ∙ semi-suited column.kind column.lower column.upper suited
+    ap is_some (semi-at m h q ∙ ap (then_stated column_semi) is) ∙ semi-suited column.kind column.lower column.upper suited
 
 -- each cell of a column names it, and there is at least one
 own-all : (name : List ℕ) (cells : List (List ℕ × Number)) → Each (λ e. e ≡ (name, tt)) (flat_map own_column (map (to_cell name) cells))
@@ -174,8 +174,8 @@ one-part f [] = refl
 one-part f (x ∷ xs) = ap (λ (ys : List _). f x ++ ys) (one-part f xs) ∙ sym (append_assoc (f x) (flat_map f (filter (λ _. true) xs)) (flat_map f (filter (λ _. not true) xs)))
 
 -- only columns of one part
-pub plain-alone : (m : Listing) (columns : List (List ℕ × Column)) → is_sorted bytes_cmp columns ≡ true → puts bytes_cmp (from_cells own_column m columns) [] ≡ map named columns
-plain-alone m columns h =
+pub plain-only : (m : Listing) (columns : List (List ℕ × Column)) → is_sorted bytes_cmp columns ≡ true → puts bytes_cmp (from_cells own_column m columns) [] ≡ map named columns
+plain-only m columns h =
     ap (λ (es : List (List ℕ × Unit {0})). puts bytes_cmp es []) (one-part (λ column. flat_map own_column (cells_in m column)) columns)
     ∙ columns-parted m (λ _. true) columns h
 
@@ -183,10 +183,10 @@ pub marked-at : (m : Listing) → IsSoundListing m → (q : List ℕ) (column : 
 marked-at m h q column is =
     ap (λ (es : List (List ℕ × Unit {0})). has_name es q) (marked-drafted m h)
     ∙ ap is_some (at-mapped (λ _. tt) q (filter is_integer_column m.columns))
-    ∙ ap (λ (o : Option Column). is_some (then_told (λ _. Some tt) o)) (find-kept bytes_cmp bytes_total tied_names (λ c. has_integer_kind c) q m.columns h.columns_sorted ∙ ap (then_told (λ c. cond (has_integer_kind c) (Some c) None)) is)
+    ∙ ap (λ (o : Option Column). is_some (then_stated (λ _. Some tt) o)) (find-kept bytes_cmp bytes_total tied_names (λ c. has_integer_kind c) q m.columns h.columns_sorted ∙ ap (then_stated (λ c. cond (has_integer_kind c) (Some c) None)) is)
     ∙ by (has_integer_kind column)
   where
-    by : (b : Bool) → is_some (then_told {V = Unit {0}} (λ _. Some tt) (cond b (Some column) None)) ≡ b
+    by : (b : Bool) → is_some (then_stated {V = Unit {0}} (λ _. Some tt) (cond b (Some column) None)) ≡ b
     by true = refl
     by false = refl
 

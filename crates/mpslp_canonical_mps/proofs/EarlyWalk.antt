@@ -20,7 +20,7 @@ use Rattle.mpslp_mps_fields.specs.declared.sections.Section.TheVariants.{Name, O
 use Rattle.mpslp_canonical_mps.proofs.ContentsWalk.{Walk, walk-nil, walk-cons, walk-append, section-walk}
 use Rattle.mpslp_canonical_mps.proofs.RowsWalk.{RowItem, row_item, row_decl, InRows, row_step, name-good, stays}
 use Rattle.mpslp_canonical_mps.proofs.ColumnsWalk.{Cell, cell_item, cell_decl, GoodCell, InCells, cell_step, Unsplit, marker_fields, marker_part, marker_last, marker_says, marker_good, Group, cells_of, IsGroup, AreApart, AreAbsent, groups_unsplit}
-use Rattle.mpslp_canonical_mps.proofs.HeaderWalk.{header_item, MayStand, header-good, header-says, current-header}
+use Rattle.mpslp_canonical_mps.proofs.HeaderWalk.{header_item, MayBegin, header-good, header-says, current-header}
 use Rattle.mpslp_canonical_mps.proofs.CanonicalWalk.{none-yet}
 
 -- ---- NAME and OBJSENSE
@@ -38,7 +38,7 @@ start-walk Minimize = record { declares = refl; good = refl }
 start-walk Maximize = record { declares = refl; good = refl }
 
 -- ROWS may come next
-pub rows-may : (sense : Sense) → MayStand Rows (header_item Name ∷ sense_items sense)
+pub rows-may : (sense : Sense) → MayBegin Rows (header_item Name ∷ sense_items sense)
 rows-may Minimize = record { settled = refl; fresh = refl; begins = refl }
 rows-may Maximize = record { settled = refl; fresh = refl; begins = refl }
 
@@ -59,7 +59,7 @@ objective-says name context earlier s o unnamed = rw (s, o, unnamed) refl
 pub objective-good : (name : List ℕ) (context : Context) (earlier : Draft) → context.section ≡ Some Rows → is_mps_name name ≡ true → form_faults context earlier (objective_item name) ≡ []
 objective-good name context earlier s h = rw s (name-good name h)
 
-pub rows-walk : (name : List ℕ) (rows : List RowItem) (before : List LineContent) (earlier : Draft) → MayStand Rows before → objname before ≡ None → is_none earlier.objective ≡ true → is_mps_name name ≡ true
+pub rows-walk : (name : List ℕ) (rows : List RowItem) (before : List LineContent) (earlier : Draft) → MayBegin Rows before → objname before ≡ None → is_none earlier.objective ≡ true → is_mps_name name ≡ true
     → Each (λ (row : RowItem). is_mps_name row.0 ≡ true) rows → Walk before earlier (header_item Rows ∷ objective_item name ∷ map row_item rows) (declare_objective name ∷ flat_map row_decl rows)
 rows-walk name rows before earlier may unnamed none legal names =
     let headed = before ++ header_item Rows ∷ [] in
@@ -118,7 +118,7 @@ pub record AreColumns (plain integers : List Group) (earlier : Draft) : Type 0 w
   pub plain_cells : Each GoodCell (cells_of plain)
   pub integer_cells : Each GoodCell (cells_of integers)
 
-pub columns-walk : (plain integers : List Group) (before : List LineContent) (earlier : Draft) → MayStand Columns before → is_none earlier.objective ≡ false → AreColumns plain integers earlier
+pub columns-walk : (plain integers : List Group) (before : List LineContent) (earlier : Draft) → MayBegin Columns before → is_none earlier.objective ≡ false → AreColumns plain integers earlier
     → Walk before earlier (header_item Columns ∷ (map cell_item (cells_of plain) ++ part_items (cells_of integers)))
     (flat_map (cell_decl false) (cells_of plain) ++ flat_map (cell_decl true) (cells_of integers))
 columns-walk plain integers before earlier may named h =

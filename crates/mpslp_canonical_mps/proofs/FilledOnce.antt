@@ -21,11 +21,11 @@ use Rattle.mpslp_canonical_mps.proofs.BoundsWalk.{bound_decl}
 use Rattle.mpslp_canonical_mps.specs.CanonicalMps.{is_integer_column, is_plain_column}
 use Rattle.mpslp_canonical_mps.proofs.CanonicalContents.{group_in, cells_in, bounds_in}
 use Rattle.mpslp_canonical_mps.proofs.EarlyWalk.{sense_decl}
-use Rattle.mpslp_builder.proofs.EntryLemmas.{all_told, sorted-kept}
+use Rattle.mpslp_builder.proofs.EntryLemmas.{all_stated, sorted-kept}
 use Rattle.mpslp_canonical_mps.proofs.ListedContents.{whole_of}
 use Rattle.mpslp_builder.proofs.FlatLemmas.{flat-same}
 use Rattle.mpslp_canonical_mps.proofs.WholeParts.{made_of, whole-parts}
-use Rattle.mpslp_canonical_mps.proofs.ListedParts.{range_told, listed_decl, cells-made}
+use Rattle.mpslp_canonical_mps.proofs.ListedParts.{range_stated, listed_decl, cells-made}
 use Rattle.mpslp_builder.proofs.NamedEntries.{own-found}
 use Rattle.mpslp_canonical_mps.proofs.DraftMaps.{IsSoundListing}
 use Rattle.mpslp_canonical_mps.proofs.ListedSlots.{rank, AllOf, NoneOf, join-ranks, cell_slot, slots-flat}
@@ -144,14 +144,14 @@ bounds-fill columns = flat_map-flat_map (made_of slots_of bound_decl) bounds_in 
 abbrev sections : Listing → List (List Slot)
 sections m =
     sense_slots m.sense ∷ row_slots m ∷ flat_map (column_slots m) (listed_columns m) ∷ map rhs_slot (names_in (side_values m))
-    ∷ map range_slot (names_in (all_told range_told m.rows)) ∷ flat_map bound_slots m.columns ∷ []
+    ∷ map range_slot (names_in (all_stated range_stated m.rows)) ∷ flat_map bound_slots m.columns ∷ []
 
 sections-once : (m : Listing) → IsSoundListing m → Sections 0 (sections m)
 sections-once m h =
     let rows : Section 1 (row_slots m) = record { once = row_slots-distinct m h; rank = (refl, all-named 1 row_slot (λ _. refl) (m.objective ∷ names_in m.rows)) } in
     let side_names = names_in (side_values m) in
     let sides : Section 3 (map rhs_slot side_names) = record { once = side_slots-distinct m h; rank = all-named 3 rhs_slot (λ _. refl) side_names } in
-    let range_names = names_in (all_told range_told m.rows) in
+    let range_names = names_in (all_stated range_stated m.rows) in
     let ranges : Section 4 (map range_slot range_names) = record { once = range_slots-distinct m h; rank = all-named 4 range_slot (λ _. refl) range_names } in
     (sense-section m.sense, (rows, (columns-section m h, (sides, (ranges, (bounds-section m h, tt))))))
 

@@ -27,11 +27,11 @@ use Rattle.mpslp_canonical_mps.proofs.CanonicalContents.{to_row, to_cell, cells_
 use Rattle.mpslp_canonical_mps.proofs.EarlyWalk.{sense_decl, AreColumns}
 use Rattle.mpslp_canonical_mps.proofs.WholeWalk.{draft_at_columns}
 use Rattle.mpslp_canonical_mps.proofs.ListedContents.{whole_of}
-use Rattle.mpslp_builder.proofs.EntryLemmas.{then_told, find-kept, found-each, sorted-kept}
+use Rattle.mpslp_builder.proofs.EntryLemmas.{then_stated, find-kept, found-each, sorted-kept}
 use Rattle.mpslp_builder.proofs.KeptParts.{kept-all}
 use Rattle.mpslp_canonical_mps.proofs.ListedParts.{own_column, from_cells, cells-made}
 use Rattle.mpslp_builder.proofs.NamedEntries.{own-found, at-mapped, named}
-use Rattle.mpslp_canonical_mps.proofs.DraftMaps.{is_sound_entry, IsSoundListing, plain-alone}
+use Rattle.mpslp_canonical_mps.proofs.DraftMaps.{is_sound_entry, IsSoundListing, plain-only}
 use Rattle.mpslp_canonical_mps.proofs.CoefficientMap.{place_at}
 use Rattle.mpslp_builder.proofs.SoundParts.{row_named, column_named, no_marker, later_differ}
 
@@ -118,14 +118,14 @@ after-columns m columns all none h =
     columns-all (flat_map (cell_decl false) cells) all
     ∙ ap (λ (es : List (List ℕ × Unit {0})). puts bytes_cmp es all.columns) made
     ∙ ap (λ (base : List (List ℕ × Unit {0})). puts bytes_cmp (from_cells own_column m columns) base) none
-    ∙ plain-alone m columns h
+    ∙ plain-only m columns h
 
 integer-absent : (m : Listing) → IsSoundListing m → (column : List ℕ × Column) → at_name m.columns column.0 ≡ Some column.1 → is_integer_column column ≡ true
     → has_name (map named (filter is_plain_column m.columns)) column.0 ≡ false
 integer-absent m h column is integer =
     ap is_some (at-mapped (λ _. tt) column.0 (filter is_plain_column m.columns))
-    ∙ ap (λ (o : Option Column). is_some (then_told {V = Unit {0}} (λ _. Some tt) o)) (find-kept bytes_cmp bytes_total tied_names (λ c. not (has_integer_kind c)) column.0 m.columns h.columns_sorted
-    ∙ ap (then_told (λ c. cond (not (has_integer_kind c)) (Some c) None)) is ∙ ap (λ (b : Bool). cond (not b) (Some column.1) None) integer)
+    ∙ ap (λ (o : Option Column). is_some (then_stated {V = Unit {0}} (λ _. Some tt) o)) (find-kept bytes_cmp bytes_total tied_names (λ c. not (has_integer_kind c)) column.0 m.columns h.columns_sorted
+    ∙ ap (then_stated (λ c. cond (not (has_integer_kind c)) (Some c) None)) is ∙ ap (λ (b : Bool). cond (not b) (Some column.1) None) integer)
 
 integers-absent : (m : Listing) → IsSoundListing m → (all : Draft) → all.columns ≡ map named (filter is_plain_column m.columns) → AreAbsent all (map (group_in m) (filter is_integer_column m.columns))
 integers-absent m h all are =

@@ -30,9 +30,9 @@ use Rattle.mpslp_canonical_mps.proofs.CanonicalContents.{to_row, to_side, side_u
 use Rattle.mpslp_canonical_mps.proofs.EarlyWalk.{sense_decl}
 use Rattle.mpslp_canonical_mps.proofs.WholeWalk.{IsGoodWhole, draft_at_columns, draft_at_sides}
 use Rattle.mpslp_canonical_mps.proofs.ListedContents.{whole_of}
-use Rattle.mpslp_builder.proofs.EntryLemmas.{then_told, puts-own}
+use Rattle.mpslp_builder.proofs.EntryLemmas.{then_stated, puts-own}
 use Rattle.mpslp_builder.proofs.KeptParts.{kept-all}
-use Rattle.mpslp_canonical_mps.proofs.ListedParts.{form_told, row_forms, rows-made}
+use Rattle.mpslp_canonical_mps.proofs.ListedParts.{form_stated, row_forms, rows-made}
 use Rattle.mpslp_builder.proofs.NamedEntries.{one_of-names, own-found, names_sorted, at-mapped}
 use Rattle.mpslp_canonical_mps.proofs.DraftMaps.{IsSoundListing, none_is}
 use Rattle.mpslp_builder.proofs.SoundParts.{row_named, row_sides, row_distance, column_sides, bounded_so, bounded_finite, lower_of, upper_of}
@@ -90,15 +90,15 @@ columns-keep plain integers all =
 rows-at-sides : (m : Listing) → IsSoundListing m → (draft_at_sides (whole_of m)).rows ≡ row_forms m.rows
 rows-at-sides m h =
     columns-keep (cells_of (whole_of m).plain) (cells_of (whole_of m).integers) (draft_at_columns (whole_of m))
-    ∙ rows-made-of m ∙ puts-own bytes_cmp bytes_total tied_names (row_forms m.rows) (names_sorted form_told m.rows h.rows_sorted)
+    ∙ rows-made-of m ∙ puts-own bytes_cmp bytes_total tied_names (row_forms m.rows) (names_sorted form_stated m.rows h.rows_sorted)
 
 abbrev is_free_in : Option Row → Bool
-is_free_in o = option_map_or is_free_definition (then_told (λ row. Some (form_told row)) o) false
+is_free_in o = option_map_or is_free_definition (then_stated (λ row. Some (form_stated row)) o) false
 
 free-at : (m : Listing) → IsSoundListing m → (q : List ℕ) → is_free_row (draft_at_sides (whole_of m)) q ≡ is_free_in (at_name m.rows q)
 free-at m h q =
     ap (λ (es : List (List ℕ × RowDefinition)). option_map_or is_free_definition (at_name es q) false) (rows-at-sides m h)
-    ∙ ap (λ (o : Option RowDefinition). option_map_or is_free_definition o false) (at-mapped form_told q m.rows)
+    ∙ ap (λ (o : Option RowDefinition). option_map_or is_free_definition o false) (at-mapped form_stated q m.rows)
 
 -- an N row has no right-hand side
 free-side : (l u : Limit) → is_free_definition (by_type (printed_type l u)) ≡ true → is_zero (printed_rhs l u) ≡ true
@@ -136,7 +136,7 @@ sides-bound m h =
         by : (b : Bool) → is_zero (printed_rhs row.1.lower row.1.upper) ≡ b → Each (IsBoundIn m) (cond b [] (to_side row.0 (printed_rhs row.1.lower row.1.upper) ∷ []))
         by true e = tt
         by false e = (
-          free-at m h row.0 ∙ ap is_free_in is ∙ back (is_free_definition (form_told row.1)) (is_zero (printed_rhs row.1.lower row.1.upper)) (free-side row.1.lower row.1.upper) e,
+          free-at m h row.0 ∙ ap is_free_in is ∙ back (is_free_definition (form_stated row.1)) (is_zero (printed_rhs row.1.lower row.1.upper)) (free-side row.1.lower row.1.upper) e,
           tt,
         )
 

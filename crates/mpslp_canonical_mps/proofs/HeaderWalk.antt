@@ -41,12 +41,12 @@ section_named-keyword EndData = refl
 -- ---- a header where it is allowed
 
 -- OBJSENSE has its word or has not begun; the section has not begun, and may begin
-pub record MayStand (section : Section) (before : List LineContent) : Type 0 where
+pub record MayBegin (section : Section) (before : List LineContent) : Type 0 where
   pub settled : wants_word before ≡ false
   pub fresh : has_section before section ≡ false
   pub begins : may_begin (context_of before) section ≡ true
 
-in-order : (section : Section) (before : List LineContent) → MayStand section before → is_out_of_order (context_of before) section ≡ false
+in-order : (section : Section) (before : List LineContent) → MayBegin section before → is_out_of_order (context_of before) section ≡ false
 in-order section before h = rw (h.settled, h.fresh, h.begins) refl
 
 -- the objective exists at the start of COLUMNS
@@ -62,7 +62,7 @@ fresh-header-good Ranges context earlier o f n = rw (o, f) refl
 fresh-header-good Bounds context earlier o f n = rw (o, f) refl
 fresh-header-good EndData context earlier o f n = rw (o, f) refl
 
-pub header-good : (section : Section) (before : List LineContent) (earlier : Draft) → MayStand section before → (is_section Columns (Some section) ≡ true → is_none earlier.objective ≡ false)
+pub header-good : (section : Section) (before : List LineContent) (earlier : Draft) → MayBegin section before → (is_section Columns (Some section) ≡ true → is_none earlier.objective ≡ false)
     → form_faults (context_of before) earlier (header_item section) ≡ []
 header-good section before earlier h named = fresh-header-good section (context_of before) earlier (in-order section before h) h.fresh named
 

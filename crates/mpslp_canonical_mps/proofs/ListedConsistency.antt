@@ -35,9 +35,9 @@ use Rattle.mpslp_canonical_mps.proofs.PrintableLemmas.{Holds}
 use Rattle.mpslp_canonical_mps.proofs.CanonicalContents.{to_cell, cells_in, group_in, to_side, side_unless_zero, row_side, sides_in, row_range, form_of, value_in, to_bound, bounds_in}
 use Rattle.mpslp_canonical_mps.proofs.EarlyWalk.{sense_decl}
 use Rattle.mpslp_canonical_mps.proofs.ListedContents.{whole_of}
-use Rattle.mpslp_builder.proofs.EntryLemmas.{then_told}
+use Rattle.mpslp_builder.proofs.EntryLemmas.{then_stated}
 use Rattle.mpslp_canonical_mps.proofs.WholeParts.{each-whole}
-use Rattle.mpslp_canonical_mps.proofs.ListedParts.{form_told, listed_decl}
+use Rattle.mpslp_canonical_mps.proofs.ListedParts.{form_stated, listed_decl}
 use Rattle.mpslp_builder.proofs.NamedEntries.{at-mapped}
 use Rattle.mpslp_canonical_mps.proofs.DraftMaps.{IsSoundListing, drafted, row-at, columns-drafted, marked-at, integers-drafted, binaries-drafted, semis-at}
 use Rattle.mpslp_canonical_mps.proofs.CoefficientMap.{place_at}
@@ -49,7 +49,7 @@ use Rattle.mpslp_canonical_mps.proofs.ListedMeaning.{constant-drafted, objective
 column-there : (m : Listing) → IsSoundListing m → (column : List ℕ × Column) → at_name m.columns column.0 ≡ Some column.1 → has_column (drafted m) column.0 ≡ true
 column-there m h column is =
     ap (λ (es : List (List ℕ × Unit {0})). has_name es column.0) (columns-drafted m h)
-    ∙ ap is_some (at-mapped (λ _. tt) column.0 m.columns ∙ ap (then_told (λ _. Some tt)) is)
+    ∙ ap is_some (at-mapped (λ _. tt) column.0 m.columns ∙ ap (then_stated (λ _. Some tt)) is)
 
 objective-there : (m : Listing) → has_row (drafted m) m.objective ≡ true
 objective-there m =
@@ -58,7 +58,7 @@ objective-there m =
 
 row-there : (m : Listing) → IsSoundListing m → (row : List ℕ × Row) → at_name m.rows row.0 ≡ Some row.1 → has_row (drafted m) row.0 ≡ true
 row-there m h row is =
-    or_right (is_objective (drafted m) row.0) (has_name (drafted m).rows row.0) (ap is_some (row-at m h row.0 ∙ ap (then_told (λ r. Some (form_told r))) is))
+    or_right (is_objective (drafted m) row.0) (has_name (drafted m).rows row.0) (ap is_some (row-at m h row.0 ∙ ap (then_stated (λ r. Some (form_stated r))) is))
 
 -- ---- all that is named is declared
 
@@ -168,12 +168,12 @@ range-bounded PlusInf u h = tt
 range-bounded (Finite a) (Finite b) h =
     elim (have_same_value a b) as (λ t. Holds (λ d. is_bounded_decimal d ≡ true) (cond t None (difference_of b a))) [
       | true ↦ tt
-      | false ↦ told_so (difference_of b a) h
+      | false ↦ stated_so (difference_of b a) h
     ]
   where
-    told_so : (o : Option Number) → option_map_or is_bounded_decimal o false ≡ true → Holds (λ d. is_bounded_decimal d ≡ true) o
-    told_so None k = tt
-    told_so (Some d) k = k
+    stated_so : (o : Option Number) → option_map_or is_bounded_decimal o false ≡ true → Holds (λ d. is_bounded_decimal d ≡ true) o
+    stated_so None k = tt
+    stated_so (Some d) k = k
 
 no_false : (a b : Bool) → a ≡ false → b ≡ false → not (a || b) ≡ true
 no_false a b p q = ap not (both_false a b p q)
@@ -186,7 +186,7 @@ allowed-range m h row k = by (printed_range row.1.lower row.1.upper) refl (range
 
     not_free : (d : Number) → printed_range row.1.lower row.1.upper ≡ Some d → is_free_row (drafted m) row.0 ≡ false
     not_free d e =
-        ap (λ (o : Option RowDefinition). option_map_or is_free_definition o false) (row-at m h row.0 ∙ ap (then_told (λ r. Some (form_told r))) k.1) ∙ range-not_free row.1.lower row.1.upper d e
+        ap (λ (o : Option RowDefinition). option_map_or is_free_definition o false) (row-at m h row.0 ∙ ap (then_stated (λ r. Some (form_stated r))) k.1) ∙ range-not_free row.1.lower row.1.upper d e
 
     by : (o : Option Number) → printed_range row.1.lower row.1.upper ≡ o → Holds (λ d. is_bounded_decimal d ≡ true) o
         → Each (λ (side : Side). Each (Allowed m) (range_decl side)) (option_map_or (λ value. to_side row.0 value ∷ []) o [])
@@ -235,11 +235,11 @@ allowed-integers m h =
         Each-map (AllowedCell m) (to_cell column.0) (printed_coefficients m.objective (column_coefficients m column.0))
         (Each-all (λ cell. AllowedCell m (to_cell column.0 cell)) (λ cell. (refl, (other, (refl, tt)))) (printed_coefficients m.objective (column_coefficients m column.0)))
 
-abbrev tells_semi : BoundForm → Bool
-tells_semi semi_upper = true
-tells_semi _ = false
+abbrev is_semi_form : BoundForm → Bool
+is_semi_form semi_upper = true
+is_semi_form _ = false
 
-allowed-form : (m : Listing) (form : BoundForm) (x : List ℕ) (v : Number) → (tells_semi form ≡ true → is_integer (drafted m) x ≡ false) → Each (Allowed m) (decl_at form x v)
+allowed-form : (m : Listing) (form : BoundForm) (x : List ℕ) (v : Number) → (is_semi_form form ≡ true → is_integer (drafted m) x ≡ false) → Each (Allowed m) (decl_at form x v)
 allowed-form m fixed x v h = (refl, (refl, tt))
 allowed-form m forms.lower x v h = (refl, tt)
 allowed-form m forms.upper x v h = (refl, tt)
@@ -248,31 +248,31 @@ allowed-form m no_lower x v h = (refl, tt)
 allowed-form m no_upper x v h = (refl, tt)
 allowed-form m semi_upper x v h = (so_not (is_integer (drafted m) x) (h refl), (refl, tt))
 
-allowed-line_text : (m : Listing) (name : List ℕ) (line_text : List PrintedBound) → Each (λ (b : PrintedBound). tells_semi (form_of b.type) ≡ true → is_integer (drafted m) name ≡ false) line_text
+allowed-line_text : (m : Listing) (name : List ℕ) (line_text : List PrintedBound) → Each (λ (b : PrintedBound). is_semi_form (form_of b.type) ≡ true → is_integer (drafted m) name ≡ false) line_text
     → Each (λ (b : Bound). Each (Allowed m) (bound_decl b)) (map (to_bound name) line_text)
 allowed-line_text m name [] h = tt
 allowed-line_text m name (bound ∷ line_text) h = (allowed-form m (form_of bound.type) name (value_in bound.value) h.0, allowed-line_text m name line_text h.1)
 
 -- a bound that would declare an integer column semi-continuous is not printed
-abbrev TellsNoSemi : PrintedBound → Type 0
-TellsNoSemi bound = tells_semi (form_of bound.type) ≡ false
+abbrev HasNoSemi : PrintedBound → Type 0
+HasNoSemi bound = is_semi_form (form_of bound.type) ≡ false
 
-lower-plain : (l : Limit) → Each TellsNoSemi (printed_lower l)
+lower-plain : (l : Limit) → Each HasNoSemi (printed_lower l)
 lower-plain MinusInf = (refl, tt)
-lower-plain (Finite a) = elim (is_zero a) as (λ b. Each TellsNoSemi (cond b [] (bound_with_value bounds.Lower a ∷ []))) [ true ↦ tt | false ↦ (refl, tt) ]
+lower-plain (Finite a) = elim (is_zero a) as (λ b. Each HasNoSemi (cond b [] (bound_with_value bounds.Lower a ∷ []))) [ true ↦ tt | false ↦ (refl, tt) ]
 lower-plain PlusInf = tt
 
-integer-plain : (l u : Limit) → Each TellsNoSemi (printed_bounds Integer l u)
+integer-plain : (l u : Limit) → Each HasNoSemi (printed_bounds Integer l u)
 integer-plain MinusInf PlusInf = (refl, tt)
 integer-plain MinusInf MinusInf = (refl, tt)
 integer-plain MinusInf (Finite b) = (refl, (refl, tt))
 integer-plain (Finite a) (Finite b) =
-    elim (have_same_value a b) as (λ t. Each TellsNoSemi (cond t (bound_with_value bounds.Fixed b ∷ []) (printed_lower (Finite a) ++ printed_upper Integer (Finite b)))) [
+    elim (have_same_value a b) as (λ t. Each HasNoSemi (cond t (bound_with_value bounds.Fixed b ∷ []) (printed_lower (Finite a) ++ printed_upper Integer (Finite b)))) [
       | true ↦ (refl, tt)
-      | false ↦ Each-append TellsNoSemi (printed_lower (Finite a)) (printed_upper Integer (Finite b)) (lower-plain (Finite a)) (refl, tt)
+      | false ↦ Each-append HasNoSemi (printed_lower (Finite a)) (printed_upper Integer (Finite b)) (lower-plain (Finite a)) (refl, tt)
     ]
-integer-plain (Finite a) MinusInf = Each-append TellsNoSemi (printed_lower (Finite a)) [] (lower-plain (Finite a)) tt
-integer-plain (Finite a) PlusInf = Each-append TellsNoSemi (printed_lower (Finite a)) (printed_upper Integer PlusInf) (lower-plain (Finite a)) (refl, tt)
+integer-plain (Finite a) MinusInf = Each-append HasNoSemi (printed_lower (Finite a)) [] (lower-plain (Finite a)) tt
+integer-plain (Finite a) PlusInf = Each-append HasNoSemi (printed_lower (Finite a)) (printed_upper Integer PlusInf) (lower-plain (Finite a)) (refl, tt)
 integer-plain PlusInf MinusInf = tt
 integer-plain PlusInf (Finite b) = (refl, tt)
 integer-plain PlusInf PlusInf = (refl, tt)
@@ -284,12 +284,12 @@ allowed-bounds m h column k = allowed-line_text m column.0 (printed_bounds colum
     silent b c e f = cc
 
     by : (kind : Kind) (l u : Limit) → is_integer (drafted m) column.0 ≡ is_integer_column ([], record { kind = kind; lower = l; upper = u })
-        → Each (λ (b : PrintedBound). tells_semi (form_of b.type) ≡ true → is_integer (drafted m) column.0 ≡ false) (printed_bounds kind l u)
-    by Continuous l u e = Each-all (λ (b : PrintedBound). tells_semi (form_of b.type) ≡ true → is_integer (drafted m) column.0 ≡ false) (λ _ _. e) (printed_bounds Continuous l u)
+        → Each (λ (b : PrintedBound). is_semi_form (form_of b.type) ≡ true → is_integer (drafted m) column.0 ≡ false) (printed_bounds kind l u)
+    by Continuous l u e = Each-all (λ (b : PrintedBound). is_semi_form (form_of b.type) ≡ true → is_integer (drafted m) column.0 ≡ false) (λ _ _. e) (printed_bounds Continuous l u)
     by Integer l u e =
-        Each-weaker TellsNoSemi (λ (b : PrintedBound). tells_semi (form_of b.type) ≡ true → is_integer (drafted m) column.0 ≡ false)
-        (λ b plain told. silent (tells_semi (form_of b.type)) (is_integer (drafted m) column.0) plain told) (printed_bounds Integer l u) (integer-plain l u)
-    by Semi l u e = Each-all (λ (b : PrintedBound). tells_semi (form_of b.type) ≡ true → is_integer (drafted m) column.0 ≡ false) (λ _ _. e) (printed_bounds Semi l u)
+        Each-weaker HasNoSemi (λ (b : PrintedBound). is_semi_form (form_of b.type) ≡ true → is_integer (drafted m) column.0 ≡ false)
+        (λ b plain stated. silent (is_semi_form (form_of b.type)) (is_integer (drafted m) column.0) plain stated) (printed_bounds Integer l u) (integer-plain l u)
+    by Semi l u e = Each-all (λ (b : PrintedBound). is_semi_form (form_of b.type) ≡ true → is_integer (drafted m) column.0 ≡ false) (λ _ _. e) (printed_bounds Semi l u)
 
 allowed-sense : (m : Listing) (s : Sense) → Each (Allowed m) (sense_decl s)
 allowed-sense m Minimize = tt

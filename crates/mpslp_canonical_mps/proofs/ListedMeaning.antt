@@ -22,7 +22,7 @@ use Rattle.mpslp_types.specs.declared.kinds.RowType.TheVariants.{Free, AtLeast, 
 use Rattle.mpslp_types.proofs.BoolLemmas.{so_not}
 use Rattle.mpslp_types.proofs.EachLemmas.{Each, Each-weaker, Each-both, Each-map, Each-all, list_all-from_Each}
 use Rattle.mpslp_model_core.proofs.PutsLemmas.{equal_from}
-use Rattle.mpslp_builder.proofs.RowLemmas.{row_back, side-told}
+use Rattle.mpslp_builder.proofs.RowLemmas.{row_back, side-stated}
 use Rattle.mpslp_builder.proofs.BoundsLemmas.{column_back}
 use Rattle.mpslp_builder.proofs.SortedDrafts.{bytes_total, tied_names}
 use Rattle.mpslp_builder.proofs.GivenBack.{model-back, columns-back, no-negative_upper, binary-within}
@@ -36,9 +36,9 @@ use Rattle.mpslp_canonical_mps.proofs.PrintableLemmas.{side-decimal, negated-dec
 use Rattle.mpslp_canonical_mps.proofs.EarlyWalk.{sense_decl}
 use Rattle.mpslp_canonical_mps.proofs.WholeWalk.{Whole, whole_decl}
 use Rattle.mpslp_canonical_mps.proofs.ListedContents.{whole_of}
-use Rattle.mpslp_builder.proofs.EntryLemmas.{first_there, then_told, told}
+use Rattle.mpslp_builder.proofs.EntryLemmas.{first_there, then_stated, stated}
 use Rattle.mpslp_canonical_mps.proofs.WholeParts.{each-whole}
-use Rattle.mpslp_canonical_mps.proofs.ListedParts.{form_told, value_told, side_told, range_told, column_lower, column_upper, row_forms, listed_decl}
+use Rattle.mpslp_canonical_mps.proofs.ListedParts.{form_stated, value_stated, side_stated, range_stated, column_lower, column_upper, row_forms, listed_decl}
 use Rattle.mpslp_builder.proofs.NamedEntries.{own-found}
 use Rattle.mpslp_canonical_mps.proofs.DraftMaps.{IsSoundListing, drafted, rows-drafted, right_side-at, range-at, lower-at, upper-at, columns-drafted, marked-at, integers-drafted, binaries-drafted, semis-at}
 use Rattle.mpslp_canonical_mps.proofs.CoefficientMap.{coefficients-kept}
@@ -124,19 +124,19 @@ objective-drafted m =
       of_semi = λ _ all is. is;
     }))
 
-abbrev told_sense : Sense → Option Sense
-told_sense Minimize = None
-told_sense Maximize = Some Maximize
+abbrev stated_sense : Sense → Option Sense
+stated_sense Minimize = None
+stated_sense Maximize = Some Maximize
 
-first-sense : (s : Sense) (more : Declarations) → Each (Stays (λ d. d.sense) (told_sense s)) (sense_decl s ++ more) → (with_declarations empty_draft (sense_decl s ++ more)).sense ≡ told_sense s
+first-sense : (s : Sense) (more : Declarations) → Each (Stays (λ d. d.sense) (stated_sense s)) (sense_decl s ++ more) → (with_declarations empty_draft (sense_decl s ++ more)).sense ≡ stated_sense s
 first-sense Minimize more h = stays-all (λ d. d.sense) None more h empty_draft refl
 first-sense Maximize more h = stays-all (λ d. d.sense) (Some Maximize) more h.1 (with_declaration empty_draft (declare_sense Maximize)) refl
 
-own_sense : (s : Sense) → Each (Stays (λ d. d.sense) (told_sense s)) (sense_decl s)
+own_sense : (s : Sense) → Each (Stays (λ d. d.sense) (stated_sense s)) (sense_decl s)
 own_sense Minimize = tt
 own_sense Maximize = (λ all is. refl, tt)
 
-sense-back : (s : Sense) → unwrap_or (told_sense s) Minimize ≡ s
+sense-back : (s : Sense) → unwrap_or (stated_sense s) Minimize ≡ s
 sense-back Minimize = refl
 sense-back Maximize = refl
 
@@ -144,7 +144,7 @@ pub sense-drafted : (m : Listing) → unwrap_or (drafted m).sense Minimize ≡ m
 sense-drafted m =
     ap (λ (o : Option Sense). unwrap_or o Minimize)
     (first-sense m.sense _
-    (each-kind (Stays (λ d. d.sense) (told_sense m.sense)) (whole_of m) (own_sense m.sense) (record {
+    (each-kind (Stays (λ d. d.sense) (stated_sense m.sense)) (whole_of m) (own_sense m.sense) (record {
       of_objective = λ all is. is;
       of_row = λ _ _ all is. is;
       of_right_side = λ _ _ all is. is;
@@ -167,20 +167,20 @@ negated-twice d = by d.mantissa
     by (pos (suc n)) = refl
     by (negsuc n) = refl
 
-told-own : (q : List ℕ) (o : Option Number) → at_name (told q o) q ≡ o
-told-own q None = refl
-told-own q (Some d) = ap (λ (r : Ordering). cond (is_eq r) (Some d) None) (tied_itself bytes_total q)
+stated-own : (q : List ℕ) (o : Option Number) → at_name (stated q o) q ≡ o
+stated-own q None = refl
+stated-own q (Some d) = ap (λ (r : Ordering). cond (is_eq r) (Some d) None) (tied_itself bytes_total q)
 
-value-back : (d : Number) → IsDecimal d → unwrap_or (value_told d) zero_number ≡ d
-value-back d h = side-told d (zero-is d h)
+value-back : (d : Number) → IsDecimal d → unwrap_or (value_stated d) zero_number ≡ d
+value-back d h = side-stated d (zero-is d h)
 
 pub constant-back : (m : Listing) → IsSoundListing m → constant_of (drafted m) ≡ m.constant
 constant-back m h =
     let all = drafted m in
     let named_so : objective_name all ≡ m.objective = ap (λ (o : Option (List ℕ)). unwrap_or o []) (objective-drafted m) in
-    let side : at_name all.rhs_values m.objective ≡ value_told (negated m.constant) =
-    right_side-at m h m.objective ∙ ap (λ (o : Option Row). first_there (then_told side_told o) (at_name (told m.objective (value_told (negated m.constant))) m.objective)) (objective-no-row m h)
-    ∙ told-own m.objective (value_told (negated m.constant)) in
+    let side : at_name all.rhs_values m.objective ≡ value_stated (negated m.constant) =
+    right_side-at m h m.objective ∙ ap (λ (o : Option Row). first_there (then_stated side_stated o) (at_name (stated m.objective (value_stated (negated m.constant))) m.objective)) (objective-no-row m h)
+    ∙ stated-own m.objective (value_stated (negated m.constant)) in
     ap (λ (o : Option Number). unwrap_or o (negated (unwrap_or (at_name all.rhs_values (objective_name all)) zero_number))) (constant-drafted m)
     ∙ ap (λ (n : List ℕ). negated (unwrap_or (at_name all.rhs_values n) zero_number)) named_so
     ∙ ap (λ (o : Option Number). negated (unwrap_or o zero_number)) side
@@ -189,9 +189,9 @@ constant-back m h =
 
 -- ---- rows
 
-told-other : (q name : List ℕ) (o : Option Number) → eq_by_cmp bytes_cmp q name ≡ false → at_name (told name o) q ≡ None
-told-other q name None h = refl
-told-other q name (Some d) h = ap (λ (b : Bool). cond b (Some d) None) h
+stated-other : (q name : List ℕ) (o : Option Number) → eq_by_cmp bytes_cmp q name ≡ false → at_name (stated name o) q ≡ None
+stated-other q name None h = refl
+stated-other q name (Some d) h = ap (λ (b : Bool). cond b (Some d) None) h
 
 first_none : {X : Type 0} (o : Option X) → first_there o None ≡ o
 first_none None = refl
@@ -210,26 +210,26 @@ other-name m h row is = by (eq_by_cmp bytes_cmp row.0 m.objective) refl
 pub side-back : (m : Listing) → IsSoundListing m → (row : List ℕ × Row) → is_sound_row row ≡ true → at_name m.rows row.0 ≡ Some row.1
     → rhs_or_zero (drafted m) row.0 ≡ printed_rhs row.1.lower row.1.upper
 side-back m h row sound is =
-    let mine = told m.objective (value_told (negated m.constant)) in
+    let mine = stated m.objective (value_stated (negated m.constant)) in
     let value = printed_rhs row.1.lower row.1.upper in
-    let found : at_name (drafted m).rhs_values row.0 ≡ value_told value =
-    right_side-at m h row.0 ∙ ap (λ (o : Option Row). first_there (then_told side_told o) (at_name mine row.0)) is
-    ∙ ap (first_there (value_told value)) (told-other row.0 m.objective (value_told (negated m.constant)) (other-name m h row is))
-    ∙ first_none (value_told value) in
+    let found : at_name (drafted m).rhs_values row.0 ≡ value_stated value =
+    right_side-at m h row.0 ∙ ap (λ (o : Option Row). first_there (then_stated side_stated o) (at_name mine row.0)) is
+    ∙ ap (first_there (value_stated value)) (stated-other row.0 m.objective (value_stated (negated m.constant)) (other-name m h row is))
+    ∙ first_none (value_stated value) in
     ap (λ (o : Option Number). unwrap_or o zero_number) found ∙ value-back value (side-decimal row.1.lower row.1.upper (row_sides row sound))
 
 pub range-back : (m : Listing) → IsSoundListing m → (row : List ℕ × Row) → at_name m.rows row.0 ≡ Some row.1 → at_name (drafted m).ranges row.0 ≡ printed_range row.1.lower row.1.upper
-range-back m h row is = range-at m h row.0 ∙ ap (then_told range_told) is
+range-back m h row is = range-at m h row.0 ∙ ap (then_stated range_stated) is
 
-abbrev pub told_row : List ℕ × Row → List ℕ × RowDefinition
-told_row row = (row.0, form_told row.1)
+abbrev pub stated_row : List ℕ × Row → List ℕ × RowDefinition
+stated_row row = (row.0, form_stated row.1)
 
-pub limits-back : (m : Listing) → IsSoundListing m → (row : List ℕ × Row) → is_sound_row row ≡ true → at_name m.rows row.0 ≡ Some row.1 → row_limits (drafted m) (told_row row) ≡ Some row.1
+pub limits-back : (m : Listing) → IsSoundListing m → (row : List ℕ × Row) → is_sound_row row ≡ true → at_name m.rows row.0 ≡ Some row.1 → row_limits (drafted m) (stated_row row) ≡ Some row.1
 limits-back m h row sound is =
-    (λ i. limits_of (form_told row.1) (side-back m h row sound is i) (range-back m h row is i))
+    (λ i. limits_of (form_stated row.1) (side-back m h row sound is i) (range-back m h row is i))
     ∙ row_back row.1.lower row.1.upper (row_sides row sound) (row_distance row sound)
 
-entry-back : (m : Listing) → IsSoundListing m → (row : List ℕ × Row) → is_sound_row row ≡ true → at_name m.rows row.0 ≡ Some row.1 → row_entry (drafted m) (told_row row) ≡ row
+entry-back : (m : Listing) → IsSoundListing m → (row : List ℕ × Row) → is_sound_row row ≡ true → at_name m.rows row.0 ≡ Some row.1 → row_entry (drafted m) (stated_row row) ≡ row
 entry-back m h row sound is = ap (λ (o : Option Row). (row.0, unwrap_or o (plain_limits Free zero_number))) (limits-back m h row sound is)
 
 each-back : {X Y : Type 0} (f : X → Y) (g : Y → X) (xs : List X) → Each (λ x. g (f x) ≡ x) xs → map g (map f xs) ≡ xs
@@ -245,7 +245,7 @@ own-rows m h = Each-both (λ row. is_sound_row row ≡ true) (λ row. at_name m.
 pub rows-back : (m : Listing) → IsSoundListing m → map (row_entry (drafted m)) (drafted m).rows ≡ m.rows
 rows-back m h =
     ap (map (row_entry (drafted m))) (rows-drafted m h)
-    ∙ each-back told_row (row_entry (drafted m)) m.rows (Each-weaker (IsOwnRow m) (λ row. row_entry (drafted m) (told_row row) ≡ row) (λ row k. entry-back m h row k.0 k.1) m.rows (own-rows m h))
+    ∙ each-back stated_row (row_entry (drafted m)) m.rows (Each-weaker (IsOwnRow m) (λ row. row_entry (drafted m) (stated_row row) ≡ row) (λ row k. entry-back m h row k.0 k.1) m.rows (own-rows m h))
 
 -- ---- columns
 
@@ -268,7 +268,7 @@ bounds-back m h column k =
     let sides = column_sides column k.0 in
     let lower_side = lower_of l u sides in
     let upper_side = upper_of l u sides in
-    column_back have_same_value (drafted m) column.0 column.1 (lower-at m h column.0 ∙ ap (then_told column_lower) k.1) (upper-at m h column.0 ∙ ap (then_told column_upper) k.1)
+    column_back have_same_value (drafted m) column.0 column.1 (lower-at m h column.0 ∙ ap (then_stated column_lower) k.1) (upper-at m h column.0 ∙ ap (then_stated column_upper) k.1)
     (marked-at m h column.0 column.1 k.1) (ap (λ (es : List (List ℕ × Unit {0})). has_name es column.0) (integers-drafted m)) (ap (λ (es : List (List ℕ × Unit {0})). has_name es column.0) (binaries-drafted m))
     (semis-at m h column.0 column.1 (column_suited column k.0) k.1)
     lower_side upper_side
@@ -305,10 +305,10 @@ finite-side (Finite a) (Finite b) h =
 finite-side (Finite a) PlusInf h = and_false (is_infinite_size a) _ (finite_size a (first_so (is_bounded_decimal a) _ h))
 finite-side PlusInf u h = cc
 
-finite-row : (m : Listing) → IsSoundListing m → (row : List ℕ × Row) → IsOwnRow m row → not (row_passes (drafted m) has_infinite_rhs (told_row row)) ≡ true
+finite-row : (m : Listing) → IsSoundListing m → (row : List ℕ × Row) → IsOwnRow m row → not (row_passes (drafted m) has_infinite_rhs (stated_row row)) ≡ true
 finite-row m h row k =
-    so_not (row_passes (drafted m) has_infinite_rhs (told_row row))
-    ((λ i. has_infinite_rhs (form_told row.1) (side-back m h row k.0 k.1 i) (range-back m h row k.1 i)) ∙ finite-side row.1.lower row.1.upper (row_sides row k.0))
+    so_not (row_passes (drafted m) has_infinite_rhs (stated_row row))
+    ((λ i. has_infinite_rhs (form_stated row.1) (side-back m h row k.0 k.1 i) (range-back m h row k.1 i)) ∙ finite-side row.1.lower row.1.upper (row_sides row k.0))
 
 -- The draft of the canonical declarations of a well-formed model means it.
 pub draft-means : (m : LinearModel) → IsSound m → DraftMeans (drafted (listing_of m)) m
@@ -321,12 +321,12 @@ draft-means m sound =
     record {
       finite_rhs_values = ap (list_all (λ row. not (row_passes all has_infinite_rhs row))) (rows-drafted listing h)
           ∙ list_all-from_Each (λ row. not (row_passes all has_infinite_rhs row)) (row_forms listing.rows)
-          (Each-map (λ row. not (row_passes all has_infinite_rhs row) ≡ true) told_row listing.rows
-          (Each-weaker (IsOwnRow listing) (λ row. not (row_passes all has_infinite_rhs (told_row row)) ≡ true) (finite-row listing h) listing.rows (own-rows listing h)));
+          (Each-map (λ row. not (row_passes all has_infinite_rhs row) ≡ true) stated_row listing.rows
+          (Each-weaker (IsOwnRow listing) (λ row. not (row_passes all has_infinite_rhs (stated_row row)) ≡ true) (finite-row listing h) listing.rows (own-rows listing h)));
       exact_limits = ap (list_all (λ row. is_some (row_limits all row))) (rows-drafted listing h)
           ∙ list_all-from_Each (λ row. is_some (row_limits all row)) (row_forms listing.rows)
-          (Each-map (λ row. is_some (row_limits all row) ≡ true) told_row listing.rows
-          (Each-weaker (IsOwnRow listing) (λ row. is_some (row_limits all (told_row row)) ≡ true) (λ row k. ap is_some (limits-back listing h row k.0 k.1)) listing.rows (own-rows listing h)));
+          (Each-map (λ row. is_some (row_limits all row) ≡ true) stated_row listing.rows
+          (Each-weaker (IsOwnRow listing) (λ row. is_some (row_limits all (stated_row row)) ≡ true) (λ row k. ap is_some (limits-back listing h row k.0 k.1)) listing.rows (own-rows listing h)));
       model = model-back all m (record {
         sense = sense-drafted listing;
         objective = ap (λ (o : Option (List ℕ)). unwrap_or o []) (objective-drafted listing);

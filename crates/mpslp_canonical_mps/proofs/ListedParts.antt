@@ -13,7 +13,7 @@ use Rattle.mpslp_types.specs.declared.kinds.Kind.{Kind}
 use Rattle.mpslp_types.specs.declared.kinds.Kind.TheVariants.{Continuous, Integer, Semi}
 use Rattle.mpslp_types.specs.declared.kinds.Limit.{Limit}
 use Rattle.mpslp_types.specs.declared.kinds.Limit.TheVariants.{MinusInf, Finite, PlusInf}
-use Rattle.mpslp_builder.proofs.BoundsLemmas.{unless_zero, fixed, lower_told, upper_told}
+use Rattle.mpslp_builder.proofs.BoundsLemmas.{unless_zero, fixed, lower_stated, upper_stated}
 use Rattle.mpslp_builder.proofs.CoefficientLemmas.{flat_map-flat_map}
 use Rattle.mpslp_builder.proofs.DraftLemmas.{row_part, rhs_part, range_part, column_part, coefficient_part, lower_part, upper_part, marked_part, integer_part, binary_part, semi_part}
 use Rattle.mpslp_mps_fields.specs.declared.bound_types.BoundType.TheVariants as bounds
@@ -25,44 +25,44 @@ use Rattle.mpslp_canonical_mps.specs.CanonicalMps.{is_integer_column, is_plain_c
 use Rattle.mpslp_canonical_mps.proofs.CanonicalContents.{to_row, cells_in, group_in, to_side, side_unless_zero, row_side, sides_in, row_range, to_bound, bounds_in}
 use Rattle.mpslp_canonical_mps.proofs.WholeWalk.{whole_decl}
 use Rattle.mpslp_canonical_mps.proofs.ListedContents.{whole_of}
-use Rattle.mpslp_builder.proofs.EntryLemmas.{told, all_told}
+use Rattle.mpslp_builder.proofs.EntryLemmas.{stated, all_stated}
 use Rattle.mpslp_builder.proofs.FlatLemmas.{flat-none, flat-same}
 use Rattle.mpslp_canonical_mps.proofs.WholeParts.{made_of, sense-none, bound-none, joined-parts}
 
 -- ---- what is declared of a row and of a column
 
-abbrev pub form_told : Row → RowDefinition
-form_told row = by_type (printed_type row.lower row.upper)
+abbrev pub form_stated : Row → RowDefinition
+form_stated row = by_type (printed_type row.lower row.upper)
 
 -- a value that is declared unless it is 0
-abbrev pub value_told : Number → Option Number
-value_told value = cond (is_zero value) None (Some value)
+abbrev pub value_stated : Number → Option Number
+value_stated value = cond (is_zero value) None (Some value)
 
-abbrev pub side_told : Row → Option Number
-side_told row = value_told (printed_rhs row.lower row.upper)
+abbrev pub side_stated : Row → Option Number
+side_stated row = value_stated (printed_rhs row.lower row.upper)
 
-abbrev pub range_told : Row → Option Number
-range_told row = printed_range row.lower row.upper
+abbrev pub range_stated : Row → Option Number
+range_stated row = printed_range row.lower row.upper
 
 abbrev pub column_lower : Column → Option Limit
-column_lower column = lower_told column.kind column.lower column.upper have_same_value
+column_lower column = lower_stated column.kind column.lower column.upper have_same_value
 
 abbrev pub column_upper : Column → Option Limit
-column_upper column = upper_told column.kind column.lower column.upper
+column_upper column = upper_stated column.kind column.lower column.upper
 
 -- a finite upper bound of a semi-continuous column declares its type
-abbrev pub semi_told : Kind → Limit → Option (Unit {0})
-semi_told kind MinusInf = None
-semi_told kind PlusInf = None
-semi_told Continuous (Finite upper) = None
-semi_told Integer (Finite upper) = None
-semi_told Semi (Finite upper) = Some tt
+abbrev pub semi_stated : Kind → Limit → Option (Unit {0})
+semi_stated kind MinusInf = None
+semi_stated kind PlusInf = None
+semi_stated Continuous (Finite upper) = None
+semi_stated Integer (Finite upper) = None
+semi_stated Semi (Finite upper) = Some tt
 
 abbrev pub column_semi : Column → Option (Unit {0})
-column_semi column = semi_told column.kind column.upper
+column_semi column = semi_stated column.kind column.upper
 
 abbrev pub row_forms : List (List ℕ × Row) → List (List ℕ × RowDefinition)
-row_forms rows = map (λ row. (row.0, form_told row.1)) rows
+row_forms rows = map (λ row. (row.0, form_stated row.1)) rows
 
 -- ---- what each line puts into a map
 
@@ -79,32 +79,32 @@ own_side side = (side.row, side.value) ∷ []
 
 pub rows-made : (rows : List (List ℕ × Row)) → flat_map (made_of row_part row_decl) (map to_row rows) ≡ row_forms rows
 rows-made [] = refl
-rows-made (row ∷ rows) = ap (λ (more : List (List ℕ × RowDefinition)). (row.0, form_told row.1) ∷ more) (rows-made rows)
+rows-made (row ∷ rows) = ap (λ (more : List (List ℕ × RowDefinition)). (row.0, form_stated row.1) ∷ more) (rows-made rows)
 
 pub cells-made : {Y : Type 0} (f : Cell → List Y) (m : Listing) (columns : List (List ℕ × Column)) → flat_map f (cells_of (map (group_in m) columns)) ≡ flat_map (λ column. flat_map f (cells_in m column)) columns
 cells-made f m [] = refl
 cells-made f m (column ∷ columns) = flat_map-append f (cells_in m column) (cells_of (map (group_in m) columns)) ∙ ap (λ (more : List _). flat_map f (cells_in m column) ++ more) (cells-made f m columns)
 
-side-made : (row : List ℕ) (value : Number) → flat_map own_side (side_unless_zero row value) ≡ told row (value_told value)
+side-made : (row : List ℕ) (value : Number) → flat_map own_side (side_unless_zero row value) ≡ stated row (value_stated value)
 side-made row value = by (is_zero value)
   where
-    by : (b : Bool) → flat_map own_side (cond b [] (to_side row value ∷ [])) ≡ told row (cond b None (Some value))
+    by : (b : Bool) → flat_map own_side (cond b [] (to_side row value ∷ [])) ≡ stated row (cond b None (Some value))
     by true = refl
     by false = refl
 
-pub sides-made : (m : Listing) → flat_map own_side (sides_in m) ≡ told m.objective (value_told (negated m.constant)) ++ all_told side_told m.rows
+pub sides-made : (m : Listing) → flat_map own_side (sides_in m) ≡ stated m.objective (value_stated (negated m.constant)) ++ all_stated side_stated m.rows
 sides-made m =
     flat_map-append own_side (side_unless_zero m.objective (negated m.constant)) (flat_map row_side m.rows)
     ∙ (λ i. side-made m.objective (negated m.constant) i
-    ++ (flat_map-flat_map own_side row_side m.rows ∙ flat-same (λ row. flat_map own_side (row_side row)) (λ row. told row.0 (side_told row.1)) (λ row. side-made row.0 (printed_rhs row.1.lower row.1.upper)) m.rows) i)
+    ++ (flat_map-flat_map own_side row_side m.rows ∙ flat-same (λ row. flat_map own_side (row_side row)) (λ row. stated row.0 (side_stated row.1)) (λ row. side-made row.0 (printed_rhs row.1.lower row.1.upper)) m.rows) i)
 
-pub ranges-made : (rows : List (List ℕ × Row)) → flat_map own_side (flat_map row_range rows) ≡ all_told range_told rows
-ranges-made rows = flat_map-flat_map own_side row_range rows ∙ flat-same (λ row. flat_map own_side (row_range row)) (λ row. told row.0 (range_told row.1)) one rows
+pub ranges-made : (rows : List (List ℕ × Row)) → flat_map own_side (flat_map row_range rows) ≡ all_stated range_stated rows
+ranges-made rows = flat_map-flat_map own_side row_range rows ∙ flat-same (λ row. flat_map own_side (row_range row)) (λ row. stated row.0 (range_stated row.1)) one rows
   where
-    one : (row : List ℕ × Row) → flat_map own_side (row_range row) ≡ told row.0 (range_told row.1)
+    one : (row : List ℕ × Row) → flat_map own_side (row_range row) ≡ stated row.0 (range_stated row.1)
     one row = by (printed_range row.1.lower row.1.upper)
       where
-        by : (o : Option Number) → flat_map own_side (option_map_or (λ value. to_side row.0 value ∷ []) o []) ≡ told row.0 o
+        by : (o : Option Number) → flat_map own_side (option_map_or (λ value. to_side row.0 value ∷ []) o []) ≡ stated row.0 o
         by None = refl
         by (Some d) = refl
 
@@ -116,9 +116,9 @@ lowers_made name bounds = flat_map (made_of lower_part bound_decl) (map (to_boun
 abbrev uppers_made : List ℕ → List PrintedBound → List (List ℕ × Limit)
 uppers_made name bounds = flat_map (made_of upper_part bound_decl) (map (to_bound name) bounds)
 
-lower-front : (name : List ℕ) (a : Number) (rest : List PrintedBound) → lowers_made name rest ≡ [] → lowers_made name (printed_lower (Finite a) ++ rest) ≡ told name (unless_zero a)
+lower-front : (name : List ℕ) (a : Number) (rest : List PrintedBound) → lowers_made name rest ≡ [] → lowers_made name (printed_lower (Finite a) ++ rest) ≡ stated name (unless_zero a)
 lower-front name a rest h =
-    elim (is_zero a) as (λ b. lowers_made name (cond b [] (bound_with_value bounds.Lower a ∷ []) ++ rest) ≡ told name (cond b None (Some (Finite a)))) [
+    elim (is_zero a) as (λ b. lowers_made name (cond b [] (bound_with_value bounds.Lower a ∷ []) ++ rest) ≡ stated name (cond b None (Some (Finite a)))) [
       | true ↦ h
       | false ↦ ap (λ (more : List (List ℕ × Limit)). (name, Finite a) ∷ more) h
     ]
@@ -134,15 +134,15 @@ as-fixed Continuous a b = refl
 as-fixed Integer a b = refl
 as-fixed Semi a b = refl
 
-pub lower-made : (name : List ℕ) (kind : Kind) (l u : Limit) → lowers_made name (printed_bounds kind l u) ≡ told name (lower_told kind l u have_same_value)
+pub lower-made : (name : List ℕ) (kind : Kind) (l u : Limit) → lowers_made name (printed_bounds kind l u) ≡ stated name (lower_stated kind l u have_same_value)
 lower-made name kind MinusInf PlusInf = refl
 lower-made name kind MinusInf MinusInf = refl
 lower-made name kind MinusInf (Finite b) = ap (λ (more : List (List ℕ × Limit)). (name, MinusInf) ∷ more) (no-lower name kind b)
 lower-made name kind (Finite a) (Finite b) =
-    elim (is_fixed kind a b) as (λ t. lowers_made name (cond t (bound_with_value bounds.Fixed b ∷ []) (printed_lower (Finite a) ++ printed_upper kind (Finite b))) ≡ told name (cond t (Some (Finite b)) (unless_zero a))) [
+    elim (is_fixed kind a b) as (λ t. lowers_made name (cond t (bound_with_value bounds.Fixed b ∷ []) (printed_lower (Finite a) ++ printed_upper kind (Finite b))) ≡ stated name (cond t (Some (Finite b)) (unless_zero a))) [
       | true ↦ refl
       | false ↦ lower-front name a (printed_upper kind (Finite b)) (no-lower name kind b)
-    ] ∙ ap (λ (t : Bool). told name (cond t (Some (Finite b)) (unless_zero a))) (as-fixed kind a b)
+    ] ∙ ap (λ (t : Bool). stated name (cond t (Some (Finite b)) (unless_zero a))) (as-fixed kind a b)
 lower-made name kind (Finite a) MinusInf = lower-front name a (printed_upper kind MinusInf) refl
 lower-made name Integer (Finite a) PlusInf = lower-front name a (printed_upper Integer PlusInf) refl
 lower-made name Continuous (Finite a) PlusInf = lower-front name a (printed_upper Continuous PlusInf) refl
@@ -156,17 +156,17 @@ lower-made name Semi PlusInf PlusInf = refl
 lower-silent : (name : List ℕ) (a : Number) (rest : List PrintedBound) → uppers_made name (printed_lower (Finite a) ++ rest) ≡ uppers_made name rest
 lower-silent name a rest = elim (is_zero a) as (λ b. uppers_made name (cond b [] (bound_with_value bounds.Lower a ∷ []) ++ rest) ≡ uppers_made name rest) [ true ↦ refl | false ↦ refl ]
 
-one-upper : (name : List ℕ) (kind : Kind) (b : Number) → uppers_made name (printed_upper kind (Finite b)) ≡ told name (Some (Finite b))
+one-upper : (name : List ℕ) (kind : Kind) (b : Number) → uppers_made name (printed_upper kind (Finite b)) ≡ stated name (Some (Finite b))
 one-upper name Continuous b = refl
 one-upper name Integer b = refl
 one-upper name Semi b = refl
 
-pub upper-made : (name : List ℕ) (kind : Kind) (l u : Limit) → uppers_made name (printed_bounds kind l u) ≡ told name (upper_told kind l u)
+pub upper-made : (name : List ℕ) (kind : Kind) (l u : Limit) → uppers_made name (printed_bounds kind l u) ≡ stated name (upper_stated kind l u)
 upper-made name kind MinusInf PlusInf = refl
 upper-made name kind MinusInf MinusInf = refl
 upper-made name kind MinusInf (Finite b) = one-upper name kind b
 upper-made name kind (Finite a) (Finite b) =
-    elim (is_fixed kind a b) as (λ t. uppers_made name (cond t (bound_with_value bounds.Fixed b ∷ []) (printed_lower (Finite a) ++ printed_upper kind (Finite b))) ≡ told name (Some (Finite b))) [
+    elim (is_fixed kind a b) as (λ t. uppers_made name (cond t (bound_with_value bounds.Fixed b ∷ []) (printed_lower (Finite a) ++ printed_upper kind (Finite b))) ≡ stated name (Some (Finite b))) [
       | true ↦ refl
       | false ↦ lower-silent name a (printed_upper kind (Finite b)) ∙ one-upper name kind b
     ]
@@ -188,12 +188,12 @@ semis_made name bounds = flat_map (made_of semi_part bound_decl) (map (to_bound 
 no-semi : (name : List ℕ) (a : Number) (rest : List PrintedBound) → semis_made name (printed_lower (Finite a) ++ rest) ≡ semis_made name rest
 no-semi name a rest = elim (is_zero a) as (λ b. semis_made name (cond b [] (bound_with_value bounds.Lower a ∷ []) ++ rest) ≡ semis_made name rest) [ true ↦ refl | false ↦ refl ]
 
-one-semi : (name : List ℕ) (kind : Kind) (b : Number) → semis_made name (printed_upper kind (Finite b)) ≡ told name (semi_told kind (Finite b))
+one-semi : (name : List ℕ) (kind : Kind) (b : Number) → semis_made name (printed_upper kind (Finite b)) ≡ stated name (semi_stated kind (Finite b))
 one-semi name Continuous b = refl
 one-semi name Integer b = refl
 one-semi name Semi b = refl
 
-pub semi-made : (name : List ℕ) (kind : Kind) (l u : Limit) → semis_made name (printed_bounds kind l u) ≡ told name (semi_told kind u)
+pub semi-made : (name : List ℕ) (kind : Kind) (l u : Limit) → semis_made name (printed_bounds kind l u) ≡ stated name (semi_stated kind u)
 semi-made name kind MinusInf PlusInf = refl
 semi-made name kind MinusInf MinusInf = refl
 semi-made name kind MinusInf (Finite b) = one-semi name kind b
@@ -218,20 +218,20 @@ semi-made name Integer PlusInf PlusInf = refl
 semi-made name Continuous PlusInf PlusInf = refl
 semi-made name Semi PlusInf PlusInf = refl
 
-all-lowers : (columns : List (List ℕ × Column)) → flat_map (made_of lower_part bound_decl) (flat_map bounds_in columns) ≡ all_told column_lower columns
+all-lowers : (columns : List (List ℕ × Column)) → flat_map (made_of lower_part bound_decl) (flat_map bounds_in columns) ≡ all_stated column_lower columns
 all-lowers columns =
     flat_map-flat_map (made_of lower_part bound_decl) bounds_in columns
-    ∙ flat-same (λ column. flat_map (made_of lower_part bound_decl) (bounds_in column)) (λ column. told column.0 (column_lower column.1)) (λ column. lower-made column.0 column.1.kind column.1.lower column.1.upper) columns
+    ∙ flat-same (λ column. flat_map (made_of lower_part bound_decl) (bounds_in column)) (λ column. stated column.0 (column_lower column.1)) (λ column. lower-made column.0 column.1.kind column.1.lower column.1.upper) columns
 
-all-uppers : (columns : List (List ℕ × Column)) → flat_map (made_of upper_part bound_decl) (flat_map bounds_in columns) ≡ all_told column_upper columns
+all-uppers : (columns : List (List ℕ × Column)) → flat_map (made_of upper_part bound_decl) (flat_map bounds_in columns) ≡ all_stated column_upper columns
 all-uppers columns =
     flat_map-flat_map (made_of upper_part bound_decl) bounds_in columns
-    ∙ flat-same (λ column. flat_map (made_of upper_part bound_decl) (bounds_in column)) (λ column. told column.0 (column_upper column.1)) (λ column. upper-made column.0 column.1.kind column.1.lower column.1.upper) columns
+    ∙ flat-same (λ column. flat_map (made_of upper_part bound_decl) (bounds_in column)) (λ column. stated column.0 (column_upper column.1)) (λ column. upper-made column.0 column.1.kind column.1.lower column.1.upper) columns
 
-all-semis : (columns : List (List ℕ × Column)) → flat_map (made_of semi_part bound_decl) (flat_map bounds_in columns) ≡ all_told column_semi columns
+all-semis : (columns : List (List ℕ × Column)) → flat_map (made_of semi_part bound_decl) (flat_map bounds_in columns) ≡ all_stated column_semi columns
 all-semis columns =
     flat_map-flat_map (made_of semi_part bound_decl) bounds_in columns
-    ∙ flat-same (λ column. flat_map (made_of semi_part bound_decl) (bounds_in column)) (λ column. told column.0 (column_semi column.1)) (λ column. semi-made column.0 column.1.kind column.1.lower column.1.upper) columns
+    ∙ flat-same (λ column. flat_map (made_of semi_part bound_decl) (bounds_in column)) (λ column. stated column.0 (column_semi column.1)) (λ column. semi-made column.0 column.1.kind column.1.lower column.1.upper) columns
 
 -- ---- each map
 
@@ -258,9 +258,9 @@ rows-part m =
 rows-silent : {Y : Type 0} (part : Declaration → List Y) → ((x : List ℕ) (form : RowDefinition) → part (declare_row x form) ≡ []) → (m : Listing) → flat_map (made_of part row_decl) (whole_of m).rows ≡ []
 rows-silent part h m = flat-none (made_of part row_decl) (λ row. ap (λ (ys : List _). ys ++ []) (h row.0 (by_type row.1))) (whole_of m).rows
 
-pub rhs_values-part : (m : Listing) → flat_map rhs_part (listed_decl m) ≡ told m.objective (value_told (negated m.constant)) ++ all_told side_told m.rows
+pub rhs_values-part : (m : Listing) → flat_map rhs_part (listed_decl m) ≡ stated m.objective (value_stated (negated m.constant)) ++ all_stated side_stated m.rows
 rhs_values-part m =
-    let sides = told m.objective (value_told (negated m.constant)) ++ all_told side_told m.rows in
+    let sides = stated m.objective (value_stated (negated m.constant)) ++ all_stated side_stated m.rows in
     joined-parts rhs_part (whole_of m) [] [] [] sides [] [] (record {
       of_sense = sense-none rhs_part (λ _. refl) m.sense;
       of_objective = refl;
@@ -272,9 +272,9 @@ rhs_values-part m =
       of_bounds = flat-none (made_of rhs_part bound_decl) (bound-none rhs_part (λ _ _. refl) (λ _ _. refl) (λ _. refl)) (whole_of m).late.bounds;
     }) ∙ append-nil sides
 
-pub ranges-part : (m : Listing) → flat_map range_part (listed_decl m) ≡ all_told range_told m.rows
+pub ranges-part : (m : Listing) → flat_map range_part (listed_decl m) ≡ all_stated range_stated m.rows
 ranges-part m =
-    let ranges = all_told range_told m.rows in
+    let ranges = all_stated range_stated m.rows in
     joined-parts range_part (whole_of m) [] [] [] [] ranges [] (record {
       of_sense = sense-none range_part (λ _. refl) m.sense;
       of_objective = refl;
@@ -330,12 +330,12 @@ binaries-part m =
     ∙ (λ i. from-none {Y = List ℕ × Unit {0}} m (filter is_plain_column m.columns) i ++ from-none {Y = List ℕ × Unit {0}} m (filter is_integer_column m.columns) i)
 
 -- a map into which only the lines of bounds put something
-bounds-part : {V : Type 0} (part : Declaration → List (List ℕ × V)) (told_of : Column → Option V) → ((s : Sense) → part (declare_sense s) ≡ []) → ((x : List ℕ) → part (declare_objective x) ≡ [])
+bounds-part : {V : Type 0} (part : Declaration → List (List ℕ × V)) (stated_of : Column → Option V) → ((s : Sense) → part (declare_sense s) ≡ []) → ((x : List ℕ) → part (declare_objective x) ≡ [])
     → ((x : List ℕ) (form : RowDefinition) → part (declare_row x form) ≡ []) → ((cell : Cell) → made_of part (cell_decl false) cell ≡ []) → ((cell : Cell) → made_of part (cell_decl true) cell ≡ [])
     → ((side : Side) → made_of part side_decl side ≡ []) → ((side : Side) → made_of part range_decl side ≡ [])
-    → (m : Listing) → flat_map (made_of part bound_decl) (flat_map bounds_in m.columns) ≡ all_told told_of m.columns → flat_map part (listed_decl m) ≡ all_told told_of m.columns
-bounds-part part told_of sense objective rows p q sides ranges m h =
-    joined-parts part (whole_of m) [] [] [] [] [] (all_told told_of m.columns) (record {
+    → (m : Listing) → flat_map (made_of part bound_decl) (flat_map bounds_in m.columns) ≡ all_stated stated_of m.columns → flat_map part (listed_decl m) ≡ all_stated stated_of m.columns
+bounds-part part stated_of sense objective rows p q sides ranges m h =
+    joined-parts part (whole_of m) [] [] [] [] [] (all_stated stated_of m.columns) (record {
       of_sense = sense-none part sense m.sense;
       of_objective = objective m.objective;
       of_rows = rows-silent part rows m;
@@ -346,11 +346,11 @@ bounds-part part told_of sense objective rows p q sides ranges m h =
       of_bounds = h;
     })
 
-pub lowers-part : (m : Listing) → flat_map lower_part (listed_decl m) ≡ all_told column_lower m.columns
+pub lowers-part : (m : Listing) → flat_map lower_part (listed_decl m) ≡ all_stated column_lower m.columns
 lowers-part m = bounds-part lower_part column_lower (λ _. refl) (λ _. refl) (λ _ _. refl) (λ _. refl) (λ _. refl) (λ _. refl) (λ _. refl) m (all-lowers m.columns)
 
-pub uppers-part : (m : Listing) → flat_map upper_part (listed_decl m) ≡ all_told column_upper m.columns
+pub uppers-part : (m : Listing) → flat_map upper_part (listed_decl m) ≡ all_stated column_upper m.columns
 uppers-part m = bounds-part upper_part column_upper (λ _. refl) (λ _. refl) (λ _ _. refl) (λ _. refl) (λ _. refl) (λ _. refl) (λ _. refl) m (all-uppers m.columns)
 
-pub semis-part : (m : Listing) → flat_map semi_part (listed_decl m) ≡ all_told column_semi m.columns
+pub semis-part : (m : Listing) → flat_map semi_part (listed_decl m) ≡ all_stated column_semi m.columns
 semis-part m = bounds-part semi_part column_semi (λ _. refl) (λ _. refl) (λ _ _. refl) (λ _. refl) (λ _. refl) (λ _. refl) (λ _. refl) m (all-semis m.columns)

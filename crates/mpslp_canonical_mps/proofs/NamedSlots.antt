@@ -14,9 +14,9 @@ use Rattle.mpslp_builder.proofs.SlotLemmas.{same_name}
 use Rattle.mpslp_builder.proofs.SortedDrafts.{bytes_total, tied_names}
 use Rattle.mpslp_canonical_mps.proofs.RowsWalk.{row_decl, Side, side_decl, range_decl}
 use Rattle.mpslp_canonical_mps.proofs.CanonicalContents.{to_row, sides_in, row_range}
-use Rattle.mpslp_builder.proofs.EntryLemmas.{then_told, told, all_told, sorted-told, find-told}
+use Rattle.mpslp_builder.proofs.EntryLemmas.{then_stated, stated, all_stated, sorted-stated, find-stated}
 use Rattle.mpslp_canonical_mps.proofs.WholeParts.{made_of}
-use Rattle.mpslp_canonical_mps.proofs.ListedParts.{value_told, side_told, range_told, own_side, sides-made, ranges-made}
+use Rattle.mpslp_canonical_mps.proofs.ListedParts.{value_stated, side_stated, range_stated, own_side, sides-made, ranges-made}
 use Rattle.mpslp_builder.proofs.NamedEntries.{one_of-names}
 use Rattle.mpslp_canonical_mps.proofs.DraftMaps.{IsSoundListing, none_is}
 use Rattle.mpslp_canonical_mps.proofs.ListedSlots.{rank, AllOf, distinct-map, distinct-names}
@@ -54,33 +54,33 @@ filled-names make [] = refl
 filled-names make (side ∷ sides) = ap (λ (slots : List Slot). make side.row ∷ slots) (filled-names make sides)
 
 abbrev pub side_values : Listing → List (List ℕ × Number)
-side_values m = told m.objective (value_told (negated m.constant)) ++ all_told side_told m.rows
+side_values m = stated m.objective (value_stated (negated m.constant)) ++ all_stated side_stated m.rows
 
 pub sides-fill : (m : Listing) → flat_map (made_of slots_of side_decl) (sides_in m) ≡ map rhs_slot (names_in (side_values m))
 sides-fill m = filled-names rhs_slot (sides_in m) ∙ ap (λ (sides : List (List ℕ × Number)). map rhs_slot (names_in sides)) (sides-made m)
 
-pub ranges-fill : (m : Listing) → flat_map (made_of slots_of range_decl) (flat_map row_range m.rows) ≡ map range_slot (names_in (all_told range_told m.rows))
+pub ranges-fill : (m : Listing) → flat_map (made_of slots_of range_decl) (flat_map row_range m.rows) ≡ map range_slot (names_in (all_stated range_stated m.rows))
 ranges-fill m = filled-names range_slot (flat_map row_range m.rows) ∙ ap (λ (ranges : List (List ℕ × Number)). map range_slot (names_in ranges)) (ranges-made m.rows)
 
 -- the objective is not a row, so no row declares a right-hand side of its name
-objective-new : (m : Listing) → IsSoundListing m → list_any (λ later. same_bytes later m.objective) (names_in (all_told side_told m.rows)) ≡ false
+objective-new : (m : Listing) → IsSoundListing m → list_any (λ later. same_bytes later m.objective) (names_in (all_stated side_stated m.rows)) ≡ false
 objective-new m h =
     let absent : at_name m.rows m.objective ≡ None = none_is (at_name m.rows m.objective) (sym (one_of-names m.objective m.rows) ∙ h.no_row) in
-    any-turned m.objective (names_in (all_told side_told m.rows)) ∙ one_of-names m.objective (all_told side_told m.rows)
-    ∙ ap is_some (find-told bytes_cmp side_told bytes_total tied_names m.objective m.rows h.rows_sorted ∙ ap (then_told side_told) absent)
+    any-turned m.objective (names_in (all_stated side_stated m.rows)) ∙ one_of-names m.objective (all_stated side_stated m.rows)
+    ∙ ap is_some (find-stated bytes_cmp side_stated bytes_total tied_names m.objective m.rows h.rows_sorted ∙ ap (then_stated side_stated) absent)
 
 pub side_slots-distinct : (m : Listing) → IsSoundListing m → are_distinct same_slot (map rhs_slot (names_in (side_values m))) ≡ true
 side_slots-distinct m h =
-    distinct-map same_bytes rhs_slot (λ a b. refl) (names_in (side_values m)) ∙ by (value_told (negated m.constant))
+    distinct-map same_bytes rhs_slot (λ a b. refl) (names_in (side_values m)) ∙ by (value_stated (negated m.constant))
   where
-    rows : are_distinct same_bytes (names_in (all_told side_told m.rows)) ≡ true
-    rows = distinct-sorted bytes_cmp bytes_total same_bytes same_name (all_told side_told m.rows) (sorted-told bytes_cmp side_told m.rows h.rows_sorted)
+    rows : are_distinct same_bytes (names_in (all_stated side_stated m.rows)) ≡ true
+    rows = distinct-sorted bytes_cmp bytes_total same_bytes same_name (all_stated side_stated m.rows) (sorted-stated bytes_cmp side_stated m.rows h.rows_sorted)
 
-    by : (o : Option Number) → are_distinct same_bytes (names_in (told m.objective o ++ all_told side_told m.rows)) ≡ true
+    by : (o : Option Number) → are_distinct same_bytes (names_in (stated m.objective o ++ all_stated side_stated m.rows)) ≡ true
     by None = rows
     by (Some d) =
-        both_so (not (list_any (λ later. same_bytes later m.objective) (names_in (all_told side_told m.rows)))) (are_distinct same_bytes (names_in (all_told side_told m.rows)))
-        (so_not (list_any (λ later. same_bytes later m.objective) (names_in (all_told side_told m.rows))) (objective-new m h)) rows
+        both_so (not (list_any (λ later. same_bytes later m.objective) (names_in (all_stated side_stated m.rows)))) (are_distinct same_bytes (names_in (all_stated side_stated m.rows)))
+        (so_not (list_any (λ later. same_bytes later m.objective) (names_in (all_stated side_stated m.rows))) (objective-new m h)) rows
 
-pub range_slots-distinct : (m : Listing) → IsSoundListing m → are_distinct same_slot (map range_slot (names_in (all_told range_told m.rows))) ≡ true
-range_slots-distinct m h = distinct-names range_slot (λ a b. refl) (all_told range_told m.rows) (sorted-told bytes_cmp range_told m.rows h.rows_sorted)
+pub range_slots-distinct : (m : Listing) → IsSoundListing m → are_distinct same_slot (map range_slot (names_in (all_stated range_stated m.rows))) ≡ true
+range_slots-distinct m h = distinct-names range_slot (λ a b. refl) (all_stated range_stated m.rows) (sorted-stated bytes_cmp range_stated m.rows h.rows_sorted)

@@ -7,8 +7,8 @@ use Rattle.mpslp_mps.specs.Laws.{DeclareOneModel, HaveOneFirstFault}
 pub one-model : DeclareOneModel
 one-model bytes m n first second = first.means.meant.model ∙ sym second.means.meant.model
 
-one-told : (a b : Fault) → Some a ≡ Some b → a ≡ b
-one-told a b e = cc
+one-stated : (a b : Fault) → Some a ≡ Some b → a ≡ b
+one-stated a b e = cc
 
 pub one-fault : HaveOneFirstFault
-one-fault bytes a b first second = one-told a b (sym first ∙ second)
+one-fault bytes a b first second = one-stated a b (sym first ∙ second)

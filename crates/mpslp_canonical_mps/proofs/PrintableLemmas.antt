@@ -134,12 +134,12 @@ range-decimal PlusInf upper h = tt
 range-decimal (Finite a) (Finite b) h =
     elim (have_same_value a b) as (λ t. Holds IsDecimal (cond t None (difference_of b a))) [
       | true ↦ tt
-      | false ↦ told (difference_of b a) h
+      | false ↦ stated (difference_of b a) h
     ]
   where
-    told : (o : Option Number) → option_map_or is_bounded_decimal o false ≡ true → Holds IsDecimal o
-    told None k = tt
-    told (Some d) k = bounded-decimal d k
+    stated : (o : Option Number) → option_map_or is_bounded_decimal o false ≡ true → Holds IsDecimal o
+    stated None k = tt
+    stated (Some d) k = bounded-decimal d k
 
 pub negated-decimal : (d : Number) → IsDecimal d → IsDecimal (negated d)
 negated-decimal d h = by d.mantissa h

@@ -11,7 +11,7 @@ use Rattle.mpslp_types.proofs.EachLemmas.{Each}
 use Rattle.mpslp_mps_fields.specs.Line.{LineContent, begins, section_of_header}
 use Rattle.mpslp_mps.specs.Context.{is_read}
 use Rattle.mpslp_mps.specs.TextInWords.{has_section}
-use Rattle.mpslp_canonical_mps.proofs.HeaderWalk.{is_bare, wants_word, header_item, MayStand, has_section-data, settled-after}
+use Rattle.mpslp_canonical_mps.proofs.HeaderWalk.{is_bare, wants_word, header_item, MayBegin, has_section-data, settled-after}
 use Rattle.mpslp_mps_fields.specs.declared.sections.Section.{Section}
 use Rattle.mpslp_mps_fields.specs.declared.sections.Section.TheVariants.{Name, ObjSense, Rows, Columns, Rhs, Ranges, Bounds, EndData}
 use Rattle.mpslp_mps.proofs.SectionLemmas.{has_section-append, has_section-cons}
@@ -209,7 +209,7 @@ whole-walk w h =
     let begun_rows : has_section first Rows ≡ true = has_section-append Rows start rows ∙ ap (λ (b : Bool). b || true) (start-none Rows w.sense refl refl) in
     let none : (s : Section) → begins s (header_item Name) ≡ false → begins s (header_item ObjSense) ≡ false → begins s (header_item Rows) ≡ false → has_section first s ≡ false =
     λ s n o r. has_section-append s start rows ∙ (λ i. start-none s w.sense n o i || rows_none s r i) in
-    let may : MayStand Columns first = record { settled = rows-settled w.objective w.rows start; fresh = none Columns refl refl refl; begins = begun_rows } in
+    let may : MayBegin Columns first = record { settled = rows-settled w.objective w.rows start; fresh = none Columns refl refl refl; begins = begun_rows } in
     let named : is_none d1.objective ≡ false = still-named (flat_map row_decl w.rows) _ refl in
     let late : IsLate second (draft_at_sides w) = record {
       settled = columns-settled w.plain w.integers first;

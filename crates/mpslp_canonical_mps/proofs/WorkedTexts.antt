@@ -150,13 +150,13 @@ semi_text bounds =
     ∷ codes "    X  C  1" ∷ codes "    MARKER  'MARKER'  'INTEND'" ∷ codes "BOUNDS" ∷ codes " UP  BND  X  1" ∷ bounds ++ codes "ENDATA" ∷ [])
 
 -- only an upper bound: the column is before the integer ones
-abbrev upper_alone : List ℕ
-upper_alone = semi_file (codes " SC  B  Y  4" ∷ [])
+abbrev upper_only : List ℕ
+upper_only = semi_file (codes " SC  B  Y  4" ∷ [])
 
-pub semi_upper_alone : IsPrinted upper_alone (semi_text (codes " SC  BND  Y  4" ∷ []))
+pub semi_upper_only : IsPrinted upper_only (semi_text (codes " SC  BND  Y  4" ∷ []))
 unfolding digits trailing_zeros
-semi_upper_alone =
-    line_text-from_passes upper_alone (semi_text (codes " SC  BND  Y  4" ∷ [])) (record { is_text = refl; objective = refl; legal = refl; unrefused = refl; no_fault = refl }) refl refl
+semi_upper_only =
+    line_text-from_passes upper_only (semi_text (codes " SC  BND  Y  4" ∷ [])) (record { is_text = refl; objective = refl; legal = refl; unrefused = refl; no_fault = refl }) refl refl
 
 -- both bounds are equal, but printed separately, the lower one first
 abbrev equal_bounds : List ℕ

@@ -24,5 +24,5 @@ abbrev pub DeclareTheirModels : Type 0
 DeclareTheirModels = (m : LinearModel) → IsSound m → DeclaresMps (canonical_mps m) m
 
 -- Well-formed models have the same canonical text if and only if they are equal.
-abbrev pub TellModelsApart : Type 0
-TellModelsApart = (m n : LinearModel) → IsSound m → IsSound n → (canonical_mps m ≡ canonical_mps n) ↔ (m ≡ n)
+abbrev pub DistinguishModels : Type 0
+DistinguishModels = (m n : LinearModel) → IsSound m → IsSound n → (canonical_mps m ≡ canonical_mps n) ↔ (m ≡ n)

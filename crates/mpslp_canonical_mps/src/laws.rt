@@ -1,6 +1,6 @@
 //! Laws of canonical texts. Each is the contract of a function that does nothing: to cite the law, call the function.
 
-ghost use Rattle.mpslp_canonical_mps.specs.Laws.{AreReadAsPrinted, DeclareTheirModels, TellModelsApart};
+ghost use Rattle.mpslp_canonical_mps.specs.Laws.{AreReadAsPrinted, DeclareTheirModels, DistinguishModels};
 ghost use Rattle.mpslp_canonical_mps.specs.PrintedDeclarations.{DeriveHeaders, DeriveSense, DeriveAllRows, DeriveAllColumns, DeriveRhs, DeriveRanges, DeriveAllBounds};
 
 /// The canonical MPS text of a well-formed model is read as the lines and fields from which it was printed.
@@ -15,7 +15,7 @@ pub fn canonical_text_declares_its_model()
 
 /// Two well-formed models have the same canonical MPS text if and only if they are equal.
 pub fn one_text_for_each_model()
-    ensures { TellModelsApart }
+    ensures { DistinguishModels }
 {}
 
 /// A printed header declares nothing and has no error, if its section may begin and has not begun. For `COLUMNS` the

@@ -76,21 +76,21 @@ took-other differs rest held piece other h =
     subst (λ l. Compared true rest (held ++ l)) (sym (take-length piece)) (Compared-other differs rest held piece other h)
 
 -- two texts with the length of the first in front are equal only if both parts are
-front_of_told : (a b : List ℕ) (n m : ℕ) (c d : List ℕ) → n ≡ length a → m ≡ length c → n ∷ (a ++ b) ≡ m ∷ (c ++ d) → a ≡ c
-front_of_told a b n m c d is is' e =
+front_of_stated : (a b : List ℕ) (n m : ℕ) (c d : List ℕ) → n ≡ length a → m ≡ length c → n ∷ (a ++ b) ≡ m ∷ (c ++ d) → a ≡ c
+front_of_stated a b n m c d is is' e =
     let same : take (length a) (a ++ b) ≡ take (length c) (c ++ d) = cc in
     sym (take-append_seam a b) ∙ same ∙ take-append_seam c d
 
-rest_of_told : (a b : List ℕ) (n m : ℕ) (c d : List ℕ) → n ≡ length a → m ≡ length c → n ∷ (a ++ b) ≡ m ∷ (c ++ d) → b ≡ d
-rest_of_told a b n m c d is is' e =
+rest_of_stated : (a b : List ℕ) (n m : ℕ) (c d : List ℕ) → n ≡ length a → m ≡ length c → n ∷ (a ++ b) ≡ m ∷ (c ++ d) → b ≡ d
+rest_of_stated a b n m c d is is' e =
     let same : drop (length a) (a ++ b) ≡ drop (length c) (c ++ d) = cc in
     sym (drop-append_seam a b) ∙ same ∙ drop-append_seam c d
 
 -- the state after the text was written
 pub front_of : (differs : Bool) (rest wanted text : List ℕ) → Compared differs rest (length wanted ∷ (wanted ++ text)) → IsFront differs rest wanted text
 front_of differs rest wanted text h =
-    let wanted_is : h.wanted ≡ wanted = sym (front_of_told wanted text _ _ h.wanted h.written refl refl h.held_is) in
-    let written_is : h.written ≡ text = sym (rest_of_told wanted text _ _ h.wanted h.written refl refl h.held_is) in
+    let wanted_is : h.wanted ≡ wanted = sym (front_of_stated wanted text _ _ h.wanted h.written refl refl h.held_is) in
+    let written_is : h.written ≡ text = sym (rest_of_stated wanted text _ _ h.wanted h.written refl refl h.held_is) in
     subst (λ l. IsFront differs rest l text) wanted_is (subst (λ l. IsFront differs rest h.wanted l) written_is h.front)
 
 none_of : (rest : List ℕ) → length rest ≡ 0 → rest ≡ []
@@ -98,20 +98,20 @@ none_of [] e = refl
 none_of (byte ∷ rest) e = absurd (omega arith)
 
 -- the state shows whether the text is the expected one
-pub told_by_rest : (differs : Bool) (rest wanted text : List ℕ) (result : Bool) → differs ≡ false → result ≡ (length rest == 0)
+pub stated_by_rest : (differs : Bool) (rest wanted text : List ℕ) (result : Bool) → differs ≡ false → result ≡ (length rest == 0)
     → Compared differs rest (length wanted ∷ (wanted ++ text)) → Decides result (wanted ≡ text)
-told_by_rest differs rest wanted text result e is h =
-    let told : Compared false rest (length wanted ∷ (wanted ++ text)) = subst (λ d. Compared d rest (length wanted ∷ (wanted ++ text))) e h in
-    let front : wanted ≡ text ++ rest = front_of false rest wanted text told in
+stated_by_rest differs rest wanted text result e is h =
+    let outcome : Compared false rest (length wanted ∷ (wanted ++ text)) = subst (λ d. Compared d rest (length wanted ∷ (wanted ++ text))) e h in
+    let front : wanted ≡ text ++ rest = front_of false rest wanted text outcome in
     let test = Decides-eqb (length rest) 0 in
     subst (λ r. Decides r (wanted ≡ text)) (sym is) (
       λ yes. front ∙ ap (λ l. text ++ l) (none_of rest (test.0 yes)) ∙ append-nil text,
       λ same. test.1 (omega (arith, ap length front, ap length same, length-append text rest)),
     )
 
-pub told_other : (differs : Bool) (rest wanted text : List ℕ) → differs ≡ true → Compared differs rest (length wanted ∷ (wanted ++ text))
+pub stated_other : (differs : Bool) (rest wanted text : List ℕ) → differs ≡ true → Compared differs rest (length wanted ∷ (wanted ++ text))
     → Decides (not differs) (wanted ≡ text)
-told_other differs rest wanted text e h =
-    let told : Compared true rest (length wanted ∷ (wanted ++ text)) = subst (λ d. Compared d rest (length wanted ∷ (wanted ++ text))) e h in
-    let other : (more : List ℕ) → wanted ≢ text ++ more = front_of true rest wanted text told in
+stated_other differs rest wanted text e h =
+    let outcome : Compared true rest (length wanted ∷ (wanted ++ text)) = subst (λ d. Compared d rest (length wanted ∷ (wanted ++ text))) e h in
+    let other : (more : List ℕ) → wanted ≢ text ++ more = front_of true rest wanted text outcome in
     subst (λ d. Decides (not d) (wanted ≡ text)) (sym e) (λ yes. absurd (cc), λ same. absurd (other [] (same ∙ sym (append-nil text))))

@@ -22,13 +22,13 @@ conversion_of declares first_fault unfit text bytes m (Err (NotLp name_at)) decl
 conversion_of declares first_fault unfit text bytes m (Err OutOfMemory) declared h = tt
 
 -- a model with a name that is not legal in the format has no text
-pub place_is_told : (unfit : Unfit) (text : TextOf) (m : LinearModel) (name_at : NameAt) (result : Result (Vec ℕ Global) ConvertFault)
+pub place_is_reported : (unfit : Unfit) (text : TextOf) (m : LinearModel) (name_at : NameAt) (result : Result (Vec ℕ Global) ConvertFault)
     → unfit m ≡ Some name_at → IsText unfit text m result → IsErrUnless result (NotLp name_at) OutOfMemory
-place_is_told unfit text m name_at (Ok out) e h = let bad : None ≡ Some name_at = sym h.0 ∙ e in absurd (cc)
-place_is_told unfit text m name_at (Err (First fault)) e h = absurd h
-place_is_told unfit text m name_at (Err (Second fault)) e h = absurd h
-place_is_told unfit text m name_at (Err (NotLp found)) e h = let same : Some found ≡ Some name_at = sym h ∙ e in inl (cc)
-place_is_told unfit text m name_at (Err OutOfMemory) e h = inr refl
+place_is_reported unfit text m name_at (Ok out) e h = let bad : None ≡ Some name_at = sym h.0 ∙ e in absurd (cc)
+place_is_reported unfit text m name_at (Err (First fault)) e h = absurd h
+place_is_reported unfit text m name_at (Err (Second fault)) e h = absurd h
+place_is_reported unfit text m name_at (Err (NotLp found)) e h = let same : Some found ≡ Some name_at = sym h ∙ e in inl (cc)
+place_is_reported unfit text m name_at (Err OutOfMemory) e h = inr refl
 
 -- a model whose names are legal in the format has a text
 pub text_is_given : (unfit : Unfit) (text : TextOf) (m : LinearModel) (result : Result (Vec ℕ Global) ConvertFault)
@@ -49,10 +49,10 @@ text_keeps declares unfit text m (Err fault) law h = tt
 pub comparison_of : (declares : Declares) (first_fault : HasFirstFault) (declares' : Declares) (first_fault' : HasFirstFault) (first second : List ℕ)
     (m : LinearModel) (result : Result Bool ConvertFault) → declares first m → IsTestOfModel declares' first_fault' m second result
     → IsComparison declares first_fault declares' first_fault' first second result
-comparison_of declares first_fault declares' first_fault' first second m (Ok true) one (n, other, told) =
-    (m, one, subst (declares' second) (sym (told.0 refl)) other)
-comparison_of declares first_fault declares' first_fault' first second m (Ok false) one (n, other, told) =
-    (m, n, one, other, not_from_Decides false told refl)
+comparison_of declares first_fault declares' first_fault' first second m (Ok true) one (n, other, outcome) =
+    (m, one, subst (declares' second) (sym (outcome.0 refl)) other)
+comparison_of declares first_fault declares' first_fault' first second m (Ok false) one (n, other, outcome) =
+    (m, n, one, other, not_from_Decides false outcome refl)
 comparison_of declares first_fault declares' first_fault' first second m (Err (First fault)) one h = absurd h
 comparison_of declares first_fault declares' first_fault' first second m (Err (Second fault)) one h = (m, one, h)
 comparison_of declares first_fault declares' first_fault' first second m (Err (NotLp name_at)) one h = absurd h
@@ -71,7 +71,7 @@ second_is_accepted declares first_fault m n bytes (Err OutOfMemory) no_fault h =
 pub second_is_refused : (declares : Declares) (first_fault : HasFirstFault) (m : LinearModel) (fault : Fault) (bytes : List ℕ) (result : Result Bool ConvertFault)
     → ((n : LinearModel) → declares bytes n → ⊥) → ((found : Fault) → first_fault bytes found → found ≡ fault)
     → IsTestOfModel declares first_fault m bytes result → IsErrUnless result (Second fault) OutOfMemory
-second_is_refused declares first_fault m fault bytes (Ok same) no_model one_fault (n, declared, told) = absurd (no_model n declared)
+second_is_refused declares first_fault m fault bytes (Ok same) no_model one_fault (n, declared, outcome) = absurd (no_model n declared)
 second_is_refused declares first_fault m fault bytes (Err (First found)) no_model one_fault h = absurd h
 second_is_refused declares first_fault m fault bytes (Err (Second found)) no_model one_fault h = inl (ap Second (one_fault found h))
 second_is_refused declares first_fault m fault bytes (Err (NotLp name_at)) no_model one_fault h = absurd h
@@ -80,5 +80,5 @@ second_is_refused declares first_fault m fault bytes (Err OutOfMemory) no_model 
 -- a text that declares a model is compared with the text of the model
 pub test_of : (declares : Declares) (first_fault : HasFirstFault) (text : TextOf) (bytes : List ℕ) (m : LinearModel) (same : Bool)
     → declares bytes m → Decides same (bytes ≡ text m) → IsTestOfText declares first_fault text bytes (Ok same)
-test_of declares first_fault text bytes m true declared told = (m, declared, told.0 refl)
-test_of declares first_fault text bytes m false declared told = (m, declared, not_from_Decides false told refl)
+test_of declares first_fault text bytes m true declared outcome = (m, declared, outcome.0 refl)
+test_of declares first_fault text bytes m false declared outcome = (m, declared, not_from_Decides false outcome refl)

@@ -87,6 +87,6 @@ TookFirst-of holds old new piece text tally same h =
     record {
       count = took.count;
       within = took.within;
-      told_is = omega (arith, took.tally_is);
+      reported_is = omega (arith, took.tally_is);
       holds_them = took.holds_them;
     }

@@ -103,9 +103,9 @@ with_bytes alloc bytes small = record {
 
 -- a load would return these bytes as a text, also with a larger limit
 pub text-of : (declares : Declares) (first_fault : HasFirstFault) (left left_now : Option (List ℕ)) (failed : Bool) (limit most : ℕ) (alloc : Global) (bytes : List ℕ)
-    (told : Result LinearModel Fault) → limit ≤ most → limit < 2 ^ 63 → SourceGave left left_now failed limit bytes → IsModelOrFault declares first_fault bytes told
-    → IsTextRead declares first_fault left left_now failed most (Ok told)
-text-of declares first_fault left left_now failed limit most alloc bytes told less small gave is = (
+    (outcome : Result LinearModel Fault) → limit ≤ most → limit < 2 ^ 63 → SourceGave left left_now failed limit bytes → IsModelOrFault declares first_fault bytes outcome
+    → IsTextRead declares first_fault left left_now failed most (Ok outcome)
+text-of declares first_fault left left_now failed limit most alloc bytes outcome less small gave is = (
   with_bytes alloc bytes (omega (arith, gave.within, small)),
   record { works = gave.works; within = omega (arith, gave.within, less); all = gave.all; end = gave.end },
   is,

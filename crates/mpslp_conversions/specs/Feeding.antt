@@ -48,6 +48,6 @@ IsModelOrFault declares first_fault bytes (Err fault) = first_fault bytes fault
 
 -- What a text declares that a load of the source would return, or its first error; or the error of the load.
 abbrev pub IsTextRead : Declares → HasFirstFault → Option (List ℕ) → Option (List ℕ) → Bool → ℕ → Result (Result LinearModel Fault) RunFault → Type 0
-IsTextRead declares first_fault left left_now failed limit (Ok told) =
-    (text : Vec ℕ Global) × IsLoad left left_now failed limit (Ok text) × IsModelOrFault declares first_fault text.items told
+IsTextRead declares first_fault left left_now failed limit (Ok outcome) =
+    (text : Vec ℕ Global) × IsLoad left left_now failed limit (Ok text) × IsModelOrFault declares first_fault text.items outcome
 IsTextRead declares first_fault left left_now failed limit (Err fault) = IsLoad left left_now failed limit (Err fault)

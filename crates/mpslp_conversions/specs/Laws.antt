@@ -26,6 +26,6 @@ pub record Headline (declares_x : Declares) (unfit_x : Unfit) (text_x : TextOf) 
   -- it is its own canonical text
   pub fixed : (x : List ℕ) (m n : LinearModel) → declares_x x m → unfit m ≡ None → declares (text m) n → text n ≡ text m
   -- the names of the model that it declares are legal in the format of x
-  pub told_back : (x : List ℕ) (m n : LinearModel) → declares_x x m → unfit m ≡ None → declares (text m) n → unfit_x n ≡ None
+  pub converted_back : (x : List ℕ) (m n : LinearModel) → declares_x x m → unfit m ≡ None → declares (text m) n → unfit_x n ≡ None
   -- converting there and back keeps the model
   pub kept : (x : List ℕ) (m n : LinearModel) → declares_x x m → unfit m ≡ None → declares (text m) n → declares_x (text_x n) m

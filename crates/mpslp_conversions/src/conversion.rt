@@ -59,7 +59,7 @@ pub fn canonical<A: Format, B: Format>(alloc: Global, bytes: &[u8]) -> Result<Ve
         → IsOkUnless result ConvertFault.OutOfMemory }
     ensures refuses { (fault : Fault) → A.first_fault bytes.now fault
         → IsErrUnless result (ConvertFault.First fault) ConvertFault.OutOfMemory }
-    ensures cannot_tell { (m : LinearModel) (name_at : NameAt) → A.declares bytes.now m → B.unfit m ≡ Some name_at
+    ensures cannot_express { (m : LinearModel) (name_at : NameAt) → A.declares bytes.now m → B.unfit m ≡ Some name_at
         → IsErrUnless result (ConvertFault.NotLp name_at) ConvertFault.OutOfMemory }
     ensures keeps { (m : LinearModel) → A.declares bytes.now m → IfOk result (λ out. B.declares out.items m) }
 {

@@ -157,7 +157,7 @@ pub fn run<A: Format, B: Format, R: Source, W: Sink>(
         → IsErrUnless result RunFault.TooLong RunFault.OutOfMemory }
     ensures refuses { (bytes : List ℕ) (fault : Fault) → SourceHeld (R.left source.old) (R.failed source.new) max_bytes bytes
         → A.first_fault bytes fault → IsErrUnless result (RunFault.File fault) RunFault.OutOfMemory }
-    ensures cannot_tell { (bytes : List ℕ) (m : LinearModel) (name_at : NameAt) → SourceHeld (R.left source.old) (R.failed source.new) max_bytes bytes
+    ensures cannot_express { (bytes : List ℕ) (m : LinearModel) (name_at : NameAt) → SourceHeld (R.left source.old) (R.failed source.new) max_bytes bytes
         → A.declares bytes m → B.unfit m ≡ Some name_at → IsErrUnless result (RunFault.NotLp name_at) RunFault.OutOfMemory }
     ensures asked { TakesAtMost (max_bytes + 1) (R.left source.old) (R.left source.new) }
     ensures calls { R.count source.new ≤ R.count source.old + max_bytes + 1 }

@@ -117,15 +117,15 @@ refusal_status refused.BothInputs = 3
 refusal_status refused.OutOfMemory = 5
 
 -- A sink took the line, or a prefix of it before it failed, in at most as many calls as the line has bytes.
-abbrev pub IsTold : {E : Type 0} → SinkChange E → List ℕ → Type 0
-IsTold err line =
+abbrev pub IsReported : {E : Type 0} → SinkChange E → List ℕ → Type 0
+IsReported err line =
     (answer : Result (Unit {0}) WriteFault) × IsTaken err.sink.holds err.sink.failed err.old err.new line answer
     × (err.sink.count err.new ≤ err.sink.count err.old + length line)
 
 -- The status of a job that is done, and nothing is reported; or that of its failure, whose line is reported.
 abbrev pub IsEnded : {E : Type 0} → SinkChange E → Result ℕ Failure → ℕ → Type 0
 IsEnded err (Ok end) status = (status ≡ end) × (err.new ≡ err.old)
-IsEnded err (Err failure) status = (status ≡ status_of failure.fault) × IsTold err (failure_line failure)
+IsEnded err (Err failure) status = (status ≡ status_of failure.fault) × IsReported err (failure_line failure)
 
 -- A text was written and flushed, or the sink failed.
 abbrev pub IsPrinted : {W : Type 0} → SinkChange W → List ℕ → Result (Unit {0}) RunFault → Type 0
@@ -213,13 +213,13 @@ abbrev pub IsRefused : {W E : Type 0} → SinkChange W → SinkChange E → JobF
 IsRefused out err (refused.Help text) status =
     (answer : Result (Unit {0}) RunFault) × IsPrinted out text answer × IsEnded err (ended_by (refusal_status (refused.Help text)) answer) status
 IsRefused out err (refused.Usage text) status =
-    (status ≡ refusal_status (refused.Usage text)) × (out.new ≡ out.old) × IsTold err (refusal_line (refused.Usage text))
+    (status ≡ refusal_status (refused.Usage text)) × (out.new ≡ out.old) × IsReported err (refusal_line (refused.Usage text))
 IsRefused out err (refused.UnknownFormat word) status =
-    (status ≡ refusal_status (refused.UnknownFormat word)) × (out.new ≡ out.old) × IsTold err (refusal_line (refused.UnknownFormat word))
+    (status ≡ refusal_status (refused.UnknownFormat word)) × (out.new ≡ out.old) × IsReported err (refusal_line (refused.UnknownFormat word))
 IsRefused out err refused.BothInputs status =
-    (status ≡ refusal_status refused.BothInputs) × (out.new ≡ out.old) × IsTold err (refusal_line refused.BothInputs)
+    (status ≡ refusal_status refused.BothInputs) × (out.new ≡ out.old) × IsReported err (refusal_line refused.BothInputs)
 IsRefused out err refused.OutOfMemory status =
-    (status ≡ refusal_status refused.OutOfMemory) × (out.new ≡ out.old) × IsTold err (refusal_line refused.OutOfMemory)
+    (status ≡ refusal_status refused.OutOfMemory) × (out.new ≡ out.old) × IsReported err (refusal_line refused.OutOfMemory)
 
 -- A job was done, or it was reported why there is none, and the status was returned. Without a job no source is read.
 abbrev pub IsPerformed : {R S W E : Type 0} → ℕ → SourceChange R → SourceChange S → SinkChange W → SinkChange E → Result Job JobFault → ℕ → Type 0

@@ -2,7 +2,7 @@
 
 ghost use Rattle.std.specs.Prelude.{◌≡◌, ◌++◌, [], ℕ, List, true, Result, if◌then◌else◌};
 ghost use Rattle.mpslp_conversions.specs.FaultLine.{fault_line};
-ghost use Rattle.mpslp_convert.specs.Performed.{sink_change, failure_of, input_text, is_of_input, failure_line, comparison_failure, refusal_line, refusal_status, IsTold, IsEnded, IsPrinted, IsRefused, ended_by};
+ghost use Rattle.mpslp_convert.specs.Performed.{sink_change, failure_of, input_text, is_of_input, failure_line, comparison_failure, refusal_line, refusal_status, IsReported, IsEnded, IsPrinted, IsRefused, ended_by};
 
 use mpslp_conversions::{ConvertFault, RunFault, line_of};
 use mpslp_jobs::JobFault;
@@ -73,8 +73,8 @@ fn is_of_input(fault: &RunFault) -> bool
 }
 
 /// Writes three pieces as one text, as far as the sink takes it, and does not flush.
-fn tell<E: Sink>(err: &mut E, front: &[u8], middle: &[u8], end: &[u8])
-    ensures answer { IsTold (sink_change E.Sink err.old err.new) (front.now ++ middle.now ++ end.now) }
+fn print_line<E: Sink>(err: &mut E, front: &[u8], middle: &[u8], end: &[u8])
+    ensures answer { IsReported (sink_change E.Sink err.old err.new) (front.now ++ middle.now ++ end.now) }
     ensures err_stays { E.failed err.old ≡ true → E.failed err.new ≡ true }
 {
     let mut buffer = Buffer::new();
@@ -86,8 +86,8 @@ fn tell<E: Sink>(err: &mut E, front: &[u8], middle: &[u8], end: &[u8])
 }
 
 /// Writes the line of a failure.
-fn tell_failure<E: Sink>(failure: &Failure, err: &mut E)
-    ensures answer { IsTold (sink_change E.Sink err.old err.new) (failure_line failure.now) }
+fn report_failure<E: Sink>(failure: &Failure, err: &mut E)
+    ensures answer { IsReported (sink_change E.Sink err.old err.new) (failure_line failure.now) }
     ensures err_stays { E.failed err.old ≡ true → E.failed err.new ≡ true }
 {
     let line = line_of(&failure.fault);
@@ -96,7 +96,7 @@ fn tell_failure<E: Sink>(failure: &Failure, err: &mut E)
     } else {
         b"".as_slice()
     };
-    tell(err, input, line.as_bytes(), b"");
+    print_line(err, input, line.as_bytes(), b"");
 }
 
 /// Returns the exit status of a job, and reports its failure if there is one.
@@ -107,7 +107,7 @@ pub(crate) fn status_of_end<E: Sink>(end: &Result<u8, Failure>, err: &mut E) -> 
     match end {
         Ok(status) => *status,
         Err(failure) => {
-            tell_failure(failure, err);
+            report_failure(failure, err);
             failure.fault.status()
         }
     }
@@ -150,19 +150,19 @@ pub(crate) fn refuse<W: Sink, E: Sink>(fault: &JobFault, out: &mut W, err: &mut 
             status_of_end(&ended_by(0, answer), err)
         }
         JobFault::Usage(text) => {
-            tell(err, text.as_str().as_bytes(), b"", b"");
+            print_line(err, text.as_str().as_bytes(), b"", b"");
             WRONG_WORDS
         }
         JobFault::UnknownFormat(word) => {
-            tell(err, b"unknown format: ", word.as_str().as_bytes(), b"\n");
+            print_line(err, b"unknown format: ", word.as_str().as_bytes(), b"\n");
             WRONG_WORDS
         }
         JobFault::BothInputs => {
-            tell(err, b"both inputs are -\n", b"", b"");
+            print_line(err, b"both inputs are -\n", b"", b"");
             WRONG_WORDS
         }
         JobFault::OutOfMemory => {
-            tell(err, b"out of memory\n", b"", b"");
+            print_line(err, b"out of memory\n", b"", b"");
             NO_MEMORY
         }
     }

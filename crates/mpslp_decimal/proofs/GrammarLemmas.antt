@@ -199,12 +199,12 @@ no_marks digits h = Each-weaker (λ b. is_digit b ≡ true) (λ b. is_exponent_m
 no_points : (digits : List ℕ) → AreDigits digits → Each (λ b. is_point b ≡ false) digits
 no_points digits h = Each-weaker (λ b. is_digit b ≡ true) (λ b. is_point b ≡ false) digit-no_point digits h
 
-whole-behind : (digits rest : List ℕ) → AreDigits digits → whole_part (digits ++ rest) ≡ digits ++ whole_part rest
-whole-behind digits rest h =
+whole-after : (digits rest : List ℕ) → AreDigits digits → whole_part (digits ++ rest) ≡ digits ++ whole_part rest
+whole-after digits rest h =
     ap (before_first is_point) (before-more is_exponent_mark digits rest (no_marks digits h)) ∙ before-more is_point digits (before_exponent rest) (no_points digits h)
 
-fraction-behind : (digits rest : List ℕ) → AreDigits digits → fraction_part (digits ++ rest) ≡ fraction_part rest
-fraction-behind digits rest h =
+fraction-after : (digits rest : List ℕ) → AreDigits digits → fraction_part (digits ++ rest) ≡ fraction_part rest
+fraction-after digits rest h =
     ap (after_first is_point) (before-more is_exponent_mark digits rest (no_marks digits h)) ∙ after-more is_point digits (before_exponent rest) (no_points digits h)
 
 -- what the parts of a text are
@@ -214,10 +214,10 @@ record Parts (text whole fraction exponent : List ℕ) (marked : Bool) : Type 0 
   exponent_is : after_mark text ≡ exponent
   marked_is : is_marked text ≡ marked
 
-parts-behind : (digits rest whole fraction exponent : List ℕ) (marked : Bool) → AreDigits digits → Parts rest whole fraction exponent marked → Parts (digits ++ rest) (digits ++ whole) fraction exponent marked
-parts-behind digits rest whole fraction exponent marked h p = record {
-  whole_is = whole-behind digits rest h ∙ ap (λ (x : List ℕ). digits ++ x) p.whole_is;
-  fraction_is = fraction-behind digits rest h ∙ p.fraction_is;
+parts-after : (digits rest whole fraction exponent : List ℕ) (marked : Bool) → AreDigits digits → Parts rest whole fraction exponent marked → Parts (digits ++ rest) (digits ++ whole) fraction exponent marked
+parts-after digits rest whole fraction exponent marked h p = record {
+  whole_is = whole-after digits rest h ∙ ap (λ (x : List ℕ). digits ++ x) p.whole_is;
+  fraction_is = fraction-after digits rest h ∙ p.fraction_is;
   exponent_is = after-more is_exponent_mark digits rest (no_marks digits h) ∙ p.exponent_is;
   marked_is = any-more is_exponent_mark digits rest (no_marks digits h) ∙ p.marked_is;
 }
@@ -307,26 +307,26 @@ cut-of text rest e =
 
 parts-cut : (text digits rest whole fraction exponent : List ℕ) (marked : Bool) → Cut text digits rest → Parts rest whole fraction exponent marked → Parts text (digits ++ whole) fraction exponent marked
 parts-cut text digits rest whole fraction exponent marked c p =
-    subst (λ (t : List ℕ). Parts t (digits ++ whole) fraction exponent marked) (sym c.whole) (parts-behind digits rest whole fraction exponent marked c.digits_only p)
+    subst (λ (t : List ℕ). Parts t (digits ++ whole) fraction exponent marked) (sym c.whole) (parts-after digits rest whole fraction exponent marked c.digits_only p)
 
 other-cut : (text digits : List ℕ) (x : ℕ) (xs : List ℕ) → Cut text digits (x ∷ xs) → is_digit x ≡ false → is_exponent_mark x ≡ false → is_point x ≡ false → is_number text ≡ false
 other-cut text digits x xs c d m p =
     no_number text digits (whole_part xs ++ fraction_part (digits ++ x ∷ xs)) x d
     (ap mantissa_part c.whole
-    ∙ (λ i. (whole-behind digits (x ∷ xs) c.digits_only ∙ ap (λ (t : List ℕ). digits ++ t) (whole-other x xs m p)) i ++ fraction_part (digits ++ x ∷ xs))
+    ∙ (λ i. (whole-after digits (x ∷ xs) c.digits_only ∙ ap (λ (t : List ℕ). digits ++ t) (whole-other x xs m p)) i ++ fraction_part (digits ++ x ∷ xs))
     ∙ append_assoc digits (x ∷ whole_part xs) (fraction_part (digits ++ x ∷ xs)))
 
 no_point-front : (text : List ℕ) (x : ℕ) (xs : List ℕ) → after_digits text ≡ x ∷ xs → is_point x ≡ false → fraction_front text ≡ []
-no_point-front text x xs e p = ap (λ (r : List ℕ). digits_front (after_point r)) e ∙ behind
+no_point-front text x xs e p = ap (λ (r : List ℕ). digits_front (after_point r)) e ∙ following
   where
-    behind : digits_front (after_point (x ∷ xs)) ≡ []
-    behind = rw p refl
+    following : digits_front (after_point (x ∷ xs)) ≡ []
+    following = rw p refl
 
 point-front : (text : List ℕ) (x : ℕ) (xs : List ℕ) → after_digits text ≡ x ∷ xs → is_point x ≡ true → fraction_front text ≡ digits_front xs
-point-front text x xs e p = ap (λ (r : List ℕ). digits_front (after_point r)) e ∙ behind
+point-front text x xs e p = ap (λ (r : List ℕ). digits_front (after_point r)) e ∙ following
   where
-    behind : digits_front (after_point (x ∷ xs)) ≡ digits_front xs
-    behind = rw p refl
+    following : digits_front (after_point (x ∷ xs)) ≡ digits_front xs
+    following = rw p refl
 
 -- after a point: the digits of the fraction, and what follows them
 pointed : (text : List ℕ) (x : ℕ) (xs rest : List ℕ) → after_digits text ≡ x ∷ xs → is_point x ≡ true → after_digits xs ≡ rest → Says text (exponent_after rest)
@@ -334,9 +334,9 @@ pointed text x xs [] e p f =
     let c = cut-of text (x ∷ xs) e in
     let d = cut-of xs [] f in
     let inner : before_exponent xs ≡ digits_front xs = ap before_exponent d.whole ∙ before-more is_exponent_mark (digits_front xs) [] (no_marks (digits_front xs) d.digits_only) ∙ append-nil (digits_front xs) in
-    let behind = parts-behind (digits_front xs) [] [] [] [] false d.digits_only parts-empty in
-    let after : after_mark xs ≡ [] = ap after_mark d.whole ∙ behind.exponent_is in
-    let marked : is_marked xs ≡ false = ap is_marked d.whole ∙ behind.marked_is in
+    let following = parts-after (digits_front xs) [] [] [] [] false d.digits_only parts-empty in
+    let after : after_mark xs ≡ [] = ap after_mark d.whole ∙ following.exponent_is in
+    let marked : is_marked xs ≡ false = ap is_marked d.whole ∙ following.marked_is in
     let parts = parts-cut text (digits_front text) (x ∷ xs) [] (before_exponent xs) [] false c (parts-pointed x xs [] false p after marked) in
     let front = point-front text x xs e p in
     says-plain text (digits_front text ++ []) (before_exponent xs) parts
@@ -352,9 +352,9 @@ pointed text x xs (y ∷ ys) e p f = by (is_exponent_mark y) (is_digit y) refl r
         let k = cut-of xs (y ∷ ys) f in
         let none : before_exponent (y ∷ ys) ≡ [] = before-here is_exponent_mark y ys m in
         let inner : before_exponent xs ≡ digits_front xs = ap before_exponent k.whole ∙ before-more is_exponent_mark (digits_front xs) (y ∷ ys) (no_marks (digits_front xs) k.digits_only) ∙ ap (λ (t : List ℕ). digits_front xs ++ t) none ∙ append-nil (digits_front xs) in
-        let behind = parts-behind (digits_front xs) (y ∷ ys) [] [] ys true k.digits_only (parts-marked y ys m) in
-        let after : after_mark xs ≡ ys = ap after_mark k.whole ∙ behind.exponent_is in
-        let marked : is_marked xs ≡ true = ap is_marked k.whole ∙ behind.marked_is in
+        let following = parts-after (digits_front xs) (y ∷ ys) [] [] ys true k.digits_only (parts-marked y ys m) in
+        let after : after_mark xs ≡ ys = ap after_mark k.whole ∙ following.exponent_is in
+        let marked : is_marked xs ≡ true = ap is_marked k.whole ∙ following.marked_is in
         let parts = parts-cut text (digits_front text) (x ∷ xs) [] (before_exponent xs) ys true c (parts-pointed x xs ys true p after marked) in
         let front = point-front text x xs e p in
         says-parts text (digits_front text ++ []) (before_exponent xs) ys parts
@@ -437,7 +437,7 @@ scanned scan text unsigned rest exponent count u r e s c some p x minus within z
     let part : unsigned_part text ≡ before_exponent unsigned = unsigned-is text ∙ ap before_exponent (sym u) in
     let mantissa : mantissa_digits text ≡ mantissa_front unsigned = (λ i. before_first is_point (part i) ++ after_first is_point (part i)) ∙ said.0 in
     let fraction : fraction_digits text ≡ fraction_front unsigned = ap (after_first is_point) part ∙ said.1 in
-    let behind : exponent_part text ≡ after_mark unsigned = exponent-is text ∙ ap after_mark (sym u) in
+    let following : exponent_part text ≡ after_mark unsigned = exponent-is text ∙ ap after_mark (sym u) in
     let shorter : length unsigned ≤ length text = length-unsigned text unsigned u in
     let digits : are_digits (mantissa_part unsigned) ≡ true = ap are_digits said.0 ∙ are-digits (mantissa_front unsigned) (front_digits unsigned) (omega (arith, c)) in
     record {
@@ -445,7 +445,7 @@ scanned scan text unsigned rest exponent count u r e s c some p x minus within z
       negative = minus;
       significand = subst (λ (t : List ℕ). IsSignificandOf scan.significand (digits_sum t)) (sym mantissa) s;
       places = p ∙ ap length (sym fraction);
-      exponent = x ∙ said.3 ∙ ap capped_exponent (sym behind);
+      exponent = x ∙ said.3 ∙ ap capped_exponent (sym following);
       digits_within = omega (arith, shorter, ap length mantissa, c);
       zeros_within = omega (arith, shorter);
       places_within = omega (arith, shorter);

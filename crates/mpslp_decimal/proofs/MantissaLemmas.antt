@@ -38,7 +38,7 @@ only-digits text whole e first =
 
 -- what follows the point, as the pattern of a slice cuts it
 pub fraction-cut : (text rest : List ℕ) → rest ≡ after_digits text → 1 ≤ length rest → get_or rest 0 0 ≡ 46 → fraction_front text ≡ digits_front (take (length rest - 1) (drop 1 rest))
-fraction-cut text rest e some point = ap (λ (r : List ℕ). digits_front (after_point r)) (sym e) ∙ behind rest some point
+fraction-cut text rest e some point = ap (λ (r : List ℕ). digits_front (after_point r)) (sym e) ∙ following rest some point
   where
     all : (xs : List ℕ) → take (length xs) xs ≡ xs
     all [] = refl
@@ -51,9 +51,9 @@ fraction-cut text rest e some point = ap (λ (r : List ℕ). digits_front (after
     less_one : (n : ℕ) → suc n - 1 ≡ n
     less_one n = omega arith
 
-    behind : (r : List ℕ) → 1 ≤ length r → get_or r 0 0 ≡ 46 → digits_front (after_point r) ≡ digits_front (take (length r - 1) (drop 1 r))
-    behind [] some point = absurd (omega arith)
-    behind (x ∷ xs) some point =
+    following : (r : List ℕ) → 1 ≤ length r → get_or r 0 0 ≡ 46 → digits_front (after_point r) ≡ digits_front (take (length r - 1) (drop 1 r))
+    following [] some point = absurd (omega arith)
+    following (x ∷ xs) some point =
         let is : is_point x ≡ true = rw point refl in
         let tail : take (suc (length xs) - 1) (drop 1 (x ∷ xs)) ≡ xs = (λ i. take (less_one (length xs) i) (none xs i)) ∙ all xs in
         ap digits_front (pointed is ∙ sym tail)
@@ -65,9 +65,9 @@ fraction-cut text rest e some point = ap (λ (r : List ℕ). digits_front (after
 pub zeros-front : (text : List ℕ) (count : ℕ) → count ≤ 0 + prefix_len is_digit text → count ≤ length text
 zeros-front text count h = omega (arith, prefix_len-le-length is_digit text)
 
-pub zeros-behind : (text rest : List ℕ) (whole count : ℕ) → rest ≡ after_digits text → 1 ≤ length rest → whole ≤ 0 + prefix_len is_digit text
+pub zeros-after : (text rest : List ℕ) (whole count : ℕ) → rest ≡ after_digits text → 1 ≤ length rest → whole ≤ 0 + prefix_len is_digit text
     → count ≤ whole + prefix_len is_digit (take (length rest - 1) (drop 1 rest)) → count ≤ length text
-zeros-behind text rest whole count e some first more =
+zeros-after text rest whole count e some first more =
     let cut : length rest ≡ length text - prefix_len is_digit text = ap length e ∙ length-drop (prefix_len is_digit text) text in
     let within = prefix_len-le-length is_digit text in
     let front = prefix_len-le-length is_digit (take (length rest - 1) (drop 1 rest)) in

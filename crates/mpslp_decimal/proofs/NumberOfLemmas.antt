@@ -228,7 +228,7 @@ number-many scan text s e short = by parts
 pub number-few : (scan : Scan) (text : List ℕ) (m z : ℕ) (exponent : ℤ) → IsScanOf scan text → parts_of scan.significand ≡ Some (m, z) → (m ≡ 0 → ⊥) → length text ≤ 255
     → exponent ≡ (scan.exponent +ℤ pos z) -ℤ pos scan.places → in_range (record { mantissa = to_signed scan.is_negative m; exponent = exponent }) ≡ number_of text
 number-few scan text m z exponent s e nonzero short is =
-    (λ i. in_range (record { mantissa = to_signed (s.negative i) m; exponent = told i }))
+    (λ i. in_range (record { mantissa = to_signed (s.negative i) m; exponent = stated i }))
     ∙ capped-range (is_minus power) size places z (to_signed minus m) places_short zeros_short
     ∙ sym (number-value text value s.literal short (stripped-normal minus n m z raw_exponent parts.0 some (omega (arith, zeros_short)))
     ∙ few-answer value (few_digits-signed minus m (raw_exponent +ℤ pos z) true (lt-ltb m (10 ^ 36) parts.1)))
@@ -266,5 +266,5 @@ number-few scan text m z exponent s e nonzero short is =
     some : 0 < n
     some = positive-product m (10 ^ z) n (not-zero m nonzero) (pow_positive z) parts.0.value
 
-    told : exponent ≡ (to_signed (is_minus power) (min size 100000) -ℤ pos places) +ℤ pos z
-    told = is ∙ (λ i. (s.exponent i +ℤ pos z) -ℤ pos (s.places i)) ∙ regroup (to_signed (is_minus power) (min size 100000)) places z
+    stated : exponent ≡ (to_signed (is_minus power) (min size 100000) -ℤ pos places) +ℤ pos z
+    stated = is ∙ (λ i. (s.exponent i +ℤ pos z) -ℤ pos (s.places i)) ∙ regroup (to_signed (is_minus power) (min size 100000)) places z

@@ -58,9 +58,9 @@ pub one-more-zero : (v m i : ℕ) → v ≡ m * 10 ^ i → v * 10 ≡ m * 10 ^ (
 one-more-zero v m i h = sym (tens m i v (sym h))
 
 -- the digits with the zeros appended, and the digit after them
-pub digit-behind : (n m z i v d e : ℕ) → IsStripped n m z → v ≡ m * 10 ^ i → i ≡ z + 1 → v < 10 ^ 36 → e ≡ d → 0 < d → d < 10
+pub digit-after : (n m z i v d e : ℕ) → IsStripped n m z → v ≡ m * 10 ^ i → i ≡ z + 1 → v < 10 ^ 36 → e ≡ d → 0 < d → d < 10
     → IsStripped (n * 10 + d) (v + e) 0 × (v + e < 10 ^ 36)
-digit-behind n m z i v d e s value at few same some small =
+digit-after n m z i v d e s value at few same some small =
     let whole : v ≡ m * 10 ^ (z + 1) = value ∙ ap (λ (k : ℕ). m * 10 ^ k) at in
     let all : m * 10 ^ (z + 1) ≡ n * 10 = tens m z n s.value in
     let is : n * 10 + d ≡ v + e = omega (arith, whole, all, same) in
@@ -69,8 +69,8 @@ digit-behind n m z i v d e s value at few same some small =
     room : (n v d e : ℕ) → v ≡ n * 10 → v < 10 ^ 36 → e ≡ d → d < 10 → v + e < 10 ^ 36
     room n v d e tens few same small = omega arith
 
-pub zero-behind : (n m z d : ℕ) → IsStripped n m z → d ≡ 0 → IsStripped (n * 10 + d) m (z + 1)
-zero-behind n m z d s none = rw none (stripped-zero n m z s)
+pub zero-after : (n m z d : ℕ) → IsStripped n m z → d ≡ 0 → IsStripped (n * 10 + d) m (z + 1)
+zero-after n m z d s none = rw none (stripped-zero n m z s)
 
 same_Some : (p q : ℕ × ℕ) → ◌≡◌ {A = Option (ℕ × ℕ)} (Some p) (Some q) → p ≡ q
 same_Some p q e = cc

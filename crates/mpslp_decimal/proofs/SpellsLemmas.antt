@@ -214,8 +214,8 @@ above-both e f k up = by (e -ℤ f) (f -ℤ e) refl refl up
     by (negsuc n) b h j is = absurd (omega arith)
 
 -- a normal mantissa absorbs no zeros of the other one
-no-zeros-behind : (v d : Number) (k : ℕ) → HasSameValue v d → 0 < unsigned_abs d.mantissa % 10 → surplus v.exponent d.exponent ≡ suc k → ⊥
-no-zeros-behind v d k same ends up =
+no-zeros-after : (v d : Number) (k : ℕ) → HasSameValue v d → 0 < unsigned_abs d.mantissa % 10 → surplus v.exponent d.exponent ≡ suc k → ⊥
+no-zeros-after v d k same ends up =
     let down = above-both v.exponent d.exponent k up in
     let sizes : unsigned_abs v.mantissa * 10 ^ surplus v.exponent d.exponent ≡ unsigned_abs d.mantissa * 10 ^ surplus d.exponent v.exponent =
     sym (unsigned_abs-mul v.mantissa (pos (10 ^ surplus v.exponent d.exponent))) ∙ ap unsigned_abs same ∙ unsigned_abs-mul d.mantissa (pos (10 ^ surplus d.exponent v.exponent)) in
@@ -247,7 +247,7 @@ value-apart v d same ends = by (surplus v.exponent d.exponent) refl
 
     by : (n : ℕ) → surplus v.exponent d.exponent ≡ n
         → v ≡ record { mantissa = to_signed minus (unsigned_abs d.mantissa * 10 ^ k); exponent = d.exponent -ℤ pos k }
-    by (suc n) up = absurd (no-zeros-behind v d n same ends up)
+    by (suc n) up = absurd (no-zeros-after v d n same ends up)
     by zero up =
         let left : mantissa_beside v d ≡ v.mantissa = ap (λ (n : ℕ). v.mantissa *ℤ pos (10 ^ n)) up ∙ once v.mantissa in
         let right : mantissa_beside d v ≡ to_signed minus (unsigned_abs d.mantissa * 10 ^ k) =

@@ -37,13 +37,13 @@ pub no_digit_before_the_point-text : number_text (decimal_value (pos 5) (negsuc 
 unfolding digits trailing_zeros
 no_digit_before_the_point-text = refl
 
-pub no_digit_behind_the_point : number_of (codes "3.") ≡ Ok (decimal_value (pos 3) (pos 0))
+pub no_digit_after_the_point : number_of (codes "3.") ≡ Ok (decimal_value (pos 3) (pos 0))
 unfolding digits trailing_zeros
-no_digit_behind_the_point = refl
+no_digit_after_the_point = refl
 
-pub no_digit_behind_the_point-text : number_text (decimal_value (pos 3) (pos 0)) ≡ codes "3"
+pub no_digit_after_the_point-text : number_text (decimal_value (pos 3) (pos 0)) ≡ codes "3"
 unfolding digits trailing_zeros
-no_digit_behind_the_point-text = refl
+no_digit_after_the_point-text = refl
 
 pub a_zero_at_the_end : number_of (codes "1.50") ≡ Ok (decimal_value (pos 15) (negsuc 0))
 unfolding digits trailing_zeros
@@ -167,13 +167,13 @@ pub empty_text : number_of ([]) ≡ Err BadNumber
 unfolding digits trailing_zeros
 empty_text = refl
 
-pub point_alone : number_of (codes ".") ≡ Err BadNumber
+pub point_only : number_of (codes ".") ≡ Err BadNumber
 unfolding digits trailing_zeros
-point_alone = refl
+point_only = refl
 
-pub exponent_alone : number_of (codes "e5") ≡ Err BadNumber
+pub exponent_only : number_of (codes "e5") ≡ Err BadNumber
 unfolding digits trailing_zeros
-exponent_alone = refl
+exponent_only = refl
 
 pub exponent_without_digits : number_of (codes "1e") ≡ Err BadNumber
 unfolding digits trailing_zeros
@@ -183,9 +183,9 @@ pub two_signs : number_of (codes "+-1") ≡ Err BadNumber
 unfolding digits trailing_zeros
 two_signs = refl
 
-pub blank_behind : number_of (codes "1 ") ≡ Err BadNumber
+pub blank_after : number_of (codes "1 ") ≡ Err BadNumber
 unfolding digits trailing_zeros
-blank_behind = refl
+blank_after = refl
 
 pub longest_literal : number_of (49 ∷ replicate 254 48) ≡ Ok (decimal_value (pos 1) (pos 254))
 unfolding digits trailing_zeros

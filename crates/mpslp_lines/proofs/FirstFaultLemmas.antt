@@ -136,13 +136,13 @@ clash-least (fault ∷ faults) h = by fault (clash-least faults) h
     by builds.OutOfMemory later there = ap (λ (o : Option FaultKind). Some (lesser kinds.DuplicateEntry o)) (later there)
 
 -- the kind comes after a clash of column types
-abbrev pub is_behind_clash : FaultKind → Bool
-is_behind_clash kind = nat_lt (kind_rank kinds.SemiContinuous) (kind_rank kind)
+abbrev pub is_after_clash : FaultKind → Bool
+is_after_clash kind = nat_lt (kind_rank kinds.SemiContinuous) (kind_rank kind)
 
 -- a clash of column types is reported before the later tests of the form of a line
-pub clash-first : (tests : FaultTests) (earlier : Draft) (ds : Declarations) → are_rising tests ≡ true → list_all (λ test. is_behind_clash test.1) tests ≡ true → has_kind_clash earlier ds ≡ true
+pub clash-first : (tests : FaultTests) (earlier : Draft) (ds : Declarations) → are_rising tests ≡ true → list_all (λ test. is_after_clash test.1) tests ≡ true → has_kind_clash earlier ds ≡ true
     → first_fault tests earlier ds ≡ Some kinds.SemiContinuous
-clash-first tests earlier ds rising behind clash =
+clash-first tests earlier ds rising following clash =
     least-append (those_of tests) (declaring_faults earlier ds)
     ∙ (λ i. earlier_of (least-those_of tests rising i) (clash-least (refusals_in_turn earlier ds) clash i))
     ∙ from (first_held tests) refl
@@ -150,7 +150,7 @@ clash-first tests earlier ds rising behind clash =
     from : (o : Option FaultKind) → first_held tests ≡ o → earlier_of o (Some kinds.SemiContinuous) ≡ Some kinds.SemiContinuous
     from None held = refl
     from (Some kind) held =
-        ap (λ (b : Bool). Some (cond b kinds.SemiContinuous kind)) (held-among is_behind_clash tests kind behind held)
+        ap (λ (b : Bool). Some (cond b kinds.SemiContinuous kind)) (held-among is_after_clash tests kind following held)
 
 -- no error of the form
 pub declared-first : (tests : FaultTests) (earlier : Draft) (ds : Declarations) → are_rising tests ≡ true → first_held tests ≡ None

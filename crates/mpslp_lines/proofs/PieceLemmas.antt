@@ -118,21 +118,21 @@ module _ {L : Type 0} (has_read : L → List (List ℕ) → Type 0) (at_end : L 
 
   -- ---- after the line that ends it
 
-  module _ (behind_end : (reader : L) (text more : List (List ℕ)) → has_read reader text → at_end reader ≡ true → has_read reader (text ++ more)) where
+  module _ (after_end : (reader : L) (text more : List (List ℕ)) → has_read reader text → at_end reader ≡ true → has_read reader (text ++ more)) where
     -- after the line that ends the text
-    pub behind-fed : (reader : PieceReader L) (more bytes : List ℕ) → at_end reader.lines ≡ true → IsFed has_read at_end reader bytes → IsFed has_read at_end reader (bytes ++ more)
-    behind-fed reader more bytes ended h =
+    pub after-fed : (reader : PieceReader L) (more bytes : List ℕ) → at_end reader.lines ≡ true → IsFed has_read at_end reader bytes → IsFed has_read at_end reader (bytes ++ more)
+    after-fed reader more bytes ended h =
         let r = reader.lines in
         let none : unread (at_end r) bytes ≡ [] = ap (λ (b : Bool). unread b bytes) ended in
         let still : unread (at_end r) (bytes ++ more) ≡ [] = ap (λ (b : Bool). unread b (bytes ++ more)) ended in
         record {
-          complete = subst (has_read r) (sym (complete-more bytes more)) (behind_end r (complete_lines bytes) (complete_lines (open_tail bytes ++ more)) h.complete ended);
+          complete = subst (has_read r) (sym (complete-more bytes more)) (after_end r (complete_lines bytes) (complete_lines (open_tail bytes ++ more)) h.complete ended);
           kept = subst (Keeps reader.open_line) (none ∙ sym still) h.kept;
         }
 
-    pub whole-behind : (reader : PieceReader L) → at_end reader.lines ≡ true → (bytes : List ℕ) → IsFed has_read at_end reader bytes → has_read reader.lines (lines bytes)
-    whole-behind reader ended bytes h =
-        subst (has_read reader.lines) (sym (lines-are bytes)) (behind_end reader.lines (complete_lines bytes) (last_line (open_tail bytes)) h.complete ended)
+    pub whole-after : (reader : PieceReader L) → at_end reader.lines ≡ true → (bytes : List ℕ) → IsFed has_read at_end reader bytes → has_read reader.lines (lines bytes)
+    whole-after reader ended bytes h =
+        subst (has_read reader.lines) (sym (lines-are bytes)) (after_end reader.lines (complete_lines bytes) (last_line (open_tail bytes)) h.complete ended)
 
   -- ---- errors
 
@@ -152,18 +152,18 @@ module _ {L : Type 0} (has_read : L → List (List ℕ) → Type 0) (at_end : L 
     refuses-lines old part OutOfMemory unended anew whole h = tt
 
     -- consecutive parts
-    pub refuses-behind : (old mid : PieceReader L) (part rest piece : List ℕ) (error : ReadFault) → part ++ rest ≡ piece → ((bytes : List ℕ) → IsFed has_read at_end old bytes → IsFed has_read at_end mid (bytes ++ part))
+    pub refuses-after : (old mid : PieceReader L) (part rest piece : List ℕ) (error : ReadFault) → part ++ rest ≡ piece → ((bytes : List ℕ) → IsFed has_read at_end old bytes → IsFed has_read at_end mid (bytes ++ part))
         → RefusesPiece has_read at_end lines_fault mid rest error → RefusesPiece has_read at_end lines_fault old piece error
-    refuses-behind old mid part rest piece (File fault) is first h = λ bytes fed.
+    refuses-after old mid part rest piece (File fault) is first h = λ bytes fed.
         subst (λ l. lines_fault (complete_lines l) fault) (append_assoc bytes part rest ∙ ap (λ l. bytes ++ l) is) (h (bytes ++ part) (first bytes fed))
-    refuses-behind old mid part rest piece Failed is first h = h
-    refuses-behind old mid part rest piece OutOfMemory is first h = tt
+    refuses-after old mid part rest piece Failed is first h = h
+    refuses-after old mid part rest piece OutOfMemory is first h = tt
 
     pub then-feeds : (old mid new : PieceReader L) (part rest piece : List ℕ) (answer : Result (Unit {0}) ReadFault) → part ++ rest ≡ piece
         → ((bytes : List ℕ) → IsFed has_read at_end old bytes → IsFed has_read at_end mid (bytes ++ part)) → Feeds has_read at_end lines_fault mid rest new answer → Feeds has_read at_end lines_fault old piece new answer
     then-feeds old mid new part rest piece (Ok x) is first h = λ bytes fed.
         subst (IsFed has_read at_end new) (append_assoc bytes part rest ∙ ap (λ l. bytes ++ l) is) (h (bytes ++ part) (first bytes fed))
-    then-feeds old mid new part rest piece (Err error) is first h = refuses-behind old mid part rest piece error is first h
+    then-feeds old mid new part rest piece (Err error) is first h = refuses-after old mid part rest piece error is first h
 
     -- a call that ends with this error
     pub ends-feed : (old new : PieceReader L) (piece : List ℕ) (error : ReadFault) (answer : Result (Unit {0}) ReadFault) → IsErrAnd answer (λ e. e ≡ error)

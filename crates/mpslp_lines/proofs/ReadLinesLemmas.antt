@@ -25,8 +25,8 @@ module _ {L : Type 0} (has_read : L → List (List ℕ) → Type 0) where
   -- all up to the one that ends the text
   pub passed-end : (at_end : L → Bool) → ((reader : L) (text more : List (List ℕ)) → has_read reader text → at_end reader ≡ true → has_read reader (text ++ more))
       → (old now : L) (all more : List (List ℕ)) → Passed has_read old now all more → at_end now ≡ true → (before : List (List ℕ)) → has_read old before → has_read now (before ++ all)
-  passed-end at_end behind_end old now all more p ended = λ before led.
-      subst (has_read now) (append_assoc before p.done more ∙ ap (λ l. before ++ l) (sym p.split)) (behind_end now (before ++ p.done) more (p.reads before led) ended)
+  passed-end at_end after_end old now all more p ended = λ before led.
+      subst (has_read now) (append_assoc before p.done more ∙ ap (λ l. before ++ l) (sym p.split)) (after_end now (before ++ p.done) more (p.reads before led) ended)
 
   module _ (lines_fault : List (List ℕ) → Fault → Type 0) where
     pub passed-line : (old now next : L) (all left more : List (List ℕ)) (line : List ℕ) → Passed has_read old now all left → left ≡ line ∷ more

@@ -21,8 +21,8 @@ LineResult = Result (Unit {0}) LineError
 
 -- what holds if the line has an error; nothing is stated if an allocation failed
 abbrev pub IfFault : LineResult → Type 0 → Type 0
-IfFault (Err (lines.Fault kind)) Stands = Stands
-IfFault _ Stands = Unit {0}
+IfFault (Err (lines.Fault kind)) Claim = Claim
+IfFault _ Claim = Unit {0}
 
 -- Declarations without an error are made.
 abbrev pub AreDeclared : Draft → Declarations → LineResult → Draft → Type 0

@@ -23,8 +23,8 @@ pub record WasFed {L : Type 0} (has_read : L → List (List ℕ) → Type 0) (at
   pub fed : IsFed has_read at_end reader bytes
 
 -- After the line that ends the text was read, nothing is kept.
-abbrev pub KeepsNoneBehindEnd : {L : Type 0} → (L → Bool) → PieceReader L → Type 0
-KeepsNoneBehindEnd at_end reader = at_end reader.lines ≡ true → reader.open_line.bytes ≡ []
+abbrev pub KeepsNothingAfterEnd : {L : Type 0} → (L → Bool) → PieceReader L → Type 0
+KeepsNothingAfterEnd at_end reader = at_end reader.lines ≡ true → reader.open_line.bytes ≡ []
 
 -- A piece after other bytes completes the line that has the first error; or an allocation failed.
 abbrev pub RefusesPiece : {L : Type 0} → (L → List (List ℕ) → Type 0) → (L → Bool) → (List (List ℕ) → Fault → Type 0) → PieceReader L → List ℕ → ReadFault → Type 0

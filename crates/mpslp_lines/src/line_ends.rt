@@ -27,7 +27,7 @@ pub(crate) fn split_at_first_feed(piece: &[u8]) -> Option<(&[u8], &[u8])>
 }
 
 /// The lines up to and including the last line feed, and the rest.
-pub(crate) fn split_behind_last_feed(piece: &[u8]) -> (&[u8], &[u8])
+pub(crate) fn split_after_last_feed(piece: &[u8]) -> (&[u8], &[u8])
     ensures parts { result.0.now ++ result.1.now ≡ piece.now }
     ensures lines { open_tail result.0.now ≡ [] }
     ensures rest { HasNoFeed result.1.now }

@@ -6,7 +6,7 @@ ghost use Rattle.mpslp_model.specs.Formats.{IsAnswerTo};
 ghost use Rattle.mpslp_lines.specs.OpenLine.{Keeps};
 ghost use Rattle.mpslp_lines.specs.Pieces.{IsFed, WasFed, Feeds, EndsText};
 
-use crate::line_ends::{split_at_first_feed, split_behind_last_feed, without_return};
+use crate::line_ends::{split_after_last_feed, split_at_first_feed, without_return};
 use crate::open_line::OpenLine;
 use crate::read_lines::{ReadLines, read_lines};
 use mpslp_model::{Model, ReadFault};
@@ -69,7 +69,7 @@ impl<L: ReadLines> PieceReader<L> {
         requires anew { Keeps self.old.open_line [] }
         ensures { Feeds L.has_read L.at_end L.lines_fault self.old piece.now self.new result }
     {
-        let (complete, rest) = split_behind_last_feed(piece);
+        let (complete, rest) = split_after_last_feed(piece);
         read_lines(&mut self.lines, complete)?;
         if self.lines.is_at_end() {
             return Ok(());

@@ -63,7 +63,7 @@ pub trait ReadLines: Drop {
         ensures { (bytes : List ℕ) → has_read self (lines bytes) → IsAnswerTo declares first_fault bytes result };
 
     /// Lines after the one that ends the text change nothing.
-    ghost behind_end: { (reader : Self) (text more : List (List ℕ)) → has_read reader text → at_end reader ≡ true → has_read reader (text ++ more) };
+    ghost after_end: { (reader : Self) (text more : List (List ℕ)) → has_read reader text → at_end reader ≡ true → has_read reader (text ++ more) };
 
     /// Lines that were read have no error.
     ghost read_is_clean: { (reader : Self) (text : List (List ℕ)) (fault : Fault) → has_read reader text → lines_fault text fault → ⊥ };

@@ -18,13 +18,13 @@ pub struct TextReader<L: ReadLines> {
 impl<L: ReadLines> Model for TextReader<L> {
     ghost use Rattle.std.specs.Prelude.{Option, IfSome};
     ghost use Rattle.mpslp_lines.specs.declared.piece_reader.PieceReader.{PieceReader};
-    ghost use Rattle.mpslp_lines.specs.Pieces.{WasFed, KeepsNoneBehindEnd};
+    ghost use Rattle.mpslp_lines.specs.Pieces.{WasFed, KeepsNothingAfterEnd};
 
     ghost Value = { Option (PieceReader L) };
 
     ghost view = { λ reader. reader.pieces };
 
-    ghost invariant = { λ reader. IfSome reader.pieces (λ pieces. WasFed L.has_read L.at_end pieces × KeepsNoneBehindEnd L.at_end pieces) };
+    ghost invariant = { λ reader. IfSome reader.pieces (λ pieces. WasFed L.has_read L.at_end pieces × KeepsNothingAfterEnd L.at_end pieces) };
 }
 
 impl<L: ReadLines> ModelReader for TextReader<L> {

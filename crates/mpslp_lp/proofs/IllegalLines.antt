@@ -159,7 +159,7 @@ line-taken context after state next line short goes = by (has_legal_bytes line) 
 pub line-refused : (context after : Context) (state : State) (line : List ℕ) (error reported : LineError) → has_legal_length line ≡ true
     → TakesToken (take_tokens context state (tokens line)) (Err error) after → reported ≡ (if has_legal_bytes line then error else Fault BadByte)
     → TakesToken (take_line context state line) (Err reported) after
-line-refused context after state line error reported short refused reported_is = subst (λ (told : LineError). TakesToken (take_line context state line) (Err told) after) (sym reported_is) (by (has_legal_bytes line) refl)
+line-refused context after state line error reported short refused reported_is = subst (λ (stated : LineError). TakesToken (take_line context state line) (Err stated) after) (sym reported_is) (by (has_legal_bytes line) refl)
   where
     by : (legal : Bool) → has_legal_bytes line ≡ legal → TakesToken (take_line context state line) (Err (if legal then error else Fault BadByte)) after
     by true e = subst (λ (taken : AfterToken). TakesToken taken (Err error) after) (sym (line-legal context state line short e)) refused

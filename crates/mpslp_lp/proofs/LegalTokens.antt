@@ -197,11 +197,11 @@ below (suc n) p h m w = by (m == n) refl (below n p (right (p n) (all_below n p)
     by true e later = ap p (eqb-true m n e) ∙ left (p n) (all_below n p) h
     by false e later = later (not_same m n e w)
 
-abbrev is_told : ℕ → Bool
-is_told b = not (plain b && not (is_blank b)) || is_some (kind_of (b ∷ []))
+abbrev is_stated : ℕ → Bool
+is_stated b = not (plain b && not (is_blank b)) || is_some (kind_of (b ∷ []))
 
-all-told : all_below 127 is_told ≡ true
-all-told = refl
+all-stated : all_below 127 is_stated ≡ true
+all-stated = refl
 
 plain-below : (b : ℕ) → plain b ≡ true → b < 127
 plain-below b h = grind (arith, nat_tests)
@@ -211,26 +211,26 @@ unknown-bad b k none = by (plain b) refl
   where
     by : (x : Bool) → plain b ≡ x → x ≡ false
     by true e =
-        let told : is_told b ≡ true = below 127 is_told all-told b (plain-below b e) in
-        let clash : false ≡ true = (λ i. not (sym e i && not (sym k i)) || is_some (sym none i)) ∙ told in cc
+        let stated : is_stated b ≡ true = below 127 is_stated all-stated b (plain-below b e) in
+        let clash : false ≡ true = (λ i. not (sym e i && not (sym k i)) || is_some (sym none i)) ∙ stated in cc
     by false e = refl
 
-abbrev IsTold : ℕ → List ℕ → Front → Bool → Type 0
-IsTold b bs front true = list_all plain (take front.size (b ∷ bs)) ≡ true
-IsTold b bs front false = plain b ≡ false
+abbrev IsReported : ℕ → List ℕ → Front → Bool → Type 0
+IsReported b bs front true = list_all plain (take front.size (b ∷ bs)) ≡ true
+IsReported b bs front false = plain b ≡ false
 
-told : (b : ℕ) (bs : List ℕ) → is_blank b ≡ false → IsTold b bs (token_at (b ∷ bs)) (is_known (token_at (b ∷ bs)).kind)
-told b bs k = by (longest_token (b ∷ bs)) refl
+stated : (b : ℕ) (bs : List ℕ) → is_blank b ≡ false → IsReported b bs (token_at (b ∷ bs)) (is_known (token_at (b ∷ bs)).kind)
+stated b bs k = by (longest_token (b ∷ bs)) refl
   where
     take_one : (xs : List ℕ) → take 1 (b ∷ xs) ≡ b ∷ []
     take_one [] = refl
     take_one (x ∷ xs) = refl
 
-    by : (o : Option Front) → longest_token (b ∷ bs) ≡ o → IsTold b bs (elim o as (λ _. Front) [ Some f ↦ f | None ↦ record { kind = kinds.Unknown; size = 1 } ])
+    by : (o : Option Front) → longest_token (b ∷ bs) ≡ o → IsReported b bs (elim o as (λ _. Front) [ Some f ↦ f | None ↦ record { kind = kinds.Unknown; size = 1 } ])
         (is_known (elim o as (λ _. Front) [ Some f ↦ f | None ↦ record { kind = kinds.Unknown; size = 1 } ]).kind)
     by (Some f) e =
         let p = kind-plain (take f.size (b ∷ bs)) f.kind (front-kind (length (b ∷ bs)) (b ∷ bs) f e) in
-        subst (λ (x : Bool). IsTold b bs f x) (sym p.1) p.0
+        subst (λ (x : Bool). IsReported b bs f x) (sym p.1) p.0
     by None e = unknown-bad b k (ap kind_of (sym (take_one bs)) ∙ none-shorter (length (b ∷ bs)) (b ∷ bs) e 1 (omega arith) (omega arith))
 
 -- ---- a line
@@ -278,12 +278,12 @@ legal-from (b ∷ bs) place zero h = by (begins_comment b) (is_blank b) refl ref
         ])
     by true blank c k more = ap (list_all is_legal_byte) (before-here begins_comment b bs c)
     by false true c k more = legal-plain b bs (blank-plain b k) ∙ more 0 (take_none bs)
-    by false false c k more = known (is_known (token_at (b ∷ bs)).kind) (token_at (b ∷ bs)).size refl refl (told b bs k)
+    by false false c k more = known (is_known (token_at (b ∷ bs)).kind) (token_at (b ∷ bs)).size refl refl (stated b bs k)
       where
         less : (m : ℕ) → suc m - 1 ≡ m
         less m = omega arith
 
-        known : (x : Bool) (n : ℕ) → is_known (token_at (b ∷ bs)).kind ≡ x → (token_at (b ∷ bs)).size ≡ n → IsTold b bs (token_at (b ∷ bs)) x
+        known : (x : Bool) (n : ℕ) → is_known (token_at (b ∷ bs)).kind ≡ x → (token_at (b ∷ bs)).size ≡ n → IsReported b bs (token_at (b ∷ bs)) x
             → has_legal_bytes (b ∷ bs) ≡ (x && all_known (tokens_from (place + 1) ((token_at (b ∷ bs)).size - 1) bs))
         known false n e f t = legal-bad b bs c t
         known true zero e f t = absurd (omega (arith, f, (token-within b bs).0))

@@ -55,29 +55,29 @@ unfolding trailing_zeros
 one-sound = refl
 
 -- the state before the name of a term
-record BeforeName (context : Context) (start : State) (found behind : List Token) (column : List ℕ) (result : AfterToken) : Type 0 where
+record BeforeName (context : Context) (start : State) (found following : List Token) (column : List ℕ) (result : AfterToken) : Type 0 where
   state : State
-  comes : take_tokens context start found ≡ take_tokens context state behind
+  comes : take_tokens context start found ≡ take_tokens context state following
   takes : take context state (Name column) ≡ result
 
 module _ (context : Context) (start : State) (taken : Decimal → AfterToken) (found more : List Token) (sign : SignOf) (literal column : List ℕ) (p : IsPlainTerm found sign literal column more) (way : LeadsTo context start sign column taken) where
   -- up to the number, and up to the name
-  behind-sign : take_tokens context start found ≡ take_tokens context way.signs p.behind_sign
-  behind-sign = step context context start way.signs found p.behind_sign (Sign sign) p.sign way.to_signs
+  after-sign : take_tokens context start found ≡ take_tokens context way.signs p.after_sign
+  after-sign = step context context start way.signs found p.after_sign (Sign sign) p.sign way.to_signs
 
-  context-name : number_fault literal ≡ None → BeforeName context start found p.term.behind_number column (taken (apply_sign sign (value_of literal)))
+  context-name : number_fault literal ≡ None → BeforeName context start found p.term.after_number column (taken (apply_sign sign (value_of literal)))
   context-name none = elim p.term.number [
     | inl number ↦ record {
       state = way.numbered (value_of literal);
-      comes = behind-sign
-          ∙ step context context way.signs (way.numbered (value_of literal)) p.behind_sign p.term.behind_number (Number (value_of literal))
-          (as-begins p.behind_sign p.term.behind_number literal number none) (way.to_number (value_of literal));
+      comes = after-sign
+          ∙ step context context way.signs (way.numbered (value_of literal)) p.after_sign p.term.after_number (Number (value_of literal))
+          (as-begins p.after_sign p.term.after_number literal number none) (way.to_number (value_of literal));
       takes = way.to_name (value_of literal);
     }
-    | inr alone ↦ record {
+    | inr unnumbered ↦ record {
       state = way.signs;
-      comes = behind-sign ∙ ap (take_tokens context way.signs) (sym alone.1);
-      takes = way.alone ∙ ap (λ (v : Decimal). taken (apply_sign sign v)) (one-value ∙ ap value_of (sym alone.0));
+      comes = after-sign ∙ ap (take_tokens context way.signs) (sym unnumbered.1);
+      takes = way.unnumbered ∙ ap (λ (v : Decimal). taken (apply_sign sign v)) (one-value ∙ ap value_of (sym unnumbered.0));
     }
   ]
 
@@ -86,7 +86,7 @@ module _ (context : Context) (start : State) (taken : Decimal → AfterToken) (f
       → take_tokens after next more ≡ take_tokens context start found
   plain-goes after next none goes =
       let named = context-name none in
-      sym (named.comes ∙ step context after named.state next p.term.behind_number more (Name column) p.term.name (named.takes ∙ goes))
+      sym (named.comes ∙ step context after named.state next p.term.after_number more (Name column) p.term.name (named.takes ∙ goes))
 
   -- a term with an error
   pub plain-refused : (after : Context) (error : LineError) → number_fault literal ≡ None → TakesToken (taken (apply_sign sign (value_of literal))) (Err error) after
@@ -103,12 +103,12 @@ module _ (context : Context) (start : State) (taken : Decimal → AfterToken) (f
       → TakesToken (take_tokens context start found) (Err error) after
   plain-number after kind error some least = elim p.term.number [
     | inl number ↦
-        let same : token_faults p.term.behind_number ≡ token_faults more =
+        let same : token_faults p.term.after_number ≡ token_faults more =
         ap token_faults p.term.name.tokens ∙ ap (λ (o : Option FaultKind). cons_option o (token_faults more)) p.term.name.sound in
-        subst (λ (t : AfterToken). TakesToken t (Err error) after) (sym (behind-sign ∙ ap (take_tokens context way.signs) number.tokens))
-        (tokens-own context after way.signs number.token p.term.behind_number kind error ((λ i. token_fault (number.kind i) (number.text i)) ∙ some)
+        subst (λ (t : AfterToken). TakesToken t (Err error) after) (sym (after-sign ∙ ap (take_tokens context way.signs) number.tokens))
+        (tokens-own context after way.signs number.token p.term.after_number kind error ((λ i. token_fault (number.kind i) (number.text i)) ∙ some)
         (subst (λ (faults : List FaultKind). IsLeastError (kind ∷ faults) error) (sym same) least))
-    | inr alone ↦ absurd (none-some kind (one-sound ∙ ap number_fault (sym alone.0) ∙ some))
+    | inr unnumbered ↦ absurd (none-some kind (one-sound ∙ ap number_fault (sym unnumbered.0) ∙ some))
   ]
 
 -- ---- from where terms are taken
@@ -121,18 +121,18 @@ in-row context row sign column = record {
   to_signs = refl;
   to_number = λ value. refl;
   to_name = λ value. refl;
-  alone = refl;
+  unnumbered = refl;
 }
 
-pub behind-label : (context : Context) (name : List ℕ) (sign : SignOf) (column : List ℕ)
+pub after-label : (context : Context) (name : List ℕ) (sign : SignOf) (column : List ℕ)
     → LeadsTo context (RowLabel name) sign column (λ value. take_term context (OfRow (without_terms name None)) column value (Name column))
-behind-label context name sign column = record {
+after-label context name sign column = record {
   signs = RowSign name sign;
   numbered = λ value. RowNumber name sign value;
   to_signs = refl;
   to_number = λ value. refl;
   to_name = λ value. refl;
-  alone = refl;
+  unnumbered = refl;
 }
 
 pub in-objective : (context : Context) (objective : List ℕ) (sign : SignOf) (column : List ℕ)
@@ -143,7 +143,7 @@ in-objective context objective sign column = record {
   to_signs = refl;
   to_number = λ value. refl;
   to_name = λ value. refl;
-  alone = refl;
+  unnumbered = refl;
 }
 
 -- ---- a term of a row

@@ -21,8 +21,8 @@ ended-reads context AfterEnd [] h = refl
 ended-reads context AfterEnd (line ∷ more) h = refl
 ended-reads context _ more h = cc
 
-pub read-behind_end : (reader : LineReader) (text more : List (List ℕ)) → HasRead reader text → is_ended reader ≡ true → HasRead reader (text ++ more)
-read-behind_end reader text more led ended = record {
+pub read-after_end : (reader : LineReader) (text more : List (List ℕ)) → HasRead reader text → is_ended reader ≡ true → HasRead reader (text ++ more)
+read-after_end reader text more led ended = record {
   counted = led.counted;
   decides = λ rest.
       ap lines_outcome (append_assoc text more rest) ∙ led.decides (more ++ rest)

@@ -36,16 +36,16 @@ pub record BeginsWithNumber (found : List Token) (literal : List ℕ) (more : Li
 
 -- The tokens begin with a number and a name, or with a name only, so that the number is 1, and the others follow.
 pub record IsUnsignedTerm (found : List Token) (literal column : List ℕ) (more : List Token) : Type 0 where
-  pub behind_number : List Token
-  pub number : BeginsWithNumber found literal behind_number ⊎ ((literal ≡ codes "1") × (behind_number ≡ found))
-  pub name : Begins behind_number (Name column) more
+  pub after_number : List Token
+  pub number : BeginsWithNumber found literal after_number ⊎ ((literal ≡ codes "1") × (after_number ≡ found))
+  pub name : Begins after_number (Name column) more
   pub legal : IsMpsName column
 
 -- The tokens begin with a sign and such a term, and the others follow.
 pub record IsPlainTerm (found : List Token) (first : SignOf) (literal column : List ℕ) (more : List Token) : Type 0 where
-  pub behind_sign : List Token
-  pub sign : Begins found (Sign first) behind_sign
-  pub term : IsUnsignedTerm behind_sign literal column more
+  pub after_sign : List Token
+  pub sign : Begins found (Sign first) after_sign
+  pub term : IsUnsignedTerm after_sign literal column more
 
 -- From this state a sign, a number or none, and a name of a term lead to what is taken for the value of the term.
 pub record LeadsTo (context : Context) (start : State) (first : SignOf) (column : List ℕ) (taken : Decimal → AfterToken) : Type 0 where
@@ -54,7 +54,7 @@ pub record LeadsTo (context : Context) (start : State) (first : SignOf) (column 
   pub to_signs : take context start (Terminal.Sign first) ≡ Goes context signs
   pub to_number : (value : Decimal) → take context signs (Terminal.Number value) ≡ Goes context (numbered value)
   pub to_name : (value : Decimal) → take context (numbered value) (Terminal.Name column) ≡ taken (apply_sign first value)
-  pub alone : take context signs (Terminal.Name column) ≡ taken (apply_sign first one)
+  pub unnumbered : take context signs (Terminal.Name column) ≡ taken (apply_sign first one)
 
 -- Taking some tokens of a row at once has the same effect as taking them one after another.
 abbrev pub TakesInRow : Context → PartialRow → List Token → Result PartialRow LineError → List Token → Type 0

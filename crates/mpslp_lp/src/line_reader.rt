@@ -30,7 +30,7 @@ impl ReadLines for LineReader {
     ghost use Rattle.mpslp_lp.specs.LpText.{DeclaresLp};
     ghost use Rattle.mpslp_lp.specs.FirstFault.{IsFirstLpFault};
     ghost use Rattle.mpslp_lp.specs.Fed.{HasRead, is_ended, IsFaultOfLines};
-    ghost use Rattle.mpslp_lp.specs.FedLaws.{read-behind_end, read-is_clean, lines_fault-stays, lines_fault-is_first};
+    ghost use Rattle.mpslp_lp.specs.FedLaws.{read-after_end, read-is_clean, lines_fault-stays, lines_fault-is_first};
 
     ghost has_read = { HasRead };
 
@@ -80,7 +80,7 @@ impl ReadLines for LineReader {
         context.into_builder().finish_by_columns()
     }
 
-    ghost behind_end = { read-behind_end };
+    ghost after_end = { read-after_end };
 
     ghost read_is_clean = { read-is_clean };
 

@@ -27,21 +27,21 @@ use Rattle.mpslp_lp_grammar.specs.Declares.{DeclaresUnless, Declares}
 
 -- ---- a call that is rejected
 
-error_told : (earlier later : Draft) (made : Declarations) (refusals : List BuildFault) (fault : BuildFault) → head_of refusals ≡ Some fault
+error_reported : (earlier later : Draft) (made : Declarations) (refusals : List BuildFault) (fault : BuildFault) → head_of refusals ≡ Some fault
     → DeclaresUnless refusals earlier made (Err (error_of_build fault)) later
-error_told earlier later made refusals builds.OutOfMemory e = tt
-error_told earlier later made refusals builds.DuplicateSense e = ap (option_map kind_of_build_fault) e
-error_told earlier later made refusals builds.SecondObjective e = ap (option_map kind_of_build_fault) e
-error_told earlier later made refusals builds.UnknownRow e = ap (option_map kind_of_build_fault) e
-error_told earlier later made refusals builds.UnknownColumn e = ap (option_map kind_of_build_fault) e
-error_told earlier later made refusals builds.DuplicateRow e = ap (option_map kind_of_build_fault) e
-error_told earlier later made refusals builds.DuplicateEntry e = ap (option_map kind_of_build_fault) e
-error_told earlier later made refusals builds.DuplicateRhs e = ap (option_map kind_of_build_fault) e
-error_told earlier later made refusals builds.DuplicateRange e = ap (option_map kind_of_build_fault) e
-error_told earlier later made refusals builds.DuplicateBound e = ap (option_map kind_of_build_fault) e
-error_told earlier later made refusals builds.RangeOnFree e = ap (option_map kind_of_build_fault) e
-error_told earlier later made refusals builds.SemiContinuous e = ap (option_map kind_of_build_fault) e
-error_told earlier later made refusals builds.InfiniteValue e = ap (option_map kind_of_build_fault) e
+error_reported earlier later made refusals builds.OutOfMemory e = tt
+error_reported earlier later made refusals builds.DuplicateSense e = ap (option_map kind_of_build_fault) e
+error_reported earlier later made refusals builds.SecondObjective e = ap (option_map kind_of_build_fault) e
+error_reported earlier later made refusals builds.UnknownRow e = ap (option_map kind_of_build_fault) e
+error_reported earlier later made refusals builds.UnknownColumn e = ap (option_map kind_of_build_fault) e
+error_reported earlier later made refusals builds.DuplicateRow e = ap (option_map kind_of_build_fault) e
+error_reported earlier later made refusals builds.DuplicateEntry e = ap (option_map kind_of_build_fault) e
+error_reported earlier later made refusals builds.DuplicateRhs e = ap (option_map kind_of_build_fault) e
+error_reported earlier later made refusals builds.DuplicateRange e = ap (option_map kind_of_build_fault) e
+error_reported earlier later made refusals builds.DuplicateBound e = ap (option_map kind_of_build_fault) e
+error_reported earlier later made refusals builds.RangeOnFree e = ap (option_map kind_of_build_fault) e
+error_reported earlier later made refusals builds.SemiContinuous e = ap (option_map kind_of_build_fault) e
+error_reported earlier later made refusals builds.InfiniteValue e = ap (option_map kind_of_build_fault) e
 
 same_fault : (a b : BuildFault) → ◌≡◌ {A = Answer} (Err a) (Err b) → a ≡ b
 same_fault a b e = cc
@@ -52,35 +52,35 @@ refused-first : (earlier later : Draft) (made : Declarations) (faults more : Lis
 refused-first earlier later made [] more fault P Q answer =
     subst (λ (f : BuildFault). DeclaresUnless more earlier made (Err (error_of_build f)) later) (sym answer.0) tt
 refused-first earlier later made (first ∷ faults) more fault P Q answer =
-    error_told earlier later made (first ∷ faults ++ more) fault (ap (λ (f : BuildFault). Some f) (sym (same_fault fault first answer.0)))
+    error_reported earlier later made (first ∷ faults ++ more) fault (ap (λ (f : BuildFault). Some f) (sym (same_fault fault first answer.0)))
 
-pub told-by : (refusals : List BuildFault) (earlier later : Draft) (made : Declarations) (answer : LineResult) (error : LineError) → IsErrAnd answer (λ e. e ≡ error)
+pub reported-by : (refusals : List BuildFault) (earlier later : Draft) (made : Declarations) (answer : LineResult) (error : LineError) → IsErrAnd answer (λ e. e ≡ error)
     → DeclaresUnless refusals earlier made (Err error) later → DeclaresUnless refusals earlier made answer later
-told-by refusals earlier later made (Ok u) error h d = absurd h
-told-by refusals earlier later made (Err e) error h d = subst (λ (x : LineError). DeclaresUnless refusals earlier made (Err x) later) (sym h) d
+reported-by refusals earlier later made (Ok u) error h d = absurd h
+reported-by refusals earlier later made (Err e) error h d = subst (λ (x : LineError). DeclaresUnless refusals earlier made (Err x) later) (sym h) d
 
 pub refused-declares : (earlier later : Draft) (d : Declaration) (fault : BuildFault) (P Q : Type 0) (answer : LineResult) → IsErrAnd answer (λ e. e ≡ error_of_build fault)
     → Answers (refusals earlier d) (Err fault) P Q → Declares earlier (d ∷ []) answer later
-refused-declares earlier later d fault P Q answer told refused =
-    told-by (refusals_in_turn earlier (d ∷ [])) earlier later (d ∷ []) answer (error_of_build fault) told (refused-first earlier later (d ∷ []) (refusals earlier d) [] fault P Q refused)
+refused-declares earlier later d fault P Q answer stated refused =
+    reported-by (refusals_in_turn earlier (d ∷ [])) earlier later (d ∷ []) answer (error_of_build fault) stated (refused-first earlier later (d ∷ []) (refusals earlier d) [] fault P Q refused)
 
 pub refused-unless : (faults : List BuildFault) (earlier later : Draft) (made : Declarations) (fault : BuildFault) (P Q : Type 0) (answer : LineResult) → IsErrAnd answer (λ e. e ≡ error_of_build fault)
     → Answers faults (Err fault) P Q → DeclaresUnless faults earlier made answer later
-refused-unless faults earlier later made fault P Q answer told refused =
-    told-by faults earlier later made answer (error_of_build fault) told (by faults refused)
+refused-unless faults earlier later made fault P Q answer stated refused =
+    reported-by faults earlier later made answer (error_of_build fault) stated (by faults refused)
   where
     by : (fs : List BuildFault) → Answers fs (Err fault) P Q → DeclaresUnless fs earlier made (Err (error_of_build fault)) later
     by [] a = subst (λ (f : BuildFault). DeclaresUnless [] earlier made (Err (error_of_build f)) later) (sym a.0) tt
-    by (first ∷ more) a = error_told earlier later made (first ∷ more) fault (ap (λ (f : BuildFault). Some f) (sym (same_fault fault first a.0)))
+    by (first ∷ more) a = error_reported earlier later made (first ∷ more) fault (ap (λ (f : BuildFault). Some f) (sym (same_fault fault first a.0)))
 
 -- the first error of declarations in turn, or a call without memory
 pub refused-in_turn : (earlier later : Draft) (made : Declarations) (fault : BuildFault) (answer : LineResult) → IsErrAnd answer (λ e. e ≡ error_of_build fault)
     → DeclaresInTurn earlier made (Err fault) later → Declares earlier made answer later
-refused-in_turn earlier later made fault answer told (inl none) =
-    told-by (refusals_in_turn earlier made) earlier later made answer (error_of_build fault) told
+refused-in_turn earlier later made fault answer stated (inl none) =
+    reported-by (refusals_in_turn earlier made) earlier later made answer (error_of_build fault) stated
     (subst (λ (f : BuildFault). DeclaresUnless (refusals_in_turn earlier made) earlier made (Err (error_of_build f)) later) (sym none) tt)
-refused-in_turn earlier later made fault answer told (inr first) =
-    told-by (refusals_in_turn earlier made) earlier later made answer (error_of_build fault) told (error_told earlier later made (refusals_in_turn earlier made) fault first)
+refused-in_turn earlier later made fault answer stated (inr first) =
+    reported-by (refusals_in_turn earlier made) earlier later made answer (error_of_build fault) stated (error_reported earlier later made (refusals_in_turn earlier made) fault first)
 
 -- ---- declarations one after another
 

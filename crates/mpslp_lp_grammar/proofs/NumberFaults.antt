@@ -30,12 +30,12 @@ tested-number literal = by (number_fault literal) refl
         (list_any (is_kind kinds.BadNumber) (cons_option o []), kinds.BadNumber) ∷ (list_any (is_kind kinds.LongNumber) (cons_option o []), kinds.LongNumber)
         ∷ (list_any (is_kind kinds.TooManyDigits) (cons_option o []), kinds.TooManyDigits) ∷ (list_any (is_kind kinds.ExponentRange) (cons_option o []), kinds.ExponentRange) ∷ []
 
-    told : (r : Result Number NumberFault) → first_held (tests_of (kind_in r)) ≡ kind_in r
-    told (Ok value) = refl
-    told (Err numbers.BadNumber) = refl
-    told (Err numbers.LongNumber) = refl
-    told (Err numbers.TooManyDigits) = refl
-    told (Err numbers.ExponentRange) = refl
+    stated : (r : Result Number NumberFault) → first_held (tests_of (kind_in r)) ≡ kind_in r
+    stated (Ok value) = refl
+    stated (Err numbers.BadNumber) = refl
+    stated (Err numbers.LongNumber) = refl
+    stated (Err numbers.TooManyDigits) = refl
+    stated (Err numbers.ExponentRange) = refl
 
     by : (o : Option FaultKind) → number_fault literal ≡ o → first_held (tests_of o) ≡ o
-    by o e = ap (λ (x : Option FaultKind). first_held (tests_of x)) (sym e ∙ fault-is) ∙ told (number_of literal) ∙ sym fault-is ∙ e
+    by o e = ap (λ (x : Option FaultKind). first_held (tests_of x)) (sym e ∙ fault-is) ∙ stated (number_of literal) ∙ sym fault-is ∙ e

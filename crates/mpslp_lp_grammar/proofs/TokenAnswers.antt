@@ -20,9 +20,9 @@ use Rattle.mpslp_lp_grammar.specs.Declares.{DeclaresUnless, TokenResult, TakesTo
 
 -- ---- declarations
 
-told-kind : (context : Context) (terminal : Terminal) (refusal : BuildFault) (kind : FaultKind) → terminal_fault context terminal ≡ None
+stated-kind : (context : Context) (terminal : Terminal) (refusal : BuildFault) (kind : FaultKind) → terminal_fault context terminal ≡ None
     → ◌≡◌ {A = Option FaultKind} (Some (kind_of_build_fault refusal)) (Some kind) → refuse context terminal (kind_of_build_fault refusal) ≡ Refuses kind
-told-kind context terminal refusal kind none told =
+stated-kind context terminal refusal kind none stated =
     let same : kind_of_build_fault refusal ≡ kind = cc in
     ap (λ (o : Option FaultKind). Refuses (unwrap_or o (kind_of_build_fault refusal))) none ∙ ap (λ (k : FaultKind). Refuses k) same
 
@@ -39,7 +39,7 @@ completes context later terminal refusals place made answer result none is decla
         ap (λ (fs : List BuildFault). declare_unless_refused context terminal fs place made) h.0
         ∙ ap (λ (d : Draft). Goes (record context { earlier = d }) (Between place)) (sym h.1)
     by (Err (Fault kind)) [] h = cc
-    by (Err (Fault kind)) (refusal ∷ more) h = told-kind context terminal refusal kind none h
+    by (Err (Fault kind)) (refusal ∷ more) h = stated-kind context terminal refusal kind none h
     by (Err OutOfMemory) faults h = tt
 
 -- ---- terms

@@ -267,9 +267,9 @@ left-heard seen earlier line xs made part =
     }
 
 -- no second side
-left-alone : (seen : SectionsSeen) (earlier : Draft) (line : ℕ → ℕ) (xs : List Terminal) (made : Declarations) (x : Terminal) (tail : List Terminal) (left : LeftBound seen earlier line (x ∷ tail) made)
+left-only : (seen : SectionsSeen) (earlier : Draft) (line : ℕ → ℕ) (xs : List Terminal) (made : Declarations) (x : Terminal) (tail : List Terminal) (left : LeftBound seen earlier line (x ∷ tail) made)
     → length left.rest ≤ length tail → is_no_relation (first_of_all left.rest) ≡ true → OneBound seen earlier line (x ∷ tail) made
-left-alone seen earlier line xs made x tail left short no_relation =
+left-only seen earlier line xs made x tail left short no_relation =
     let tokens : List Terminal = side_tokens left.part ++ Compares left.relation ∷ Name left.column ∷ [] in
     let declared : declare_column left.column ∷ limits_declared left.column (limits_by (flip left.relation) (limit left.part)) ≡ bound_declares (turned_bound left.part left.relation left.column) =
     ap (λ (ds : Declarations). declare_column left.column ∷ ds) (ap (λ (r : Relation). limits_declared left.column (limits_by r (limit left.part))) (flipped left.relation) ∙ by-relation left.column (turned left.relation) (limit left.part)) in
@@ -376,8 +376,8 @@ left-bound seen earlier line made x tail left = by left.rest refl
       where
         left-shorter_tail : (q : Relation) (ys : List Terminal) → left.rest ≡ Compares q ∷ ys → length ys ≤ length tail
         left-shorter_tail q ys same = omega (arith, short, ap (λ (zs : List Terminal). length zs) same)
-    by [] e = left-alone seen earlier line tail made x tail left short (ap (λ (ys : List Terminal). is_no_relation (first_of_all ys)) e)
-    by (_ ∷ ws) e = left-alone seen earlier line tail made x tail left short (ap (λ (ys : List Terminal). is_no_relation (first_of_all ys)) e)
+    by [] e = left-only seen earlier line tail made x tail left short (ap (λ (ys : List Terminal). is_no_relation (first_of_all ys)) e)
+    by (_ ∷ ws) e = left-only seen earlier line tail made x tail left short (ap (λ (ys : List Terminal). is_no_relation (first_of_all ys)) e)
 
 -- ---- a bound
 

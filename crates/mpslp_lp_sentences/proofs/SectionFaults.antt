@@ -61,8 +61,8 @@ grown sections_seen (Opens word) = with_section sections_seen (section_of word)
 grown sections_seen _ = sections_seen
 
 -- An error of sections is that of the token itself.
-abbrev Tells : Option FaultKind → FaultKind → Type 0
-Tells own kind = is_of_sections kind ≡ true → own ≡ Some kind
+abbrev States : Option FaultKind → FaultKind → Type 0
+States own kind = is_of_sections kind ≡ true → own ≡ Some kind
 
 -- the section of a state
 abbrev pub section_at_place : Place → Option Section
@@ -114,12 +114,12 @@ section_after here _ = here
 
 abbrev KeepsSections : Context → Option Section → Terminal → AfterToken → Type 0
 KeepsSections context here token (Goes after next) = (after.sections_seen ≡ grown context.sections_seen token) × (section_at next ≡ section_after here token)
-KeepsSections context here token (Refuses kind) = Tells (terminal_fault context token) kind
+KeepsSections context here token (Refuses kind) = States (terminal_fault context token) kind
 
 refused : (context : Context) (here : Option Section) (token : Terminal) (kind : FaultKind) → is_of_sections kind ≡ false → KeepsSections context here token (refuse context token kind)
 refused context here token kind other = by (terminal_fault context token) refl
   where
-    by : (o : Option FaultKind) → terminal_fault context token ≡ o → Tells (terminal_fault context token) (unwrap_or o kind)
+    by : (o : Option FaultKind) → terminal_fault context token ≡ o → States (terminal_fault context token) (unwrap_or o kind)
     by (Some own) e = λ h. e
     by None e = λ h. absurd (clash (sym other ∙ h))
       where
@@ -271,7 +271,7 @@ first-later context made place token = by (begin place (with_made context made) 
     by (Goes after next) h = h
     by (Refuses kind) h = same token h
       where
-        same : (t : Terminal) → Tells (terminal_fault (with_made context made) t) kind → Tells (terminal_fault context t) kind
+        same : (t : Terminal) → States (terminal_fault (with_made context made) t) kind → States (terminal_fault context t) kind
         same (Opens word) k = k
         same _ k = k
 

@@ -172,12 +172,12 @@ before-rows (semis _ _ ∷ parts) = before-rows parts
 abbrev pub after_rows : SectionsSeen
 after_rows = with_section after_word kinds.Rows
 
-behind-rows : (parts : List Section) → list_all (is_fresh after_rows) parts ≡ true
-behind-rows [] = refl
-behind-rows (bounds _ ∷ parts) = behind-rows parts
-behind-rows (generals _ ∷ parts) = behind-rows parts
-behind-rows (binaries _ ∷ parts) = behind-rows parts
-behind-rows (semis _ _ ∷ parts) = behind-rows parts
+after-rows : (parts : List Section) → list_all (is_fresh after_rows) parts ≡ true
+after-rows [] = refl
+after-rows (bounds _ ∷ parts) = after-rows parts
+after-rows (generals _ ∷ parts) = after-rows parts
+after-rows (binaries _ ∷ parts) = after-rows parts
+after-rows (semis _ _ ∷ parts) = after-rows parts
 
 module _ (last : ℕ) (later : Tokens) where
   -- ---- one section
@@ -276,7 +276,7 @@ module _ (last : ℕ) (later : Tokens) where
       (whole-opening opening place earlier (flat_map row_tokens lines ++ flat_map section_tokens parts) _ may (first_so (opens_rows opening) (list_all is_row lines) ok)
       (whole-rows last later after_rows lines 1 earlier (flat_map section_tokens parts) (flat_map section_declares parts) (second_so (opens_rows opening) (list_all is_row lines) ok)
       (ap (λ (entries : List _). length entries + 1) (sym none)) sorted taken.0
-      (whole-sections parts after_rows (with_declarations earlier made) elsewhere (record { begun = refl; open_still = refl }) (behind-rows parts) good taken.1)))
+      (whole-sections parts after_rows (with_declarations earlier made) elsewhere (record { begun = refl; open_still = refl }) (after-rows parts) good taken.1)))
 
   -- ---- the file
 

@@ -11,7 +11,7 @@ use Rattle.mpslp_lp_tokens.specs.declared.tokens.TokenKind.TheVariants.{Word, Nu
 
 pub word-front : (t : List ℕ) (n : ℕ) → 0 < length t → begins_word (get_or t 0 0) ≡ true → n ≡ prefix_len continues_word (take (length t - 1) (drop 1 t)) → token_at t ≡ record { kind = Word; size = 1 + n }
 word-front [] n some w e = absurd (omega (arith, some))
-word-front (b ∷ bs) n some w e = word-at b bs w ∙ ap (λ (k : ℕ). record { kind = Word; size = k }) (size (prefix_len continues_word bs) n (ap (prefix_len continues_word) (sym (behind b bs)) ∙ sym e))
+word-front (b ∷ bs) n some w e = word-at b bs w ∙ ap (λ (k : ℕ). record { kind = Word; size = k }) (size (prefix_len continues_word bs) n (ap (prefix_len continues_word) (sym (after b bs)) ∙ sym e))
   where
     drop_none : (xs : List ℕ) → drop 0 xs ≡ xs
     drop_none [] = refl
@@ -24,8 +24,8 @@ word-front (b ∷ bs) n some w e = word-at b bs w ∙ ap (λ (k : ℕ). record {
     less : (n : ℕ) → suc n - 1 ≡ n
     less n = omega arith
 
-    behind : (x : ℕ) (xs : List ℕ) → take (length (x ∷ xs) - 1) (drop 1 (x ∷ xs)) ≡ xs
-    behind x xs = (λ i. take (less (length xs) i) (drop_none xs i)) ∙ take_all xs
+    after : (x : ℕ) (xs : List ℕ) → take (length (x ∷ xs) - 1) (drop 1 (x ∷ xs)) ≡ xs
+    after x xs = (λ i. take (less (length xs) i) (drop_none xs i)) ∙ take_all xs
 
     size : (m k : ℕ) → m ≡ k → suc m ≡ 1 + k
     size m k h = omega (arith, h)
@@ -60,8 +60,8 @@ unknown-front (b ∷ bs) n some w h r p k = unknown-at b bs w (none_is (b ∷ bs
 -- no number and no operator of two bytes begins with a plus
 pub plus-front : (t : List ℕ) → 0 < length t → get_or t 0 0 ≡ 43 → token_at t ≡ record { kind = Plus; size = 1 }
 plus-front [] some e = absurd (omega (arith, some))
-plus-front (b ∷ bs) some e = subst (λ (c : ℕ). token_at (c ∷ bs) ≡ record { kind = Plus; size = 1 }) (sym e) (byte-at 43 bs Plus refl (number-longest (43 ∷ bs)) (alone bs) refl)
+plus-front (b ∷ bs) some e = subst (λ (c : ℕ). token_at (c ∷ bs) ≡ record { kind = Plus; size = 1 }) (sym e) (byte-at 43 bs Plus refl (number-longest (43 ∷ bs)) (only bs) refl)
   where
-    alone : (xs : List ℕ) → NoPair 43 xs
-    alone [] = tt
-    alone (x ∷ xs) = refl
+    only : (xs : List ℕ) → NoPair 43 xs
+    only [] = tt
+    only (x ∷ xs) = refl

@@ -4,7 +4,7 @@ use Rattle.std.specs.Prelude.{Option, Some, None}
 use Rattle.std.specs.List.{prefix_len}
 use Rattle.mpslp_decimal.specs.Literal.{is_digit, is_sign, is_point, is_exponent_mark}
 use Rattle.mpslp_lp_tokens.specs.Token.{is_number}
-use Rattle.mpslp_lp_tokens.specs.Scan.{sign_size, with_digits, exponent_size, digits_and_exponent, point_and_exponent, number_behind, number_size, IsLongestFront}
+use Rattle.mpslp_lp_tokens.specs.Scan.{sign_size, with_digits, exponent_size, digits_and_exponent, point_and_exponent, number_size_after, number_size, IsLongestFront}
 use Rattle.mpslp_lp_tokens.proofs.NumberRun.{Stage, Class, class_of, next, is_end, accepts, Facts, facts, dead, number-takes}
 use Rattle.mpslp_lp_tokens.proofs.NumberRun.Stage.{Begin, Whole, Point, Fraction, Mark, Sign, Exponent, Dead}
 use Rattle.mpslp_lp_tokens.proofs.NumberRun.Class.{IsDigit, IsPoint, IsMark, IsSign, IsOther}
@@ -105,17 +105,17 @@ sign-reaches (b ∷ bs) = by (class_of b) refl (facts b)
     by IsSign e f = none IsSign e refl f.0
     by IsOther e f = none IsOther e refl f.0
 
-abbrev behind_mark : List ℕ → Option ℕ
-behind_mark t = ended (sign_size t) (prefix_len is_digit (drop (sign_size t) t))
+abbrev after_mark : List ℕ → Option ℕ
+after_mark t = ended (sign_size t) (prefix_len is_digit (drop (sign_size t) t))
 
-unsigned : (b : ℕ) (bs : List ℕ) → is_sign b ≡ false → behind_mark (b ∷ bs) ≡ ended 0 (prefix_len is_digit (b ∷ bs))
+unsigned : (b : ℕ) (bs : List ℕ) → is_sign b ≡ false → after_mark (b ∷ bs) ≡ ended 0 (prefix_len is_digit (b ∷ bs))
 unsigned b bs h = ap (λ (x : Bool). ended (cond x 1 0) (prefix_len is_digit (drop (cond x 1 0) (b ∷ bs)))) h
 
 drop_none : (xs : List ℕ) → drop 0 xs ≡ xs
 drop_none [] = refl
 drop_none (x ∷ xs) = refl
 
-signed : (b : ℕ) (bs : List ℕ) → is_sign b ≡ true → behind_mark (b ∷ bs) ≡ ended 1 (prefix_len is_digit bs)
+signed : (b : ℕ) (bs : List ℕ) → is_sign b ≡ true → after_mark (b ∷ bs) ≡ ended 1 (prefix_len is_digit bs)
 signed b bs h =
     ap (λ (x : Bool). ended (cond x 1 0) (prefix_len is_digit (drop (cond x 1 0) (b ∷ bs)))) h
     ∙ ap (λ (t : List ℕ). ended 1 (prefix_len is_digit t)) (drop_none bs)
@@ -124,11 +124,11 @@ sign-later : (b : ℕ) (bs : List ℕ) (digits : ℕ) → class_of b ≡ IsSign 
 sign-later b bs zero e r = nowhere Mark b bs IsSign e refl r
 sign-later b bs (suc digits) e r = reach Mark (b ∷ bs) (suc (0 + suc digits)) (1 + suc digits) (omega arith) (later Mark b bs IsSign (0 + suc digits) e r)
 
-mark-reaches : (t : List ℕ) → Reaches Mark t (behind_mark t)
+mark-reaches : (t : List ℕ) → Reaches Mark t (after_mark t)
 mark-reaches [] = no_end Mark refl
 mark-reaches (b ∷ bs) = by (class_of b) refl (facts b)
   where
-    none : (class : Class) → class_of b ≡ class → next Mark class ≡ Dead → is_digit b ≡ false → is_sign b ≡ false → Reaches Mark (b ∷ bs) (behind_mark (b ∷ bs))
+    none : (class : Class) → class_of b ≡ class → next Mark class ≡ Dead → is_digit b ≡ false → is_sign b ≡ false → Reaches Mark (b ∷ bs) (after_mark (b ∷ bs))
     none class e d n s =
         subst (λ (o : Option ℕ). Reaches Mark (b ∷ bs) o) (sym (unsigned b bs s ∙ ap (ended 0) (no-count b bs n)))
         (nowhere Mark b bs class e refl (subst (λ (s : Stage). Reaches s bs None) (sym d) (dead-reaches bs)))
@@ -136,7 +136,7 @@ mark-reaches (b ∷ bs) = by (class_of b) refl (facts b)
     zero_plus : (n : ℕ) → suc n ≡ 0 + suc n
     zero_plus n = omega arith
 
-    by : (class : Class) → class_of b ≡ class → Facts b class → Reaches Mark (b ∷ bs) (behind_mark (b ∷ bs))
+    by : (class : Class) → class_of b ≡ class → Facts b class → Reaches Mark (b ∷ bs) (after_mark (b ∷ bs))
     by IsDigit e f =
         subst (λ (o : Option ℕ). Reaches Mark (b ∷ bs) o) (sym (unsigned b bs f.3 ∙ ap (ended 0) (digit-count b bs f.0)))
         (reach Mark (b ∷ bs) (suc (prefix_len is_digit bs)) (0 + suc (prefix_len is_digit bs)) (zero_plus (prefix_len is_digit bs))
@@ -212,34 +212,34 @@ fraction-reaches (b ∷ bs) = by (class_of b) refl (facts b) (fraction-reaches b
     by IsOther e f more = none f.0 (dead-at Fraction takes b bs IsOther e refl f.2)
 
 -- what comes after this number of digits
-abbrev behind : ℕ → List ℕ → ℕ
-behind n [] = n
-behind n (b ∷ bs) = cond (is_point b) (n + 1 + digits_size bs) (n + exponent_size (b ∷ bs))
+abbrev following : ℕ → List ℕ → ℕ
+following n [] = n
+following n (b ∷ bs) = cond (is_point b) (n + 1 + digits_size bs) (n + exponent_size (b ∷ bs))
 
-behind-suc : (n : ℕ) (t : List ℕ) → suc (behind n t) ≡ behind (suc n) t
-behind-suc n [] = refl
-behind-suc n (b ∷ bs) = by (is_point b)
+after-suc : (n : ℕ) (t : List ℕ) → suc (following n t) ≡ following (suc n) t
+after-suc n [] = refl
+after-suc n (b ∷ bs) = by (is_point b)
   where
     by : (x : Bool) → suc (cond x (n + 1 + digits_size bs) (n + exponent_size (b ∷ bs))) ≡ cond x (suc n + 1 + digits_size bs) (suc n + exponent_size (b ∷ bs))
     by true = omega arith
     by false = omega arith
 
 abbrev whole_size : List ℕ → ℕ
-whole_size t = behind (prefix_len is_digit t) (drop (prefix_len is_digit t) t)
+whole_size t = following (prefix_len is_digit t) (drop (prefix_len is_digit t) t)
 
 whole-more : (b : ℕ) (bs : List ℕ) → is_digit b ≡ true → suc (whole_size bs) ≡ whole_size (b ∷ bs)
-whole-more b bs h = behind-suc (prefix_len is_digit bs) (drop (prefix_len is_digit bs) bs) ∙ ap (λ (n : ℕ). behind n (drop n (b ∷ bs))) (sym (digit-count b bs h))
+whole-more b bs h = after-suc (prefix_len is_digit bs) (drop (prefix_len is_digit bs) bs) ∙ ap (λ (n : ℕ). following n (drop n (b ∷ bs))) (sym (digit-count b bs h))
 
 whole-point : (b : ℕ) (bs : List ℕ) → is_digit b ≡ false → is_point b ≡ true → suc (digits_size bs) ≡ whole_size (b ∷ bs)
 whole-point b bs d p =
-    plus (digits_size bs) ∙ ap (λ (x : Bool). cond x (0 + 1 + digits_size bs) (0 + exponent_size (b ∷ bs))) (sym p) ∙ ap (λ (n : ℕ). behind n (drop n (b ∷ bs))) (sym (no-count b bs d))
+    plus (digits_size bs) ∙ ap (λ (x : Bool). cond x (0 + 1 + digits_size bs) (0 + exponent_size (b ∷ bs))) (sym p) ∙ ap (λ (n : ℕ). following n (drop n (b ∷ bs))) (sym (no-count b bs d))
   where
     plus : (n : ℕ) → suc n ≡ 0 + 1 + n
     plus n = omega arith
 
 whole-none : (b : ℕ) (bs : List ℕ) → is_digit b ≡ false → is_point b ≡ false → exponent_size (b ∷ bs) ≡ whole_size (b ∷ bs)
 whole-none b bs d p =
-    plus (exponent_size (b ∷ bs)) ∙ ap (λ (x : Bool). cond x (0 + 1 + digits_size bs) (0 + exponent_size (b ∷ bs))) (sym p) ∙ ap (λ (n : ℕ). behind n (drop n (b ∷ bs))) (sym (no-count b bs d))
+    plus (exponent_size (b ∷ bs)) ∙ ap (λ (x : Bool). cond x (0 + 1 + digits_size bs) (0 + exponent_size (b ∷ bs))) (sym p) ∙ ap (λ (n : ℕ). following n (drop n (b ∷ bs))) (sym (no-count b bs d))
   where
     plus : (n : ℕ) → n ≡ 0 + n
     plus n = omega arith
@@ -296,9 +296,9 @@ as_front t n r = record { within = r.0; front = λ h. r.1; longest = r.2 }
 no_front : (t : List ℕ) → Reaches Begin t None → IsLongestFront (accepts Begin) t 0
 no_front t r = record { within = omega arith; front = λ h. absurd (omega (arith, h)); longest = λ n h w. r n w }
 
-size-behind : (n : ℕ) (t : List ℕ) → suc (behind n t) ≡ number_behind (suc n) t
-size-behind n [] = refl
-size-behind n (b ∷ bs) = by (is_point b)
+size-after : (n : ℕ) (t : List ℕ) → suc (following n t) ≡ number_size_after (suc n) t
+size-after n [] = refl
+size-after n (b ∷ bs) = by (is_point b)
   where
     by : (x : Bool) → suc (cond x (n + 1 + digits_size bs) (n + exponent_size (b ∷ bs)))
         ≡ cond x (point_and_exponent (suc n) (prefix_len is_digit bs) (drop (prefix_len is_digit bs) bs)) (digits_and_exponent (suc n) (b ∷ bs))
@@ -321,12 +321,12 @@ begin-longest (b ∷ bs) = by (class_of b) refl (facts b)
     unpointed : is_digit b ≡ false → is_point b ≡ false → 0 ≡ number_size (b ∷ bs)
     unpointed d p =
         ap (λ (x : Bool). cond x (point_and_exponent 0 (prefix_len is_digit bs) (drop (prefix_len is_digit bs) bs)) (digits_and_exponent 0 (b ∷ bs))) (sym p)
-        ∙ ap (λ (n : ℕ). number_behind n (drop n (b ∷ bs))) (sym (no-count b bs d))
+        ∙ ap (λ (n : ℕ). number_size_after n (drop n (b ∷ bs))) (sym (no-count b bs d))
 
     at_point : is_digit b ≡ false → is_point b ≡ true → point_and_exponent 0 (prefix_len is_digit bs) (drop (prefix_len is_digit bs) bs) ≡ number_size (b ∷ bs)
     at_point d p =
         ap (λ (x : Bool). cond x (point_and_exponent 0 (prefix_len is_digit bs) (drop (prefix_len is_digit bs) bs)) (digits_and_exponent 0 (b ∷ bs))) (sym p)
-        ∙ ap (λ (n : ℕ). number_behind n (drop n (b ∷ bs))) (sym (no-count b bs d))
+        ∙ ap (λ (n : ℕ). number_size_after n (drop n (b ∷ bs))) (sym (no-count b bs d))
 
     none : (class : Class) → class_of b ≡ class → next Begin class ≡ Dead → is_digit b ≡ false → is_point b ≡ false → IsLongestFront (accepts Begin) (b ∷ bs) (number_size (b ∷ bs))
     none class e d n p =
@@ -336,7 +336,7 @@ begin-longest (b ∷ bs) = by (class_of b) refl (facts b)
     by : (class : Class) → class_of b ≡ class → Facts b class → IsLongestFront (accepts Begin) (b ∷ bs) (number_size (b ∷ bs))
     by IsDigit e f =
         front-is (b ∷ bs) (suc (whole_size bs)) (number_size (b ∷ bs))
-        (size-behind (prefix_len is_digit bs) (drop (prefix_len is_digit bs) bs) ∙ ap (λ (n : ℕ). number_behind n (drop n (b ∷ bs))) (sym (digit-count b bs f.0)))
+        (size-after (prefix_len is_digit bs) (drop (prefix_len is_digit bs) bs) ∙ ap (λ (n : ℕ). number_size_after n (drop n (b ∷ bs))) (sym (digit-count b bs f.0)))
         (as_front (b ∷ bs) (suc (whole_size bs)) (later Begin b bs IsDigit (whole_size bs) e (whole-reaches bs)))
     by IsPoint e f =
         front-is (b ∷ bs) (point_and_exponent 0 (prefix_len is_digit bs) (drop (prefix_len is_digit bs) bs)) (number_size (b ∷ bs)) (at_point f.0 f.1)

@@ -76,9 +76,9 @@ skip-taken (suc n) (b ∷ bs) place = skip-taken n bs (place + 1) ∙ ap (λ (k 
     plus : (m k : ℕ) → m + 1 + k ≡ m + suc k
     plus m k = omega arith
 
-behind-first : (place size b : ℕ) (bs : List ℕ) → 0 < size → tokens_from (place + 1) (size - 1) bs ≡ tokens_from (place + size) 0 (drop size (b ∷ bs))
-behind-first place zero b bs some = absurd (omega (arith, some))
-behind-first place (suc n) b bs some = ap (λ (k : ℕ). tokens_from (place + 1) k bs) (less n) ∙ skip-taken n bs (place + 1) ∙ ap (λ (k : ℕ). tokens_from k 0 (drop n bs)) (plus place n)
+after-first : (place size b : ℕ) (bs : List ℕ) → 0 < size → tokens_from (place + 1) (size - 1) bs ≡ tokens_from (place + size) 0 (drop size (b ∷ bs))
+after-first place zero b bs some = absurd (omega (arith, some))
+after-first place (suc n) b bs some = ap (λ (k : ℕ). tokens_from (place + 1) k bs) (less n) ∙ skip-taken n bs (place + 1) ∙ ap (λ (k : ℕ). tokens_from k 0 (drop n bs)) (plus place n)
   where
     less : (m : ℕ) → suc m - 1 ≡ m
     less m = omega arith
@@ -90,7 +90,7 @@ found-here : (place b : ℕ) (bs : List ℕ) → begins_comment b ≡ false → 
     → tokens_from place 0 (b ∷ bs) ≡ here place (b ∷ bs) ∷ tokens_from (place + (token_at (b ∷ bs)).size) 0 (drop (token_at (b ∷ bs)).size (b ∷ bs))
 found-here place b bs c k =
     chosen place b bs false false c k
-    ∙ ap (λ (more : List Token). here place (b ∷ bs) ∷ more) (behind-first place (token_at (b ∷ bs)).size b bs (token-within b bs).0)
+    ∙ ap (λ (more : List Token). here place (b ∷ bs) ∷ more) (after-first place (token_at (b ∷ bs)).size b bs (token-within b bs).0)
 
 -- ---- tokens of a line
 

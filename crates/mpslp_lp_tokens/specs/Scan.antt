@@ -37,15 +37,15 @@ abbrev pub point_and_exponent : ℕ → ℕ → List ℕ → ℕ
 point_and_exponent zero zero rest = 0
 point_and_exponent whole fraction rest = whole + 1 + fraction + exponent_size rest
 
-abbrev pub number_behind : ℕ → List ℕ → ℕ
-number_behind whole [] = whole
-number_behind whole (byte ∷ bytes) =
+abbrev pub number_size_after : ℕ → List ℕ → ℕ
+number_size_after whole [] = whole
+number_size_after whole (byte ∷ bytes) =
     cond (is_point byte) (point_and_exponent whole (prefix_len is_digit bytes) (drop (prefix_len is_digit bytes) bytes))
     (digits_and_exponent whole (byte ∷ bytes))
 
 -- the length of the number with which a text begins, 0 if there is none
 abbrev pub number_size : List ℕ → ℕ
-number_size text = number_behind (prefix_len is_digit text) (drop (prefix_len is_digit text) text)
+number_size text = number_size_after (prefix_len is_digit text) (drop (prefix_len is_digit text) text)
 
 -- the operator of two bytes with which a text begins
 abbrev pub pair_operator : List ℕ → Option TokenKind

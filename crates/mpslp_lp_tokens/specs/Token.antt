@@ -24,7 +24,7 @@ begins_word byte = is_letter byte || (is_lp_symbol byte && not (is_period byte))
 abbrev pub continues_word : ℕ → Bool
 continues_word byte = is_lp_byte byte
 
--- what stands before a comment
+-- what is before a comment
 abbrev pub outside_comment : List ℕ → List ℕ
 outside_comment line = before_first begins_comment line
 

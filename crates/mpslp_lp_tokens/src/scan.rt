@@ -38,11 +38,11 @@ fn exponent_len(text: &[u8]) -> usize
     ensures size { result ≡ exponent_size text.now }
     ensures within { result ≤ length text.now }
 {
-    let [b'e' | b'E', behind @ ..] = text else {
+    let [b'e' | b'E', after @ ..] = text else {
         return 0;
     };
-    let sign = sign_len(behind);
-    let digits = digits_len(&behind[sign..]);
+    let sign = sign_len(after);
+    let digits = digits_len(&after[sign..]);
     if digits == 0 { 0 } else { 1 + sign + digits }
 }
 
@@ -54,12 +54,12 @@ fn scan_number(text: &[u8]) -> usize
     let whole = digits_len(text);
     let rest = &text[whole..];
     match rest {
-        [b'.', behind @ ..] => {
-            let fraction = digits_len(behind);
+        [b'.', after @ ..] => {
+            let fraction = digits_len(after);
             if whole + fraction == 0 {
                 return 0;
             }
-            whole + 1 + fraction + exponent_len(&behind[fraction..])
+            whole + 1 + fraction + exponent_len(&after[fraction..])
         }
         _ => {
             if whole == 0 {
@@ -163,7 +163,7 @@ pub(crate) fn front_at(text: &[u8]) -> Front
     ensures kind { result.kind ≡ (token_at text.now).kind }
     ensures size { result.size ≡ (token_at text.now).size }
 {
-    let [first, behind @ ..] = text else {
+    let [first, after @ ..] = text else {
         return Front {
             kind: TokenKind::Unknown,
             size: 1,
@@ -172,7 +172,7 @@ pub(crate) fn front_at(text: &[u8]) -> Front
     if is_first_of_word(*first) {
         return Front {
             kind: TokenKind::Word,
-            size: 1 + word_len(behind),
+            size: 1 + word_len(after),
         };
     }
     if *first == b'+' {

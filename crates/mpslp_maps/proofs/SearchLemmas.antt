@@ -115,23 +115,23 @@ module _ {K X : Type 0} (R : K → K → Ordering) where
     found_nowhere k es i sorted at past = find_at_key k es sorted ∙ ap (λ (j : ℕ). value_if k (slice_get es j)) (sym at) ∙ ap (value_if k) (slice_get_past es i past)
 
     -- the place of a key greater than the last of these is after all
-    behind_last : (k : K) (e : K × X) (es : List (K × X)) → is_sorted R (e ∷ es) ≡ true → option_map_or (λ last. is_gt (R k last.0)) (slice_get (e ∷ es) (length es)) true ≡ true
+    after_last : (k : K) (e : K × X) (es : List (K × X)) → is_sorted R (e ∷ es) ≡ true → option_map_or (λ last. is_gt (R k last.0)) (slice_get (e ∷ es) (length es)) true ≡ true
         → suc (length es) ≡ position_or_len (λ x. is_le (R k x.0)) (e ∷ es)
-    behind_last k e [] sorted above = ap (λ (b : Bool). cond (not b) 1 0) (sym (not_le (R k e.0) above))
-    behind_last k e (f ∷ es) sorted above =
+    after_last k e [] sorted above = ap (λ (b : Bool). cond (not b) 1 0) (sym (not_le (R k e.0) above))
+    after_last k e (f ∷ es) sorted above =
         let n = position_or_len (λ (x : K × X). is_le (R k x.0)) (f ∷ es) in
-        let next : suc (length es) ≡ n = behind_last k f es (second_so (below_all R e.0 (f ∷ es)) (is_sorted R (f ∷ es)) sorted) above in
+        let next : suc (length es) ≡ n = after_last k f es (second_so (below_all R e.0 (f ∷ es)) (is_sorted R (f ∷ es)) sorted) above in
         let first_below = less_from (R e.0 f.0) (first_so (is_lt (R e.0 f.0)) (below_all R e.0 es) (first_so (below_all R e.0 (f ∷ es)) (is_sorted R (f ∷ es)) sorted)) in
         let first_above = below_too R o k e.0 f.0 first_below (above_first (R k f.0) (position_or_len (λ (x : K × X). is_le (R k x.0)) es) (length es) next) in
         ap suc next ∙ sym (suc_of n) ∙ ap (λ (b : Bool). cond (not b) (1 + n) 0) (sym (not_le (R k e.0) first_above))
 
     -- the place of a key greater than the last entry is after all
-    pub place_behind : (k : K) (es : List (K × X)) → is_sorted R es ≡ true → option_map_or (λ last. is_gt (R k last.0)) (slice_get es (length es - 1)) true ≡ true
+    pub place_after : (k : K) (es : List (K × X)) → is_sorted R es ≡ true → option_map_or (λ last. is_gt (R k last.0)) (slice_get es (length es - 1)) true ≡ true
         → length es ≡ position_or_len (λ e. is_le (R k e.0)) es
-    place_behind k [] sorted above = refl
-    place_behind k (e ∷ es) sorted above =
+    place_after k [] sorted above = refl
+    place_after k (e ∷ es) sorted above =
         let last : length es ≡ suc (length es) - 1 = omega arith in
-        behind_last k e es sorted (ap (λ (i : ℕ). option_map_or (λ (x : K × X). is_gt (R k x.0)) (slice_get (e ∷ es) i) true) last ∙ above)
+        after_last k e es sorted (ap (λ (i : ℕ). option_map_or (λ (x : K × X). is_gt (R k x.0)) (slice_get (e ∷ es) i) true) last ∙ above)
 
   -- the number of the entry that has the key
   pub number_here : (k : K) (es : List (K × X)) (i : ℕ) (e : K × X) → i ≡ position_or_len (λ x. is_le (R k x.0)) es → i < length es → e ≡ get_or es i e → is_eq (R k e.0) ≡ true

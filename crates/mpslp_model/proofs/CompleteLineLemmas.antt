@@ -26,11 +26,11 @@ begins (x ∷ xs) =
     ] refl
 
 -- a part that is followed by others
-ended-behind : (part : List ℕ) (parts : List (List ℕ)) → Begins parts → ended_parts (part ∷ parts) ≡ strip_carriage_return part ∷ ended_parts parts
-ended-behind part parts b = ap (λ p. ended_parts (part ∷ p)) b.is ∙ ap (λ p. strip_carriage_return part ∷ ended_parts p) (sym b.is)
+ended-after : (part : List ℕ) (parts : List (List ℕ)) → Begins parts → ended_parts (part ∷ parts) ≡ strip_carriage_return part ∷ ended_parts parts
+ended-after part parts b = ap (λ p. ended_parts (part ∷ p)) b.is ∙ ap (λ p. strip_carriage_return part ∷ ended_parts p) (sym b.is)
 
-last-behind : (part : List ℕ) (parts : List (List ℕ)) → Begins parts → last_part (part ∷ parts) ≡ last_part parts
-last-behind part parts b = ap (λ p. last_part (part ∷ p)) b.is ∙ ap last_part (sym b.is)
+last-after : (part : List ℕ) (parts : List (List ℕ)) → Begins parts → last_part (part ∷ parts) ≡ last_part parts
+last-after part parts b = ap (λ p. last_part (part ∷ p)) b.is ∙ ap last_part (sym b.is)
 
 -- the parts, if the last one is continued by these bytes
 abbrev going_on : List (List ℕ) → List ℕ → List (List ℕ)
@@ -43,8 +43,8 @@ begins-going [] bytes = begins bytes
 begins-going (part ∷ []) bytes = begins (part ++ bytes)
 begins-going (part ∷ next ∷ more) bytes = record { part = part; more = going_on (next ∷ more) bytes; is = refl }
 
-going-behind : (part : List ℕ) (parts : List (List ℕ)) (bytes : List ℕ) → Begins parts → going_on (part ∷ parts) bytes ≡ part ∷ going_on parts bytes
-going-behind part parts bytes b = ap (λ p. going_on (part ∷ p) bytes) b.is ∙ ap (λ p. part ∷ going_on p bytes) (sym b.is)
+going-after : (part : List ℕ) (parts : List (List ℕ)) (bytes : List ℕ) → Begins parts → going_on (part ∷ parts) bytes ≡ part ∷ going_on parts bytes
+going-after part parts bytes b = ap (λ p. going_on (part ∷ p) bytes) b.is ∙ ap (λ p. part ∷ going_on p bytes) (sym b.is)
 
 onto-going : (byte : ℕ) (part : List ℕ) (more : List (List ℕ)) (bytes : List ℕ) → is_feed byte ≡ false
     → onto_first byte (going_on (part ∷ more) bytes) ≡ going_on ((byte ∷ part) ∷ more) bytes
@@ -58,7 +58,7 @@ parts-more (x ∷ xs) ys =
     elim (is_feed x) as (λ b. is_feed x ≡ b → slice_split is_feed (x ∷ (xs ++ ys)) ≡ going_on (slice_split is_feed (x ∷ xs)) ys) [
       | true ↦ λ h.
           slice_split-cons_yes is_feed x (xs ++ ys) h ∙ ap (λ p. [] ∷ p) (parts-more xs ys)
-          ∙ sym (ap (λ p. going_on p ys) (slice_split-cons_yes is_feed x xs h) ∙ going-behind [] (slice_split is_feed xs) ys b)
+          ∙ sym (ap (λ p. going_on p ys) (slice_split-cons_yes is_feed x xs h) ∙ going-after [] (slice_split is_feed xs) ys b)
       | false ↦ λ h.
           slice_split-cons_no is_feed x (xs ++ ys) h ∙ ap (onto_first x) (parts-more xs ys ∙ ap (λ p. going_on p ys) b.is)
           ∙ onto-going x b.part b.more ys h
@@ -69,14 +69,14 @@ ended-going : (parts : List (List ℕ)) (bytes : List ℕ) → ended_parts (goin
 ended-going [] bytes = refl
 ended-going (part ∷ []) bytes = refl
 ended-going (part ∷ next ∷ more) bytes =
-    ended-behind part (going_on (next ∷ more) bytes) (begins-going (next ∷ more) bytes)
+    ended-after part (going_on (next ∷ more) bytes) (begins-going (next ∷ more) bytes)
     ∙ ap (λ l. strip_carriage_return part ∷ l) (ended-going (next ∷ more) bytes)
 
 last-going : (parts : List (List ℕ)) (bytes : List ℕ) → last_part (going_on parts bytes) ≡ open_tail (last_part parts ++ bytes)
 last-going [] bytes = refl
 last-going (part ∷ []) bytes = refl
 last-going (part ∷ next ∷ more) bytes =
-    last-behind part (going_on (next ∷ more) bytes) (begins-going (next ∷ more) bytes) ∙ last-going (next ∷ more) bytes
+    last-after part (going_on (next ∷ more) bytes) (begins-going (next ∷ more) bytes) ∙ last-going (next ∷ more) bytes
 
 -- ---- one more piece
 
@@ -119,7 +119,7 @@ open_tail-no_feed [] = All-nil (λ b. is_feed b ≡ false)
 open_tail-no_feed (x ∷ xs) =
     let b = begins xs in
     elim (is_feed x) as (λ b. is_feed x ≡ b → HasNoFeed (open_tail (x ∷ xs))) [
-      | true ↦ λ h. subst HasNoFeed (sym (ap last_part (slice_split-cons_yes is_feed x xs h) ∙ last-behind [] (slice_split is_feed xs) b)) (open_tail-no_feed xs)
+      | true ↦ λ h. subst HasNoFeed (sym (ap last_part (slice_split-cons_yes is_feed x xs h) ∙ last-after [] (slice_split is_feed xs) b)) (open_tail-no_feed xs)
       | false ↦ λ h.
           subst HasNoFeed (sym (ap last_part (slice_split-cons_no is_feed x xs h ∙ ap (onto_first x) b.is)))
           (last-onto x b.part b.more h (subst HasNoFeed (ap last_part b.is) (open_tail-no_feed xs)))

@@ -16,11 +16,11 @@ IsAnswerTo declares first_fault bytes (Err (File fault)) = first_fault bytes fau
 IsAnswerTo declares first_fault bytes (Err Failed) = ⊥
 IsAnswerTo declares first_fault bytes (Err OutOfMemory) = Unit {0}
 
--- The sink took the first `count` bytes of a text and no others; `told` is their number, saturated at 2^64 - 1.
-pub record TookFirst {S : Type 0} (holds : S → List ℕ → Type 0) (old new : S) (text : List ℕ) (told : ℕ) : Type 0 where
+-- The sink took the first `count` bytes of a text and no others; `reported` is their number, saturated at 2^64 - 1.
+pub record TookFirst {S : Type 0} (holds : S → List ℕ → Type 0) (old new : S) (text : List ℕ) (reported : ℕ) : Type 0 where
   pub count : ℕ
   pub within : count ≤ length text
-  pub told_is : told ≡ min count (2 ^ 64 - 1)
+  pub reported_is : reported ≡ min count (2 ^ 64 - 1)
   pub holds_them : Grows holds old new (take count text)
 
 -- A sink took a text, or a prefix of it before it failed.

@@ -13,7 +13,7 @@ use Rattle.mpslp_types.specs.Name.{bytes_cmp}
 use Rattle.mpslp_model_core.specs.Model.{CoefficientKey, key_cmp}
 use Rattle.mpslp_model_core.proofs.PutsLemmas.{equal_from}
 use Rattle.mpslp_model_core.proofs.KeyLemmas.{bytes_total, tied_names, key_total}
-use Rattle.mpslp_model_core.specs.Numbered.{column_cells, all_cells, TellsApart, IsOnce}
+use Rattle.mpslp_model_core.specs.Numbered.{column_cells, all_cells, IsInjective, IsOnce}
 
 -- ---- equal keys
 
@@ -87,7 +87,7 @@ clear (Some x) b h = cc
 
 -- ---- numbers that identify rows
 
-module _ (name : ℕ → Option (List ℕ)) (apart : TellsApart name) where
+module _ (name : ℕ → Option (List ℕ)) (apart : IsInjective name) where
   same_row : (n m : ℕ) (r s : List ℕ) → name n ≡ Some r → name m ≡ Some s → eq_by_cmp bytes_cmp r s ≡ eq_by_cmp nat_cmp n m
   same_row n m r s p q =
       both_ways (eq_by_cmp bytes_cmp r s) (eq_by_cmp nat_cmp n m)

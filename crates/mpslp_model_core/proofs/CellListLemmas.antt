@@ -37,11 +37,11 @@ none_above n ((zero, x) ∷ es) h = let below : n < zero = is_below n zero (firs
 none_above n ((suc m, x) ∷ es) h = row_first m x es ∙ none_above n es (second_so (is_lt (nat_cmp n (suc m))) (below_all nat_cmp n es) h)
 
 -- without the first, if that is the objective's
-pub behind_first : (cells : List (ℕ × Number)) (first : ℕ × Number) → is_sorted nat_cmp cells ≡ true → 1 ≤ length cells → first ≡ get_or cells 0 first → first.0 ≡ 0
+pub rest_after_first : (cells : List (ℕ × Number)) (first : ℕ × Number) → is_sorted nat_cmp cells ≡ true → 1 ≤ length cells → first ≡ get_or cells 0 first → first.0 ≡ 0
     → take (length cells - 1) (drop 1 cells) ≡ row_cells cells
-behind_first [] first h some is zeroth = absurd (omega arith)
-behind_first ((zero, x) ∷ es) first h some is zeroth = take_all (suc (length es) - 1) es (omega arith) ∙ sym (all_above zero es (first_so (below_all nat_cmp zero es) (is_sorted nat_cmp es) h))
-behind_first ((suc m, x) ∷ es) first h some is zeroth = let no : suc m ≡ 0 = sym (ap (λ (e : ℕ × Number). e.0) is) ∙ zeroth in absurd cc
+rest_after_first [] first h some is zeroth = absurd (omega arith)
+rest_after_first ((zero, x) ∷ es) first h some is zeroth = take_all (suc (length es) - 1) es (omega arith) ∙ sym (all_above zero es (first_so (below_all nat_cmp zero es) (is_sorted nat_cmp es) h))
+rest_after_first ((suc m, x) ∷ es) first h some is zeroth = let no : suc m ≡ 0 = sym (ap (λ (e : ℕ × Number). e.0) is) ∙ zeroth in absurd cc
 
 -- all, if the first is that of a row
 pub all_rows : (cells : List (ℕ × Number)) (first : ℕ × Number) → is_sorted nat_cmp cells ≡ true → 1 ≤ length cells → first ≡ get_or cells 0 first → (first.0 ≡ 0 → ⊥) → cells ≡ row_cells cells

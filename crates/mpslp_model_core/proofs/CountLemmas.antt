@@ -15,16 +15,16 @@ use Rattle.mpslp_types.specs.Name.{same_bytes, bytes_cmp}
 use Rattle.mpslp_types.proofs.BoolLemmas.{both_so, T_from}
 use Rattle.mpslp_model_core.specs.Model.{CoefficientKey, key_cmp}
 use Rattle.mpslp_model_core.specs.Columned.{row_cells}
-use Rattle.mpslp_model_core.specs.Numbered.{sorted_of, column_cells, all_cells, TellsApart}
+use Rattle.mpslp_model_core.specs.Numbered.{sorted_of, column_cells, all_cells, IsInjective}
 use Rattle.mpslp_model_core.proofs.KeyLemmas.{same_key, key_total}
 use Rattle.mpslp_model_core.proofs.SortedLemmas.{find-sorted_of, is_sorted-sorted_of}
 use Rattle.mpslp_model_core.proofs.CellLemmas.{at, or_else, find-two, find-other_column, name_same}
 use Rattle.mpslp_model_core.proofs.ElementLemmas.{RiseByName, sorted_cells, find-row_cells}
 
 -- each column with its coefficients of rows
-abbrev pub rows_alone : List (List ℕ × List (ℕ × Number)) → List (List ℕ × List (ℕ × Number))
-rows_alone [] = []
-rows_alone (col ∷ cols) = (col.0, row_cells col.1) ∷ rows_alone cols
+abbrev pub rows_only : List (List ℕ × List (ℕ × Number)) → List (List ℕ × List (ℕ × Number))
+rows_only [] = []
+rows_only (col ∷ cols) = (col.0, row_cells col.1) ∷ rows_only cols
 
 -- ---- concatenated sorted lists
 
@@ -70,30 +70,30 @@ module _ (name : ℕ → Option (List ℕ)) where
         | Some s ↦ both_so (is_lt (key_cmp (at r c) (at s d))) (below_all key_cmp (at r c) cells) (then_below (bytes_cmp c d) (bytes_cmp r s) h) rest
       ]
 
-  below_columns : (r c : List ℕ) (cols : List (List ℕ × List (ℕ × Number))) → below_all bytes_cmp c cols ≡ true → below_all key_cmp (at r c) (all_cells name (rows_alone cols)) ≡ true
+  below_columns : (r c : List ℕ) (cols : List (List ℕ × List (ℕ × Number))) → below_all bytes_cmp c cols ≡ true → below_all key_cmp (at r c) (all_cells name (rows_only cols)) ≡ true
   below_columns r c [] h = refl
   below_columns r c (col ∷ cols) h =
-      below_all-append key_cmp (at r c) (column_cells name col.0 (row_cells col.1)) (all_cells name (rows_alone cols))
+      below_all-append key_cmp (at r c) (column_cells name col.0 (row_cells col.1)) (all_cells name (rows_only cols))
       (below_column r c col.0 (row_cells col.1) (first_so (is_lt (bytes_cmp c col.0)) (below_all bytes_cmp c cols) h))
       (below_columns r c cols (second_so (is_lt (bytes_cmp c col.0)) (below_all bytes_cmp c cols) h))
 
   each_below : (c : List ℕ) (es : List (ℕ × Number)) (cols : List (List ℕ × List (ℕ × Number))) → below_all bytes_cmp c cols ≡ true
-      → list_all (λ x. below_all key_cmp x.0 (all_cells name (rows_alone cols))) (column_cells name c es) ≡ true
+      → list_all (λ x. below_all key_cmp x.0 (all_cells name (rows_only cols))) (column_cells name c es) ≡ true
   each_below c [] cols h = refl
   each_below c (e ∷ es) cols h =
       let rest = each_below c es cols h in
       let cells = column_cells name c es in
-      let above = all_cells name (rows_alone cols) in
+      let above = all_cells name (rows_only cols) in
       elim (name e.0) as (λ o. list_all (λ x. below_all key_cmp x.0 above) (option_map_or (λ row. (at row c, e.1) ∷ cells) o cells) ≡ true) [
         | None ↦ rest
         | Some s ↦ both_so (below_all key_cmp (at s c) above) (list_all (λ x. below_all key_cmp x.0 above) cells) (below_columns s c cols h) rest
       ]
 
-  module _ (apart : TellsApart name) (rise : RiseByName name) where
-    sorted_all : (cols : List (List ℕ × List (ℕ × Number))) → is_sorted bytes_cmp cols ≡ true → list_all (λ c. is_sorted nat_cmp c.1) cols ≡ true → is_sorted key_cmp (all_cells name (rows_alone cols)) ≡ true
+  module _ (apart : IsInjective name) (rise : RiseByName name) where
+    sorted_all : (cols : List (List ℕ × List (ℕ × Number))) → is_sorted bytes_cmp cols ≡ true → list_all (λ c. is_sorted nat_cmp c.1) cols ≡ true → is_sorted key_cmp (all_cells name (rows_only cols)) ≡ true
     sorted_all [] g h = refl
     sorted_all (col ∷ cols) g h =
-        is_sorted-append key_cmp (column_cells name col.0 (row_cells col.1)) (all_cells name (rows_alone cols))
+        is_sorted-append key_cmp (column_cells name col.0 (row_cells col.1)) (all_cells name (rows_only cols))
         (sorted_cells name apart rise col.0 col.1 (first_so (is_sorted nat_cmp col.1) (list_all (λ c. is_sorted nat_cmp c.1) cols) h))
         (sorted_all cols (second_so (below_all bytes_cmp col.0 cols) (is_sorted bytes_cmp cols) g) (second_so (is_sorted nat_cmp col.1) (list_all (λ c. is_sorted nat_cmp c.1) cols) h))
         (each_below col.0 (row_cells col.1) cols (first_so (below_all bytes_cmp col.0 cols) (is_sorted bytes_cmp cols) g))
@@ -119,24 +119,24 @@ module _ (name : ℕ → Option (List ℕ)) where
                 | false ↦ λ _. refl
               ] refl
 
-      find-all_rows : (q : CoefficientKey) (cols : List (List ℕ × List (ℕ × Number))) → find key_cmp q (all_cells name (rows_alone cols)) ≡ cond (not (same_bytes objective q.row)) (find key_cmp q (all_cells name cols)) None
+      find-all_rows : (q : CoefficientKey) (cols : List (List ℕ × List (ℕ × Number))) → find key_cmp q (all_cells name (rows_only cols)) ≡ cond (not (same_bytes objective q.row)) (find key_cmp q (all_cells name cols)) None
       find-all_rows q [] = sym (both_none (not (same_bytes objective q.row)))
       find-all_rows q (col ∷ cols) =
           let row = not (same_bytes objective q.row) in
-          find-two key_cmp q (column_cells name col.0 (row_cells col.1)) (all_cells name (rows_alone cols))
+          find-two key_cmp q (column_cells name col.0 (row_cells col.1)) (all_cells name (rows_only cols))
           ∙ (λ i. or_else (find-of_rows q col.0 col.1 i) (find-all_rows q cols i))
           ∙ joined row (find key_cmp q (column_cells name col.0 col.1)) (find key_cmp q (all_cells name cols))
           ∙ ap (λ (o : Option Number). cond row o None) (sym (find-two key_cmp q (column_cells name col.0 col.1) (all_cells name cols)))
 
       -- the nonzeros are the cells of rows, column after column
       pub elements_are_rows : (cols : List (List ℕ × List (ℕ × Number))) → is_sorted bytes_cmp cols ≡ true → list_all (λ c. is_sorted nat_cmp c.1) cols ≡ true
-          → filter (λ e. not (same_bytes objective e.0.row)) (sorted_of key_cmp (all_cells name cols)) ≡ all_cells name (rows_alone cols)
+          → filter (λ e. not (same_bytes objective e.0.row)) (sorted_of key_cmp (all_cells name cols)) ≡ all_cells name (rows_only cols)
       elements_are_rows cols g h =
           let all = sorted_of key_cmp (all_cells name cols) in
           let is_row : CoefficientKey → Bool = λ place. not (same_bytes objective place.row) in
-          same_entries key_cmp key_total same_key (filter (λ e. is_row e.0) all) (all_cells name (rows_alone cols))
+          same_entries key_cmp key_total same_key (filter (λ e. is_row e.0) all) (all_cells name (rows_only cols))
           (is_sorted-where_key key_cmp is_row all (is_sorted-sorted_of key_cmp key_total (all_cells name cols)))
-          (T_from (is_sorted key_cmp (all_cells name (rows_alone cols))) (sorted_all cols g h))
+          (T_from (is_sorted key_cmp (all_cells name (rows_only cols))) (sorted_all cols g h))
           (λ q.
           find-where_key key_cmp is_row q (λ x tie. ap is_row (sym (same_key q x tie))) all
           ∙ ap (λ (o : Option Number). cond (is_row q) o None) (find-sorted_of key_cmp key_total q (all_cells name cols))

@@ -16,7 +16,7 @@ use Rattle.mpslp_types.proofs.BoolLemmas.{both_so, T_from}
 use Rattle.mpslp_model_core.proofs.PutsLemmas.{equal_from}
 use Rattle.mpslp_model_core.proofs.KeyLemmas.{same_key}
 use Rattle.mpslp_model_core.proofs.KeyLemmas.{bytes_total, key_total, tied_names}
-use Rattle.mpslp_model_core.specs.Numbered.{sorted_of, column_cells, all_cells, TellsApart, IsOnce}
+use Rattle.mpslp_model_core.specs.Numbered.{sorted_of, column_cells, all_cells, IsInjective, IsOnce}
 use Rattle.mpslp_model_core.specs.Columned.{row_cells}
 use Rattle.mpslp_model_core.proofs.SortedLemmas.{find-sorted_of, is_sorted-sorted_of}
 use Rattle.mpslp_model_core.proofs.CellLemmas.{at, or_else, find-two, find-other_column}
@@ -34,7 +34,7 @@ then_less Less b h e = cc
 then_less Equal b h e = ap is_lt e
 then_less Greater b h e = cc
 
-module _ (name : ℕ → Option (List ℕ)) (apart : TellsApart name) (rise : RiseByName name) (c : List ℕ) where
+module _ (name : ℕ → Option (List ℕ)) (apart : IsInjective name) (rise : RiseByName name) (c : List ℕ) where
   below_cells : (n : ℕ) (r : List ℕ) (es : List (ℕ × Number)) → name (suc n) ≡ Some r → below_all nat_cmp (suc n) es ≡ true → below_all key_cmp (at r c) (column_cells name c (row_cells es)) ≡ true
   below_cells n r [] p h = refl
   below_cells n r ((zero, x) ∷ es) p h = below_cells n r es p (second_so (is_lt (nat_cmp (suc n) zero)) (below_all nat_cmp (suc n) es) h)

@@ -11,7 +11,7 @@ use Rattle.std.specs.declared.cmp.Ordering.TheVariants.{Less, Equal, Greater}
 use Rattle.std.specs.FinMap.{find, is_sorted}
 use Rattle.std.specs.FinMap.Entries.{below_all}
 use Rattle.mpslp_types.specs.Name.{same_bytes, is_one_of, bytes_cmp}
-use Rattle.mpslp_model_core.specs.Numbered.{each_part, name_of, TellsApart, IsOnceBy, IsOnce}
+use Rattle.mpslp_model_core.specs.Numbered.{each_part, name_of, IsInjective, IsOnceBy, IsOnce}
 use Rattle.mpslp_model_core.proofs.KeyLemmas.{bytes_total}
 use Rattle.mpslp_model_core.proofs.CellLemmas.{name_same}
 use Rattle.mpslp_model_core.proofs.CellListLemmas.{is_below}
@@ -98,11 +98,11 @@ module _ {X : Type 0} (objective : List ℕ) (es : List (List ℕ × X)) (sorted
         cc
 
     -- different numbers are those of different rows
-    pub tells_apart : TellsApart (name_of (Some objective) es)
-    tells_apart zero zero r p q = refl
-    tells_apart zero (suc m) r p q = absurd (not_objective m r (cc) q)
-    tells_apart (suc n) zero r p q = absurd (not_objective n r (cc) p)
-    tells_apart (suc n) (suc m) r p q = ap (λ (k : ℕ). suc k) (one_number n m r p q)
+    pub is_injective : IsInjective (name_of (Some objective) es)
+    is_injective zero zero r p q = refl
+    is_injective zero (suc m) r p q = absurd (not_objective m r (cc) q)
+    is_injective (suc n) zero r p q = absurd (not_objective n r (cc) p)
+    is_injective (suc n) (suc m) r p q = ap (λ (k : ℕ). suc k) (one_number n m r p q)
 
 -- ---- parts of sorted entries
 

@@ -12,7 +12,7 @@ use Rattle.mpslp_model_core.specs.Model.{CoefficientKey, key_cmp}
 use Rattle.mpslp_model_core.proofs.KeyLemmas.{same_key}
 use Rattle.mpslp_model_core.proofs.PutsLemmas.{equal_from}
 use Rattle.mpslp_model_core.proofs.KeyLemmas.{key_total}
-use Rattle.mpslp_model_core.specs.Numbered.{sorted_of, is_kept, column_cells, all_cells, TellsApart, IsOnce}
+use Rattle.mpslp_model_core.specs.Numbered.{sorted_of, is_kept, column_cells, all_cells, IsInjective, IsOnce}
 use Rattle.mpslp_types.proofs.BoolLemmas.{T_from, true_from}
 use Rattle.mpslp_model_core.proofs.SortedLemmas.{find-sorted_of, is_sorted-sorted_of}
 use Rattle.mpslp_model_core.proofs.OnceLemmas.{find-filter, once-sorted, is_sorted-filter}
@@ -44,8 +44,8 @@ module _ (name : ℕ → Option (List ℕ)) (r : List ℕ) (nameless : (n : ℕ)
 -- Each row keeps its name under its final number, and no other row has a name. Each column keeps its coefficients under the
 -- final numbers.
 pub record AreRenumbered (name later : ℕ → Option (List ℕ)) (rank : ℕ → ℕ) (cols moved : List (List ℕ × List (ℕ × Number))) : Type 0 where
-  pub apart : TellsApart name
-  pub apart_later : TellsApart later
+  pub apart : IsInjective name
+  pub apart_later : IsInjective later
   pub named : (r : List ℕ) → ((n : ℕ) × (name n ≡ Some r)) ⊎ ((n : ℕ) → name n ≡ Some r → ⊥)
   pub keeps : (n : ℕ) (r : List ℕ) → name n ≡ Some r → later (rank n) ≡ Some r
   pub adds_none : (m : ℕ) (r : List ℕ) → later m ≡ Some r → (n : ℕ) × (name n ≡ Some r)

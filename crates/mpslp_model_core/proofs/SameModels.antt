@@ -13,7 +13,7 @@ use Rattle.mpslp_decimal.specs.Decimal.{Number}
 use Rattle.mpslp_types.specs.Name.{bytes_cmp}
 use Rattle.mpslp_types.proofs.BoolLemmas.{T_from}
 use Rattle.mpslp_model_core.specs.Model.{Column, LinearModel, key_cmp}
-use Rattle.mpslp_model_core.specs.Columned.{columns_told}
+use Rattle.mpslp_model_core.specs.Columned.{column_entries}
 use Rattle.mpslp_model_core.specs.ModelParts.{linear_model, AreModelParts, bounds_in, cells_in, columns_in, cells_by_name, name_of_row_key}
 use Rattle.mpslp_model_core.specs.Numbered.{sorted_of, each_part, name_of, all_cells, all_named, IsOnce}
 use Rattle.mpslp_model_core.specs.Same.{IsSameObjective}
@@ -28,7 +28,7 @@ use Rattle.mpslp_model_core.proofs.ViewLemmas.{rows_seen, columns_seen, coeffici
 pub record AreSameParts (v w : LinearModel) (m n : ModelParts) : Type 0 where
   pub objective : IsSameObjective v w
   pub rows : m.rows.items ≡ n.rows.items
-  pub columns : columns_told m.columns.items ≡ columns_told n.columns.items
+  pub columns : column_entries m.columns.items ≡ column_entries n.columns.items
 
 abbrev cells_of : List (List ℕ × ModelColumn) → List (List ℕ × List (ℕ × Number))
 cells_of columns = each_part cells_in columns
@@ -38,13 +38,13 @@ bounds_of columns = each_part bounds_in columns
 
 -- ---- the model from its columns
 
-bounds_told : (columns : List (List ℕ × ModelColumn)) → map (λ (t : List ℕ × (Column × List (ℕ × Number))). (t.0, t.1.0)) (columns_told columns) ≡ bounds_of columns
-bounds_told [] = refl
-bounds_told (c ∷ cs) = ap (λ (rest : List (List ℕ × Column)). (c.0, bounds_in c.1) ∷ rest) (bounds_told cs)
+bounds_stated : (columns : List (List ℕ × ModelColumn)) → map (λ (t : List ℕ × (Column × List (ℕ × Number))). (t.0, t.1.0)) (column_entries columns) ≡ bounds_of columns
+bounds_stated [] = refl
+bounds_stated (c ∷ cs) = ap (λ (rest : List (List ℕ × Column)). (c.0, bounds_in c.1) ∷ rest) (bounds_stated cs)
 
-cells_told : (columns : List (List ℕ × ModelColumn)) → map (λ (t : List ℕ × (Column × List (ℕ × Number))). (t.0, t.1.1)) (columns_told columns) ≡ cells_of columns
-cells_told [] = refl
-cells_told (c ∷ cs) = ap (λ (rest : List (List ℕ × List (ℕ × Number))). (c.0, cells_in c.1) ∷ rest) (cells_told cs)
+cells_stated : (columns : List (List ℕ × ModelColumn)) → map (λ (t : List ℕ × (Column × List (ℕ × Number))). (t.0, t.1.1)) (column_entries columns) ≡ cells_of columns
+cells_stated [] = refl
+cells_stated (c ∷ cs) = ap (λ (rest : List (List ℕ × List (ℕ × Number))). (c.0, cells_in c.1) ∷ rest) (cells_stated cs)
 
 pub same-parts : {m n : ModelParts} {v w : LinearModel} → linear_model m ≡ v → linear_model n ≡ w → AreSameParts v w m n → v ≡ w
 same-parts {m} {n} {v} {w} see seen p =
@@ -52,9 +52,9 @@ same-parts {m} {n} {v} {w} see seen p =
     let objective : m.objective ≡ n.objective = ap (λ (x : LinearModel). x.objective) see ∙ p.objective.1 ∙ sym (ap (λ (x : LinearModel). x.objective) seen) in
     let constant : m.constant ≡ n.constant = ap (λ (x : LinearModel). x.constant) see ∙ p.objective.2 ∙ sym (ap (λ (x : LinearModel). x.constant) seen) in
     let bounds : columns_in m ≡ columns_in n =
-    sym (bounds_told m.columns.items) ∙ ap (map (λ (t : List ℕ × (Column × List (ℕ × Number))). (t.0, t.1.0))) p.columns ∙ bounds_told n.columns.items in
+    sym (bounds_stated m.columns.items) ∙ ap (map (λ (t : List ℕ × (Column × List (ℕ × Number))). (t.0, t.1.0))) p.columns ∙ bounds_stated n.columns.items in
     let cells : cells_by_name m ≡ cells_by_name n =
-    sym (cells_told m.columns.items) ∙ ap (map (λ (t : List ℕ × (Column × List (ℕ × Number))). (t.0, t.1.1))) p.columns ∙ cells_told n.columns.items in
+    sym (cells_stated m.columns.items) ∙ ap (map (λ (t : List ℕ × (Column × List (ℕ × Number))). (t.0, t.1.1))) p.columns ∙ cells_stated n.columns.items in
     let inside : linear_model m ≡ linear_model n = λ i. record {
       sense = sense i;
       objective = objective i;
@@ -95,8 +95,8 @@ first_found : (c : List ℕ) (name : List ℕ) (cells : List (ℕ × Number)) (c
 first_found c name cells cols same =
     ap (λ (k : List ℕ). find bytes_cmp c ((k, cells) ∷ cols)) (sym same) ∙ ap (λ (r : Ordering). cond (is_eq r) (Some cells) (find bytes_cmp c cols)) (tied_itself bytes_total c)
 
-same_behind : (name other : List ℕ) (a b : List (ℕ × Number)) (xs ys : List (List ℕ × List (ℕ × Number))) → name ≡ other → IsOnce ((name, a) ∷ xs) → IsOnce ((other, b) ∷ ys) → FindSame ((name, a) ∷ xs) ((other, b) ∷ ys) → FindSame xs ys
-same_behind name other a b xs ys same once once_too alike c n =
+same_after : (name other : List ℕ) (a b : List (ℕ × Number)) (xs ys : List (List ℕ × List (ℕ × Number))) → name ≡ other → IsOnce ((name, a) ∷ xs) → IsOnce ((other, b) ∷ ys) → FindSame ((name, a) ∷ xs) ((other, b) ∷ ys) → FindSame xs ys
+same_after name other a b xs ys same once once_too alike c n =
     elim (eq_by_cmp bytes_cmp c name) as (λ t. eq_by_cmp bytes_cmp c name ≡ t → option_and_then (find nat_cmp n) (cond t (Some a) (find bytes_cmp c xs)) ≡ option_and_then (find nat_cmp n) (cond t (Some b) (find bytes_cmp c ys))
     → option_and_then (find nat_cmp n) (find bytes_cmp c xs) ≡ option_and_then (find nat_cmp n) (find bytes_cmp c ys)) [
       | true ↦ λ tie _.
@@ -107,12 +107,12 @@ same_behind name other a b xs ys same once once_too alike c n =
       | false ↦ λ _ later. later
     ] refl (alike c n ∙ ap (λ (k : List ℕ). option_and_then (find nat_cmp n) (find bytes_cmp c ((k, b) ∷ ys))) (sym same))
 
-same_told : (xs ys : List (List ℕ × ModelColumn)) → IsOnce (cells_of xs) → IsOnce (cells_of ys) → list_all (λ c. is_sorted nat_cmp c.1) (cells_of xs) ≡ true → list_all (λ c. is_sorted nat_cmp c.1) (cells_of ys) ≡ true
-    → bounds_of xs ≡ bounds_of ys → FindSame (cells_of xs) (cells_of ys) → columns_told xs ≡ columns_told ys
-same_told [] [] once once_too g h same alike = refl
-same_told [] (b ∷ ys) once once_too g h same alike = absurd cc
-same_told (a ∷ xs) [] once once_too g h same alike = absurd cc
-same_told (a ∷ xs) (b ∷ ys) once once_too g h same alike =
+same_stated : (xs ys : List (List ℕ × ModelColumn)) → IsOnce (cells_of xs) → IsOnce (cells_of ys) → list_all (λ c. is_sorted nat_cmp c.1) (cells_of xs) ≡ true → list_all (λ c. is_sorted nat_cmp c.1) (cells_of ys) ≡ true
+    → bounds_of xs ≡ bounds_of ys → FindSame (cells_of xs) (cells_of ys) → column_entries xs ≡ column_entries ys
+same_stated [] [] once once_too g h same alike = refl
+same_stated [] (b ∷ ys) once once_too g h same alike = absurd cc
+same_stated (a ∷ xs) [] once once_too g h same alike = absurd cc
+same_stated (a ∷ xs) (b ∷ ys) once once_too g h same alike =
     let heads : ◌≡◌ {A = List ℕ × Column} (a.0, a.1.bounds) (b.0, b.1.bounds) = cc in
     let rest : bounds_of xs ≡ bounds_of ys = cc in
     let names : a.0 ≡ b.0 = ap (λ (p : List ℕ × Column). p.0) heads in
@@ -124,9 +124,9 @@ same_told (a ∷ xs) (b ∷ ys) once once_too g h same alike =
     ap (option_and_then (find nat_cmp n)) (sym (first_found a.0 a.0 a.1.cells.items (cells_of xs) refl))
     ∙ alike a.0 n
     ∙ ap (option_and_then (find nat_cmp n)) (first_found a.0 b.0 b.1.cells.items (cells_of ys) names)) in
-    let more = same_told xs ys once.1 once_too.1 (second_so (is_sorted nat_cmp a.1.cells.items) (list_all (λ c. is_sorted nat_cmp c.1) (cells_of xs)) g)
+    let more = same_stated xs ys once.1 once_too.1 (second_so (is_sorted nat_cmp a.1.cells.items) (list_all (λ c. is_sorted nat_cmp c.1) (cells_of xs)) g)
     (second_so (is_sorted nat_cmp b.1.cells.items) (list_all (λ c. is_sorted nat_cmp c.1) (cells_of ys)) h) rest
-    (same_behind a.0 b.0 a.1.cells.items b.1.cells.items (cells_of xs) (cells_of ys) names once once_too alike) in
+    (same_after a.0 b.0 a.1.cells.items b.1.cells.items (cells_of xs) (cells_of ys) names once once_too alike) in
     λ i. (names i, ((ap (λ (p : List ℕ × Column). p.1) heads) i, cells i)) ∷ more i
 
 pub parts-same : {m n : ModelParts} {v w : LinearModel} → linear_model m ≡ v → AreModelParts m → linear_model n ≡ w → AreModelParts n → v ≡ w → AreSameParts v w m n
@@ -151,5 +151,5 @@ parts-same {m} {n} {v} {w} see p seen q same =
     record {
       objective = (ap (λ (x : LinearModel). x.sense) same, ap (λ (x : LinearModel). x.objective) same, ap (λ (x : LinearModel). x.constant) same);
       rows = rows;
-      columns = same_told m.columns.items n.columns.items (once_in m p) (once_in n q) p.cells q.cells columns alike;
+      columns = same_stated m.columns.items n.columns.items (once_in m p) (once_in n q) p.cells q.cells columns alike;
     }

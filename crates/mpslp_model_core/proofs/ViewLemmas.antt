@@ -17,7 +17,7 @@ use Rattle.mpslp_types.proofs.BoolLemmas.{T_from}
 use Rattle.mpslp_decimal.specs.Decimal.{Number, zero_number}
 use Rattle.mpslp_model_core.specs.Views.{num_rows, row_names, row_name, row_index, column_names, column_name, coefficient_at, num_elements, column_elements, numbered_elements}
 use Rattle.mpslp_model_core.specs.Model.{CoefficientKey, Column, Row, LinearModel, key_cmp}
-use Rattle.mpslp_model_core.specs.Numbered.{sorted_of, each_part, column_cells, all_cells, TellsApart, IsOnce}
+use Rattle.mpslp_model_core.specs.Numbered.{sorted_of, each_part, column_cells, all_cells, IsInjective, IsOnce}
 use Rattle.mpslp_model_core.specs.Columned.{row_cells, count_row_cells}
 use Rattle.mpslp_model_core.specs.ModelParts.{linear_model, AreModelParts, bounds_in, cells_in, columns_in, cells_by_name, name_of_row_key}
 use Rattle.mpslp_model_core.specs.declared.model.ModelColumn.{ModelColumn}
@@ -26,8 +26,8 @@ use Rattle.mpslp_model_core.proofs.KeyLemmas.{key_total}
 use Rattle.mpslp_model_core.proofs.SortedLemmas.{find-sorted_of, is_sorted-sorted_of}
 use Rattle.mpslp_model_core.proofs.CellLemmas.{at, find-all_cells}
 use Rattle.mpslp_model_core.proofs.ElementLemmas.{RiseByName, elements_are_cells}
-use Rattle.mpslp_model_core.proofs.CountLemmas.{rows_alone, elements_are_rows, length-named, rows_named}
-use Rattle.mpslp_model_core.proofs.NumberLemmas.{rise_by_name, tells_apart, named_entry, above_at, apart_names, is_sorted-part, slice_get-part, names-part, once_sorted, found_at, all_at}
+use Rattle.mpslp_model_core.proofs.CountLemmas.{rows_only, elements_are_rows, length-named, rows_named}
+use Rattle.mpslp_model_core.proofs.NumberLemmas.{rise_by_name, is_injective, named_entry, above_at, apart_names, is_sorted-part, slice_get-part, names-part, once_sorted, found_at, all_at}
 
 pub rows_seen : {m : ModelParts} {v : LinearModel} → linear_model m ≡ v → AreModelParts m → maps.entries v.rows ≡ m.rows.items
 rows_seen {m} {v} seen parts = ap (λ (w : LinearModel). maps.entries w.rows) (sym seen) ∙ maps.entries-from_sorted bytes_cmp m.rows.items (T_from _ parts.rows)
@@ -114,9 +114,9 @@ numbered_in v coefficient = (row_index v coefficient.0.row, coefficient.1)
 -- ---- properties of the parts
 
 module _ (m : ModelParts) (parts : AreModelParts m) where
-  pub apart_in : TellsApart (name_of_row_key m)
+  pub apart_in : IsInjective (name_of_row_key m)
   apart_in =
-      tells_apart m.objective m.rows.items parts.rows
+      is_injective m.objective m.rows.items parts.rows
       (ap (λ (es : List (List ℕ × Row)). is_one_of (map (λ (e : List ℕ × Row). e.0) es) m.objective) (sym (rows_seen refl parts)) ∙ parts.sound.objective_is_no_row)
 
   pub rise_in : RiseByName (name_of_row_key m)
@@ -212,13 +212,13 @@ module _ (m : ModelParts) (parts : AreModelParts m) where
 
   -- the number of nonzeros in all columns
   count_named : (columns : List (List ℕ × ModelColumn)) → list_all (λ c. list_all (λ e. is_some (name_of_row_key m e.0)) c.1) (each_part cells_in columns) ≡ true
-      → length (all_cells (name_of_row_key m) (rows_alone (each_part cells_in columns))) ≡ count_row_cells columns
+      → length (all_cells (name_of_row_key m) (rows_only (each_part cells_in columns))) ≡ count_row_cells columns
   count_named [] h = refl
   count_named (c ∷ cs) h =
       let cells = c.1.cells.items in
       let one = list_all (λ e. is_some (name_of_row_key m e.0)) cells in
       let more = list_all (λ d. list_all (λ e. is_some (name_of_row_key m e.0)) d.1) (each_part cells_in cs) in
-      length-append (column_cells (name_of_row_key m) c.0 (row_cells cells)) (all_cells (name_of_row_key m) (rows_alone (each_part cells_in cs)))
+      length-append (column_cells (name_of_row_key m) c.0 (row_cells cells)) (all_cells (name_of_row_key m) (rows_only (each_part cells_in cs)))
       ∙ (λ i. length-named (name_of_row_key m) c.0 (row_cells cells) (rows_named (name_of_row_key m) cells (first_so one more h)) i + count_named cs (second_so one more h) i)
 
   pub elements_counted : (v : LinearModel) → linear_model m ≡ v → count_row_cells m.columns.items ≡ num_elements v

@@ -18,8 +18,8 @@ count_row_cells [] = 0
 count_row_cells (column ∷ columns) = length (row_cells column.1.cells.items) + count_row_cells columns
 
 -- the name of a column with its type, bounds and coefficients
-abbrev pub column_told : List ℕ × ModelColumn → List ℕ × (Column × List (ℕ × Number))
-column_told column = (column.0, (column.1.bounds, column.1.cells.items))
+abbrev pub column_entry : List ℕ × ModelColumn → List ℕ × (Column × List (ℕ × Number))
+column_entry column = (column.0, (column.1.bounds, column.1.cells.items))
 
-abbrev pub columns_told : List (List ℕ × ModelColumn) → List (List ℕ × (Column × List (ℕ × Number)))
-columns_told columns = map column_told columns
+abbrev pub column_entries : List (List ℕ × ModelColumn) → List (List ℕ × (Column × List (ℕ × Number)))
+column_entries columns = map column_entry columns

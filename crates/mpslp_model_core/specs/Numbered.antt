@@ -35,8 +35,8 @@ name_of objective rows zero = objective
 name_of objective rows (suc i) = option_map (λ e. e.0) (slice_get rows i)
 
 -- different numbers are those of different rows
-abbrev pub TellsApart : (ℕ → Option (List ℕ)) → Type 0
-TellsApart name = (n m : ℕ) (r : List ℕ) → name n ≡ Some r → name m ≡ Some r → n ≡ m
+abbrev pub IsInjective : (ℕ → Option (List ℕ)) → Type 0
+IsInjective name = (n m : ℕ) (r : List ℕ) → name n ≡ Some r → name m ≡ Some r → n ≡ m
 
 -- all keys are distinct
 abbrev pub IsOnceBy : {K X : Type 0} → (K → K → Ordering) → List (K × X) → Type 0

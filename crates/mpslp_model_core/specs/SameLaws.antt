@@ -16,27 +16,27 @@ use Rattle.mpslp_types.specs.declared.kinds.Limit.{Limit}
 use Rattle.mpslp_types.specs.declared.kinds.Limit.TheVariants.{MinusInf, Finite, PlusInf}
 
 -- the test decides whether two values are equal
-abbrev pub Tells : {X : Type 0} → (X → X → Bool) → Type 0
-Tells {X} test = (x y : X) → Decides (test x y) (x ≡ y)
+abbrev pub IsEqualityTest : {X : Type 0} → (X → X → Bool) → Type 0
+IsEqualityTest {X} test = (x y : X) → Decides (test x y) (x ≡ y)
 
-pub tells-lists : {X : Type 0} (test : X → X → Bool) → Tells test → Tells (pointwise test)
-tells-lists test tells = pointwise_decides tells
+pub decides-lists : {X : Type 0} (test : X → X → Bool) → IsEqualityTest test → IsEqualityTest (pointwise test)
+decides-lists test is_equality = pointwise_decides is_equality
 
 -- a result that equals that of the test decides it too
-pub answered : {X : Type 0} (test : X → X → Bool) → Tells test → (x y : X) (b : Bool) → b ≡ test x y → Decides b (x ≡ y)
-answered test tells x y b e = (λ h. (tells x y).0 (sym e ∙ h), λ same. e ∙ (tells x y).1 same)
+pub answered : {X : Type 0} (test : X → X → Bool) → IsEqualityTest test → (x y : X) (b : Bool) → b ≡ test x y → Decides b (x ≡ y)
+answered test is_equality x y b e = (λ h. (is_equality x y).0 (sym e ∙ h), λ same. e ∙ (is_equality x y).1 same)
 
 -- such a test is symmetric and transitive
-pub lawful : {X : Type 0} (test : X → X → Bool) → Tells test → IsPartialEquivalence test
-lawful test tells = record {
-  symm = λ x y. one_answer (test x y) (test y x) (tells x y) ((λ h. sym ((tells y x).0 h)), (λ same. (tells y x).1 (sym same)));
-  trans = λ x y z h k. (tells x z).1 ((tells x y).0 h ∙ (tells y z).0 k);
+pub lawful : {X : Type 0} (test : X → X → Bool) → IsEqualityTest test → IsPartialEquivalence test
+lawful test is_equality = record {
+  symm = λ x y. one_answer (test x y) (test y x) (is_equality x y) ((λ h. sym ((is_equality y x).0 h)), (λ same. (is_equality y x).1 (sym same)));
+  trans = λ x y z h k. (is_equality x z).1 ((is_equality x y).0 h ∙ (is_equality y z).0 k);
 }
 
 -- ---- limits, rows and columns
 
-pub tells-number : Tells same_number
-tells-number a b =
+pub decides-number : IsEqualityTest same_number
+decides-number a b =
     let both = Decides-and (int_eq a.mantissa b.mantissa) (int_eq a.exponent b.exponent) (signed_Decides a.mantissa b.mantissa) (signed_Decides a.exponent b.exponent) in
     ((λ h. let e = both.0 h in λ i. record { mantissa = e.0 i; exponent = e.1 i }), (λ e. both.1 (ap (λ (n : Number). n.mantissa) e, ap (λ (n : Number). n.exponent) e)))
 
@@ -44,58 +44,58 @@ abbrev number_in : Limit → Number → Number
 number_in (Finite a) other = a
 number_in _ other = other
 
-tells-limit : Tells same_limit
-tells-limit MinusInf MinusInf = ((λ h. refl), (λ e. refl))
-tells-limit MinusInf (Finite b) = ((λ h. absurd cc), (λ e. absurd cc))
-tells-limit MinusInf PlusInf = ((λ h. absurd cc), (λ e. absurd cc))
-tells-limit (Finite a) MinusInf = ((λ h. absurd cc), (λ e. absurd cc))
-tells-limit (Finite a) (Finite b) = ((λ h. ap (λ (n : Number). Finite n) ((tells-number a b).0 h)), (λ e. (tells-number a b).1 (ap (λ (l : Limit). number_in l a) e)))
-tells-limit (Finite a) PlusInf = ((λ h. absurd cc), (λ e. absurd cc))
-tells-limit PlusInf MinusInf = ((λ h. absurd cc), (λ e. absurd cc))
-tells-limit PlusInf (Finite b) = ((λ h. absurd cc), (λ e. absurd cc))
-tells-limit PlusInf PlusInf = ((λ h. refl), (λ e. refl))
+decides-limit : IsEqualityTest same_limit
+decides-limit MinusInf MinusInf = ((λ h. refl), (λ e. refl))
+decides-limit MinusInf (Finite b) = ((λ h. absurd cc), (λ e. absurd cc))
+decides-limit MinusInf PlusInf = ((λ h. absurd cc), (λ e. absurd cc))
+decides-limit (Finite a) MinusInf = ((λ h. absurd cc), (λ e. absurd cc))
+decides-limit (Finite a) (Finite b) = ((λ h. ap (λ (n : Number). Finite n) ((decides-number a b).0 h)), (λ e. (decides-number a b).1 (ap (λ (l : Limit). number_in l a) e)))
+decides-limit (Finite a) PlusInf = ((λ h. absurd cc), (λ e. absurd cc))
+decides-limit PlusInf MinusInf = ((λ h. absurd cc), (λ e. absurd cc))
+decides-limit PlusInf (Finite b) = ((λ h. absurd cc), (λ e. absurd cc))
+decides-limit PlusInf PlusInf = ((λ h. refl), (λ e. refl))
 
-tells-kind : Tells same_kind
-tells-kind Continuous Continuous = ((λ h. refl), (λ e. refl))
-tells-kind Continuous Integer = ((λ h. absurd cc), (λ e. absurd cc))
-tells-kind Continuous Semi = ((λ h. absurd cc), (λ e. absurd cc))
-tells-kind Integer Continuous = ((λ h. absurd cc), (λ e. absurd cc))
-tells-kind Integer Integer = ((λ h. refl), (λ e. refl))
-tells-kind Integer Semi = ((λ h. absurd cc), (λ e. absurd cc))
-tells-kind Semi Continuous = ((λ h. absurd cc), (λ e. absurd cc))
-tells-kind Semi Integer = ((λ h. absurd cc), (λ e. absurd cc))
-tells-kind Semi Semi = ((λ h. refl), (λ e. refl))
+decides-kind : IsEqualityTest same_kind
+decides-kind Continuous Continuous = ((λ h. refl), (λ e. refl))
+decides-kind Continuous Integer = ((λ h. absurd cc), (λ e. absurd cc))
+decides-kind Continuous Semi = ((λ h. absurd cc), (λ e. absurd cc))
+decides-kind Integer Continuous = ((λ h. absurd cc), (λ e. absurd cc))
+decides-kind Integer Integer = ((λ h. refl), (λ e. refl))
+decides-kind Integer Semi = ((λ h. absurd cc), (λ e. absurd cc))
+decides-kind Semi Continuous = ((λ h. absurd cc), (λ e. absurd cc))
+decides-kind Semi Integer = ((λ h. absurd cc), (λ e. absurd cc))
+decides-kind Semi Semi = ((λ h. refl), (λ e. refl))
 
-pub tells-row : Tells same_row
-tells-row a b =
-    let both = Decides-and (same_limit a.lower b.lower) (same_limit a.upper b.upper) (tells-limit a.lower b.lower) (tells-limit a.upper b.upper) in
+pub decides-row : IsEqualityTest same_row
+decides-row a b =
+    let both = Decides-and (same_limit a.lower b.lower) (same_limit a.upper b.upper) (decides-limit a.lower b.lower) (decides-limit a.upper b.upper) in
     ((λ h. let e = both.0 h in λ i. record { lower = e.0 i; upper = e.1 i }), (λ e. both.1 (ap (λ (r : Row). r.lower) e, ap (λ (r : Row). r.upper) e)))
 
-pub tells-column : Tells same_column
-tells-column a b =
+pub decides-column : IsEqualityTest same_column
+decides-column a b =
     let sides = same_limit a.lower b.lower && same_limit a.upper b.upper in
-    let limits = Decides-and (same_limit a.lower b.lower) (same_limit a.upper b.upper) (tells-limit a.lower b.lower) (tells-limit a.upper b.upper) in
-    let all = Decides-and (same_kind a.kind b.kind) sides (tells-kind a.kind b.kind) limits in
+    let limits = Decides-and (same_limit a.lower b.lower) (same_limit a.upper b.upper) (decides-limit a.lower b.lower) (decides-limit a.upper b.upper) in
+    let all = Decides-and (same_kind a.kind b.kind) sides (decides-kind a.kind b.kind) limits in
     ((λ h. let e = all.0 h in λ i. record { kind = e.0 i; lower = e.1.0 i; upper = e.1.1 i }), (λ e. all.1 (ap (λ (c : Column). c.kind) e, (ap (λ (c : Column). c.lower) e, ap (λ (c : Column). c.upper) e))))
 
 -- with names
-pub tells-named : {X : Type 0} (test : X → X → Bool) → Tells test → Tells (λ (a b : List ℕ × X). same_bytes a.0 b.0 && test a.1 b.1)
-tells-named test tells a b =
+pub decides-named : {X : Type 0} (test : X → X → Bool) → IsEqualityTest test → IsEqualityTest (λ (a b : List ℕ × X). same_bytes a.0 b.0 && test a.1 b.1)
+decides-named test is_equality a b =
     let names : Decides (same_bytes a.0 b.0) (a.0 ≡ b.0) = ((λ h. same_text a.0 b.0 (sym h)), (λ e. ap (same_bytes a.0) (sym e) ∙ nat_list_eq_equiv.refl a.0)) in
-    let both = Decides-and (same_bytes a.0 b.0) (test a.1 b.1) names (tells a.1 b.1) in
+    let both = Decides-and (same_bytes a.0 b.0) (test a.1 b.1) names (is_equality a.1 b.1) in
     ((λ h. let e = both.0 h in λ i. (e.0 i, e.1 i)), (λ e. both.1 (ap (λ (p : List ℕ × _). p.0) e, ap (λ (p : List ℕ × _). p.1) e)))
 
 -- ---- columns with their coefficients
 
-tells-cell : Tells same_cell
-tells-cell a b =
-    let both = Decides-and (nat_eq a.0 b.0) (same_number a.1 b.1) (Decides-eqb a.0 b.0) (tells-number a.1 b.1) in
+decides-cell : IsEqualityTest same_cell
+decides-cell a b =
+    let both = Decides-and (nat_eq a.0 b.0) (same_number a.1 b.1) (Decides-eqb a.0 b.0) (decides-number a.1 b.1) in
     ((λ h. let e = both.0 h in λ i. (e.0 i, e.1 i)), (λ e. both.1 (ap (λ (p : ℕ × Number). p.0) e, ap (λ (p : ℕ × Number). p.1) e)))
 
-tells-column-with : Tells same_column_with
-tells-column-with a b =
-    let both = Decides-and (same_column a.0 b.0) (pointwise same_cell a.1 b.1) (tells-column a.0 b.0) (tells-lists same_cell tells-cell a.1 b.1) in
+decides-column-with : IsEqualityTest same_column_with
+decides-column-with a b =
+    let both = Decides-and (same_column a.0 b.0) (pointwise same_cell a.1 b.1) (decides-column a.0 b.0) (decides-lists same_cell decides-cell a.1 b.1) in
     ((λ h. let e = both.0 h in λ i. (e.0 i, e.1 i)), (λ e. both.1 (ap (λ (p : Column × List (ℕ × Number)). p.0) e, ap (λ (p : Column × List (ℕ × Number)). p.1) e)))
 
-pub tells-named-column : Tells same_named_column
-tells-named-column = tells-named same_column_with tells-column-with
+pub decides-named-column : IsEqualityTest same_named_column
+decides-named-column = decides-named same_column_with decides-column-with

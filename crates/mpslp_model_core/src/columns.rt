@@ -12,7 +12,7 @@ ghost use Rattle.std.specs.Cmp.Lexicographic.{pointwise};
 ghost use Rattle.mpslp_decimal.specs.Decimal.{zero_number};
 ghost use Rattle.mpslp_model_core.specs.ByRow.{has_number};
 ghost use Rattle.mpslp_model_core.specs.Same.{same_cell, same_named_column};
-ghost use Rattle.mpslp_model_core.specs.Columned.{row_cells, count_row_cells, column_told, columns_told};
+ghost use Rattle.mpslp_model_core.specs.Columned.{row_cells, count_row_cells, column_entry, column_entries};
 
 use crate::model::ModelColumn;
 use crate::sides::is_same_number;
@@ -119,7 +119,7 @@ fn are_same_cells(own: &[(u32, PackedDecimal)], other: &[(u32, PackedDecimal)]) 
 
 /// Whether two columns have the same name, type, bounds and coefficients.
 fn is_same_column(own: &(Name, ModelColumn), other: &(Name, ModelColumn)) -> bool
-    ensures { result ≡ same_named_column (column_told own.now) (column_told other.now) }
+    ensures { result ≡ same_named_column (column_entry own.now) (column_entry other.now) }
 {
     own.0 == other.0
         && (own.1.bounds.bounds() == other.1.bounds.bounds()
@@ -128,7 +128,7 @@ fn is_same_column(own: &(Name, ModelColumn), other: &(Name, ModelColumn)) -> boo
 
 /// Whether the columns are the same.
 pub(crate) fn same_columns(own: &[(Name, ModelColumn)], other: &[(Name, ModelColumn)]) -> bool
-    ensures { result ≡ pointwise same_named_column (columns_told own.now) (columns_told other.now) }
+    ensures { result ≡ pointwise same_named_column (column_entries own.now) (column_entries other.now) }
 {
     for (column, counterpart) in own.iter().zip(other) {
         if !is_same_column(column, counterpart) {

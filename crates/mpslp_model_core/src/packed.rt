@@ -139,11 +139,11 @@ impl PackedColumn {
 
 impl PartialEq for PackedRow {
     ghost use Rattle.mpslp_model_core.specs.Same.{same_row};
-    ghost use Rattle.mpslp_model_core.specs.SameLaws.{lawful, tells-row};
+    ghost use Rattle.mpslp_model_core.specs.SameLaws.{lawful, decides-row};
 
     ghost eq = { same_row };
 
-    ghost laws = { lawful same_row tells-row };
+    ghost laws = { lawful same_row decides-row };
 
     fn eq(&self, other: &PackedRow) -> bool {
         self.limits() == other.limits()

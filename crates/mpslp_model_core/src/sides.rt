@@ -26,11 +26,11 @@ impl Model for RowLimits {
 
 impl PartialEq for RowLimits {
     ghost use Rattle.mpslp_model_core.specs.Same.{same_row};
-    ghost use Rattle.mpslp_model_core.specs.SameLaws.{lawful, tells-row};
+    ghost use Rattle.mpslp_model_core.specs.SameLaws.{lawful, decides-row};
 
     ghost eq = { same_row };
 
-    ghost laws = { lawful same_row tells-row };
+    ghost laws = { lawful same_row decides-row };
 
     fn eq(&self, other: &RowLimits) -> bool {
         is_same_limit(self.lower, other.lower) && is_same_limit(self.upper, other.upper)
@@ -57,11 +57,11 @@ impl Model for ColumnBounds {
 
 impl PartialEq for ColumnBounds {
     ghost use Rattle.mpslp_model_core.specs.Same.{same_column};
-    ghost use Rattle.mpslp_model_core.specs.SameLaws.{lawful, tells-column};
+    ghost use Rattle.mpslp_model_core.specs.SameLaws.{lawful, decides-column};
 
     ghost eq = { same_column };
 
-    ghost laws = { lawful same_column tells-column };
+    ghost laws = { lawful same_column decides-column };
 
     fn eq(&self, other: &ColumnBounds) -> bool {
         is_same_kind(self.kind, other.kind)

@@ -363,7 +363,7 @@ fn orders_sides(rt: HostRuntime) {
 }
 
 #[test]
-fn tells_kinds_by_name(rt: HostRuntime) {
+fn finds_kinds_by_name(rt: HostRuntime) {
     let names = [
         FaultKind::LineTooLong.text(),
         FaultKind::BinaryBounds.text(),
@@ -513,7 +513,7 @@ column X
 bounds X - -1";
 
 #[test]
-fn tells_the_first_fault_of_the_whole(rt: HostRuntime) -> Result<(), Fail> {
+fn reports_the_first_fault_of_the_whole(rt: HostRuntime) -> Result<(), Fail> {
     let alloc = rt.alloc();
     assert!(rt; is_outcome(alloc, FAULTY, "InfiniteLimit R10")?);
     assert!(rt; is_outcome(alloc, WITHOUT_COLUMNS, "NoColumns")?);

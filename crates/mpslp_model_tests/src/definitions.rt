@@ -115,7 +115,7 @@ fn row_has_its_fault(line: &str) -> bool {
 }
 
 #[test]
-fn tells_what_is_wrong_with_a_row(rt: HostRuntime) {
+fn reports_what_is_wrong_with_a_row(rt: HostRuntime) {
     for line in FAULTY_ROWS.lines() {
         assert!(rt; row_has_its_fault(line), "at {line}");
     }
@@ -216,7 +216,7 @@ fn column_has_its_fault(line: &str) -> bool {
 }
 
 #[test]
-fn tells_what_is_wrong_with_a_column(rt: HostRuntime) {
+fn reports_what_is_wrong_with_a_column(rt: HostRuntime) {
     for line in FAULTY_COLUMNS.lines() {
         assert!(rt; column_has_its_fault(line), "at {line}");
     }

@@ -99,12 +99,12 @@ sides-unchanged faults fault P Q answer h = holds answer (unchanged faults h)
 -- bounds that are checked
 pub sides-none : (all : Draft) (column : List ℕ) (lower upper : Option Limit) → (is_some lower || is_some upper) ≡ true → Ok tt ≡ first_refusal (bounds_refusals all column lower upper)
     → declared_fault all (bounds_declared column lower upper) ≡ None
-sides-none all column lower upper h told = sides_fault all column lower upper h ∙ tests-none (bounds_tests all column lower upper) told
+sides-none all column lower upper h stated = sides_fault all column lower upper h ∙ tests-none (bounds_tests all column lower upper) stated
 
 pub sides-error : (all : Draft) (column : List ℕ) (lower upper : Option Limit) (fault : BuildFault) → (is_some lower || is_some upper) ≡ true
     → Err fault ≡ first_refusal (bounds_refusals all column lower upper) → IsErrorOf (declared_fault all (bounds_declared column lower upper)) (error_of_build fault)
-sides-error all column lower upper fault h told =
-    subst (λ (o : Option FaultKind). IsErrorOf o (error_of_build fault)) (sym (sides_fault all column lower upper h)) (tests-error (bounds_tests all column lower upper) fault told)
+sides-error all column lower upper fault h stated =
+    subst (λ (o : Option FaultKind). IsErrorOf o (error_of_build fault)) (sym (sides_fault all column lower upper h)) (tests-error (bounds_tests all column lower upper) fault stated)
 
 -- ---- after the column is declared integer or semi-continuous
 
@@ -112,9 +112,9 @@ abbrev one_kind : Draft → List ℕ → Bool → List (Bool × BuildFault)
 one_kind all column other = (not (has_column all column), UnknownColumn) ∷ (other, SemiContinuous) ∷ []
 
 -- if the column is not of the other type
-kind_told : (all : Draft) (d : Declaration) (column : List ℕ) (other : Bool) → refusals all d ≡ those_of (one_kind all column other) → other ≡ false
+kind_stated : (all : Draft) (d : Declaration) (column : List ℕ) (other : Bool) → refusals all d ≡ those_of (one_kind all column other) → other ≡ false
     → declared_fault all (d ∷ []) ≡ cond (not (has_column all column)) (Some kinds.UnknownColumn) None
-kind_told all d column other is apart =
+kind_stated all d column other is apart =
     ap (λ (faults : List BuildFault). least_kind (map kind_of_build_fault faults)) (append-nil (refusals all d) ∙ is ∙ ap (λ (b : Bool). those_of (one_kind all column b)) apart)
     ∙ by (has_column all column)
   where
@@ -127,7 +127,7 @@ kind_error : (all : Draft) (d : Declaration) (column : List ℕ) (other : Bool) 
     → Answers (refusals all d) (Err fault) P Q → IsErrorOf (declared_fault all (d ∷ [])) (error_of_build fault)
 kind_error all d column other fault P Q is apart answer =
     let left : refusals all d ≡ those_of (one_kind all column false) = is ∙ ap (λ (b : Bool). those_of (one_kind all column b)) apart in
-    subst (λ (o : Option FaultKind). IsErrorOf o (error_of_build fault)) (first (has_column all column) ∙ sym (kind_told all d column other is apart))
+    subst (λ (o : Option FaultKind). IsErrorOf o (error_of_build fault)) (first (has_column all column) ∙ sym (kind_stated all d column other is apart))
     (call-refused (one_kind all column false) fault P Q (subst (λ (faults : List BuildFault). Answers faults (Err fault) P Q) left answer))
   where
     first : (there : Bool) → first_held (kind_tests ((not there, UnknownColumn) ∷ (false, SemiContinuous) ∷ [])) ≡ cond (not there) (Some kinds.UnknownColumn) None
@@ -201,7 +201,7 @@ kind_sides all d column lower upper same fault_is h =
 integer_sides : (all : Draft) (column : List ℕ) (lower upper : Option Limit) → is_semi all column ≡ false → (is_some lower || is_some upper) ≡ true
     → declared_fault all (declare_integer column ∷ bounds_declared column lower upper) ≡ declared_fault (with_declaration all (declare_integer column)) (bounds_declared column lower upper)
 integer_sides all column lower upper apart some =
-    kind_sides all (declare_integer column) column lower upper refl (kind_told all (declare_integer column) column (is_semi all column) refl apart) some
+    kind_sides all (declare_integer column) column lower upper refl (kind_stated all (declare_integer column) column (is_semi all column) refl apart) some
 
 -- a missing column is also an error of the bounds
 column_missing : (all : Draft) (d : Declaration) (column : List ℕ) (lower upper : Option Limit) (kind : FaultKind) → bounds_tests (with_declaration all d) column lower upper ≡ bounds_tests all column lower upper
@@ -219,23 +219,23 @@ column_missing all d column lower upper kind same fault_is some is =
 integer_missing : (all : Draft) (column : List ℕ) (lower upper : Option Limit) (kind : FaultKind) → is_semi all column ≡ false → (is_some lower || is_some upper) ≡ true
     → declared_fault all (declare_integer column ∷ []) ≡ Some kind → declared_fault all (declare_integer column ∷ bounds_declared column lower upper) ≡ Some kind
 integer_missing all column lower upper kind apart some is =
-    column_missing all (declare_integer column) column lower upper kind refl (kind_told all (declare_integer column) column (is_semi all column) refl apart) some is
+    column_missing all (declare_integer column) column lower upper kind refl (kind_stated all (declare_integer column) column (is_semi all column) refl apart) some is
 
 -- whatever type is declared, if there is no clash
-pub bound-told : (all : Draft) (type : BoundType) (column : List ℕ) (value : Limit) → type_clash all type column ≡ false
+pub bound-stated : (all : Draft) (type : BoundType) (column : List ℕ) (value : Limit) → type_clash all type column ≡ false
     → declared_fault all (bound_declared type column value)
     ≡ declared_fault (with_declarations all (kind_declared type column)) (bounds_declared column (lower_given type value) (upper_given type value))
-bound-told all bounds.Lower column value apart = refl
-bound-told all bounds.Upper column value apart = refl
-bound-told all bounds.Fixed column value apart = refl
-bound-told all bounds.Free column value apart = refl
-bound-told all bounds.NoLower column value apart = refl
-bound-told all bounds.NoUpper column value apart = refl
-bound-told all bounds.Binary column value apart = integer_sides all column (Some zero_limit) (Some one_limit) (nor (is_semi all column) false apart).0 refl
-bound-told all bounds.IntegerLower column value apart = integer_sides all column (Some value) None (nor (is_semi all column) false apart).0 refl
-bound-told all bounds.IntegerUpper column value apart = integer_sides all column None (Some value) (nor (is_semi all column) false apart).0 refl
-bound-told all bounds.SemiUpper column value apart =
-    kind_sides all (declare_semi column) column None (Some value) refl (kind_told all (declare_semi column) column (is_integer all column) refl apart) refl
+bound-stated all bounds.Lower column value apart = refl
+bound-stated all bounds.Upper column value apart = refl
+bound-stated all bounds.Fixed column value apart = refl
+bound-stated all bounds.Free column value apart = refl
+bound-stated all bounds.NoLower column value apart = refl
+bound-stated all bounds.NoUpper column value apart = refl
+bound-stated all bounds.Binary column value apart = integer_sides all column (Some zero_limit) (Some one_limit) (nor (is_semi all column) false apart).0 refl
+bound-stated all bounds.IntegerLower column value apart = integer_sides all column (Some value) None (nor (is_semi all column) false apart).0 refl
+bound-stated all bounds.IntegerUpper column value apart = integer_sides all column None (Some value) (nor (is_semi all column) false apart).0 refl
+bound-stated all bounds.SemiUpper column value apart =
+    kind_sides all (declare_semi column) column None (Some value) refl (kind_stated all (declare_semi column) column (is_integer all column) refl apart) refl
 
 -- the type that is declared does not matter for the bounds
 same_sides : (all : Draft) (type : BoundType) (column : List ℕ) (lower upper : Option Limit)
@@ -262,7 +262,7 @@ bound-asked all type column value lower upper apart l u =
     ∙ sides_fault all column below above given
     ∙ ap (λ (tests : List (Bool × BuildFault)). first_held (kind_tests tests)) (sym (same_sides all type column below above))
     ∙ sym (sides_fault (with_declarations all (kind_declared type column)) column below above given)
-    ∙ sym (bound-told all type column value apart)
+    ∙ sym (bound-stated all type column value apart)
 
 -- the type, and then the bounds
 pub bound-declares : (all mid later : Draft) (type : BoundType) (column : List ℕ) (value : Limit) (lower upper : Option Limit) (answer : LineResult) → type_clash all type column ≡ false
@@ -271,7 +271,7 @@ pub bound-declares : (all mid later : Draft) (type : BoundType) (column : List �
 bound-declares all mid later type column value lower upper answer apart m l u declared = by answer declared
   where
     fault_is : declared_fault all (bound_declared type column value) ≡ declared_fault mid (bounds_declared column lower upper)
-    fault_is = bound-told all type column value apart ∙ (λ i. declared_fault (sym m i) (bounds_declared column (sym l i) (sym u i)))
+    fault_is = bound-stated all type column value apart ∙ (λ i. declared_fault (sym m i) (bounds_declared column (sym l i) (sym u i)))
 
     made : with_declarations mid (bounds_declared column lower upper) ≡ with_declarations all (bound_declared type column value)
     made =
@@ -299,7 +299,7 @@ kind-refused all bounds.IntegerLower column value (Fault kind) apart fault_is =
 kind-refused all bounds.IntegerUpper column value (Fault kind) apart fault_is =
     integer_missing all column None (Some value) kind (nor (is_semi all column) false apart).0 refl fault_is
 kind-refused all bounds.SemiUpper column value (Fault kind) apart fault_is =
-    column_missing all (declare_semi column) column None (Some value) kind refl (kind_told all (declare_semi column) column (is_integer all column) refl apart) refl fault_is
+    column_missing all (declare_semi column) column None (Some value) kind refl (kind_stated all (declare_semi column) column (is_integer all column) refl apart) refl fault_is
 
 -- ---- what a bound declares
 

@@ -37,18 +37,18 @@ abbrev pub is_clash_answer : Answer → Bool
 is_clash_answer (Ok x) = false
 is_clash_answer (Err fault) = is_kind_clash fault
 
-told_so : (known other : Bool) → (other ≡ true → known ≡ true)
+stated_so : (known other : Bool) → (other ≡ true → known ≡ true)
     → is_clash_answer (first_refusal (those_of ((not known, builds.UnknownColumn) ∷ (other, builds.SemiContinuous) ∷ []))) ≡ other
-told_so true true h = refl
-told_so true false h = refl
-told_so false true h = h refl
-told_so false false h = refl
+stated_so true true h = refl
+stated_so true false h = refl
+stated_so false true h = h refl
+stated_so false false h = refl
 
 pub integer-answered : (all : Draft) (c : List ℕ) (answer : Answer) → IsMade all → answer ≡ first_refusal (refusals all (declare_integer c)) → is_clash_answer answer ≡ is_semi all c
-integer-answered all c answer made is = ap is_clash_answer is ∙ told_so (has_column all c) (is_semi all c) ((declared_names-from_made all made).semis c)
+integer-answered all c answer made is = ap is_clash_answer is ∙ stated_so (has_column all c) (is_semi all c) ((declared_names-from_made all made).semis c)
 
 pub semi-answered : (all : Draft) (c : List ℕ) (answer : Answer) → IsMade all → answer ≡ first_refusal (refusals all (declare_semi c)) → is_clash_answer answer ≡ is_integer all c
-semi-answered all c answer made is = ap is_clash_answer is ∙ told_so (has_column all c) (is_integer all c) ((declared_names-from_made all made).integers c)
+semi-answered all c answer made is = ap is_clash_answer is ∙ stated_so (has_column all c) (is_integer all c) ((declared_names-from_made all made).integers c)
 
 -- ---- what a line declares
 

@@ -28,12 +28,12 @@ use Rattle.mpslp_lines.proofs.LeastLemmas.{is_from, earlier_of, stays-least, lea
 use Rattle.mpslp_lines.specs.LineAnswer.{IsErrorOf}
 use Rattle.mpslp_lines.specs.declared.errors.LineError.{LineError}
 use Rattle.mpslp_lines.specs.declared.errors.LineError.TheVariants as errors
-use Rattle.mpslp_lines.proofs.FirstFaultLemmas.{form-first, is_behind_clash}
+use Rattle.mpslp_lines.proofs.FirstFaultLemmas.{form-first, is_after_clash}
 use Rattle.mpslp_mps.proofs.RisingTests.{data-rising}
 use Rattle.mpslp_lines.proofs.DeclaringLemmas.{declared-after, are_from}
 use Rattle.mpslp_mps.specs.KindClash.{column_clash}
 use Rattle.mpslp_mps.proofs.TakingLemmas.{is_early}
-use Rattle.mpslp_mps.proofs.TakenLemmas.{clash-told}
+use Rattle.mpslp_mps.proofs.TakenLemmas.{clash-reported}
 use Rattle.mpslp_mps.proofs.ClashLemmas.{column-clashes, column-apart}
 use Rattle.mpslp_mps.proofs.ColumnTaking.{are_rows, front-none, front-there, front-rows, values-late, values-unknown, values-double, front-double}
 
@@ -83,15 +83,15 @@ column-judged context earlier fields (errors.Fault kind) here plain apart held =
 column-judged context earlier fields errors.OutOfMemory here plain apart held = tt
 
 -- a clash of column types, which is reported before all errors of the fields
-behind_fields : (context : Context) (earlier : Draft) (parts : Option ValuesLine) → list_all (λ test. is_behind_clash test.1) (judged_by (column_tests context earlier) parts) ≡ true
-behind_fields context earlier None = refl
-behind_fields context earlier (Some line) = refl
+after_fields : (context : Context) (earlier : Draft) (parts : Option ValuesLine) → list_all (λ test. is_after_clash test.1) (judged_by (column_tests context earlier) parts) ≡ true
+after_fields context earlier None = refl
+after_fields context earlier (Some line) = refl
 
-pub column-clash-told : (context : Context) (earlier : Draft) (fields : Fields) → context.section ≡ Some Columns → is_marker_line fields ≡ false
+pub column-clash-reported : (context : Context) (earlier : Draft) (fields : Fields) → context.section ≡ Some Columns → is_marker_line fields ≡ false
     → column_clash context earlier fields ≡ true → item_fault context earlier (data_line fields) ≡ Some kinds.SemiContinuous
-column-clash-told context earlier fields here plain clash =
-    clash-told context earlier fields (Some Columns) here
-    (ap (λ (tests : FaultTests). list_all (λ test. is_behind_clash test.1) tests) (plain-tests context earlier fields plain) ∙ behind_fields context earlier (column_shape fields))
+column-clash-reported context earlier fields here plain clash =
+    clash-reported context earlier fields (Some Columns) here
+    (ap (λ (tests : FaultTests). list_all (λ test. is_after_clash test.1) tests) (plain-tests context earlier fields plain) ∙ after_fields context earlier (column_shape fields))
     (column-clashes context earlier fields plain ∙ clash)
 
 -- ---- the form and what is declared

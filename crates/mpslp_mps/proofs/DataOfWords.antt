@@ -14,7 +14,7 @@ use Rattle.mpslp_mps_fields.specs.Line.{Fields, LineContent, data_line, is_secti
 use Rattle.mpslp_mps_fields.specs.DataLine.{opening_word, closing_word, sense_of}
 use Rattle.mpslp_mps.specs.Context.{context_of, current_section, said_after, data_lines, fields_under, marker_word, line_column, vector_set, bound_set, word_due}
 use Rattle.mpslp_mps.specs.LineFault.{data_tests, is_split}
-use Rattle.mpslp_mps.specs.TextInWords.{strays, stray_lines, takes_data, word_fields, words_in, has_word_at_most, is_sense, is_row_line, is_columns_line, is_vector_line, is_bound_line, alternate, stand_together, is_one_set}
+use Rattle.mpslp_mps.specs.TextInWords.{strays, stray_lines, takes_data, word_fields, words_in, has_word_at_most, is_sense, is_row_line, is_columns_line, is_vector_line, is_bound_line, alternate, are_together, is_one_set}
 use Rattle.mpslp_mps_fields.specs.declared.sections.Section.{Section}
 use Rattle.mpslp_mps_fields.specs.declared.sections.Section.TheVariants.{Name, ObjSense, ObjName, Rows, Columns, Rhs, Ranges, Bounds, EndData}
 use Rattle.mpslp_mps.proofs.OrderLemmas.{IsGood, never}
@@ -22,7 +22,7 @@ use Rattle.mpslp_mps.proofs.WordsOfFields.{is_other_set}
 use Rattle.mpslp_mps.proofs.WordsOfColumns.{Column, columns_of}
 use Rattle.mpslp_mps.proofs.WordsOfOneWord.{is_single, IsUnderway}
 use Rattle.mpslp_mps.proofs.FieldsOfWords.{row-good, columns-good, vector-good, bound-good}
-use Rattle.mpslp_mps.proofs.SectionsOfWords.{said_after-append, data-stands, passes-all, set-fits, marker-follows, together-apart}
+use Rattle.mpslp_mps.proofs.SectionsOfWords.{said_after-append, data-occurs, passes-all, set-fits, marker-follows, together-apart}
 use Rattle.mpslp_mps.proofs.OneWordOfWords.{line-single}
 use Rattle.mpslp_mps.proofs.ColumnsOfWords.{HaveLines, not-split}
 
@@ -39,7 +39,7 @@ pub record AreGoodLines (items : List LineContent) : Type 0 where
   pub ranges : list_all is_vector_line (data_lines Ranges items) ≡ true
   pub bounds : list_all is_bound_line (data_lines Bounds items) ≡ true
   pub markers : alternate opening_word closing_word (filter_map marker_word (data_lines Columns items)) ≡ true
-  pub together : stand_together (columns_of items) ≡ true
+  pub together : are_together (columns_of items) ≡ true
   pub right_side_set : is_one_set (filter_map vector_set (data_lines Rhs items)) ≡ true
   pub range_set : is_one_set (filter_map vector_set (data_lines Ranges items)) ≡ true
   pub bound_sets : is_one_set (filter_map bound_set (data_lines Bounds items)) ≡ true
@@ -66,29 +66,29 @@ data-good before earlier fields rest sense name have h = by (current_section bef
     later section = said_after (fields_under section) (current_section before) rest
 
     -- the data lines of the current section
-    stands : (section : Section) → is_section section (current_section before) ≡ true → data_lines section full ≡ data_lines section before ++ fields ∷ later section
-    stands section e = data-stands section before fields rest e
+    occurs : (section : Section) → is_section section (current_section before) ≡ true → data_lines section full ≡ data_lines section before ++ fields ∷ later section
+    occurs section e = data-occurs section before fields rest e
 
     fits : (section : Section) (test : Fields → Bool) → is_section section (current_section before) ≡ true → list_all test (data_lines section full) ≡ true → test fields ≡ true
-    fits section test e k = passes-all test (data_lines section before) fields (later section) (sym (ap (list_all test) (stands section e)) ∙ k)
+    fits section test e k = passes-all test (data_lines section before) fields (later section) (sym (ap (list_all test) (occurs section e)) ∙ k)
 
     set_fits : (section : Section) (set_of : Fields → Option (List ℕ)) → is_section section (current_section before) ≡ true → is_one_set (filter_map set_of (data_lines section full)) ≡ true
         → (set : List ℕ) → set_of fields ≡ Some set → is_other_set (head_of (filter_map set_of (data_lines section before))) set ≡ false
-    set_fits section set_of e k = sets-fit set_of (data_lines section before) fields (later section) (sym (ap (λ (lines : List Fields). is_one_set (filter_map set_of lines)) (stands section e)) ∙ k)
+    set_fits section set_of e k = sets-fit set_of (data_lines section before) fields (later section) (sym (ap (λ (lines : List Fields). is_one_set (filter_map set_of lines)) (occurs section e)) ∙ k)
 
     marker_fits : is_section Columns (current_section before) ≡ true → (word : List ℕ) → marker_word fields ≡ Some word → same_bytes word (cond (context_of before).in_integer_part closing_word opening_word) ≡ true
     marker_fits e word m =
         marker-follows (filter_map marker_word (data_lines Columns before)) None word (filter_map marker_word (later Columns)) false refl
         (sym (ap (alternate opening_word closing_word)
-        (ap (filter_map marker_word) (stands Columns e) ∙ filter_map-append marker_word (data_lines Columns before) (fields ∷ later Columns)
+        (ap (filter_map marker_word) (occurs Columns e) ∙ filter_map-append marker_word (data_lines Columns before) (fields ∷ later Columns)
         ∙ ap (λ (o : Option (List ℕ)). filter_map marker_word (data_lines Columns before) ++ cons_option o (filter_map marker_word (later Columns))) m)) ∙ h.markers)
 
     continues_column : is_section Columns (current_section before) ≡ true → (column : List ℕ) → line_column fields ≡ Some column → is_split (context_of before) earlier column ≡ false
     continues_column e column c =
         not-split before earlier column have
         (together-apart (Some column) (columns_of before) (map line_column (later Columns))
-        (sym (ap stand_together
-        (ap (map line_column) (stands Columns e) ∙ map-append line_column (data_lines Columns before) (fields ∷ later Columns)
+        (sym (ap are_together
+        (ap (map line_column) (occurs Columns e) ∙ map-append line_column (data_lines Columns before) (fields ∷ later Columns)
         ∙ ap (λ (x : Column). columns_of before ++ x ∷ map line_column (later Columns)) c)) ∙ h.together))
 
     single : (section : Section) (test : List ℕ → Bool) → IsUnderway section test before → is_section section (current_section before) ≡ true → has_word_at_most test (words_in section full) ≡ true

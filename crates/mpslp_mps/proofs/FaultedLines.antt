@@ -28,10 +28,10 @@ use Rattle.mpslp_mps.specs.LineDeclarations.{line_declares}
 use Rattle.mpslp_mps.specs.LineFault.{item_tests, line_tests}
 use Rattle.mpslp_mps.specs.MpsText.{LineInContext, read_lines, has_end, declared_at, tests_at, lines_in_context_after, lines_in_context, declarations_of}
 use Rattle.mpslp_mps.specs.FirstFault.{line_fault, first_line_fault, whole_mps_fault}
-use Rattle.mpslp_mps.specs.FaultsInWords.{StandsOn, IsInWords}
+use Rattle.mpslp_mps.specs.FaultsInWords.{IsFaultOfLine, IsInWords}
 use Rattle.mpslp_mps.proofs.OrderLemmas.{IsGood, never}
 use Rattle.mpslp_mps.proofs.ContextLineLemmas.{item-form}
-use Rattle.mpslp_mps.proofs.NamesOfWords.{Told, none-told, told-kept}
+use Rattle.mpslp_mps.proofs.NamesOfWords.{Stated, none-stated, stated-kept}
 
 -- ---- which tests a kind has
 
@@ -101,8 +101,8 @@ any-declaring kind earlier (d ∷ ds) =
     ∙ ap (λ (b : Bool). refused_as kind (refusal_tests earlier d) || b) (any-declaring kind (with_declaration earlier d) ds)))
 
 -- the kind of the first error of a line is that of a failing test, or of a rejected declaration
-told-by : (tests : FaultTests) (earlier : Draft) (ds : Declarations) (kind : FaultKind) → first_fault tests earlier ds ≡ Some kind → (holds_of kind tests || refuses kind earlier ds) ≡ true
-told-by tests earlier ds kind h =
+reported-by : (tests : FaultTests) (earlier : Draft) (ds : Declarations) (kind : FaultKind) → first_fault tests earlier ds ≡ Some kind → (holds_of kind tests || refuses kind earlier ds) ≡ true
+reported-by tests earlier ds kind h =
     sym (list_any-append (is_kind kind) (those_of tests) (declaring_faults earlier ds)
     ∙ (ap (λ (b : Bool). b || list_any (is_kind kind) (declaring_faults earlier ds)) (any-held kind tests) ∙ ap (λ (b : Bool). holds_of kind tests || b) (any-declaring kind earlier ds)))
     ∙ among-least (those_of tests ++ declaring_faults earlier ds) kind h
@@ -178,7 +178,7 @@ pub record Faulted (Holds : List LineContent → Draft → Type 0) (ls : List (L
   pub parted : ls ≡ front ++ line ∷ later
   pub number : fault.line ≡ min (length front + n) (2 ^ 64 - 1)
   pub known : Holds (before ++ map content_of front) earlier
-  pub told : first_fault (line_tests (context_of (before ++ map content_of front)) earlier line) earlier (line_declares (context_of (before ++ map content_of front)) earlier (content_of line)) ≡ Some fault.kind
+  pub stated : first_fault (line_tests (context_of (before ++ map content_of front)) earlier line) earlier (line_declares (context_of (before ++ map content_of front)) earlier (content_of line)) ≡ Some fault.kind
 
 one-less : (m n : ℕ) → m + (n + 1) ≡ suc m + n
 one-less m n = grind (arith)
@@ -216,7 +216,7 @@ find-line Holds keeps (line ∷ ls) before earlier n fault known h =
           parted = ap (λ (more : List (List ℕ)). line ∷ more) found.parted;
           number = found.number ∙ ap (λ (m : ℕ). min m (2 ^ 64 - 1)) (one-less (length found.front) n);
           known = subst (λ (items : List LineContent). Holds items found.earlier) same found.known;
-          told = subst (λ (items : List LineContent). first_fault (line_tests (context_of items) found.earlier found.line) found.earlier (line_declares (context_of items) found.earlier (content_of found.line)) ≡ Some fault.kind) same found.told;
+          stated = subst (λ (items : List LineContent). first_fault (line_tests (context_of items) found.earlier found.line) found.earlier (line_declares (context_of items) found.earlier (content_of found.line)) ≡ Some fault.kind) same found.stated;
         }
     by find (Some kind) e k =
         let same : fault_on_line n kind ≡ fault = cc in
@@ -229,7 +229,7 @@ find-line Holds keeps (line ∷ ls) before earlier n fault known h =
           parted = refl;
           number = sym (ap (λ (f : Fault). f.line) same) ∙ ap (λ (m : ℕ). min m (2 ^ 64 - 1)) (none-before n);
           known = subst (λ (items : List LineContent). Holds items earlier) none known;
-          told = subst (λ (items : List LineContent). first_fault (line_tests (context_of items) earlier line) earlier (line_declares (context_of items) earlier (content_of line)) ≡ Some fault.kind) none
+          stated = subst (λ (items : List LineContent). first_fault (line_tests (context_of items) earlier line) earlier (line_declares (context_of items) earlier (content_of line)) ≡ Some fault.kind) none
               (e ∙ ap (λ (f : Fault). Some f.kind) same);
         }
 
@@ -279,7 +279,7 @@ passed kind first second tests short legal = rw (short, legal) refl
 -- The kind is that of a failing test of the line's form, or of a rejected declaration; only the latter if it comes after all
 -- kinds of its form.
 pub record IsFirst (kind : FaultKind) (before : List LineContent) (earlier : Draft) (item : LineContent) : Type 0 where
-  pub told : (holds_of kind (item_tests (context_of before) earlier item) || refuses kind earlier (line_declares (context_of before) earlier item)) ≡ true
+  pub stated : (holds_of kind (item_tests (context_of before) earlier item) || refuses kind earlier (line_declares (context_of before) earlier item)) ≡ true
   pub late : is_below kind LineTooLong ≡ true → is_below kind BadByte ≡ true → list_all (λ test. is_below kind test.1) (item_tests (context_of before) earlier item) ≡ true → IsGood before earlier item
 
 -- If each line whose first error is of this kind is such a line, the law of the kind holds.
@@ -288,7 +288,7 @@ pub in-words-by : (Holds : List LineContent → Draft → Type 0) → IsKept Hol
     → IsInWords kind is_such
 in-words-by Holds keeps kind is_such early short legal such bytes fault first k = by (first_line_fault 1 (lines_in_context bytes)) refl first
   where
-    by : (o : Option Fault) → first_line_fault 1 (lines_in_context bytes) ≡ o → option_or o (whole_mps_fault bytes) ≡ Some fault → StandsOn is_such bytes fault
+    by : (o : Option Fault) → first_line_fault 1 (lines_in_context bytes) ≡ o → option_or o (whole_mps_fault bytes) ≡ Some fault → IsFaultOfLine is_such bytes fault
     by None e h = absurd (never (is_of_whole kind) (ap is_of_whole (sym k) ∙ of-whole bytes fault h) early)
     by (Some other) e h =
         let same : other ≡ fault = cc in
@@ -296,8 +296,8 @@ in-words-by Holds keeps kind is_such early short legal such bytes fault first k 
         let items = map content_of found.front in
         let ds = line_declares (context_of items) found.earlier (content_of found.line) in
         let tests = item_tests (context_of items) found.earlier (content_of found.line) in
-        let first_is = found.told ∙ ap (λ (x : FaultKind). Some x) k in
-        let told = told-by (line_tests (context_of items) found.earlier found.line) found.earlier ds kind first_is in
+        let first_is = found.stated ∙ ap (λ (x : FaultKind). Some x) k in
+        let stated = reported-by (line_tests (context_of items) found.earlier found.line) found.earlier ds kind first_is in
         record {
           before = found.front;
           line = found.line;
@@ -306,9 +306,9 @@ in-words-by Holds keeps kind is_such early short legal such bytes fault first k 
           number = found.number;
           such = such items found.earlier (content_of found.line) found.known
               (record {
-                told = sym (ap (λ (b : Bool). b || refuses kind found.earlier ds)
+                stated = sym (ap (λ (b : Bool). b || refuses kind found.earlier ds)
                     (passed kind (not (has_legal_length found.line)) (not (list_all is_legal_byte (outside_comment found.line))) tests short legal))
-                    ∙ told;
+                    ∙ stated;
                 late = λ a b c.
                     item-form (context_of items) found.earlier found.line
                     (form-holds (line_tests (context_of items) found.earlier found.line) found.earlier ds kind
@@ -319,6 +319,6 @@ in-words-by Holds keeps kind is_such early short legal such bytes fault first k 
 
 -- by what is known of names
 pub in-words : (kind : FaultKind) (is_such : List LineContent → LineContent → Bool) → is_of_whole kind ≡ false → is_kind kind LineTooLong ≡ false → is_kind kind BadByte ≡ false
-    → ((before : List LineContent) (earlier : Draft) (item : LineContent) → Told before earlier → IsFirst kind before earlier item → is_such before item ≡ true)
+    → ((before : List LineContent) (earlier : Draft) (item : LineContent) → Stated before earlier → IsFirst kind before earlier item → is_such before item ≡ true)
     → IsInWords kind is_such
-in-words = in-words-by Told (record { none = none-told; kept = λ before earlier item good _ told. told-kept before earlier item good told })
+in-words = in-words-by Stated (record { none = none-stated; kept = λ before earlier item good _ stated. stated-kept before earlier item good stated })

@@ -26,11 +26,11 @@ use Rattle.mpslp_mps_fields.specs.declared.sections.Section.TheVariants.{Name, O
 use Rattle.mpslp_mps.proofs.OrderLemmas.{never}
 use Rattle.mpslp_mps.proofs.ObjNameOfWords.{no-more-lines}
 use Rattle.mpslp_mps.proofs.FaultedLines.{holds_of, refuses, IsFirst, in-words-by}
-use Rattle.mpslp_mps.proofs.KindsOfLines.{is_among, none-holds, right_alone, header_kinds, kinds_in, data-among, header-among}
+use Rattle.mpslp_mps.proofs.KindsOfLines.{is_among, none-holds, right_only, header_kinds, kinds_in, data-among, header-among}
 use Rattle.mpslp_mps.proofs.FaultsOfNames.{may_refuse}
 use Rattle.mpslp_mps.proofs.RepeatsOfNames.{last-place, below-all}
 use Rattle.mpslp_mps.proofs.DeclaredByLines.{is_of_header, is_at_home, is_elsewhere, IsErrorOfSection, line-of, unrefused-header, unrefused-at}
-use Rattle.mpslp_mps.proofs.FaultsOfValues.{AreValuesTold, values-told, rejected}
+use Rattle.mpslp_mps.proofs.FaultsOfValues.{AreValuesStated, values-stated, rejected}
 
 -- ---- a line of BOUNDS
 
@@ -94,8 +94,8 @@ bounds-again type column value all h = by type h
     by bounds.IntegerUpper k = upper (has_name all.uppers column) k
     by bounds.SemiUpper k = upper (has_name all.uppers column) k
 
-repeated-bound : (before : List LineContent) (earlier : Draft) (item : LineContent) → AreValuesTold before earlier → IsFirst kinds.DuplicateBound before earlier item → repeats_bound before item ≡ true
-repeated-bound before earlier item told first =
+repeated-bound : (before : List LineContent) (earlier : Draft) (item : LineContent) → AreValuesStated before earlier → IsFirst kinds.DuplicateBound before earlier item → repeats_bound before item ≡ true
+repeated-bound before earlier item stated first =
     line-of Bounds kinds.DuplicateBound bound-again (is_such_bound (repeats_bound_of before)) before earlier (λ fields h. bounds-so kinds.DuplicateBound earlier (repeats_bound_of before) each fields h) item
     (rejected kinds.DuplicateBound before earlier item refl refl refl (below-all kinds.DuplicateBound refl refl refl refl) first)
   where
@@ -106,17 +106,17 @@ repeated-bound before earlier item told first =
     each : (type : BoundType) (column : List ℕ) (value : Limit) → refuses kinds.DuplicateBound earlier (bound_declared type column value) ≡ true → repeats_bound_of before type column ≡ true
     each type column value h =
         either_more (gives_lower type && has_name earlier.lowers column) (gives_upper type && has_name earlier.uppers column) (gives_lower type && has_bound before gives_lower column) (gives_upper type && has_bound before gives_upper column)
-        (within (gives_lower type) (has_name earlier.lowers column) (has_bound before gives_lower column) (told.lowers column))
-        (within (gives_upper type) (has_name earlier.uppers column) (has_bound before gives_upper column) (told.uppers column)) (bounds-again type column value earlier h)
+        (within (gives_lower type) (has_name earlier.lowers column) (has_bound before gives_lower column) (stated.lowers column))
+        (within (gives_upper type) (has_name earlier.uppers column) (has_bound before gives_upper column) (stated.uppers column)) (bounds-again type column value earlier h)
 
 pub repeated-bounds : IsInWords kinds.DuplicateBound repeats_bound
-repeated-bounds = in-words-by AreValuesTold values-told kinds.DuplicateBound repeats_bound refl refl refl repeated-bound
+repeated-bounds = in-words-by AreValuesStated values-stated kinds.DuplicateBound repeats_bound refl refl refl repeated-bound
 
 -- ---- SemiContinuous
 
 -- no test of the form of a line is of this kind
 semi-refused : (before : List LineContent) (earlier : Draft) (item : LineContent) → IsFirst kinds.SemiContinuous before earlier item → refuses kinds.SemiContinuous earlier (line_declares (context_of before) earlier item) ≡ true
-semi-refused before earlier item first = right_alone (holds_of kinds.SemiContinuous (item_tests (context_of before) earlier item)) (refuses kinds.SemiContinuous earlier (line_declares (context_of before) earlier item)) (none item) first.told
+semi-refused before earlier item first = right_only (holds_of kinds.SemiContinuous (item_tests (context_of before) earlier item)) (refuses kinds.SemiContinuous earlier (line_declares (context_of before) earlier item)) (none item) first.stated
   where
     other : (o : Option Section) → is_among (kinds_in o) kinds.SemiContinuous ≡ false
     other None = refl
@@ -153,17 +153,17 @@ bounds-out (x ∷ sections_seen) h =
     by Bounds e = cc
     by EndData e = cc
 
-none-semi : (before : List LineContent) (earlier : Draft) (column : List ℕ) → AreValuesTold before earlier → current_section before ≡ Some Columns → is_semi earlier column ≡ false
-none-semi before earlier column told here = by (is_semi earlier column) refl
+none-semi : (before : List LineContent) (earlier : Draft) (column : List ℕ) → AreValuesStated before earlier → current_section before ≡ Some Columns → is_semi earlier column ≡ false
+none-semi before earlier column stated here = by (is_semi earlier column) refl
   where
     out : has_section before Bounds ≡ false
-    out = bounds-out (seen_sections before) (last-place (seen_sections before) Columns told.told.known.words.ordered.order here)
+    out = bounds-out (seen_sections before) (last-place (seen_sections before) Columns stated.stated.known.words.ordered.order here)
 
     none : has_bound before is_semi_type column ≡ false
     none = ap (list_any (is_such_bound (λ type name. is_semi_type type && same_bytes column name))) (no-more-lines Bounds None before refl out)
 
     by : (b : Bool) → is_semi earlier column ≡ b → b ≡ false
-    by true e = absurd (never (has_bound before is_semi_type column) (told.semis column e) none)
+    by true e = absurd (never (has_bound before is_semi_type column) (stated.semis column e) none)
     by false e = refl
 
 -- so no line of COLUMNS has the error
@@ -188,9 +188,9 @@ column-unrefused context earlier fields none = by (is_marker_line fields)
     by true = refl
     by false = shaped (column_shape fields)
 
-clash-told : (type : BoundType) (column : List ℕ) (value : Limit) (all : Draft) → refuses kinds.SemiContinuous all (bound_declared type column value) ≡ true
+clash-reported : (type : BoundType) (column : List ℕ) (value : Limit) (all : Draft) → refuses kinds.SemiContinuous all (bound_declared type column value) ≡ true
     → ((is_semi_type type && is_integer all column) || (is_integer_type type && is_semi all column)) ≡ true
-clash-told type column value all h = by type h
+clash-reported type column value all h = by type h
   where
     integer : (a : Bool) → ((a || false) || false) ≡ true → a ≡ true
     integer true k = refl
@@ -212,8 +212,8 @@ clash-told type column value all h = by type h
     by bounds.IntegerUpper k = integer (is_semi all column) k
     by bounds.SemiUpper k = semi (is_integer all column) k
 
-both-kinds : (before : List LineContent) (earlier : Draft) (item : LineContent) → AreValuesTold before earlier → IsFirst kinds.SemiContinuous before earlier item → makes_both_kinds before item ≡ true
-both-kinds before earlier item told first = by item (semi-refused before earlier item first)
+both-kinds : (before : List LineContent) (earlier : Draft) (item : LineContent) → AreValuesStated before earlier → IsFirst kinds.SemiContinuous before earlier item → makes_both_kinds before item ≡ true
+both-kinds before earlier item stated first = by item (semi-refused before earlier item first)
   where
     headed : (d : Declaration) → is_of_header d ≡ true → not (may_refuse kinds.SemiContinuous d) ≡ true
     headed (declare_sense _) h = refl
@@ -239,9 +239,9 @@ both-kinds before earlier item told first = by item (semi-refused before earlier
 
     integer_column : (column : List ℕ) → is_integer earlier column ≡ true → is_integer_column before column ≡ true
     integer_column column k =
-        either_more (has_name earlier.marked column) (has_name earlier.integers column || has_name earlier.binaries column) (is_in_block column (data_lines Columns before)) (has_bound before is_integer_type column) (told.marked column)
-        (either (has_name earlier.integers column) (has_name earlier.binaries column) (has_bound before is_integer_type column) (told.integers column)
-        (λ e. absurd (never (has_name earlier.binaries column) e (told.plain.binaries column)))) k
+        either_more (has_name earlier.marked column) (has_name earlier.integers column || has_name earlier.binaries column) (is_in_block column (data_lines Columns before)) (has_bound before is_integer_type column) (stated.marked column)
+        (either (has_name earlier.integers column) (has_name earlier.binaries column) (has_bound before is_integer_type column) (stated.integers column)
+        (λ e. absurd (never (has_name earlier.binaries column) e (stated.plain.binaries column)))) k
 
     within : (a b c : Bool) → (b ≡ true → c ≡ true) → (a && b) ≡ true → (a && c) ≡ true
     within true b c f k = f k
@@ -251,12 +251,12 @@ both-kinds before earlier item told first = by item (semi-refused before earlier
     each type column value k =
         either_more (is_semi_type type && is_integer earlier column) (is_integer_type type && is_semi earlier column) (is_semi_type type && is_integer_column before column) (is_integer_type type && has_bound before is_semi_type column)
         (within (is_semi_type type) (is_integer earlier column) (is_integer_column before column) (integer_column column))
-        (within (is_integer_type type) (is_semi earlier column) (has_bound before is_semi_type column) (told.semis column)) (clash-told type column value earlier k)
+        (within (is_integer_type type) (is_semi earlier column) (has_bound before is_semi_type column) (stated.semis column)) (clash-reported type column value earlier k)
 
     of_section : (fields : Fields) (o : Option Section) → current_section before ≡ o → refuses kinds.SemiContinuous earlier (data_declared (context_of before) earlier fields o) ≡ true → (is_section Bounds o && is_such_bound (clashes_with before) fields) ≡ true
     of_section fields (Some Bounds) e k = bounds-so kinds.SemiContinuous earlier (clashes_with before) each fields k
     of_section fields (Some Columns) e k =
-        absurd (never (refuses kinds.SemiContinuous earlier (columns_line_declared (context_of before) fields)) k (column-unrefused (context_of before) earlier fields (λ column. none-semi before earlier column told e)))
+        absurd (never (refuses kinds.SemiContinuous earlier (columns_line_declared (context_of before) fields)) k (column-unrefused (context_of before) earlier fields (λ column. none-semi before earlier column stated e)))
     of_section fields None e k = k
     of_section fields (Some Name) e k = k
     of_section fields (Some ObjName) e k = k
@@ -272,4 +272,4 @@ both-kinds before earlier item told first = by item (semi-refused before earlier
     by (data_line fields) k = of_section fields (current_section before) refl k
 
 pub both-kinds-in_words : IsInWords kinds.SemiContinuous makes_both_kinds
-both-kinds-in_words = in-words-by AreValuesTold values-told kinds.SemiContinuous makes_both_kinds refl refl refl both-kinds
+both-kinds-in_words = in-words-by AreValuesStated values-stated kinds.SemiContinuous makes_both_kinds refl refl refl both-kinds

@@ -33,10 +33,10 @@ use Rattle.mpslp_mps_fields.specs.declared.sections.Section.{Section}
 use Rattle.mpslp_mps_fields.specs.declared.sections.Section.TheVariants.{Name, ObjSense, ObjName, Rows, Columns, Rhs, Ranges, Bounds, EndData}
 use Rattle.mpslp_mps.proofs.OrderLemmas.{IsGood, never, each-declared, sense-passes, sides-passes, ranges-passes, Passes, bounds-passes}
 use Rattle.mpslp_mps.proofs.WordsOfHeaders.{AreOrdered}
-use Rattle.mpslp_mps.proofs.WordsOfObjName.{told-words}
-use Rattle.mpslp_mps.proofs.NamesOfWords.{Told}
+use Rattle.mpslp_mps.proofs.WordsOfObjName.{stated-words}
+use Rattle.mpslp_mps.proofs.NamesOfWords.{Stated}
 use Rattle.mpslp_mps.proofs.FaultedLines.{holds_of, refused_as, refuses, is_below, IsFirst, in-words}
-use Rattle.mpslp_mps.proofs.KindsOfLines.{is_among, none-holds, left_alone, right_alone, header_kinds, kinds_in, same-rank, unknown_kinds, unknown-among, data-among, header-among}
+use Rattle.mpslp_mps.proofs.KindsOfLines.{is_among, none-holds, left_only, right_only, header_kinds, kinds_in, same-rank, unknown_kinds, unknown-among, data-among, header-among}
 
 -- ---- declarations that are not rejected with a kind
 
@@ -174,9 +174,9 @@ column-known context earlier fields = by (is_marker_line fields)
     by true = refl
     by false = of (column_shape fields)
 
-unknown-column : (before : List LineContent) (earlier : Draft) (item : LineContent) → Told before earlier → IsFirst kinds.UnknownColumn before earlier item → names_unknown_column before item ≡ true
-unknown-column before earlier skipped told h = let no = h.told in cc
-unknown-column before earlier (header keyword more) told h = by (section_named keyword) (right_alone (holds_of kinds.UnknownColumn tests) (refuses kinds.UnknownColumn earlier (header_declared (context_of before) earlier more (section_named keyword))) (none-holds header_kinds kinds.UnknownColumn tests (header-among (context_of before) earlier keyword more (section_named keyword)) refl) h.told)
+unknown-column : (before : List LineContent) (earlier : Draft) (item : LineContent) → Stated before earlier → IsFirst kinds.UnknownColumn before earlier item → names_unknown_column before item ≡ true
+unknown-column before earlier skipped stated h = let no = h.stated in cc
+unknown-column before earlier (header keyword more) stated h = by (section_named keyword) (right_only (holds_of kinds.UnknownColumn tests) (refuses kinds.UnknownColumn earlier (header_declared (context_of before) earlier more (section_named keyword))) (none-holds header_kinds kinds.UnknownColumn tests (header-among (context_of before) earlier keyword more (section_named keyword)) refl) h.stated)
   where
     tests : FaultTests
     tests = header_tests (context_of before) earlier keyword more (section_named keyword)
@@ -196,10 +196,10 @@ unknown-column before earlier (header keyword more) told h = by (section_named k
         none (Some Ranges) = refl
         none (Some Bounds) = refl
         none (Some EndData) = refl
-unknown-column before earlier (data_line fields) told h =
+unknown-column before earlier (data_line fields) stated h =
     by (current_section before)
-    (right_alone (holds_of kinds.UnknownColumn (data_tests (context_of before) earlier fields (current_section before))) (refuses kinds.UnknownColumn earlier (data_declared (context_of before) earlier fields (current_section before)))
-    (none-holds (kinds_in (current_section before)) kinds.UnknownColumn (data_tests (context_of before) earlier fields (current_section before)) (data-among (context_of before) earlier fields (current_section before)) (other (current_section before))) h.told)
+    (right_only (holds_of kinds.UnknownColumn (data_tests (context_of before) earlier fields (current_section before))) (refuses kinds.UnknownColumn earlier (data_declared (context_of before) earlier fields (current_section before)))
+    (none-holds (kinds_in (current_section before)) kinds.UnknownColumn (data_tests (context_of before) earlier fields (current_section before)) (data-among (context_of before) earlier fields (current_section before)) (other (current_section before))) h.stated)
   where
     other : (o : Option Section) → is_among (kinds_in o) kinds.UnknownColumn ≡ false
     other None = refl
@@ -228,7 +228,7 @@ unknown-column before earlier (data_line fields) told h =
             → option_map_or (λ name. not (names_column before name)) (option_map (λ (line : BoundLine). line.column) o) false ≡ true
         shape type None e = cc
         shape type (Some line) e =
-            unnamed (names_column before line.column) (has_column earlier line.column) (told.known.words.there line.column) (bounds-unknown type line.column (bound_value line) earlier e)
+            unnamed (names_column before line.column) (has_column earlier line.column) (stated.known.words.there line.column) (bounds-unknown type line.column (bound_value line) earlier e)
 
         typed : (o : Option BoundType) → refuses kinds.UnknownColumn earlier (declared_if_some (λ (type : BoundType). declared_if_some (λ (line : BoundLine). bound_declared type line.column (bound_value line)) (bound_shape type more)) o) ≡ true
             → option_map_or (λ name. not (names_column before name)) (option_map_or (λ type. option_map (λ (line : BoundLine). line.column) (bound_shape type more)) o None) false ≡ true
@@ -257,20 +257,20 @@ unknown-columns = in-words kinds.UnknownColumn names_unknown_column refl refl re
 -- ---- UnknownRow
 
 -- a row of `TextInWords` exists
-row-there : (before : List LineContent) (earlier : Draft) (name : List ℕ) → Told before earlier → has_section before Columns ≡ true → is_row before name ≡ true → has_row earlier name ≡ true
-row-there before earlier name told begun h = by (names_row before name) refl h
+row-there : (before : List LineContent) (earlier : Draft) (name : List ℕ) → Stated before earlier → has_section before Columns ≡ true → is_row before name ≡ true → has_row earlier name ≡ true
+row-there before earlier name stated begun h = by (names_row before name) refl h
   where
     by : (b : Bool) → names_row before name ≡ b → (b || (has_default_objective before && same_bytes name (codes "obj"))) ≡ true → has_row earlier name ≡ true
-    by true e k = told.rows_there name e
+    by true e k = stated.rows_there name e
     by false e k =
         ap (has_row earlier) (same_name name (codes "obj") (second_so (has_default_objective before) (same_bytes name (codes "obj")) k))
-        ∙ told.default_there begun (first_so (has_default_objective before) (same_bytes name (codes "obj")) k)
+        ∙ stated.default_there begun (first_so (has_default_objective before) (same_bytes name (codes "obj")) k)
 
 -- rows that do not exist are not named
-rows-unnamed : (before : List LineContent) (earlier : Draft) (pairs : List Pair) → Told before earlier → has_section before Columns ≡ true → list_any (λ pair. not (has_row earlier pair.row)) pairs ≡ true → list_any (λ pair. not (is_row before pair.row)) pairs ≡ true
-rows-unnamed before earlier pairs told begun =
+rows-unnamed : (before : List LineContent) (earlier : Draft) (pairs : List Pair) → Stated before earlier → has_section before Columns ≡ true → list_any (λ pair. not (has_row earlier pair.row)) pairs ≡ true → list_any (λ pair. not (is_row before pair.row)) pairs ≡ true
+rows-unnamed before earlier pairs stated begun =
     some (λ pair. not (has_row earlier pair.row)) (λ pair. not (is_row before pair.row)) pairs
-    (λ pair e. unnamed (is_row before pair.row) (has_row earlier pair.row) (row-there before earlier pair.row told begun) e)
+    (λ pair e. unnamed (is_row before pair.row) (has_row earlier pair.row) (row-there before earlier pair.row stated begun) e)
 
 either-pair : (a c d : Bool) → (c ≡ true → d ≡ true) → ((a || false) || c) ≡ true → (a || d) ≡ true
 either-pair true c d f h = refl
@@ -301,20 +301,20 @@ ranges-unknown (pair ∷ pairs) all h =
     either-pair (not (has_row all pair.row)) (refuses kinds.UnknownRow next (map (λ (pair : Pair). declare_range pair.row (value_of pair.literal)) pairs)) (list_any (λ p. not (has_row all p.row)) pairs) (ranges-unknown pairs next) h
 
 -- the word of OBJNAME is not the name of an N row
-word-unnamed : (test : List ℕ → Bool) (words : List Fields) (told : List ℕ) → head_of (filter_map word_shape words) ≡ Some told → test told ≡ false → list_all test (flat_map (λ fields. fields) words) ≡ false
-word-unnamed test [] told h k = cc
-word-unnamed test ([] ∷ more) told h k = word-unnamed test more told h k
-word-unnamed test ((word ∷ []) ∷ more) told h k = let same : word ≡ told = cc in ap (λ (b : Bool). b && list_all test (flat_map (λ fields. fields) more)) (ap test same ∙ k)
-word-unnamed test ((word ∷ next ∷ rest) ∷ more) told h k =
+word-unnamed : (test : List ℕ → Bool) (words : List Fields) (stated : List ℕ) → head_of (filter_map word_shape words) ≡ Some stated → test stated ≡ false → list_all test (flat_map (λ fields. fields) words) ≡ false
+word-unnamed test [] stated h k = cc
+word-unnamed test ([] ∷ more) stated h k = word-unnamed test more stated h k
+word-unnamed test ((word ∷ []) ∷ more) stated h k = let same : word ≡ stated = cc in ap (λ (b : Bool). b && list_all test (flat_map (λ fields. fields) more)) (ap test same ∙ k)
+word-unnamed test ((word ∷ next ∷ rest) ∷ more) stated h k =
     list_all-append test (word ∷ next ∷ rest) (flat_map (λ fields. fields) more)
-    ∙ (ap (λ (b : Bool). list_all test (word ∷ next ∷ rest) && b) (word-unnamed test more told h k) ∙ nowhere (list_all test (word ∷ next ∷ rest)))
+    ∙ (ap (λ (b : Bool). list_all test (word ∷ next ∷ rest) && b) (word-unnamed test more stated h k) ∙ nowhere (list_all test (word ∷ next ∷ rest)))
   where
     nowhere : (b : Bool) → (b && false) ≡ false
     nowhere true = refl
     nowhere false = refl
 
-objective-missing : (before : List LineContent) (earlier : Draft) → Told before earlier → lacks_objective (context_of before) earlier ≡ true → not (has_named_objective before) ≡ true
-objective-missing before earlier told h =
+objective-missing : (before : List LineContent) (earlier : Draft) → Stated before earlier → lacks_objective (context_of before) earlier ≡ true → not (has_named_objective before) ≡ true
+objective-missing before earlier stated h =
     so_not (has_named_objective before)
     (named (objname before) refl (second_so (is_none earlier.objective) (is_some (objname before)) h))
   where
@@ -326,13 +326,13 @@ objective-missing before earlier told h =
     apart (Some x) e k = cc
 
     lacks : (word : List ℕ) (b : Bool) → objname before ≡ Some word → has_free_row before word ≡ b → b ≡ false
-    lacks word true e k = absurd (apart earlier.objective none (told.known.declares word e k))
+    lacks word true e k = absurd (apart earlier.objective none (stated.known.declares word e k))
     lacks word false e k = refl
 
     named : (o : Option (List ℕ)) → objname before ≡ o → is_some o ≡ true → has_named_objective before ≡ false
     named None e k = cc
     named (Some word) e k =
-        word-unnamed (has_free_row before) (words_in ObjName before) word (ap head_of (told-words None before) ∙ e)
+        word-unnamed (has_free_row before) (words_in ObjName before) word (ap head_of (stated-words None before) ∙ e)
         (lacks word (has_free_row before word) e refl)
 
 -- in a section from COLUMNS on, COLUMNS has begun
@@ -344,9 +344,9 @@ columns-begun before s ordered late e = ordered.columns (last-so (seen_sections 
     last-so (x ∷ []) k = let same : x ≡ s = cc in or_left (nat_le 3 (section_rank x)) false (ap (λ (y : Section). nat_le 3 (section_rank y)) same ∙ late)
     last-so (x ∷ y ∷ sections_seen) k = or_right (nat_le 3 (section_rank x)) (list_any (λ (z : Section). nat_le 3 (section_rank z)) (y ∷ sections_seen)) (last-so (y ∷ sections_seen) k)
 
-unknown-row : (before : List LineContent) (earlier : Draft) (item : LineContent) → Told before earlier → IsFirst kinds.UnknownRow before earlier item → names_unknown_row before item ≡ true
-unknown-row before earlier skipped told h = let no = h.told in cc
-unknown-row before earlier (header keyword more) told h = by (section_named keyword) h.told
+unknown-row : (before : List LineContent) (earlier : Draft) (item : LineContent) → Stated before earlier → IsFirst kinds.UnknownRow before earlier item → names_unknown_row before item ≡ true
+unknown-row before earlier skipped stated h = let no = h.stated in cc
+unknown-row before earlier (header keyword more) stated h = by (section_named keyword) h.stated
   where
     unrefused : (s : Option Section) → list_all (λ d. not (may_refuse kinds.UnknownRow d)) (header_declared (context_of before) earlier more s) ≡ true
     unrefused None = refl
@@ -364,7 +364,7 @@ unknown-row before earlier (header keyword more) told h = by (section_named keyw
     form : (o : Option Section) → (holds_of kinds.UnknownRow (header_tests (context_of before) earlier keyword more o) || refuses kinds.UnknownRow earlier (header_declared (context_of before) earlier more o)) ≡ true
         → holds_of kinds.UnknownRow (header_tests (context_of before) earlier keyword more o) ≡ true
     form o k =
-        left_alone (holds_of kinds.UnknownRow (header_tests (context_of before) earlier keyword more o)) (refuses kinds.UnknownRow earlier (header_declared (context_of before) earlier more o))
+        left_only (holds_of kinds.UnknownRow (header_tests (context_of before) earlier keyword more o)) (refuses kinds.UnknownRow earlier (header_declared (context_of before) earlier more o))
         (none-refuse kinds.UnknownRow (header_declared (context_of before) earlier more o) earlier (unrefused o)) k
 
     sense : (fs : Fields) → holds_of kinds.UnknownRow (section_tests (context_of before) earlier ObjSense fs) ≡ true → false ≡ true
@@ -376,7 +376,7 @@ unknown-row before earlier (header keyword more) told h = by (section_named keyw
     of ObjSense k = sense more k
     of ObjName k = cc
     of Rows k = cc
-    of Columns k = objective-missing before earlier told (left_alone (lacks_objective (context_of before) earlier) false refl k)
+    of Columns k = objective-missing before earlier stated (left_only (lacks_objective (context_of before) earlier) false refl k)
     of Rhs k = cc
     of Ranges k = cc
     of Bounds k = cc
@@ -390,10 +390,10 @@ unknown-row before earlier (header keyword more) told h = by (section_named keyw
         (unknown-among (is_one_of (codes "QSECTION" ∷ codes "QMATRIX" ∷ codes "QUADOBJ" ∷ codes "QCMATRIX" ∷ codes "CSECTION" ∷ []) keyword)
         (is_one_of (codes "SOS" ∷ codes "SOS1" ∷ codes "SOS2" ∷ []) keyword) (is_one_of (codes "INDICATORS" ∷ []) keyword)) refl))
     by (Some s) k = of s (form (Some s) k)
-unknown-row before earlier (data_line fields) told h =
+unknown-row before earlier (data_line fields) stated h =
     by (current_section before) refl
-    (right_alone (holds_of kinds.UnknownRow (data_tests (context_of before) earlier fields (current_section before))) (refuses kinds.UnknownRow earlier (data_declared (context_of before) earlier fields (current_section before)))
-    (none-holds (kinds_in (current_section before)) kinds.UnknownRow (data_tests (context_of before) earlier fields (current_section before)) (data-among (context_of before) earlier fields (current_section before)) (other (current_section before))) h.told)
+    (right_only (holds_of kinds.UnknownRow (data_tests (context_of before) earlier fields (current_section before))) (refuses kinds.UnknownRow earlier (data_declared (context_of before) earlier fields (current_section before)))
+    (none-holds (kinds_in (current_section before)) kinds.UnknownRow (data_tests (context_of before) earlier fields (current_section before)) (data-among (context_of before) earlier fields (current_section before)) (other (current_section before))) h.stated)
   where
     other : (o : Option Section) → is_among (kinds_in o) kinds.UnknownRow ≡ false
     other None = refl
@@ -427,23 +427,23 @@ unknown-row before earlier (data_line fields) told h =
         of : (o : Option ValuesLine) → refuses kinds.UnknownRow earlier (declared_if_some (column_declared (context_of before)) o) ≡ true
             → list_any (λ pair. not (is_row before pair.row)) (option_map_or (λ (line : ValuesLine). line.pairs) o []) ≡ true
         of None e = e
-        of (Some line) e = rows-unnamed before earlier line.pairs told begun (marks line (context_of before).in_integer_part e)
+        of (Some line) e = rows-unnamed before earlier line.pairs stated begun (marks line (context_of before).in_integer_part e)
 
     sides : has_section before Columns ≡ true → (o : Option ValuesLine) → refuses kinds.UnknownRow earlier (declared_if_some (rhs_line_declared earlier) o) ≡ true
         → list_any (λ pair. not (is_row before pair.row)) (option_map_or (λ (line : ValuesLine). line.pairs) o []) ≡ true
     sides begun None e = e
-    sides begun (Some line) e = rows-unnamed before earlier line.pairs told begun (sides-unknown earlier line.pairs earlier e)
+    sides begun (Some line) e = rows-unnamed before earlier line.pairs stated begun (sides-unknown earlier line.pairs earlier e)
 
     ranges : has_section before Columns ≡ true → (o : Option ValuesLine) → refuses kinds.UnknownRow earlier (declared_if_some ranges_declared o) ≡ true
         → list_any (λ pair. not (is_row before pair.row)) (option_map_or (λ (line : ValuesLine). line.pairs) o []) ≡ true
     ranges begun None e = e
-    ranges begun (Some line) e = rows-unnamed before earlier line.pairs told begun (ranges-unknown line.pairs earlier e)
+    ranges begun (Some line) e = rows-unnamed before earlier line.pairs stated begun (ranges-unknown line.pairs earlier e)
 
     passes : Passes (λ d. not (may_refuse kinds.UnknownRow d))
     passes = record { lower = λ _ _. refl; upper = λ _ _. refl; integer = λ _. refl; semi = λ _. refl }
 
     begun_in : (s : Section) → nat_le 3 (section_rank s) ≡ true → current_section before ≡ Some s → has_section before Columns ≡ true
-    begun_in s = columns-begun before s told.known.words.ordered
+    begun_in s = columns-begun before s stated.known.words.ordered
 
     by : (o : Option Section) → current_section before ≡ o → refuses kinds.UnknownRow earlier (data_declared (context_of before) earlier fields o) ≡ true → list_any (λ pair. not (is_row before pair.row)) (pairs_in o fields) ≡ true
     by None e k = k

@@ -25,7 +25,7 @@ use Rattle.mpslp_mps.specs.ValueFaultsInWords.{is_without_limits, ranges_free_ro
 use Rattle.mpslp_mps_fields.specs.declared.sections.Section.{Section}
 use Rattle.mpslp_mps_fields.specs.declared.sections.Section.TheVariants.{Rhs, Ranges}
 use Rattle.mpslp_mps.proofs.OrderLemmas.{IsGood}
-use Rattle.mpslp_mps.proofs.NamesOfWords.{Told, none-told, told-kept}
+use Rattle.mpslp_mps.proofs.NamesOfWords.{Stated, none-stated, stated-kept}
 use Rattle.mpslp_mps.proofs.FaultedLines.{refuses, is_below, IsKept, IsFirst, in-words-by}
 use Rattle.mpslp_mps.proofs.KindsOfLines.{kinds_in, header_kinds}
 use Rattle.mpslp_mps.proofs.FaultsOfNames.{may_refuse, form-good, some}
@@ -37,8 +37,8 @@ use Rattle.mpslp_mps.proofs.BlocksOfLines.{HaveMarkedLines, marked_lines-kept}
 
 -- ---- what the lines before declare, if none of them has an error
 
-pub record AreValuesTold (before : List LineContent) (earlier : Draft) : Type 0 where
-  pub told : Told before earlier
+pub record AreValuesStated (before : List LineContent) (earlier : Draft) : Type 0 where
+  pub stated : Stated before earlier
   pub names : HasDeclaredNames earlier
   pub apart : HasKindsApart earlier
   pub one_constant : has_one_constant earlier ≡ true
@@ -54,20 +54,20 @@ pub record AreValuesTold (before : List LineContent) (earlier : Draft) : Type 0 
   pub semis : HaveBoundLines semi_of is_semi_type before earlier
   pub marked : HaveMarkedLines before earlier
 
-values-kept : (before : List LineContent) (earlier : Draft) (item : LineContent) → IsGood before earlier item → refusals_in_turn earlier (line_declares (context_of before) earlier item) ≡ [] → AreValuesTold before earlier
-    → AreValuesTold (before ++ item ∷ []) (with_declarations earlier (line_declares (context_of before) earlier item))
+values-kept : (before : List LineContent) (earlier : Draft) (item : LineContent) → IsGood before earlier item → refusals_in_turn earlier (line_declares (context_of before) earlier item) ≡ [] → AreValuesStated before earlier
+    → AreValuesStated (before ++ item ∷ []) (with_declarations earlier (line_declares (context_of before) earlier item))
 values-kept before earlier item good free h =
     let fine = none-fine (line_declares (context_of before) earlier item) earlier h.names h.apart h.one_constant free in
     let extends = extends-in_turn (line_declares (context_of before) earlier item) earlier fine.fresh in
     record {
-      told = told-kept before earlier item good h.told;
+      stated = stated-kept before earlier item good h.stated;
       names = fine.declared_names;
       apart = fine.kinds_apart;
       one_constant = fine.one_constant;
       plain = plain-kept (context_of before) earlier item h.plain;
       free_lines = free_lines-kept before earlier item h.free_lines;
       rows_free = rows_free-kept before earlier item extends h.rows_free;
-      first_named = first_named-kept before earlier item good h.told extends h.first_named;
+      first_named = first_named-kept before earlier item good h.stated extends h.first_named;
       sides = side_lines-kept before earlier item h.sides;
       ranges = range_lines-kept before earlier item h.ranges;
       lowers = lower_lines-kept before earlier item h.lowers;
@@ -77,10 +77,10 @@ values-kept before earlier item good free h =
       marked = marked_lines-kept before earlier item h.marked;
     }
 
-pub values-told : IsKept AreValuesTold
-values-told = record {
+pub values-stated : IsKept AreValuesStated
+values-stated = record {
   none = record {
-    told = none-told;
+    stated = none-stated;
     names = empty_declared_names;
     apart = empty_kinds_apart;
     one_constant = refl;
@@ -128,8 +128,8 @@ ranges-free (pair ∷ pairs) all h = by (is_objective all pair.row || is_free_ro
     by true k rest = refl
     by false k rest = rest k
 
-free-range : (before : List LineContent) (earlier : Draft) (item : LineContent) → AreValuesTold before earlier → IsFirst kinds.RangeOnFree before earlier item → ranges_free_row before item ≡ true
-free-range before earlier item told first =
+free-range : (before : List LineContent) (earlier : Draft) (item : LineContent) → AreValuesStated before earlier → IsFirst kinds.RangeOnFree before earlier item → ranges_free_row before item ≡ true
+free-range before earlier item stated first =
     line-of Ranges kinds.RangeOnFree of-ranges (λ fields. list_any (λ pair. is_without_limits before pair.row) (vector_pairs fields)) before earlier (λ fields h. of (vector_shape fields) h) item
     (rejected kinds.RangeOnFree before earlier item refl refl refl (below-all kinds.RangeOnFree refl refl refl refl) first)
   where
@@ -137,15 +137,15 @@ free-range before earlier item told first =
     without row k = by (is_objective earlier row) refl k
       where
         by : (b : Bool) → is_objective earlier row ≡ b → (b || is_free_row earlier row) ≡ true → is_without_limits before row ≡ true
-        by true e l = or_right _ _ (told.first_named row e)
-        by false e l = or_left _ _ (told.free_lines row l)
+        by true e l = or_right _ _ (stated.first_named row e)
+        by false e l = or_left _ _ (stated.free_lines row l)
 
     of : (o : Option ValuesLine) → refuses kinds.RangeOnFree earlier (declared_if_some ranges_declared o) ≡ true → list_any (λ pair. is_without_limits before pair.row) (option_map_or (λ (line : ValuesLine). line.pairs) o []) ≡ true
     of None h = h
     of (Some line) h = some (λ pair. is_objective earlier pair.row || is_free_row earlier pair.row) (λ pair. is_without_limits before pair.row) line.pairs (λ pair k. without pair.row k) (ranges-free line.pairs earlier h)
 
 pub free-ranges : IsInWords kinds.RangeOnFree ranges_free_row
-free-ranges = in-words-by AreValuesTold values-told kinds.RangeOnFree ranges_free_row refl refl refl free-range
+free-ranges = in-words-by AreValuesStated values-stated kinds.RangeOnFree ranges_free_row refl refl refl free-range
 
 -- ---- rows of the pairs of a line: one that is there already, or twice
 
@@ -230,17 +230,17 @@ ranges-again (pair ∷ pairs) all limits h = by (has_name all.ranges pair.row) (
         again-more (has_name next.ranges) (λ row. same_bytes row pair.row || has_name all.ranges row)
         (λ row f. sym (has-put row pair.row (value_of pair.literal) all.ranges) ∙ f) pairs (rest k)
 
-repeated-range : (before : List LineContent) (earlier : Draft) (item : LineContent) → AreValuesTold before earlier → IsFirst kinds.DuplicateRange before earlier item → repeats_range before item ≡ true
-repeated-range before earlier item told first =
+repeated-range : (before : List LineContent) (earlier : Draft) (item : LineContent) → AreValuesStated before earlier → IsFirst kinds.DuplicateRange before earlier item → repeats_range before item ≡ true
+repeated-range before earlier item stated first =
     line-of Ranges kinds.DuplicateRange range-again (λ fields. repeats_row_of (data_lines Ranges before) (vector_pairs fields)) before earlier (λ fields h. of (vector_shape fields) h) item
     (rejected kinds.DuplicateRange before earlier item refl refl refl (below-all kinds.DuplicateRange refl refl refl refl) first)
   where
     of : (o : Option ValuesLine) → refuses kinds.DuplicateRange earlier (declared_if_some ranges_declared o) ≡ true → repeats_row_of (data_lines Ranges before) (option_map_or (λ (line : ValuesLine). line.pairs) o []) ≡ true
     of None h = h
-    of (Some line) h = repeats-from_again (data_lines Ranges before) (has_name earlier.ranges) told.ranges line.pairs (ranges-again line.pairs earlier told.plain.limits h)
+    of (Some line) h = repeats-from_again (data_lines Ranges before) (has_name earlier.ranges) stated.ranges line.pairs (ranges-again line.pairs earlier stated.plain.limits h)
 
 pub repeated-ranges : IsInWords kinds.DuplicateRange repeats_range
-repeated-ranges = in-words-by AreValuesTold values-told kinds.DuplicateRange repeats_range refl refl refl repeated-range
+repeated-ranges = in-words-by AreValuesStated values-stated kinds.DuplicateRange repeats_range refl refl refl repeated-range
 
 -- ---- DuplicateRhs
 
@@ -303,8 +303,8 @@ module _ (earlier : Draft) (takes : List ℕ → Bool) (limited : (row : List �
           ap (λ (b : Bool). again (has_name all.rhs_values) (cond b (pair ∷ rest) rest)) (limited pair.row e)
           ∙ counts (has_name all.rhs_values pair.row) (is_row_by_limits all pair.row) (is_objective all pair.row && is_some all.constant) (limits pair.row) (constant_none (is_objective all pair.row) all.constant constant) k step
 
-repeated-side : (before : List LineContent) (earlier : Draft) (item : LineContent) → AreValuesTold before earlier → IsFirst kinds.DuplicateRhs before earlier item → repeats_side before item ≡ true
-repeated-side before earlier item told first =
+repeated-side : (before : List LineContent) (earlier : Draft) (item : LineContent) → AreValuesStated before earlier → IsFirst kinds.DuplicateRhs before earlier item → repeats_side before item ≡ true
+repeated-side before earlier item stated first =
     line-of Rhs kinds.DuplicateRhs side-again (λ fields. repeats_row_of (data_lines Rhs before) (filter (λ pair. takes_side before pair.row) (vector_pairs fields))) before earlier (λ fields h. of (vector_shape fields) h) item
     (rejected kinds.DuplicateRhs before earlier item refl refl refl (below-all kinds.DuplicateRhs refl refl refl refl) first)
   where
@@ -317,15 +317,15 @@ repeated-side before earlier item told first =
         right false b f k = k
 
         by : (b : Bool) → has_free_row before row ≡ b → (not b || names_objective before row) ≡ true
-        by true f = told.first_named row (right (is_free_row earlier row) (is_objective earlier row) e (told.rows_free row f))
+        by true f = stated.first_named row (right (is_free_row earlier row) (is_objective earlier row) e (stated.rows_free row f))
         by false f = refl
 
     of : (o : Option ValuesLine) → refuses kinds.DuplicateRhs earlier (declared_if_some (rhs_line_declared earlier) o) ≡ true
         → repeats_row_of (data_lines Rhs before) (filter (λ pair. takes_side before pair.row) (option_map_or (λ (line : ValuesLine). line.pairs) o [])) ≡ true
     of None h = h
     of (Some line) h =
-        repeats-from_again (data_lines Rhs before) (has_name earlier.rhs_values) told.sides (filter (λ pair. takes_side before pair.row) line.pairs)
-        (sides-again earlier (takes_side before) limited line.pairs earlier told.plain.limits told.plain.constant h)
+        repeats-from_again (data_lines Rhs before) (has_name earlier.rhs_values) stated.sides (filter (λ pair. takes_side before pair.row) line.pairs)
+        (sides-again earlier (takes_side before) limited line.pairs earlier stated.plain.limits stated.plain.constant h)
 
 pub repeated-sides : IsInWords kinds.DuplicateRhs repeats_side
-repeated-sides = in-words-by AreValuesTold values-told kinds.DuplicateRhs repeats_side refl refl refl repeated-side
+repeated-sides = in-words-by AreValuesStated values-stated kinds.DuplicateRhs repeats_side refl refl refl repeated-side

@@ -13,24 +13,24 @@ use Rattle.mpslp_lines.specs.FaultTests.{number_tests, judged_by}
 use Rattle.mpslp_mps_fields.specs.Line.{Fields, LineContent, skipped, header, data_line, has, section_named, is_section, takes_word}
 use Rattle.mpslp_mps_fields.specs.DataLine.{word_shape, ValuesLine, column_shape, is_marker_line, marker_shape, opening_word, closing_word, vector_shape, BoundLine, bound_type, bound_shape}
 use Rattle.mpslp_mps.specs.Context.{context_of, current_section, seen_sections, data_lines, word_due, marker_word, line_column, vector_set, bound_set}
-use Rattle.mpslp_mps.specs.TextInWords.{has_section, section_rank, is_sense, words_in, is_one_word, alternate, stand_together}
+use Rattle.mpslp_mps.specs.TextInWords.{has_section, section_rank, is_sense, words_in, is_one_word, alternate, are_together}
 use Rattle.mpslp_mps.specs.LineFault.{set_tests, may_begin, is_out_of_order, word_tests, section_tests, header_tests, marker_word_tests, marker_tests, is_split, column_tests, vector_tests, bound_tests, typed_bound_tests, bound_line_tests, data_tests, item_tests}
 use Rattle.mpslp_mps_fields.specs.declared.bound_types.BoundType.{BoundType}
 use Rattle.mpslp_mps_fields.specs.declared.sections.Section.{Section}
 use Rattle.mpslp_mps_fields.specs.declared.sections.Section.TheVariants.{Name, ObjSense, ObjName, Rows, Columns, Rhs, Ranges, Bounds, EndData}
-use Rattle.mpslp_mps.specs.FaultsInWords.{IsInWords, repeats_section, comes_early, comes_late, has_its_word, is_without_word, is_closed, stands_out_of_order, breaks_turn, is_wrong_marker, differs_from, has_second_set, is_of_second_set, splits_column}
+use Rattle.mpslp_mps.specs.FaultsInWords.{IsInWords, repeats_section, comes_early, comes_late, has_its_word, is_without_word, is_closed, occurs_out_of_order, breaks_turn, is_wrong_marker, differs_from, has_second_set, is_of_second_set, splits_column}
 use Rattle.mpslp_mps.proofs.OrderLemmas.{never}
 use Rattle.mpslp_mps.proofs.WordsOfColumns.{columns_of}
 use Rattle.mpslp_mps.proofs.WordsOfOneWord.{missing, without_word, with_word, IsUnderway}
 use Rattle.mpslp_mps.proofs.SectionsOfWords.{marker-follows, together-apart}
 use Rattle.mpslp_mps.proofs.ColumnsOfWords.{not-split}
-use Rattle.mpslp_mps.proofs.NamesOfWords.{Told}
-use Rattle.mpslp_mps.proofs.KindsOfLines.{none-holds, left_alone, column_kinds, unknown_kinds, unknown-among, section-among, column-among, no-data, no-header, by-form}
+use Rattle.mpslp_mps.proofs.NamesOfWords.{Stated}
+use Rattle.mpslp_mps.proofs.KindsOfLines.{none-holds, left_only, column_kinds, unknown_kinds, unknown-among, section-among, column-among, no-data, no-header, by-form}
 use Rattle.mpslp_mps.proofs.FaultedLines.{holds_of, in-words}
 
 -- ---- SectionRepeated
 
-repeated : (before : List LineContent) (earlier : Draft) (item : LineContent) → Told before earlier → holds_of kinds.SectionRepeated (item_tests (context_of before) earlier item) ≡ true → repeats_section before item ≡ true
+repeated : (before : List LineContent) (earlier : Draft) (item : LineContent) → Stated before earlier → holds_of kinds.SectionRepeated (item_tests (context_of before) earlier item) ≡ true → repeats_section before item ≡ true
 repeated before earlier skipped known h = absurd (false≢true h)
 repeated before earlier (header keyword more) known h = by (section_named keyword) h
   where
@@ -41,7 +41,7 @@ repeated before earlier (header keyword more) known h = by (section_named keywor
         (unknown-among (is_one_of (codes "QSECTION" ∷ codes "QMATRIX" ∷ codes "QUADOBJ" ∷ codes "QCMATRIX" ∷ codes "CSECTION" ∷ []) keyword)
         (is_one_of (codes "SOS" ∷ codes "SOS1" ∷ codes "SOS2" ∷ []) keyword) (is_one_of (codes "INDICATORS" ∷ []) keyword)) refl))
     by (Some s) k =
-        left_alone (has_section before s) (holds_of kinds.SectionRepeated (section_tests (context_of before) earlier s more))
+        left_only (has_section before s) (holds_of kinds.SectionRepeated (section_tests (context_of before) earlier s more))
         (none-holds (kinds.BadType ∷ kinds.UnknownRow ∷ []) kinds.SectionRepeated (section_tests (context_of before) earlier s more) (section-among (context_of before) earlier s more) refl) k
 repeated before earlier (data_line fields) known h = by (current_section before) h
   where
@@ -62,7 +62,7 @@ section-repeated = in-words kinds.SectionRepeated repeats_section refl refl refl
 
 -- ---- BadMarker
 
-wrong-marker : (before : List LineContent) (earlier : Draft) (item : LineContent) → Told before earlier → holds_of kinds.BadMarker (item_tests (context_of before) earlier item) ≡ true → is_wrong_marker before item ≡ true
+wrong-marker : (before : List LineContent) (earlier : Draft) (item : LineContent) → Stated before earlier → holds_of kinds.BadMarker (item_tests (context_of before) earlier item) ≡ true → is_wrong_marker before item ≡ true
 wrong-marker before earlier skipped known h = absurd (false≢true h)
 wrong-marker before earlier (header keyword more) known h = no-header kinds.BadMarker (context_of before) earlier keyword more (section_named keyword) refl h
 wrong-marker before earlier (data_line fields) known h = by (current_section before) h
@@ -88,7 +88,7 @@ wrong-marker before earlier (data_line fields) known h = by (current_section bef
         marker : (o : Option (List ℕ)) → holds_of kinds.BadMarker (judged_by (marker_word_tests (context_of before)) o) ≡ true
             → option_map_or (λ word. not (alternate opening_word closing_word (words ++ word ∷ []))) o false ≡ true
         marker None e = absurd (false≢true e)
-        marker (Some word) e = of word (left_alone (not (same_bytes word due)) false refl e) (alternate opening_word closing_word (words ++ word ∷ [])) refl
+        marker (Some word) e = of word (left_only (not (same_bytes word due)) false refl e) (alternate opening_word closing_word (words ++ word ∷ [])) refl
     line false k =
         absurd (never (holds_of kinds.BadMarker (judged_by (column_tests (context_of before) earlier) (column_shape fields))) k
         (none-holds column_kinds kinds.BadMarker (judged_by (column_tests (context_of before) earlier) (column_shape fields)) (column-among (context_of before) earlier fields) refl))
@@ -110,17 +110,17 @@ bad-marker = in-words kinds.BadMarker is_wrong_marker refl refl refl (by-form ki
 
 -- ---- ColumnSplit
 
-split : (before : List LineContent) (earlier : Draft) (item : LineContent) → Told before earlier → holds_of kinds.ColumnSplit (item_tests (context_of before) earlier item) ≡ true → splits_column before item ≡ true
+split : (before : List LineContent) (earlier : Draft) (item : LineContent) → Stated before earlier → holds_of kinds.ColumnSplit (item_tests (context_of before) earlier item) ≡ true → splits_column before item ≡ true
 split before earlier skipped known h = absurd (false≢true h)
 split before earlier (header keyword more) known h = no-header kinds.ColumnSplit (context_of before) earlier keyword more (section_named keyword) refl h
 split before earlier (data_line fields) known h = by (current_section before) h
   where
-    of : (name : List ℕ) → is_split (context_of before) earlier name ≡ true → (b : Bool) → stand_together (columns_of before ++ Some name ∷ []) ≡ b → not b ≡ true
+    of : (name : List ℕ) → is_split (context_of before) earlier name ≡ true → (b : Bool) → are_together (columns_of before ++ Some name ∷ []) ≡ b → not b ≡ true
     of name k true e = absurd (never (is_split (context_of before) earlier name) k (not-split before earlier name known.known.lines (together-apart (Some name) (columns_of before) [] e)))
     of name k false e = refl
 
     line : (b : Bool) → holds_of kinds.ColumnSplit (cond b (marker_tests (context_of before) fields) (judged_by (column_tests (context_of before) earlier) (column_shape fields))) ≡ true
-        → not (stand_together (columns_of before ++ cond b None (option_map (λ (l : ValuesLine). l.name) (column_shape fields)) ∷ [])) ≡ true
+        → not (are_together (columns_of before ++ cond b None (option_map (λ (l : ValuesLine). l.name) (column_shape fields)) ∷ [])) ≡ true
     line true k = marker (marker_shape fields) k
       where
         marker : {X : Type 0} (o : Option (List ℕ)) → holds_of kinds.ColumnSplit (judged_by (marker_word_tests (context_of before)) o) ≡ true → X
@@ -129,12 +129,12 @@ split before earlier (data_line fields) known h = by (current_section before) h
     line false k = column (column_shape fields) k
       where
         column : (o : Option ValuesLine) → holds_of kinds.ColumnSplit (judged_by (column_tests (context_of before) earlier) o) ≡ true
-            → not (stand_together (columns_of before ++ option_map (λ (l : ValuesLine). l.name) o ∷ [])) ≡ true
+            → not (are_together (columns_of before ++ option_map (λ (l : ValuesLine). l.name) o ∷ [])) ≡ true
         column None e = absurd (false≢true e)
-        column (Some l) e = of l.name (left_alone (is_split (context_of before) earlier l.name) false refl e) (stand_together (columns_of before ++ Some l.name ∷ [])) refl
+        column (Some l) e = of l.name (left_only (is_split (context_of before) earlier l.name) false refl e) (are_together (columns_of before ++ Some l.name ∷ [])) refl
 
     by : (o : Option Section) → holds_of kinds.ColumnSplit (data_tests (context_of before) earlier fields o) ≡ true
-        → (is_section Columns o && not (stand_together (map line_column (data_lines Columns before) ++ line_column fields ∷ []))) ≡ true
+        → (is_section Columns o && not (are_together (map line_column (data_lines Columns before) ++ line_column fields ∷ []))) ≡ true
     by None k = no-data kinds.ColumnSplit (context_of before) earlier fields None refl k
     by (Some Name) k = no-data kinds.ColumnSplit (context_of before) earlier fields (Some Name) refl k
     by (Some ObjSense) k = no-data kinds.ColumnSplit (context_of before) earlier fields (Some ObjSense) refl k
@@ -156,22 +156,22 @@ other-first : (sets : List (List ℕ)) (set : List ℕ) → option_map_or (λ na
 other-first [] set h = absurd (false≢true h)
 other-first (first ∷ sets) set h = or_left (not (same_bytes first set)) (differs_from sets set) h
 
-second : (before : List LineContent) (earlier : Draft) (item : LineContent) → Told before earlier → holds_of kinds.SecondSet (item_tests (context_of before) earlier item) ≡ true → is_of_second_set before item ≡ true
+second : (before : List LineContent) (earlier : Draft) (item : LineContent) → Stated before earlier → holds_of kinds.SecondSet (item_tests (context_of before) earlier item) ≡ true → is_of_second_set before item ≡ true
 second before earlier skipped known h = absurd (false≢true h)
 second before earlier (header keyword more) known h = no-header kinds.SecondSet (context_of before) earlier keyword more (section_named keyword) refl h
 second before earlier (data_line fields) known h = by (current_section before) h
   where
     vector : (sets : List (List ℕ)) (o : Option ValuesLine) → holds_of kinds.SecondSet (judged_by (vector_tests (head_of sets)) o) ≡ true → option_map_or (differs_from sets) (option_map (λ (l : ValuesLine). l.name) o) false ≡ true
     vector sets None k = absurd (false≢true k)
-    vector sets (Some line) k = other-first sets line.name (left_alone (option_map_or (λ name. not (same_bytes name line.name)) (head_of sets) false) false refl k)
+    vector sets (Some line) k = other-first sets line.name (left_only (option_map_or (λ name. not (same_bytes name line.name)) (head_of sets) false) false refl k)
 
     sets_before : List (List ℕ)
     sets_before = filter_map bound_set (data_lines Bounds before)
 
     literal : (line : BoundLine) (o : Option (List ℕ)) → holds_of kinds.SecondSet (option_map_or (λ literal. number_tests (literal ∷ [])) o [] ++ set_tests (context_of before).bounds_set line.set) ≡ true
         → differs_from sets_before line.set ≡ true
-    literal line None k = other-first sets_before line.set (left_alone (option_map_or (λ name. not (same_bytes name line.set)) (head_of sets_before) false) false refl k)
-    literal line (Some text) k = other-first sets_before line.set (left_alone (option_map_or (λ name. not (same_bytes name line.set)) (head_of sets_before) false) false refl k)
+    literal line None k = other-first sets_before line.set (left_only (option_map_or (λ name. not (same_bytes name line.set)) (head_of sets_before) false) false refl k)
+    literal line (Some text) k = other-first sets_before line.set (left_only (option_map_or (λ name. not (same_bytes name line.set)) (head_of sets_before) false) false refl k)
 
     shape : (o : Option BoundLine) → holds_of kinds.SecondSet (judged_by (bound_tests (context_of before)) o) ≡ true → option_map_or (differs_from sets_before) (option_map (λ (l : BoundLine). l.set) o) false ≡ true
     shape None k = absurd (false≢true k)
@@ -279,7 +279,7 @@ misplaced before Ranges f g = or_left (not (has_section before Columns)) (comes_
 misplaced before Bounds f g = or_left (not (has_section before Columns)) (comes_late before Bounds) (so_not (has_section before Columns) g)
 misplaced before EndData f g = or_left (not (has_section before Columns)) (comes_late before EndData) (so_not (has_section before Columns) g)
 
-out-of-place : (before : List LineContent) (earlier : Draft) (item : LineContent) → Told before earlier → holds_of kinds.SectionOrder (item_tests (context_of before) earlier item) ≡ true → stands_out_of_order before item ≡ true
+out-of-place : (before : List LineContent) (earlier : Draft) (item : LineContent) → Stated before earlier → holds_of kinds.SectionOrder (item_tests (context_of before) earlier item) ≡ true → occurs_out_of_order before item ≡ true
 out-of-place before earlier skipped known h = absurd (false≢true h)
 out-of-place before earlier (header keyword more) known h = by (section_named keyword) h
   where
@@ -316,34 +316,34 @@ out-of-place before earlier (header keyword more) known h = by (section_named ke
         (is_one_of (codes "SOS" ∷ codes "SOS1" ∷ codes "SOS2" ∷ []) keyword) (is_one_of (codes "INDICATORS" ∷ []) keyword)) refl))
     by (Some s) k =
         of s (is_some (word_due before)) (has_section before s) (may_begin (context_of before) s) refl refl refl
-        (left_alone (is_out_of_order (context_of before) s) (holds_of kinds.SectionOrder (section_tests (context_of before) earlier s more))
+        (left_only (is_out_of_order (context_of before) s) (holds_of kinds.SectionOrder (section_tests (context_of before) earlier s more))
         (none-holds (kinds.BadType ∷ kinds.UnknownRow ∷ []) kinds.SectionOrder (section_tests (context_of before) earlier s more) (section-among (context_of before) earlier s more) refl) k)
 out-of-place before earlier (data_line fields) known h = by (current_section before) refl h
   where
-    stands : (s : Section) → holds_of kinds.SectionOrder (data_tests (context_of before) earlier fields (Some s)) ≡ true → current_section before ≡ Some s → is_closed before s ≡ true
-    stands Name k e = refl
-    stands ObjSense k e = with-its_word ObjSense is_sense before refl known.known.words.sense e refl (word (is_some (word_due before)) (word_shape fields) k)
+    occurs : (s : Section) → holds_of kinds.SectionOrder (data_tests (context_of before) earlier fields (Some s)) ≡ true → current_section before ≡ Some s → is_closed before s ≡ true
+    occurs Name k e = refl
+    occurs ObjSense k e = with-its_word ObjSense is_sense before refl known.known.words.sense e refl (word (is_some (word_due before)) (word_shape fields) k)
       where
         word : (b : Bool) (o : Option (List ℕ)) → holds_of kinds.SectionOrder ((not b, kinds.SectionOrder) ∷ judged_by word_tests o) ≡ true → b ≡ false
         word false o l = refl
         word true None l = absurd (false≢true l)
         word true (Some x) l = absurd (false≢true l)
-    stands ObjName k e = with-its_word ObjName (λ _. true) before refl known.known.words.name e refl (word (is_some (word_due before)) (word_shape fields) k)
+    occurs ObjName k e = with-its_word ObjName (λ _. true) before refl known.known.words.name e refl (word (is_some (word_due before)) (word_shape fields) k)
       where
         word : (b : Bool) (o : Option (List ℕ)) → holds_of kinds.SectionOrder ((not b, kinds.SectionOrder) ∷ judged_by (λ _. []) o) ≡ true → b ≡ false
         word false o l = refl
         word true None l = absurd (false≢true l)
         word true (Some x) l = absurd (false≢true l)
-    stands Rows k e = no-data kinds.SectionOrder (context_of before) earlier fields (Some Rows) refl k
-    stands Columns k e = no-data kinds.SectionOrder (context_of before) earlier fields (Some Columns) refl k
-    stands Rhs k e = no-data kinds.SectionOrder (context_of before) earlier fields (Some Rhs) refl k
-    stands Ranges k e = no-data kinds.SectionOrder (context_of before) earlier fields (Some Ranges) refl k
-    stands Bounds k e = no-data kinds.SectionOrder (context_of before) earlier fields (Some Bounds) refl k
-    stands EndData k e = refl
+    occurs Rows k e = no-data kinds.SectionOrder (context_of before) earlier fields (Some Rows) refl k
+    occurs Columns k e = no-data kinds.SectionOrder (context_of before) earlier fields (Some Columns) refl k
+    occurs Rhs k e = no-data kinds.SectionOrder (context_of before) earlier fields (Some Rhs) refl k
+    occurs Ranges k e = no-data kinds.SectionOrder (context_of before) earlier fields (Some Ranges) refl k
+    occurs Bounds k e = no-data kinds.SectionOrder (context_of before) earlier fields (Some Bounds) refl k
+    occurs EndData k e = refl
 
     by : (o : Option Section) → current_section before ≡ o → holds_of kinds.SectionOrder (data_tests (context_of before) earlier fields o) ≡ true → option_map_or (is_closed before) o true ≡ true
     by None e k = refl
-    by (Some s) e k = stands s k e
+    by (Some s) e k = occurs s k e
 
-pub section-order : IsInWords kinds.SectionOrder stands_out_of_order
-section-order = in-words kinds.SectionOrder stands_out_of_order refl refl refl (by-form kinds.SectionOrder stands_out_of_order refl out-of-place)
+pub section-order : IsInWords kinds.SectionOrder occurs_out_of_order
+section-order = in-words kinds.SectionOrder occurs_out_of_order refl refl refl (by-form kinds.SectionOrder occurs_out_of_order refl out-of-place)

@@ -27,9 +27,9 @@ use Rattle.mpslp_mps.proofs.ReadingLemmas.{fault_from-is}
 
 -- ---- lines after others
 
-or-behind : (a b c : Option Fault) → option_or (option_or a b) c ≡ option_or a (option_or b c)
-or-behind None b c = refl
-or-behind (Some x) b c = refl
+or-after : (a b c : Option Fault) → option_or (option_or a b) c ≡ option_or a (option_or b c)
+or-after None b c = refl
+or-after (Some x) b c = refl
 
 fault_from-append : (xs ys : List (List ℕ)) (n : ℕ) (context : Context) (earlier : Draft)
     → fault_from n context earlier (xs ++ ys) ≡ option_or (fault_from n context earlier xs) (fault_from (n + length xs) (context_from context xs) (draft_from context earlier xs) ys)
@@ -40,7 +40,7 @@ fault_from-append (line ∷ xs) ys n context earlier =
     let later = draft_after context earlier line in
     let e : n + 1 + length xs ≡ n + length (line ∷ xs) = omega arith in
     ap (option_or own) (fault_from-append xs ys (n + 1) next later)
-    ∙ sym (or-behind own (fault_from (n + 1) next later xs) (fault_from (n + 1 + length xs) (context_from next xs) (draft_from next later xs) ys))
+    ∙ sym (or-after own (fault_from (n + 1) next later xs) (fault_from (n + 1 + length xs) (context_from next xs) (draft_from next later xs) ys))
     ∙ ap (λ (m : ℕ). option_or (option_or own (fault_from (n + 1) next later xs)) (fault_from m (context_from next xs) (draft_from next later xs) ys)) e
 
 context_from-append : (xs ys : List (List ℕ)) (context : Context) → context_from context (xs ++ ys) ≡ context_from (context_from context xs) ys

@@ -24,13 +24,13 @@ none-of p q [] h k = refl
 none-of p q (x ∷ xs) h k =
     both_false (p x) (list_any p xs) (h x (first_so (q x) (list_all q xs) k)) (none-of p q xs h (second_so (q x) (list_all q xs) k))
 
-all-behind : (q : Section → Bool) (xs : List Section) (x : Section) (more : List Section) → list_all q (xs ++ x ∷ more) ≡ true → (q x ≡ true) × (list_all q more ≡ true)
-all-behind q [] x more h = (first_so (q x) (list_all q more) h, second_so (q x) (list_all q more) h)
-all-behind q (y ∷ xs) x more h = all-behind q xs x more (second_so (q y) (list_all q (xs ++ x ∷ more)) h)
+all-after : (q : Section → Bool) (xs : List Section) (x : Section) (more : List Section) → list_all q (xs ++ x ∷ more) ≡ true → (q x ≡ true) × (list_all q more ≡ true)
+all-after q [] x more h = (first_so (q x) (list_all q more) h, second_so (q x) (list_all q more) h)
+all-after q (y ∷ xs) x more h = all-after q xs x more (second_so (q y) (list_all q (xs ++ x ∷ more)) h)
 
-none-behind : (q : Section → Bool) (xs : List Section) (x : Section) (more : List Section) → list_any q (xs ++ x ∷ more) ≡ false → (q x ≡ false) × (list_any q more ≡ false)
-none-behind q [] x more h = nor (q x) (list_any q more) h
-none-behind q (y ∷ xs) x more h = none-behind q xs x more (nor (q y) (list_any q (xs ++ x ∷ more)) h).1
+none-after : (q : Section → Bool) (xs : List Section) (x : Section) (more : List Section) → list_any q (xs ++ x ∷ more) ≡ false → (q x ≡ false) × (list_any q more ≡ false)
+none-after q [] x more h = nor (q x) (list_any q more) h
+none-after q (y ∷ xs) x more h = none-after q xs x more (nor (q y) (list_any q (xs ++ x ∷ more)) h).1
 
 -- those before it do not have a later place, those after it not an earlier one
 pub order-around : (sections_seen : List Section) (section : Section) (later : List Section) → in_order (sections_seen ++ section ∷ later) ≡ true
@@ -40,7 +40,7 @@ order-around (x ∷ sections_seen) section later h =
     let test : Section → Bool = λ other. nat_le (section_rank x) (section_rank other) in
     let rest = order-around sections_seen section later (second_so (list_all test (sections_seen ++ section ∷ later)) (in_order (sections_seen ++ section ∷ later)) h) in (
       both_so (nat_le (section_rank x) (section_rank section)) (list_all (λ (y : Section). nat_le (section_rank y) (section_rank section)) sections_seen)
-          (all-behind test sections_seen section later (first_so (list_all test (sections_seen ++ section ∷ later)) (in_order (sections_seen ++ section ∷ later)) h)).0 rest.0,
+          (all-after test sections_seen section later (first_so (list_all test (sections_seen ++ section ∷ later)) (in_order (sections_seen ++ section ∷ later)) h)).0 rest.0,
       rest.1,
     )
 
@@ -51,7 +51,7 @@ distinct-before (x ∷ sections_seen) section later h =
     let test : Section → Bool = λ other. same_section other x in
     let all = list_any test (sections_seen ++ section ∷ later) in
     both_false (same_section section x) (has sections_seen section)
-    (none-behind test sections_seen section later (not_so all (first_so (not all) (are_distinct same_section (sections_seen ++ section ∷ later)) h))).0
+    (none-after test sections_seen section later (not_so all (first_so (not all) (are_distinct same_section (sections_seen ++ section ∷ later)) h))).0
     (distinct-before sections_seen section later (second_so (not all) (are_distinct same_section (sections_seen ++ section ∷ later)) h))
 
 -- ---- whether it may begin
@@ -105,13 +105,13 @@ nothing-first (x ∷ sections_seen) h k = by x (first_so (nat_le (section_rank x
     by EndData e f = cc
 
 -- a section of the text that is neither this one nor after it is before it
-stands-before : (p : Section → Bool) (sections_seen : List Section) (section : Section) (later : List Section) → list_any p (sections_seen ++ section ∷ later) ≡ true → p section ≡ false → list_any p later ≡ false
+occurs-before : (p : Section → Bool) (sections_seen : List Section) (section : Section) (later : List Section) → list_any p (sections_seen ++ section ∷ later) ≡ true → p section ≡ false → list_any p later ≡ false
     → list_any p sections_seen ≡ true
-stands-before p sections_seen section later h here behind = by (list_any p sections_seen) refl (sym (list_any-append p sections_seen (section ∷ later)) ∙ h)
+occurs-before p sections_seen section later h here following = by (list_any p sections_seen) refl (sym (list_any-append p sections_seen (section ∷ later)) ∙ h)
   where
     by : (b : Bool) → list_any p sections_seen ≡ b → (b || (p section || list_any p later)) ≡ true → list_any p sections_seen ≡ true
     by true e k = e
-    by false e k = let none : (p section || list_any p later) ≡ false = both_false (p section) (list_any p later) here behind in cc
+    by false e k = let none : (p section || list_any p later) ≡ false = both_false (p section) (list_any p later) here following in cc
 
 pub begins-so : (before : List LineContent) (section : Section) (later : List Section) → are_good_sections (seen_sections before ++ section ∷ later) ≡ true
     → has (seen_sections before ++ section ∷ later) Rows ≡ true → has (seen_sections before ++ section ∷ later) Columns ≡ true → may_begin (context_of before) section ≡ true
@@ -126,7 +126,7 @@ begins-so before section later h rows columns =
     early o = so_not (has sections_seen Rows) (none-of (λ x. is_section Rows (Some x)) (λ y. nat_le (section_rank y) 1) sections_seen rows-later o)
 
     late : (s : Section) → is_section Columns (Some s) ≡ false → list_all (λ (y : Section). nat_le 4 (section_rank y)) later ≡ true → has (sections_seen ++ s ∷ later) Columns ≡ true → has sections_seen Columns ≡ true
-    late s e o c = stands-before (λ x. is_section Columns (Some x)) sections_seen s later c e (none-of (λ x. is_section Columns (Some x)) (λ y. nat_le 4 (section_rank y)) later columns-earlier o)
+    late s e o c = occurs-before (λ x. is_section Columns (Some x)) sections_seen s later c e (none-of (λ x. is_section Columns (Some x)) (λ y. nat_le 4 (section_rank y)) later columns-earlier o)
 
     by : (s : Section) → (list_all (λ (y : Section). nat_le (section_rank y) (section_rank s)) sections_seen ≡ true) × (list_all (λ (y : Section). nat_le (section_rank s) (section_rank y)) later ≡ true) → has sections_seen s ≡ false
         → has (sections_seen ++ s ∷ later) Rows ≡ true → has (sections_seen ++ s ∷ later) Columns ≡ true → may_begin (context_of before) s ≡ true
@@ -134,7 +134,7 @@ begins-so before section later h rows columns =
     by ObjSense o f r c = early o.0
     by ObjName o f r c = early o.0
     by Rows o f r c = refl
-    by Columns o f r c = stands-before (λ x. is_section Rows (Some x)) sections_seen Columns later r refl (none-of (λ x. is_section Rows (Some x)) (λ y. nat_le 3 (section_rank y)) later rows-earlier o.1)
+    by Columns o f r c = occurs-before (λ x. is_section Rows (Some x)) sections_seen Columns later r refl (none-of (λ x. is_section Rows (Some x)) (λ y. nat_le 3 (section_rank y)) later rows-earlier o.1)
     by Rhs o f r c = late Rhs refl o.1 c
     by Ranges o f r c = late Ranges refl o.1 c
     by Bounds o f r c = late Bounds refl o.1 c

@@ -28,11 +28,11 @@ use Rattle.mpslp_mps.proofs.OneWordOfWords.{IsWantedThere, header-fits, no-more-
 use Rattle.mpslp_mps.proofs.ObjNameOfWords.{IsDeclared, no-more-lines}
 
 -- no section after this one is one of those before it
-distinct-behind : (s : Section) (sections_seen : List Section) (t : Section) (later : List Section) → has sections_seen s ≡ true → are_distinct same_section (sections_seen ++ t ∷ later) ≡ true → has later s ≡ false
-distinct-behind s [] t later h k = cc
-distinct-behind s (x ∷ sections_seen) t later h k =
+distinct-after : (s : Section) (sections_seen : List Section) (t : Section) (later : List Section) → has sections_seen s ≡ true → are_distinct same_section (sections_seen ++ t ∷ later) ≡ true → has later s ≡ false
+distinct-after s [] t later h k = cc
+distinct-after s (x ∷ sections_seen) t later h k =
     by (is_section s (Some x)) refl h (not_so all (first_so (not all) (are_distinct same_section (sections_seen ++ t ∷ later)) k))
-    (λ e. distinct-behind s sections_seen t later e (second_so (not all) (are_distinct same_section (sections_seen ++ t ∷ later)) k))
+    (λ e. distinct-after s sections_seen t later e (second_so (not all) (are_distinct same_section (sections_seen ++ t ∷ later)) k))
   where
     all : Bool
     all = list_any (λ (l : Section). same_section l x) (sections_seen ++ t ∷ later)
@@ -60,12 +60,12 @@ distinct-behind s (x ∷ sections_seen) t later h k =
         let parts = nor (same_section l x) (list_any (λ (l : Section). same_section l x) ls) f in
         both_false (is_section s (Some l)) (has ls s) (alike l e parts.0 (is_section s (Some l)) refl) (none e ls parts.1)
 
-    behind : (xs : List Section) → list_any (λ (l : Section). same_section l x) (xs ++ t ∷ later) ≡ false → list_any (λ (l : Section). same_section l x) later ≡ false
-    behind [] f = (nor (same_section t x) (list_any (λ (l : Section). same_section l x) later) f).1
-    behind (y ∷ xs) f = behind xs (nor (same_section y x) (list_any (λ (l : Section). same_section l x) (xs ++ t ∷ later)) f).1
+    following : (xs : List Section) → list_any (λ (l : Section). same_section l x) (xs ++ t ∷ later) ≡ false → list_any (λ (l : Section). same_section l x) later ≡ false
+    following [] f = (nor (same_section t x) (list_any (λ (l : Section). same_section l x) later) f).1
+    following (y ∷ xs) f = following xs (nor (same_section y x) (list_any (λ (l : Section). same_section l x) (xs ++ t ∷ later)) f).1
 
     by : (b : Bool) → is_section s (Some x) ≡ b → (b || has sections_seen s) ≡ true → all ≡ false → (has sections_seen s ≡ true → has later s ≡ false) → has later s ≡ false
-    by true e g f rest = none e later (behind sections_seen f)
+    by true e g f rest = none e later (following sections_seen f)
     by false e g f rest = rest g
 
 -- what the headers of the text are together, as needed for each of them
@@ -84,7 +84,7 @@ first-stays (y ∷ xs) ys x h = h
 
 pub keyword-good : (before : List LineContent) (earlier : Draft) (keyword : List ℕ) (more : Fields) (rest : List LineContent) → IsUnderway ObjSense is_sense before → IsUnderway ObjName (λ _. true) before
     → IsWantedThere before → IsDeclared before earlier → AreGoodHeaders (before ++ header keyword more ∷ rest) → IsGood before earlier (header keyword more)
-keyword-good before earlier keyword more rest sense name there told h = by (section_named keyword) refl (passes-all is_good_header before (header keyword more) rest h.each)
+keyword-good before earlier keyword more rest sense name there stated h = by (section_named keyword) refl (passes-all is_good_header before (header keyword more) rest h.each)
   where
     full : List LineContent
     full = before ++ header keyword more ∷ rest
@@ -133,7 +133,7 @@ keyword-good before earlier keyword more rest sense name there told h = by (sect
         left : (s : Section) (test : List ℕ → Bool) → IsUnderway s test before → is_some (word_due before) ≡ true → is_section s (current_section before) ≡ true → has_word_at_most test (words_in s full) ≡ true → ⊥
         left s test under w here k =
             let out = other s here (is_section s (Some t)) refl in
-            let none = no-more-words s (Some t) rest out (distinct-behind s sections_seen t later (section-begun s sections_seen here) (distinct t e)) in
+            let none = no-more-words s (Some t) rest out (distinct-after s sections_seen t later (section-begun s sections_seen here) (distinct t e)) in
             not-left s test before under here w
             (sym (ap (has_word_at_most test) (words s t e ∙ ap (λ (b : Bool). words_in s before ++ (when b more ++ said_after (word_fields s) (Some t) rest)) out
             ∙ ap (λ (ws : List Fields). words_in s before ++ ws) none ∙ append-nil (words_in s before))) ∙ k)
@@ -180,7 +180,7 @@ keyword-good before earlier keyword more rest sense name there told h = by (sect
             let lines : data_lines Rows full ≡ data_lines Rows before =
             said_after-append (fields_under Rows) None before (header keyword more ∷ rest)
             ∙ ap (λ (o : Option Section). data_lines Rows before ++ data_lines_after Rows (option_or o (current_section before)) rest) e
-            ∙ ap (λ (ls : List Fields). data_lines Rows before ++ ls) (no-more-lines Rows (Some Columns) rest refl (distinct-behind Rows sections_seen Columns later (may Columns e) (distinct Columns e)))
+            ∙ ap (λ (ls : List Fields). data_lines Rows before ++ ls) (no-more-lines Rows (Some Columns) rest refl (distinct-after Rows sections_seen Columns later (may Columns e) (distinct Columns e)))
             ∙ append-nil (data_lines Rows before) in
             sym (ap (list_any (is_free_row_named word)) lines)
             ∙ (sym (ap (λ (o : Option (List ℕ)). option_map_or (has_free_row full) o true) whole) ∙ (sym (named-in_words full h.name) ∙ h.named))
@@ -195,7 +195,7 @@ keyword-good before earlier keyword more rest sense name there told h = by (sect
 
         of : (o : Option (List ℕ)) → objname before ≡ o → (is_none earlier.objective && is_some (objname before)) ≡ false
         of None f = ap (λ (o : Option (List ℕ)). is_none earlier.objective && is_some o) f ∙ nowhere (is_none earlier.objective)
-        of (Some word) f = none_of earlier.objective (is_some (objname before)) (told word f (row word f))
+        of (Some word) f = none_of earlier.objective (is_some (objname before)) (stated word f (row word f))
 
     tests : (t : Section) → section_named keyword ≡ Some t → those_of (section_tests (context_of before) earlier t more) ≡ []
     tests Name e = refl

@@ -23,7 +23,7 @@ use Rattle.mpslp_mps_fields.specs.declared.bound_types.BoundType.{BoundType}
 use Rattle.mpslp_mps_fields.specs.declared.sections.Section.{Section}
 use Rattle.mpslp_mps_fields.specs.declared.sections.Section.TheVariants.{Name, ObjSense, ObjName, Rows, Columns, Rhs, Ranges, Bounds, EndData}
 use Rattle.mpslp_mps.proofs.OrderLemmas.{never}
-use Rattle.mpslp_mps.proofs.NamesOfWords.{Told}
+use Rattle.mpslp_mps.proofs.NamesOfWords.{Stated}
 use Rattle.mpslp_mps.proofs.FaultedLines.{holds_of, refused_as, refuses, IsFirst}
 
 -- ---- tests of other kinds
@@ -73,17 +73,17 @@ none-refused kind ((held, other) ∷ more) k = by (none-refused kind more k) (is
     by rest false e = rest
 
 -- a kind that only the form of a line has
-form-alone : (kind : FaultKind) → is_among refusal_kinds kind ≡ false → (ds : Declarations) (earlier : Draft) → refuses kind earlier ds ≡ false
-form-alone kind k [] earlier = refl
-form-alone kind k (d ∷ ds) earlier = ap (λ (b : Bool). b || refuses kind (with_declaration earlier d) ds) (none-refused kind (refusal_tests earlier d) k) ∙ form-alone kind k ds (with_declaration earlier d)
+form-only : (kind : FaultKind) → is_among refusal_kinds kind ≡ false → (ds : Declarations) (earlier : Draft) → refuses kind earlier ds ≡ false
+form-only kind k [] earlier = refl
+form-only kind k (d ∷ ds) earlier = ap (λ (b : Bool). b || refuses kind (with_declaration earlier d) ds) (none-refused kind (refusal_tests earlier d) k) ∙ form-only kind k ds (with_declaration earlier d)
 
-pub left_alone : (a b : Bool) → b ≡ false → (a || b) ≡ true → a ≡ true
-left_alone true b e h = refl
-left_alone false b e h = absurd (never b h e)
+pub left_only : (a b : Bool) → b ≡ false → (a || b) ≡ true → a ≡ true
+left_only true b e h = refl
+left_only false b e h = absurd (never b h e)
 
-pub right_alone : (a b : Bool) → a ≡ false → (a || b) ≡ true → b ≡ true
-right_alone false b e h = h
-right_alone true b e h = cc
+pub right_only : (a b : Bool) → a ≡ false → (a || b) ≡ true → b ≡ true
+right_only false b e h = h
+right_only true b e h = cc
 
 -- ---- the kinds of each line
 
@@ -206,9 +206,9 @@ no-header kind context earlier keyword more o k h =
 
 -- what is left of the tests of a line, if the kind is not one of a rejected declaration
 pub by-form : (kind : FaultKind) (is_such : List LineContent → LineContent → Bool) → is_among refusal_kinds kind ≡ false
-    → ((before : List LineContent) (earlier : Draft) (item : LineContent) → Told before earlier → holds_of kind (item_tests (context_of before) earlier item) ≡ true → is_such before item ≡ true)
-    → (before : List LineContent) (earlier : Draft) (item : LineContent) → Told before earlier → IsFirst kind before earlier item → is_such before item ≡ true
+    → ((before : List LineContent) (earlier : Draft) (item : LineContent) → Stated before earlier → holds_of kind (item_tests (context_of before) earlier item) ≡ true → is_such before item ≡ true)
+    → (before : List LineContent) (earlier : Draft) (item : LineContent) → Stated before earlier → IsFirst kind before earlier item → is_such before item ≡ true
 by-form kind is_such k such before earlier item known h =
     such before earlier item known
-    (left_alone (holds_of kind (item_tests (context_of before) earlier item)) (refuses kind earlier (line_declares (context_of before) earlier item))
-    (form-alone kind k (line_declares (context_of before) earlier item) earlier) h.told)
+    (left_only (holds_of kind (item_tests (context_of before) earlier item)) (refuses kind earlier (line_declares (context_of before) earlier item))
+    (form-only kind k (line_declares (context_of before) earlier item) earlier) h.stated)

@@ -89,8 +89,8 @@ named-lines_to_end (line ∷ more) n context earlier named none ended =
         → is_some (draft_from context earlier (lines_to_end (line ∷ more))).objective ≡ true
     by true e h later =
         let last = up_to_end-last line more e in
-        let alone : fault_from n context earlier (line ∷ []) ≡ None = ap (fault_from n context earlier) (sym last) ∙ none in
-        let item = no-item context earlier line (first_none n fault_is None alone) in
+        let only : fault_from n context earlier (line ∷ []) ≡ None = ap (fault_from n context earlier) (sym last) ∙ none in
+        let item = no-item context earlier line (first_none n fault_is None only) in
         ap (λ (text : List (List ℕ)). is_some (draft_from context earlier text).objective) last
         ∙ named-after (line_declares context earlier (content_of line)) earlier (named (ended_columns context earlier (content_of line) item e))
     by false e h later =

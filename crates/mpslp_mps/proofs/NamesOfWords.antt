@@ -33,7 +33,7 @@ use Rattle.mpslp_mps.proofs.KnownLemmas.{no-rows-data}
 use Rattle.mpslp_mps.proofs.SectionLemmas.{data_lines-push, has_section-push, said_after-push}
 use Rattle.mpslp_mps.proofs.WordsOfFields.{section-is, row-fields}
 use Rattle.mpslp_mps.proofs.ContextLemmas.{objname-push}
-use Rattle.mpslp_mps.proofs.WordsOfObjName.{are_unnamed, objective-kept, header-unnamed, data-unnamed, told-words}
+use Rattle.mpslp_mps.proofs.WordsOfObjName.{are_unnamed, objective-kept, header-unnamed, data-unnamed, stated-words}
 use Rattle.mpslp_mps.proofs.TextOfWords.{Known, none-known, known-kept}
 
 -- ---- one line more
@@ -638,7 +638,7 @@ abbrev pub IsDefaultThere : List LineContent → Draft → Type 0
 IsDefaultThere before earlier = has_section before Columns ≡ true → has_default_objective before ≡ true → has_row earlier (codes "obj") ≡ true
 
 no-word : (before : List LineContent) → has_its_word before ObjName ≡ false → objname before ≡ None
-no-word before h = sym (ap head_of (told-words None before)) ∙ none (words_in ObjName before) h
+no-word before h = sym (ap head_of (stated-words None before)) ∙ none (words_in ObjName before) h
   where
     none : (words : List Fields) → is_nonempty (flat_map (λ (fields : Fields). fields) words) ≡ false → head_of (filter_map word_shape words) ≡ None
     none [] e = refl
@@ -688,7 +688,7 @@ default_there-kept before earlier item free there begun default = by (has_sectio
 
 -- ---- all of it
 
-pub record Told (before : List LineContent) (earlier : Draft) : Type 0 where
+pub record Stated (before : List LineContent) (earlier : Draft) : Type 0 where
   pub known : Known before earlier
   pub rows_there : AreRowsThere before earlier
   pub row_lines : HaveRowLines before earlier
@@ -698,17 +698,17 @@ pub record Told (before : List LineContent) (earlier : Draft) : Type 0 where
   pub free_named : IsFreeNamed before earlier
   pub default_there : IsDefaultThere before earlier
 
-pub none-told : Told [] empty_draft
-none-told = record { known = none-known; rows_there = λ name h. cc; row_lines = λ name h. cc; entry_lines = λ key h. cc; sense_word = λ h. cc; free_line = λ h. cc; free_named = λ h. cc; default_there = λ h k. cc }
+pub none-stated : Stated [] empty_draft
+none-stated = record { known = none-known; rows_there = λ name h. cc; row_lines = λ name h. cc; entry_lines = λ key h. cc; sense_word = λ h. cc; free_line = λ h. cc; free_named = λ h. cc; default_there = λ h k. cc }
 
-pub told-kept : (before : List LineContent) (earlier : Draft) (item : LineContent) → IsGood before earlier item → Told before earlier → Told (before ++ item ∷ []) (with_declarations earlier (line_declares (context_of before) earlier item))
-told-kept before earlier item good told = record {
-  known = known-kept before earlier item good told.known;
-  rows_there = rows_there-kept before earlier item good told.rows_there;
-  row_lines = row_lines-kept before earlier item told.row_lines;
-  entry_lines = entry_lines-kept before earlier item told.entry_lines;
-  sense_word = sense_word-kept before earlier item told.sense_word;
-  free_line = free_line-kept before earlier item told.free_line;
-  free_named = free_named-kept before earlier item told.free_named;
-  default_there = default_there-kept before earlier item told.free_line told.default_there;
+pub stated-kept : (before : List LineContent) (earlier : Draft) (item : LineContent) → IsGood before earlier item → Stated before earlier → Stated (before ++ item ∷ []) (with_declarations earlier (line_declares (context_of before) earlier item))
+stated-kept before earlier item good stated = record {
+  known = known-kept before earlier item good stated.known;
+  rows_there = rows_there-kept before earlier item good stated.rows_there;
+  row_lines = row_lines-kept before earlier item stated.row_lines;
+  entry_lines = entry_lines-kept before earlier item stated.entry_lines;
+  sense_word = sense_word-kept before earlier item stated.sense_word;
+  free_line = free_line-kept before earlier item stated.free_line;
+  free_named = free_named-kept before earlier item stated.free_named;
+  default_there = default_there-kept before earlier item stated.free_line stated.default_there;
 }

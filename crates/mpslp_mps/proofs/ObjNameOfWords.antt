@@ -45,35 +45,35 @@ no-more-lines section current (item ∷ items) h k = by item k (λ c e f. no-mor
 
 -- an N row with the name of OBJNAME is the objective
 abbrev pub IsDeclared : List LineContent → Draft → Type 0
-IsDeclared before earlier = (told : List ℕ) → objname before ≡ Some told → has_free_row before told ≡ true → is_some earlier.objective ≡ true
+IsDeclared before earlier = (stated : List ℕ) → objname before ≡ Some stated → has_free_row before stated ≡ true → is_some earlier.objective ≡ true
 
-rows_begun : (before : List LineContent) (told : List ℕ) → has_free_row before told ≡ true → has_section before Rows ≡ true
-rows_begun before told h = by (has_section before Rows) refl
+rows_begun : (before : List LineContent) (stated : List ℕ) → has_free_row before stated ≡ true → has_section before Rows ≡ true
+rows_begun before stated h = by (has_section before Rows) refl
   where
     by : (b : Bool) → has_section before Rows ≡ b → has_section before Rows ≡ true
     by true e = e
-    by false e = let none : has_free_row before told ≡ false = ap (list_any (is_free_row_named told)) (no-more-lines Rows None before refl e) in cc
+    by false e = let none : has_free_row before stated ≡ false = ap (list_any (is_free_row_named stated)) (no-more-lines Rows None before refl e) in cc
 
 pub declared-kept : (before : List LineContent) (earlier : Draft) (item : LineContent) → IsGood before earlier item → IsWantedEarly before → IsDeclared before earlier
     → IsDeclared (before ++ item ∷ []) (with_declarations earlier (line_declares (context_of before) earlier item))
-declared-kept before earlier item good early there told name row = by item good name
-    (sym (ap (list_any (is_free_row_named told)) (data_lines-push Rows before item)
-    ∙ list_any-append (is_free_row_named told) (data_lines Rows before) (fields_under Rows (current_section before) item)) ∙ row)
+declared-kept before earlier item good early there stated name row = by item good name
+    (sym (ap (list_any (is_free_row_named stated)) (data_lines-push Rows before item)
+    ∙ list_any-append (is_free_row_named stated) (data_lines Rows before) (fields_under Rows (current_section before) item)) ∙ row)
   where
     next : LineContent → Draft
     next x = with_declarations earlier (line_declares (context_of before) earlier x)
 
-    old : (x : LineContent) → IsGood before earlier x → objname (before ++ x ∷ []) ≡ Some told → has_free_row before told ≡ true → is_some (next x).objective ≡ true
+    old : (x : LineContent) → IsGood before earlier x → objname (before ++ x ∷ []) ≡ Some stated → has_free_row before stated ≡ true → is_some (next x).objective ≡ true
     old x g n r =
         named-after (line_declares (context_of before) earlier x) earlier
-        (there told (sym (same-name before earlier x g early (rows_begun before told r)) ∙ n) r)
+        (there stated (sym (same-name before earlier x g early (rows_begun before stated r)) ∙ n) r)
 
     only : (b : Bool) → (b || false) ≡ true → b ≡ true
     only true e = refl
     only false e = e
 
     -- the first row with this name is declared here, if none was before
-    new_row : (line : RowLine) (o : Option (List ℕ)) → earlier.objective ≡ o → objname before ≡ Some told → row_type line.letter ≡ Some Free → same_bytes line.name told ≡ true
+    new_row : (line : RowLine) (o : Option (List ℕ)) → earlier.objective ≡ o → objname before ≡ Some stated → row_type line.letter ≡ Some Free → same_bytes line.name stated ≡ true
         → is_some (with_declarations earlier (row_declared (context_of before) earlier line)).objective ≡ true
     new_row line (Some other) e n t s = named-after (row_declared (context_of before) earlier line) earlier (ap (λ (o : Option (List ℕ)). is_some o) e)
     new_row line None e n t s =
@@ -82,7 +82,7 @@ declared-kept before earlier item good early there told name row = by item good 
         ap (λ (o : Option RowType). is_some (with_declarations earlier (declared_if_some (row_of_type (context_of before) earlier line.name) o)).objective) t
         ∙ ap (λ (b : Bool). is_some (with_declarations earlier (cond b (declare_objective line.name ∷ []) (declare_row line.name (by_type Free) ∷ []))).objective) new
 
-    of_type : (line : RowLine) → objname before ≡ Some told → (o : Option RowType) → row_type line.letter ≡ o → (is_free o && same_bytes line.name told) ≡ true
+    of_type : (line : RowLine) → objname before ≡ Some stated → (o : Option RowType) → row_type line.letter ≡ o → (is_free o && same_bytes line.name stated) ≡ true
         → is_some (with_declarations earlier (row_declared (context_of before) earlier line)).objective ≡ true
     of_type line n None t k = cc
     of_type line n (Some Free) t k = new_row line earlier.objective refl n t k
@@ -90,28 +90,28 @@ declared-kept before earlier item good early there told name row = by item good 
     of_type line n (Some AtLeast) t k = cc
     of_type line n (Some Equal) t k = cc
 
-    of_row : (o : Option RowLine) → objname before ≡ Some told → option_map_or (λ (line : RowLine). is_free (row_type line.letter) && same_bytes line.name told) o false ≡ true
+    of_row : (o : Option RowLine) → objname before ≡ Some stated → option_map_or (λ (line : RowLine). is_free (row_type line.letter) && same_bytes line.name stated) o false ≡ true
         → is_some (with_declarations earlier (declared_if_some (row_declared (context_of before) earlier) o)).objective ≡ true
     of_row None n k = cc
     of_row (Some line) n k = of_type line n (row_type line.letter) refl k
 
-    in_rows : (fields : Fields) → IsGood before earlier (data_line fields) → objname (before ++ data_line fields ∷ []) ≡ Some told → is_section Rows (current_section before) ≡ true
-        → (b : Bool) → has_free_row before told ≡ b → (b || (is_free_row_named told fields || false)) ≡ true → is_some (next (data_line fields)).objective ≡ true
+    in_rows : (fields : Fields) → IsGood before earlier (data_line fields) → objname (before ++ data_line fields ∷ []) ≡ Some stated → is_section Rows (current_section before) ≡ true
+        → (b : Bool) → has_free_row before stated ≡ b → (b || (is_free_row_named stated fields || false)) ≡ true → is_some (next (data_line fields)).objective ≡ true
     in_rows fields g n here true e k = old (data_line fields) g n e
     in_rows fields g n here false e k =
         subst (λ o. is_some (with_declarations earlier (data_declared (context_of before) earlier fields o)).objective ≡ true) (sym (section-is Rows (current_section before) here))
-        (of_row (row_shape fields) (sym (same-name before earlier (data_line fields) g early (section-begun Rows (seen_sections before) here)) ∙ n) (only (is_free_row_named told fields) k))
+        (of_row (row_shape fields) (sym (same-name before earlier (data_line fields) g early (section-begun Rows (seen_sections before) here)) ∙ n) (only (is_free_row_named stated fields) k))
 
-    none_new : (x : LineContent) → IsGood before earlier x → objname (before ++ x ∷ []) ≡ Some told → (has_free_row before told || false) ≡ true → is_some (next x).objective ≡ true
-    none_new x g n k = old x g n (only (has_free_row before told) k)
+    none_new : (x : LineContent) → IsGood before earlier x → objname (before ++ x ∷ []) ≡ Some stated → (has_free_row before stated || false) ≡ true → is_some (next x).objective ≡ true
+    none_new x g n k = old x g n (only (has_free_row before stated) k)
 
-    under : (fields : Fields) → IsGood before earlier (data_line fields) → objname (before ++ data_line fields ∷ []) ≡ Some told → (b : Bool) → is_section Rows (current_section before) ≡ b
-        → (has_free_row before told || list_any (is_free_row_named told) (when b fields)) ≡ true → is_some (next (data_line fields)).objective ≡ true
-    under fields g n true e k = in_rows fields g n e (has_free_row before told) refl k
+    under : (fields : Fields) → IsGood before earlier (data_line fields) → objname (before ++ data_line fields ∷ []) ≡ Some stated → (b : Bool) → is_section Rows (current_section before) ≡ b
+        → (has_free_row before stated || list_any (is_free_row_named stated) (when b fields)) ≡ true → is_some (next (data_line fields)).objective ≡ true
+    under fields g n true e k = in_rows fields g n e (has_free_row before stated) refl k
     under fields g n false e k = none_new (data_line fields) g n k
 
-    by : (x : LineContent) → IsGood before earlier x → objname (before ++ x ∷ []) ≡ Some told
-        → (has_free_row before told || list_any (is_free_row_named told) (fields_under Rows (current_section before) x)) ≡ true → is_some (next x).objective ≡ true
+    by : (x : LineContent) → IsGood before earlier x → objname (before ++ x ∷ []) ≡ Some stated
+        → (has_free_row before stated || list_any (is_free_row_named stated) (fields_under Rows (current_section before) x)) ≡ true → is_some (next x).objective ≡ true
     by skipped g n k = none_new skipped g n k
     by (header keyword more) g n k = none_new (header keyword more) g n k
     by (data_line fields) g n k = under fields g n (is_section Rows (current_section before)) refl k

@@ -31,8 +31,8 @@ use Rattle.mpslp_mps.proofs.OrderLemmas.{IsGood, never, header-begins}
 use Rattle.mpslp_mps.proofs.SectionLemmas.{data_lines-push, said_after-push}
 use Rattle.mpslp_mps.proofs.WordsOfFields.{section-is}
 use Rattle.mpslp_mps.proofs.WordsOfOneWord.{missing, without_word, with_word, IsUnderway, name-word}
-use Rattle.mpslp_mps.proofs.WordsOfObjName.{IsWantedEarly, objective-kept, header-unnamed, data-unnamed, told-words}
-use Rattle.mpslp_mps.proofs.NamesOfWords.{Told}
+use Rattle.mpslp_mps.proofs.WordsOfObjName.{IsWantedEarly, objective-kept, header-unnamed, data-unnamed, stated-words}
+use Rattle.mpslp_mps.proofs.NamesOfWords.{Stated}
 use Rattle.mpslp_mps.proofs.RepeatsOfNames.{last-place, columns-out}
 use Rattle.mpslp_mps.proofs.DeclaredByLines.{is_elsewhere, IsPartOf, lines-kept}
 
@@ -168,14 +168,14 @@ rows_free-kept before earlier item e have row h =
 
 -- ---- the names among which the first is that of the objective
 
-abbrev told_names : List LineContent → List (List ℕ)
-told_names before = flat_map (λ fields. fields) (words_in ObjName before)
+abbrev stated_names : List LineContent → List (List ℕ)
+stated_names before = flat_map (λ fields. fields) (words_in ObjName before)
 
 abbrev free_names : List LineContent → List (List ℕ)
 free_names before = filter_map free_row_name (data_lines Rows before)
 
-told-push : (before : List LineContent) (item : LineContent) → told_names (before ++ item ∷ []) ≡ told_names before ++ flat_map (λ fields. fields) (word_fields ObjName (current_section before) item)
-told-push before item =
+stated-push : (before : List LineContent) (item : LineContent) → stated_names (before ++ item ∷ []) ≡ stated_names before ++ flat_map (λ fields. fields) (word_fields ObjName (current_section before) item)
+stated-push before item =
     ap (flat_map (λ fields. fields)) (said_after-push (word_fields ObjName) None before item)
     ∙ flat_map-append (λ fields. fields) (words_in ObjName before) (word_fields ObjName (current_section before) item)
 
@@ -184,8 +184,8 @@ free-push before item =
     ap (filter_map free_row_name) (data_lines-push Rows before item) ∙ filter_map-append free_row_name (data_lines Rows before) (fields_under Rows (current_section before) item)
 
 -- OBJNAME gives the name that is its word
-objname-told : (before : List LineContent) → IsUnderway ObjName (λ _. true) before → objname before ≡ head_of (told_names before)
-objname-told before stage = sym (ap head_of (told-words None before)) ∙ by (words_in ObjName before) (at stage)
+objname-stated : (before : List LineContent) → IsUnderway ObjName (λ _. true) before → objname before ≡ head_of (stated_names before)
+objname-stated before stage = sym (ap head_of (stated-words None before)) ∙ by (words_in ObjName before) (at stage)
   where
     nothing : List Fields → Type 0
     nothing words = head_of (filter_map word_shape words) ≡ head_of (flat_map (λ fields. fields) words)
@@ -269,13 +269,13 @@ no-later-words before earlier item good early begun = by item good
     by (data_line fields) g = under fields g (is_section ObjName (current_section before)) refl
 
 -- nor ROWS more lines once COLUMNS has begun
-no-later-rows : (before : List LineContent) (earlier : Draft) (item : LineContent) → Told before earlier → has_section before Columns ≡ true → fields_under Rows (current_section before) item ≡ []
-no-later-rows before earlier item told begun = by item
+no-later-rows : (before : List LineContent) (earlier : Draft) (item : LineContent) → Stated before earlier → has_section before Columns ≡ true → fields_under Rows (current_section before) item ≡ []
+no-later-rows before earlier item stated begun = by item
   where
     under : (fields : Fields) (b : Bool) → is_section Rows (current_section before) ≡ b → when b fields ≡ []
     under fields true e =
         absurd (never (has_section before Columns) begun
-        (columns-out (seen_sections before) (last-place (seen_sections before) Rows told.known.words.ordered.order (section-is Rows (current_section before) e))))
+        (columns-out (seen_sections before) (last-place (seen_sections before) Rows stated.known.words.ordered.order (section-is Rows (current_section before) e))))
     under fields false e = refl
 
     by : (x : LineContent) → fields_under Rows (current_section before) x ≡ []
@@ -283,35 +283,35 @@ no-later-rows before earlier item told begun = by item
     by (header keyword more) = refl
     by (data_line fields) = under fields (is_section Rows (current_section before)) refl
 
-pub first_named-kept : (before : List LineContent) (earlier : Draft) (item : LineContent) → IsGood before earlier item → Told before earlier
+pub first_named-kept : (before : List LineContent) (earlier : Draft) (item : LineContent) → IsGood before earlier item → Stated before earlier
     → Extends earlier (with_declarations earlier (line_declares (context_of before) earlier item)) → IsFirstNamed before earlier
     → IsFirstNamed (before ++ item ∷ []) (with_declarations earlier (line_declares (context_of before) earlier item))
-first_named-kept before earlier item good told extends have name h =
-    ap (λ (names : List (List ℕ)). option_map_or (same_bytes name) (head_of names) false) (ap (λ (names : List (List ℕ)). names ++ (free_names (before ++ item ∷ []) ++ codes "obj" ∷ [])) (told-push before item))
-    ∙ (ap (λ (names : List (List ℕ)). option_map_or (same_bytes name) (head_of ((told_names before ++ flat_map (λ fields. fields) (word_fields ObjName (current_section before) item)) ++ (names ++ codes "obj" ∷ []))) false) (free-push before item)
+first_named-kept before earlier item good stated extends have name h =
+    ap (λ (names : List (List ℕ)). option_map_or (same_bytes name) (head_of names) false) (ap (λ (names : List (List ℕ)). names ++ (free_names (before ++ item ∷ []) ++ codes "obj" ∷ [])) (stated-push before item))
+    ∙ (ap (λ (names : List (List ℕ)). option_map_or (same_bytes name) (head_of ((stated_names before ++ flat_map (λ fields. fields) (word_fields ObjName (current_section before) item)) ++ (names ++ codes "obj" ∷ []))) false) (free-push before item)
     ∙ by earlier.objective refl)
   where
     next : LineContent → Draft
     next x = with_declarations earlier (line_declares (context_of before) earlier x)
 
     is_first : List (List ℕ) → List (List ℕ) → Bool
-    is_first told_ones free_ones = option_map_or (same_bytes name) (head_of (told_ones ++ (free_ones ++ codes "obj" ∷ []))) false
+    is_first stated_ones free_ones = option_map_or (same_bytes name) (head_of (stated_ones ++ (free_ones ++ codes "obj" ∷ []))) false
 
     Goal : LineContent → Type 0
-    Goal x = is_first (told_names before ++ flat_map (λ fields. fields) (word_fields ObjName (current_section before) x)) (free_names before ++ filter_map free_row_name (fields_under Rows (current_section before) x)) ≡ true
+    Goal x = is_first (stated_names before ++ flat_map (λ fields. fields) (word_fields ObjName (current_section before) x)) (free_names before ++ filter_map free_row_name (fields_under Rows (current_section before) x)) ≡ true
 
     -- names after the first do not matter
-    longer : (told_ones free_ones more : List (List ℕ)) → is_nonempty free_ones ≡ true → is_first told_ones free_ones ≡ true → is_first (told_ones ++ []) (free_ones ++ more) ≡ true
+    longer : (stated_ones free_ones more : List (List ℕ)) → is_nonempty free_ones ≡ true → is_first stated_ones free_ones ≡ true → is_first (stated_ones ++ []) (free_ones ++ more) ≡ true
     longer [] [] more e k = cc
     longer [] (x ∷ free_ones) more e k = k
-    longer (x ∷ told_ones) free_ones more e k = k
+    longer (x ∷ stated_ones) free_ones more e k = k
 
-    same : (told_ones free_ones : List (List ℕ)) → is_first told_ones free_ones ≡ true → is_first (told_ones ++ []) (free_ones ++ []) ≡ true
-    same told_ones free_ones k = ap (λ (names : List (List ℕ)). is_first names (free_ones ++ [])) (append-nil told_ones) ∙ (ap (is_first told_ones) (append-nil free_ones) ∙ k)
+    same : (stated_ones free_ones : List (List ℕ)) → is_first stated_ones free_ones ≡ true → is_first (stated_ones ++ []) (free_ones ++ []) ≡ true
+    same stated_ones free_ones k = ap (λ (names : List (List ℕ)). is_first names (free_ones ++ [])) (append-nil stated_ones) ∙ (ap (is_first stated_ones) (append-nil free_ones) ∙ k)
 
     -- an objective that exists stays the first
-    stays : (x : List ℕ) → earlier.objective ≡ Some x → is_first (told_names before) (free_names before) ≡ true → Goal item
-    stays x e k = of (word_fields ObjName (current_section before) item) (no-later-words before earlier item good told.known.words.early begun) (is_nonempty (free_names before)) refl
+    stays : (x : List ℕ) → earlier.objective ≡ Some x → is_first (stated_names before) (free_names before) ≡ true → Goal item
+    stays x e k = of (word_fields ObjName (current_section before) item) (no-later-words before earlier item good stated.known.words.early begun) (is_nonempty (free_names before)) refl
       where
         some : is_some earlier.objective ≡ true
         some = ap is_some e
@@ -321,15 +321,15 @@ first_named-kept before earlier item good told extends have name h =
           where
             of_rows : (b : Bool) → has_section before Rows ≡ b → b ≡ true
             of_rows true f = refl
-            of_rows false f = absurd (never (is_some earlier.objective) some (told.known.words.named.none f))
+            of_rows false f = absurd (never (is_some earlier.objective) some (stated.known.words.named.none f))
 
-        of : (words : List Fields) → words ≡ [] → (b : Bool) → is_nonempty (free_names before) ≡ b → is_first (told_names before ++ flat_map (λ fields. fields) words) (free_names before ++ filter_map free_row_name (fields_under Rows (current_section before) item)) ≡ true
-        of [] w true f = longer (told_names before) (free_names before) (filter_map free_row_name (fields_under Rows (current_section before) item)) f k
+        of : (words : List Fields) → words ≡ [] → (b : Bool) → is_nonempty (free_names before) ≡ b → is_first (stated_names before ++ flat_map (λ fields. fields) words) (free_names before ++ filter_map free_row_name (fields_under Rows (current_section before) item)) ≡ true
+        of [] w true f = longer (stated_names before) (free_names before) (filter_map free_row_name (fields_under Rows (current_section before) item)) f k
         of [] w false f =
-            subst (λ (lines : List Fields). is_first (told_names before ++ []) (free_names before ++ filter_map free_row_name lines) ≡ true) (sym (no-later-rows before earlier item told columns)) (same (told_names before) (free_names before) k)
+            subst (λ (lines : List Fields). is_first (stated_names before ++ []) (free_names before ++ filter_map free_row_name lines) ≡ true) (sym (no-later-rows before earlier item stated columns)) (same (stated_names before) (free_names before) k)
           where
             columns : has_section before Columns ≡ true
-            columns = right (list_any is_free_row_line (data_lines Rows before)) (has_section before Columns) (none-free (data_lines Rows before) f) (told.free_line some)
+            columns = right (list_any is_free_row_line (data_lines Rows before)) (has_section before Columns) (none-free (data_lines Rows before) f) (stated.free_line some)
               where
                 right : (a b : Bool) → a ≡ false → (a || b) ≡ true → b ≡ true
                 right true b g l = cc
@@ -346,36 +346,36 @@ first_named-kept before earlier item good told extends have name h =
         neither (Some y) p f g k = cc
 
         of : (b : Bool) → list_any is_free_row_line (data_lines Rows before) ≡ b → b ≡ false
-        of true f = absurd (neither earlier.objective (objname before) e n (told.free_named f))
+        of true f = absurd (neither earlier.objective (objname before) e n (stated.free_named f))
         of false f = refl
 
-    told_head : objname before ≡ head_of (told_names before)
-    told_head = objname-told before told.known.words.name
+    stated_head : objname before ≡ head_of (stated_names before)
+    stated_head = objname-stated before stated.known.words.name
 
-    none_told : (names : List (List ℕ)) → head_of names ≡ None → names ≡ []
-    none_told [] e = refl
-    none_told (x ∷ names) e = cc
+    none_reported : (names : List (List ℕ)) → head_of names ≡ None → names ≡ []
+    none_reported [] e = refl
+    none_reported (x ∷ names) e = cc
 
     unnamed_so : (o : Option (List ℕ)) → is_none o ≡ true → o ≡ None
     unnamed_so None e = refl
     unnamed_so (Some x) e = absurd (false≢true e)
 
     -- `obj` at the header of COLUMNS
-    default : is_none earlier.objective ≡ true → is_none (objname before) ≡ true → same_bytes name (codes "obj") ≡ true → is_first (told_names before ++ []) (free_names before ++ []) ≡ true
+    default : is_none earlier.objective ≡ true → is_none (objname before) ≡ true → same_bytes name (codes "obj") ≡ true → is_first (stated_names before ++ []) (free_names before ++ []) ≡ true
     default e n k =
         let none = unnamed_so (objname before) n in
-        subst (λ (names : List (List ℕ)). is_first (names ++ []) (free_names before ++ []) ≡ true) (sym (none_told (told_names before) (sym told_head ∙ none)))
+        subst (λ (names : List (List ℕ)). is_first (names ++ []) (free_names before ++ []) ≡ true) (sym (none_reported (stated_names before) (sym stated_head ∙ none)))
         (subst (λ (names : List (List ℕ)). is_first [] (names ++ []) ≡ true) (sym (no_free none e)) k)
 
     -- a line of type N
     line_named : (line : RowLine) → is_none earlier.objective ≡ true → option_map_or (same_bytes line.name) (objname before) true ≡ true → same_bytes name line.name ≡ true
-        → is_first (told_names before ++ []) (free_names before ++ line.name ∷ []) ≡ true
-    line_named line e n k = of (told_names before) refl
+        → is_first (stated_names before ++ []) (free_names before ++ line.name ∷ []) ≡ true
+    line_named line e n k = of (stated_names before) refl
       where
-        of : (names : List (List ℕ)) → told_names before ≡ names → is_first (names ++ []) (free_names before ++ line.name ∷ []) ≡ true
-        of [] f = subst (λ (free_ones : List (List ℕ)). is_first [] (free_ones ++ line.name ∷ []) ≡ true) (sym (no_free (told_head ∙ ap head_of f) e)) k
+        of : (names : List (List ℕ)) → stated_names before ≡ names → is_first (names ++ []) (free_names before ++ line.name ∷ []) ≡ true
+        of [] f = subst (λ (free_ones : List (List ℕ)). is_first [] (free_ones ++ line.name ∷ []) ≡ true) (sym (no_free (stated_head ∙ ap head_of f) e)) k
         of (x ∷ names) f =
-            let given : objname before ≡ Some x = told_head ∙ ap head_of f in
+            let given : objname before ≡ Some x = stated_head ∙ ap head_of f in
             let alike : same_bytes line.name x ≡ true = sym (ap (λ (o : Option (List ℕ)). option_map_or (same_bytes line.name) o true) given) ∙ n in
             ap (λ (n : List ℕ). same_bytes n x) (same_name name line.name k) ∙ alike
 
@@ -389,7 +389,7 @@ first_named-kept before earlier item good told extends have name h =
     at_header : (keyword : List ℕ) (more : Fields) → is_none earlier.objective ≡ true → (o : Option Section) → section_named keyword ≡ o → is_objective (with_declarations earlier (header_declared (context_of before) earlier more o)) name ≡ true → Goal (header keyword more)
     at_header keyword more e o s k = of (is_section Columns o) refl
       where
-        obj : (b : Bool) → (is_none earlier.objective && is_none (objname before)) ≡ b → is_objective (with_declarations earlier (cond b (declare_objective (codes "obj") ∷ []) [])) name ≡ true → is_first (told_names before ++ []) (free_names before ++ []) ≡ true
+        obj : (b : Bool) → (is_none earlier.objective && is_none (objname before)) ≡ b → is_objective (with_declarations earlier (cond b (declare_objective (codes "obj") ∷ []) [])) name ≡ true → is_first (stated_names before ++ []) (free_names before ++ []) ≡ true
         obj true f l = default e (second_so (is_none earlier.objective) (is_none (objname before)) f) l
         obj false f l = absurd (nobody earlier.objective e l)
           where
@@ -400,7 +400,7 @@ first_named-kept before earlier item good told extends have name h =
         of : (b : Bool) → is_section Columns o ≡ b → Goal (header keyword more)
         of true f =
             let columns = section-is Columns o f in
-            subst (λ p. is_first (told_names before ++ flat_map (λ fields. fields) (when (is_section ObjName p) more)) (free_names before ++ []) ≡ true) (sym (s ∙ columns))
+            subst (λ p. is_first (stated_names before ++ flat_map (λ fields. fields) (when (is_section ObjName p) more)) (free_names before ++ []) ≡ true) (sym (s ∙ columns))
             (obj (is_none earlier.objective && is_none (objname before)) refl (subst (λ p. is_objective (with_declarations earlier (header_declared (context_of before) earlier more p)) name ≡ true) columns k))
         of false f =
             unchanged (header keyword more) e
@@ -415,14 +415,14 @@ first_named-kept before earlier item good told extends have name h =
         of (Some y) g m = cc
 
     in_rows : (fields : Fields) → is_none earlier.objective ≡ true → is_objective (with_declarations earlier (declared_if_some (row_declared (context_of before) earlier) (row_shape fields))) name ≡ true
-        → is_first (told_names before ++ []) (free_names before ++ filter_map free_row_name (fields ∷ [])) ≡ true
+        → is_first (stated_names before ++ []) (free_names before ++ filter_map free_row_name (fields ∷ [])) ≡ true
     in_rows fields e k = shaped (row_shape fields) refl k
       where
         rest : List (List ℕ)
         rest = free_names before
 
         typed : (line : RowLine) (t : Option RowType) → row_type line.letter ≡ t → is_objective (with_declarations earlier (declared_if_some (row_of_type (context_of before) earlier line.name) t)) name ≡ true
-            → is_first (told_names before ++ []) (rest ++ cons_option (cond (is_free t) (Some line.name) None) []) ≡ true
+            → is_first (stated_names before ++ []) (rest ++ cons_option (cond (is_free t) (Some line.name) None) []) ≡ true
         typed line None r l = absurd (nobody_here e l)
         typed line (Some AtMost) r l = absurd (nobody_here e l)
         typed line (Some AtLeast) r l = absurd (nobody_here e l)
@@ -430,15 +430,15 @@ first_named-kept before earlier item good told extends have name h =
         typed line (Some Free) r l = new (is_new_objective (context_of before) earlier line.name) refl l
           where
             new : (b : Bool) → is_new_objective (context_of before) earlier line.name ≡ b → is_objective (with_declarations earlier (cond b (declare_objective line.name ∷ []) (declare_row line.name (by_type Free) ∷ []))) name ≡ true
-                → is_first (told_names before ++ []) (rest ++ line.name ∷ []) ≡ true
+                → is_first (stated_names before ++ []) (rest ++ line.name ∷ []) ≡ true
             new true f m = line_named line e (second_so (is_none earlier.objective) (option_map_or (same_bytes line.name) (objname before) true) f) m
             new false f m = absurd (nobody_here e m)
 
         shaped : (o : Option RowLine) → row_shape fields ≡ o → is_objective (with_declarations earlier (declared_if_some (row_declared (context_of before) earlier) o)) name ≡ true
-            → is_first (told_names before ++ []) (rest ++ filter_map free_row_name (fields ∷ [])) ≡ true
+            → is_first (stated_names before ++ []) (rest ++ filter_map free_row_name (fields ∷ [])) ≡ true
         shaped None r l = absurd (nobody_here e l)
         shaped (Some line) r l =
-            ap (λ (o : Option RowLine). is_first (told_names before ++ []) (rest ++ cons_option (cond (option_map_or (λ (line : RowLine). is_free (row_type line.letter)) o false) (option_map (λ (line : RowLine). line.name) o) None) [])) r
+            ap (λ (o : Option RowLine). is_first (stated_names before ++ []) (rest ++ cons_option (cond (option_map_or (λ (line : RowLine). is_free (row_type line.letter)) o false) (option_map (λ (line : RowLine). line.name) o) None) [])) r
             ∙ typed line (row_type line.letter) refl l
 
     at_data : (fields : Fields) → is_none earlier.objective ≡ true → is_objective (next (data_line fields)) name ≡ true → Goal (data_line fields)
@@ -447,7 +447,7 @@ first_named-kept before earlier item good told extends have name h =
         of : (b : Bool) → is_section Rows (current_section before) ≡ b → Goal (data_line fields)
         of true f =
             let rows = section-is Rows (current_section before) f in
-            subst (λ o. is_first (told_names before ++ flat_map (λ fs. fs) (when (is_section ObjName o) fields)) (free_names before ++ filter_map free_row_name (when (is_section Rows o) fields)) ≡ true) (sym rows)
+            subst (λ o. is_first (stated_names before ++ flat_map (λ fs. fs) (when (is_section ObjName o) fields)) (free_names before ++ filter_map free_row_name (when (is_section Rows o) fields)) ≡ true) (sym rows)
             (in_rows fields e (subst (λ o. is_objective (with_declarations earlier (data_declared (context_of before) earlier fields o)) name ≡ true) rows k))
         of false f =
             unchanged (data_line fields) e

@@ -27,18 +27,18 @@ use Rattle.mpslp_mps.specs.FaultsInWords.{IsInWords, has_its_word, names_row, ro
 use Rattle.mpslp_mps_fields.specs.declared.sections.Section.{Section}
 use Rattle.mpslp_mps_fields.specs.declared.sections.Section.TheVariants.{Name, ObjSense, ObjName, Rows, Columns, Rhs, Ranges, Bounds, EndData}
 use Rattle.mpslp_mps.proofs.OrderLemmas.{IsGood, never, header-fresh, each-declared, each-flat, sense-passes, sides-passes, ranges-passes, Passes, bounds-passes}
-use Rattle.mpslp_mps.proofs.WordsOfObjName.{told-words}
+use Rattle.mpslp_mps.proofs.WordsOfObjName.{stated-words}
 use Rattle.mpslp_mps.proofs.WordsOfOneWord.{missing, without_word, with_word, IsUnderway, sense-word}
-use Rattle.mpslp_mps.proofs.NamesOfWords.{Told}
+use Rattle.mpslp_mps.proofs.NamesOfWords.{Stated}
 use Rattle.mpslp_mps.proofs.FaultedLines.{holds_of, refuses, is_below, IsFirst, in-words}
-use Rattle.mpslp_mps.proofs.KindsOfLines.{left_alone, right_alone, kinds_in}
+use Rattle.mpslp_mps.proofs.KindsOfLines.{left_only, right_only, kinds_in}
 use Rattle.mpslp_mps.proofs.FaultsOfNames.{may_refuse, no-one, form-good, some}
 
 -- ---- DuplicateRow
 
 -- up to the header of COLUMNS, each row that exists has a line of ROWS
-row-named : (before : List LineContent) (earlier : Draft) (name : List ℕ) → Told before earlier → has_section before Columns ≡ false → has_row earlier name ≡ true → names_row before name ≡ true
-row-named before earlier name told out h = left_alone (names_row before name) (has_section before Columns) out (told.row_lines name h)
+row-named : (before : List LineContent) (earlier : Draft) (name : List ℕ) → Stated before earlier → has_section before Columns ≡ false → has_row earlier name ≡ true → names_row before name ≡ true
+row-named before earlier name stated out h = left_only (names_row before name) (has_section before Columns) out (stated.row_lines name h)
 
 -- in ROWS the header of COLUMNS has not come yet
 pub last-place : (sections_seen : List Section) (s : Section) → in_order sections_seen ≡ true → last_or None sections_seen ≡ Some s → list_all (λ (x : Section). nat_le (section_rank x) (section_rank s)) sections_seen ≡ true
@@ -103,14 +103,14 @@ good-none kind ((held, other) ∷ more) h = by held h (λ e. good-none kind more
 -- so one of its declarations is rejected
 pub good-refused : (kind : FaultKind) (before : List LineContent) (earlier : Draft) (item : LineContent) → IsGood before earlier item → IsFirst kind before earlier item → refuses kind earlier (line_declares (context_of before) earlier item) ≡ true
 good-refused kind before earlier item good first =
-    right_alone (holds_of kind (item_tests (context_of before) earlier item)) (refuses kind earlier (line_declares (context_of before) earlier item)) (good-none kind (item_tests (context_of before) earlier item) good) first.told
+    right_only (holds_of kind (item_tests (context_of before) earlier item)) (refuses kind earlier (line_declares (context_of before) earlier item)) (good-none kind (item_tests (context_of before) earlier item) good) first.stated
 
 -- if there is no objective, and OBJNAME gives no name, no row is of type N, and OBJNAME has no word
-default-in_words : (before : List LineContent) (earlier : Draft) → Told before earlier → is_none earlier.objective ≡ true → is_none (objname before) ≡ true → has_default_objective before ≡ true
-default-in_words before earlier told none untold =
+default-in_words : (before : List LineContent) (earlier : Draft) → Stated before earlier → is_none earlier.objective ≡ true → is_none (objname before) ≡ true → has_default_objective before ≡ true
+default-in_words before earlier stated none untold =
     both_so (not (list_any is_free_row_line (data_lines Rows before))) (not (has_its_word before ObjName))
     (so_not (list_any is_free_row_line (data_lines Rows before)) (no_row (list_any is_free_row_line (data_lines Rows before)) refl))
-    (so_not (has_its_word before ObjName) (no_word told.known.words.name))
+    (so_not (has_its_word before ObjName) (no_word stated.known.words.name))
   where
     nothing : (o n : Option (List ℕ)) → is_none o ≡ true → is_none n ≡ true → (is_some o || is_some n) ≡ false
     nothing None None e f = refl
@@ -118,7 +118,7 @@ default-in_words before earlier told none untold =
     nothing None (Some y) e f = cc
 
     no_row : (b : Bool) → list_any is_free_row_line (data_lines Rows before) ≡ b → b ≡ false
-    no_row true e = absurd (never (is_some earlier.objective || is_some (objname before)) (told.free_named e) (nothing earlier.objective (objname before) none untold))
+    no_row true e = absurd (never (is_some earlier.objective || is_some (objname before)) (stated.free_named e) (nothing earlier.objective (objname before) none untold))
     no_row false e = refl
 
     word : (words : List Fields) → is_one_word (λ _. true) words ≡ true → is_none (head_of (filter_map word_shape words)) ≡ false
@@ -136,10 +136,10 @@ default-in_words before earlier told none untold =
     no_word (missing, (a, b, c)) = ap (λ (words : List Fields). is_nonempty (flat_map (λ fields. fields) words)) a
     no_word (without_word, (a, b, c, d)) = ap (λ (words : List Fields). is_nonempty (flat_map (λ fields. fields) words)) a
     no_word (with_word, (a, b, c)) =
-        absurd (never (is_none (objname before)) untold (sym (ap (λ (names : List (List ℕ)). is_none (head_of names)) (told-words None before)) ∙ word (words_in ObjName before) a))
+        absurd (never (is_none (objname before)) untold (sym (ap (λ (names : List (List ℕ)). is_none (head_of names)) (stated-words None before)) ∙ word (words_in ObjName before) a))
 
-repeated-row : (before : List LineContent) (earlier : Draft) (item : LineContent) → Told before earlier → IsFirst kinds.DuplicateRow before earlier item → repeats_row before item ≡ true
-repeated-row before earlier item told first =
+repeated-row : (before : List LineContent) (earlier : Draft) (item : LineContent) → Stated before earlier → IsFirst kinds.DuplicateRow before earlier item → repeats_row before item ≡ true
+repeated-row before earlier item stated first =
     let good = form-good kinds.DuplicateRow before earlier item refl refl refl (below-all kinds.DuplicateRow refl refl refl refl) first in
     by item good (good-refused kinds.DuplicateRow before earlier item good first)
   where
@@ -160,8 +160,8 @@ repeated-row before earlier item told first =
             → (has_default_objective before && names_row before (codes "obj")) ≡ true
         default true e f =
             both_so (has_default_objective before) (names_row before (codes "obj"))
-            (default-in_words before earlier told (first_so (is_none earlier.objective) (is_none (objname before)) e) (second_so (is_none earlier.objective) (is_none (objname before)) e))
-            (row-named before earlier (codes "obj") told fresh (left_alone (has_row earlier (codes "obj")) false refl (left_alone (has_row earlier (codes "obj") || false) false refl f)))
+            (default-in_words before earlier stated (first_so (is_none earlier.objective) (is_none (objname before)) e) (second_so (is_none earlier.objective) (is_none (objname before)) e))
+            (row-named before earlier (codes "obj") stated fresh (left_only (has_row earlier (codes "obj")) false refl (left_only (has_row earlier (codes "obj") || false) false refl f)))
         default false e f = cc
     head keyword more (Some Rhs) g k = cc
     head keyword more (Some Ranges) g k = cc
@@ -208,14 +208,14 @@ repeated-row before earlier item told first =
       where
         of : (t : Option RowType) → refuses kinds.DuplicateRow earlier (declared_if_some (row_of_type (context_of before) earlier line.name) t) ≡ true → names_row before line.name ≡ true
         of None e = cc
-        of (Some type) e = row-named before earlier line.name told out (typed line.name type e)
+        of (Some type) e = row-named before earlier line.name stated out (typed line.name type e)
 
     data_in : (fields : Fields) (o : Option Section) → current_section before ≡ o → refuses kinds.DuplicateRow earlier (data_declared (context_of before) earlier fields o) ≡ true → (is_section Rows o && option_map_or (names_row before) (row_name fields) false) ≡ true
     data_in fields None e k = cc
     data_in fields (Some Name) e k = cc
     data_in fields (Some ObjSense) e k = no-one kinds.DuplicateRow (data_declared (context_of before) earlier fields (Some ObjSense)) earlier (sense-passes (λ d. not (may_refuse kinds.DuplicateRow d)) (λ _. refl) fields) k
     data_in fields (Some ObjName) e k = cc
-    data_in fields (Some Rows) e k = row (row_shape fields) (columns-out (seen_sections before) (last-place (seen_sections before) Rows told.known.words.ordered.order e)) k
+    data_in fields (Some Rows) e k = row (row_shape fields) (columns-out (seen_sections before) (last-place (seen_sections before) Rows stated.known.words.ordered.order e)) k
     data_in fields (Some Columns) e k = no-one kinds.DuplicateRow (data_declared (context_of before) earlier fields (Some Columns)) earlier (column fields (is_marker_line fields)) k
     data_in fields (Some Rhs) e k = no-one kinds.DuplicateRow (data_declared (context_of before) earlier fields (Some Rhs)) earlier (sides-passes (λ d. not (may_refuse kinds.DuplicateRow d)) (λ r v. refl) earlier fields) k
     data_in fields (Some Ranges) e k = no-one kinds.DuplicateRow (data_declared (context_of before) earlier fields (Some Ranges)) earlier (ranges-passes (λ d. not (may_refuse kinds.DuplicateRow d)) (λ r v. refl) fields) k
@@ -282,11 +282,11 @@ cells-repeat column (pair ∷ pairs) all h = by (has_coefficient all (key pair))
         (sym (ap (λ (b : Bool). has_row_twice pairs || b) now) ∙ rest k)
 
 -- a well-formed line does not declare a second sense: OBJSENSE has not begun, or has no word yet
-fresh-sense : (before : List LineContent) (earlier : Draft) → Told before earlier → is_nonempty (flat_map (λ fields. fields) (words_in ObjSense before)) ≡ false → is_some earlier.sense ≡ false
-fresh-sense before earlier told none = by (is_some earlier.sense) refl
+fresh-sense : (before : List LineContent) (earlier : Draft) → Stated before earlier → is_nonempty (flat_map (λ fields. fields) (words_in ObjSense before)) ≡ false → is_some earlier.sense ≡ false
+fresh-sense before earlier stated none = by (is_some earlier.sense) refl
   where
     by : (b : Bool) → is_some earlier.sense ≡ b → b ≡ false
-    by true e = absurd (never (is_nonempty (flat_map (λ fields. fields) (words_in ObjSense before))) (told.sense_word e) none)
+    by true e = absurd (never (is_nonempty (flat_map (λ fields. fields) (words_in ObjSense before))) (stated.sense_word e) none)
     by false e = refl
 
 sense-once : (fields : Fields) (all : Draft) → is_some all.sense ≡ false → refuses kinds.DuplicateEntry all (declared_if_some sense_declared (word_shape fields)) ≡ false
@@ -308,25 +308,25 @@ objective-once all name h = by all.objective h
     by None e = refl
     by (Some x) e = cc
 
-repeated-entry : (before : List LineContent) (earlier : Draft) (item : LineContent) → Told before earlier → IsFirst kinds.DuplicateEntry before earlier item → repeats_entry before item ≡ true
-repeated-entry before earlier item told first =
+repeated-entry : (before : List LineContent) (earlier : Draft) (item : LineContent) → Stated before earlier → IsFirst kinds.DuplicateEntry before earlier item → repeats_entry before item ≡ true
+repeated-entry before earlier item stated first =
     let good = form-good kinds.DuplicateEntry before earlier item refl refl refl (below-all kinds.DuplicateEntry refl refl refl refl) first in
     by item good (good-refused kinds.DuplicateEntry before earlier item good first)
   where
     not_begun : has_section before ObjSense ≡ false → is_some earlier.sense ≡ false
-    not_begun out = stage told.known.words.sense
+    not_begun out = stage stated.known.words.sense
       where
         stage : IsUnderway ObjSense is_sense before → is_some earlier.sense ≡ false
-        stage (missing, (a, b, c)) = fresh-sense before earlier told (ap (λ (words : List Fields). is_nonempty (flat_map (λ fields. fields) words)) a)
+        stage (missing, (a, b, c)) = fresh-sense before earlier stated (ap (λ (words : List Fields). is_nonempty (flat_map (λ fields. fields) words)) a)
         stage (without_word, (a, b, c, d)) = absurd (never (has_section before ObjSense) b out)
         stage (with_word, (a, b, c)) = absurd (never (has_section before ObjSense) b out)
 
     no_word : current_section before ≡ Some ObjSense → is_some (word_due before) ≡ true → is_some earlier.sense ≡ false
-    no_word e w = stage told.known.words.sense
+    no_word e w = stage stated.known.words.sense
       where
         stage : IsUnderway ObjSense is_sense before → is_some earlier.sense ≡ false
-        stage (missing, (a, b, c)) = fresh-sense before earlier told (ap (λ (words : List Fields). is_nonempty (flat_map (λ fields. fields) words)) a)
-        stage (without_word, (a, b, c, d)) = fresh-sense before earlier told (ap (λ (words : List Fields). is_nonempty (flat_map (λ fields. fields) words)) a)
+        stage (missing, (a, b, c)) = fresh-sense before earlier stated (ap (λ (words : List Fields). is_nonempty (flat_map (λ fields. fields) words)) a)
+        stage (without_word, (a, b, c, d)) = fresh-sense before earlier stated (ap (λ (words : List Fields). is_nonempty (flat_map (λ fields. fields) words)) a)
         stage (with_word, (a, b, c)) = absurd (never (is_some (word_due before)) w (c (ap (is_section ObjSense) e)))
 
     head : (keyword : List ℕ) (more : Fields) (o : Option Section) → those_of (header_tests (context_of before) earlier keyword more o) ≡ [] → refuses kinds.DuplicateEntry earlier (header_declared (context_of before) earlier more o) ≡ true → false ≡ true
@@ -379,7 +379,7 @@ repeated-entry before earlier item told first =
         of true e = refl
         of false e =
             some (λ pair. has_coefficient all (record { row = pair.row; column = line.name })) (λ pair. list_any (has_entry_of line.name pair.row) (data_lines Columns before)) line.pairs
-            (λ pair f. told.entry_lines (record { row = pair.row; column = line.name }) (sym (same (record { row = pair.row; column = line.name })) ∙ f)) e
+            (λ pair f. stated.entry_lines (record { row = pair.row; column = line.name }) (sym (same (record { row = pair.row; column = line.name })) ∙ f)) e
 
     marks : (line : ValuesLine) (b : Bool) → refuses kinds.DuplicateEntry (with_declaration earlier (declare_column line.name)) (cond b (declare_marked line.name ∷ []) [] ++ flat_map (coefficient_declared line.name) line.pairs) ≡ true → repeats_entry_of before line ≡ true
     marks line true k = lines line (with_declaration (with_declaration earlier (declare_column line.name)) (declare_marked line.name)) (λ key. refl) k

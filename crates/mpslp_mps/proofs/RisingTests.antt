@@ -22,8 +22,8 @@ abbrev pub AreRising : FaultTests → Type 0
 AreRising tests = are_rising ((false, kinds.LineTooLong) ∷ (false, kinds.BadByte) ∷ tests) ≡ true
 
 -- and so are these tests without the latter
-pub rising-alone : (tests : FaultTests) → AreRising tests → are_rising tests ≡ true
-rising-alone tests h =
+pub rising-only : (tests : FaultTests) → AreRising tests → are_rising tests ≡ true
+rising-only tests h =
     second_so (list_all (λ later. is_from kinds.BadByte later.1) tests) (are_rising tests)
     (second_so (list_all (λ later. is_from kinds.LineTooLong later.1) ((false, kinds.BadByte) ∷ tests)) (are_rising ((false, kinds.BadByte) ∷ tests)) h)
 
@@ -61,50 +61,50 @@ marker-rising : (b : Bool) (context : Context) (o : Option (List ℕ)) → AreRi
 marker-rising b context None = refl
 marker-rising b context (Some word) = refl
 
-data-behind : (context : Context) (earlier : Draft) (fields : Fields) (section : Option Section) → AreRising (data_tests context earlier fields section)
-data-behind context earlier fields None = refl
-data-behind context earlier fields (Some Name) = refl
-data-behind context earlier fields (Some ObjSense) = sense-rising (not (is_some context.word_due)) (word_shape fields)
-data-behind context earlier fields (Some ObjName) = judged-after-order (not (is_some context.word_due)) (word_shape fields)
-data-behind context earlier fields (Some Rows) = judged-rising row_line_tests (row_shape fields) (λ _. refl)
-data-behind context earlier fields (Some Columns) =
+data-after : (context : Context) (earlier : Draft) (fields : Fields) (section : Option Section) → AreRising (data_tests context earlier fields section)
+data-after context earlier fields None = refl
+data-after context earlier fields (Some Name) = refl
+data-after context earlier fields (Some ObjSense) = sense-rising (not (is_some context.word_due)) (word_shape fields)
+data-after context earlier fields (Some ObjName) = judged-after-order (not (is_some context.word_due)) (word_shape fields)
+data-after context earlier fields (Some Rows) = judged-rising row_line_tests (row_shape fields) (λ _. refl)
+data-after context earlier fields (Some Columns) =
     rising-if (is_marker_line fields) (marker_tests context fields) (judged_by (column_tests context earlier) (column_shape fields)) (marker-rising (is_sos_marker fields) context (marker_shape fields)) (judged-rising (column_tests context earlier) (column_shape fields) (λ _. refl))
-data-behind context earlier fields (Some Rhs) = judged-rising (vector_tests context.rhs_set) (vector_shape fields) (λ _. refl)
-data-behind context earlier fields (Some Ranges) = judged-rising (vector_tests context.ranges_set) (vector_shape fields) (λ _. refl)
-data-behind context earlier [] (Some Bounds) = refl
-data-behind context earlier (letters ∷ more) (Some Bounds) = typed-rising context more (bound_type letters)
-data-behind context earlier fields (Some EndData) = refl
+data-after context earlier fields (Some Rhs) = judged-rising (vector_tests context.rhs_set) (vector_shape fields) (λ _. refl)
+data-after context earlier fields (Some Ranges) = judged-rising (vector_tests context.ranges_set) (vector_shape fields) (λ _. refl)
+data-after context earlier [] (Some Bounds) = refl
+data-after context earlier (letters ∷ more) (Some Bounds) = typed-rising context more (bound_type letters)
+data-after context earlier fields (Some EndData) = refl
 
 -- all kinds of unknown sections
-unknown-behind : (quadratic sos indicator : Bool)
+unknown-after : (quadratic sos indicator : Bool)
     → AreRising ((true, cond quadratic kinds.Quadratic (cond sos kinds.Sos (cond indicator kinds.Indicator kinds.UnknownSection))) ∷ [])
-unknown-behind true sos indicator = refl
-unknown-behind false true indicator = refl
-unknown-behind false false true = refl
-unknown-behind false false false = refl
+unknown-after true sos indicator = refl
+unknown-after false true indicator = refl
+unknown-after false false true = refl
+unknown-after false false false = refl
 
-header-behind : (context : Context) (earlier : Draft) (keyword : List ℕ) (more : Fields) (section : Option Section) → AreRising (header_tests context earlier keyword more section)
-header-behind context earlier keyword more None =
-    unknown-behind (is_one_of (codes "QSECTION" ∷ codes "QMATRIX" ∷ codes "QUADOBJ" ∷ codes "QCMATRIX" ∷ codes "CSECTION" ∷ []) keyword)
+header-after : (context : Context) (earlier : Draft) (keyword : List ℕ) (more : Fields) (section : Option Section) → AreRising (header_tests context earlier keyword more section)
+header-after context earlier keyword more None =
+    unknown-after (is_one_of (codes "QSECTION" ∷ codes "QMATRIX" ∷ codes "QUADOBJ" ∷ codes "QCMATRIX" ∷ codes "CSECTION" ∷ []) keyword)
     (is_one_of (codes "SOS" ∷ codes "SOS1" ∷ codes "SOS2" ∷ []) keyword) (is_one_of (codes "INDICATORS" ∷ []) keyword)
-header-behind context earlier keyword more (Some Name) = refl
-header-behind context earlier keyword [] (Some ObjSense) = refl
-header-behind context earlier keyword (word ∷ more) (Some ObjSense) = refl
-header-behind context earlier keyword more (Some ObjName) = refl
-header-behind context earlier keyword more (Some Rows) = refl
-header-behind context earlier keyword more (Some Columns) = refl
-header-behind context earlier keyword more (Some Rhs) = refl
-header-behind context earlier keyword more (Some Ranges) = refl
-header-behind context earlier keyword more (Some Bounds) = refl
-header-behind context earlier keyword more (Some EndData) = refl
+header-after context earlier keyword more (Some Name) = refl
+header-after context earlier keyword [] (Some ObjSense) = refl
+header-after context earlier keyword (word ∷ more) (Some ObjSense) = refl
+header-after context earlier keyword more (Some ObjName) = refl
+header-after context earlier keyword more (Some Rows) = refl
+header-after context earlier keyword more (Some Columns) = refl
+header-after context earlier keyword more (Some Rhs) = refl
+header-after context earlier keyword more (Some Ranges) = refl
+header-after context earlier keyword more (Some Bounds) = refl
+header-after context earlier keyword more (Some EndData) = refl
 
 pub item-rising : (context : Context) (earlier : Draft) (item : LineContent) → AreRising (item_tests context earlier item)
 item-rising context earlier skipped = refl
-item-rising context earlier (header keyword more) = header-behind context earlier keyword more (section_named keyword)
-item-rising context earlier (data_line fields) = data-behind context earlier fields context.section
+item-rising context earlier (header keyword more) = header-after context earlier keyword more (section_named keyword)
+item-rising context earlier (data_line fields) = data-after context earlier fields context.section
 
 pub data-rising : (context : Context) (earlier : Draft) (fields : Fields) (section : Option Section) → are_rising (data_tests context earlier fields section) ≡ true
-data-rising context earlier fields section = rising-alone (data_tests context earlier fields section) (data-behind context earlier fields section)
+data-rising context earlier fields section = rising-only (data_tests context earlier fields section) (data-after context earlier fields section)
 
 pub header-rising : (context : Context) (earlier : Draft) (keyword : List ℕ) (more : Fields) (section : Option Section) → are_rising (header_tests context earlier keyword more section) ≡ true
-header-rising context earlier keyword more section = rising-alone (header_tests context earlier keyword more section) (header-behind context earlier keyword more section)
+header-rising context earlier keyword more section = rising-only (header_tests context earlier keyword more section) (header-after context earlier keyword more section)

@@ -11,7 +11,7 @@ use Rattle.mpslp_types.specs.Lists.{head_of, when}
 use Rattle.mpslp_mps_fields.specs.Line.{Fields, LineContent, data_line, section_of_header, is_section}
 use Rattle.mpslp_mps_fields.specs.DataLine.{opening_word, closing_word}
 use Rattle.mpslp_mps.specs.Context.{seen_sections, section_after, current_section, fields_under, said_after, data_lines}
-use Rattle.mpslp_mps.specs.TextInWords.{alternate, is_one_set, same_column, entries_after, stand_together}
+use Rattle.mpslp_mps.specs.TextInWords.{alternate, is_one_set, same_column, entries_after, are_together}
 use Rattle.mpslp_mps_fields.specs.declared.sections.Section.{Section}
 use Rattle.mpslp_mps.proofs.WordsOfFields.{is_other_set}
 use Rattle.mpslp_mps.proofs.WordsOfSections.{next_word, opens, opens-next}
@@ -36,9 +36,9 @@ said_after-append {X} says current (item ∷ before) items =
     ∙ sym (append_assoc (says current item) (said_after says next before) _)
 
 -- a data line of the section is between those before it and those after it
-pub data-stands : (section : Section) (before : List LineContent) (fields : Fields) (rest : List LineContent) → is_section section (current_section before) ≡ true
+pub data-occurs : (section : Section) (before : List LineContent) (fields : Fields) (rest : List LineContent) → is_section section (current_section before) ≡ true
     → data_lines section (before ++ data_line fields ∷ rest) ≡ data_lines section before ++ fields ∷ said_after (fields_under section) (current_section before) rest
-data-stands section before fields rest h =
+data-occurs section before fields rest h =
     said_after-append (fields_under section) None before (data_line fields ∷ rest)
     ∙ ap (λ (b : Bool). data_lines section before ++ (when b fields ++ said_after (fields_under section) (current_section before) rest)) h
 
@@ -80,7 +80,7 @@ comes-later c x d (e ∷ columns) more h k = by (comes-later c x e columns more 
     by rest true = rest
     by rest false = found-later c x d (e ∷ columns) more h
 
-pub together-apart : (x : Column) (columns more : List Column) → stand_together (columns ++ x ∷ more) ≡ true → comes_again x columns ≡ false
+pub together-apart : (x : Column) (columns more : List Column) → are_together (columns ++ x ∷ more) ≡ true → comes_again x columns ≡ false
 together-apart x [] more h = refl
 together-apart x (c ∷ []) more h = by (same_column x c)
   where
@@ -88,11 +88,11 @@ together-apart x (c ∷ []) more h = by (same_column x c)
     by true = refl
     by false = refl
 together-apart x (c ∷ d ∷ columns) more h =
-    by (same_column x c) refl (together-apart x (d ∷ columns) more (second_so (not (list_any (same_column c) (entries_after c (d ∷ (columns ++ x ∷ more))))) (stand_together (d ∷ (columns ++ x ∷ more))) h))
+    by (same_column x c) refl (together-apart x (d ∷ columns) more (second_so (not (list_any (same_column c) (entries_after c (d ∷ (columns ++ x ∷ more))))) (are_together (d ∷ (columns ++ x ∷ more))) h))
   where
     none : list_any (same_column c) (entries_after c (d ∷ (columns ++ x ∷ more))) ≡ false
     none = not_so (list_any (same_column c) (entries_after c (d ∷ (columns ++ x ∷ more))))
-        (first_so (not (list_any (same_column c) (entries_after c (d ∷ (columns ++ x ∷ more))))) (stand_together (d ∷ (columns ++ x ∷ more))) h)
+        (first_so (not (list_any (same_column c) (entries_after c (d ∷ (columns ++ x ∷ more))))) (are_together (d ∷ (columns ++ x ∷ more))) h)
 
     last : Column
     last = last_of d columns

@@ -23,7 +23,7 @@ use Rattle.mpslp_mps_fields.specs.declared.bound_types.BoundType.{BoundType}
 use Rattle.mpslp_mps_fields.specs.declared.sections.Section.{Section}
 use Rattle.mpslp_lines.proofs.LeastLemmas.{is_from}
 use Rattle.mpslp_lines.proofs.ClashLemmas.{has_kind_clash}
-use Rattle.mpslp_lines.proofs.FirstFaultLemmas.{form-first, is_behind_clash, clash-first, declared-first}
+use Rattle.mpslp_lines.proofs.FirstFaultLemmas.{form-first, is_after_clash, clash-first, declared-first}
 use Rattle.mpslp_lines.proofs.HeldLemmas.{held-among}
 use Rattle.mpslp_mps.proofs.RisingTests.{data-rising}
 
@@ -45,12 +45,12 @@ data_fault-form context earlier fields section kind h early apart held =
     (ap (λ (s : Option Section). has_kind_clash earlier (data_declared context earlier fields s)) h ∙ apart)
 
 -- a clash of the types of a column is reported before all later tests of the form of the line
-pub clash-told : (context : Context) (earlier : Draft) (fields : Fields) (section : Option Section) → context.section ≡ section
-    → list_all (λ test. is_behind_clash test.1) (data_tests context earlier fields section) ≡ true → has_kind_clash earlier (data_declared context earlier fields section) ≡ true
+pub clash-reported : (context : Context) (earlier : Draft) (fields : Fields) (section : Option Section) → context.section ≡ section
+    → list_all (λ test. is_after_clash test.1) (data_tests context earlier fields section) ≡ true → has_kind_clash earlier (data_declared context earlier fields section) ≡ true
     → data_fault context earlier fields ≡ Some kinds.SemiContinuous
-clash-told context earlier fields section h behind clash =
+clash-reported context earlier fields section h following clash =
     ap (λ (s : Option Section). least_kind (those_of (data_tests context earlier fields s) ++ declaring_faults earlier (data_declared context earlier fields s))) h
-    ∙ clash-first (data_tests context earlier fields section) earlier (data_declared context earlier fields section) (data-rising context earlier fields section) behind clash
+    ∙ clash-first (data_tests context earlier fields section) earlier (data_declared context earlier fields section) (data-rising context earlier fields section) following clash
 
 -- no error of the form of the line
 pub data_fault-declared : (context : Context) (earlier : Draft) (fields : Fields) (section : Option Section) (declarations : Declarations) → context.section ≡ section
@@ -114,18 +114,18 @@ bounds-early context letters more = typed (bound_type letters)
     typed (Some type) = lined (bound_shape type more)
 
 -- all tests of a line of BOUNDS come after that for a clash of types
-pub bounds-behind : (context : Context) (letters : List ℕ) (more : Fields) → list_all (λ test. is_behind_clash test.1) (bound_line_tests context (letters ∷ more)) ≡ true
-bounds-behind context letters more = typed (bound_type letters)
+pub bounds-after : (context : Context) (letters : List ℕ) (more : Fields) → list_all (λ test. is_after_clash test.1) (bound_line_tests context (letters ∷ more)) ≡ true
+bounds-after context letters more = typed (bound_type letters)
   where
     parted : (line : BoundLine) (o : Option (List ℕ))
-        → list_all (λ test. is_behind_clash test.1) (option_map_or (λ literal. number_tests (literal ∷ [])) o [] ++ set_tests context.bounds_set line.set) ≡ true
+        → list_all (λ test. is_after_clash test.1) (option_map_or (λ literal. number_tests (literal ∷ [])) o [] ++ set_tests context.bounds_set line.set) ≡ true
     parted line None = refl
     parted line (Some literal) = refl
 
-    lined : (o : Option BoundLine) → list_all (λ test. is_behind_clash test.1) (judged_by (bound_tests context) o) ≡ true
+    lined : (o : Option BoundLine) → list_all (λ test. is_after_clash test.1) (judged_by (bound_tests context) o) ≡ true
     lined None = refl
     lined (Some line) = parted line line.literal
 
-    typed : (o : Option BoundType) → list_all (λ test. is_behind_clash test.1) (typed_bound_tests context more o) ≡ true
+    typed : (o : Option BoundType) → list_all (λ test. is_after_clash test.1) (typed_bound_tests context more o) ≡ true
     typed None = refl
     typed (Some type) = lined (bound_shape type more)

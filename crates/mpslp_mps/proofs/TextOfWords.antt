@@ -32,7 +32,7 @@ pub record Known (before : List LineContent) (earlier : Draft) : Type 0 where
   pub there : IsWantedThere before
 
 pub none-known : Known [] empty_draft
-none-known = record { words = none-yet; lines = λ name h. cc; declares = λ told name row. cc; there = λ h. cc }
+none-known = record { words = none-yet; lines = λ name h. cc; declares = λ stated name row. cc; there = λ h. cc }
 
 pub known-kept : (before : List LineContent) (earlier : Draft) (item : LineContent) → IsGood before earlier item → Known before earlier → Known (before ++ item ∷ []) (with_declarations earlier (line_declares (context_of before) earlier item))
 known-kept before earlier item good known = record {

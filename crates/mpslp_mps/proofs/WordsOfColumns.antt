@@ -17,7 +17,7 @@ use Rattle.mpslp_mps_fields.specs.DataLine.{ValuesLine, is_marker_line, column_s
 use Rattle.mpslp_mps.specs.Context.{Context, context_of, current_section, fields_under, data_lines, line_column, last_column}
 use Rattle.mpslp_mps.specs.LineDeclarations.{declared_if_some, coefficient_declared, column_declared, columns_line_declared, data_declared, line_declares}
 use Rattle.mpslp_mps.specs.LineFault.{is_split}
-use Rattle.mpslp_mps.specs.TextInWords.{same_column, entries_after, stand_together}
+use Rattle.mpslp_mps.specs.TextInWords.{same_column, entries_after, are_together}
 use Rattle.mpslp_mps_fields.specs.declared.sections.Section.TheVariants.{Columns}
 use Rattle.mpslp_mps.proofs.OrderLemmas.{IsGood}
 use Rattle.mpslp_mps.proofs.SectionLemmas.{data_lines-push}
@@ -47,13 +47,13 @@ abbrev pub last_of : Column → List Column → Column
 last_of last [] = last
 last_of last (column ∷ columns) = last_of column columns
 
-behind-more : (c x : Column) (columns : List Column) → list_any (same_column c) (entries_after c (columns ++ x ∷ [])) ≡ (list_any (same_column c) (entries_after c columns) || (is_nonempty (entries_after c columns) && same_column c x))
-behind-more c x [] = by (same_column c x) refl
+after-more : (c x : Column) (columns : List Column) → list_any (same_column c) (entries_after c (columns ++ x ∷ [])) ≡ (list_any (same_column c) (entries_after c columns) || (is_nonempty (entries_after c columns) && same_column c x))
+after-more c x [] = by (same_column c x) refl
   where
     by : (b : Bool) → same_column c x ≡ b → list_any (same_column c) (cond b [] (x ∷ [])) ≡ false
     by true e = refl
     by false e = ap (λ (a : Bool). a || false) e
-behind-more c x (next ∷ columns) = by (same_column c next) (behind-more c x columns)
+after-more c x (next ∷ columns) = by (same_column c next) (after-more c x columns)
   where
     by : (b : Bool) → list_any (same_column c) (entries_after c (columns ++ x ∷ [])) ≡ (list_any (same_column c) (entries_after c columns) || (is_nonempty (entries_after c columns) && same_column c x))
         → list_any (same_column c) (cond b (entries_after c (columns ++ x ∷ [])) (next ∷ (columns ++ x ∷ [])))
@@ -74,9 +74,9 @@ none-last c d (next ∷ columns) h k = none-last c next columns (more (same_colu
     more false e = e
 
 -- if no line of a column comes after its first lines, and the last line is one of them, all lines are
-nothing-behind : (c d : Column) (columns : List Column) → list_any (same_column c) (entries_after c columns) ≡ false → same_column c (last_of d columns) ≡ true → is_nonempty (entries_after c columns) ≡ false
-nothing-behind c d [] h k = refl
-nothing-behind c d (next ∷ columns) h k = by (λ e. nothing-behind c next columns e k) (same_column c next) h
+nothing-after : (c d : Column) (columns : List Column) → list_any (same_column c) (entries_after c columns) ≡ false → same_column c (last_of d columns) ≡ true → is_nonempty (entries_after c columns) ≡ false
+nothing-after c d [] h k = refl
+nothing-after c d (next ∷ columns) h k = by (λ e. nothing-after c next columns e k) (same_column c next) h
   where
     by : (list_any (same_column c) (entries_after c columns) ≡ false → is_nonempty (entries_after c columns) ≡ false)
         → (b : Bool) → list_any (same_column c) (cond b (entries_after c columns) (next ∷ columns)) ≡ false → is_nonempty (cond b (entries_after c columns) (next ∷ columns)) ≡ false
@@ -92,16 +92,16 @@ fewer true true n h = h
 fewer true false n h = refl
 fewer false b n h = h
 
-pub together-more : (x : Column) (columns : List Column) → stand_together columns ≡ true → comes_again x columns ≡ false → stand_together (columns ++ x ∷ []) ≡ true
+pub together-more : (x : Column) (columns : List Column) → are_together columns ≡ true → comes_again x columns ≡ false → are_together (columns ++ x ∷ []) ≡ true
 together-more x [] h k = refl
 together-more x (c ∷ columns) h k =
-    both_so (not (list_any (same_column c) (entries_after c (columns ++ x ∷ [])))) (stand_together (columns ++ x ∷ []))
+    both_so (not (list_any (same_column c) (entries_after c (columns ++ x ∷ [])))) (are_together (columns ++ x ∷ []))
     (so_not (list_any (same_column c) (entries_after c (columns ++ x ∷ [])))
-    (behind-more c x columns ∙ ap (λ (b : Bool). b || (is_nonempty (entries_after c columns) && same_column c x)) none ∙ last (same_column c x) refl))
-    (together-more x columns (second_so (not (list_any (same_column c) (entries_after c columns))) (stand_together columns) h) (later columns k))
+    (after-more c x columns ∙ ap (λ (b : Bool). b || (is_nonempty (entries_after c columns) && same_column c x)) none ∙ last (same_column c x) refl))
+    (together-more x columns (second_so (not (list_any (same_column c) (entries_after c columns))) (are_together columns) h) (later columns k))
   where
     none : list_any (same_column c) (entries_after c columns) ≡ false
-    none = not_so (list_any (same_column c) (entries_after c columns)) (first_so (not (list_any (same_column c) (entries_after c columns))) (stand_together columns) h)
+    none = not_so (list_any (same_column c) (entries_after c columns)) (first_so (not (list_any (same_column c) (entries_after c columns))) (are_together columns) h)
 
     later : (cs : List Column) → comes_again x (c ∷ cs) ≡ false → comes_again x cs ≡ false
     later [] e = refl
@@ -116,7 +116,7 @@ together-more x (c ∷ columns) h k =
     nothing e =
         let back = turned c x e in
         let end = so (same_column x c) (list_any (same_column x) columns) (same_column x (last_of c columns)) back k in
-        nothing-behind c c columns none (ap (λ (z : Column). same_column z (last_of c columns)) (one_column c x e) ∙ end)
+        nothing-after c c columns none (ap (λ (z : Column). same_column z (last_of c columns)) (one_column c x e) ∙ end)
 
     last : (b : Bool) → same_column c x ≡ b → (is_nonempty (entries_after c columns) && b) ≡ false
     last true e = ap (λ (a : Bool). a && true) (nothing e)
@@ -215,11 +215,11 @@ pub last-line : (lines : List Fields) (o : Option Fields) → option_map_or line
 last-line [] o = refl
 last-line (fields ∷ lines) o = last-line lines (Some fields)
 
-pub columns-kept : (before : List LineContent) (earlier : Draft) (item : LineContent) → IsGood before earlier item → AreThere before earlier → stand_together (columns_of before) ≡ true
-    → stand_together (columns_of (before ++ item ∷ [])) ≡ true
+pub columns-kept : (before : List LineContent) (earlier : Draft) (item : LineContent) → IsGood before earlier item → AreThere before earlier → are_together (columns_of before) ≡ true
+    → are_together (columns_of (before ++ item ∷ [])) ≡ true
 columns-kept before earlier item good there h =
-    section-kept Columns (λ lines. stand_together (map line_column lines)) before earlier item
-    (λ fields g. ap stand_together (map-append line_column (data_lines Columns before) (fields ∷ []))
+    section-kept Columns (λ lines. are_together (map line_column lines)) before earlier item
+    (λ fields g. ap are_together (map-append line_column (data_lines Columns before) (fields ∷ []))
     ∙ together-more (line_column fields) (columns_of before) h (by (line_column fields) (λ name e. column-continues_column (context_of before) earlier fields g name e)))
     good h
   where

@@ -84,8 +84,8 @@ pairs-fine : (pairs : List Pair) → list_all is_number (literals_of pairs) ≡ 
 pairs-fine [] = refl
 pairs-fine (pair ∷ pairs) = ap (λ (b : Bool). is_number pair.literal && b) (pairs-fine pairs)
 
-behind-numbers : (literals : List (List ℕ)) (more : FaultTests) → those_of (number_tests literals ++ more) ≡ [] → NoFault literals × (those_of more ≡ [])
-behind-numbers literals more h =
+after-numbers : (literals : List (List ℕ)) (more : FaultTests) → those_of (number_tests literals ++ more) ≡ [] → NoFault literals × (those_of more ≡ [])
+after-numbers literals more h =
     let a = has_number_fault literals kinds.BadNumber in
     let b = has_number_fault literals kinds.LongNumber in
     let c = has_number_fault literals kinds.TooManyDigits in
@@ -100,8 +100,8 @@ behind-numbers literals more h =
       later_tests d kinds.ExponentRange more m,
     )
 
-behind-names : (name : List ℕ) (more : FaultTests) → those_of (name_tests name ++ more) ≡ [] → those_of more ≡ []
-behind-names name more h =
+after-names : (name : List ℕ) (more : FaultTests) → those_of (name_tests name ++ more) ≡ [] → those_of more ≡ []
+after-names name more h =
     let c = same_bytes name marker in
     let b = not (list_all is_visible name) in
     let last : FaultTests = (c, kinds.NameMarker) ∷ more in
@@ -128,7 +128,7 @@ row-fields fields h = by (row_shape fields) h
         (name-legal line.name [] (later_tests (is_none (row_type line.letter)) kinds.BadType (name_tests line.name) k))
 
 pub numbers-of : (pairs : List Pair) (more : FaultTests) → those_of (number_tests (literals_of pairs) ++ more) ≡ [] → have_numbers pairs ≡ true
-numbers-of pairs more h = sym (pairs-fine pairs) ∙ numbers-fine (literals_of pairs) (behind-numbers (literals_of pairs) more h).0
+numbers-of pairs more h = sym (pairs-fine pairs) ∙ numbers-fine (literals_of pairs) (after-numbers (literals_of pairs) more h).0
 
 -- the tests of a line of a column after those of its name and its numbers
 column-parts : (context : Context) (earlier : Draft) (line : ValuesLine) → those_of (column_tests context earlier line) ≡ []
@@ -137,8 +137,8 @@ column-parts context earlier line h =
     let split = is_split context earlier line.name in
     let last : FaultTests = (split, kinds.ColumnSplit) ∷ [] in
     let numbers = number_tests (literals_of line.pairs) ++ last in
-    let rest = behind-names line.name numbers h in
-    (name-legal line.name numbers h, numbers-of line.pairs last rest, first_test split kinds.ColumnSplit [] (behind-numbers (literals_of line.pairs) last rest).1)
+    let rest = after-names line.name numbers h in
+    (name-legal line.name numbers h, numbers-of line.pairs last rest, first_test split kinds.ColumnSplit [] (after-numbers (literals_of line.pairs) last rest).1)
 
 pub columns-fields : (context : Context) (earlier : Draft) (fields : Fields) → those_of (columns_line_tests context earlier fields) ≡ [] → is_columns_line fields ≡ true
 columns-fields context earlier fields h = by (is_marker_line fields) h
@@ -210,7 +210,7 @@ vector-set first fields h name e = by (vector_shape fields) h e
     by None k f = cc
     by (Some line) k f =
         ap (is_other_set first) (sym (some-word line.name name f))
-        ∙ first_test (is_other_set first line.name) kinds.SecondSet [] (behind-numbers (literals_of line.pairs) (set_tests first line.name) k).1
+        ∙ first_test (is_other_set first line.name) kinds.SecondSet [] (after-numbers (literals_of line.pairs) (set_tests first line.name) k).1
 
 bound-parts : (context : Context) (line : BoundLine) → those_of (bound_tests context line) ≡ []
     → (option_map_or is_number line.literal true ≡ true) × (is_other_set context.bounds_set line.set ≡ false)
@@ -227,7 +227,7 @@ bound-parts context line h = by line.literal h
     by None k = (refl, first_test (is_other_set context.bounds_set line.set) kinds.SecondSet [] k)
     by (Some literal) k = (
       one literal (numbers-of (record { row = []; literal = literal } ∷ []) sets k),
-      first_test (is_other_set context.bounds_set line.set) kinds.SecondSet [] (behind-numbers (literal ∷ []) sets k).1,
+      first_test (is_other_set context.bounds_set line.set) kinds.SecondSet [] (after-numbers (literal ∷ []) sets k).1,
     )
 
 pub bound-fields : (context : Context) (fields : Fields) → those_of (bound_line_tests context fields) ≡ [] → is_bound_line fields ≡ true

@@ -199,8 +199,8 @@ ordered-more before section o fresh may = record {
     below Bounds f m = up_to-end sections_seen
     below EndData f m = up_to-end sections_seen
 
-    behind_columns : (s : Section) → has sections_seen Columns ≡ true → (has sections_seen Rows || is_section Rows (Some s)) ≡ true
-    behind_columns s m = or_left (has sections_seen Rows) (is_section Rows (Some s)) (rows-there sections_seen o m)
+    after_columns : (s : Section) → has sections_seen Columns ≡ true → (has sections_seen Rows || is_section Rows (Some s)) ≡ true
+    after_columns s m = or_left (has sections_seen Rows) (is_section Rows (Some s)) (rows-there sections_seen o m)
 
     rows-more : (s : Section) → may_begin (context_of before) s ≡ true → (third sections_seen || nat_le 2 (section_rank s)) ≡ true → (has sections_seen Rows || is_section Rows (Some s)) ≡ true
     rows-more Name m h = or_left (has sections_seen Rows) false (o.rows (later-false (third sections_seen) false refl h))
@@ -208,10 +208,10 @@ ordered-more before section o fresh may = record {
     rows-more ObjName m h = or_left (has sections_seen Rows) false (o.rows (later-false (third sections_seen) false refl h))
     rows-more Rows m h = or_right (has sections_seen Rows) true refl
     rows-more Columns m h = or_left (has sections_seen Rows) false m
-    rows-more Rhs m h = behind_columns Rhs m
-    rows-more Ranges m h = behind_columns Ranges m
-    rows-more Bounds m h = behind_columns Bounds m
-    rows-more EndData m h = behind_columns EndData m
+    rows-more Rhs m h = after_columns Rhs m
+    rows-more Ranges m h = after_columns Ranges m
+    rows-more Bounds m h = after_columns Bounds m
+    rows-more EndData m h = after_columns EndData m
 
     columns-more : (s : Section) → may_begin (context_of before) s ≡ true → (fourth sections_seen || nat_le 3 (section_rank s)) ≡ true → (has sections_seen Columns || is_section Columns (Some s)) ≡ true
     columns-more Name m h = or_left (has sections_seen Columns) false (o.columns (later-false (fourth sections_seen) false refl h))

@@ -250,7 +250,7 @@ named-kept before earlier item good ordered early n = record {
 
     -- the row is a new objective
     new_row : (fields : Fields) → IsGood before earlier (data_line fields) → is_section Rows (current_section before) ≡ true
-        → (name : List ℕ) → ((told : List ℕ) → same_bytes name told ≡ true → is_free_row_named told fields ≡ true)
+        → (name : List ℕ) → ((stated : List ℕ) → same_bytes name stated ≡ true → is_free_row_named stated fields ≡ true)
         → option_map_or (same_bytes name) (objname before) true ≡ true → has_named_row (before ++ data_line fields ∷ []) ≡ true
     new_row fields g here name is_it h =
         ap (λ (o : Option (List ℕ)). option_map_or (has_free_row (before ++ data_line fields ∷ [])) o true) (same-name before earlier (data_line fields) g early (rows_begun here))
@@ -258,10 +258,10 @@ named-kept before earlier item good ordered early n = record {
       where
         by : (o : Option (List ℕ)) → option_map_or (same_bytes name) o true ≡ true → option_map_or (has_free_row (before ++ data_line fields ∷ [])) o true ≡ true
         by None k = refl
-        by (Some told) k =
-            ap (list_any (is_free_row_named told)) (data_lines-push Rows before (data_line fields) ∙ ap (λ (b : Bool). data_lines Rows before ++ when b fields) here)
-            ∙ list_any-append (is_free_row_named told) (data_lines Rows before) (fields ∷ [])
-            ∙ or_right (has_free_row before told) (is_free_row_named told fields || false) (or_left (is_free_row_named told fields) false (is_it told k))
+        by (Some stated) k =
+            ap (list_any (is_free_row_named stated)) (data_lines-push Rows before (data_line fields) ∙ ap (λ (b : Bool). data_lines Rows before ++ when b fields) here)
+            ∙ list_any-append (is_free_row_named stated) (data_lines Rows before) (fields ∷ [])
+            ∙ or_right (has_free_row before stated) (is_free_row_named stated fields || false) (or_left (is_free_row_named stated fields) false (is_it stated k))
 
     at_columns : (keyword : List ℕ) (more : Fields) → IsGood before earlier (header keyword more) → is_section Columns (section_named keyword) ≡ true → has_named_row (before ++ header keyword more ∷ []) ≡ true
     at_columns keyword more g e =
@@ -284,10 +284,10 @@ named-kept before earlier item good ordered early n = record {
     in_rows fields g here h =
         of (row_shape fields) refl (subst (λ o. is_some (with_declarations earlier (data_declared (context_of before) earlier fields o)).objective ≡ true) (section-is Rows (current_section before) here) h)
       where
-        free_so : (line : RowLine) → row_shape fields ≡ Some line → row_type line.letter ≡ Some Free → (told : List ℕ) → same_bytes line.name told ≡ true → is_free_row_named told fields ≡ true
-        free_so line r t told k =
-            ap (λ (o : Option RowLine). option_map_or (λ (l : RowLine). is_free (row_type l.letter) && same_bytes l.name told) o false) r
-            ∙ both_so (is_free (row_type line.letter)) (same_bytes line.name told) (ap is_free t) k
+        free_so : (line : RowLine) → row_shape fields ≡ Some line → row_type line.letter ≡ Some Free → (stated : List ℕ) → same_bytes line.name stated ≡ true → is_free_row_named stated fields ≡ true
+        free_so line r t stated k =
+            ap (λ (o : Option RowLine). option_map_or (λ (l : RowLine). is_free (row_type l.letter) && same_bytes l.name stated) o false) r
+            ∙ both_so (is_free (row_type line.letter)) (same_bytes line.name stated) (ap is_free t) k
 
         free : (line : RowLine) → row_shape fields ≡ Some line → row_type line.letter ≡ Some Free → (b : Bool) → is_new_objective (context_of before) earlier line.name ≡ b
             → is_some (with_declarations earlier (cond b (declare_objective line.name ∷ []) (declare_row line.name (by_type Free) ∷ []))).objective ≡ true → has_named_row (before ++ data_line fields ∷ []) ≡ true
@@ -331,13 +331,13 @@ named-kept before earlier item good ordered early n = record {
 
 -- ---- the name, in terms of the section
 
-pub told-words : (current : Option Section) (items : List LineContent)
+pub stated-words : (current : Option Section) (items : List LineContent)
     → filter_map word_shape (said_after (word_fields ObjName) current items) ≡ said_after (λ (c : Option Section) (item : LineContent). cons_option (objname_word c item) []) current items
-told-words current [] = refl
-told-words current (item ∷ items) =
+stated-words current [] = refl
+stated-words current (item ∷ items) =
     let next = option_or (section_of_header item) current in
     filter_map-append word_shape (word_fields ObjName current item) (said_after (word_fields ObjName) next items)
-    ∙ ap (λ (more : List (List ℕ)). filter_map word_shape (word_fields ObjName current item) ++ more) (told-words next items)
+    ∙ ap (λ (more : List (List ℕ)). filter_map word_shape (word_fields ObjName current item) ++ more) (stated-words next items)
     ∙ ap (λ (here : List (List ℕ)). here ++ said_after (λ (c : Option Section) (x : LineContent). cons_option (objname_word c x) []) next items) (by item)
   where
     when_so : (fields : Fields) (b : Bool) → filter_map word_shape (when b fields) ≡ cons_option (cond b (word_shape fields) None) []
@@ -371,4 +371,4 @@ words-named test ((word ∷ other ∷ rest) ∷ more) h = cc
 pub named-in_words : (items : List LineContent) → has_word_at_most (λ _. true) (words_in ObjName items) ≡ true → has_named_objective items ≡ has_named_row items
 named-in_words items h =
     words-named (has_free_row items) (words_in ObjName items) h
-    ∙ ap (λ (names : List (List ℕ)). option_map_or (has_free_row items) (head_of names) true) (told-words None items)
+    ∙ ap (λ (names : List (List ℕ)). option_map_or (has_free_row items) (head_of names) true) (stated-words None items)

@@ -16,7 +16,7 @@ use Rattle.mpslp_mps_fields.specs.Line.{Fields, LineContent, content_of, outside
 use Rattle.mpslp_mps.specs.LegalLine.{is_legal_line}
 use Rattle.mpslp_mps_fields.specs.DataLine.{opening_word, closing_word}
 use Rattle.mpslp_mps.specs.Context.{context_of, seen_sections, section_after, current_section, data_lines, marker_word, vector_set, bound_set}
-use Rattle.mpslp_mps.specs.TextInWords.{has_section, are_good_sections, is_good_header, has_good_headers, in_order, stray_lines, is_sense, words_in, has_word_at_most, has_good_words, has_named_objective, is_row_line, is_columns_line, is_vector_line, is_bound_line, have_good_fields, alternate, has_good_markers, stand_together, has_whole_columns, is_one_set, has_single_sets, are_good_together, is_text_in_words}
+use Rattle.mpslp_mps.specs.TextInWords.{has_section, are_good_sections, is_good_header, has_good_headers, in_order, stray_lines, is_sense, words_in, has_word_at_most, has_good_words, has_named_objective, is_row_line, is_columns_line, is_vector_line, is_bound_line, have_good_fields, alternate, has_good_markers, are_together, has_whole_columns, is_one_set, has_single_sets, are_good_together, is_text_in_words}
 use Rattle.mpslp_mps.specs.LineDeclarations.{line_declares}
 use Rattle.mpslp_mps.specs.LineFault.{item_tests, line_tests}
 use Rattle.mpslp_mps.specs.MpsText.{is_end, read_lines, has_end, is_well_formed, lines_in_context_after, lines_in_context, is_mps_text}
@@ -51,7 +51,7 @@ pub record AreInWords (before : List LineContent) (earlier : Draft) : Type 0 whe
   pub bounds : list_all is_bound_line (data_lines Bounds before) ≡ true
   pub markers : alternate opening_word closing_word (filter_map marker_word (data_lines Columns before)) ≡ true
   pub there : AreThere before earlier
-  pub together : stand_together (columns_of before) ≡ true
+  pub together : are_together (columns_of before) ≡ true
   pub right_side_set : is_one_set (filter_map vector_set (data_lines Rhs before)) ≡ true
   pub range_set : is_one_set (filter_map vector_set (data_lines Ranges before)) ≡ true
   pub bound_sets : is_one_set (filter_map bound_set (data_lines Bounds before)) ≡ true

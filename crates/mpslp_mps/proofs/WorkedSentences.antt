@@ -3,7 +3,7 @@ use Rattle.std.proofs.Common.{◌≡◌, refl}
 use Rattle.std.specs.Prelude.{ℕ, Bool, true, false, ◌||◌, List, [], ◌∷◌, ◌++◌, map, codes}
 use Rattle.mpslp_mps_fields.specs.Line.{LineContent, content_of}
 use Rattle.mpslp_mps.specs.MpsText.{read_lines}
-use Rattle.mpslp_mps.specs.FaultsInWords.{repeats_section, stands_out_of_order, is_wrong_marker, is_of_second_set, splits_column, repeats_row, names_unknown_row, names_unknown_column, repeats_entry}
+use Rattle.mpslp_mps.specs.FaultsInWords.{repeats_section, occurs_out_of_order, is_wrong_marker, is_of_second_set, splits_column, repeats_row, names_unknown_row, names_unknown_column, repeats_entry}
 use Rattle.mpslp_mps.proofs.WorkedFiles.{small, ranges, semi_columns, maximized, integer_bounds}
 
 abbrev lines_before : List LineContent
@@ -21,19 +21,19 @@ is_it is_such before line = is_such before (content_of line)
 pub columns_again : is_it repeats_section lines_before (codes "COLUMNS") ≡ true
 columns_again = refl
 
-pub rows_behind_columns : is_it stands_out_of_order (map content_of (codes "OBJSENSE" ∷ [])) (codes "ROWS") ≡ true
-rows_behind_columns = refl
+pub rows_after_columns : is_it occurs_out_of_order (map content_of (codes "OBJSENSE" ∷ [])) (codes "ROWS") ≡ true
+rows_after_columns = refl
 
-pub sense_behind_columns : is_it stands_out_of_order lines_before (codes "OBJSENSE MAX") ≡ true
-sense_behind_columns = refl
+pub sense_after_columns : is_it occurs_out_of_order lines_before (codes "OBJSENSE MAX") ≡ true
+sense_after_columns = refl
 
-pub bounds_before_columns : is_it stands_out_of_order (map content_of (codes "ROWS" ∷ [])) (codes "BOUNDS") ≡ true
+pub bounds_before_columns : is_it occurs_out_of_order (map content_of (codes "ROWS" ∷ [])) (codes "BOUNDS") ≡ true
 bounds_before_columns = refl
 
-pub data_line_first : is_it stands_out_of_order [] (codes " N  C") ≡ true
+pub data_line_first : is_it occurs_out_of_order [] (codes " N  C") ≡ true
 data_line_first = refl
 
-pub second_word : is_it stands_out_of_order (map content_of (codes "OBJSENSE MAX" ∷ [])) (codes "    MIN") ≡ true
+pub second_word : is_it occurs_out_of_order (map content_of (codes "OBJSENSE MAX" ∷ [])) (codes "    MIN") ≡ true
 second_word = refl
 
 pub closed_before_open : is_it is_wrong_marker lines_before (codes "    M  'MARKER'  'INTEND'") ≡ true
@@ -73,7 +73,7 @@ entry_twice = refl
 
 abbrev is_any : List LineContent → LineContent → Bool
 is_any before item =
-    repeats_section before item || (stands_out_of_order before item || (is_wrong_marker before item || (is_of_second_set before item || (splits_column before item
+    repeats_section before item || (occurs_out_of_order before item || (is_wrong_marker before item || (is_of_second_set before item || (splits_column before item
     || (repeats_row before item || (names_unknown_row before item || (names_unknown_column before item || repeats_entry before item)))))))
 
 abbrev has_such : List LineContent → List LineContent → Bool

@@ -59,9 +59,9 @@ pub sense_without_its_word : is_text_in_words (with_line_after 1 (codes "OBJSENS
 unfolding trailing_zeros
 sense_without_its_word = refl
 
-pub sense_behind_rows : is_text_in_words (with_line_after 4 (codes "OBJSENSE MAX")) ≡ false
+pub sense_after_rows : is_text_in_words (with_line_after 4 (codes "OBJSENSE MAX")) ≡ false
 unfolding trailing_zeros
-sense_behind_rows = refl
+sense_after_rows = refl
 
 pub unknown_header : is_text_in_words (with_line_after 12 (codes "QUADOBJ")) ≡ false
 unfolding trailing_zeros
@@ -79,9 +79,9 @@ pub row_of_unknown_type : is_text_in_words (with_line 4 (codes " X  R")) ≡ fal
 unfolding trailing_zeros
 row_of_unknown_type = refl
 
-pub text_behind_number : is_text_in_words (with_line 7 (codes "    X  R  1x")) ≡ false
+pub text_after_number : is_text_in_words (with_line 7 (codes "    X  R  1x")) ≡ false
 unfolding trailing_zeros
-text_behind_number = refl
+text_after_number = refl
 
 pub part_closed_before_it_is_open : is_text_in_words (with_line 8 (codes "    M  'MARKER'  'INTEND'")) ≡ false
 unfolding trailing_zeros

@@ -9,7 +9,7 @@ use Rattle.mpslp_types.specs.Lists.{is_nonempty}
 use Rattle.mpslp_mps_fields.specs.Line.{Fields, LineContent, skipped, header, data_line, content_of, section_named, is_section, takes_word}
 use Rattle.mpslp_mps_fields.specs.DataLine.{Pair, ValuesLine, row_shape, row_type, column_shape, is_marker_line, opening_word, closing_word, vector_shape, bound_type, bound_shape}
 use Rattle.mpslp_mps.specs.Context.{current_section, seen_sections, data_lines, marker_word, line_column, vector_set, bound_set}
-use Rattle.mpslp_mps.specs.TextInWords.{has_section, section_rank, takes_data, words_in, has_named_objective, alternate, same_column, stand_together, is_free}
+use Rattle.mpslp_mps.specs.TextInWords.{has_section, section_rank, takes_data, words_in, has_named_objective, alternate, same_column, are_together, is_free}
 use Rattle.mpslp_mps.specs.MpsText.{read_lines}
 use Rattle.mpslp_mps.specs.FirstFault.{IsFirstMpsFault}
 use Rattle.mpslp_mps_fields.specs.declared.sections.Section.{Section}
@@ -49,12 +49,12 @@ abbrev pub is_closed : List LineContent → Section → Bool
 is_closed before section = not (takes_data section) || (takes_word section && has_its_word before section)
 
 -- nor is a data line before the first header
-abbrev pub stands_out_of_order : List LineContent → LineContent → Bool
-stands_out_of_order before (header keyword more) =
+abbrev pub occurs_out_of_order : List LineContent → LineContent → Bool
+occurs_out_of_order before (header keyword more) =
     option_map_or (is_without_word before) (current_section before) false
     || option_map_or (λ section. not (has_section before section) && (comes_early before section || comes_late before section)) (section_named keyword) false
-stands_out_of_order before (data_line fields) = option_map_or (is_closed before) (current_section before) true
-stands_out_of_order before skipped = false
+occurs_out_of_order before (data_line fields) = option_map_or (is_closed before) (current_section before) true
+occurs_out_of_order before skipped = false
 
 -- ---- BadMarker: a marker line with which those of COLUMNS do not open and close in turn
 
@@ -86,7 +86,7 @@ is_of_second_set before _ = false
 -- ---- ColumnSplit: a line of COLUMNS with which the lines of a column are not contiguous
 
 abbrev pub splits_column : List LineContent → LineContent → Bool
-splits_column before (data_line fields) = is_section Columns (current_section before) && not (stand_together (map line_column (data_lines Columns before) ++ line_column fields ∷ []))
+splits_column before (data_line fields) = is_section Columns (current_section before) && not (are_together (map line_column (data_lines Columns before) ++ line_column fields ∷ []))
 splits_column before _ = false
 
 -- ---- rows: those of ROWS, and `obj` if none is of type N and OBJNAME has no word
@@ -168,7 +168,7 @@ repeats_entry before _ = false
 -- ---- the laws
 
 -- The error is on a line of the text for which this holds, in terms of the lines before it.
-pub record StandsOn (is_such : List LineContent → LineContent → Bool) (bytes : List ℕ) (fault : Fault) : Type 0 where
+pub record IsFaultOfLine (is_such : List LineContent → LineContent → Bool) (bytes : List ℕ) (fault : Fault) : Type 0 where
   pub before : List (List ℕ)
   pub line : List ℕ
   pub later : List (List ℕ)
@@ -178,4 +178,4 @@ pub record StandsOn (is_such : List LineContent → LineContent → Bool) (bytes
 
 -- A first error of this kind is on such a line.
 abbrev pub IsInWords : FaultKind → (List LineContent → LineContent → Bool) → Type 0
-IsInWords kind is_such = (bytes : List ℕ) (fault : Fault) → IsFirstMpsFault bytes fault → fault.kind ≡ kind → StandsOn is_such bytes fault
+IsInWords kind is_such = (bytes : List ℕ) (fault : Fault) → IsFirstMpsFault bytes fault → fault.kind ≡ kind → IsFaultOfLine is_such bytes fault

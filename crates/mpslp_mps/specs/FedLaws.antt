@@ -32,10 +32,10 @@ to_end-more line more h =
 -- ---- the first error
 
 -- of a line, or of those after it
-stays-behind : (own : Option Fault) (rest later : Option Fault) (fault : Fault) → (rest ≡ Some fault → later ≡ Some fault)
+stays-first : (own : Option Fault) (rest later : Option Fault) (fault : Fault) → (rest ≡ Some fault → later ≡ Some fault)
     → option_or own rest ≡ Some fault → option_or own later ≡ Some fault
-stays-behind None rest later fault on h = on h
-stays-behind (Some found) rest later fault on h = h
+stays-first None rest later fault on h = on h
+stays-first (Some found) rest later fault on h = h
 
 first_fault-stays : (text more : List (List ℕ)) (n : ℕ) (before : List LineContent) (earlier : Draft) (fault : Fault)
     → first_line_fault n (lines_in_context_after before earlier (lines_to_end text)) ≡ Some fault
@@ -46,7 +46,7 @@ first_fault-stays (line ∷ text) more n before earlier fault h =
       | true ↦ λ e. ap (λ (read : List (List ℕ)). of read) (to_end-last line (text ++ more) e ∙ sym (to_end-last line text e)) ∙ h
       | false ↦ λ e.
           ap of (to_end-more line (text ++ more) e)
-          ∙ stays-behind own (of_more (lines_to_end text)) (of_more (lines_to_end (text ++ more))) fault
+          ∙ stays-first own (of_more (lines_to_end text)) (of_more (lines_to_end (text ++ more))) fault
           (first_fault-stays text more (n + 1) (before ++ content_of line ∷ []) next fault) (sym (ap of (to_end-more line text e)) ∙ h)
     ] refl
   where
@@ -87,8 +87,8 @@ ended-more (line ∷ xs) ys h =
       | false ↦ λ e k. to_end-more line (xs ++ ys) e ∙ ap (λ (read : List (List ℕ)). line ∷ read) (ended-more xs ys k) ∙ sym (to_end-more line xs e)
     ] refl h
 
-pub read-behind_end : (reader : LineReader) (text more : List (List ℕ)) → HasRead reader text → is_ended reader ≡ true → HasRead reader (text ++ more)
-read-behind_end reader text more led at_end =
+pub read-after_end : (reader : LineReader) (text more : List (List ℕ)) → HasRead reader text → is_ended reader ≡ true → HasRead reader (text ++ more)
+read-after_end reader text more led at_end =
     let ended = sym led.ended ∙ at_end in
     let same = ended-more text more ended in
     let any : list_any is_end (text ++ more) ≡ true = list_any-append is_end text more ∙ ap (λ (b : Bool). b || list_any is_end more) ended in

@@ -165,12 +165,12 @@ abbrev pub entries_after : Option (List ℕ) → List (Option (List ℕ)) → Li
 entries_after column [] = []
 entries_after column (next ∷ more) = if same_column column next then entries_after column more else next ∷ more
 
-abbrev pub stand_together : List (Option (List ℕ)) → Bool
-stand_together [] = true
-stand_together (column ∷ more) = not (list_any (same_column column) (entries_after column more)) && stand_together more
+abbrev pub are_together : List (Option (List ℕ)) → Bool
+are_together [] = true
+are_together (column ∷ more) = not (list_any (same_column column) (entries_after column more)) && are_together more
 
 abbrev pub has_whole_columns : List LineContent → Bool
-has_whole_columns items = stand_together (map line_column (data_lines Columns items))
+has_whole_columns items = are_together (map line_column (data_lines Columns items))
 
 -- ---- one set name for each section
 

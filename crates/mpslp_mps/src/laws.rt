@@ -1,7 +1,7 @@
 //! Laws of MPS text. Each is the contract of a function that does nothing: to cite the law, call the function.
 
 ghost use Rattle.mpslp_types.specs.declared.faults.FaultKind.{FaultKind};
-ghost use Rattle.mpslp_mps.specs.FaultsInWords.{IsInWords, repeats_section, stands_out_of_order, is_wrong_marker, is_of_second_set, splits_column, names_unknown_row, names_unknown_column, repeats_row, repeats_entry};
+ghost use Rattle.mpslp_mps.specs.FaultsInWords.{IsInWords, repeats_section, occurs_out_of_order, is_wrong_marker, is_of_second_set, splits_column, names_unknown_row, names_unknown_column, repeats_row, repeats_entry};
 ghost use Rattle.mpslp_mps.specs.ValueFaultsInWords.{repeats_side, repeats_range, repeats_bound, ranges_free_row, makes_both_kinds};
 ghost use Rattle.mpslp_mps.specs.Laws.{DeclareOneModel, DeclareOrFail, DeclareUnlessFaulty, HaveOneFirstFault, TextIsInWords};
 
@@ -35,7 +35,7 @@ pub fn text_is_in_words()
 /// terms of the lines before it.
 pub fn faults_are_in_words()
     ensures section_repeated { IsInWords FaultKind.SectionRepeated repeats_section }
-    ensures section_order { IsInWords FaultKind.SectionOrder stands_out_of_order }
+    ensures section_order { IsInWords FaultKind.SectionOrder occurs_out_of_order }
     ensures bad_marker { IsInWords FaultKind.BadMarker is_wrong_marker }
     ensures second_set { IsInWords FaultKind.SecondSet is_of_second_set }
     ensures unknown_row { IsInWords FaultKind.UnknownRow names_unknown_row }

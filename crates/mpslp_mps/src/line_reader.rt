@@ -22,7 +22,7 @@ impl ReadLines for LineReader {
     ghost use Rattle.mpslp_mps.specs.MpsText.{DeclaresMps};
     ghost use Rattle.mpslp_mps.specs.FirstFault.{IsFirstMpsFault};
     ghost use Rattle.mpslp_mps.specs.Fed.{HasRead, is_ended, IsFaultOfLines};
-    ghost use Rattle.mpslp_mps.specs.FedLaws.{read-behind_end, read-is_clean, lines_fault-stays, lines_fault-is_first};
+    ghost use Rattle.mpslp_mps.specs.FedLaws.{read-after_end, read-is_clean, lines_fault-stays, lines_fault-is_first};
 
     ghost has_read = { HasRead };
 
@@ -72,7 +72,7 @@ impl ReadLines for LineReader {
         self.builder.finish_by_columns()
     }
 
-    ghost behind_end = { read-behind_end };
+    ghost after_end = { read-after_end };
 
     ghost read_is_clean = { read-is_clean };
 

@@ -11,7 +11,7 @@ use Rattle.std.proofs.lemmas.List.{length-append, take-append-le}
 use Rattle.mpslp_io.specs.Devices.{Grows, TookMore}
 use Rattle.mpslp_model.specs.Formats.{TookFirst, IsTaken, IsWritten}
 use Rattle.mpslp_io.proofs.GrowsLemmas.{Grows-append}
-use Rattle.mpslp_output.specs.TextBuffer.{BufferState, buffer_state, with_header, HasPut, text_by, text_under, header_behind}
+use Rattle.mpslp_output.specs.TextBuffer.{BufferState, buffer_state, with_header, HasPut, text_by, text_under, header_left}
 
 pub text_by-append : {L : Type 0} (line_text : L → List ℕ) (front back : List L) → text_by line_text (front ++ back) ≡ text_by line_text front ++ text_by line_text back
 text_by-append line_text [] back = refl
@@ -31,29 +31,29 @@ module _ {L : Type 0} (line_text : L → List ℕ) where
 
   -- part by part
   pub text_under-append : (header : List ℕ) (front back : List L)
-      → text_under line_text header front ++ text_under line_text (header_behind header front) back ≡ text_under line_text header (front ++ back)
+      → text_under line_text header front ++ text_under line_text (header_left header front) back ≡ text_under line_text header (front ++ back)
   text_under-append header [] back = refl
   text_under-append header (line ∷ front) back =
       ap (λ (l : List ℕ). (header ++ text_by line_text (line ∷ front)) ++ l) (no-header back) ∙ append_assoc header (text_by line_text (line ∷ front)) (text_by line_text back)
       ∙ ap (λ (l : List ℕ). header ++ l) (sym (text_by-append line_text (line ∷ front) back))
 
-pub none-behind : {L : Type 0} (lines : List L) → header_behind [] lines ≡ []
-none-behind [] = refl
-none-behind (line ∷ lines) = refl
+pub none-after : {L : Type 0} (lines : List L) → header_left [] lines ≡ []
+none-after [] = refl
+none-after (line ∷ lines) = refl
 
-pub header_behind-append : {L : Type 0} (header : List ℕ) (front back : List L) → header_behind (header_behind header front) back ≡ header_behind header (front ++ back)
-header_behind-append header [] back = refl
-header_behind-append header (line ∷ front) back = none-behind back
+pub header_left-append : {L : Type 0} (header : List ℕ) (front back : List L) → header_left (header_left header front) back ≡ header_left header (front ++ back)
+header_left-append header [] back = refl
+header_left-append header (line ∷ front) back = none-after back
 
 module _ {S : Type 0} (holds : S → List ℕ → Type 0) (failed : S → Bool) (count : S → ℕ) where
   -- a prefix that a sink accepted is a prefix of any longer text
-  TookFirst-more : (first now : S) (text more : List ℕ) (told : ℕ) → TookFirst holds first now text told → TookFirst holds first now (text ++ more) told
-  TookFirst-more first now text more told took =
+  TookFirst-more : (first now : S) (text more : List ℕ) (stated : ℕ) → TookFirst holds first now text stated → TookFirst holds first now (text ++ more) stated
+  TookFirst-more first now text more stated took =
       let len = length-append text more in
       record {
         count = took.count;
         within = omega (arith, len, took.within);
-        told_is = took.told_is;
+        reported_is = took.reported_is;
         holds_them = subst (Grows holds first now) (sym (take-append-le took.count text more took.within)) took.holds_them;
       }
 
@@ -118,7 +118,7 @@ module _ {S : Type 0} (holds : S → List ℕ → Type 0) (failed : S → Bool) 
           took = record {
             count = length was.sent + took.count;
             within = omega arith;
-            told_is = omega arith;
+            reported_is = omega arith;
             holds_them = subst (Grows holds first new) (sym cut) (Grows-append holds first old new was.sent _ was.sent_is took.holds_them);
           };
           calls = omega arith;

@@ -2,11 +2,11 @@
 use Rattle.std.proofs.Common.{◌≡◌, refl, sym, ap, subst, ◌∙◌, ℕ, true, List, [], ◌∷◌, ◌++◌, take, append_assoc, append-nil}
 use Rattle.std.specs.List.{flat_map}
 use Rattle.mpslp_io.specs.declared.devices.Sink.{Ghosts as SinkOf}
-use Rattle.mpslp_output.specs.TextBuffer.{BufferState, HasPut, text_by, text_under, header_behind}
+use Rattle.mpslp_output.specs.TextBuffer.{BufferState, HasPut, text_by, text_under, header_left}
 use Rattle.mpslp_output.specs.Printing.{IsSameOutput, Holds, Puts, PutsWaiting, HasHeader, Prints, PrintsSection}
 use Rattle.mpslp_output.specs.declared.output.Output.{Output}
 use Rattle.mpslp_output.proofs.LinesAtLemmas.{flat_map-rest}
-use Rattle.mpslp_output.proofs.BufferLemmas.{HasPut-header, HasPut-cut, put_same, text_by-append, no-header, none-behind, text_under-append, header_behind-append}
+use Rattle.mpslp_output.proofs.BufferLemmas.{HasPut-header, HasPut-cut, put_same, text_by-append, no-header, none-after, text_under-append, header_left-append}
 
 same_always : {W : Type 0} {a : Output W} → IsSameOutput a a
 same_always = record { sink = refl; buffer = refl }
@@ -56,8 +56,8 @@ module _ {W L : Type 0} {line_text : L → List ℕ} {k : SinkOf W} where
   prints_then {front = front} {back = back} one two = record {
     same = same_then one.same two.same;
     puts = λ first text header h.
-        put_same (append_assoc text (text_under line_text header front) (text_under line_text (header_behind header front) back) ∙ ap (λ (l : List ℕ). text ++ l) (text_under-append line_text header front back))
-        (header_behind-append header front back) (two.puts first _ _ (one.puts first text header h));
+        put_same (append_assoc text (text_under line_text header front) (text_under line_text (header_left header front) back) ∙ ap (λ (l : List ℕ). text ++ l) (text_under-append line_text header front back))
+        (header_left-append header front back) (two.puts first _ _ (one.puts first text header h));
   }
 
   pub prints_same : {a b : Output W} {lines other : List L} → lines ≡ other → Prints line_text k a b lines → Prints line_text k a b other
@@ -87,7 +87,7 @@ module _ {W L : Type 0} {line_text : L → List ℕ} {k : SinkOf W} where
   pub section_of : {a b : Output W} {lines : List L} → Prints line_text k a b lines → PrintsSection line_text k a b lines
   section_of {lines = lines} h = record {
     same = h.same;
-    puts = λ first text g. put_same (ap (λ (l : List ℕ). text ++ l) (no-header line_text lines)) (none-behind lines) (h.puts first text [] g);
+    puts = λ first text g. put_same (ap (λ (l : List ℕ). text ++ l) (no-header line_text lines)) (none-after lines) (h.puts first text [] g);
   }
 
   pub section_then : {a b c : Output W} {front back : List L} → PrintsSection line_text k a b front → PrintsSection line_text k b c back

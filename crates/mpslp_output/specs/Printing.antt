@@ -1,7 +1,7 @@
 -- What was put to an output, a sink with the buffer before it.
 use Rattle.std.specs.Prelude.{◌≡◌, ℕ, List, [], ◌++◌}
 use Rattle.mpslp_io.specs.declared.devices.Sink.{Ghosts as SinkOf}
-use Rattle.mpslp_output.specs.TextBuffer.{HasPut, with_header, text_by, text_under, header_behind}
+use Rattle.mpslp_output.specs.TextBuffer.{HasPut, with_header, text_by, text_under, header_left}
 use Rattle.mpslp_output.specs.declared.output.Output.{Output}
 
 -- They have the same sink and the same buffer, whatever the two contain.
@@ -33,7 +33,7 @@ pub record HasHeader {W : Type 0} (header : List ℕ) (old new : Output W) : Typ
 pub record Prints {W L : Type 0} (line_text : L → List ℕ) (k : SinkOf W) (old new : Output W) (lines : List L) : Type 0 where
   pub same : IsSameOutput old new
   pub puts : (first : W) (text header : List ℕ) → Holds k first old text header
-      → Holds k first new (text ++ text_under line_text header lines) (header_behind header lines)
+      → Holds k first new (text ++ text_under line_text header lines) (header_left header lines)
 
 -- If no header waited, the lines were appended to whatever was put, including their headers, and no header waits.
 pub record PrintsSection {W L : Type 0} (line_text : L → List ℕ) (k : SinkOf W) (old new : Output W) (lines : List L) : Type 0 where

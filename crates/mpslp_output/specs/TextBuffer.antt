@@ -84,9 +84,9 @@ text_under line_text header [] = []
 text_under line_text header (line ∷ lines) = header ++ text_by line_text (line ∷ lines)
 
 -- the header that waits after them: the same one if there are no lines
-abbrev pub header_behind : {L : Type 0} → List ℕ → List L → List ℕ
-header_behind header [] = header
-header_behind header (line ∷ lines) = []
+abbrev pub header_left : {L : Type 0} → List ℕ → List L → List ℕ
+header_left header [] = header
+header_left header (line ∷ lines) = []
 
 -- the result for a sink that accepted all that it was sent, or failed
 abbrev pub answer_of : BufferState → Result (Unit {0}) WriteFault

@@ -62,7 +62,7 @@ End
 ";
 
 /// What a run has written, followed by the line of its error.
-pub(crate) fn told_of_run(answer: Result<(), RunFault>, written: Vec<u8>) -> Vec<u8> {
+pub(crate) fn text_of_run(answer: Result<(), RunFault>, written: Vec<u8>) -> Vec<u8> {
     let mut sink = ToWrite::new(written);
     if let Err(fault) = answer {
         let _ = report(&fault, &mut sink);
@@ -80,10 +80,10 @@ fn written(alloc: Global, model: &Model) -> Vec<u8> {
 }
 
 /// The canonical MPS text of a model, or the line of the error.
-pub(crate) fn told(alloc: Global, answer: Result<Model, ReadFault>) -> Vec<u8> {
+pub(crate) fn text_of_read(alloc: Global, answer: Result<Model, ReadFault>) -> Vec<u8> {
     match answer {
         Ok(model) => written(alloc, &model),
-        Err(ReadFault::File(fault)) => told_of_run(Err(RunFault::File(fault)), Vec::new(alloc)),
-        Err(_) => told_of_run(Err(RunFault::OutOfMemory), Vec::new(alloc)),
+        Err(ReadFault::File(fault)) => text_of_run(Err(RunFault::File(fault)), Vec::new(alloc)),
+        Err(_) => text_of_run(Err(RunFault::OutOfMemory), Vec::new(alloc)),
     }
 }

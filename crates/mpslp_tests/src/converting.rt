@@ -3,7 +3,7 @@
 ghost use Rattle.std.specs.Prelude.{◌≡◌, IfOk};
 ghost use Rattle.mpslp_model_core.specs.Model.{LinearModel};
 
-use crate::answers::{MUCH, SMALL, SMALL_CANONICAL, SMALL_CANONICAL_LP, SMALL_LP, told_of_run};
+use crate::answers::{MUCH, SMALL, SMALL_CANONICAL, SMALL_CANONICAL_LP, SMALL_LP, text_of_run};
 use mpslp_convert::{
     ConvertFault, RunFault, canonical, is_canonical, laws, load, run, same_model, show,
 };
@@ -82,13 +82,13 @@ fn is_refused(alloc: Global, text: &str, line: u64, kind: FaultKind) -> bool {
 }
 
 #[test]
-fn what_is_not_converted_is_told(rt: HostRuntime) {
+fn what_is_not_converted_is_reported(rt: HostRuntime) {
     let alloc = rt.alloc();
-    let are_told = [
+    let are_reported = [
         is_stopped(alloc, UNFIT, NameAt::Column(0)),
         is_refused(alloc, SMALL, 1, FaultKind::BadToken),
     ];
-    assert_eq!(rt; are_told, [true; 2]);
+    assert_eq!(rt; are_reported, [true; 2]);
 }
 
 /// Whether a text is canonical, or `None` for an error.
@@ -187,7 +187,7 @@ fn shown(alloc: Global, text: &str, wanted: &str) -> (bool, u64) {
     let mut sink = ToWrite::new(Vec::new(alloc));
     let answer = show::<Lp, _, _>(alloc, MUCH, &mut source, &mut sink);
     let calls = sink.calls();
-    let found = told_of_run(answer, sink.into_inner());
+    let found = text_of_run(answer, sink.into_inner());
     (found.as_slice() == wanted.as_bytes(), calls)
 }
 
@@ -291,19 +291,19 @@ fn failing_is(alloc: Global, max_bytes: u64, text: &str, fail_at: u64, wanted: &
     let mut source = FailingReader::new(text.as_bytes(), 1, fail_at);
     let mut sink = ToWrite::new(Vec::new(alloc));
     let answer = run::<Mps, Mps, _, _>(alloc, max_bytes, &mut source, &mut sink);
-    told_of_run(answer, sink.into_inner()).as_slice() == wanted.as_bytes()
+    text_of_run(answer, sink.into_inner()).as_slice() == wanted.as_bytes()
 }
 
 #[test]
-fn a_source_that_fails_is_told_before_a_fault_of_the_file(rt: HostRuntime) {
+fn a_source_that_fails_is_reported_before_a_fault_of_the_file(rt: HostRuntime) {
     let alloc = rt.alloc();
     let len = FAULTY.len() as u64;
-    let are_told = [
+    let are_reported = [
         failing_is(alloc, MUCH, FAULTY, 0, "line 3: BadType\n"),
         failing_is(alloc, MUCH, FAULTY, len + 1, "read failed\n"),
         failing_is(alloc, len - 1, FAULTY, len + 1, "file: TooLong\n"),
     ];
-    assert_eq!(rt; are_told, [true; 3]);
+    assert_eq!(rt; are_reported, [true; 3]);
 }
 
 #[test]

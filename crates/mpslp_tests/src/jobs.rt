@@ -233,16 +233,16 @@ fn is_help(alloc: Global, text: &str) -> Result<bool, AllocError> {
 }
 
 #[test]
-fn refusals_are_told(rt: HostRuntime) -> Result<(), Fail> {
+fn refusals_are_reported(rt: HostRuntime) -> Result<(), Fail> {
     let alloc = rt.alloc();
-    let are_told = [
+    let are_reported = [
         is_unknown(alloc, "xml", "unknown format: xml\n")?,
         is_usage(alloc, "error\n")?,
         is_help(alloc, "h")?,
         is_reported(alloc, JobFault::BothInputs, 3, "", "both inputs are -\n"),
         is_reported(alloc, JobFault::OutOfMemory, 5, "", "out of memory\n"),
     ];
-    assert_eq!(rt; are_told, [true; 5]);
+    assert_eq!(rt; are_reported, [true; 5]);
     Ok(())
 }
 
@@ -281,7 +281,7 @@ fn ends_with_room(alloc: Global, room: usize, wanted: u8, line: &str) -> Result<
 }
 
 #[test]
-fn an_output_that_fails_is_told(rt: HostRuntime) -> Result<(), Fail> {
+fn an_output_that_fails_is_reported(rt: HostRuntime) -> Result<(), Fail> {
     for (room, status, line) in OUTPUTS {
         assert!(rt;
             ends_with_room(rt.alloc(), room, status, line)?,
@@ -331,12 +331,12 @@ fn ended_without_second(alloc: Global, wanted: &str) -> (u8, bool, bool) {
         &mut ToWrite::new(&mut out),
         &mut ToWrite::new(&mut err),
     );
-    let is_told = err.as_slice() == wanted.as_bytes();
-    (status, is_told, out.is_empty())
+    let has_line = err.as_slice() == wanted.as_bytes();
+    (status, has_line, out.is_empty())
 }
 
 #[test]
-fn a_second_source_that_fails_is_told(rt: HostRuntime) {
+fn a_second_source_that_fails_is_reported(rt: HostRuntime) {
     let ended = ended_without_second(rt.alloc(), "second: read failed\n");
     assert_eq!(rt; ended, (4, true, true));
 }

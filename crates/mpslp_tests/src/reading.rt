@@ -1,6 +1,6 @@
 //! Tests of readers: whole texts, bytes after the end, and where an error is reported.
 
-use crate::answers::{SMALL, SMALL_CANONICAL, SMALL_LP, told};
+use crate::answers::{SMALL, SMALL_CANONICAL, SMALL_LP, text_of_read};
 use mpslp_lp::{LpReader, read_lp};
 use mpslp_model::{FaultKind, Model, ModelReader, ReadFault};
 use mpslp_mps::{MpsReader, read_mps};
@@ -8,7 +8,7 @@ use std::alloc::Global;
 
 /// Whether the canonical text of a model, or the line of the error, is this one.
 fn has_text(alloc: Global, answer: Result<Model, ReadFault>, wanted: &str) -> bool {
-    told(alloc, answer).as_slice() == wanted.as_bytes()
+    text_of_read(alloc, answer).as_slice() == wanted.as_bytes()
 }
 
 /// Whether an MPS text has this canonical text, or this line of its error.
@@ -74,10 +74,10 @@ const ANYTHING: &[u8] = b"\x80 [ x ^ 2 ] QUADOBJ \xff";
 fn what_follows_the_end_is_taken(rt: HostRuntime) {
     let alloc = rt.alloc();
     let pieces = [SMALL.as_bytes(), ANYTHING, ANYTHING];
-    let found = told(alloc, read_all::<MpsReader>(alloc, &pieces));
+    let found = text_of_read(alloc, read_all::<MpsReader>(alloc, &pieces));
     assert_eq!(rt; found.as_slice(), SMALL_CANONICAL.as_bytes());
     let pieces = [SMALL_LP.as_bytes(), ANYTHING, ANYTHING];
-    let found = told(alloc, read_all::<LpReader>(alloc, &pieces));
+    let found = text_of_read(alloc, read_all::<LpReader>(alloc, &pieces));
     assert_eq!(rt; found.as_slice(), SMALL_CANONICAL.as_bytes());
 }
 
@@ -123,7 +123,7 @@ impl Refused {
 }
 
 #[test]
-fn a_fault_is_told_where_its_line_is_complete(rt: HostRuntime) {
+fn a_fault_is_reported_where_its_line_is_complete(rt: HostRuntime) {
     let front = "NAME\nROWS\n N  C\n L  R\nCOLUMNS\n    X  C  1\n    X  C  2";
     let text = "NAME\nROWS\n N  C\n L  R\nCOLUMNS\n    X  C  1\n    X  C  2\nENDATA\n";
     let answers = answers_of::<MpsReader>(rt.alloc(), text.as_bytes());

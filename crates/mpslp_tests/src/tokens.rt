@@ -14,7 +14,7 @@ fn parts(case: &str) -> (&str, &str) {
 const LINES: &str = "|
  \t |
 \\ a comment|
-c1: 3x + 2.5 y >= -1e3 \\ behind|c1 : 3 x + 2.5 y >= - 1e3
+c1: 3x + 2.5 y >= -1e3 \\ after|c1 : 3 x + 2.5 y >= - 1e3
 1e|1 e
 1e+|1 e +
 1e-7x|1e-7 x

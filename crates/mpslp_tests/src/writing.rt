@@ -208,7 +208,7 @@ fn lp_calls(
 }
 
 #[test]
-fn a_name_that_lp_cannot_tell_is_told_before_any_byte(rt: HostRuntime) -> Result<(), Fail> {
+fn a_name_that_is_not_legal_in_lp_is_reported_before_any_byte(rt: HostRuntime) -> Result<(), Fail> {
     for (file, place) in [(BRACKETS, NameAt::Row(1)), (FREE, NameAt::Column(1))] {
         let (answer, calls) = lp_calls(rt.alloc(), file)?;
         let unfit = unfit_name_of(rt.alloc(), file);
@@ -241,7 +241,7 @@ fn lp_stops(alloc: Global, file: &str, text: &str) -> Result<bool, AllocError> {
 }
 
 #[test]
-fn a_sink_that_fails_is_told(rt: HostRuntime) -> Result<(), Fail> {
+fn a_sink_that_fails_is_reported(rt: HostRuntime) -> Result<(), Fail> {
     let stops = stops(rt.alloc(), FILE, TEXT)?;
     let lp_stops = lp_stops(rt.alloc(), FILE, LP_TEXT)?;
     assert_eq!(rt; [stops, lp_stops], [true; 2]);

@@ -106,5 +106,5 @@ past_a_reserved_word : is_lp_name (codes "sos3") ≡ true
 past_a_reserved_word = refl
 
 -- bytes that are legal in MPS names but not in LP names
-mps_alone : is_mps_name (codes "x[1]^*+-<>=:\\") ≡ true
-mps_alone = refl
+mps_only : is_mps_name (codes "x[1]^*+-<>=:\\") ≡ true
+mps_only = refl

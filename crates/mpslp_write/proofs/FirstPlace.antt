@@ -13,13 +13,13 @@ module _ {X : Type 0} (p : X → Bool) where
   the_same x y e = cc
 
   -- the first is after an element that does not pass
-  pub first-behind : (xs : List X) (i : ℕ) (x : X) → i ≤ position_or_len p xs → slice_get xs i ≡ Some x → p x ≡ false → i + 1 ≤ position_or_len p xs
-  first-behind [] i x h at fails = absurd (nothing_at x at)
-  first-behind (y ∷ ys) zero x h at fails =
+  pub first-after : (xs : List X) (i : ℕ) (x : X) → i ≤ position_or_len p xs → slice_get xs i ≡ Some x → p x ≡ false → i + 1 ≤ position_or_len p xs
+  first-after [] i x h at fails = absurd (nothing_at x at)
+  first-after (y ∷ ys) zero x h at fails =
       let fit : not (p y) ≡ true = ap (λ (z : X). not (p z)) (the_same y x at) ∙ ap not fails in
       let is : position_or_len p (y ∷ ys) ≡ 1 + position_or_len p ys = ap (λ (b : Bool). cond b (1 + position_or_len p ys) 0) fit in
       omega arith
-  first-behind (y ∷ ys) (suc i) x h at fails = by (p y) h (λ more. first-behind ys i x more at fails)
+  first-after (y ∷ ys) (suc i) x h at fails = by (p y) h (λ more. first-after ys i x more at fails)
     where
       by : (b : Bool) → suc i ≤ cond (not b) (1 + position_or_len p ys) 0 → (i ≤ position_or_len p ys → i + 1 ≤ position_or_len p ys)
           → suc i + 1 ≤ cond (not b) (1 + position_or_len p ys) 0

@@ -16,36 +16,36 @@ use Rattle.mpslp_output.specs.TextBuffer.{text_by, text_under}
 -- ---- one line
 
 -- pieces after another one, and the end of the line
-abbrev behind : List Lexeme → List ℕ
-behind [] = 10 ∷ []
-behind (piece ∷ lexemes) = codes " " ++ (lexeme_text piece ++ behind lexemes)
+abbrev following : List Lexeme → List ℕ
+following [] = 10 ∷ []
+following (piece ∷ lexemes) = codes " " ++ (lexeme_text piece ++ following lexemes)
 
 abbrev spaced : List Lexeme → List ℕ
 spaced lexemes = flat_map (λ piece. codes " " ++ lexeme_text piece) lexemes
 
-behind-spaced : (lexemes : List Lexeme) → spaced lexemes ++ 10 ∷ [] ≡ behind lexemes
-behind-spaced [] = refl
-behind-spaced (piece ∷ lexemes) =
-    append_assoc (codes " " ++ lexeme_text piece) (spaced lexemes) (10 ∷ []) ∙ ap (λ (l : List ℕ). codes " " ++ (lexeme_text piece ++ l)) (behind-spaced lexemes)
+after-spaced : (lexemes : List Lexeme) → spaced lexemes ++ 10 ∷ [] ≡ following lexemes
+after-spaced [] = refl
+after-spaced (piece ∷ lexemes) =
+    append_assoc (codes " " ++ lexeme_text piece) (spaced lexemes) (10 ∷ []) ∙ ap (λ (l : List ℕ). codes " " ++ (lexeme_text piece ++ l)) (after-spaced lexemes)
 
 pub line-text : (indent : ℕ) (piece : Lexeme) (lexemes : List Lexeme)
-    → replicate indent 32 ++ (lexeme_text piece ++ behind lexemes) ≡ text_by line_text (record { indent = indent; lexemes = piece ∷ lexemes } ∷ [])
+    → replicate indent 32 ++ (lexeme_text piece ++ following lexemes) ≡ text_by line_text (record { indent = indent; lexemes = piece ∷ lexemes } ∷ [])
 line-text indent piece lexemes =
     let blanks = replicate indent 32 in
     sym (append-nil ((blanks ++ (lexeme_text piece ++ spaced lexemes)) ++ 10 ∷ [])
     ∙ append_assoc blanks (lexeme_text piece ++ spaced lexemes) (10 ∷ [])
-    ∙ ap (λ (l : List ℕ). blanks ++ l) (append_assoc (lexeme_text piece) (spaced lexemes) (10 ∷ []) ∙ ap (λ (l : List ℕ). lexeme_text piece ++ l) (behind-spaced lexemes)))
+    ∙ ap (λ (l : List ℕ). blanks ++ l) (append_assoc (lexeme_text piece) (spaced lexemes) (10 ∷ []) ∙ ap (λ (l : List ℕ). lexeme_text piece ++ l) (after-spaced lexemes)))
 
 pub label-text : (name : List ℕ) → codes " " ++ (name ++ codes ":\n") ≡ text_by line_text (label_line name ∷ [])
 label-text name = ap (λ (l : List ℕ). codes " " ++ l) (sym (append_assoc name (codes ":") (10 ∷ []))) ∙ line-text 1 (label name) []
 
 -- a sign and an absolute value, and what follows them
 pub signed-text : (value : Number) (lexemes : List Lexeme)
-    → ((codes "  " ++ (sign_bytes (is_negative value) ++ codes " ")) ++ number_text (size_of value)) ++ behind lexemes
+    → ((codes "  " ++ (sign_bytes (is_negative value) ++ codes " ")) ++ number_text (size_of value)) ++ following lexemes
     ≡ text_by line_text (long_line (signed_lexemes value ++ lexemes) ∷ [])
 signed-text value lexemes = by (is_negative value)
   where
-    by : (minus : Bool) → ((codes "  " ++ (sign_bytes minus ++ codes " ")) ++ number_text (size_of value)) ++ behind lexemes
+    by : (minus : Bool) → ((codes "  " ++ (sign_bytes minus ++ codes " ")) ++ number_text (size_of value)) ++ following lexemes
         ≡ text_by line_text (long_line (sign minus ∷ number (size_of value) ∷ lexemes) ∷ [])
     by true = line-text 2 (sign true) (number (size_of value) ∷ lexemes)
     by false = line-text 2 (sign false) (number (size_of value) ∷ lexemes)

@@ -109,12 +109,12 @@ none-in objective column (e ∷ es) is few =
 -- ---- the term of a column in the objective
 
 -- by whether it has coefficients, and by that of the objective
-abbrev objective_told : List ℕ → Bool → Option Number → Lines
-objective_told column has o = term_lines (if has then option_map (λ (value : Number). (column, value)) o else Some (column, zero_number))
+abbrev objective_stated : List ℕ → Bool → Option Number → Lines
+objective_stated column has o = term_lines (if has then option_map (λ (value : Number). (column, value)) o else Some (column, zero_number))
 
 -- by its name
 abbrev pub objective_lines_of : Listing → List ℕ → Lines
-objective_lines_of m column = objective_told column (list_any (is_in column) m.coefficients) (find key_cmp (place_at m.objective column) m.coefficients)
+objective_lines_of m column = objective_stated column (list_any (is_in column) m.coefficients) (find key_cmp (place_at m.objective column) m.coefficients)
 
 module _ (m : LinearModel) (sound : IsSound m) (column : List ℕ) where
   abbrev here : Option Number
@@ -127,23 +127,23 @@ module _ (m : LinearModel) (sound : IsSound m) (column : List ℕ) where
       → term_line (column, coefficient_at m m.objective column) ∷ [] ≡ objective_lines_of (listing_of m) column
   objective-needed some = by here refl some
     where
-      by : (o : Option Number) → here ≡ o → is_zero (unwrap_or o zero_number) ≡ false → term_line (column, unwrap_or o zero_number) ∷ [] ≡ objective_told column has o
+      by : (o : Option Number) → here ≡ o → is_zero (unwrap_or o zero_number) ≡ false → term_line (column, unwrap_or o zero_number) ∷ [] ≡ objective_stated column has o
       by None is h = absurd (not_both refl h)
-      by (Some v) is h = ap (λ (b : Bool). objective_told column b (Some v)) (sym (found-in m.objective column (entries m.coefficients) v is))
+      by (Some v) is h = ap (λ (b : Bool). objective_stated column b (Some v)) (sym (found-in m.objective column (entries m.coefficients) v is))
 
-  pub objective-alone : length (column_elements m column) ≤ 0
+  pub objective-only : length (column_elements m column) ≤ 0
       → term_line (column, coefficient_at m m.objective column) ∷ [] ≡ objective_lines_of (listing_of m) column
-  objective-alone few = by here refl
+  objective-only few = by here refl
     where
-      by : (o : Option Number) → here ≡ o → term_line (column, unwrap_or o zero_number) ∷ [] ≡ objective_told column has o
-      by None is = ap (λ (b : Bool). objective_told column b None) (sym (none-in m.objective column (entries m.coefficients) is few))
-      by (Some v) is = ap (λ (b : Bool). objective_told column b (Some v)) (sym (found-in m.objective column (entries m.coefficients) v is))
+      by : (o : Option Number) → here ≡ o → term_line (column, unwrap_or o zero_number) ∷ [] ≡ objective_stated column has o
+      by None is = ap (λ (b : Bool). objective_stated column b None) (sym (none-in m.objective column (entries m.coefficients) is few))
+      by (Some v) is = ap (λ (b : Bool). objective_stated column b (Some v)) (sym (found-in m.objective column (entries m.coefficients) v is))
 
   pub objective-left : is_zero (coefficient_at m m.objective column) ≡ true → 0 < length (column_elements m column) → [] ≡ objective_lines_of (listing_of m) column
   objective-left none some = by here refl none
     where
-      by : (o : Option Number) → here ≡ o → is_zero (unwrap_or o zero_number) ≡ true → [] ≡ objective_told column has o
-      by None is h = ap (λ (b : Bool). objective_told column b None) (sym (element-in m.objective column (entries m.coefficients) some))
+      by : (o : Option Number) → here ≡ o → is_zero (unwrap_or o zero_number) ≡ true → [] ≡ objective_stated column has o
+      by None is h = ap (λ (b : Bool). objective_stated column b None) (sym (element-in m.objective column (entries m.coefficients) some))
       by (Some v) is h = absurd (not_both h (coefficient-not_zero m sound m.objective column v is))
 
 -- ---- the term of a column in a row
@@ -209,11 +209,11 @@ module _ (m : LinearModel) (row : List ℕ) where
   -- the lines of all columns are those of the listed ones
   pub terms-listed : flat_map (numbered_term_lines m row) (row_columns m row) ≡ flat_map (row_term_lines (listing_of m) row) (entries m.columns)
   terms-listed =
-      let told = row_term_lines (listing_of m) row in
+      let stated = row_term_lines (listing_of m) row in
       let columns = entries m.columns in
       flat_map-kept in_row (numbered_term_lines m row) numbers none-unlisted
-      ∙ flat_map-numbers told columns (num_columns m)
-      ∙ flat_map-all told columns (num_columns m) (subst (λ (n : ℕ). length columns ≤ n) (sym (length-map columns (λ (e : List ℕ × Column). e.0))) (omega arith))
+      ∙ flat_map-numbers stated columns (num_columns m)
+      ∙ flat_map-all stated columns (num_columns m) (subst (λ (n : ℕ). length columns ≤ n) (sym (length-map columns (λ (e : List ℕ × Column). e.0))) (omega arith))
 
   pub some-listed : 0 < length (row_columns m row) → has_lines (flat_map (numbered_term_lines m row) (row_columns m row)) ≡ true
   some-listed some =

@@ -35,8 +35,8 @@ fixed-bounds kind (Finite a) MinusInf value h = absurd (none_fixed value h)
 fixed-bounds kind (Finite a) (Finite b) value h =
     elim (is_fixed kind a b) as (λ same. cond same (Some b) None ≡ Some value
     → bound_with_value bounds.Fixed value ∷ [] ≡ cond same (bound_with_value bounds.Fixed b ∷ []) (printed_lower (Finite a) ++ printed_upper kind (Finite b))) [
-      | true ↦ λ told. let same : value ≡ b = cc in ap (λ (v : Number). bound_with_value bounds.Fixed v ∷ []) same
-      | false ↦ λ told. absurd (none_fixed value told)
+      | true ↦ λ stated. let same : value ≡ b = cc in ap (λ (v : Number). bound_with_value bounds.Fixed v ∷ []) same
+      | false ↦ λ stated. absurd (none_fixed value stated)
     ] h
 fixed-bounds kind (Finite a) PlusInf value h = absurd (none_fixed value h)
 fixed-bounds kind PlusInf MinusInf value h = absurd (none_fixed value h)
@@ -55,8 +55,8 @@ other-bounds kind (Finite a) MinusInf h k = refl
 other-bounds kind (Finite a) (Finite b) h k =
     elim (is_fixed kind a b) as (λ same. cond same (Some b) None ≡ None
     → printed_lower (Finite a) ++ printed_upper kind (Finite b) ≡ cond same (bound_with_value bounds.Fixed b ∷ []) (printed_lower (Finite a) ++ printed_upper kind (Finite b))) [
-      | true ↦ λ told. absurd (some_fixed b told)
-      | false ↦ λ told. refl
+      | true ↦ λ stated. absurd (some_fixed b stated)
+      | false ↦ λ stated. refl
     ] k
 other-bounds kind (Finite a) PlusInf h k = refl
 other-bounds kind PlusInf MinusInf h k = refl

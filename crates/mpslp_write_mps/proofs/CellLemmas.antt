@@ -80,15 +80,15 @@ module _ (coefficients : List (CoefficientKey × Number)) (column : List ℕ) wh
   abbrev cells : List (List ℕ) → List (List ℕ × Number)
   cells names = filter_map (cell_at coefficients column) names
 
-  abbrev told_at : List ℕ → Option Number → List (List ℕ × Number) → List (List ℕ × Number)
-  told_at name o rest = cons_option (option_map (λ (value : Number). (name, value)) o) rest
+  abbrev stated_at : List ℕ → Option Number → List (List ℕ × Number) → List (List ℕ × Number)
+  stated_at name o rest = cons_option (option_map (λ (value : Number). (name, value)) o) rest
 
   cells-below : {X : Type 0} (name : List ℕ) (es : List (List ℕ × X)) → below_all bytes_cmp name es ≡ true → below_all bytes_cmp name (cells (map (λ e. e.0) es)) ≡ true
   cells-below name [] h = refl
   cells-below {X} name (e ∷ es) h =
       let rest = cells-below name es (second_so (is_lt (bytes_cmp name e.0)) (below_all bytes_cmp name es) h) in
       let here = first_so (is_lt (bytes_cmp name e.0)) (below_all bytes_cmp name es) h in
-      elim (at e.0) as (λ o. below_all bytes_cmp name (told_at e.0 o (cells (map (λ (e : List ℕ × X). e.0) es))) ≡ true) [
+      elim (at e.0) as (λ o. below_all bytes_cmp name (stated_at e.0 o (cells (map (λ (e : List ℕ × X). e.0) es))) ≡ true) [
         | None ↦ rest
         | Some v ↦ both_so (is_lt (bytes_cmp name e.0)) (below_all bytes_cmp name (cells (map (λ (e : List ℕ × X). e.0) es))) here rest
       ]
@@ -98,7 +98,7 @@ module _ (coefficients : List (CoefficientKey × Number)) (column : List ℕ) wh
   cells-sorted {X} (e ∷ es) h =
       let rest = cells-sorted es (second_so (below_all bytes_cmp e.0 es) (is_sorted bytes_cmp es) h) in
       let below = cells-below e.0 es (first_so (below_all bytes_cmp e.0 es) (is_sorted bytes_cmp es) h) in
-      elim (at e.0) as (λ o. is_sorted bytes_cmp (told_at e.0 o (cells (map (λ (e : List ℕ × X). e.0) es))) ≡ true) [
+      elim (at e.0) as (λ o. is_sorted bytes_cmp (stated_at e.0 o (cells (map (λ (e : List ℕ × X). e.0) es))) ≡ true) [
         | None ↦ rest
         | Some v ↦ both_so (below_all bytes_cmp e.0 (cells (map (λ (e : List ℕ × X). e.0) es))) (is_sorted bytes_cmp (cells (map (λ (e : List ℕ × X). e.0) es))) below rest
       ]
@@ -115,7 +115,7 @@ module _ (coefficients : List (CoefficientKey × Number)) (column : List ℕ) wh
       tie b is = sym (texts_ties row name) ∙ is
 
       by : (b : Bool) → same_bytes row name ≡ b → (o : Option Number) → at name ≡ o → find bytes_cmp row (cells names) ≡ cond (is_one_of names row) (at row) None
-          → find bytes_cmp row (told_at name o (cells names)) ≡ cond (b || is_one_of names row) (at row) None
+          → find bytes_cmp row (stated_at name o (cells names)) ≡ cond (b || is_one_of names row) (at row) None
       by true is None there more =
           let none : at row ≡ None = ap at (same_name row name is) ∙ there in
           more ∙ ap (λ (o : Option Number). cond (is_one_of names row) o None) none ∙ none-either (is_one_of names row) ∙ sym none

@@ -46,7 +46,7 @@ at-kind es j b is = by (slice_get es j) refl (ap (option_map has_integer_kind) (
     by : (o : Option (List ℕ × Column)) → slice_get es j ≡ o → option_map has_integer_kind (option_map (λ (e : List ℕ × Column). e.1) o) ≡ Some b
         → (e : List ℕ × Column) × (slice_get es j ≡ Some e) × (is_integer_column e ≡ b)
     by None at h = absurd (no_bool b h)
-    by (Some e) at h = let told : has_integer_kind e.1 ≡ b = cc in (e, at, told)
+    by (Some e) at h = let stated : has_integer_kind e.1 ≡ b = cc in (e, at, stated)
 
 -- the lines of the column with a number, if it is in the part
 pub part-lines : (part : Part) (f : List ℕ × Column → Lines) (es : Columns) (j : ℕ) (b : Bool)
@@ -109,9 +109,9 @@ pub cell-needed : (objective column : List ℕ) (value : Number) (es : List (Coe
 cell-needed objective column value [] h = refl
 cell-needed objective column value (e ∷ es) h = sym (ap (λ (b : Bool). cond b [] (coefficient_line column (objective, value) ∷ [])) h)
 
-pub cell-alone : (objective column : List ℕ) (value : Number) (es : List (CoefficientKey × Number)) → length es ≤ 0 → coefficient_line column (objective, value) ∷ [] ≡ objective_line_at objective column value es
-cell-alone objective column value [] h = refl
-cell-alone objective column value (e ∷ es) h = absurd (omega arith)
+pub cell-only : (objective column : List ℕ) (value : Number) (es : List (CoefficientKey × Number)) → length es ≤ 0 → coefficient_line column (objective, value) ∷ [] ≡ objective_line_at objective column value es
+cell-only objective column value [] h = refl
+cell-only objective column value (e ∷ es) h = absurd (omega arith)
 
 -- a coefficient as the accessors number it
 pub element-seen : (m : LinearModel) (es : List (CoefficientKey × Number)) (k i : ℕ) (value : Number)

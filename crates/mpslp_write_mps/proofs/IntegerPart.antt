@@ -7,7 +7,7 @@ use Rattle.mpslp_types.proofs.BoolLemmas.{not_so}
 use Rattle.mpslp_mps_fields.specs.DataLine.{opening_word, closing_word}
 use Rattle.mpslp_canonical_mps.specs.CanonicalMps.{Lines, integer_part, marker_line, line_text, text_of}
 use Rattle.mpslp_io.specs.declared.devices.Sink.{Ghosts as SinkOf}
-use Rattle.mpslp_output.specs.TextBuffer.{BufferState, text_under, header_behind}
+use Rattle.mpslp_output.specs.TextBuffer.{BufferState, text_under, header_left}
 use Rattle.mpslp_output.specs.Printing.{Holds, Puts, HasHeader, Prints, PrintsSection}
 use Rattle.mpslp_output.specs.declared.output.Output.{Output}
 use Rattle.mpslp_output.proofs.BufferLemmas.{text_by-append, put_same, HasPut-cut}
@@ -47,7 +47,7 @@ module _ {W : Type 0} {k : SinkOf W} where
       none_waits : c.buffer.now.header ≡ []
       none_waits = no-length c.buffer.now.header (second_so (not c.buffer.now.has_failed) _ some)
 
-      by : (lines : Lines) (first : W) (text : List ℕ) → Holds k first c (text ++ text_under line_text first_marker lines) (header_behind first_marker lines)
+      by : (lines : Lines) (first : W) (text : List ℕ) → Holds k first c (text ++ text_under line_text first_marker lines) (header_left first_marker lines)
           → Holds k first e (text ++ text_of (integer_part lines)) []
       by [] first text put =
           let under_way = put.under_way (not_so c.buffer.now.has_failed (first_so (not c.buffer.now.has_failed) _ some)) in
@@ -62,8 +62,8 @@ module _ {W : Type 0} {k : SinkOf W} where
   }
     where
       by : (lines : Lines) (has_failed : Bool) → c.buffer.now.has_failed ≡ has_failed → (first : W) (text : List ℕ)
-          → Holds k first c (text ++ text_under line_text first_marker lines) (header_behind first_marker lines)
-          → Holds k first c (text ++ text_of (integer_part lines)) (header_behind first_marker lines)
+          → Holds k first c (text ++ text_under line_text first_marker lines) (header_left first_marker lines)
+          → Holds k first c (text ++ text_of (integer_part lines)) (header_left first_marker lines)
       by [] has_failed is first text put = put
       by (line ∷ lines) true fails first text put =
           put_same (between text (line ∷ lines)) refl (HasPut-cut k.holds k.failed k.count first c.sink.now c.buffer.now _ last_marker [] [] fails put)

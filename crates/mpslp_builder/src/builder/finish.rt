@@ -110,7 +110,7 @@ pub(crate) fn into_model(
     requires fault { file_fault (draft sense constant tables) ≡ None }
     ensures { IfOk result (DraftMeans (draft sense constant tables)) }
 {
-    tables.each_name_stands_once();
+    tables.each_name_occurs_once();
     let Tables {
         objective,
         rows,

@@ -128,7 +128,7 @@ impl Tables {
         ensures fault { option_map (fault_found self.now) result ≡ head_of (filter_map (λ fault. named_fault (draft None None self.now) (kind_of_row_fault fault)) faults.now) }
         ensures there { ForSome result (IsThere self.now) }
     {
-        self.each_name_stands_once();
+        self.each_name_occurs_once();
         if !has_faulty(&self.rows) {
             return None;
         }
@@ -145,7 +145,7 @@ impl Tables {
         ensures fault { option_map (fault_found self.now) result ≡ head_of (filter_map (λ fault. named_fault (draft None None self.now) (kind_of_column_fault fault)) faults.now) }
         ensures there { ForSome result (IsThere self.now) }
     {
-        self.each_name_stands_once();
+        self.each_name_occurs_once();
         if !has_faulty(&self.columns) {
             return None;
         }

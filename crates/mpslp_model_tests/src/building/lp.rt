@@ -73,7 +73,7 @@ constant -2.50
 column x";
 
 #[test]
-fn tells_the_constant_as_declared(rt: HostRuntime) -> Result<(), Fail> {
+fn returns_the_constant_as_declared(rt: HostRuntime) -> Result<(), Fail> {
     let expected = "minimize f constant -2.5 offset 2.5
 column x continuous 0 inf objective 0
 ";

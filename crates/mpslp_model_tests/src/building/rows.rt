@@ -41,7 +41,7 @@ column y
 coefficient s y 5";
 
 #[test]
-fn rows_tell_their_columns_in_order(rt: HostRuntime) -> Result<(), Fail> {
+fn rows_list_their_columns_in_order(rt: HostRuntime) -> Result<(), Fail> {
     let answer = outcome(rt.alloc(), ROWS_OF_COLUMNS)?;
     let expected = b"minimize f constant 0 offset 0
 row r L -inf 0 rhs 0 range 0

@@ -12,4 +12,4 @@ returns c =
     let target_known : form_of c.args.to ≡ Some target = sym c.form_of-2.ensures ∙ c.in-Some-form_of.is in
     rw (source_known, target_known) (converted (declares_in source) (first_fault_in source) (unfit_in target) (text_in target)
     c.args.bytes.now c.canonical_in.result c.give_text.result _ _ _ _
-    c.canonical_in.ensures.answer c.canonical_in.ensures.accepts c.canonical_in.ensures.refuses c.canonical_in.ensures.cannot_tell c.give_text.ensures)
+    c.canonical_in.ensures.answer c.canonical_in.ensures.accepts c.canonical_in.ensures.refuses c.canonical_in.ensures.cannot_express c.give_text.ensures)

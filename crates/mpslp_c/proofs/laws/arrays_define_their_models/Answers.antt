@@ -1,4 +1,4 @@
-use Rattle.mpslp_c.proofs.ToldMeaning.{arrays-define}
+use Rattle.mpslp_c.proofs.StatedMeaning.{arrays-define}
 use Rattle.mpslp_c.proofs.laws.arrays_define_their_models.Goals as goal
 
 pub returns : goal.returns

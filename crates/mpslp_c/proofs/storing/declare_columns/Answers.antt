@@ -2,7 +2,7 @@ use Rattle.std.proofs.Common.{sym, subst, ℕ, [], ◌∷◌, ◌++◌, ◌+◌,
 use Rattle.mpslp_c.specs.Answers.{TakesItems}
 use Rattle.mpslp_c.specs.Stored.{own_items, elements_end, column_items}
 use Rattle.mpslp_c.specs.declared.faults.StoreFault.{StoreFault}
-use Rattle.mpslp_c.proofs.StepLemmas.{leads_is, leads_then, leads_told, one_item, column_lead, column_at, column_item}
+use Rattle.mpslp_c.proofs.StepLemmas.{leads_is, leads_then, leads_reported, one_item, column_lead, column_at, column_item}
 use Rattle.mpslp_c.proofs.storing.declare_columns.Goals as goal
 
 pub returns-in_err-declare_own : goal.returns-in_err-declare_own
@@ -23,7 +23,7 @@ returns-in_err-declare_own c =
     let begun = leads_then all (item ∷ []) (own ++ later) c.args.builder.now now mid
     (leads_is (column_lead names objective rows elements columns j c.loop-j-test.true) c.loop-j.invariant.leads)
     (subst (λ (r : Result (Unit {0}) StoreFault). TakesItems (item ∷ []) now mid r) (sym c.in_ok-placed.ensures) (one_item item now mid c.declare_column.result c.declare_column.ensures)) in
-    leads_told all own later c.args.builder.now mid new _ c.in_err-declare_own.field-0.0 _ begun
+    leads_reported all own later c.args.builder.now mid new _ c.in_err-declare_own.field-0.0 _ begun
     (subst (λ (end : ℕ). TakesItems (own_items names rows elements j (column_at columns j) end) mid new (Err c.in_err-declare_own.field-0.0)) c.elements_end-end.ensures c.in_err-declare_own.ensures)
     c.from_residual-in_err-declare_own.ensures.1
 

@@ -3,7 +3,7 @@ use Rattle.std.specs.Prelude.{slice_range}
 use Rattle.mpslp_c.specs.Answers.{TakesItems}
 use Rattle.mpslp_c.specs.Stored.{element_items}
 use Rattle.mpslp_c.specs.declared.faults.StoreFault.{StoreFault}
-use Rattle.mpslp_c.proofs.StepLemmas.{leads_is, leads_then, leads_told, one_item, element_lead, element_at, element_item}
+use Rattle.mpslp_c.proofs.StepLemmas.{leads_is, leads_then, leads_reported, one_item, element_lead, element_at, element_item}
 use Rattle.mpslp_c.proofs.storing.declare_elements.Goals as goal
 
 pub returns-in_err-placed : goal.returns-in_err-placed
@@ -18,7 +18,7 @@ returns-in_err-placed c =
     let item = element_item names rows column k (element_at elements k) in
     let all = element_items names rows column c.args.first (slice_range elements c.args.first c.args.end) in
     let later = element_items names rows column (k + 1) (slice_range elements (k + 1) c.args.end) in
-    leads_told all (item ∷ []) later c.args.builder.now now new _ c.in_err-placed.field-0.0 _
+    leads_reported all (item ∷ []) later c.args.builder.now now new _ c.in_err-placed.field-0.0 _
     (leads_is (element_lead names rows column elements k c.args.end c.loop-k-test.true c.requires.within) c.loop-k.invariant.leads)
     (subst (λ (r : Result (Unit {0}) StoreFault). TakesItems (item ∷ []) now new r) (sym c.in_err-placed.ensures) (one_item item now new c.declare_element.result c.declare_element.ensures))
     c.from_residual.ensures.1

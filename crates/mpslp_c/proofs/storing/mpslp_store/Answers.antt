@@ -9,4 +9,4 @@ returns-in-Some c =
     let target = c.in-Some.to in
     let known : form_of c.args.to ≡ Some target = sym c.form_of.ensures ∙ c.in-Some.is in
     rw known (stored_so (unfit_in target) (text_in target) c.args.model.now c.stored_text_in.result c.give_stored.result _ _ _ _
-    c.stored_text_in.ensures.answer c.stored_text_in.ensures.accepts c.stored_text_in.ensures.refuses c.stored_text_in.ensures.cannot_tell c.give_stored.ensures)
+    c.stored_text_in.ensures.answer c.stored_text_in.ensures.accepts c.stored_text_in.ensures.refuses c.stored_text_in.ensures.cannot_express c.give_stored.ensures)

@@ -11,8 +11,8 @@ returns-in-Ok-clause-answer g c =
 pub returns-in-Ok-clause-refuses : goal.returns-in-Ok-clause-refuses
 returns-in-Ok-clause-refuses g c = λ why has. absurd (c.in_ok-model.ensures.refuses why has)
 
-pub returns-in-Ok-clause-cannot_tell : goal.returns-in-Ok-clause-cannot_tell
-returns-in-Ok-clause-cannot_tell g c = λ m place defines found.
+pub returns-in-Ok-clause-cannot_express : goal.returns-in-Ok-clause-cannot_express
+returns-in-Ok-clause-cannot_express g c = λ m place defines found.
     let format = g.B.Format in
     let same = one_model c.args.model.now c.in_ok-model.model m c.in_ok-model.ensures.answer defines in
     absurd (some_none (format.unfit m) place (ap format.unfit (sym same) ∙ c.in-Ok.ensures.0) found)
@@ -31,8 +31,8 @@ returns-in-Err-NotLp-clause-accepts g c = λ m defines fits.
 pub returns-in-Err-NotLp-clause-refuses : goal.returns-in-Err-NotLp-clause-refuses
 returns-in-Err-NotLp-clause-refuses g c = λ why has. absurd (c.in_ok-model.ensures.refuses why has)
 
-pub returns-in-Err-NotLp-clause-cannot_tell : goal.returns-in-Err-NotLp-clause-cannot_tell
-returns-in-Err-NotLp-clause-cannot_tell g c = λ m place defines found.
+pub returns-in-Err-NotLp-clause-cannot_express : goal.returns-in-Err-NotLp-clause-cannot_express
+returns-in-Err-NotLp-clause-cannot_express g c = λ m place defines found.
     let format = g.B.Format in
     let same = one_model c.args.model.now c.in_ok-model.model m c.in_ok-model.ensures.answer defines in
     let unfit = rw c.in-Err-NotLp.field-0-is at c.in-Err-NotLp.ensures in

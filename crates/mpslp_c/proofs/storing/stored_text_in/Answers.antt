@@ -6,8 +6,8 @@ returns-in-Mps-clause-answer c = rw c.in-Mps.is c.stored_text.ensures.answer
 pub returns-in-Mps-clause-accepts : goal.returns-in-Mps-clause-accepts
 returns-in-Mps-clause-accepts c = rw c.in-Mps.is c.stored_text.ensures.accepts
 
-pub returns-in-Mps-clause-cannot_tell : goal.returns-in-Mps-clause-cannot_tell
-returns-in-Mps-clause-cannot_tell c = rw c.in-Mps.is c.stored_text.ensures.cannot_tell
+pub returns-in-Mps-clause-cannot_express : goal.returns-in-Mps-clause-cannot_express
+returns-in-Mps-clause-cannot_express c = rw c.in-Mps.is c.stored_text.ensures.cannot_express
 
 pub returns-in-Lp-clause-answer : goal.returns-in-Lp-clause-answer
 returns-in-Lp-clause-answer c = rw c.in-Lp.is c.stored_text-in-Lp.ensures.answer
@@ -15,5 +15,5 @@ returns-in-Lp-clause-answer c = rw c.in-Lp.is c.stored_text-in-Lp.ensures.answer
 pub returns-in-Lp-clause-accepts : goal.returns-in-Lp-clause-accepts
 returns-in-Lp-clause-accepts c = rw c.in-Lp.is c.stored_text-in-Lp.ensures.accepts
 
-pub returns-in-Lp-clause-cannot_tell : goal.returns-in-Lp-clause-cannot_tell
-returns-in-Lp-clause-cannot_tell c = rw c.in-Lp.is c.stored_text-in-Lp.ensures.cannot_tell
+pub returns-in-Lp-clause-cannot_express : goal.returns-in-Lp-clause-cannot_express
+returns-in-Lp-clause-cannot_express c = rw c.in-Lp.is c.stored_text-in-Lp.ensures.cannot_express

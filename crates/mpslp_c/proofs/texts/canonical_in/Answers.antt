@@ -9,8 +9,8 @@ returns-in-Mps-Mps-clause-accepts c = rw (c.in-Mps-Mps.is-0, c.in-Mps-Mps.is-1) 
 pub returns-in-Mps-Mps-clause-refuses : goal.returns-in-Mps-Mps-clause-refuses
 returns-in-Mps-Mps-clause-refuses c = rw c.in-Mps-Mps.is-0 c.canonical.ensures.refuses
 
-pub returns-in-Mps-Mps-clause-cannot_tell : goal.returns-in-Mps-Mps-clause-cannot_tell
-returns-in-Mps-Mps-clause-cannot_tell c = rw (c.in-Mps-Mps.is-0, c.in-Mps-Mps.is-1) c.canonical.ensures.cannot_tell
+pub returns-in-Mps-Mps-clause-cannot_express : goal.returns-in-Mps-Mps-clause-cannot_express
+returns-in-Mps-Mps-clause-cannot_express c = rw (c.in-Mps-Mps.is-0, c.in-Mps-Mps.is-1) c.canonical.ensures.cannot_express
 
 pub returns-in-Mps-Lp-clause-answer : goal.returns-in-Mps-Lp-clause-answer
 returns-in-Mps-Lp-clause-answer c = rw (c.in-Mps-Lp.is-0, c.in-Mps-Lp.is-1) c.canonical-in-Mps-Lp.ensures.answer
@@ -21,8 +21,8 @@ returns-in-Mps-Lp-clause-accepts c = rw (c.in-Mps-Lp.is-0, c.in-Mps-Lp.is-1) c.c
 pub returns-in-Mps-Lp-clause-refuses : goal.returns-in-Mps-Lp-clause-refuses
 returns-in-Mps-Lp-clause-refuses c = rw c.in-Mps-Lp.is-0 c.canonical-in-Mps-Lp.ensures.refuses
 
-pub returns-in-Mps-Lp-clause-cannot_tell : goal.returns-in-Mps-Lp-clause-cannot_tell
-returns-in-Mps-Lp-clause-cannot_tell c = rw (c.in-Mps-Lp.is-0, c.in-Mps-Lp.is-1) c.canonical-in-Mps-Lp.ensures.cannot_tell
+pub returns-in-Mps-Lp-clause-cannot_express : goal.returns-in-Mps-Lp-clause-cannot_express
+returns-in-Mps-Lp-clause-cannot_express c = rw (c.in-Mps-Lp.is-0, c.in-Mps-Lp.is-1) c.canonical-in-Mps-Lp.ensures.cannot_express
 
 pub returns-in-Lp-Mps-clause-answer : goal.returns-in-Lp-Mps-clause-answer
 returns-in-Lp-Mps-clause-answer c = rw (c.in-Lp-Mps.is-0, c.in-Lp-Mps.is-1) c.canonical-in-Lp-Mps.ensures.answer
@@ -33,8 +33,8 @@ returns-in-Lp-Mps-clause-accepts c = rw (c.in-Lp-Mps.is-0, c.in-Lp-Mps.is-1) c.c
 pub returns-in-Lp-Mps-clause-refuses : goal.returns-in-Lp-Mps-clause-refuses
 returns-in-Lp-Mps-clause-refuses c = rw c.in-Lp-Mps.is-0 c.canonical-in-Lp-Mps.ensures.refuses
 
-pub returns-in-Lp-Mps-clause-cannot_tell : goal.returns-in-Lp-Mps-clause-cannot_tell
-returns-in-Lp-Mps-clause-cannot_tell c = rw (c.in-Lp-Mps.is-0, c.in-Lp-Mps.is-1) c.canonical-in-Lp-Mps.ensures.cannot_tell
+pub returns-in-Lp-Mps-clause-cannot_express : goal.returns-in-Lp-Mps-clause-cannot_express
+returns-in-Lp-Mps-clause-cannot_express c = rw (c.in-Lp-Mps.is-0, c.in-Lp-Mps.is-1) c.canonical-in-Lp-Mps.ensures.cannot_express
 
 pub returns-in-Lp-Lp-clause-answer : goal.returns-in-Lp-Lp-clause-answer
 returns-in-Lp-Lp-clause-answer c = rw (c.in-Lp-Lp.is-0, c.in-Lp-Lp.is-1) c.canonical-in-Lp-Lp.ensures.answer
@@ -45,5 +45,5 @@ returns-in-Lp-Lp-clause-accepts c = rw (c.in-Lp-Lp.is-0, c.in-Lp-Lp.is-1) c.cano
 pub returns-in-Lp-Lp-clause-refuses : goal.returns-in-Lp-Lp-clause-refuses
 returns-in-Lp-Lp-clause-refuses c = rw c.in-Lp-Lp.is-0 c.canonical-in-Lp-Lp.ensures.refuses
 
-pub returns-in-Lp-Lp-clause-cannot_tell : goal.returns-in-Lp-Lp-clause-cannot_tell
-returns-in-Lp-Lp-clause-cannot_tell c = rw (c.in-Lp-Lp.is-0, c.in-Lp-Lp.is-1) c.canonical-in-Lp-Lp.ensures.cannot_tell
+pub returns-in-Lp-Lp-clause-cannot_express : goal.returns-in-Lp-Lp-clause-cannot_express
+returns-in-Lp-Lp-clause-cannot_express c = rw (c.in-Lp-Lp.is-0, c.in-Lp-Lp.is-1) c.canonical-in-Lp-Lp.ensures.cannot_express

@@ -1,5 +1,5 @@
-use Rattle.mpslp_canonical_lp.proofs.CanonicalDeclares.{tells-apart}
+use Rattle.mpslp_canonical_lp.proofs.CanonicalDeclares.{is-injective}
 use Rattle.mpslp_canonical_lp.proofs.laws.one_text_for_each_model.Goals as goal
 
 pub returns : goal.returns
-returns c = tells-apart
+returns c = is-injective

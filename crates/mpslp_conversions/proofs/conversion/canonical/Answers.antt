@@ -1,6 +1,6 @@
 use Rattle.std.proofs.Common.{◌≡◌, ◌∙◌, ap, subst}
 use Rattle.std.specs.Prelude.{IfOk}
-use Rattle.mpslp_conversions.proofs.ConversionLemmas.{conversion_of, place_is_told, text_is_given, text_keeps}
+use Rattle.mpslp_conversions.proofs.ConversionLemmas.{conversion_of, place_is_reported, text_is_given, text_keeps}
 use Rattle.mpslp_conversions.proofs.conversion.canonical.Goals as goal
 
 pub returns-clause-answer : goal.returns-clause-answer
@@ -15,11 +15,11 @@ returns-clause-accepts g c = λ m declared fits.
     let same : c.in_ok-model.model ≡ m = g.met.A.Format.one_model c.args.bytes.now c.in_ok-model.model m c.in_ok-model.ensures declared in
     text_is_given target.unfit target.text c.in_ok-model.model _ (ap target.unfit same ∙ fits) c.text_of.ensures
 
-pub returns-clause-cannot_tell : goal.returns-clause-cannot_tell
-returns-clause-cannot_tell g c = λ m name_at declared unfit.
+pub returns-clause-cannot_express : goal.returns-clause-cannot_express
+returns-clause-cannot_express g c = λ m name_at declared unfit.
     let target = g.B.Format in
     let same : c.in_ok-model.model ≡ m = g.met.A.Format.one_model c.args.bytes.now c.in_ok-model.model m c.in_ok-model.ensures declared in
-    place_is_told target.unfit target.text c.in_ok-model.model name_at _ (ap target.unfit same ∙ unfit) c.text_of.ensures
+    place_is_reported target.unfit target.text c.in_ok-model.model name_at _ (ap target.unfit same ∙ unfit) c.text_of.ensures
 
 pub returns-clause-keeps : goal.returns-clause-keeps
 returns-clause-keeps g c = λ m declared.

@@ -21,4 +21,4 @@ returns-clause-refuses_second g c = λ m fault one found.
     let other = g.B.Format in
     let bytes = c.args.second.now in
     second_is_refused other.declares other.first_fault c.in_ok-one.one fault bytes _ (λ n declared. g.met.B.Format.no_fault bytes n fault declared found)
-    (λ other_fault told. g.met.B.Format.one_fault bytes other_fault fault told found) c.is_model_of.ensures
+    (λ other_fault outcome. g.met.B.Format.one_fault bytes other_fault fault outcome found) c.is_model_of.ensures

@@ -20,8 +20,8 @@ returns-clause-accepts g c = λ bytes m held declared fits works.
     put_of_fit target.unfit target.text g.W.Sink.holds g.W.Sink.failed g.W.Sink.count c.in_ok-model.model _ _ c.put_model.result
     (ap target.unfit (sym own) ∙ fits) works c.put_model.ensures.answer
 
-pub returns-clause-cannot_tell : goal.returns-clause-cannot_tell
-returns-clause-cannot_tell g c = λ bytes m name_at held declared not_fit.
+pub returns-clause-cannot_express : goal.returns-clause-cannot_express
+returns-clause-cannot_express g c = λ bytes m name_at held declared not_fit.
     let target = g.B.Format in
     let read = c.in_ok-model.ensures.answer in
     let same = held_bytes _ _ _ _ _ read.0 bytes read.1 held in

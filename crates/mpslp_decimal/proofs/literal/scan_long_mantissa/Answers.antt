@@ -1,6 +1,6 @@
 use Rattle.std.proofs.Common.{◌≡◌, rules, [], ◌-◌, length, take, drop}
 use Rattle.mpslp_decimal.specs.Scan.{fraction_front, zeros_of}
-use Rattle.mpslp_decimal.proofs.MantissaLemmas.{all-digits, only-digits, fraction-cut, zeros-front, zeros-behind}
+use Rattle.mpslp_decimal.proofs.MantissaLemmas.{all-digits, only-digits, fraction-cut, zeros-front, zeros-after}
 use Rattle.mpslp_decimal.proofs.literal.scan_long_mantissa.Goals as goal
 
 pub returns-in-46-clause-significand : goal.returns-in-46-clause-significand
@@ -17,7 +17,7 @@ returns-in_default-clause-significand c =
 
 pub returns-in-46-clause-zeros_within : goal.returns-in-46-clause-zeros_within
 returns-in-46-clause-zeros_within c =
-    zeros-behind c.args.text.now c.scan_digits-whole.result.1.now (zeros_of c.scan_digits-whole.result.0) (zeros_of c.scan_digits-significand.result.0)
+    zeros-after c.args.text.now c.scan_digits-whole.result.1.now (zeros_of c.scan_digits-whole.result.0) (zeros_of c.scan_digits-significand.result.0)
     c.scan_digits-whole.ensures.rest c.in-46.len_at_least c.scan_digits-whole.ensures.zeros c.scan_digits-significand.ensures.zeros
 
 pub returns-in_default-clause-zeros_within : goal.returns-in_default-clause-zeros_within

@@ -34,7 +34,7 @@ returns-then-is_at_end g c =
     let all = lines c.args.part.now in
     let read = passed-line r.has_read r.lines_fault c.args.reader.now before.reader c.read_line.new.self all before.line-iterator c.next.new.self c.in-Some.line.now
     before.invariant.passed c.in-Some.ensures.steps c.in_ok-read_line.ensures in
-    passed-end r.has_read r.at_end g.met.L.ReadLines.behind_end c.args.reader.now c.read_line.new.self all c.next.new.self read (sym c.is_at_end.ensures ∙ c.if-is_at_end.true)
+    passed-end r.has_read r.at_end g.met.L.ReadLines.after_end c.args.reader.now c.read_line.new.self all c.next.new.self read (sym c.is_at_end.ensures ∙ c.if-is_at_end.true)
 
 pub loop-line-preserved : goal.loop-line-preserved
 loop-line-preserved g c =

@@ -14,11 +14,11 @@ use Rattle.mpslp_lp.proofs.plain_terms.take_first_terms.Goals as goal
 -- a term has tokens
 term_shortens : (found : List Token) (first : Sign) (literal column : List ℕ) (more : List Token) → IsPlainTerm found first literal column more → length more ≤ length found
 term_shortens found first literal column more term =
-    let sign : length found ≡ suc (length term.behind_sign) = ap length term.sign.tokens in
-    let name : length term.term.behind_number ≡ suc (length more) = ap length term.term.name.tokens in
+    let sign : length found ≡ suc (length term.after_sign) = ap length term.sign.tokens in
+    let name : length term.term.after_number ≡ suc (length more) = ap length term.term.name.tokens in
     elim term.term.number as (λ _. length more ≤ length found) [
-      | inl number ↦ let both : length term.behind_sign ≡ suc (length term.term.behind_number) = ap length number.tokens in omega (arith, sign, both, name)
-      | inr none ↦ let same : length term.term.behind_number ≡ length term.behind_sign = ap length none.1 in omega (arith, sign, same, name)
+      | inl number ↦ let both : length term.after_sign ≡ suc (length term.term.after_number) = ap length number.tokens in omega (arith, sign, both, name)
+      | inr none ↦ let same : length term.term.after_number ≡ length term.after_sign = ap length none.1 in omega (arith, sign, same, name)
     ]
 
 pub returns : goal.returns

@@ -45,7 +45,7 @@ returns-in-Err-declare_objective_term c = λ found p.
     let column = term.column.now in
     let error = c.in-Err-declare_objective_term.error in
     let given : c.of-value.result ≡ apply_sign term.sign (value_of term.literal.now) = c.of-value.ensures ∙ ap (apply_sign term.sign) c.in-Ok.ensures.1 in
-    subst (λ (told : LineError). TakesToken (take_tokens context (Between (InObjective objective)) found) (Err told) after) (sym c.error_before.ensures)
+    subst (λ (stated : LineError). TakesToken (take_tokens context (Between (InObjective objective)) found) (Err stated) after) (sym c.error_before.ensures)
     (plain-refused context (Between (InObjective objective)) (λ value. take_term context (OfObjective objective) column value (Name column)) found c.args.left term.sign term.literal.now column p
     (in-objective context objective term.sign column) after error (sym (tested-number term.literal.now) ∙ c.in-Ok.ensures.0)
     (subst (λ (value : Number). TakesToken (take_term context (OfObjective objective) column value (Name column)) (Err error) after) given c.in-Err-declare_objective_term.ensures))

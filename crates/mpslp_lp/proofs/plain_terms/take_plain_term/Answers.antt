@@ -14,7 +14,7 @@ use Rattle.mpslp_lp_grammar.specs.declared.states.ItemOwner.TheVariants.{OfRow}
 use Rattle.mpslp_lp_grammar.specs.declared.states.Place.TheVariants.{InRow}
 use Rattle.mpslp_lp_grammar.specs.declared.states.State.TheVariants.{Between, RowLabel}
 use Rattle.mpslp_lp_grammar.proofs.NumberFaults.{tested-number}
-use Rattle.mpslp_lp.proofs.PlainTerms.{plain-goes, plain-refused, plain-number, in-row, behind-label, row-taken, row-refused}
+use Rattle.mpslp_lp.proofs.PlainTerms.{plain-goes, plain-refused, plain-number, in-row, after-label, row-taken, row-refused}
 use Rattle.mpslp_lp.proofs.plain_terms.take_plain_term.Goals as goal
 
 pub returns-in-Err-clause-later : goal.returns-in-Err-clause-later
@@ -32,7 +32,7 @@ returns-in-Err-clause-first c = λ found name p empty.
     let term = c.args.term in
     let column = term.column.now in
     plain-number context (RowLabel name) (λ value. take_term context (OfRow (without_terms name None)) column value (Name column)) found c.args.left term.sign term.literal.now column p
-    (behind-label context name term.sign column) context c.in-Err.kind c.least_error.result (sym (tested-number term.literal.now) ∙ c.in-Err.ensures) c.least_error.ensures
+    (after-label context name term.sign column) context c.in-Err.kind c.least_error.result (sym (tested-number term.literal.now) ∙ c.in-Err.ensures) c.least_error.ensures
 
 pub returns-in-Ok-add_term-clause-later : goal.returns-in-Ok-add_term-clause-later
 returns-in-Ok-add_term-clause-later c = λ found p.
@@ -55,7 +55,7 @@ returns-in-Ok-add_term-clause-first c = λ found name p empty.
     let longer = c.add_term.new.self in
     let given : c.of-value.result ≡ apply_sign term.sign (value_of term.literal.now) = c.of-value.ensures ∙ ap (apply_sign term.sign) c.in-Ok.ensures.1 in
     plain-goes context (RowLabel name) (λ value. take_term context (OfRow (without_terms name None)) column value (Name column)) found c.args.left term.sign term.literal.now column p
-    (behind-label context name term.sign column) context (Between (InRow longer)) (sym (tested-number term.literal.now) ∙ c.in-Ok.ensures.0)
+    (after-label context name term.sign column) context (Between (InRow longer)) (sym (tested-number term.literal.now) ∙ c.in-Ok.ensures.0)
     (row-taken context (without_terms name None) longer column (apply_sign term.sign (value_of term.literal.now))
     (subst (λ (r : PartialRow). AddsTerm r column (apply_sign term.sign (value_of term.literal.now)) (Ok longer)) empty
     (subst (λ (value : Number). AddsTerm row column value (Ok longer)) given c.in-Ok-add_term.ensures)))
@@ -68,7 +68,7 @@ returns-in-Err-add_term-clause-later c = λ found p.
     let column = term.column.now in
     let error = c.in-Err-add_term.error in
     let given : c.of-value.result ≡ apply_sign term.sign (value_of term.literal.now) = c.of-value.ensures ∙ ap (apply_sign term.sign) c.in-Ok.ensures.1 in
-    subst (λ (told : LineError). TakesToken (take_tokens context (Between (InRow row)) found) (Err told) context) (sym c.error_before.ensures)
+    subst (λ (stated : LineError). TakesToken (take_tokens context (Between (InRow row)) found) (Err stated) context) (sym c.error_before.ensures)
     (plain-refused context (Between (InRow row)) (λ value. take_term context (OfRow row) column value (Name column)) found c.args.left term.sign term.literal.now column p
     (in-row context row term.sign column) context error (sym (tested-number term.literal.now) ∙ c.in-Ok.ensures.0)
     (row-refused context row column (apply_sign term.sign (value_of term.literal.now)) error (subst (λ (value : Number). AddsTerm row column value (Err error)) given c.in-Err-add_term.ensures)))
@@ -81,9 +81,9 @@ returns-in-Err-add_term-clause-first c = λ found name p empty.
     let column = term.column.now in
     let error = c.in-Err-add_term.error in
     let given : c.of-value.result ≡ apply_sign term.sign (value_of term.literal.now) = c.of-value.ensures ∙ ap (apply_sign term.sign) c.in-Ok.ensures.1 in
-    subst (λ (told : LineError). TakesToken (take_tokens context (RowLabel name) found) (Err told) context) (sym c.error_before.ensures)
+    subst (λ (stated : LineError). TakesToken (take_tokens context (RowLabel name) found) (Err stated) context) (sym c.error_before.ensures)
     (plain-refused context (RowLabel name) (λ value. take_term context (OfRow (without_terms name None)) column value (Name column)) found c.args.left term.sign term.literal.now column p
-    (behind-label context name term.sign column) context error (sym (tested-number term.literal.now) ∙ c.in-Ok.ensures.0)
+    (after-label context name term.sign column) context error (sym (tested-number term.literal.now) ∙ c.in-Ok.ensures.0)
     (row-refused context (without_terms name None) column (apply_sign term.sign (value_of term.literal.now)) error
     (subst (λ (r : PartialRow). AddsTerm r column (apply_sign term.sign (value_of term.literal.now)) (Err error)) empty
     (subst (λ (value : Number). AddsTerm row column value (Err error)) given c.in-Err-add_term.ensures))))

@@ -9,7 +9,7 @@ returns-in-Ok-Name c =
     let text = c.in_ok-token.token.text.now in
     let token = c.in-Ok-Name.ensures in
     record {
-      behind_number = c.args.tokens.now;
+      after_number = c.args.tokens.now;
       number = inr (c.as_slice.ensures, refl);
       name = record {
         token = record {

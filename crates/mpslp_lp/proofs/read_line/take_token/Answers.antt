@@ -20,7 +20,7 @@ returns-in-Err-take c =
     let raw_token = token_of c.args.raw_token in
     let more = c.args.left in
     let error = c.in-Err-take.error in
-    subst (λ (told : LineError). TakesToken (take_tokens context state (raw_token ∷ more)) (Err told) after) (sym c.error_before.ensures)
+    subst (λ (stated : LineError). TakesToken (take_tokens context state (raw_token ∷ more)) (Err stated) after) (sym c.error_before.ensures)
     (tokens-refused context after state raw_token more error c.in-Ok.ensures.0
     (subst (λ (terminal : Terminal). TakesToken (take context state terminal) (Err error) after) c.in-Ok.ensures.1
     (subst (λ (taken : State). TakesToken (take context taken (terminal_of_token (record { kind = c.in-Ok.kind; text = c.args.raw_token.text }))) (Err error) after) c.replace.ensures.value c.in-Err-take.ensures)))

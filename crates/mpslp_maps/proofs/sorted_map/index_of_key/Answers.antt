@@ -1,7 +1,7 @@
 use Rattle.std.proofs.Common.{rules, of_calls, sym, ◌∙◌}
 use Rattle.std.specs.Ordering.{is_gt}
 use Rattle.std.proofs.lemmas.List.Sorted.{IsPartitionPoint-from_clause}
-use Rattle.mpslp_maps.proofs.SearchLemmas.{parted, place_behind, place_from_point}
+use Rattle.mpslp_maps.proofs.SearchLemmas.{parted, place_after, place_from_point}
 use Rattle.mpslp_maps.proofs.sorted_map.index_of_key.Goals as goal
 
 pub returns : goal.returns
@@ -14,4 +14,4 @@ returns g c =
 
 pub returns-then-ends_below : goal.returns-then-ends_below
 returns-then-ends_below g c =
-    place_behind g.K.Key.cmp g.met.K.Key.total (g.Q.Query.key c.args.query.now) c.args.entries.now c.requires (sym c.ends_below.ensures ∙ c.if-ends_below.true)
+    place_after g.K.Key.cmp g.met.K.Key.total (g.Q.Query.key c.args.query.now) c.args.entries.now c.requires (sym c.ends_below.ensures ∙ c.if-ends_below.true)

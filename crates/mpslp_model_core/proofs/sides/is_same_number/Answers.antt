@@ -1,8 +1,8 @@
 use Rattle.std.proofs.Common.{rules}
 use Rattle.std.specs.Bool.{one_answer}
 use Rattle.mpslp_model_core.specs.Same.{same_number}
-use Rattle.mpslp_model_core.specs.SameLaws.{tells-number}
+use Rattle.mpslp_model_core.specs.SameLaws.{decides-number}
 use Rattle.mpslp_model_core.proofs.sides.is_same_number.Goals as goal
 
 pub returns : goal.returns
-returns c = one_answer c.eq.result (same_number c.args.a c.args.b) (search rules) (tells-number c.args.a c.args.b)
+returns c = one_answer c.eq.result (same_number c.args.a c.args.b) (search rules) (decides-number c.args.a c.args.b)

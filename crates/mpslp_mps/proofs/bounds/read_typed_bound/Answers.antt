@@ -8,7 +8,7 @@ use Rattle.mpslp_types.specs.declared.faults.FaultKind.{FaultKind}
 use Rattle.mpslp_lines.specs.LineAnswer.{IsErrorOf}
 use Rattle.mpslp_mps_fields.specs.declared.sections.Section.TheVariants.{Bounds}
 use Rattle.mpslp_mps.proofs.StepLemmas.{step-bound}
-use Rattle.mpslp_mps.proofs.TakenLemmas.{data_fault-form, clash-told, data_fault-declared, declared-is, bounds-early, bounds-behind}
+use Rattle.mpslp_mps.proofs.TakenLemmas.{data_fault-form, clash-reported, data_fault-declared, declared-is, bounds-early, bounds-after}
 use Rattle.mpslp_mps.specs.KindClash.{type_clash}
 use Rattle.mpslp_mps.proofs.ClashLemmas.{bound-clashes, bound-apart}
 use Rattle.mpslp_mps.proofs.BoundSideLemmas.{bound-is}
@@ -17,7 +17,7 @@ use Rattle.mpslp_mps.proofs.bounds.read_typed_bound.Goals as goal
 pub returns-then-has_bound_clash-clause-answers : goal.returns-then-has_bound_clash-clause-answers
 returns-then-has_bound_clash-clause-answers c =
     let more = map (λ (field : Bor (List ℕ)). field.now) c.args.more.now in
-    clash-told c.args.context.now c.args.builder.now (c.args.letters.now ∷ more) (Some Bounds) c.requires (bounds-behind c.args.context.now c.args.letters.now more)
+    clash-reported c.args.context.now c.args.builder.now (c.args.letters.now ∷ more) (Some Bounds) c.requires (bounds-after c.args.context.now c.args.letters.now more)
     (bound-clashes c.args.builder.now (c.args.letters.now ∷ more) ∙ sym c.has_bound_clash.ensures ∙ c.if-has_bound_clash.true)
 
 pub declare_bound-requires-clause-apart : goal.declare_bound-requires-clause-apart

@@ -17,13 +17,13 @@ use Rattle.mpslp_lines.proofs.UnchangedLemmas.{if_fault-ends, if_fault-none}
 use Rattle.mpslp_mps_fields.specs.DataLine.{column_shape}
 use Rattle.mpslp_mps.proofs.ColumnTaking.{front-there}
 use Rattle.mpslp_mps.proofs.ClashLemmas.{column-apart}
-use Rattle.mpslp_mps.proofs.ColumnLine.{column-judged, column-clash-told, place-fault, placed-fault, double-fault, column-declares, column-named, with_column}
+use Rattle.mpslp_mps.proofs.ColumnLine.{column-judged, column-clash-reported, place-fault, placed-fault, double-fault, column-declares, column-named, with_column}
 use Rattle.mpslp_mps.proofs.columns.read_checked.Goals as goal
 
 pub returns-then-has_column_clash-clause-answers : goal.returns-then-has_column_clash-clause-answers
 returns-then-has_column_clash-clause-answers c =
     let fields = map (λ field. field.now) c.args.fields.now in
-    column-clash-told c.args.context.now c.args.builder.now fields c.requires.section c.requires.plain (sym c.has_column_clash.ensures ∙ c.if-has_column_clash.true)
+    column-clash-reported c.args.context.now c.args.builder.now fields c.requires.section c.requires.plain (sym c.has_column_clash.ensures ∙ c.if-has_column_clash.true)
 
 pub declare_column-requires-clause-apart : goal.declare_column-requires-clause-apart
 declare_column-requires-clause-apart c =

@@ -4,7 +4,7 @@ use Rattle.mpslp_builder.specs.Answer.{first_refusal}
 use Rattle.mpslp_builder.specs.Declaration.{Draft, declare_rhs, with_declarations, is_free_row}
 use Rattle.mpslp_builder.specs.Refusal.{refusals}
 use Rattle.mpslp_builder.specs.Tables.{draft}
-use Rattle.mpslp_builder.proofs.AnswerLemmas.{none_refused, none_told, made_after, made_now, declared, handed_on}
+use Rattle.mpslp_builder.proofs.AnswerLemmas.{none_refused, none_reported, made_after, made_now, declared, handed_on}
 use Rattle.mpslp_builder.proofs.MadeDrafts.{free_rhs-passes}
 use Rattle.mpslp_builder.proofs.CallLemmas.{rhs_added, rhs_added_numbered}
 use Rattle.mpslp_builder.proofs.ReadingLemmas.{free_at}
@@ -23,7 +23,7 @@ returns-in_err-place-clause-free c =
     let d = declare_rhs c.args.row.now c.args.value in
     let refused = c.in_err-place.ensures.answer ∙ ap (λ (all : Draft). first_refusal (refusals all d)) c.self.view_is in
     let passes = free_rhs-passes c.args.self.now c.args.row.now c.args.value (made_now c.self.view_is c.self.invariant.0) free in
-    none_told (refusals c.args.self.now d) c.in_err-place.field-0.0 passes refused
+    none_reported (refusals c.args.self.now d) c.in_err-place.field-0.0 passes refused
 
 pub returns-then-is_free-clause-answers : goal.returns-then-is_free-clause-answers
 returns-then-is_free-clause-answers c =

@@ -98,7 +98,7 @@ of_parts-requires c =
           ∙ (λ i. each_part (moved_in (c.deref-2.ensures.value i)) (entries_at columns column_order));
     } in
     let meant = finished_parts objective rows columns m finished c.args.sense c.args.constant c.requires.numbered
-    c.each_name_stands_once.ensures.rows (once-part no_part cells_of columns c.each_name_stands_once.ensures.columns)
+    c.each_name_occurs_once.ensures.rows (once-part no_part cells_of columns c.each_name_occurs_once.ensures.columns)
     c.parts_of.ensures.sense (c.parts_of.ensures.constant ∙ constant_is c.args.sense c.args.constant objective rows columns c.requires.objective c.requires.numbered.apart) in
     meant_parts (draft c.args.sense c.args.constant c.args.tables) m c.requires.made (named_there objective c.requires.objective) c.requires.fault meant
     (finished_cells objective rows columns m finished c.requires.numbered)
@@ -137,7 +137,7 @@ returns c =
           ∙ (λ i. each_part (moved_in (c.deref-2.ensures.value i)) (entries_at columns column_order));
     } in
     let meant = finished_parts objective rows columns m finished c.args.sense c.args.constant c.requires.numbered
-    c.each_name_stands_once.ensures.rows (once-part no_part cells_of columns c.each_name_stands_once.ensures.columns)
+    c.each_name_occurs_once.ensures.rows (once-part no_part cells_of columns c.each_name_occurs_once.ensures.columns)
     c.parts_of.ensures.sense (c.parts_of.ensures.constant ∙ constant_is c.args.sense c.args.constant objective rows columns c.requires.objective c.requires.numbered.apart) in
     if_ok c.of_parts.result (λ model is.
     subst (DraftMeans (draft c.args.sense c.args.constant c.args.tables)) (sym is)

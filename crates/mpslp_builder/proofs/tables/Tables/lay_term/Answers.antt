@@ -15,7 +15,7 @@ returns-then-has_cell-clause-laid c =
     let t = c.args.self.now in
     let u = c.term_column.new.self in
     λ name is.
-    taken_place t u u c.each_name_stands_once.ensures c.term_column.ensures.kept.numbered c.args.row c.in_ok-number.number name c.args.column.now c.args.value c.in_ok-number.ensures.ok
+    taken_place t u u c.each_name_occurs_once.ensures c.term_column.ensures.kept.numbered c.args.row c.in_ok-number.number name c.args.column.now c.args.value c.in_ok-number.ensures.ok
     (c.term_column.ensures.kept.rows c.args.row ∙ is) c.if-has_cell.ensures
 
 pub returns-clause-laid : goal.returns-clause-laid

@@ -4,7 +4,7 @@ use Rattle.mpslp_builder.specs.Declaration.{Declarations}
 use Rattle.mpslp_builder.specs.RowTerms.{term_declared}
 use Rattle.mpslp_builder.specs.TermTables.{IsLaidUnless}
 use Rattle.mpslp_builder.proofs.LineLemmas.{follows_then}
-use Rattle.mpslp_builder.proofs.TermLemmas.{both_parts, unless_then, unless_err, unless_told}
+use Rattle.mpslp_builder.proofs.TermLemmas.{both_parts, unless_then, unless_err, unless_reported}
 use Rattle.mpslp_builder.proofs.tables.Tables.lay_terms.Goals as goal
 
 pub returns-in_err-lay_rising-clause-laid : goal.returns-in_err-lay_rising-clause-laid
@@ -18,7 +18,7 @@ returns-in_err-lay_rising-clause-laid c =
     let more = flat_map each terms.others.entries in
     subst (λ (ds : Declarations). IsLaidUnless t ds c.from_residual.result u)
     (sym (both_parts each terms.rising.items terms.others.entries c.as_slice.result.now c.args.terms.now c.as_slice.ensures.value c.terms.view_is))
-    (unless_told t u (first ++ more) c.from_residual.result c.in_err-lay_rising.field-0.0 c.from_residual.ensures.1 (unless_err t u u first more c.in_err-lay_rising.field-0.0 (c.in_err-lay_rising.ensures.laid name is)))
+    (unless_reported t u (first ++ more) c.from_residual.result c.in_err-lay_rising.field-0.0 c.from_residual.ensures.1 (unless_err t u u first more c.in_err-lay_rising.field-0.0 (c.in_err-lay_rising.ensures.laid name is)))
 
 pub returns-clause-kept : goal.returns-clause-kept
 returns-clause-kept c = follows_then c.args.self.now c.lay_rising.new.self c.lay_others.new.self c.lay_rising.ensures.kept c.lay_others.ensures.kept

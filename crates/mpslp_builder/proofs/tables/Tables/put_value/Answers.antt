@@ -7,14 +7,14 @@ pub returns-clause-ok : goal.returns-clause-ok
 returns-clause-ok c =
     let t = c.args.self.now in
     on_ok c.put_cell.result
-    (λ h name of_row is row. cell_laid t c.put_cell.new.self c.requires.numbered c.each_name_stands_once.ensures c.args.column c.args.row of_row row c.args.value h c.requires.absent name is)
+    (λ h name of_row is row. cell_laid t c.put_cell.new.self c.requires.numbered c.each_name_occurs_once.ensures c.args.column c.args.row of_row row c.args.value h c.requires.absent name is)
     c.put_cell.ensures.ok
 
 pub returns-clause-kept : goal.returns-clause-kept
 returns-clause-kept c =
     let t = c.args.self.now in
     either_way c.put_cell.result
-    (λ h. cell_follows_there t c.put_cell.new.self c.requires.numbered c.each_name_stands_once.ensures c.args.column c.args.row c.requires.row c.args.value h c.requires.absent c.each_value_is_a_decimal.ensures)
+    (λ h. cell_follows_there t c.put_cell.new.self c.requires.numbered c.each_name_occurs_once.ensures c.args.column c.args.row c.requires.row c.args.value h c.requires.absent c.each_value_is_a_decimal.ensures)
     (λ same. follows_same t c.put_cell.new.self c.requires.numbered same) c.put_cell.ensures.ok c.put_cell.ensures.err
 
 pub returns-clause-rows : goal.returns-clause-rows
@@ -25,5 +25,5 @@ returns-clause-cells c =
     let t = c.args.self.now in
     λ other apart.
     either_way c.put_cell.result
-    (λ h. cell_others_there t c.put_cell.new.self c.requires.numbered c.each_name_stands_once.ensures c.args.column c.args.row c.requires.row c.args.value h c.requires.absent other apart)
+    (λ h. cell_others_there t c.put_cell.new.self c.requires.numbered c.each_name_occurs_once.ensures c.args.column c.args.row c.requires.row c.args.value h c.requires.absent other apart)
     (λ same. same_cells t c.put_cell.new.self c.args.column other same) c.put_cell.ensures.ok c.put_cell.ensures.err

@@ -1,13 +1,13 @@
 use Rattle.std.proofs.Common.{sym, ◌∙◌, true, false}
 use Rattle.std.specs.Prelude.{◌≡◌}
-use Rattle.mpslp_lines.proofs.PieceLemmas.{whole-behind, whole-ended, line-ends, refuses-text, longer-line}
+use Rattle.mpslp_lines.proofs.PieceLemmas.{whole-after, whole-ended, line-ends, refuses-text, longer-line}
 use Rattle.mpslp_lines.proofs.piece_reader.PieceReader.end_text.Goals as goal
 
 pub returns-then-is_at_end : goal.returns-then-is_at_end
 returns-then-is_at_end g c =
     let r = g.L.ReadLines in
     let laws = g.met.L.ReadLines in
-    whole-behind r.has_read r.at_end laws.behind_end c.args.self.now (sym c.is_at_end.ensures ∙ c.if-is_at_end.true)
+    whole-after r.has_read r.at_end laws.after_end c.args.self.now (sym c.is_at_end.ensures ∙ c.if-is_at_end.true)
 
 pub returns-in-Some : goal.returns-in-Some
 returns-in-Some g c =

@@ -1,13 +1,13 @@
 use Rattle.std.proofs.Common.{refl, sym, ◌∙◌, ◌++◌, [], ◌∷◌, append_assoc}
 use Rattle.std.specs.Prelude.{Ok}
-use Rattle.mpslp_lines.proofs.PieceLemmas.{refuses-more, refuses-behind, then-feeds, ends-feed, behind-fed}
+use Rattle.mpslp_lines.proofs.PieceLemmas.{refuses-more, refuses-after, then-feeds, ends-feed, after-fed}
 use Rattle.mpslp_lines.proofs.piece_reader.PieceReader.feed.Goals as goal
 
 pub returns-then-is_at_end : goal.returns-then-is_at_end
 returns-then-is_at_end g c =
     let r = g.L.ReadLines in
     let laws = g.met.L.ReadLines in
-    λ bytes fed. behind-fed r.has_read r.at_end laws.behind_end c.args.self.now c.args.piece.now bytes (sym c.is_at_end.ensures ∙ c.if-is_at_end.true) fed
+    λ bytes fed. after-fed r.has_read r.at_end laws.after_end c.args.self.now c.args.piece.now bytes (sym c.is_at_end.ensures ∙ c.if-is_at_end.true) fed
 
 pub returns-in_err-keep : goal.returns-in_err-keep
 returns-in_err-keep g c =
@@ -29,7 +29,7 @@ returns-in_err-end_line g c =
     let error = c.in_err-end_line.field-0.0 in
     ends-feed r.has_read r.at_end r.lines_fault old c.end_line.new.self c.args.piece.now error c.from_residual-in_err-end_line.result c.from_residual-in_err-end_line.ensures.1
     (refuses-more r.has_read r.at_end r.lines_fault laws.fault_stays old (front ++ 10 ∷ []) c.in-Some.rest.now c.args.piece.now error c.in-Some.ensures.1
-    (refuses-behind r.has_read r.at_end r.lines_fault old c.keep-2.new.self front (10 ∷ []) (front ++ 10 ∷ []) error refl c.in_ok-keep.ensures.answer c.in_err-end_line.ensures.answer))
+    (refuses-after r.has_read r.at_end r.lines_fault old c.keep-2.new.self front (10 ∷ []) (front ++ 10 ∷ []) error refl c.in_ok-keep.ensures.answer c.in_err-end_line.ensures.answer))
 
 pub returns-then-is_at_end-2 : goal.returns-then-is_at_end-2
 returns-then-is_at_end-2 g c =
@@ -41,7 +41,7 @@ returns-then-is_at_end-2 g c =
     let ended = c.end_line.new.self in
     then-feeds r.has_read r.at_end r.lines_fault old ended ended (front ++ 10 ∷ []) rest c.args.piece.now (Ok tt) c.in-Some.ensures.1
     (then-feeds r.has_read r.at_end r.lines_fault old c.keep-2.new.self ended front (10 ∷ []) (front ++ 10 ∷ []) (Ok tt) refl c.in_ok-keep.ensures.answer c.in_ok-end_line.ensures.answer)
-    (λ bytes fed. behind-fed r.has_read r.at_end laws.behind_end ended rest bytes (sym c.is_at_end-2.ensures ∙ c.if-is_at_end-2.true) fed)
+    (λ bytes fed. after-fed r.has_read r.at_end laws.after_end ended rest bytes (sym c.is_at_end-2.ensures ∙ c.if-is_at_end-2.true) fed)
 
 pub returns : goal.returns
 returns g c =

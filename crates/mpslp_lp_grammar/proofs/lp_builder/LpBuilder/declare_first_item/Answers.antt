@@ -4,7 +4,7 @@ use Rattle.mpslp_builder.specs.Refusal.{refusals_in_turn}
 use Rattle.mpslp_builder.proofs.MadeDrafts.{refusals_in_turn-append}
 use Rattle.mpslp_lp_grammar.specs.Items.{one}
 use Rattle.mpslp_lp_grammar.specs.Rows.{default_objective, objective_declared, term_declared, first_item_declared}
-use Rattle.mpslp_lp_grammar.proofs.DeclaresLemmas.{refused-here, told-by}
+use Rattle.mpslp_lp_grammar.proofs.DeclaresLemmas.{refused-here, reported-by}
 use Rattle.mpslp_lp_grammar.proofs.lp_builder.LpBuilder.declare_first_item.Goals as goal
 
 pub returns-in_err-declare_objective : goal.returns-in_err-declare_objective
@@ -17,6 +17,6 @@ returns-in_err-declare_objective c =
     let front = objective_declared c.args.sense c.in_ok-name.name in
     let split : refusals_in_turn earlier all ≡ refusals_in_turn earlier front ++ refusals_in_turn (with_declarations earlier front) term =
     ap (λ (name : List ℕ). refusals_in_turn earlier (objective_declared c.args.sense name ++ term)) (sym named) ∙ refusals_in_turn-append front term earlier in
-    told-by (refusals_in_turn earlier all) earlier later all c.from_residual-in_err-declare_objective.result c.in_err-declare_objective.field-0.0 c.from_residual-in_err-declare_objective.ensures.1
+    reported-by (refusals_in_turn earlier all) earlier later all c.from_residual-in_err-declare_objective.result c.in_err-declare_objective.field-0.0 c.from_residual-in_err-declare_objective.ensures.1
     (refused-here (refusals_in_turn earlier front) (refusals_in_turn (with_declarations earlier front) term) (refusals_in_turn earlier all) earlier later earlier later front all
     c.in_err-declare_objective.field-0.0 split c.in_err-declare_objective.ensures)

@@ -1,8 +1,8 @@
 use Rattle.std.proofs.Common.{◌≡◌, sym, ◌∙◌, true}
 use Rattle.std.specs.Cmp.Lexicographic.{pointwise}
 use Rattle.mpslp_model_core.specs.Same.{same_named_column}
-use Rattle.mpslp_model_core.specs.Columned.{columns_told}
-use Rattle.mpslp_model_core.specs.SameLaws.{tells-lists, tells-named-column}
+use Rattle.mpslp_model_core.specs.Columned.{column_entries}
+use Rattle.mpslp_model_core.specs.SameLaws.{decides-lists, decides-named-column}
 use Rattle.mpslp_model_core.proofs.SameModels.{parts-same, same-parts}
 use Rattle.mpslp_model_core.proofs.model.Model.same.Goals as goal
 
@@ -10,15 +10,15 @@ pub returns-then-same_rows : goal.returns-then-same_rows
 returns-then-same_rows c =
     let m = c.self.inside.parts in
     let n = c.other.inside.parts in
-    let tested : c.same_columns.result ≡ pointwise same_named_column (columns_told m.columns.items) (columns_told n.columns.items) =
-    c.same_columns.ensures ∙ (λ i. pointwise same_named_column (columns_told (c.deref-then-same_rows.ensures.value i)) (columns_told (c.deref-then-same_rows-2.ensures.value i))) in
-    let tells = tells-lists same_named_column tells-named-column (columns_told m.columns.items) (columns_told n.columns.items) in (
+    let tested : c.same_columns.result ≡ pointwise same_named_column (column_entries m.columns.items) (column_entries n.columns.items) =
+    c.same_columns.ensures ∙ (λ i. pointwise same_named_column (column_entries (c.deref-then-same_rows.ensures.value i)) (column_entries (c.deref-then-same_rows-2.ensures.value i))) in
+    let is_equality = decides-lists same_named_column decides-named-column (column_entries m.columns.items) (column_entries n.columns.items) in (
       (λ h. same-parts {m = m} {n = n} c.self.view_is c.other.view_is (record {
         objective = c.has_same_objective.ensures.0 c.if-has_same_objective.true;
         rows = sym c.deref.ensures.value ∙ c.same_rows.ensures.0 c.if-same_rows.true ∙ c.deref-then-has_same_objective.ensures.value;
-        columns = tells.0 (sym tested ∙ h);
+        columns = is_equality.0 (sym tested ∙ h);
       })),
-      (λ same. tested ∙ tells.1 (parts-same {m = m} {n = n} c.self.view_is c.self.invariant.parts c.other.view_is c.other.invariant.parts same).columns),
+      (λ same. tested ∙ is_equality.1 (parts-same {m = m} {n = n} c.self.view_is c.self.invariant.parts c.other.view_is c.other.invariant.parts same).columns),
     )
 
 pub returns-else-same_rows : goal.returns-else-same_rows

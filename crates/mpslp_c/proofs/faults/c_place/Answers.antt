@@ -1,5 +1,5 @@
 -- Each place, by its variant.
-use Rattle.mpslp_c.proofs.faults.told_place.Goals as goal
+use Rattle.mpslp_c.proofs.faults.c_place.Goals as goal
 
 pub returns-in-Objective : goal.returns-in-Objective
 returns-in-Objective c = rw c.in-Objective.is c.not_lp.ensures

@@ -18,7 +18,7 @@ use Rattle.mpslp_types.specs.declared.faults.FaultKind.TheVariants.{TooManyDigit
 use Rattle.mpslp_types.specs.declared.kinds.Limit.{Limit}
 use Rattle.mpslp_types.specs.declared.kinds.Limit.TheVariants.{MinusInf, Finite, PlusInf}
 use Rattle.mpslp_builder.proofs.SoundParts.{no_marker, bounded_so, bounded_finite}
-use Rattle.mpslp_c.specs.Arrays.{TellsNumber, TellsLimit, TellsName}
+use Rattle.mpslp_c.specs.Arrays.{RepresentsNumber, RepresentsLimit, RepresentsName}
 use Rattle.mpslp_c.specs.Stored.{given_number, decimal_given, number_given, finite_limit, limit_given, kind_of_name_fault, bytes_at, name_given}
 use Rattle.mpslp_c.specs.declared.numbers.MpslpNumber.{MpslpNumber}
 use Rattle.mpslp_c.specs.declared.arrays.MpslpName.{MpslpName}
@@ -57,21 +57,21 @@ decimal-own d ok =
     let small : has_small_exponent d ≡ true = first_so (has_small_exponent d) (is_normal d) (second_so (has_few_digits d) (has_small_exponent d && is_normal d) ok) in
     ap tested (normal-own d ok) ∙ (λ i. if not (few i) then Err TooManyDigits else (if not (small i) then Err ExponentRange else Ok d))
 
-decimal-told : (d : Number) (told : MpslpNumber) → IsDecimal d → TellsNumber d told → decimal_given (given_number told) ≡ Ok d
-decimal-told d told ok tells = (λ i. decimal_given (record { mantissa = sym tells.mantissa i; exponent = tells.exponent i })) ∙ decimal-own d ok
+decimal-stated : (d : Number) (in_c : MpslpNumber) → IsDecimal d → RepresentsNumber d in_c → decimal_given (given_number in_c) ≡ Ok d
+decimal-stated d in_c ok represents = (λ i. decimal_given (record { mantissa = sym represents.mantissa i; exponent = represents.exponent i })) ∙ decimal-own d ok
 
-pub number-told : (d : Number) (told : MpslpNumber) → IsDecimal d → TellsNumber d told → number_given told ≡ Ok d
-number-told d told ok tells =
-    (λ i. if int_eq (tells.infinity i) (pos 0) then decimal_given (given_number told) else Err BadNumber) ∙ decimal-told d told ok tells
+pub number-stated : (d : Number) (in_c : MpslpNumber) → IsDecimal d → RepresentsNumber d in_c → number_given in_c ≡ Ok d
+number-stated d in_c ok represents =
+    (λ i. if int_eq (represents.infinity i) (pos 0) then decimal_given (given_number in_c) else Err BadNumber) ∙ decimal-stated d in_c ok represents
 
 -- ---- limits and bounds
 
-pub limit-told : (limit : Limit) (told : MpslpNumber) → is_given limit ≡ true → TellsLimit limit told → limit_given told ≡ Ok limit
-limit-told MinusInf told given tells = ap limit_given tells
-limit-told PlusInf told given tells = ap limit_given tells
-limit-told (Finite d) told given tells =
-    (λ i. if int_lt (tells.infinity i) (pos 0) then Ok MinusInf else (if int_lt (pos 0) (tells.infinity i) then Ok PlusInf else finite_limit (decimal_given (given_number told))))
-    ∙ ap finite_limit (decimal-told d told (bounded_so d given) tells) ∙ ap (λ (limit : Limit). Ok limit) (bounded_finite d given)
+pub limit-stated : (limit : Limit) (in_c : MpslpNumber) → is_given limit ≡ true → RepresentsLimit limit in_c → limit_given in_c ≡ Ok limit
+limit-stated MinusInf in_c given represents = ap limit_given represents
+limit-stated PlusInf in_c given represents = ap limit_given represents
+limit-stated (Finite d) in_c given represents =
+    (λ i. if int_lt (represents.infinity i) (pos 0) then Ok MinusInf else (if int_lt (pos 0) (represents.infinity i) then Ok PlusInf else finite_limit (decimal_given (given_number in_c))))
+    ∙ ap finite_limit (decimal-stated d in_c (bounded_so d given) represents) ∙ ap (λ (limit : Limit). Ok limit) (bounded_finite d given)
 
 pub lower-given : (limit : Limit) → is_lower_side limit ≡ true → is_given limit ≡ true
 lower-given MinusInf h = refl
@@ -92,8 +92,8 @@ no-refusal name h =
     let seen : list_all is_visible name ≡ true = first_so (list_all is_visible name) (not (same_bytes name marker)) (second_so (has_name_length name) rest h) in
     rw (sized, seen, no_marker name h) refl
 
-pub name-told : (all name : List ℕ) (told : MpslpName) → is_mps_name name ≡ true → TellsName all name told → name_given all told ≡ Ok name
-name-told all name told legal tells =
-    let within : nat_le (told.at + told.len) (length all) ≡ true = le-leb (told.at + told.len) (length all) tells.within in
-    let none : name_refusal (bytes_at all told) ≡ None = ap name_refusal tells.bytes ∙ no-refusal name legal in
-    (λ i. if within i then option_map_or (λ fault. Err (kind_of_name_fault fault)) (none i) (Ok (tells.bytes i)) else Err NameLength)
+pub name-stated : (all name : List ℕ) (in_c : MpslpName) → is_mps_name name ≡ true → RepresentsName all name in_c → name_given all in_c ≡ Ok name
+name-stated all name in_c legal represents =
+    let within : nat_le (in_c.at + in_c.len) (length all) ≡ true = le-leb (in_c.at + in_c.len) (length all) represents.within in
+    let none : name_refusal (bytes_at all in_c) ≡ None = ap name_refusal represents.bytes ∙ no-refusal name legal in
+    (λ i. if within i then option_map_or (λ fault. Err (kind_of_name_fault fault)) (none i) (Ok (represents.bytes i)) else Err NameLength)

@@ -1,7 +1,7 @@
 use Rattle.std.proofs.Common.{◌≡◌, ◌++◌, ◌-◌, ◌∙◌, sym, ap, refl, length, []}
 use Rattle.std.specs.Prelude.{replicate, unwrap_or}
 use Rattle.std.proofs.lemmas.List.{drop-replicate}
-use Rattle.mpslp_c.proofs.faults.told_fault.Goals as goal
+use Rattle.mpslp_c.proofs.faults.c_fault.Goals as goal
 
 pub returns-in-Some : goal.returns-in-Some
 returns-in-Some c =

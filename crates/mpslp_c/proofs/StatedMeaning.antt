@@ -26,20 +26,20 @@ use Rattle.mpslp_builder.specs.Consistency.{Slot, sense_slot, objective_slot, co
 use Rattle.mpslp_builder.specs.Meaning.{Means}
 use Rattle.mpslp_builder.proofs.BoundsLemmas.{is_integer_kind, is_semi_kind}
 use Rattle.mpslp_builder.proofs.DistinctLemmas.{IsNew, Apart, distinct-flat_map, distinct-sorted}
-use Rattle.mpslp_builder.proofs.EntryLemmas.{then_told, sorted-kept}
+use Rattle.mpslp_builder.proofs.EntryLemmas.{then_stated, sorted-kept}
 use Rattle.mpslp_builder.proofs.FlatLemmas.{flat-same}
 use Rattle.mpslp_builder.proofs.LaterDrafts.{itself_named}
 use Rattle.mpslp_builder.proofs.NamedEntries.{one_of-names, at-mapped}
 use Rattle.mpslp_builder.proofs.SlotLemmas.{same_name}
 use Rattle.mpslp_builder.proofs.SoundParts.{row_sides, column_sides, lower_of, upper_of}
 use Rattle.mpslp_canonical_lp.proofs.RankedSlots.{new-from_others, Section, joined-once, AreOther, other-from_sorted, slots-append, slots-flat}
-use Rattle.mpslp_c.specs.Arrays.{TellsModel}
+use Rattle.mpslp_c.specs.Arrays.{RepresentsModel}
 use Rattle.mpslp_c.specs.Stored.{Defines}
 use Rattle.mpslp_c.specs.declared.arrays.MpslpModel.{MpslpModel}
 use Rattle.mpslp_c.proofs.StoredLemmas.{same_some}
-use Rattle.mpslp_c.proofs.ToldDeclarations.{objective_told, row_told, kind_told, cost_key, cell_told, column_told, told_declarations}
-use Rattle.mpslp_c.proofs.ToldDraft.{drafted, rows-drafted, columns-drafted, rhs_values-none, IsOwn, own-columns, integer-at, semi-at, objective-drafted, draft-means}
-use Rattle.mpslp_c.proofs.ToldItems.{items-told}
+use Rattle.mpslp_c.proofs.StatedDeclarations.{objective_stated, row_stated, kind_stated, cost_key, cell_stated, column_stated, stated_declarations}
+use Rattle.mpslp_c.proofs.StatedDraft.{drafted, rows-drafted, columns-drafted, rhs_values-none, IsOwn, own-columns, integer-at, semi-at, objective-drafted, draft-means}
+use Rattle.mpslp_c.proofs.StatedItems.{items-stated}
 
 -- ---- each slot is filled once
 
@@ -92,20 +92,20 @@ cell_slot cell = coefficient_slot cell.0
 abbrev column_slots : LinearModel → List ℕ × Column → List Slot
 column_slots m column = lower_slot column.0 ∷ upper_slot column.0 ∷ coefficient_slot (cost_key m column.0) ∷ map cell_slot (column_elements m column.0)
 
-rows-fill : (rows : List (List ℕ × Row)) → all_slots (map row_told rows) ≡ flat_map row_slots rows
+rows-fill : (rows : List (List ℕ × Row)) → all_slots (map row_stated rows) ≡ flat_map row_slots rows
 rows-fill [] = refl
 rows-fill (row ∷ rows) = ap (λ (slots : List Slot). row_slots row ++ slots) (rows-fill rows)
 
-cells-fill : (cells : List (CoefficientKey × Number)) → all_slots (map cell_told cells) ≡ map cell_slot cells
+cells-fill : (cells : List (CoefficientKey × Number)) → all_slots (map cell_stated cells) ≡ map cell_slot cells
 cells-fill [] = refl
 cells-fill (cell ∷ cells) = ap (λ (slots : List Slot). cell_slot cell ∷ slots) (cells-fill cells)
 
-column-fills : (m : LinearModel) (column : List ℕ × Column) → all_slots (column_told m column) ≡ column_slots m column
+column-fills : (m : LinearModel) (column : List ℕ × Column) → all_slots (column_stated m column) ≡ column_slots m column
 column-fills m column =
     ap (λ (slots : List Slot). lower_slot column.0 ∷ upper_slot column.0 ∷ coefficient_slot (cost_key m column.0) ∷ slots)
-    (no-slot column.0 column.1.kind (map cell_told (column_elements m column.0)) ∙ cells-fill (column_elements m column.0))
+    (no-slot column.0 column.1.kind (map cell_stated (column_elements m column.0)) ∙ cells-fill (column_elements m column.0))
   where
-    no-slot : (name : List ℕ) (kind : Kind) (more : Declarations) → all_slots (kind_told name kind ++ more) ≡ all_slots more
+    no-slot : (name : List ℕ) (kind : Kind) (more : Declarations) → all_slots (kind_stated name kind ++ more) ≡ all_slots more
     no-slot name Continuous more = refl
     no-slot name Integer more = refl
     no-slot name Semi more = refl
@@ -219,12 +219,12 @@ module _ (m : LinearModel) (sound : IsSound m) where
     ranked = (refl, (ap (λ (b : Bool). cond b 0 1) (itself_named m.objective), (refl, (refl, tt))));
   }
 
-  told-once : are_distinct same_slot (all_slots (told_declarations m)) ≡ true
-  told-once =
+  stated-once : are_distinct same_slot (all_slots (stated_declarations m)) ≡ true
+  stated-once =
       let front = objective_slot ∷ row_slot m.objective ∷ constant_slot ∷ sense_slot ∷ [] in
       ap (λ (slots : List Slot). are_distinct same_slot (front ++ slots))
-      (slots-append (map row_told rows) (flat_map (column_told m) columns)
-      ∙ (λ i. rows-fill rows i ++ (slots-flat (column_told m) columns ∙ flat-same (λ c. all_slots (column_told m c)) (column_slots m) (column-fills m) columns ∙ sym (append-nil (flat_map (column_slots m) columns))) i))
+      (slots-append (map row_stated rows) (flat_map (column_stated m) columns)
+      ∙ (λ i. rows-fill rows i ++ (slots-flat (column_stated m) columns ∙ flat-same (λ c. all_slots (column_stated m c)) (column_slots m) (column-fills m) columns ∙ sym (append-nil (flat_map (column_slots m) columns))) i))
       ∙ joined-once (rank m.objective) 0 (front ∷ flat_map row_slots rows ∷ flat_map (column_slots m) columns ∷ []) (objective-section, (rows-section, (columns-section, tt)))
 
   -- ---- each name that is used is declared, and nothing is declared that may not be
@@ -235,30 +235,30 @@ module _ (m : LinearModel) (sound : IsSound m) where
       ∙ ap (λ (b : Bool). same_bytes name m.objective || b)
       (ap is_some (at-mapped (λ (r : Row). by_limits r.lower r.upper) name rows) ∙ there (at_name rows name) ∙ sym (one_of-names name rows))
     where
-      there : (o : Option Row) → is_some (then_told (λ (r : Row). Some (by_limits r.lower r.upper)) o) ≡ is_some o
+      there : (o : Option Row) → is_some (then_stated (λ (r : Row). Some (by_limits r.lower r.upper)) o) ≡ is_some o
       there None = refl
       there (Some r) = refl
 
   has-own : (column : List ℕ × Column) → IsOwn m column → has_column (drafted m) column.0 ≡ true
   has-own column own =
       ap (λ (es : List (List ℕ × Unit {0})). has_name es column.0) (columns-drafted m)
-      ∙ ap is_some (at-mapped (λ (c : Column). tt) column.0 columns ∙ ap (then_told (λ (c : Column). Some tt)) own)
+      ∙ ap is_some (at-mapped (λ (c : Column). tt) column.0 columns ∙ ap (then_stated (λ (c : Column). Some tt)) own)
 
   -- a property of all that is declared
-  each-told : (P : Declaration → Type 0) → Each P (objective_told m) → Each (λ row. P (row_told row)) rows → ((c : List ℕ × Column) → IsOwn m c → is_sound_column c ≡ true → Each P (column_told m c))
-      → Each P (told_declarations m)
-  each-told P front row column =
-      Each-append P (objective_told m) (map row_told rows ++ flat_map (column_told m) columns) front
-      (Each-append P (map row_told rows) (flat_map (column_told m) columns) (Each-map P row_told rows row)
-      (Each-flat_map P (column_told m) columns
-      (Each-both (IsOwn m) (λ c. is_sound_column c ≡ true) (λ c. Each P (column_told m c)) column columns (own-columns m) (Each-from_list_all is_sound_column columns sound.columns))))
+  each-stated : (P : Declaration → Type 0) → Each P (objective_stated m) → Each (λ row. P (row_stated row)) rows → ((c : List ℕ × Column) → IsOwn m c → is_sound_column c ≡ true → Each P (column_stated m c))
+      → Each P (stated_declarations m)
+  each-stated P front row column =
+      Each-append P (objective_stated m) (map row_stated rows ++ flat_map (column_stated m) columns) front
+      (Each-append P (map row_stated rows) (flat_map (column_stated m) columns) (Each-map P row_stated rows row)
+      (Each-flat_map P (column_stated m) columns
+      (Each-both (IsOwn m) (λ c. is_sound_column c ≡ true) (λ c. Each P (column_stated m c)) column columns (own-columns m) (Each-from_list_all is_sound_column columns sound.columns))))
 
-  all-known : list_all (is_known (drafted m)) (told_declarations m) ≡ true
+  all-known : list_all (is_known (drafted m)) (stated_declarations m) ≡ true
   all-known =
-      list_all-from_Each (is_known (drafted m)) (told_declarations m)
-      (each-told (λ d. is_known (drafted m) d ≡ true) (refl, (refl, (refl, tt))) (Each-all (λ row. is_known (drafted m) (row_told row) ≡ true) (λ _. refl) rows) of-column)
+      list_all-from_Each (is_known (drafted m)) (stated_declarations m)
+      (each-stated (λ d. is_known (drafted m) d ≡ true) (refl, (refl, (refl, tt))) (Each-all (λ row. is_known (drafted m) (row_stated row) ≡ true) (λ _. refl) rows) of-column)
     where
-      of-column : (c : List ℕ × Column) → IsOwn m c → is_sound_column c ≡ true → Each (λ d. is_known (drafted m) d ≡ true) (column_told m c)
+      of-column : (c : List ℕ × Column) → IsOwn m c → is_sound_column c ≡ true → Each (λ d. is_known (drafted m) d ≡ true) (column_stated m c)
       of-column c own fine =
           let here = has-own c own in
           let objective : has_row (drafted m) m.objective ≡ true = has-row m.objective ∙ or_left (same_bytes m.objective m.objective) (is_one_of (maps.keys m.rows) m.objective) (itself_named m.objective) in (
@@ -269,19 +269,19 @@ module _ (m : LinearModel) (sound : IsSound m) where
                 here,
                 (
                   both_so (has_row (drafted m) m.objective) (has_column (drafted m) c.0) objective here,
-                  Each-append (λ d. is_known (drafted m) d ≡ true) (kind_told c.0 c.1.kind) (map cell_told (column_elements m c.0)) (kinds c.1.kind)
-                      (Each-map (λ d. is_known (drafted m) d ≡ true) cell_told (column_elements m c.0) (Each-weaker (IsOwnCell c.0) (λ e. is_known (drafted m) (cell_told e) ≡ true) of-cell (column_elements m c.0) (own-cells c.0))),
+                  Each-append (λ d. is_known (drafted m) d ≡ true) (kind_stated c.0 c.1.kind) (map cell_stated (column_elements m c.0)) (kinds c.1.kind)
+                      (Each-map (λ d. is_known (drafted m) d ≡ true) cell_stated (column_elements m c.0) (Each-weaker (IsOwnCell c.0) (λ e. is_known (drafted m) (cell_stated e) ≡ true) of-cell (column_elements m c.0) (own-cells c.0))),
                 ),
               ),
             ),
           )
         where
-          kinds : (kind : Kind) → Each (λ d. is_known (drafted m) d ≡ true) (kind_told c.0 kind)
+          kinds : (kind : Kind) → Each (λ d. is_known (drafted m) d ≡ true) (kind_stated c.0 kind)
           kinds Continuous = tt
           kinds Integer = (has-own c own, tt)
           kinds Semi = (has-own c own, tt)
 
-          of-cell : (e : CoefficientKey × Number) → IsOwnCell c.0 e → is_known (drafted m) (cell_told e) ≡ true
+          of-cell : (e : CoefficientKey × Number) → IsOwnCell c.0 e → is_known (drafted m) (cell_stated e) ≡ true
           of-cell e is =
               let names = is_one_of (maps.keys m.columns) e.0.column in
               let places = is_one_of (m.objective ∷ maps.keys m.rows) e.0.row in
@@ -299,19 +299,19 @@ module _ (m : LinearModel) (sound : IsSound m) where
   upper-allowed (Finite a) h = refl
   upper-allowed PlusInf h = refl
 
-  all-allowed : list_all (is_allowed (drafted m)) (told_declarations m) ≡ true
+  all-allowed : list_all (is_allowed (drafted m)) (stated_declarations m) ≡ true
   all-allowed =
-      list_all-from_Each (is_allowed (drafted m)) (told_declarations m)
-      (each-told (λ d. is_allowed (drafted m) d ≡ true) (refl, (refl, (refl, tt)))
-      (Each-weaker (λ row. is_sound_row row ≡ true) (λ row. is_allowed (drafted m) (row_told row) ≡ true) of-row rows (Each-from_list_all is_sound_row rows sound.rows)) of-column)
+      list_all-from_Each (is_allowed (drafted m)) (stated_declarations m)
+      (each-stated (λ d. is_allowed (drafted m) d ≡ true) (refl, (refl, (refl, tt)))
+      (Each-weaker (λ row. is_sound_row row ≡ true) (λ row. is_allowed (drafted m) (row_stated row) ≡ true) of-row rows (Each-from_list_all is_sound_row rows sound.rows)) of-column)
     where
-      of-row : (row : List ℕ × Row) → is_sound_row row ≡ true → is_allowed (drafted m) (row_told row) ≡ true
+      of-row : (row : List ℕ × Row) → is_sound_row row ≡ true → is_allowed (drafted m) (row_stated row) ≡ true
       of-row row fine =
           let sides = row_sides row fine in
           so_not (is_plus_infinite row.1.lower || is_minus_infinite row.1.upper)
           (both_false (is_plus_infinite row.1.lower) (is_minus_infinite row.1.upper) (lower-allowed row.1.lower (lower_of row.1.lower row.1.upper sides)) (upper-allowed row.1.upper (upper_of row.1.lower row.1.upper sides)))
 
-      of-column : (c : List ℕ × Column) → IsOwn m c → is_sound_column c ≡ true → Each (λ d. is_allowed (drafted m) d ≡ true) (column_told m c)
+      of-column : (c : List ℕ × Column) → IsOwn m c → is_sound_column c ≡ true → Each (λ d. is_allowed (drafted m) d ≡ true) (column_stated m c)
       of-column c own fine =
           let sides = column_sides c fine in (
             refl,
@@ -321,14 +321,14 @@ module _ (m : LinearModel) (sound : IsSound m) where
                 so_not (is_minus_infinite c.1.upper) (upper-allowed c.1.upper (upper_of c.1.lower c.1.upper sides)),
                 (
                   refl,
-                  Each-append (λ d. is_allowed (drafted m) d ≡ true) (kind_told c.0 c.1.kind) (map cell_told (column_elements m c.0)) (kinds c.1.kind refl)
-                      (Each-map (λ d. is_allowed (drafted m) d ≡ true) cell_told (column_elements m c.0) (Each-all (λ e. is_allowed (drafted m) (cell_told e) ≡ true) (λ _. refl) (column_elements m c.0))),
+                  Each-append (λ d. is_allowed (drafted m) d ≡ true) (kind_stated c.0 c.1.kind) (map cell_stated (column_elements m c.0)) (kinds c.1.kind refl)
+                      (Each-map (λ d. is_allowed (drafted m) d ≡ true) cell_stated (column_elements m c.0) (Each-all (λ e. is_allowed (drafted m) (cell_stated e) ≡ true) (λ _. refl) (column_elements m c.0))),
                 ),
               ),
             ),
           )
         where
-          kinds : (kind : Kind) → c.1.kind ≡ kind → Each (λ d. is_allowed (drafted m) d ≡ true) (kind_told c.0 kind)
+          kinds : (kind : Kind) → c.1.kind ≡ kind → Each (λ d. is_allowed (drafted m) d ≡ true) (kind_stated c.0 kind)
           kinds Continuous e = tt
           kinds Integer e = (so_not (is_semi (drafted m) c.0) (semi-at m c own ∙ ap is_semi_kind e), tt)
           kinds Semi e = (so_not (is_integer (drafted m) c.0) (integer-at m c own ∙ ap is_integer_kind e), tt)
@@ -342,11 +342,11 @@ module _ (m : LinearModel) (sound : IsSound m) where
       not-both true b h = so_not b h
       not-both false b h = refl
 
-  told-means : Means (told_declarations m) m
-  told-means = record {
+  stated-means : Means (stated_declarations m) m
+  stated-means = record {
     consistent = record {
       objective = refl;
-      once = told-once;
+      once = stated-once;
       one_constant = one-constant;
       known = all-known;
       allowed = all-allowed;
@@ -355,7 +355,7 @@ module _ (m : LinearModel) (sound : IsSound m) where
   }
 
 -- The arrays of a well-formed model define it.
-pub arrays-define : (m : LinearModel) (told : MpslpModel) → IsSound m → TellsModel m told → Defines told m
-arrays-define m told sound tells =
-    let given = items-told m told sound tells in
-    record { good = given.good; means = subst (λ (ds : Declarations). Means ds m) (sym given.declared) (told-means m sound) }
+pub arrays-define : (m : LinearModel) (arrays : MpslpModel) → IsSound m → RepresentsModel m arrays → Defines arrays m
+arrays-define m arrays sound represents =
+    let given = items-stated m arrays sound represents in
+    record { good = given.good; means = subst (λ (ds : Declarations). Means ds m) (sym given.declared) (stated-means m sound) }

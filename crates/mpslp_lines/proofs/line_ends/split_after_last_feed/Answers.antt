@@ -1,7 +1,7 @@
 use Rattle.std.proofs.Common.{◌+◌, ap, subst, sym, ◌∙◌}
 use Rattle.mpslp_model.specs.CompleteLines.{open_tail, HasNoFeed}
 use Rattle.mpslp_lines.proofs.LineEndLemmas.{cut-lines, cut-rest, uncut}
-use Rattle.mpslp_lines.proofs.line_ends.split_behind_last_feed.Goals as goal
+use Rattle.mpslp_lines.proofs.line_ends.split_after_last_feed.Goals as goal
 
 pub returns-in-Some-clause-lines : goal.returns-in-Some-clause-lines
 returns-in-Some-clause-lines c =

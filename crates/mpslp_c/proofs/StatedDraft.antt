@@ -30,7 +30,7 @@ use Rattle.mpslp_builder.specs.Meaning.{column_of, objective_name, constant_of, 
 use Rattle.mpslp_builder.proofs.BoundsLemmas.{is_integer_kind, is_semi_kind, column_of-is}
 use Rattle.mpslp_builder.proofs.CoefficientLemmas.{flat_map-flat_map, flat_map-none}
 use Rattle.mpslp_builder.proofs.DraftLemmas.{row_part, rhs_part, column_part, coefficient_part, lower_part, upper_part, marked_part, integer_part, binary_part, semi_part, rows-all, rhs_values-all, columns-all, coefficients-all, lowers-all, uppers-all, marked-all, integers-all, binaries-all, semis-all}
-use Rattle.mpslp_builder.proofs.EntryLemmas.{then_told, told, all_told, puts-own, puts-kept, find-told, found-each, sorted-told}
+use Rattle.mpslp_builder.proofs.EntryLemmas.{then_stated, stated, all_stated, puts-own, puts-kept, find-stated, found-each, sorted-stated}
 use Rattle.mpslp_builder.proofs.FlatLemmas.{flat-same}
 use Rattle.mpslp_builder.proofs.GivenBack.{model-back, columns-back, no-negative_upper, binary-within}
 use Rattle.mpslp_builder.proofs.KeptParts.{Stays, stays-all}
@@ -38,7 +38,7 @@ use Rattle.mpslp_builder.proofs.LaterDrafts.{value_in, itself_named}
 use Rattle.mpslp_builder.proofs.MeaningFromNoFault.{sorted-mapped}
 use Rattle.mpslp_builder.proofs.NamedEntries.{named, own-found}
 use Rattle.mpslp_builder.proofs.SlotLemmas.{same_name}
-use Rattle.mpslp_c.proofs.ToldDeclarations.{objective_told, row_told, kind_told, cost_key, cost_at, head_told, cell_told, column_told, told_declarations}
+use Rattle.mpslp_c.proofs.StatedDeclarations.{objective_stated, row_stated, kind_stated, cost_key, cost_at, head_stated, cell_stated, column_stated, stated_declarations}
 
 -- ---- what a kind of declaration puts into a map
 
@@ -47,38 +47,38 @@ module _ {Y : Type 0} (part : Declaration → List Y) where
   mapped f own h [] = refl
   mapped f own h (x ∷ xs) = λ i. h x i ++ mapped f own h xs i
 
-  kinds-none : ((x : List ℕ) → part (declare_integer x) ≡ []) → ((x : List ℕ) → part (declare_semi x) ≡ []) → (name : List ℕ) (kind : Kind) → flat_map part (kind_told name kind) ≡ []
+  kinds-none : ((x : List ℕ) → part (declare_integer x) ≡ []) → ((x : List ℕ) → part (declare_semi x) ≡ []) → (name : List ℕ) (kind : Kind) → flat_map part (kind_stated name kind) ≡ []
   kinds-none whole semi name Continuous = refl
   kinds-none whole semi name Integer = λ i. whole name i ++ []
   kinds-none whole semi name Semi = λ i. semi name i ++ []
 
   -- cells put nothing into it
   head-only : ((key : CoefficientKey) (value : Number) → part (declare_coefficient key value) ≡ []) → (m : LinearModel) (column : List ℕ × Column)
-      → flat_map part (column_told m column) ≡ flat_map part (head_told m column)
+      → flat_map part (column_stated m column) ≡ flat_map part (head_stated m column)
   head-only none m column =
       let cells = column_elements m column.0 in
-      flat_map-append part (head_told m column) (map cell_told cells)
-      ∙ ap (λ (ys : List Y). flat_map part (head_told m column) ++ ys) (mapped cell_told (λ _. []) (λ cell. none cell.0 cell.1) cells ∙ flat_map-none cells)
-      ∙ append-nil (flat_map part (head_told m column))
+      flat_map-append part (head_stated m column) (map cell_stated cells)
+      ∙ ap (λ (ys : List Y). flat_map part (head_stated m column) ++ ys) (mapped cell_stated (λ _. []) (λ cell. none cell.0 cell.1) cells ∙ flat_map-none cells)
+      ∙ append-nil (flat_map part (head_stated m column))
 
   -- by rows and columns
-  parts : (m : LinearModel) (row : List ℕ × Row → List Y) (column : List ℕ × Column → List Y) → flat_map part (objective_told m) ≡ [] → ((r : List ℕ × Row) → part (row_told r) ≡ row r)
-      → ((c : List ℕ × Column) → flat_map part (column_told m c) ≡ column c) → flat_map part (told_declarations m) ≡ flat_map row (maps.entries m.rows) ++ flat_map column (maps.entries m.columns)
+  parts : (m : LinearModel) (row : List ℕ × Row → List Y) (column : List ℕ × Column → List Y) → flat_map part (objective_stated m) ≡ [] → ((r : List ℕ × Row) → part (row_stated r) ≡ row r)
+      → ((c : List ℕ × Column) → flat_map part (column_stated m c) ≡ column c) → flat_map part (stated_declarations m) ≡ flat_map row (maps.entries m.rows) ++ flat_map column (maps.entries m.columns)
   parts m row column front of_row of_column =
       let rows = maps.entries m.rows in
       let columns = maps.entries m.columns in
-      flat_map-append part (objective_told m) (map row_told rows ++ flat_map (column_told m) columns)
-      ∙ (λ i. front i ++ flat_map part (map row_told rows ++ flat_map (column_told m) columns))
-      ∙ flat_map-append part (map row_told rows) (flat_map (column_told m) columns)
-      ∙ (λ i. mapped row_told row of_row rows i ++ (flat_map-flat_map part (column_told m) columns ∙ flat-same (λ c. flat_map part (column_told m c)) column of_column columns) i)
+      flat_map-append part (objective_stated m) (map row_stated rows ++ flat_map (column_stated m) columns)
+      ∙ (λ i. front i ++ flat_map part (map row_stated rows ++ flat_map (column_stated m) columns))
+      ∙ flat_map-append part (map row_stated rows) (flat_map (column_stated m) columns)
+      ∙ (λ i. mapped row_stated row of_row rows i ++ (flat_map-flat_map part (column_stated m) columns ∙ flat-same (λ c. flat_map part (column_stated m c)) column of_column columns) i)
 
-  column-parts : (m : LinearModel) (column : List ℕ × Column → List Y) → flat_map part (objective_told m) ≡ [] → ((r : List ℕ × Row) → part (row_told r) ≡ [])
-      → ((c : List ℕ × Column) → flat_map part (column_told m c) ≡ column c) → flat_map part (told_declarations m) ≡ flat_map column (maps.entries m.columns)
+  column-parts : (m : LinearModel) (column : List ℕ × Column → List Y) → flat_map part (objective_stated m) ≡ [] → ((r : List ℕ × Row) → part (row_stated r) ≡ [])
+      → ((c : List ℕ × Column) → flat_map part (column_stated m c) ≡ column c) → flat_map part (stated_declarations m) ≡ flat_map column (maps.entries m.columns)
   column-parts m column front of_row of_column =
       parts m (λ _. []) column front of_row of_column ∙ ap (λ (ys : List Y). ys ++ flat_map column (maps.entries m.columns)) (flat_map-none (maps.entries m.rows))
 
-  no-parts : (m : LinearModel) → flat_map part (objective_told m) ≡ [] → ((r : List ℕ × Row) → part (row_told r) ≡ []) → ((c : List ℕ × Column) → flat_map part (column_told m c) ≡ [])
-      → flat_map part (told_declarations m) ≡ []
+  no-parts : (m : LinearModel) → flat_map part (objective_stated m) ≡ [] → ((r : List ℕ × Row) → part (row_stated r) ≡ []) → ((c : List ℕ × Column) → flat_map part (column_stated m c) ≡ [])
+      → flat_map part (stated_declarations m) ≡ []
   no-parts m front of_row of_column = column-parts m (λ _. []) front of_row of_column ∙ flat_map-none (maps.entries m.columns)
 
 -- ---- the maps of the draft
@@ -87,7 +87,7 @@ abbrev own_form : List ℕ × Row → List ℕ × RowDefinition
 own_form row = (row.0, by_limits row.1.lower row.1.upper)
 
 abbrev pub drafted : LinearModel → Draft
-drafted m = draft_of (told_declarations m)
+drafted m = draft_of (stated_declarations m)
 
 abbrev integer_by : Column → Option (Unit {0})
 integer_by column = by column.kind
@@ -125,74 +125,74 @@ module _ (m : LinearModel) where
   cells_sorted = true_from (is_sorted key_cmp cells) (maps.entries_sorted m.coefficients)
 
   -- entries that columns make
-  by-columns : {V : Type 0} (f : Column → Option V) (es : List (List ℕ × V)) → es ≡ all_told f columns → puts bytes_cmp es [] ≡ all_told f columns
-  by-columns {V} f es is = ap (λ (xs : List (List ℕ × V)). puts bytes_cmp xs []) is ∙ puts-own bytes_cmp bytes_total tied_names (all_told f columns) (sorted-told bytes_cmp f columns columns_sorted)
+  by-columns : {V : Type 0} (f : Column → Option V) (es : List (List ℕ × V)) → es ≡ all_stated f columns → puts bytes_cmp es [] ≡ all_stated f columns
+  by-columns {V} f es is = ap (λ (xs : List (List ℕ × V)). puts bytes_cmp xs []) is ∙ puts-own bytes_cmp bytes_total tied_names (all_stated f columns) (sorted-stated bytes_cmp f columns columns_sorted)
 
   pub rows-drafted : (drafted m).rows ≡ map own_form rows
   rows-drafted =
-      rows-all (told_declarations m) empty_draft
+      rows-all (stated_declarations m) empty_draft
       ∙ ap (λ (es : List (List ℕ × RowDefinition)). puts bytes_cmp es [])
       (parts row_part m (λ row. own_form row ∷ []) (λ _. []) refl (λ _. refl) (λ c. head-only row_part (λ _ _. refl) m c ∙ kinds-none row_part (λ _. refl) (λ _. refl) c.0 c.1.kind)
       ∙ (λ i. flat_map_single own_form rows i ++ flat_map-none columns i) ∙ append-nil (map own_form rows))
       ∙ puts-own bytes_cmp bytes_total tied_names (map own_form rows) (sorted-mapped (λ row. by_limits row.1.lower row.1.upper) rows ∙ rows_sorted)
 
-  lowers-drafted : (drafted m).lowers ≡ all_told (λ column. Some column.lower) columns
+  lowers-drafted : (drafted m).lowers ≡ all_stated (λ column. Some column.lower) columns
   lowers-drafted =
-      lowers-all (told_declarations m) empty_draft
-      ∙ by-columns (λ column. Some column.lower) (flat_map lower_part (told_declarations m))
-      (column-parts lower_part m (λ column. told column.0 (Some column.1.lower)) refl (λ _. refl)
+      lowers-all (stated_declarations m) empty_draft
+      ∙ by-columns (λ column. Some column.lower) (flat_map lower_part (stated_declarations m))
+      (column-parts lower_part m (λ column. stated column.0 (Some column.1.lower)) refl (λ _. refl)
       (λ c. head-only lower_part (λ _ _. refl) m c ∙ ap (λ (es : List (List ℕ × Limit)). (c.0, c.1.lower) ∷ es) (kinds-none lower_part (λ _. refl) (λ _. refl) c.0 c.1.kind)))
 
-  uppers-drafted : (drafted m).uppers ≡ all_told (λ column. Some column.upper) columns
+  uppers-drafted : (drafted m).uppers ≡ all_stated (λ column. Some column.upper) columns
   uppers-drafted =
-      uppers-all (told_declarations m) empty_draft
-      ∙ by-columns (λ column. Some column.upper) (flat_map upper_part (told_declarations m))
-      (column-parts upper_part m (λ column. told column.0 (Some column.1.upper)) refl (λ _. refl)
+      uppers-all (stated_declarations m) empty_draft
+      ∙ by-columns (λ column. Some column.upper) (flat_map upper_part (stated_declarations m))
+      (column-parts upper_part m (λ column. stated column.0 (Some column.1.upper)) refl (λ _. refl)
       (λ c. head-only upper_part (λ _ _. refl) m c ∙ ap (λ (es : List (List ℕ × Limit)). (c.0, c.1.upper) ∷ es) (kinds-none upper_part (λ _. refl) (λ _. refl) c.0 c.1.kind)))
 
-  integers-drafted : (drafted m).integers ≡ all_told integer_by columns
+  integers-drafted : (drafted m).integers ≡ all_stated integer_by columns
   integers-drafted =
-      integers-all (told_declarations m) empty_draft
-      ∙ by-columns integer_by (flat_map integer_part (told_declarations m))
-      (column-parts integer_part m (λ column. told column.0 (integer_by column.1)) refl (λ _. refl) (λ c. head-only integer_part (λ _ _. refl) m c ∙ of_kind c.0 c.1.lower c.1.upper c.1.kind))
+      integers-all (stated_declarations m) empty_draft
+      ∙ by-columns integer_by (flat_map integer_part (stated_declarations m))
+      (column-parts integer_part m (λ column. stated column.0 (integer_by column.1)) refl (λ _. refl) (λ c. head-only integer_part (λ _ _. refl) m c ∙ of_kind c.0 c.1.lower c.1.upper c.1.kind))
     where
-      of_kind : (name : List ℕ) (l u : Limit) (kind : Kind) → flat_map integer_part (kind_told name kind) ≡ told name (integer_by (record { kind = kind; lower = l; upper = u }))
+      of_kind : (name : List ℕ) (l u : Limit) (kind : Kind) → flat_map integer_part (kind_stated name kind) ≡ stated name (integer_by (record { kind = kind; lower = l; upper = u }))
       of_kind name l u Continuous = refl
       of_kind name l u Integer = refl
       of_kind name l u Semi = refl
 
-  semis-drafted : (drafted m).semis ≡ all_told semi_by columns
+  semis-drafted : (drafted m).semis ≡ all_stated semi_by columns
   semis-drafted =
-      semis-all (told_declarations m) empty_draft
-      ∙ by-columns semi_by (flat_map semi_part (told_declarations m))
-      (column-parts semi_part m (λ column. told column.0 (semi_by column.1)) refl (λ _. refl) (λ c. head-only semi_part (λ _ _. refl) m c ∙ of_kind c.0 c.1.lower c.1.upper c.1.kind))
+      semis-all (stated_declarations m) empty_draft
+      ∙ by-columns semi_by (flat_map semi_part (stated_declarations m))
+      (column-parts semi_part m (λ column. stated column.0 (semi_by column.1)) refl (λ _. refl) (λ c. head-only semi_part (λ _ _. refl) m c ∙ of_kind c.0 c.1.lower c.1.upper c.1.kind))
     where
-      of_kind : (name : List ℕ) (l u : Limit) (kind : Kind) → flat_map semi_part (kind_told name kind) ≡ told name (semi_by (record { kind = kind; lower = l; upper = u }))
+      of_kind : (name : List ℕ) (l u : Limit) (kind : Kind) → flat_map semi_part (kind_stated name kind) ≡ stated name (semi_by (record { kind = kind; lower = l; upper = u }))
       of_kind name l u Continuous = refl
       of_kind name l u Integer = refl
       of_kind name l u Semi = refl
 
   pub columns-drafted : (drafted m).columns ≡ map named columns
   columns-drafted =
-      columns-all (told_declarations m) empty_draft
-      ∙ by-columns (λ _. Some tt) (flat_map column_part (told_declarations m))
-      (column-parts column_part m (λ column. told column.0 (Some tt)) refl (λ _. refl)
+      columns-all (stated_declarations m) empty_draft
+      ∙ by-columns (λ _. Some tt) (flat_map column_part (stated_declarations m))
+      (column-parts column_part m (λ column. stated column.0 (Some tt)) refl (λ _. refl)
       (λ c. head-only column_part (λ _ _. refl) m c ∙ ap (λ (es : List (List ℕ × Unit {0})). (c.0, tt) ∷ es) (kinds-none column_part (λ _. refl) (λ _. refl) c.0 c.1.kind)))
       ∙ flat_map_single named columns
 
   pub rhs_values-none : (drafted m).rhs_values ≡ []
   rhs_values-none =
-      rhs_values-all (told_declarations m) empty_draft
+      rhs_values-all (stated_declarations m) empty_draft
       ∙ ap (λ (es : List (List ℕ × Number)). puts bytes_cmp es []) (no-parts rhs_part m refl (λ _. refl) (λ c. head-only rhs_part (λ _ _. refl) m c ∙ kinds-none rhs_part (λ _. refl) (λ _. refl) c.0 c.1.kind))
 
   marked-none : (drafted m).marked ≡ []
   marked-none =
-      marked-all (told_declarations m) empty_draft
+      marked-all (stated_declarations m) empty_draft
       ∙ ap (λ (es : List (List ℕ × Unit {0})). puts bytes_cmp es []) (no-parts marked_part m refl (λ _. refl) (λ c. head-only marked_part (λ _ _. refl) m c ∙ kinds-none marked_part (λ _. refl) (λ _. refl) c.0 c.1.kind))
 
   pub binaries-none : (drafted m).binaries ≡ []
   binaries-none =
-      binaries-all (told_declarations m) empty_draft
+      binaries-all (stated_declarations m) empty_draft
       ∙ ap (λ (es : List (List ℕ × Unit {0})). puts bytes_cmp es []) (no-parts binary_part m refl (λ _. refl) (λ c. head-only binary_part (λ _ _. refl) m c ∙ kinds-none binary_part (λ _. refl) (λ _. refl) c.0 c.1.kind))
 
   -- ---- what is found of a column
@@ -203,9 +203,9 @@ module _ (m : LinearModel) where
   pub own-columns : Each IsOwn columns
   own-columns = own-found columns columns_sorted
 
-  found : {V : Type 0} (f : Column → Option V) (es : List (List ℕ × V)) → es ≡ all_told f columns → (column : List ℕ × Column) → IsOwn column → at_name es column.0 ≡ f column.1
+  found : {V : Type 0} (f : Column → Option V) (es : List (List ℕ × V)) → es ≡ all_stated f columns → (column : List ℕ × Column) → IsOwn column → at_name es column.0 ≡ f column.1
   found {V} f es is column own =
-      ap (λ (xs : List (List ℕ × V)). at_name xs column.0) is ∙ find-told bytes_cmp f bytes_total tied_names column.0 columns columns_sorted ∙ ap (then_told f) own
+      ap (λ (xs : List (List ℕ × V)). at_name xs column.0) is ∙ find-stated bytes_cmp f bytes_total tied_names column.0 columns columns_sorted ∙ ap (then_stated f) own
 
   integer-by : (kind : Kind) (l u : Limit) → is_some (integer_by (record { kind = kind; lower = l; upper = u })) ≡ is_integer_kind kind
   integer-by Continuous l u = refl
@@ -259,12 +259,12 @@ module _ (m : LinearModel) where
   abbrev own_cells : List ℕ × Column → List (CoefficientKey × Number)
   own_cells column = (cost_key m column.0, cost_at m column.0) ∷ column_elements m column.0
 
-  cells-part : flat_map coefficient_part (told_declarations m) ≡ flat_map own_cells columns
+  cells-part : flat_map coefficient_part (stated_declarations m) ≡ flat_map own_cells columns
   cells-part = column-parts coefficient_part m own_cells refl (λ _. refl) (λ c.
-      flat_map-append coefficient_part (head_told m c) (map cell_told (column_elements m c.0))
+      flat_map-append coefficient_part (head_stated m c) (map cell_stated (column_elements m c.0))
       ∙ (λ i. (cost_key m c.0, cost_at m c.0) ∷ (kinds-none coefficient_part (λ _. refl) (λ _. refl) c.0 c.1.kind i ++ own (column_elements m c.0) i)))
     where
-      own : (es : List (CoefficientKey × Number)) → flat_map coefficient_part (map cell_told es) ≡ es
+      own : (es : List (CoefficientKey × Number)) → flat_map coefficient_part (map cell_stated es) ≡ es
       own [] = refl
       own (e ∷ es) = ap (λ (more : List (CoefficientKey × Number)). e ∷ more) (own es)
 
@@ -365,7 +365,7 @@ module _ (m : LinearModel) where
     coefficients-kept : filter (λ entry. not (is_zero entry.1)) (drafted m).coefficients ≡ cells
     coefficients-kept =
         ap (filter (λ (entry : CoefficientKey × Number). not (is_zero entry.1)))
-        (coefficients-all (told_declarations m) empty_draft ∙ ap (λ (es : List (CoefficientKey × Number)). puts key_cmp es []) cells-part)
+        (coefficients-all (stated_declarations m) empty_draft ∙ ap (λ (es : List (CoefficientKey × Number)). puts key_cmp es []) cells-part)
         ∙ puts-kept key_cmp key_total same_key is_kept cells (flat_map own_cells columns) cells_sorted all-true
         (λ key some. let there = value_in (find key_cmp key cells) some in found-each key_cmp key_total same_key (λ k v. IsAmong k (flat_map own_cells columns)) cells each-among key there.0 there.1)
 
@@ -374,11 +374,11 @@ module _ (m : LinearModel) where
   -- a property of what is declared of rows and columns
   each-later : (P : Declaration → Type 0) → ((x : List ℕ) (form : RowDefinition) → P (declare_row x form)) → ((x : List ℕ) → P (declare_column x)) → ((x : List ℕ) (l : Limit) → P (declare_lower x l))
       → ((x : List ℕ) (l : Limit) → P (declare_upper x l)) → ((key : CoefficientKey) (v : Number) → P (declare_coefficient key v)) → ((x : List ℕ) → P (declare_integer x)) → ((x : List ℕ) → P (declare_semi x))
-      → Each P (map row_told rows ++ flat_map (column_told m) columns)
+      → Each P (map row_stated rows ++ flat_map (column_stated m) columns)
   each-later P row column lower upper cell whole semi =
-      Each-append P (map row_told rows) (flat_map (column_told m) columns)
-      (Each-map P row_told rows (Each-all (λ r. P (row_told r)) (λ r. row r.0 (by_limits r.1.lower r.1.upper)) rows))
-      (Each-flat_map P (column_told m) columns (Each-all (λ c. Each P (column_told m c)) (λ c. (
+      Each-append P (map row_stated rows) (flat_map (column_stated m) columns)
+      (Each-map P row_stated rows (Each-all (λ r. P (row_stated r)) (λ r. row r.0 (by_limits r.1.lower r.1.upper)) rows))
+      (Each-flat_map P (column_stated m) columns (Each-all (λ c. Each P (column_stated m c)) (λ c. (
         column c.0,
         (
           lower c.0 c.1.lower,
@@ -386,23 +386,23 @@ module _ (m : LinearModel) where
             upper c.0 c.1.upper,
             (
               cell (cost_key m c.0) (cost_at m c.0),
-              Each-append P (kind_told c.0 c.1.kind) (map cell_told (column_elements m c.0)) (kinds c.0 c.1.kind)
-                  (Each-map P cell_told (column_elements m c.0) (Each-all (λ e. P (cell_told e)) (λ e. cell e.0 e.1) (column_elements m c.0))),
+              Each-append P (kind_stated c.0 c.1.kind) (map cell_stated (column_elements m c.0)) (kinds c.0 c.1.kind)
+                  (Each-map P cell_stated (column_elements m c.0) (Each-all (λ e. P (cell_stated e)) (λ e. cell e.0 e.1) (column_elements m c.0))),
             ),
           ),
         ),
       )) columns))
     where
-      kinds : (name : List ℕ) (kind : Kind) → Each P (kind_told name kind)
+      kinds : (name : List ℕ) (kind : Kind) → Each P (kind_stated name kind)
       kinds name Continuous = tt
       kinds name Integer = (whole name, tt)
       kinds name Semi = (semi name, tt)
 
   stays : {X : Type 0} (part : Draft → X) (value : X) → ((x : List ℕ) (form : RowDefinition) → Stays part value (declare_row x form)) → ((x : List ℕ) → Stays part value (declare_column x))
       → ((x : List ℕ) (l : Limit) → Stays part value (declare_lower x l)) → ((x : List ℕ) (l : Limit) → Stays part value (declare_upper x l)) → ((key : CoefficientKey) (v : Number) → Stays part value (declare_coefficient key v))
-      → ((x : List ℕ) → Stays part value (declare_integer x)) → ((x : List ℕ) → Stays part value (declare_semi x)) → part (draft_of (objective_told m)) ≡ value → part (drafted m) ≡ value
+      → ((x : List ℕ) → Stays part value (declare_integer x)) → ((x : List ℕ) → Stays part value (declare_semi x)) → part (draft_of (objective_stated m)) ≡ value → part (drafted m) ≡ value
   stays part value row column lower upper cell whole semi is =
-      stays-all part value (map row_told rows ++ flat_map (column_told m) columns) (each-later (Stays part value) row column lower upper cell whole semi) (draft_of (objective_told m)) is
+      stays-all part value (map row_stated rows ++ flat_map (column_stated m) columns) (each-later (Stays part value) row column lower upper cell whole semi) (draft_of (objective_stated m)) is
 
   pub sense-drafted : (drafted m).sense ≡ Some m.sense
   sense-drafted =

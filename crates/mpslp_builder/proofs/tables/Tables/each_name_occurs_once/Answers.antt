@@ -1,6 +1,6 @@
 use Rattle.mpslp_builder.specs.Tables.{definition_of, cells_of}
 use Rattle.mpslp_builder.proofs.NameLemmas.{once-from_distinct}
-use Rattle.mpslp_builder.proofs.tables.Tables.each_name_stands_once.Goals as goal
+use Rattle.mpslp_builder.proofs.tables.Tables.each_name_occurs_once.Goals as goal
 
 pub returns : goal.returns
 returns c = record {
