@@ -163,10 +163,10 @@ def refusal_of(name, whole):
 
 def take_calls(tally, place, run, whole):
     """Takes the output of `try_library refused`. `whole` has the results if no allocation fails, or None for a model that is shown."""
-    (status, output, told), counts = run
+    (status, output, errors), counts = run
     calls = calls_of(output)
-    if (status, told, calls.keys(), sum(map(len, calls.values()))) != (0, b"", whole.keys(), len(counts)):
-        tally.wrong.append(f"{place}: status {status}, {len(counts)} counts, {told}, {list(calls)}")
+    if (status, errors, calls.keys(), sum(map(len, calls.values()))) != (0, b"", whole.keys(), len(counts)):
+        tally.wrong.append(f"{place}: status {status}, {len(counts)} counts, {errors}, {list(calls)}")
         return
     counts = iter(counts)
     for name, answers in calls.items():
@@ -175,7 +175,7 @@ def take_calls(tally, place, run, whole):
 
 
 def answers_of_fault(text, fault):
-    named = ("read", "feed", "canonical mps", "canonical lp", "same_model", "same_model behind", "is_canonical",
+    named = ("read", "feed", "canonical mps", "canonical lp", "same_model", "same_model as second", "is_canonical",
              "run mps", "run lp", "show")
     performed = ("perform canon mps", "perform canon lp", "perform show")
     return {
@@ -183,7 +183,7 @@ def answers_of_fault(text, fault):
         **dict.fromkeys(performed, ended(2, err=fault)),
         "load": text,
         "perform same": ended(2, err=b"first: " + fault),
-        "perform same behind": ended(2, err=b"second: " + fault),
+        "perform same as second": ended(2, err=b"second: " + fault),
     }
 
 
@@ -196,8 +196,8 @@ def answers_of_model(entry, text, is_same):
     return {
         **dict.fromkeys(("read", "feed", "canonical mps", "run mps"), mps),
         **dict.fromkeys(("canonical lp", "run lp"), lp),
-        **dict.fromkeys(("same_model", "same_model behind"), b"true\n" if is_same else b"false\n"),
-        **dict.fromkeys(("perform same", "perform same behind"), compared),
+        **dict.fromkeys(("same_model", "same_model as second"), b"true\n" if is_same else b"false\n"),
+        **dict.fromkeys(("perform same", "perform same as second"), compared),
         "is_canonical": b"true\n" if is_own else b"false\n",
         "load": text,
         "show": shown,

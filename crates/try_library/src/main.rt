@@ -17,11 +17,13 @@
 //! The four are one program because each program is proved over the libraries that it uses, and most of these are the same.
 #![tactic(auto)]
 
+mod inputs;
 mod numbers;
 mod read;
 mod refused;
 mod vectors;
 
+use inputs::{form_named, word_at};
 use numbers::measure_numbers;
 use read::measure_reading;
 use refused::make_calls;
@@ -78,10 +80,7 @@ fn perform<R: Files + Input + Print + Eprint + Clock + AllocGlobal>(
     match command {
         Command::Vectors => return try_all(rt, alloc),
         Command::Refused => make_calls(rt, alloc, further)?,
-        Command::Read => {
-            let is_lp = further.first().is_some_and(|word| word.as_str() == "lp");
-            measure_reading(rt, alloc, is_lp)?
-        }
+        Command::Read => measure_reading(rt, alloc, form_named(word_at(further, 0)))?,
         Command::Numbers => measure_numbers(rt, alloc)?,
     }
     Ok(true)

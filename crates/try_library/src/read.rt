@@ -3,9 +3,9 @@
 //! The text comes from standard input. The counts of its model, or its error, are printed on standard output, and the time of the
 //! reader, without that of the input, on standard error.
 
-use mpslp_lp::read_lp;
+use crate::inputs::model_in;
+use mpslp_convert::Form;
 use mpslp_model::{Fault, Model, ReadFault};
-use mpslp_mps::read_mps;
 use std::alloc::Global;
 use std::io;
 use std::io::Read;
@@ -45,38 +45,29 @@ fn put_result(rt: &impl Print, alloc: Global, read: Result<Model, ReadFault>) ->
     }
 }
 
-/// The model of a text, MPS or LP.
-fn read(alloc: Global, text: &[u8], is_lp: bool) -> Result<Model, ReadFault> {
-    if is_lp {
-        read_lp(alloc, text)
-    } else {
-        read_mps(alloc, text)
-    }
-}
-
 /// Reads a text, prints what it came to, and returns the microseconds of the reader.
 fn timed_reading<R: Print + Clock>(
     rt: &R,
     alloc: Global,
+    form: Form,
     text: &[u8],
-    is_lp: bool,
 ) -> io::Result<u128> {
     let start = Instant::now(rt)?;
-    let model = read(alloc, text, is_lp);
+    let model = model_in(alloc, form, text);
     let elapsed = start.elapsed(rt);
     put_result(rt, alloc, model)?;
     Ok(elapsed?.as_micros())
 }
 
-/// Reads the text of standard input, MPS or LP, and prints what it came to and the time.
+/// Reads the text of standard input, and prints what it came to and the time.
 pub(crate) fn measure_reading<R: Input + Print + Eprint + Clock + AllocGlobal>(
     rt: &R,
     alloc: Global,
-    is_lp: bool,
+    form: Form,
 ) -> io::Result<()> {
     let mut text = Vec::new(alloc);
     rt.reader().read_to_end(&mut text)?;
-    let micros = timed_reading(rt, alloc, text.as_slice(), is_lp)?.max(1);
+    let micros = timed_reading(rt, alloc, form, text.as_slice())?.max(1);
     let tenths = (text.len() as u128).saturating_mul(10) / micros;
     eprintln!(rt;
         "read {} bytes, {micros} microseconds, {}.{} MB/s",

@@ -15,13 +15,13 @@ mod refusing;
 mod texts;
 mod words;
 
+use crate::inputs::{content, form_named, word_at};
 use answers::Answer;
 use building::{EACH_CALL, EACH_KIND, built, calls_of_many_rows};
-use mpslp_convert::Form;
 use std::alloc::{AllocError, Global};
-use std::io::{Read, Write};
+use std::io;
+use std::io::Write;
 use std::rt::Files;
-use std::{fs, io};
 use texts::{TEXT_CALLS, Text, TextCall, answer_to};
 use words::{COMMAND_LINES, job_of, name, word};
 
@@ -52,7 +52,7 @@ impl Call<'_> {
 }
 
 /// Prints the results of a call with each allocation failing in turn, up to the first result that is not out of memory.
-fn tell_each<R: Print>(rt: &R, alloc: Global, name: &str, call: &Call<'_>) -> io::Result<()> {
+fn print_each<R: Print>(rt: &R, alloc: Global, name: &str, call: &Call<'_>) -> io::Result<()> {
     println!(rt; "call {name}")?;
     for growth in 1..=MOST {
         let answer = call.answer(alloc, growth)?;
@@ -65,19 +65,19 @@ fn tell_each<R: Print>(rt: &R, alloc: Global, name: &str, call: &Call<'_>) -> io
     Ok(())
 }
 
-fn tell_without_files<R: Print>(rt: &R, alloc: Global) -> io::Result<()> {
-    tell_each(rt, alloc, "Name::new", &Call::Name)?;
-    tell_each(rt, alloc, "Word::new", &Call::Word)?;
+fn print_without_files<R: Print>(rt: &R, alloc: Global) -> io::Result<()> {
+    print_each(rt, alloc, "Name::new", &Call::Name)?;
+    print_each(rt, alloc, "Word::new", &Call::Word)?;
     for line in COMMAND_LINES {
-        tell_each(rt, alloc, line, &Call::Job(line))?;
+        print_each(rt, alloc, line, &Call::Job(line))?;
     }
-    tell_each(rt, alloc, "builder: each call", &Call::Build(EACH_CALL))?;
-    tell_each(rt, alloc, "builder: each kind", &Call::Build(EACH_KIND))?;
+    print_each(rt, alloc, "builder: each call", &Call::Build(EACH_CALL))?;
+    print_each(rt, alloc, "builder: each kind", &Call::Build(EACH_KIND))?;
     let calls = calls_of_many_rows(alloc)?;
-    tell_each(rt, alloc, "builder: many rows", &Call::Build(&calls))
+    print_each(rt, alloc, "builder: many rows", &Call::Build(&calls))
 }
 
-fn tell_with_files<R: Files + Print>(rt: &R, alloc: Global, words: &[String]) -> io::Result<()> {
+fn print_with_files<R: Files + Print>(rt: &R, alloc: Global, words: &[String]) -> io::Result<()> {
     let first = content(rt, alloc, word_at(words, 1))?;
     let second = content(rt, alloc, word_at(words, 3))?;
     let first = Text {
@@ -89,24 +89,9 @@ fn tell_with_files<R: Files + Print>(rt: &R, alloc: Global, words: &[String]) ->
         bytes: &second,
     };
     for (name, call) in TEXT_CALLS {
-        tell_each(rt, alloc, name, &Call::OnTexts(call, &first, &second))?;
+        print_each(rt, alloc, name, &Call::OnTexts(call, &first, &second))?;
     }
     Ok(())
-}
-
-fn word_at(words: &[String], i: usize) -> &str {
-    words.get(i).map_or("", |word| word.as_str())
-}
-
-fn form_named(word: &str) -> Form {
-    if word == "lp" { Form::Lp } else { Form::Mps }
-}
-
-/// The bytes of a file.
-fn content<R: Files>(rt: &R, alloc: Global, path: &str) -> io::Result<Vec<u8>> {
-    let mut text = Vec::new(alloc);
-    fs::open(rt, path)?.read_to_end(&mut text)?;
-    Ok(text)
 }
 
 /// Makes the calls of these words of the command line, and prints their results.
@@ -116,8 +101,8 @@ pub(crate) fn make_calls<R: Files + Print>(
     words: &[String],
 ) -> io::Result<()> {
     if words.is_empty() {
-        tell_without_files(rt, alloc)
+        print_without_files(rt, alloc)
     } else {
-        tell_with_files(rt, alloc, words)
+        print_with_files(rt, alloc, words)
     }
 }

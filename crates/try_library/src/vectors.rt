@@ -9,6 +9,7 @@ mod failing;
 mod numbers;
 mod tables;
 
+use crate::inputs::content;
 use checks::{
     compares, is_converted, is_converted_in_large_pieces, is_judged, is_read_in_two_pieces,
     is_shown, is_too_long_by_one, keeps_its_texts,
@@ -17,13 +18,12 @@ use failing::{
     is_written_after_each_byte, shows_after_each_byte, stops_after_each_byte, stops_in_each_read,
 };
 use mpslp_convert::Form;
-use numbers::{is_read, is_sum};
+use numbers::NumberTable;
 use std::alloc::{AllocError, Global};
 use std::io;
 use std::rt::Files;
 use tables::{
-    Entry, Expected, content, entries, entry_named, entry_of_text, field, fields, form_of, number,
-    table,
+    Entry, Expected, entries, entry_named, entry_of_text, field, fields, form_of, number, table,
 };
 
 /// The number of checks, and of unexpected results.
@@ -323,7 +323,7 @@ fn try_bytes<R: Files + Print + Eprint>(rt: &R, alloc: Global) -> io::Result<boo
 }
 
 /// The input of a line of `long-lines.tsv`: a comment, followed by the text.
-fn behind_comment(alloc: Global, fields: &[&str], text: &[u8]) -> io::Result<Vec<u8>> {
+fn after_comment(alloc: Global, fields: &[&str], text: &[u8]) -> io::Result<Vec<u8>> {
     let mut bytes = field(fields, 0)?.as_bytes().to_vec(alloc)?;
     let further = field(fields, 1)?.as_bytes();
     for _ in 1..number(fields, 2)? {
@@ -349,7 +349,7 @@ fn try_long_line<R: Eprint>(
 ) -> io::Result<()> {
     let fields = fields(alloc, line)?;
     let entry = entry_named(entries, field(&fields, 4)?)?;
-    let text = behind_comment(alloc, &fields, &entry.text)?;
+    let text = after_comment(alloc, &fields, &entry.text)?;
     let answer = field(&fields, 5)?;
     let refused = Expected::fault(alloc, answer)?;
     let expected = if answer == "model" {
@@ -377,20 +377,16 @@ fn try_long_lines<R: Files + Print + Eprint>(
     tally.end(rt, "long lines")
 }
 
-/// Checks each line of `literals.tsv`.
-fn try_literals<R: Files + Eprint>(rt: &R, alloc: Global, tally: &mut Tally) -> io::Result<()> {
-    for line in table(rt, alloc, "literals.tsv")?.as_str().lines().skip(1) {
-        let is_right = is_read(&fields(alloc, line)?)?;
-        tally.note(rt, is_right, line, "literal")?;
-    }
-    Ok(())
-}
-
-/// Checks each line of `sums.tsv`.
-fn try_sums<R: Files + Eprint>(rt: &R, alloc: Global, tally: &mut Tally) -> io::Result<()> {
-    for line in table(rt, alloc, "sums.tsv")?.as_str().lines().skip(1) {
-        let is_right = is_sum(&fields(alloc, line)?)?;
-        tally.note(rt, is_right, line, "sum")?;
+/// Checks each line of a table of numbers.
+fn try_number_table<R: Files + Eprint>(
+    rt: &R,
+    alloc: Global,
+    tally: &mut Tally,
+    numbers: NumberTable,
+) -> io::Result<()> {
+    for line in table(rt, alloc, numbers.path())?.as_str().lines().skip(1) {
+        let is_right = numbers.is_right(&fields(alloc, line)?)?;
+        tally.note(rt, is_right, line, numbers.path())?;
     }
     Ok(())
 }
@@ -398,8 +394,8 @@ fn try_sums<R: Files + Eprint>(rt: &R, alloc: Global, tally: &mut Tally) -> io::
 /// Checks each line of the tables of numbers.
 fn try_numbers<R: Files + Print + Eprint>(rt: &R, alloc: Global) -> io::Result<bool> {
     let mut tally = Tally::new();
-    try_literals(rt, alloc, &mut tally)?;
-    try_sums(rt, alloc, &mut tally)?;
+    try_number_table(rt, alloc, &mut tally, NumberTable::Literals)?;
+    try_number_table(rt, alloc, &mut tally, NumberTable::Sums)?;
     tally.end(rt, "numbers")
 }
 

@@ -1,5 +1,6 @@
 //! The result of a call, as text.
 
+use crate::inputs::fault_of_run;
 use mpslp_convert::{ConvertFault, RunFault, report};
 use mpslp_io::Sink;
 use mpslp_model::{Model, ReadFault, ToWrite};
@@ -25,16 +26,6 @@ pub(crate) fn roomy(alloc: Global) -> Result<FailingWriter, AllocError> {
 /// Puts a text into a sink with enough room.
 pub(crate) fn put(sink: &mut FailingWriter, text: &str) {
     let _ = sink.write(text.as_bytes());
-}
-
-/// The same error, of a run with one input.
-fn fault_of_run(fault: ConvertFault) -> RunFault {
-    match fault {
-        ConvertFault::First(fault) => RunFault::File(fault),
-        ConvertFault::Second(fault) => RunFault::File(fault),
-        ConvertFault::NotLp(place) => RunFault::NotLp(place),
-        ConvertFault::OutOfMemory => RunFault::OutOfMemory,
-    }
 }
 
 impl Answer {

@@ -89,12 +89,12 @@ pub(crate) fn calls_of_many_rows(alloc: Global) -> Result<String, AllocError> {
 }
 
 /// Appends a call with the number of a row, which has three digits.
-fn push_call(calls: &mut String, front: &str, number: u16, behind: &str) -> Result<(), AllocError> {
+fn push_call(calls: &mut String, front: &str, number: u16, end: &str) -> Result<(), AllocError> {
     calls.push_str(front)?;
     for digits in [number / 100, number / 10, number] {
         calls.push(char::from(b'0' + (digits % 10) as u8))?;
     }
-    calls.push_str(behind)
+    calls.push_str(end)
 }
 
 /// A legal name.
@@ -181,11 +181,11 @@ fn text_of(answer: &Result<(), BuildFault>) -> &'static str {
     }
 }
 
-fn tell(told: &mut FailingWriter, call: &str, answer: &Result<(), BuildFault>) {
-    put(told, call);
-    put(told, ": ");
-    put(told, text_of(answer));
-    put(told, "\n");
+fn put_answer(out: &mut FailingWriter, call: &str, answer: &Result<(), BuildFault>) {
+    put(out, call);
+    put(out, ": ");
+    put(out, text_of(answer));
+    put(out, "\n");
 }
 
 /// Makes a call and, if there was no memory for it, makes it once more with memory. Returns whether there was none.
@@ -193,16 +193,16 @@ fn is_made_again(
     builder: &mut Builder,
     alloc: Global,
     call: &str,
-    told: &mut FailingWriter,
+    out: &mut FailingWriter,
 ) -> bool {
     let answer = made(builder, alloc, call);
-    tell(told, call, &answer);
+    put_answer(out, call, &answer);
     if !matches!(answer, Err(BuildFault::OutOfMemory)) {
         return false;
     }
     refuse_none(alloc);
     let answer = made(builder, alloc, call);
-    tell(told, call, &answer);
+    put_answer(out, call, &answer);
     true
 }
 
@@ -216,22 +216,22 @@ fn finished(builder: Builder) -> Result<Model, ReadFault> {
 }
 
 /// Puts the canonical text of a model, or its error. Returns whether there was no memory for it.
-fn tell_finished(told: &mut FailingWriter, answer: Result<Model, ReadFault>) -> bool {
+fn put_finished(out: &mut FailingWriter, answer: Result<Model, ReadFault>) -> bool {
     match answer {
         Ok(model) => {
-            let _ = write_mps(&model, told);
+            let _ = write_mps(&model, out);
             false
         }
         Err(ReadFault::File(fault)) => {
-            let _ = report(&RunFault::File(fault), told);
+            let _ = report(&RunFault::File(fault), out);
             false
         }
         Err(ReadFault::Failed) => {
-            put(told, "no objective\n");
+            put(out, "no objective\n");
             false
         }
         Err(ReadFault::OutOfMemory) => {
-            put(told, "finish: out of memory\n");
+            put(out, "finish: out of memory\n");
             true
         }
     }
@@ -239,19 +239,19 @@ fn tell_finished(told: &mut FailingWriter, answer: Result<Model, ReadFault>) -> 
 
 /// The results of a builder's calls, one per line, and then the model that they declare.
 pub(crate) fn built(alloc: Global, calls: &str, growth: u32) -> Result<Answer, AllocError> {
-    let mut told = roomy(alloc)?;
+    let mut out = roomy(alloc)?;
     let mut builder = Builder::new(alloc);
     let mut is_out_of_memory = false;
     refuse(alloc, growth);
     for call in calls.lines() {
-        if is_made_again(&mut builder, alloc, call, &mut told) {
+        if is_made_again(&mut builder, alloc, call, &mut out) {
             is_out_of_memory = true;
         }
     }
     let answer = finished(builder);
     refuse_none(alloc);
-    if tell_finished(&mut told, answer) {
+    if put_finished(&mut out, answer) {
         is_out_of_memory = true;
     }
-    Answer::of_sink(alloc, is_out_of_memory, &told)
+    Answer::of_sink(alloc, is_out_of_memory, &out)
 }

@@ -24,14 +24,14 @@ pub(crate) enum TextCall {
     Feed,
     Canonical(Form),
     Same,
-    SameBehind,
+    SameAsSecond,
     IsCanonical,
     Load,
     Run(Form),
     Show,
     PerformCanon(Form),
     PerformSame,
-    PerformSameBehind,
+    PerformSameAsSecond,
     PerformShow,
 }
 
@@ -42,7 +42,7 @@ pub(crate) const TEXT_CALLS: [(&str, TextCall); 16] = [
     ("canonical mps", TextCall::Canonical(Form::Mps)),
     ("canonical lp", TextCall::Canonical(Form::Lp)),
     ("same_model", TextCall::Same),
-    ("same_model behind", TextCall::SameBehind),
+    ("same_model as second", TextCall::SameAsSecond),
     ("is_canonical", TextCall::IsCanonical),
     ("load", TextCall::Load),
     ("run mps", TextCall::Run(Form::Mps)),
@@ -51,7 +51,7 @@ pub(crate) const TEXT_CALLS: [(&str, TextCall); 16] = [
     ("perform canon mps", TextCall::PerformCanon(Form::Mps)),
     ("perform canon lp", TextCall::PerformCanon(Form::Lp)),
     ("perform same", TextCall::PerformSame),
-    ("perform same behind", TextCall::PerformSameBehind),
+    ("perform same as second", TextCall::PerformSameAsSecond),
     ("perform show", TextCall::PerformShow),
 ];
 
@@ -98,11 +98,11 @@ fn fed<P: ModelReader>(
 
 fn feed<A: Format>(alloc: Global, text: &[u8], growth: u32) -> Result<Answer, AllocError> {
     let (answer, is_spent) = fed::<A::Reader>(alloc, text, growth);
-    let mut told = Answer::of_model(alloc, answer)?;
+    let mut found = Answer::of_model(alloc, answer)?;
     if !is_spent {
-        told.text.extend_from_slice(b"goes on behind a refusal\n")?;
+        found.text.extend_from_slice(b"goes on after an error\n")?;
     }
-    Ok(told)
+    Ok(found)
 }
 
 fn canonical_text<A: Format, B: Format>(alloc: Global, text: &[u8], growth: u32) -> Answer {
@@ -237,7 +237,7 @@ fn answer_in<A: Format, B: Format>(
         TextCall::Canonical(Form::Mps) => Ok(canonical_text::<A, Mps>(alloc, bytes, growth)),
         TextCall::Canonical(Form::Lp) => Ok(canonical_text::<A, Lp>(alloc, bytes, growth)),
         TextCall::Same => same::<A, B>(alloc, bytes, second.bytes, growth),
-        TextCall::SameBehind => same::<B, A>(alloc, second.bytes, bytes, growth),
+        TextCall::SameAsSecond => same::<B, A>(alloc, second.bytes, bytes, growth),
         TextCall::IsCanonical => is_own_text::<A>(alloc, bytes, growth),
         TextCall::Load => Ok(loaded(alloc, first, growth)),
         TextCall::Run(Form::Mps) => ran::<A, Mps>(alloc, first, growth),
@@ -251,7 +251,7 @@ fn answer_in<A: Format, B: Format>(
             let job = same_job(alloc, first.form, second.form);
             performed(alloc, &job, first, second, growth)
         }
-        TextCall::PerformSameBehind => {
+        TextCall::PerformSameAsSecond => {
             let job = same_job(alloc, second.form, first.form);
             performed(alloc, &job, second, first, growth)
         }

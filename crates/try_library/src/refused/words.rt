@@ -49,26 +49,26 @@ pub(crate) fn word(alloc: Global, growth: u32) -> Result<Answer, AllocError> {
 }
 
 /// Puts a space and a word.
-fn put_word(told: &mut FailingWriter, word: &str) {
-    put(told, " ");
-    put(told, word);
+fn put_word(out: &mut FailingWriter, word: &str) {
+    put(out, " ");
+    put(out, word);
 }
 
-fn put_form(told: &mut FailingWriter, form: Form) {
+fn put_form(out: &mut FailingWriter, form: Form) {
     match form {
-        Form::Mps => put(told, " mps"),
-        Form::Lp => put(told, " lp"),
+        Form::Mps => put(out, " mps"),
+        Form::Lp => put(out, " lp"),
     }
 }
 
 /// Puts the arguments of a job.
-fn put_job(told: &mut FailingWriter, job: &Job) {
+fn put_job(out: &mut FailingWriter, job: &Job) {
     match job {
         Job::Canon { from, to, path } => {
-            put(told, "canon");
-            put_form(told, *from);
-            put_form(told, *to);
-            put_word(told, path.as_str());
+            put(out, "canon");
+            put_form(out, *from);
+            put_form(out, *to);
+            put_word(out, path.as_str());
         }
         Job::Same {
             first_form,
@@ -76,31 +76,31 @@ fn put_job(told: &mut FailingWriter, job: &Job) {
             second_form,
             second,
         } => {
-            put(told, "same");
-            put_form(told, *first_form);
-            put_word(told, first.as_str());
-            put_form(told, *second_form);
-            put_word(told, second.as_str());
+            put(out, "same");
+            put_form(out, *first_form);
+            put_word(out, first.as_str());
+            put_form(out, *second_form);
+            put_word(out, second.as_str());
         }
         Job::Show { from, path } => {
-            put(told, "show");
-            put_form(told, *from);
-            put_word(told, path.as_str());
+            put(out, "show");
+            put_form(out, *from);
+            put_word(out, path.as_str());
         }
     }
 }
 
 /// Puts the error of arguments that are not a job.
-fn put_fault(told: &mut FailingWriter, fault: &JobFault) {
+fn put_fault(out: &mut FailingWriter, fault: &JobFault) {
     match fault {
-        JobFault::Help(_) => put(told, "Help"),
-        JobFault::Usage(_) => put(told, "Usage"),
+        JobFault::Help(_) => put(out, "Help"),
+        JobFault::Usage(_) => put(out, "Usage"),
         JobFault::UnknownFormat(word) => {
-            put(told, "UnknownFormat");
-            put_word(told, word.as_str());
+            put(out, "UnknownFormat");
+            put_word(out, word.as_str());
         }
-        JobFault::BothInputs => put(told, "BothInputs"),
-        JobFault::OutOfMemory => put(told, "out of memory"),
+        JobFault::BothInputs => put(out, "BothInputs"),
+        JobFault::OutOfMemory => put(out, "out of memory"),
     }
 }
 
@@ -110,14 +110,14 @@ pub(crate) fn job_of(alloc: Global, line: &str, growth: u32) -> Result<Answer, A
     for word in line.split(' ') {
         words.push(String::from_str(alloc, word)?)?;
     }
-    let mut told = roomy(alloc)?;
+    let mut out = roomy(alloc)?;
     refuse(alloc, growth);
     let answer = job(alloc, &words);
     refuse_none(alloc);
     match &answer {
-        Ok(job) => put_job(&mut told, job),
-        Err(fault) => put_fault(&mut told, fault),
+        Ok(job) => put_job(&mut out, job),
+        Err(fault) => put_fault(&mut out, fault),
     }
-    put(&mut told, "\n");
-    Answer::of_sink(alloc, matches!(&answer, Err(JobFault::OutOfMemory)), &told)
+    put(&mut out, "\n");
+    Answer::of_sink(alloc, matches!(&answer, Err(JobFault::OutOfMemory)), &out)
 }

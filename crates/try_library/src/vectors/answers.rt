@@ -1,11 +1,10 @@
 //! The results of library calls for a text: another text, or the line of an error.
 
+use crate::inputs::{fault_of_run, model_in};
 use mpslp_convert::{
     ConvertFault, Form, RunFault, canonical, is_canonical, report, run, same_model, show,
 };
-use mpslp_lp::read_lp;
 use mpslp_model::{Format, Model, ModelReader, ReadFault, Sink, Source, ToWrite};
-use mpslp_mps::read_mps;
 use mpslp_vectors::FailingReader;
 use mpslp_write::{Lp, Mps};
 use std::alloc::Global;
@@ -39,16 +38,6 @@ impl Answer {
             is_fault: true,
             text: sink.into_inner(),
         }
-    }
-}
-
-/// The same error, of a run with one input.
-fn fault_of_run(fault: ConvertFault) -> RunFault {
-    match fault {
-        ConvertFault::First(fault) => RunFault::File(fault),
-        ConvertFault::Second(fault) => RunFault::File(fault),
-        ConvertFault::NotLp(place) => RunFault::NotLp(place),
-        ConvertFault::OutOfMemory => RunFault::OutOfMemory,
     }
 }
 
@@ -167,7 +156,7 @@ fn fed<A: Format>(alloc: Global, first: &[u8], second: &[u8]) -> Result<Model, R
 }
 
 /// The canonical MPS text of a model, or the line of the error.
-fn told(alloc: Global, answer: Result<Model, ReadFault>) -> Answer {
+fn answer_of(alloc: Global, answer: Result<Model, ReadFault>) -> Answer {
     let mut sink = ToWrite::new(Vec::new(alloc));
     let ended = match answer {
         Ok(model) => match Mps::write(&model, &mut sink) {
@@ -186,18 +175,10 @@ pub(crate) fn fed_in(alloc: Global, form: Form, first: &[u8], second: &[u8]) -> 
         Form::Mps => fed::<Mps>(alloc, first, second),
         Form::Lp => fed::<Lp>(alloc, first, second),
     };
-    told(alloc, answer)
-}
-
-/// The model of a text that is read as a whole.
-pub(crate) fn model_in(alloc: Global, form: Form, text: &[u8]) -> Result<Model, ReadFault> {
-    match form {
-        Form::Mps => read_mps(alloc, text),
-        Form::Lp => read_lp(alloc, text),
-    }
+    answer_of(alloc, answer)
 }
 
 /// The canonical MPS text of a text that is read as a whole.
 pub(crate) fn read_in(alloc: Global, form: Form, text: &[u8]) -> Answer {
-    told(alloc, model_in(alloc, form, text))
+    answer_of(alloc, model_in(alloc, form, text))
 }

@@ -1,6 +1,7 @@
 //! What is checked with an input or an output that fails.
 
-use crate::vectors::answers::{MUCH, model_in, run_in, show_in};
+use crate::inputs::model_in;
+use crate::vectors::answers::{MUCH, run_in, show_in};
 use crate::vectors::tables::Entry;
 use mpslp_convert::{Form, RunFault, load};
 use mpslp_io::{Sink, Source};
@@ -66,7 +67,7 @@ pub(crate) fn stops_in_each_read(alloc: Global, entry: &Entry) -> bool {
 }
 
 /// Whether the error reports that this many bytes were written.
-fn tells_written(answer: &Result<(), RunFault>, len: usize) -> bool {
+fn reports_written(answer: &Result<(), RunFault>, len: usize) -> bool {
     matches!(answer, Err(RunFault::Write { written }) if *written == len as u64)
 }
 
@@ -84,7 +85,7 @@ fn run_is_cut(alloc: Global, entry: &Entry, to: Form, take: usize) -> bool {
         &mut sink,
     );
     let text = entry.answer_in(to).text.as_slice();
-    tells_written(&answer, take) && text.starts_with(sink.bytes()) && sink.bytes().len() == take
+    reports_written(&answer, take) && text.starts_with(sink.bytes()) && sink.bytes().len() == take
 }
 
 /// Whether a run succeeds if its sink has room for one byte more than the text, so that the flush succeeds too.
@@ -125,7 +126,7 @@ fn show_is_cut(alloc: Global, entry: &Entry, shown: &[u8], take: usize) -> bool 
         return false;
     };
     let answer = show_in(alloc, entry.form, &mut whole(&entry.text), &mut sink);
-    tells_written(&answer, take) && shown.starts_with(sink.bytes()) && sink.bytes().len() == take
+    reports_written(&answer, take) && shown.starts_with(sink.bytes()) && sink.bytes().len() == take
 }
 
 /// Whether showing a model reports how many bytes the sink took, after whichever byte it fails.
@@ -158,8 +159,9 @@ fn write_is_cut(alloc: Global, model: &Model, form: Form, text: &[u8], take: usi
         return false;
     };
     let answer = write_in(model, form, &mut sink);
-    let is_told = matches!(answer, Err(WriteFault::Write { written }) if written == take as u64);
-    is_told && text.starts_with(sink.bytes()) && sink.bytes().len() == take
+    let is_reported =
+        matches!(answer, Err(WriteFault::Write { written }) if written == take as u64);
+    is_reported && text.starts_with(sink.bytes()) && sink.bytes().len() == take
 }
 
 /// Whether a writer succeeds if its sink has exactly enough room.

@@ -13,6 +13,31 @@ fn name_of(fault: NumberFault) -> &'static str {
     }
 }
 
+/// A table of numbers.
+#[derive(Clone, Copy)]
+pub(crate) enum NumberTable {
+    Literals,
+    Sums,
+}
+
+impl NumberTable {
+    /// Its file.
+    pub(crate) fn path(self) -> &'static str {
+        match self {
+            NumberTable::Literals => "literals.tsv",
+            NumberTable::Sums => "sums.tsv",
+        }
+    }
+
+    /// Whether a line of it is right.
+    pub(crate) fn is_right(self, fields: &[&str]) -> io::Result<bool> {
+        match self {
+            NumberTable::Literals => is_read(fields),
+            NumberTable::Sums => is_sum(fields),
+        }
+    }
+}
+
 /// Whether a decimal has this mantissa and this exponent.
 fn is_pair(value: Decimal, mantissa: &str, exponent: &str) -> bool {
     let is_mantissa = matches!(mantissa.parse::<i128>(), Ok(wanted) if wanted == value.mantissa());
@@ -21,7 +46,7 @@ fn is_pair(value: Decimal, mantissa: &str, exponent: &str) -> bool {
 }
 
 /// Whether the literal of a line of `literals.tsv` has the decimal and the text, or the error, of the line.
-pub(crate) fn is_read(fields: &[&str]) -> io::Result<bool> {
+fn is_read(fields: &[&str]) -> io::Result<bool> {
     match Decimal::parse(field(fields, 0)?.as_bytes()) {
         Ok(value) => {
             let mut text = DecimalText::new();
@@ -47,7 +72,7 @@ fn sum_of(first: &str, sign: &str, second: &str) -> Result<Option<Decimal>, Numb
 }
 
 /// Whether the sum or the difference of a line of `sums.tsv` is the decimal of the line, or none.
-pub(crate) fn is_sum(fields: &[&str]) -> io::Result<bool> {
+fn is_sum(fields: &[&str]) -> io::Result<bool> {
     let answer = field(fields, 3)?;
     match sum_of(field(fields, 0)?, field(fields, 1)?, field(fields, 2)?) {
         Ok(Some(value)) => {

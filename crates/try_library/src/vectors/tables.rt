@@ -1,5 +1,6 @@
 //! The tables of `vectors/` and the files that they name.
 
+use crate::inputs::content;
 use crate::vectors::answers::Answer;
 use mpslp_convert::Form;
 use std::alloc::{AllocError, Global};
@@ -29,13 +30,6 @@ pub(crate) struct Entry {
 
 fn bad_table() -> Error {
     Error::from(ErrorKind::InvalidData)
-}
-
-/// The bytes of a file.
-pub(crate) fn content<R: Files>(rt: &R, alloc: Global, path: &str) -> io::Result<Vec<u8>> {
-    let mut text = Vec::new(alloc);
-    fs::open(rt, path)?.read_to_end(&mut text)?;
-    Ok(text)
 }
 
 /// The text of a table.
