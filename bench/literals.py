@@ -21,10 +21,10 @@ def short_decimal(source):
     count = source.randint(1, 6)
     text = str(digits(source, count))
     places = source.randint(0, count)
-    front, behind = text[:count - places], text[count - places:]
-    if front and not behind:
-        return front + source.choice((".", ".0"))
-    return (front or source.choice(("", "0"))) + "." + behind
+    integer, fraction = text[:count - places], text[count - places:]
+    if integer and not fraction:
+        return integer + source.choice((".", ".0"))
+    return (integer or source.choice(("", "0"))) + "." + fraction
 
 
 def padded_decimal(source):

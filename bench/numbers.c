@@ -117,7 +117,7 @@ static double least_seconds(void (*work)(struct numbers *), struct numbers *numb
     return least;
 }
 
-static void tell(const char *name, size_t count, double seconds)
+static void print_speed(const char *name, size_t count, double seconds)
 {
     printf("%s %.2f million/s\n", name, 1e-6 * (double)count / seconds);
 }
@@ -129,7 +129,7 @@ int main(int argument_count, char **arguments)
         stop("usage: numbers FILE");
     read_text(&numbers, arguments[1]);
     find_literals(&numbers);
-    tell("strtod", numbers.count, least_seconds(read_all, &numbers));
-    tell("snprintf", numbers.count, least_seconds(print_all, &numbers));
+    print_speed("strtod", numbers.count, least_seconds(read_all, &numbers));
+    print_speed("snprintf", numbers.count, least_seconds(print_all, &numbers));
     return 0;
 }

@@ -415,14 +415,14 @@ def main():
             made = drawn(number)
             if made is not None:
                 tried += 1
-                told, changed = differs(program, *made)
+                reported, changed = differs(program, *made)
                 kinds.update(changed)
-                wrong += [(told, made[1], made[0])] if told else []
+                wrong += [(reported, made[1], made[0])] if reported else []
             wrong += kept(program, number)
         except Exception:
             wrong.append((traceback.format_exc(), "text", b""))
-        for told, format, text in wrong:
-            found.append(f"model {number}, {format}: {told}")
+        for reported, format, text in wrong:
+            found.append(f"model {number}, {format}: {reported}")
             if options.keep is not None:
                 options.keep.mkdir(exist_ok=True)
                 (options.keep / f"{number}.{format}").write_bytes(text)

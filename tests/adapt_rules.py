@@ -132,10 +132,10 @@ def check(program):
     found, tried = [], rows()
     for number, row in enumerate(tried, 2):
         try:
-            told = list(differences(row, program))
+            reported = list(differences(row, program))
         except Exception as error:  # a rule that is wrong may fail in any way
-            told = [f"{type(error).__name__}: {error}"]
-        found += [f"docs/adapt.tsv:{number}: {row['kind']}: {each}" for each in told]
+            reported = [f"{type(error).__name__}: {error}"]
+        found += [f"docs/adapt.tsv:{number}: {row['kind']}: {each}" for each in reported]
     return found, len(tried)
 
 

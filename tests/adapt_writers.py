@@ -275,8 +275,8 @@ def main():
                         print(f"{file}: {outcome}: {reason}", file=sys.stderr)
                 if found is not None:
                     changed.append(found)
-            told = "; ".join(f"{reason} ({count})" for reason, count in sorted(reasons.items()))
-            print(f"| {name} | {outcomes['accepted']} | {outcomes['adapted']} | {outcomes['left']} | {told} |", flush=True)
+            listed = "; ".join(f"{reason} ({count})" for reason, count in sorted(reasons.items()))
+            print(f"| {name} | {outcomes['accepted']} | {outcomes['adapted']} | {outcomes['left']} | {listed} |", flush=True)
             if shutil.which("glpsol"):
                 for found in changed:
                     checker.check_meaning(found)

@@ -155,7 +155,7 @@ class Document:
                 self.check_table(number, marks or [("table", docs_tables.HEADS[line])], rows)
                 marks = []
             elif line.strip() and marks:
-                self.wrong.append(f"{self.name}:{number}: no block and no table behind the comment")
+                self.wrong.append(f"{self.name}:{number}: no block and no table after the comment")
                 marks = []
             elif not fence:
                 self.check_links(number, line)

@@ -15,7 +15,7 @@ def spans(cell):
     return re.findall(r"`([^`]*)`", cell)
 
 
-def told(what, answer, expected):
+def difference_of(what, answer, expected):
     return None if answer == expected else f"{what}: {answer.strip()!r}, the document has {expected.strip()!r}"
 
 
@@ -47,7 +47,7 @@ class Literals(Form):
         for number, literal in enumerate(literals):
             answer = self.coefficient(literal)
             if kinds:
-                yield told(literal, answer, f"line 4: {kinds[0]}")
+                yield difference_of(literal, answer, f"line 4: {kinds[0]}")
                 continue
             try:
                 wrong = Fraction(answer) != Fraction(literal if "accepted" in cells[1] else values[number % len(values)])
@@ -63,7 +63,7 @@ class NumberText(Form):
         for value, text in zip(cells[0].split(", "), spans(cells[1])):
             factor, _, power = value.rpartition("10^")
             literal = f"{factor.removesuffix(' * ') or 1}e{power}" if "10^" in value else value
-            yield told(value, self.coefficient(literal), text)
+            yield difference_of(value, self.coefficient(literal), text)
 
 
 class Bounds(Form):
@@ -173,7 +173,7 @@ class Changes(Form):
             answers = [answers[0]] + [f"{place}: {kind}" for kind in answers[1:]]
         for number, lines in enumerate(self.changed(cells[0])):
             expected = answers[min(number, len(answers) - 1)]
-            yield told(cells[0], self.answer("canon mps mps", "\n".join(lines) + "\n").strip(), expected)
+            yield difference_of(cells[0], self.answer("canon mps mps", "\n".join(lines) + "\n").strip(), expected)
 
 
 class LpCases(Form):
@@ -194,20 +194,20 @@ class LpCases(Form):
     def __call__(self, cells):
         text = (spans(cells[0]) or ["x"])[0]
         kind, *places = spans(cells[1])
-        before, behind = self.whole(cells[0], text)
-        answer = self.answer("canon lp lp", before + text + behind).strip()
+        before, following = self.whole(cells[0], text)
+        answer = self.answer("canon lp lp", before + text + following).strip()
         above = before.count("\n")
         lines = (above + 1, above + 2) if "then `end`" in cells[0] else (above + 1,)
         fits = ["file: MissingEnd"] if kind == "MissingEnd" else [f"line {line}: {kind}" for line in lines]
         yield None if answer in fits else f"{text}: {answer}, the document has {cells[1]}"
         if not places or "at " not in cells[1]:
             return
-        tokens = text.split() + (["end"] if "end" in behind else [])
+        tokens = text.split() + (["end"] if "end" in following else [])
         at = tokens.index(places[0])
         if "the second" in cells[1]:
             at = tokens.index(places[0], at + 1)
-        split = self.answer("canon lp lp", before + "\n".join(tokens[:len(text.split())]) + behind).strip()
-        yield told(f"{text}, a token on each line", split, f"line {above + at + 1}: {kind}")
+        split = self.answer("canon lp lp", before + "\n".join(tokens[:len(text.split())]) + following).strip()
+        yield difference_of(f"{text}, a token on each line", split, f"line {above + at + 1}: {kind}")
 
 
 class Tokens(Form):
@@ -222,7 +222,7 @@ class Tokens(Form):
             yield f"{text}: the tokens {tokens} are not its bytes"
         for place in self.PLACES:
             answers = [self.answer("canon lp lp", place.format(form)) for form in (text, " ".join(tokens))]
-            yield told(f"{text} in {place!r}", *answers)
+            yield difference_of(f"{text} in {place!r}", *answers)
 
 
 class Reserved(Form):
@@ -263,7 +263,7 @@ class Keywords(Form):
     def __call__(self, cells):
         for word in spans(cells[0]) or ["WORD", "rows"]:
             answer = self.answer("canon mps mps", f"NAME\n{word}\nENDATA\n").strip()
-            yield told(word, answer, f"line 2: {spans(cells[1])[0]}")
+            yield difference_of(word, answer, f"line 2: {spans(cells[1])[0]}")
 
 
 class Files(Form):
@@ -281,7 +281,7 @@ class Files(Form):
             return
         self.left.discard(name)
         size = re.search(r"(\d+) bytes", cells[1])
-        yield told(name, str(path.stat().st_size), size[1]) if size else None
+        yield difference_of(name, str(path.stat().st_size), size[1]) if size else None
 
     def at_end(self):
         return [f"{name} is not in the table" for name in sorted(self.left)]
@@ -322,7 +322,7 @@ class Statuses(Form):
         for words, line in self.RUNS[cells[0]]:
             status, printed = self.scratch.run(f"exec mpslp {words}")
             printed = printed.decode("latin-1")
-            yield told(f"mpslp {words}", str(status), cells[0])
+            yield difference_of(f"mpslp {words}", str(status), cells[0])
             fits = printed.strip() == line or line is None
             yield None if fits else f"mpslp {words}: {printed.strip()!r}, expected {line!r}"
             stated = [span for span in spans(cells[2]) if line and span.split(" ")[0] == line.split(" ")[0]]

@@ -48,7 +48,7 @@ class Solver:
 
     package: str
     commands: dict
-    told: re.Pattern
+    reported: re.Pattern
 
 
 SOLVERS = {
@@ -118,8 +118,8 @@ def answer(solver, form, command, text, files):
         except subprocess.TimeoutExpired:
             return None
         found = Path(folder) / "found"
-        told = solver.told.findall((found.read_bytes() if found.exists() else done.stdout).decode("latin-1"))
-        return float(Fraction(told[-1])) if told else None
+        reported = solver.reported.findall((found.read_bytes() if found.exists() else done.stdout).decode("latin-1"))
+        return float(Fraction(reported[-1])) if reported else None
 
 
 def verdict(found, optimum):
@@ -143,7 +143,7 @@ def cell(name, form, model, page):
 
 def measured(form, names, chosen, page):
     """Each model with its cells, and the errors of recipes."""
-    rows, told = [], []
+    rows, reported = [], []
     for model in chosen:
         if model.texts[form] is None:
             continue
@@ -151,9 +151,9 @@ def measured(form, names, chosen, page):
         for name in names:
             cells[name], spoiled = cell(name, form, model, page)
             if spoiled:
-                told.append(f"{name}, {form}, {model.name}: the recipe spoils what was right without it")
+                reported.append(f"{name}, {form}, {model.name}: the recipe spoils what was right without it")
         rows.append((model.name, cells))
-    return rows, told
+    return rows, reported
 
 
 def shown(program, form, text):
@@ -194,7 +194,7 @@ def exported(program, command, text, files):
 def export_differences(program, chosen, page, tables):
     """The rows of the table of exports that differ, and the number of those measured."""
     head, _, *rows = page.exports
-    tried, told = 0, []
+    tried, reported = 0, []
     for row in rows:
         command = row[0].strip("`")
         if not all(shutil.which(part.split()[0]) for part in command.split("; ")):
@@ -204,10 +204,10 @@ def export_differences(program, chosen, page, tables):
         found = [str(kinds.count(kind)) for kind in head[1:]]
         tried += len(found)
         if found != row[1:]:
-            told.append(f"{command}: {found}; the page has {row[1:]}")
+            reported.append(f"{command}: {found}; the page has {row[1:]}")
         if tables:
             print("| " + " | ".join([row[0], *found]) + " |")
-    return tried, told
+    return tried, reported
 
 
 def print_table(form, names, rows):
@@ -247,20 +247,20 @@ def main():
     there = [name for name in SOLVERS if shutil.which(name)]
     for name in SOLVERS.keys() - set(there):
         print(f"{name} is missing: apt-get install {SOLVERS[name].package}")
-    chosen, tried, told = models(program), 0, []
+    chosen, tried, reported = models(program), 0, []
     for form in FORMATS:
         names = [name for name in there if form in SOLVERS[name].commands]
         rows, spoiled = measured(form, names, chosen, page)
         tried += sum(len(cells) for _, cells in rows)
-        told += spoiled + list(differences(form, rows, page.tables.get(form, {})))
+        reported += spoiled + list(differences(form, rows, page.tables.get(form, {})))
         if options.tables:
             print_table(form, names, rows)
     more, differ = export_differences(program, chosen, page, options.tables)
-    tried, told = tried + more, told + differ
-    for line in told:
+    tried, reported = tried + more, reported + differ
+    for line in reported:
         print(line)
-    print(f"{tried} tried, {len(told)} differ")
-    return 1 if told else 0
+    print(f"{tried} tried, {len(reported)} differ")
+    return 1 if reported else 0
 
 
 if __name__ == "__main__":

@@ -58,8 +58,8 @@ class MpsText:
     def text(self):
         end = self.source.choice(("\n", "\r\n"))
         text = end.join(self.lines)
-        behind = self.source.choice(("", end, end + "whatever\x80 follows" + end))
-        return (text + behind).encode("latin-1")
+        following = self.source.choice(("", end, end + "whatever\x80 follows" + end))
+        return (text + following).encode("latin-1")
 
 
 def mps_rows(source, model):
@@ -134,8 +134,8 @@ def mps_bound_forms(source, column, is_marked):
         if (is_marked and not forms) or source.random() < 0.2:
             forms.append(source.choice((("PL", None), ("UP", source.choice(INFINITE)))))
     else:
-        told = any(kind == "LI" for kind, _ in forms)
-        forms.append(("UI" if wants_kind and not told else "UP", upper))
+        is_lower_integer = any(kind == "LI" for kind, _ in forms)
+        forms.append(("UI" if wants_kind and not is_lower_integer else "UP", upper))
     if wants_kind and not any(kind in ("LI", "UI") for kind, _ in forms):
         forms = [("LI" if kind == "LO" else kind, value) for kind, value in forms]
     return forms
@@ -284,11 +284,11 @@ class Tokens:
                 parts.append(self.gap())
             parts.append(text)
             before = kind
-        behind = self.source.choice(("", "\n", " \\ the end\n", "\nanything \x80 at all\n"))
+        following = self.source.choice(("", "\n", " \\ the end\n", "\nanything \x80 at all\n"))
         text = "".join(parts)
         if self.source.random() < 0.3:
             text = text.replace("\n", "\r\n")
-        return (self.source.choice(("", "\\ a model\n", "\n\n")) + text + behind).encode("latin-1")
+        return (self.source.choice(("", "\\ a model\n", "\n\n")) + text + following).encode("latin-1")
 
     def gap(self):
         return self.source.choice((" ", " ", " ", "  ", "\t", "\n", "\n ", " \\ \x80 a comment: x >= 1\n"))
@@ -382,7 +382,7 @@ def lp_bound(source, tokens, name, form):
 
 def lp_text(source, model):
     tokens = Tokens(source)
-    told = set()
+    mentioned = set()
     if model.maximise:
         tokens.keyword("max", "maximize", "maximum")
     else:
@@ -398,7 +398,7 @@ def lp_text(source, model):
     if not is_zero(model.constant) or source.random() < 0.1:
         terms.insert(source.randint(0, len(terms)), (model.constant, None))
     lp_items(source, tokens, terms)
-    told.update(name for _, name in terms)
+    mentioned.update(name for _, name in terms)
     rows = list(model.rows)
     source.shuffle(rows)
     if rows or source.random() < 0.5:
@@ -406,12 +406,12 @@ def lp_text(source, model):
     for number, name in enumerate(rows):
         terms = lp_terms(source, model, name) or [(ZERO, source.choice(list(model.columns)))]
         source.shuffle(terms)
-        told.update(term for _, term in terms)
+        mentioned.update(term for _, term in terms)
         if name != f"c{number + 1}" or source.random() < 0.5:
             tokens.word(name)
             tokens.operator(":")
         lp_row_sides(source, tokens, model.rows[name], terms)
-    lp_sections(source, tokens, model, told)
+    lp_sections(source, tokens, model, mentioned)
     tokens.keyword("end")
     return tokens.text()
 
@@ -422,7 +422,7 @@ def lp_terms(source, model, row):
     return terms + [(ZERO, name) for name in others if source.random() < 0.05]
 
 
-def lp_sections(source, tokens, model, told):
+def lp_sections(source, tokens, model, mentioned):
     columns = list(model.columns.items())
     source.shuffle(columns)
     binaries = {
@@ -434,7 +434,7 @@ def lp_sections(source, tokens, model, told):
     bounds = []
     for name, column in columns:
         forms = lp_bound_forms(source, name, column, name in binaries)
-        if not forms and name not in told and name not in binaries and name not in generals and name not in semis:
+        if not forms and name not in mentioned and name not in binaries and name not in generals and name not in semis:
             forms = [(">", ZERO)]
         bounds += [(name, form) for form in forms]
     sections = ["bounds", "generals", "binaries", "semis"]

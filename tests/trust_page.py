@@ -353,17 +353,17 @@ def sections_of(text: str) -> dict[str, str]:
 def check() -> list[str]:
     """What differs between the page and the definitions."""
     text = PAGE.read_text()
-    wanted, found, told = blocks(sections_of(text)), dict(BLOCK.findall(text)), []
-    told += [f"docs/TRUST.md has no comment <!-- trust: {title} -->" for title in wanted.keys() - found.keys()]
-    told += [f"docs/TRUST.md: no part is called {title}" for title in found.keys() - wanted.keys()]
+    wanted, found, reported = blocks(sections_of(text)), dict(BLOCK.findall(text)), []
+    reported += [f"docs/TRUST.md has no comment <!-- trust: {title} -->" for title in wanted.keys() - found.keys()]
+    reported += [f"docs/TRUST.md: no part is called {title}" for title in found.keys() - wanted.keys()]
     for title in wanted.keys() & found.keys():
         have, want = found[title].splitlines(), wanted[title].splitlines()
-        told += [f"docs/TRUST.md, {title}: not so: {line}" for line in have if line not in want]
-        told += [f"docs/TRUST.md, {title}: wanted: {line}" for line in want if line not in have]
+        reported += [f"docs/TRUST.md, {title}: not so: {line}" for line in have if line not in want]
+        reported += [f"docs/TRUST.md, {title}: wanted: {line}" for line in want if line not in have]
         if sorted(have) == sorted(want) and have != want:
-            told.append(f"docs/TRUST.md, {title}: the order is that of the imports")
-        told += [f"docs/TRUST.md, {title}: which section of FORMATS is this? {line}" for line in have if line.endswith(f"| {MISSING} |")]
-    return [f"{line} (python3 tests/trust_page.py --write)" for line in told]
+            reported.append(f"docs/TRUST.md, {title}: the order is that of the imports")
+        reported += [f"docs/TRUST.md, {title}: which section of FORMATS is this? {line}" for line in have if line.endswith(f"| {MISSING} |")]
+    return [f"{line} (python3 tests/trust_page.py --write)" for line in reported]
 
 
 def write() -> None:
@@ -403,9 +403,9 @@ def main() -> int:
     if options.write:
         write()
     if options.write or options.check:
-        told = check()
-        print("\n".join([*told, f"{len(told)} differ"]))
-        return 1 if told else 0
+        reported = check()
+        print("\n".join([*reported, f"{len(reported)} differ"]))
+        return 1 if reported else 0
     if options.unused or options.shared:
         print("\n".join(unused() if options.unused else listed_shared()))
         return 0

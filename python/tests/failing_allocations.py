@@ -1,6 +1,6 @@
 """Lets each request for memory of each call fail in turn, with refuse.c preloaded; test_memory.py runs it.
 
-Each call has to raise MemoryError or to answer as ever, and to leave no memory behind. PYTHONMALLOC=malloc makes the
+Each call has to raise MemoryError or to answer as ever, and to leak no memory. PYTHONMALLOC=malloc makes the
 requests of Python's own objects fail, too.
 """
 

@@ -1,7 +1,7 @@
 /*
  * Preloaded into Python, this refuses one request for memory: `call_refusing(callable, n)` calls a Python object, and
- * the request behind the first n ones of that call gets none. Requests are those of malloc, calloc and realloc by any
- * thread. `was_refused` tells whether the last call had so many.
+ * the request after the first n ones of that call gets none. Requests are those of malloc, calloc and realloc by any
+ * thread. `was_refused` says whether the last call had so many.
  */
 #include <errno.h>
 #include <stddef.h>

@@ -7,7 +7,7 @@ from repository import EXAMPLES, model_files
 
 
 def stated(path, to_format):
-    """The canonical text that stands beside a file, or None."""
+    """The canonical text beside a file, or None."""
     stem = path.name.split(".")[0]
     beside = EXAMPLES / f"{stem}.canonical.{to_format}"
     return beside.read_bytes() if beside.exists() else None

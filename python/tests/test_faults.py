@@ -1,4 +1,4 @@
-"""What a ModelFileError tells."""
+"""What a ModelFileError reports."""
 
 import copy
 import pickle
@@ -15,44 +15,44 @@ def fault(call, *arguments, **named):
         call(*arguments, **named)
     except mpslp.ModelFileError as error:
         return error
-    raise AssertionError("no fault was told")
+    raise AssertionError("no error was reported")
 
 
 class Faults(unittest.TestCase):
-    def tells(self, error, line_of_program, **told):
-        wanted = {"line": None, "name": None, "place": None, "number": None, "which": None, "filename": None, **told}
+    def reports(self, error, line_of_program, **given):
+        wanted = {"line": None, "name": None, "place": None, "number": None, "which": None, "filename": None, **given}
         self.assertEqual({name: getattr(error, name) for name in wanted}, wanted)
         self.assertEqual(str(error), line_of_program)
 
     def test_a_line(self):
         error = fault(mpslp.canonical, MPS % (b"x", b"    x  cost  2\n"), "mps")
-        self.tells(error, "line 5: DuplicateEntry", kind="DuplicateEntry", line=5)
+        self.reports(error, "line 5: DuplicateEntry", kind="DuplicateEntry", line=5)
 
     def test_a_whole_text(self):
-        self.tells(fault(mpslp.is_canonical, b"", "mps"), "file: MissingEnd", kind="MissingEnd")
+        self.reports(fault(mpslp.is_canonical, b"", "mps"), "file: MissingEnd", kind="MissingEnd")
 
     def test_a_name(self):
         error = fault(mpslp.canonical, MPS % (b"x", b"BOUNDS\n UP  B  x  -1\n"), "mps", "lp")
-        self.tells(error, "file: NegativeUpper x", kind="NegativeUpper", name="x")
+        self.reports(error, "file: NegativeUpper x", kind="NegativeUpper", name="x")
 
     def test_a_long_name(self):
         name = "x" * 255
         error = fault(mpslp.canonical, MPS % (name.encode(), b"BOUNDS\n UP  B  %s  -1\n" % name.encode()), "mps")
         self.assertEqual(error.name, name)
 
-    def test_names_that_lp_cannot_tell(self):
+    def test_names_that_lp_cannot_express(self):
         to_lp = {"from_format": "mps", "to_format": "lp"}
-        self.tells(fault(mpslp.canonical, MPS % (b"x[1]", b""), **to_lp), "column 0: NotLp", kind="NotLp", place="column", number=0)
+        self.reports(fault(mpslp.canonical, MPS % (b"x[1]", b""), **to_lp), "column 0: NotLp", kind="NotLp", place="column", number=0)
         rows = b"ROWS\n N  cost\n L  b[2]\n L  a\nCOLUMNS\n    x  cost  1\nENDATA\n"
-        self.tells(fault(mpslp.canonical, rows, **to_lp), "row 1: NotLp", kind="NotLp", place="row", number=1)
+        self.reports(fault(mpslp.canonical, rows, **to_lp), "row 1: NotLp", kind="NotLp", place="row", number=1)
         objective = b"ROWS\n N  free\nCOLUMNS\n    x  free  1\nENDATA\n"
-        self.tells(fault(mpslp.canonical, objective, **to_lp), "objective: NotLp", kind="NotLp", place="objective")
+        self.reports(fault(mpslp.canonical, objective, **to_lp), "objective: NotLp", kind="NotLp", place="objective")
 
     def test_which_text(self):
         first = fault(mpslp.same, b"min x y\nend\n", b"", "lp", "lp")
-        self.tells(first, "first: line 1: BadToken", kind="BadToken", line=1, which="first")
+        self.reports(first, "first: line 1: BadToken", kind="BadToken", line=1, which="first")
         second = fault(mpslp.same, GOOD, b"", "lp", "mps")
-        self.tells(second, "second: file: MissingEnd", kind="MissingEnd", which="second")
+        self.reports(second, "second: file: MissingEnd", kind="MissingEnd", which="second")
 
     def test_it_is_a_value_error(self):
         self.assertTrue(issubclass(mpslp.ModelFileError, ValueError))
@@ -61,7 +61,7 @@ class Faults(unittest.TestCase):
         error = fault(mpslp.same, GOOD, b"min x y\nend\n", "lp", "lp")
         for other in (pickle.loads(pickle.dumps(error)), copy.copy(error), copy.deepcopy(error)):
             self.assertIs(type(other), mpslp.ModelFileError)
-            self.tells(other, "second: line 1: BadToken", kind="BadToken", line=1, which="second")
+            self.reports(other, "second: line 1: BadToken", kind="BadToken", line=1, which="second")
 
 
 if __name__ == "__main__":

@@ -41,7 +41,7 @@ def sample():
 
 
 def number(decimal):
-    """A number of tests/models.py, where None stands for an infinite side."""
+    """A number of tests/models.py, where None is an infinite side."""
     if not decimal.is_finite():
         return None
     sign, digits, exponent = decimal.as_tuple()

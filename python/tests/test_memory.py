@@ -1,4 +1,4 @@
-"""No call leaves memory behind, whatever it answers, and want of memory is MemoryError."""
+"""No call leaks memory, whatever it returns, and an allocation that fails raises MemoryError."""
 
 import gc
 import os
@@ -58,8 +58,8 @@ class Memory(unittest.TestCase):
 
 class Checked(unittest.TestCase):
     @unittest.skipUnless(shutil.which("valgrind"), "there is no valgrind")
-    def test_valgrind_has_nothing_to_tell(self):
-        # Of accesses alone: at its end Python itself has blocks that nothing points to.
+    def test_valgrind_has_nothing_to_report(self):
+        # Of accesses only: at its end Python itself has blocks that nothing points to.
         tool = ["valgrind", "-q", "--error-exitcode=9", "--leak-check=no"]
         done = subprocess.run([*tool, sys.executable, HERE / "answers.py"], env={**os.environ, "PYTHONMALLOC": "malloc"},
                               capture_output=True, text=True)

@@ -41,7 +41,7 @@ class Recipes(Page):
 
 class Shown(unittest.TestCase):
     def check(self, kind, path):
-        # Its commands find this Python first, and call the package alone.
+        # Its commands find this Python first, and call only the package.
         found = f"{Path(sys.executable).parent}{os.pathsep}{os.environ['PATH']}"
         with tempfile.TemporaryDirectory() as folder, mock.patch.dict(os.environ, PATH=found):
             page = kind(ROOT / path, docs_check.Scratch(folder, shutil.which("false")))

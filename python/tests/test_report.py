@@ -318,7 +318,7 @@ class Counts(unittest.TestCase):
         })
         self.assertEqual(reader.table("The model")["share of all places"], ["16.7 %"])
 
-    def test_rows_and_columns_that_doubles_do_not_tell_apart(self):
+    def test_rows_and_columns_that_doubles_do_not_distinguish(self):
         reader = read_page("ROWS\n N  c\n G  near\n G  same\nCOLUMNS\n    x  near  1  same  1\n    y  c  1\nRHS\n    near  1  same  1\nRANGES\n"
                            "    near  1e-30\n    same  0\nBOUNDS\n LO  x  1\n UP  x  1.0000000000000000000000000000001\n UP  y  1e-400\nENDATA\n")
         self.assertEqual(reader.table("Rows by kind"), {"equation": ["1"], "at most": ["0"], "at least": ["0"], "ranged": ["1"], "free": ["0"], "all rows": ["2"]})

@@ -99,10 +99,10 @@ class Paths(unittest.TestCase):
         self.assertEqual(mpslp.canonical(EXAMPLES / "small.lp"), (EXAMPLES / "small.canonical.lp").read_bytes())
         self.assertEqual(mpslp.canonical(EXAMPLES / "small.mps"), CANONICAL)
 
-    def test_a_format_that_is_told_goes_before_the_ending(self):
+    def test_a_format_that_is_given_goes_before_the_ending(self):
         self.assertEqual(mpslp.canonical(self.file("model.lp"), "mps"), CANONICAL)
 
-    def test_an_ending_that_tells_no_format(self):
+    def test_an_ending_that_means_no_format(self):
         for name in ("model", "model.txt", "model.mps.zip", "model.mps ", "mps", "my-lp"):
             path = self.file(name)
             with self.subTest(name):
@@ -162,7 +162,7 @@ class CompressedFiles(unittest.TestCase):
         path.write_bytes(content)
         return path
 
-    def test_paths_tell_compression_and_format(self):
+    def test_paths_give_compression_and_format(self):
         lp = (EXAMPLES / "small.lp").read_bytes()
         for ending, pack in self.packs.items():
             for name, text in ((f"a.mps{ending}", TEXT), (f"a.LP{ending.upper()}", lp)):

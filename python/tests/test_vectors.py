@@ -64,25 +64,25 @@ class Vectors(unittest.TestCase):
                     mpslp.is_canonical(path)
                 self.assertEqual(str(caught.exception), f"{path}: {entry.answer}")
 
-    def test_what_a_fault_tells(self):
+    def test_what_a_fault_reports(self):
         for entry in entries():
             if entry.answer == "model" and not entry.lp.endswith(": NotLp"):
                 continue
-            told = entry.lp if entry.answer == "model" else entry.answer
+            line = entry.lp if entry.answer == "model" else entry.answer
             with self.subTest(entry.input), self.assertRaises(mpslp.ModelFileError) as caught:
                 mpslp.canonical(VECTORS / entry.input, to_format="lp")
             error = caught.exception
-            self.assertEqual((error.which, error.kind), (None, told.split(": ")[1].split(" ")[0]))
-            self.assertEqual(parts(error), parts_of_line(told))
+            self.assertEqual((error.which, error.kind), (None, line.split(": ")[1].split(" ")[0]))
+            self.assertEqual(parts(error), parts_of_line(line))
 
 
 def parts(error):
     return error.line, error.name, error.place, error.number
 
 
-def parts_of_line(told):
-    """The line, the name, the place and its number, as the line of a fault tells them."""
-    where, _, what = told.partition(": ")
+def parts_of_line(line):
+    """The line, the name, the place and its number, as the line of an error reports them."""
+    where, _, what = line.partition(": ")
     word, _, number = where.partition(" ")
     name = what.partition(" ")[2] or None
     if word == "line":

@@ -17,7 +17,7 @@ LONGEST = 36
 
 
 def decimal_of(value):
-    """A fraction as digits and a power of ten, if 36 digits tell it."""
+    """A fraction as digits and a power of ten, if 36 digits are enough for it."""
     exponent = 0
     while value.denominator != 1 and exponent > -120:
         value *= 10
@@ -36,11 +36,11 @@ def numbers():
         double = math.ldexp(random.randrange(2**52, 2**53), random.randrange(-80, 60))
         halfway = (Fraction(double) + Fraction(math.nextafter(double, math.inf))) / 2
         few_bits = Fraction(random.randrange(1, 2 ** random.randrange(1, 54))) * Fraction(2) ** random.randrange(-40, 100)
-        for told in (decimal_of(Fraction(double)), decimal_of(halfway), decimal_of(few_bits)):
-            if told:
-                yield told
-                yield told[0] + 1, told[1]
-                yield told[0] - 1, told[1]
+        for number in (decimal_of(Fraction(double)), decimal_of(halfway), decimal_of(few_bits)):
+            if number:
+                yield number
+                yield number[0] + 1, number[1]
+                yield number[0] - 1, number[1]
 
 
 def text_of(literals):
@@ -55,12 +55,12 @@ def main():
     costs = [line.split() for line in done.stdout.splitlines()[1:]][2::3]
     if len(costs) != len(literals):
         sys.exit(f"{len(costs)} doubles of {len(literals)} numbers")
-    for literal, (_, found, told) in zip(literals, costs):
+    for literal, (_, found, cost) in zip(literals, costs):
         double = float.fromhex(found) if "inf" not in found else float(found)
         is_exact = not math.isinf(double) and Fraction(double) == Fraction(literal)
-        if double != float(literal) or math.copysign(1, double) != math.copysign(1, float(literal)) or (told == "exact") != is_exact:
-            sys.exit(f"{literal}: {found} {told}")
-    exact = sum(told == "exact" for _, _, told in costs)
+        if double != float(literal) or math.copysign(1, double) != math.copysign(1, float(literal)) or (cost == "exact") != is_exact:
+            sys.exit(f"{literal}: {found} {cost}")
+    exact = sum(cost == "exact" for _, _, cost in costs)
     print(f"{len(literals)} doubles are the nearest ones, {exact} of them exact")
 
 

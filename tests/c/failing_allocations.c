@@ -83,7 +83,7 @@ static int is_same(const answer *one, const answer *other) {
 static int try_call(int which, uint32_t format) {
     answer wanted = NO_ANSWER;
     uint32_t done = call(which, format, &wanted);
-    long n = 0, told = 0;
+    long n = 0, reported = 0;
     int is_refused = 1;
     for (; is_refused; n++) {
         answer got = NO_ANSWER;
@@ -96,12 +96,12 @@ static int try_call(int which, uint32_t format) {
             fprintf(stderr, "%s returns %u if allocation %ld fails\n", names[which], (unsigned)status, n);
             return 1;
         }
-        told += status == MPSLP_OUT_OF_MEMORY;
+        reported += status == MPSLP_OUT_OF_MEMORY;
         give_back(&got);
     }
     give_back(&wanted);
-    printf("%s: %ld of %ld allocations that fail are reported\n", names[which], told, n - 1);
-    return told == 0;
+    printf("%s: %ld of %ld allocations that fail are reported\n", names[which], reported, n - 1);
+    return reported == 0;
 }
 
 int main(int count, char **words) {

@@ -43,7 +43,7 @@ static bool format_of(const char *word, uint32_t *format) {
 
 static void put(FILE *to, mpslp_text text) { fwrite(text.bytes, 1, text.len, to); }
 
-static void tell_place(const mpslp_fault *fault) {
+static void place_text(const mpslp_fault *fault) {
     switch (fault->place) {
     case MPSLP_AT_OBJECTIVE: fprintf(stderr, "objective: "); break;
     case MPSLP_AT_ROW: fprintf(stderr, "row %zu: ", fault->number); break;
@@ -55,14 +55,14 @@ static void tell_place(const mpslp_fault *fault) {
 }
 
 /* Prints the error of an input, after a word for one of two inputs. Returns the exit status of the program. */
-static int tell(uint32_t status, const char *input, const mpslp_fault *fault) {
+static int print_error(uint32_t status, const char *input, const mpslp_fault *fault) {
     if (status == MPSLP_OUT_OF_MEMORY) {
         fprintf(stderr, "out of memory\n");
         return NO_MEMORY;
     }
     if (status == MPSLP_UNKNOWN_FORMAT) return WRONG_WORDS;
     fprintf(stderr, "%s", input);
-    tell_place(fault);
+    place_text(fault);
     put(stderr, fault->kind);
     if (fault->name_len) fprintf(stderr, " %s", fault->name);
     fprintf(stderr, "\n");
@@ -75,7 +75,7 @@ static int canon(uint32_t from, uint32_t to, const char *path) {
     mpslp_fault fault = MPSLP_NO_FAULT;
     uint32_t status = mpslp_canonical(from, to, all.bytes, all.len, &text, &fault);
     free(all.bytes);
-    if (status != MPSLP_OK) return tell(status, "", &fault);
+    if (status != MPSLP_OK) return print_error(status, "", &fault);
     put(stdout, text);
     mpslp_free(&text);
     return DONE;
@@ -87,7 +87,7 @@ static int same(uint32_t first_format, const char *first_path, uint32_t second_f
     uint32_t status = mpslp_same(first_format, first.bytes, first.len, second_format, second.bytes, second.len, &fault);
     free(first.bytes);
     free(second.bytes);
-    if (status > MPSLP_DIFFERS) return tell(status, status == MPSLP_REFUSED ? "first: " : "second: ", &fault);
+    if (status > MPSLP_DIFFERS) return print_error(status, status == MPSLP_REFUSED ? "first: " : "second: ", &fault);
     printf("%s\n", status == MPSLP_OK ? "same" : "not the same");
     return status == MPSLP_OK ? DONE : NO;
 }
@@ -97,7 +97,7 @@ static int is(uint32_t format, const char *path) {
     mpslp_fault fault = MPSLP_NO_FAULT;
     uint32_t status = mpslp_is_canonical(format, all.bytes, all.len, &fault);
     free(all.bytes);
-    if (status > MPSLP_DIFFERS) return tell(status, "", &fault);
+    if (status > MPSLP_DIFFERS) return print_error(status, "", &fault);
     return status == MPSLP_OK ? DONE : NO;
 }
 
@@ -248,7 +248,7 @@ static int show(uint32_t format, const char *path, void (*put_it)(const mpslp_mo
     mpslp_fault fault = MPSLP_NO_FAULT;
     uint32_t status = mpslp_load(format, all.bytes, all.len, &model, &fault);
     free(all.bytes);
-    if (status != MPSLP_OK) return tell(status, "", &fault);
+    if (status != MPSLP_OK) return print_error(status, "", &fault);
     put_it(&model);
     mpslp_free_model(&model);
     return DONE;
@@ -377,12 +377,12 @@ static int store(uint32_t from, uint32_t to, const char *path) {
     bool are_alike = true;
     uint32_t status = mpslp_load(from, all.bytes, all.len, &model, &fault);
     free(all.bytes);
-    if (status != MPSLP_OK) return tell(status, "", &fault);
+    if (status != MPSLP_OK) return print_error(status, "", &fault);
     status = mpslp_store(to, &model, &text, &fault);
     for (uint64_t seed = 0; seed <= ORDERS; seed++) are_alike &= is_stored_alike(to, &model, seed, status, text, &fault);
     mpslp_free_model(&model);
     if (!are_alike) return UNEQUAL;
-    if (status != MPSLP_OK) return tell(status, "", &fault);
+    if (status != MPSLP_OK) return print_error(status, "", &fault);
     put(stdout, text);
     mpslp_free(&text);
     return DONE;

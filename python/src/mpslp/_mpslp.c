@@ -39,8 +39,8 @@ static int find_content(PyObject *source, content *found) {
     return 1;
 }
 
-static PyObject *number_or_none(int is_told, unsigned long long number) {
-    return is_told ? PyLong_FromUnsignedLongLong(number) : Py_NewRef(Py_None);
+static PyObject *number_or_none(int has_number, unsigned long long number) {
+    return has_number ? PyLong_FromUnsignedLongLong(number) : Py_NewRef(Py_None);
 }
 
 static const char *place_word(mpslp_place place) {

@@ -161,7 +161,7 @@ def _sampled_caption(cells: Cells, rows: int, columns: int) -> str:
     if (cells.width, cells.height) == (columns, rows):
         return "Each point is a nonzero."
     down, across = many(ceil(rows / cells.height), "row"), many(ceil(columns / cells.width), "column")
-    return f"Each point stands for up to {down} and {across}: the palest has 1 nonzero, the darkest {cells.most:,}."
+    return f"Each point covers up to {down} and {across}: the palest has 1 nonzero, the darkest {cells.most:,}."
 
 
 def cells_of(matrix: Matrix, width: int, height: int) -> Cells:
