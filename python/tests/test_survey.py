@@ -192,7 +192,7 @@ class Command(Collection):
         for jobs, pipes in (("1", ["0.mps"]), ("2", ["0.mps", "1.mps"]), ("3", ["0.mps", "1.mps"])):  # the third is idle
             for name in pipes:
                 os.mkfifo(name)
-            running = subprocess.Popen([*TOOLS, "survey", "-j", jobs, *pipes, "a.mps", "b.lp"], stdout=subprocess.PIPE, stderr=subprocess.PIPE, start_new_session=True)
+            running = self.begun("survey", "-j", jobs, *pipes, "a.mps", "b.lp", start_new_session=True)
             writers = [self.opened_as_reader_is_there(name) for name in pipes]
             time.sleep(1)  # a further process is done with the other files
             os.killpg(running.pid, signal.SIGINT)

@@ -73,6 +73,11 @@ class Directory(unittest.TestCase):
         """The same in a process of its own."""
         return subprocess.run([*TOOLS, *map(str, words)], capture_output=True, cwd=self.folder, timeout=60, **options)
 
+    def begun(self, *words, **options):
+        """The command, which takes interrupts also where the tests run in the background of a shell, which ignores them."""
+        return subprocess.Popen([*TOOLS, *words], cwd=self.folder, stdout=subprocess.PIPE, stderr=subprocess.PIPE,
+                                preexec_fn=lambda: signal.signal(signal.SIGINT, signal.SIG_DFL), **options)
+
     def opened_as_reader_is_there(self, name):
         """The end of a pipe that is written to, once its other end is open."""
         for _ in range(600):
@@ -239,9 +244,6 @@ class InPlace(Directory):
                     self.assertEqual({name: Path(name).read_bytes() for name in done + left}, {**dict.fromkeys(done, CANONICAL), **dict.fromkeys(left, SMALL)})
                 for name in os.listdir():
                     os.unlink(name)
-
-    def begun(self, *words):
-        return subprocess.Popen([*TOOLS, *words], cwd=self.folder, stdout=subprocess.PIPE, stderr=subprocess.PIPE)
 
 
 class Check(Directory):
