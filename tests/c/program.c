@@ -43,7 +43,7 @@ static bool format_of(const char *word, uint32_t *format) {
 
 static void put(FILE *to, mpslp_text text) { fwrite(text.bytes, 1, text.len, to); }
 
-static void place_text(const mpslp_fault *fault) {
+static void print_place(const mpslp_fault *fault) {
     switch (fault->place) {
     case MPSLP_AT_OBJECTIVE: fprintf(stderr, "objective: "); break;
     case MPSLP_AT_ROW: fprintf(stderr, "row %zu: ", fault->number); break;
@@ -62,7 +62,7 @@ static int print_error(uint32_t status, const char *input, const mpslp_fault *fa
     }
     if (status == MPSLP_UNKNOWN_FORMAT) return WRONG_WORDS;
     fprintf(stderr, "%s", input);
-    place_text(fault);
+    print_place(fault);
     put(stderr, fault->kind);
     if (fault->name_len) fprintf(stderr, " %s", fault->name);
     fprintf(stderr, "\n");
