@@ -14,6 +14,7 @@ from decimal import Context, Decimal
 from functools import lru_cache
 from string import ascii_letters
 
+from colliding import colliding
 from literals import literal, whole
 
 COLUMNS_PER_ROW = 3
@@ -519,12 +520,26 @@ def write_many_names(out, options):
     write_hostile(out, names, pairs)
 
 
+def write_colliding(out, options):
+    """Rows and columns whose names have one hash, if the seed of the hash is the fixed one."""
+    a_name = len(next(colliding(1)))
+    count = max(1, options.size // (3 * a_name + len(" L \n ..  1\n")))
+    names = list(colliding(count, options.seed))
+    if options.lp:
+        out.write(f"Minimize\n {OBJECTIVE}: {names[0]}\nSubject To\n")
+        out.writelines(f" {row}: 2 {name} >= 1\n" for row, name in zip(names, reversed(names)))
+        out.write("End\n")
+    else:
+        write_hostile(out, names, ((name, [(row, "1")]) for name, row in zip(names, reversed(names))))
+
+
 HOSTILE = {
     "one-column-rising": write_rising,
     "one-column-falling": write_falling,
     "one-column-random": write_random,
     "tiny-columns": write_tiny_columns,
     "many-names": write_many_names,
+    "colliding": write_colliding,
 }
 
 
@@ -546,8 +561,10 @@ def arguments():
                         help="the rows of each column in the order of ROWS")
     parser.add_argument("--hostile", choices=sorted(HOSTILE),
                         help="in place of all this, but with size and seed: one column that has "
-                        "very many rows in some order, very many columns of one coefficient, or "
-                        "names with long common fronts")
+                        "very many rows in some order, very many columns of one coefficient, "
+                        "names with long common prefixes, or names with one hash under a known seed")
+    parser.add_argument("--colliding", action="store_const", dest="hostile", const="colliding",
+                        help="the same as --hostile colliding; also with --lp")
     return parser.parse_args()
 
 
@@ -555,7 +572,8 @@ def main():
     options = arguments()
     if options.lp:
         options.thin = True
-    write = write_lp if options.lp else HOSTILE.get(options.hostile, write_usual)
+    usual = write_lp if options.lp else write_usual
+    write = write_colliding if options.hostile == "colliding" else usual if options.lp else HOSTILE.get(options.hostile, usual)
     write(sys.stdout, options)
 
 

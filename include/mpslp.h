@@ -1,12 +1,13 @@
 /*
  * mpslp: one canonical text for each linear or mixed-integer model in an MPS or LP file.
  *
- * Every function of the library (all that are not inline) is proved to behave as documented here, for every input;
- * docs/C.md says what that rests on, and lists the caller's obligations. In short: no pointer may be null, even if a length is
- * 0; outputs must not overlap inputs or each other; initialise each mpslp_text, mpslp_model and mpslp_fault with MPSLP_NO_TEXT,
+ * Each call that returns a mpslp_status passes its arguments to one that is proved to behave as documented here, for every input; all
+ * others are C. docs/C.md says what that rests on, and lists the caller's obligations. In short: no pointer may be null, even if a length is 0; outputs
+ * must not overlap inputs or each other; initialise each mpslp_text, mpslp_model and mpslp_fault with MPSLP_NO_TEXT,
  * MPSLP_NO_MODEL and MPSLP_NO_FAULT. The library keeps no pointer and has no state. Threads may call it at the same time, each
- * with outputs of its own. A call needs a stack of 256 KiB. Texts may have any length for which there is memory: the limit of
- * 1 GiB belongs to the program, and the library never reports TooLong.
+ * with outputs of its own. These calls take random bits from the system, on which their time depends and not their result. A
+ * call needs a stack of 256 KiB. Texts may have any length for which there is memory: the limit of 1 GiB belongs to the program,
+ * and the library never reports TooLong.
  */
 #ifndef MPSLP_H
 #define MPSLP_H
@@ -290,8 +291,9 @@ MPSLP_MUST_USE mpslp_status mpslp_load(mpslp_format format, const uint8_t *bytes
  *   name. DuplicateEntry: a second element of that row in the column.
  * - InfiniteValue: a lower limit or bound of plus infinity, or an upper one of minus infinity.
  * - UnknownRow: the row of an element is no index of a row.
- * - ColumnSplit: the `first` of the first column is not 0, or that of a column is above that of the next one or the number of
- *   elements.
+ * - ColumnSplit: the elements of a column end before its `first`, or beyond the last element. It is the last error of the column,
+ *   so the `first` of a column that is too small or too large is found at the column before it. A `first` of the first column that
+ *   is not 0 is an error of that column, before all its others.
  *
  * If there is none of these, the model as a whole may have an error: NoColumns, RangeInexact, LimitTooLarge, LimitsCrossed,
  * BoundsCrossed or SemiBounds. Then `place` is MPSLP_NOWHERE, and `name` is the name of the row or column.
@@ -478,11 +480,13 @@ MPSLP_INLINE size_t mpslp_number_text(mpslp_number number, char text[MPSLP_NUMBE
  * double.
  */
 MPSLP_INLINE bool mpslp_is_double(mpslp_number number) {
+    const int32_t most_tens = 308;
     uint32_t limbs[4];
     int32_t fives = number.exponent, twos = number.exponent, bits = 0;
     uint64_t odd;
     mpslp_mantissa_limbs(number, limbs);
     if (!(limbs[0] | limbs[1] | limbs[2] | limbs[3])) return true;
+    if (number.exponent > most_tens) return false;
     for (; fives < 0; fives++)
         if (mpslp_divide_limbs(limbs, 5) != 0) return false;
     while (!(limbs[3] & 1)) {
@@ -523,7 +527,7 @@ MPSLP_INLINE double mpslp_short_to_double(mpslp_number number) {
     return number.exponent < 0 ? mantissa / powers[-number.exponent] : mantissa * powers[number.exponent];
 }
 
-/* The double of a finite number, by strtod; `errno` is unchanged. */
+/* The double that strtod reads of a finite number, in the rounding mode that is set; `errno` is unchanged. */
 MPSLP_INLINE double mpslp_text_to_double(mpslp_number number) {
     char text[MPSLP_NUMBER_ROOM];
     const int error = errno;
@@ -535,17 +539,18 @@ MPSLP_INLINE double mpslp_text_to_double(mpslp_number number) {
 }
 
 /*
- * The double nearest to a number, and of two the one with an even last bit; an infinity if the number is one or is too large.
- * `*is_exact` says whether the double is the number; `is_exact` may be null. It relies on a strtod that rounds correctly, as
- * those of glibc and musl do, and rounds in the mode that is set. `errno` is unchanged.
+ * The double nearest to a number, and of two the one with an even last bit; an infinity if the number is one or is too large. It
+ * does not depend on the rounding mode.
+ */
+double mpslp_nearest_double(mpslp_number number);
+
+/*
+ * The double nearest to a number, as mpslp_nearest_double returns it. `*is_exact` says whether the double is the number; `is_exact`
+ * may be null.
  */
 MPSLP_INLINE double mpslp_to_double(mpslp_number number, bool *is_exact) {
-    if (number.infinity != 0) {
-        if (is_exact) *is_exact = true;
-        return number.infinity < 0 ? -HUGE_VAL : HUGE_VAL;
-    }
-    if (is_exact) *is_exact = mpslp_is_double(number);
-    return mpslp_is_short(number) ? mpslp_short_to_double(number) : mpslp_text_to_double(number);
+    if (is_exact) *is_exact = number.infinity != 0 || mpslp_is_double(number);
+    return mpslp_nearest_double(number);
 }
 
 /* Which decimal of a double is wanted: the shortest one that is read as that double, such as 0.1, or its exact value. */
@@ -592,25 +597,10 @@ MPSLP_INLINE bool mpslp_read_double(const char *text, mpslp_number *number) {
 
 /*
  * Makes a number of a double. Returns false, and leaves `*number` unchanged, for NaN, and if the exact decimal is wanted and has
- * more than 36 digits. An infinity becomes that of its sign, and -0 becomes 0. It relies on a printf and a strtod that round
- * correctly, as those of glibc and musl do.
+ * more than 36 digits. An infinity becomes that of its sign, and -0 becomes 0. Of several shortest decimals it takes the one
+ * nearest to the double. It does not depend on the rounding mode.
  */
-MPSLP_INLINE MPSLP_MUST_USE bool mpslp_from_double(double value, mpslp_decimal wanted, mpslp_number *number) {
-    const mpslp_number infinite = { 0, 0, 0, value < 0 ? -1 : 1 };
-    char text[MPSLP_DOUBLE_ROOM];
-    mpslp_number made;
-    int places = 0;
-    if (value != value) return false;
-    if (value - value != 0) {
-        *number = infinite;
-        return true;
-    }
-    do snprintf(text, sizeof text, "%.*e", wanted == MPSLP_EXACT ? MPSLP_DOUBLE_DIGITS - 1 : places, value);
-    while (wanted != MPSLP_EXACT && strtod(text, NULL) != value && ++places < 17);
-    if (!mpslp_read_double(text, &made)) return false;
-    *number = made;
-    return true;
-}
+MPSLP_MUST_USE bool mpslp_from_double(double value, mpslp_decimal wanted, mpslp_number *number);
 
 /* ---- doubles in bulk, into arrays of the caller, in the form in which solvers take a model */
 

@@ -38,7 +38,6 @@ extern inline double mpslp_short_to_double(mpslp_number number);
 extern inline double mpslp_text_to_double(mpslp_number number);
 extern inline double mpslp_to_double(mpslp_number number, bool *is_exact);
 extern inline bool mpslp_read_double(const char *text, mpslp_number *number);
-extern inline bool mpslp_from_double(double value, mpslp_decimal wanted, mpslp_number *number);
 extern inline void mpslp_costs(const mpslp_model *model, double *costs);
 extern inline void mpslp_row_limits(const mpslp_model *model, double *lower, double *upper);
 extern inline void mpslp_column_bounds(const mpslp_model *model, double *lower, double *upper);

@@ -167,6 +167,35 @@ static void check_items(void) {
     REJECTED(it.columns[1].first = SIZE_MAX, "column 0: ColumnSplit");
 }
 
+/* The elements of each of three columns begin here, and there are three elements. */
+static void check_split(size_t first, size_t second, size_t third, const char *line) {
+    static const mpslp_number none = { 0, 0, 0, 0 };
+    const mpslp_column columns[3] = { { x1, none, plus, one, first, MPSLP_CONTINUOUS },
+                                      { x2, none, plus, one, second, MPSLP_CONTINUOUS },
+                                      { r1, none, plus, one, third, MPSLP_CONTINUOUS } };
+    mpslp_text text = MPSLP_NO_TEXT;
+    mpslp_fault fault = MPSLP_NO_FAULT;
+    char found[MPSLP_LINE_ROOM] = "";
+    arrays it = made();
+    it.model.rows = it.rows;
+    it.model.elements = it.elements;
+    it.model.columns = columns;
+    it.model.num_columns = 3;
+    if (mpslp_store(MPSLP_MPS, &it.model, &text, &fault) != MPSLP_OK) mpslp_fault_line(&fault, found, sizeof found);
+    check(strcmp(found, line) == 0, line);
+    mpslp_free(&text);
+}
+
+static void check_splits(void) {
+    check_split(0, 0, 2, "");
+    check_split(0, 2, 3, "");
+    check_split(0, 2, 1, "column 1: ColumnSplit");
+    check_split(0, 1, 4, "column 1: ColumnSplit");
+    check_split(0, 4, 4, "column 0: ColumnSplit");
+    check_split(1, 1, 1, "column 0: ColumnSplit");
+    check_split(3, 2, 4, "column 0: ColumnSplit");
+}
+
 static void check_whole(void) {
     const mpslp_number far_apart = { 1, 0, -400, 0 }, most = { 5, 0, 19, 0 }, least = { MPSLP_CAST(uint64_t, -5), -1, 19, 0 };
     REJECTED((it.model.num_columns = 0, it.model.num_elements = 0), "file: NoColumns");
@@ -185,6 +214,10 @@ static void check_order(void) {
     REJECTED((it.model.sense = MPSLP_CAST(mpslp_sense, 2), it.rows[0].name = tab), "objective: BadType");
     REJECTED((it.rows[1].name = tab, it.columns[0].name = tab), "row 1: NameByte");
     REJECTED((it.elements[0].row = 2, it.columns[1].name = tab), "element 0: UnknownRow");
+    REJECTED((it.columns[0].first = 1, it.rows[1].name = tab), "row 1: NameByte");
+    REJECTED((it.columns[0].first = 1, it.columns[0].name = tab), "column 0: ColumnSplit");
+    REJECTED((it.columns[1].first = 4, it.columns[0].kind = MPSLP_CAST(mpslp_kind, 3)), "column 0: BadType");
+    REJECTED((it.columns[1].first = 4, it.elements[0].row = 2), "column 0: ColumnSplit");
     REJECTED((it.columns[1].first = 4, it.columns[1].name = tab), "column 0: ColumnSplit");
     REJECTED((it.columns[1].upper = minus, it.rows[0].upper = minus_two, it.rows[0].lower = one), "column 1: InfiniteValue");
     REJECTED((it.rows[0].lower = three, it.rows[0].upper = one, it.rows[1].upper = zero), "file: LimitsCrossed r1");
@@ -202,6 +235,7 @@ static void check_names(void) {
 int main(void) {
     check_texts();
     check_items();
+    check_splits();
     check_whole();
     check_order();
     check_names();

@@ -18,10 +18,15 @@ die() {
 test -x $mpslp || die "the program is not built: make run"
 
 # The shared library exports the calls of the header, and nothing else.
-sed -n 's/^\(MPSLP_MUST_USE mpslp_status\|const char\|MPSLP_INLINE [^(]*[ *]\) *\*\{0,1\}\(mpslp_[a-z0-9_]*\)(.*/\2/p' include/mpslp.h | sort > $tried/declared
+sed -n 's/^\(MPSLP_MUST_USE mpslp_status\|MPSLP_MUST_USE bool\|double\|const char\|MPSLP_INLINE [^(]*[ *]\) *\*\{0,1\}\(mpslp_[a-z0-9_]*\)(.*/\2/p' include/mpslp.h | sort > $tried/declared
 nm -D --defined-only build/libmpslp.so.0 | sed -n 's/^[0-9a-f]* T \([a-z0-9_]*\).*/\1/p' | sort > $tried/exported
 test -s $tried/declared || die "the header declares no call"
 cmp $tried/declared $tried/exported || die "the shared library exports other calls than the header declares"
+# So does the static one, and a program may define the names of the kit's heap.
+nm -g --defined-only build/libmpslp.a | sed -n 's/^[0-9a-f]* [A-Z] \(.*\)/\1/p' | sort > $tried/defined
+cmp $tried/declared $tried/defined || die "the static library defines other names than the header declares"
+gcc -std=c99 $warn -Iinclude -o $tried/own-heap tests/c/own_heap.c build/libmpslp.a
+$tried/own-heap || die "a program with names of the kit's heap"
 
 # Header and crate agree, in C and in C++, with either library.
 gcc -std=c99 $warn -Iinclude -o $tried/layout tests/c/layout.c build/libmpslp.a
@@ -39,6 +44,19 @@ for program in header header-sanitized header-shared header-cpp; do
     LD_LIBRARY_PATH=build $tried/$program "$version" || die "an inline call of $program"
 done
 python3 tests/c/decimals.py $tried/header || die "the decimal of a double"
+# Numbers and doubles in each rounding mode, as they are in the library, and compiled again with checks.
+for compiler in gcc clang; do
+    command -v $compiler > /dev/null || { echo "not tried with $compiler, which is not installed"; continue; }
+    for options in -O0 -O2 "-O2 -ffast-math"; do
+        $compiler -std=c99 $warn $options -Iinclude -o $tried/numbers tests/c/numbers.c build/libmpslp.a -lm
+        $tried/numbers 20000 || die "a number, by $compiler $options"
+    done
+    for options in -O1 "-O1 -ffast-math"; do
+        $compiler -std=c99 $warn $options -g -fsanitize=address,undefined -fno-sanitize-recover=all -Iinclude -o $tried/numbers tests/c/numbers.c lib/doubles.c \
+            build/libmpslp.a -lm
+        $tried/numbers 5000 || die "a number, checked, by $compiler $options"
+    done
+done
 
 # What the compiler has to warn of: a format that is none, and a status that is ignored.
 for wrong in 'return mpslp_canonical(MPSLP_MAXIMIZE, MPSLP_LP, text.bytes, 0, &text, &fault) == MPSLP_OK' \
@@ -55,6 +73,17 @@ gcc -std=c99 $warn -g -fsanitize=address,undefined -fno-sanitize-recover=all -Ii
 g++ -std=c++11 -x c++ $warn -Wold-style-cast -Iinclude -o $tried/arrays-cpp tests/c/arrays.c -x none -Lbuild -lmpslp
 $tried/arrays-sanitized || die "a model made in C"
 LD_LIBRARY_PATH=build $checked $tried/arrays-cpp || die "a model made in C++"
+
+# The same results with each seed of the hashes, and where the system has no random bits; and the time of names that collide.
+gcc -std=c99 $warn -O2 -Iinclude -o $tried/seeds tests/c/seeds.c build/libmpslp.a
+gcc -std=c99 $warn -O2 -Iinclude -o $tried/seeds-shared tests/c/seeds.c -Lbuild -lmpslp
+python3 tests/c/colliding.py 4000 $tried
+for program in seeds seeds-shared; do
+    LD_LIBRARY_PATH=build $tried/$program examples/*.mps examples/*.lp vectors/*.mps vectors/*.lp || die "a seed, by $program"
+    for format in mps lp; do
+        LD_LIBRARY_PATH=build $tried/$program growth $tried/colliding.$format $tried/alike.$format || die "names that collide, by $program"
+    done
+done
 
 # Each call, on a stack of 256 KiB.
 gcc -std=c99 $warn -Iinclude -pthread -o $tried/stack tests/c/stack.c build/libmpslp.a

@@ -17,6 +17,9 @@ EXACT = Context(prec=2000, Emin=-10000, Emax=10000)
 
 def doubles():
     yield from (0.0, 1.0, -1.0, 0.1, -0.5, 1e22, 1e23, 5e-324, 2.0**-1022, sys.float_info.max, 1 / 3, 123456789.0, 1e100, 2.0**119, 2.0**-36)
+    yield from (math.ldexp(digits, twos) for twos in range(-1074, 971) for digits in (1, 2**53 - 1) if digits == 1 or twos % 8 == 0)
+    # Two decimals with the fewest digits are as near.
+    yield from (2.0**50 + 0.25, 2.0**50 + 0.75, 2.0**49 + 0.125, 2.0**49 + 0.375)
     for _ in range(3000):
         value = struct.unpack("<d", random.randbytes(8))[0]
         if math.isfinite(value):

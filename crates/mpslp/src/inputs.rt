@@ -1,7 +1,7 @@
 //! The inputs of a job: files, standard input, and stand-ins for missing ones.
 
 use mpslp_convert::{Job, JobFault, perform};
-use mpslp_model::{FromRead, Sink, Source};
+use mpslp_model::{FromRead, HashSeed, Sink, Source};
 use std::io::{Error, ErrorKind, Read};
 use std::rt::Files;
 use std::{fs, io};
@@ -40,16 +40,24 @@ fn paths(job: &Result<Job, JobFault>) -> (Option<&str>, Option<&str>) {
 /// Opens the first input and then the second, does the job, and returns the exit status.
 pub(crate) fn perform_on_inputs<R: Input + Files + AllocGlobal, W: Sink, E: Sink>(
     rt: &R,
+    seed: HashSeed,
     job: &Result<Job, JobFault>,
     out: &mut W,
     err: &mut E,
 ) -> u8 {
     match paths(job).0 {
-        None => perform_from_first(rt, job, &mut FromRead::new(NoFile::Empty), out, err),
-        Some("-") => perform_from_first(rt, job, &mut FromRead::new(rt.reader()), out, err),
+        None => perform_from_first(rt, seed, job, &mut FromRead::new(NoFile::Empty), out, err),
+        Some("-") => perform_from_first(rt, seed, job, &mut FromRead::new(rt.reader()), out, err),
         Some(path) => match fs::open(rt, path) {
-            Ok(file) => perform_from_first(rt, job, &mut FromRead::new(file), out, err),
-            Err(_) => perform_from_first(rt, job, &mut FromRead::new(NoFile::Missing), out, err),
+            Ok(file) => perform_from_first(rt, seed, job, &mut FromRead::new(file), out, err),
+            Err(_) => perform_from_first(
+                rt,
+                seed,
+                job,
+                &mut FromRead::new(NoFile::Missing),
+                out,
+                err,
+            ),
         },
     }
 }
@@ -57,6 +65,7 @@ pub(crate) fn perform_on_inputs<R: Input + Files + AllocGlobal, W: Sink, E: Sink
 /// Opens the second input, does the job, and returns the exit status.
 fn perform_from_first<R: Input + Files + AllocGlobal, I: Source, W: Sink, E: Sink>(
     rt: &R,
+    seed: HashSeed,
     job: &Result<Job, JobFault>,
     first: &mut I,
     out: &mut W,
@@ -66,6 +75,7 @@ fn perform_from_first<R: Input + Files + AllocGlobal, I: Source, W: Sink, E: Sin
     match paths(job).1 {
         None => perform(
             alloc,
+            seed,
             MAX_BYTES,
             job,
             first,
@@ -75,6 +85,7 @@ fn perform_from_first<R: Input + Files + AllocGlobal, I: Source, W: Sink, E: Sin
         ),
         Some("-") => perform(
             alloc,
+            seed,
             MAX_BYTES,
             job,
             first,
@@ -85,6 +96,7 @@ fn perform_from_first<R: Input + Files + AllocGlobal, I: Source, W: Sink, E: Sin
         Some(path) => match fs::open(rt, path) {
             Ok(file) => perform(
                 alloc,
+                seed,
                 MAX_BYTES,
                 job,
                 first,
@@ -94,6 +106,7 @@ fn perform_from_first<R: Input + Files + AllocGlobal, I: Source, W: Sink, E: Sin
             ),
             Err(_) => perform(
                 alloc,
+                seed,
                 MAX_BYTES,
                 job,
                 first,

@@ -5,9 +5,10 @@ mod inputs;
 
 use inputs::perform_on_inputs;
 use mpslp_convert::{Job, JobFault, Word, job};
-use mpslp_model::ToWrite;
+use mpslp_model::{FIXED_SEED, HashSeed, ToWrite};
 use std::io::ErrorKind;
 use std::process::ExitCode;
+use std::random::RandomSource;
 use std::rt::Env;
 use std::{env, io};
 
@@ -26,10 +27,21 @@ fn requested_job<R: Env + AllocGlobal>(rt: &R) -> Result<Job, JobFault> {
     }
 }
 
+/// A seed for the hashes of names: random bits of the system, which no author of a file knows; if the system has none, the fixed
+/// seed. Only the time of the job depends on it.
+fn random_seed<R: RandomSource>(rt: &R) -> HashSeed {
+    let mut bits = [0; 16];
+    match rt.fill_bytes(&mut bits) {
+        Ok(()) => HashSeed::new(u128::from_le_bytes(bits)),
+        Err(_) => FIXED_SEED,
+    }
+}
+
 fn main(rt: HostRuntime) -> ExitCode {
     let job = requested_job(&rt);
     let status = perform_on_inputs(
         &rt,
+        random_seed(&rt),
         &job,
         &mut ToWrite::new(io::writer(&rt)),
         &mut ToWrite::new(rt.stderr()),

@@ -8,6 +8,7 @@ use crate::answers::{OK, UNKNOWN_FORMAT, fault_status, truth_status};
 use crate::faults::{MpslpFault, set_fault};
 use crate::texts::{canonical_in, form_of, is_canonical_in, same_in};
 use mpslp_convert::ConvertFault;
+use mpslp_model::HashSeed;
 use std::alloc::Global;
 
 /// A text. The caller frees it unless it is empty.
@@ -64,8 +65,10 @@ fn give_truth(answer: Result<bool, ConvertFault>, fault: &mut MpslpFault) -> u32
 /// | 5 | an allocation failed |
 /// | 6 | `from` or `to` is an unknown format |
 #[unsafe(no_mangle)]
-pub extern "C" fn mpslp_canonical(
+pub extern "C" fn seeded_canonical(
     alloc: Global,
+    state: u64,
+    factor: u64,
     from: u32,
     to: u32,
     bytes: &[u8],
@@ -80,7 +83,11 @@ pub extern "C" fn mpslp_canonical(
     let Some(to) = form_of(to) else {
         return UNKNOWN_FORMAT;
     };
-    give_text(canonical_in(alloc, from, to, bytes), out, fault)
+    give_text(
+        canonical_in(alloc, HashSeed { state, factor }, from, to, bytes),
+        out,
+        fault,
+    )
 }
 
 /// Whether two texts define the same model, each in its format: 0 is MPS, 1 is LP.
@@ -94,8 +101,10 @@ pub extern "C" fn mpslp_canonical(
 /// | 5 | an allocation failed |
 /// | 6 | one of the formats is unknown |
 #[unsafe(no_mangle)]
-pub extern "C" fn mpslp_same(
+pub extern "C" fn seeded_same(
     alloc: Global,
+    state: u64,
+    factor: u64,
     first_format: u32,
     first: &[u8],
     second_format: u32,
@@ -111,7 +120,14 @@ pub extern "C" fn mpslp_same(
         return UNKNOWN_FORMAT;
     };
     give_truth(
-        same_in(alloc, first_form, first, second_form, second),
+        same_in(
+            alloc,
+            HashSeed { state, factor },
+            first_form,
+            first,
+            second_form,
+            second,
+        ),
         fault,
     )
 }
@@ -126,8 +142,10 @@ pub extern "C" fn mpslp_same(
 /// | 5 | an allocation failed |
 /// | 6 | the format is unknown |
 #[unsafe(no_mangle)]
-pub extern "C" fn mpslp_is_canonical(
+pub extern "C" fn seeded_is_canonical(
     alloc: Global,
+    state: u64,
+    factor: u64,
     format: u32,
     bytes: &[u8],
     fault: &mut MpslpFault,
@@ -135,7 +153,10 @@ pub extern "C" fn mpslp_is_canonical(
     ensures { IsTestAnswer (form_of format) bytes.now result fault.old fault.new }
 {
     match form_of(format) {
-        Some(form) => give_truth(is_canonical_in(alloc, form, bytes), fault),
+        Some(form) => give_truth(
+            is_canonical_in(alloc, HashSeed { state, factor }, form, bytes),
+            fault,
+        ),
         None => UNKNOWN_FORMAT,
     }
 }

@@ -2,8 +2,8 @@
 
 ghost use Rattle.mpslp_c.specs.Laws.{DefineTheirModels, AreStoredAsTheirTexts};
 
-/// The arrays of a well-formed model define that model: what [`mpslp_load`](crate::loading::mpslp_load) returns is taken by
-/// [`mpslp_store`](crate::storing::mpslp_store) and [`mpslp_normalize`](crate::normalizing::mpslp_normalize) as exactly the
+/// The arrays of a well-formed model define that model: what [`seeded_load`](crate::loading::seeded_load) returns is taken by
+/// [`seeded_store`](crate::storing::seeded_store) and [`seeded_normalize`](crate::normalizing::seeded_normalize) as exactly the
 /// model that was loaded.
 pub fn arrays_define_their_models()
     ensures { DefineTheirModels }

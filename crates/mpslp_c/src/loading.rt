@@ -12,18 +12,22 @@ use crate::arrays::{MpslpModel, c_model};
 use crate::faults::{MpslpFault, set_fault};
 use crate::texts::form_of;
 use mpslp_convert::{ConvertFault, Form, model_of};
-use mpslp_model::Format;
+use mpslp_model::{Format, HashSeed};
 use mpslp_write::{Lp, Mps};
 use std::alloc::Global;
 
 /// The arrays of the model that the bytes define.
-fn arrays_of<A: Format>(alloc: Global, bytes: &[u8]) -> Result<MpslpModel, ConvertFault>
+fn arrays_of<A: Format>(
+    alloc: Global,
+    seed: HashSeed,
+    bytes: &[u8],
+) -> Result<MpslpModel, ConvertFault>
     ensures answer { IsLoading A.declares A.first_fault bytes.now result }
     ensures accepts { (m : LinearModel) → A.declares bytes.now m → IsOkUnless result ConvertFault.OutOfMemory }
     ensures refuses { (fault : Fault) → A.first_fault bytes.now fault
         → IsErrUnless result (ConvertFault.First fault) ConvertFault.OutOfMemory }
 {
-    let model = model_of::<A>(alloc, bytes)?;
+    let model = model_of::<A>(alloc, seed, bytes)?;
     match c_model(alloc, &model) {
         Ok(arrays) => Ok(arrays),
         Err(_) => Err(ConvertFault::OutOfMemory),
@@ -31,15 +35,20 @@ fn arrays_of<A: Format>(alloc: Global, bytes: &[u8]) -> Result<MpslpModel, Conve
 }
 
 /// The same, in a format that is known only when the program runs.
-fn arrays_in(alloc: Global, form: Form, bytes: &[u8]) -> Result<MpslpModel, ConvertFault>
+fn arrays_in(
+    alloc: Global,
+    seed: HashSeed,
+    form: Form,
+    bytes: &[u8],
+) -> Result<MpslpModel, ConvertFault>
     ensures answer { IsLoading (declares_in form) (first_fault_in form) bytes.now result }
     ensures accepts { (m : LinearModel) → declares_in form bytes.now m → IsOkUnless result ConvertFault.OutOfMemory }
     ensures refuses { (fault : Fault) → first_fault_in form bytes.now fault
         → IsErrUnless result (ConvertFault.First fault) ConvertFault.OutOfMemory }
 {
     match form {
-        Form::Mps => arrays_of::<Mps>(alloc, bytes),
-        Form::Lp => arrays_of::<Lp>(alloc, bytes),
+        Form::Mps => arrays_of::<Mps>(alloc, seed, bytes),
+        Form::Lp => arrays_of::<Lp>(alloc, seed, bytes),
     }
 }
 
@@ -72,8 +81,10 @@ fn give_model(
 /// | 5 | an allocation failed |
 /// | 6 | the format is unknown |
 #[unsafe(no_mangle)]
-pub extern "C" fn mpslp_load(
+pub extern "C" fn seeded_load(
     alloc: Global,
+    state: u64,
+    factor: u64,
     format: u32,
     bytes: &[u8],
     out: &mut MpslpModel,
@@ -82,7 +93,11 @@ pub extern "C" fn mpslp_load(
     ensures { IsLoadAnswer (form_of format) bytes.now result out.old out.new fault.old fault.new }
 {
     match form_of(format) {
-        Some(form) => give_model(arrays_in(alloc, form, bytes), out, fault),
+        Some(form) => give_model(
+            arrays_in(alloc, HashSeed { state, factor }, form, bytes),
+            out,
+            fault,
+        ),
         None => UNKNOWN_FORMAT,
     }
 }

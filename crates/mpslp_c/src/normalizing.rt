@@ -10,15 +10,16 @@ use crate::answers::OK;
 use crate::arrays::{MpslpModel, c_model};
 use crate::faults::{MpslpFault, StoreFault, set_store_fault};
 use crate::storing::{store_status, stored_model};
+use mpslp_model::HashSeed;
 use std::alloc::Global;
 
 /// The arrays, as of a model that was loaded, of the model that arrays define.
-fn normalized(alloc: Global, model: &MpslpModel) -> Result<MpslpModel, StoreFault>
+fn normalized(alloc: Global, seed: HashSeed, model: &MpslpModel) -> Result<MpslpModel, StoreFault>
     ensures answer { IsNormalizing model.now result }
     ensures accepts { (m : LinearModel) → Defines model.now m → IsOkUnless result StoreFault.OutOfMemory }
     ensures refuses { (why : StoreFault) → HasFault model.now why → IsErrUnless result why StoreFault.OutOfMemory }
 {
-    let model = stored_model(alloc, model)?;
+    let model = stored_model(alloc, seed, model)?;
     match c_model(alloc, &model) {
         Ok(arrays) => Ok(arrays),
         Err(_) => Err(StoreFault::OutOfMemory),
@@ -45,10 +46,10 @@ fn give_arrays(
     }
 }
 
-/// Makes the arrays of the model that arrays define, in the form that [`mpslp_load`](crate::loading::mpslp_load) returns: rows,
+/// Makes the arrays of the model that arrays define, in the form that [`seeded_load`](crate::loading::seeded_load) returns: rows,
 /// columns and the elements of a column in their order there, numbers in normal form, and no element of 0.
 ///
-/// The arrays that are given may have the form that [`mpslp_store`](crate::storing::mpslp_store) accepts, and are rejected with
+/// The arrays that are given may have the form that [`seeded_store`](crate::storing::seeded_store) accepts, and are rejected with
 /// the same first error.
 ///
 /// | status | when |
@@ -57,13 +58,19 @@ fn give_arrays(
 /// | 2 | the arrays define no model; `fault` is their first error |
 /// | 5 | an allocation failed |
 #[unsafe(no_mangle)]
-pub extern "C" fn mpslp_normalize(
+pub extern "C" fn seeded_normalize(
     alloc: Global,
+    state: u64,
+    factor: u64,
     model: &MpslpModel,
     out: &mut MpslpModel,
     fault: &mut MpslpFault,
 ) -> u32
     ensures { IsNormalized model.now result out.old out.new fault.old fault.new }
 {
-    give_arrays(normalized(alloc, model), out, fault)
+    give_arrays(
+        normalized(alloc, HashSeed { state, factor }, model),
+        out,
+        fault,
+    )
 }

@@ -22,7 +22,7 @@ use crate::texts::form_of;
 use mpslp_convert::{ConvertFault, Form, text_of};
 use mpslp_lines::LineError;
 use mpslp_model::laws::each_builder_is_made;
-use mpslp_model::{Builder, FaultKind, Format, Model, ReadFault};
+use mpslp_model::{Builder, FaultKind, Format, HashSeed, Model, ReadFault};
 use mpslp_write::{Lp, Mps};
 use std::alloc::Global;
 
@@ -173,12 +173,16 @@ fn declare_items(alloc: Global, model: &MpslpModel, builder: &mut Builder) -> Re
 }
 
 /// The model that arrays define.
-pub(crate) fn stored_model(alloc: Global, model: &MpslpModel) -> Result<Model, StoreFault>
+pub(crate) fn stored_model(
+    alloc: Global,
+    seed: HashSeed,
+    model: &MpslpModel,
+) -> Result<Model, StoreFault>
     ensures answer { IsStoredModel model.now result }
     ensures accepts { (m : LinearModel) → Defines model.now m → IsOkUnless result StoreFault.OutOfMemory }
     ensures refuses { (why : StoreFault) → HasFault model.now why → IsErrUnless result why StoreFault.OutOfMemory }
 {
-    let mut builder = Builder::new(alloc);
+    let mut builder = Builder::new(alloc, seed);
     declare_items(alloc, model, &mut builder)?;
     each_builder_is_made(&builder);
     match builder.finish() {
@@ -190,14 +194,18 @@ pub(crate) fn stored_model(alloc: Global, model: &MpslpModel) -> Result<Model, S
 }
 
 /// The canonical text of the model that arrays define.
-fn stored_text<B: Format>(alloc: Global, model: &MpslpModel) -> Result<Vec<u8>, StoreFault>
+fn stored_text<B: Format>(
+    alloc: Global,
+    seed: HashSeed,
+    model: &MpslpModel,
+) -> Result<Vec<u8>, StoreFault>
     ensures answer { IsStoring B.unfit B.text model.now result }
     ensures accepts { (m : LinearModel) → Defines model.now m → B.unfit m ≡ None → IsOkUnless result StoreFault.OutOfMemory }
     ensures refuses { (why : StoreFault) → HasFault model.now why → IsErrUnless result why StoreFault.OutOfMemory }
     ensures cannot_express { (m : LinearModel) (place : NameAt) → Defines model.now m → B.unfit m ≡ Some place
         → IsErrUnless result (StoreFault.NotLp place) StoreFault.OutOfMemory }
 {
-    let model = stored_model(alloc, model)?;
+    let model = stored_model(alloc, seed, model)?;
     match text_of::<B>(alloc, &model) {
         Ok(text) => Ok(text),
         Err(ConvertFault::NotLp(place)) => Err(StoreFault::NotLp(place)),
@@ -206,7 +214,12 @@ fn stored_text<B: Format>(alloc: Global, model: &MpslpModel) -> Result<Vec<u8>, 
 }
 
 /// The same, in a format that is known only when the program runs.
-fn stored_text_in(alloc: Global, to: Form, model: &MpslpModel) -> Result<Vec<u8>, StoreFault>
+fn stored_text_in(
+    alloc: Global,
+    seed: HashSeed,
+    to: Form,
+    model: &MpslpModel,
+) -> Result<Vec<u8>, StoreFault>
     ensures answer { IsStoring (unfit_in to) (text_in to) model.now result }
     ensures accepts { (m : LinearModel) → Defines model.now m → unfit_in to m ≡ None → IsOkUnless result StoreFault.OutOfMemory }
     ensures refuses { (why : StoreFault) → HasFault model.now why → IsErrUnless result why StoreFault.OutOfMemory }
@@ -214,8 +227,8 @@ fn stored_text_in(alloc: Global, to: Form, model: &MpslpModel) -> Result<Vec<u8>
         → IsErrUnless result (StoreFault.NotLp place) StoreFault.OutOfMemory }
 {
     match to {
-        Form::Mps => stored_text::<Mps>(alloc, model),
-        Form::Lp => stored_text::<Lp>(alloc, model),
+        Form::Mps => stored_text::<Mps>(alloc, seed, model),
+        Form::Lp => stored_text::<Lp>(alloc, seed, model),
     }
 }
 
@@ -252,7 +265,7 @@ fn give_stored(
 
 /// Writes the canonical text, in the format `to`, of the model that arrays define: 0 is MPS, 1 is LP.
 ///
-/// The arrays have the form that [`mpslp_load`](crate::loading::mpslp_load) returns, but rows, columns and the elements of a
+/// The arrays have the form that [`seeded_load`](crate::loading::seeded_load) returns, but rows, columns and the elements of a
 /// column may come in any order, and numbers need not be in normal form. A limit or bound with an absolute value of 10^20 or
 /// more is the infinity of its sign. A coefficient of 0 is no nonzero of the model. Every index is checked before it is used.
 ///
@@ -268,8 +281,10 @@ fn give_stored(
 /// bounds, cost, type) with its elements. It has its place and index in the arrays. If no item has an error, the error is that
 /// of the whole, as at the end of a file, with its name.
 #[unsafe(no_mangle)]
-pub extern "C" fn mpslp_store(
+pub extern "C" fn seeded_store(
     alloc: Global,
+    state: u64,
+    factor: u64,
     to: u32,
     model: &MpslpModel,
     out: &mut MpslpText,
@@ -278,7 +293,11 @@ pub extern "C" fn mpslp_store(
     ensures { IsStoreAnswer (form_of to) model.now result out.old out.new fault.old fault.new }
 {
     match form_of(to) {
-        Some(to) => give_stored(stored_text_in(alloc, to, model), out, fault),
+        Some(to) => give_stored(
+            stored_text_in(alloc, HashSeed { state, factor }, to, model),
+            out,
+            fault,
+        ),
         None => UNKNOWN_FORMAT,
     }
 }

@@ -9,6 +9,7 @@ ghost use Rattle.mpslp_convert.specs.Performed.{declares_in, first_fault_in, unf
 ghost use Rattle.mpslp_c.specs.Answers.{form_of};
 
 use mpslp_convert::{ConvertFault, Form, canonical, is_canonical, same_model};
+use mpslp_model::HashSeed;
 use mpslp_write::{Lp, Mps};
 use std::alloc::Global;
 
@@ -26,6 +27,7 @@ pub(crate) fn form_of(number: u32) -> Option<Form>
 /// The canonical text of the model that the bytes declare.
 pub(crate) fn canonical_in(
     alloc: Global,
+    seed: HashSeed,
     from: Form,
     to: Form,
     bytes: &[u8],
@@ -39,16 +41,17 @@ pub(crate) fn canonical_in(
         → IsErrUnless result (ConvertFault.NotLp place) ConvertFault.OutOfMemory }
 {
     match (from, to) {
-        (Form::Mps, Form::Mps) => canonical::<Mps, Mps>(alloc, bytes),
-        (Form::Mps, Form::Lp) => canonical::<Mps, Lp>(alloc, bytes),
-        (Form::Lp, Form::Mps) => canonical::<Lp, Mps>(alloc, bytes),
-        (Form::Lp, Form::Lp) => canonical::<Lp, Lp>(alloc, bytes),
+        (Form::Mps, Form::Mps) => canonical::<Mps, Mps>(alloc, seed, bytes),
+        (Form::Mps, Form::Lp) => canonical::<Mps, Lp>(alloc, seed, bytes),
+        (Form::Lp, Form::Mps) => canonical::<Lp, Mps>(alloc, seed, bytes),
+        (Form::Lp, Form::Lp) => canonical::<Lp, Lp>(alloc, seed, bytes),
     }
 }
 
 /// Whether two texts declare the same model.
 pub(crate) fn same_in(
     alloc: Global,
+    seed: HashSeed,
     first_form: Form,
     first: &[u8],
     second_form: Form,
@@ -63,22 +66,27 @@ pub(crate) fn same_in(
         → IsErrUnless result (ConvertFault.Second fault) ConvertFault.OutOfMemory }
 {
     match (first_form, second_form) {
-        (Form::Mps, Form::Mps) => same_model::<Mps, Mps>(alloc, first, second),
-        (Form::Mps, Form::Lp) => same_model::<Mps, Lp>(alloc, first, second),
-        (Form::Lp, Form::Mps) => same_model::<Lp, Mps>(alloc, first, second),
-        (Form::Lp, Form::Lp) => same_model::<Lp, Lp>(alloc, first, second),
+        (Form::Mps, Form::Mps) => same_model::<Mps, Mps>(alloc, seed, first, second),
+        (Form::Mps, Form::Lp) => same_model::<Mps, Lp>(alloc, seed, first, second),
+        (Form::Lp, Form::Mps) => same_model::<Lp, Mps>(alloc, seed, first, second),
+        (Form::Lp, Form::Lp) => same_model::<Lp, Lp>(alloc, seed, first, second),
     }
 }
 
 /// Whether the bytes are the canonical text of the model that they declare.
-pub(crate) fn is_canonical_in(alloc: Global, form: Form, bytes: &[u8]) -> Result<bool, ConvertFault>
+pub(crate) fn is_canonical_in(
+    alloc: Global,
+    seed: HashSeed,
+    form: Form,
+    bytes: &[u8],
+) -> Result<bool, ConvertFault>
     ensures answer { IsTestOfText (declares_in form) (first_fault_in form) (text_in form) bytes.now result }
     ensures accepts { (m : LinearModel) → declares_in form bytes.now m → IsOkUnless result ConvertFault.OutOfMemory }
     ensures refuses { (fault : Fault) → first_fault_in form bytes.now fault
         → IsErrUnless result (ConvertFault.First fault) ConvertFault.OutOfMemory }
 {
     match form {
-        Form::Mps => is_canonical::<Mps>(alloc, bytes),
-        Form::Lp => is_canonical::<Lp>(alloc, bytes),
+        Form::Mps => is_canonical::<Mps>(alloc, seed, bytes),
+        Form::Lp => is_canonical::<Lp>(alloc, seed, bytes),
     }
 }

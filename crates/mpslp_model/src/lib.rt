@@ -17,7 +17,7 @@ pub use mpslp_builder::Builder;
 pub use mpslp_io::{FromRead, IoFailed, Sink, Source, ToWrite, put_all};
 pub use mpslp_model_core::Model;
 pub use mpslp_types::{
-    BuildFault, Fault, FaultKind, Kind, Limit, MAX_NAME_LEN, Name, NameAt, NameFault, ReadFault,
-    RowType, Sense, WriteFault,
+    BuildFault, FIXED_SEED, Fault, FaultKind, HashSeed, Kind, Limit, MAX_NAME_LEN, Name, NameAt,
+    NameFault, ReadFault, RowType, Sense, WriteFault,
 };
 pub use readers::{ModelReader, read_whole};

@@ -7,7 +7,7 @@ ghost use Rattle.mpslp_model.specs.Readers.{IsFedBy};
 ghost use Rattle.mpslp_types.specs.declared.faults.Fault.{Fault};
 
 use mpslp_model_core::Model;
-use mpslp_types::ReadFault;
+use mpslp_types::{HashSeed, ReadFault};
 use std::alloc::Global;
 
 /// A reader that takes the bytes of a text in pieces of any length, and does not keep bytes that it has read. How the text is
@@ -28,8 +28,8 @@ pub trait ModelReader: Drop {
     /// The complete lines of these bytes have an error, and this is the first one.
     ghost early_fault: { List ℕ → Fault → Type 0 };
 
-    /// A reader without input. Allocates nothing.
-    fn new(alloc: Global) -> Self
+    /// A reader without input. Allocates nothing. Only the time of its calls depends on the seed.
+    fn new(alloc: Global, seed: HashSeed) -> Self
         ensures { after result [] };
 
     /// Reads the next piece of the text.
@@ -79,10 +79,14 @@ pub trait ModelReader: Drop {
 /// # Errors
 ///
 /// `File` with the first error; `OutOfMemory` if an allocation fails. Never `Failed`.
-pub fn read_whole<P: ModelReader>(alloc: Global, bytes: &[u8]) -> Result<Model, ReadFault>
+pub fn read_whole<P: ModelReader>(
+    alloc: Global,
+    seed: HashSeed,
+    bytes: &[u8],
+) -> Result<Model, ReadFault>
     ensures { IsAnswerTo P.declares P.first_fault bytes.now result }
 {
-    let mut reader = P::new(alloc);
+    let mut reader = P::new(alloc, seed);
     reader.feed(bytes)?;
     reader.finish()
 }

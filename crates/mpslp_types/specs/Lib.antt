@@ -6,3 +6,4 @@ pub mod FaultName
 pub mod FaultOrder
 pub mod Basics
 pub mod Laws
+pub mod NameHash

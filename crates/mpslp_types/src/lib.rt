@@ -9,4 +9,7 @@ mod names;
 
 pub use faults::{BuildFault, Fault, FaultKind, NameAt, ReadFault, WriteFault};
 pub use kinds::{Kind, Limit, RowType, Sense};
-pub use names::{MAX_NAME_LEN, Name, NameBytes, NameFault, is_lp_byte, may_be_reserved};
+pub use names::{
+    FIXED_SEED, HashSeed, MAX_NAME_LEN, Name, NameBytes, NameFault, NameHasher, is_lp_byte,
+    may_be_reserved,
+};

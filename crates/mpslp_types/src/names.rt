@@ -1,5 +1,6 @@
 //! Names of rows, columns and the objective.
 
+mod hashing;
 mod keys;
 mod lp;
 
@@ -13,6 +14,7 @@ ghost use Rattle.std.specs.Cmp.Rules.{hashing};
 ghost use Rattle.mpslp_types.specs.Name.{IsMpsName, is_visible, same_bytes, marker, bytes_cmp};
 ghost use Rattle.mpslp_types.specs.NameTests.{name_refusal};
 
+pub use hashing::{FIXED_SEED, HashSeed, NameHasher};
 pub use keys::NameBytes;
 pub use lp::{is_lp_byte, may_be_reserved};
 use smallvec::SmallVec;

@@ -1,5 +1,5 @@
 use Rattle.mpslp_c.proofs.AnswerLemmas.{normalized_so}
-use Rattle.mpslp_c.proofs.normalizing.mpslp_normalize.Goals as goal
+use Rattle.mpslp_c.proofs.normalizing.seeded_normalize.Goals as goal
 
 pub returns : goal.returns
 returns c =

@@ -2,7 +2,7 @@ use Rattle.std.proofs.Common.{◌≡◌, ◌∙◌, sym, Some}
 use Rattle.mpslp_convert.specs.Performed.{declares_in, first_fault_in}
 use Rattle.mpslp_c.specs.Answers.{form_of}
 use Rattle.mpslp_c.proofs.AnswerLemmas.{loaded}
-use Rattle.mpslp_c.proofs.loading.mpslp_load.Goals as goal
+use Rattle.mpslp_c.proofs.loading.seeded_load.Goals as goal
 
 pub returns-in-Some : goal.returns-in-Some
 returns-in-Some c =

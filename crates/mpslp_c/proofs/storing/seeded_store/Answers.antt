@@ -2,7 +2,7 @@ use Rattle.std.proofs.Common.{◌≡◌, ◌∙◌, sym, Some}
 use Rattle.mpslp_convert.specs.Performed.{unfit_in, text_in}
 use Rattle.mpslp_c.specs.Answers.{form_of}
 use Rattle.mpslp_c.proofs.AnswerLemmas.{stored_so}
-use Rattle.mpslp_c.proofs.storing.mpslp_store.Goals as goal
+use Rattle.mpslp_c.proofs.storing.seeded_store.Goals as goal
 
 pub returns-in-Some : goal.returns-in-Some
 returns-in-Some c =
