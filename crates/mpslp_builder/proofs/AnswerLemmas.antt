@@ -1,6 +1,6 @@
 -- The result of a call by its first error, and what is known if it has none.
-use Rattle.std.proofs.Common.{◌≡◌, refl, sym, ap, subst, ◌∙◌, ℕ, Bool, true, false, cond, not, List, [], ◌∷◌}
-use Rattle.std.specs.Prelude.{◌||◌, ◌&&◌, IsTrue, Option, Some, None, is_some, Ok, Err}
+use Rattle.std.proofs.Common.{arith, ◌≡◌, refl, ap, subst, ◌∙◌, ℕ, Bool, true, false, cond, not, List, [], ◌∷◌}
+use Rattle.std.specs.Prelude.{◌&&◌, IsTrue, Option, Some, None, is_some, Ok, Err}
 use Rattle.std.specs.List.{list_all}
 use Rattle.std.specs.Result.{IsErrAnd}
 use Rattle.std.specs.Option.{ForSome, option_map_or}
@@ -15,73 +15,54 @@ use Rattle.mpslp_model_core.specs.Model.{CoefficientKey, key_cmp}
 use Rattle.mpslp_model_core.proofs.KeyLemmas.{same_key}
 use Rattle.mpslp_model_core.proofs.PutsLemmas.{equal_from}
 use Rattle.mpslp_builder.specs.Calls.{CoefficientsAreKnown}
-use Rattle.mpslp_builder.specs.Declaration.{Declaration, Draft, with_declaration, has_name, is_objective, has_row, has_column, with_declarations, bounds_declared}
+use Rattle.mpslp_builder.specs.Declaration.{Declaration, Draft, with_declaration, has_name, has_row, has_column, with_declarations, bounds_declared}
 use Rattle.mpslp_types.specs.Lists.{those_of}
 use Rattle.mpslp_builder.specs.Refusal.{refusals, bounds_refusals}
-use Rattle.mpslp_types.specs.Limit.{is_given, is_plus_infinite, is_minus_infinite}
+use Rattle.mpslp_types.specs.Limit.{is_given}
 use Rattle.mpslp_builder.specs.Made.{is_legal, IsMade}
 use Rattle.mpslp_types.specs.declared.kinds.Limit.{Limit}
 use Rattle.mpslp_types.specs.declared.faults.BuildFault.{BuildFault}
-use Rattle.mpslp_types.specs.declared.faults.BuildFault.TheVariants.{UnknownRow, UnknownColumn, DuplicateBound, InfiniteValue, OutOfMemory}
+use Rattle.mpslp_types.specs.declared.faults.BuildFault.TheVariants.{UnknownColumn, OutOfMemory}
 use Rattle.mpslp_builder.specs.Answer.{Answer, Answers, first_refusal}
 use Rattle.mpslp_types.proofs.EachLemmas.{imp_all}
 use Rattle.mpslp_builder.proofs.SlotLemmas.{same_name}
-use Rattle.mpslp_builder.proofs.LaterDrafts.{objective_is}
-use Rattle.mpslp_builder.proofs.RefusalLemmas.{first_none, rest_none}
-use Rattle.mpslp_types.proofs.BoolLemmas.{either, nor}
 use Rattle.mpslp_builder.proofs.PutOrderLemmas.{put-again}
 use Rattle.mpslp_builder.proofs.SortedDrafts.{bytes_total, tied_names}
 use Rattle.mpslp_builder.proofs.MadeDrafts.{is_free_rhs, made-with_declaration, made-bounds, good-from_made}
 
 pub none_refused : (faults : List BuildFault) → Ok tt ≡ first_refusal faults → faults ≡ []
-none_refused [] h = refl
-none_refused (fault ∷ later) h = cc
-
--- the first error is returned
-pub first_answered : (faults : List BuildFault) (fault : BuildFault) (P Q : Type 0) → Err fault ≡ first_refusal faults → Q → Answers faults (Err fault) P Q
-first_answered [] fault P Q h q = cc
-first_answered (first ∷ later) fault P Q h q = (h, q)
+none_refused faults h = grind arith
 
 -- the result of a query is passed on
 pub handed_on : (faults : List BuildFault) (answer : Answer) (fault : BuildFault) (P Q : Type 0)
     → IsErrAnd answer (λ stated. stated ≡ fault) → Err fault ≡ first_refusal faults → Q → Answers faults answer P Q
-handed_on faults (Ok x) fault P Q stated first q = absurd stated
-handed_on faults (Err e) fault P Q stated first q = first_answered faults e P Q (cc) q
+handed_on faults answer fault P Q stated first q = grind arith
 
 -- if there is no error, none is returned
 pub none_reported : {X : Type 0} (faults : List BuildFault) (fault : BuildFault) → faults ≡ [] → Err fault ≡ first_refusal faults → X
-none_reported [] fault none stated = absurd cc
-none_reported (first ∷ later) fault none stated = absurd cc
+none_reported faults fault none stated = grind arith
 
 -- there is no error, and the declaration is made
 pub declared : (faults : List BuildFault) (P Q : Type 0) → faults ≡ [] → P → Answers faults (Ok tt) P Q
-declared [] P Q h p = p
-declared (first ∷ later) P Q h p = cc
-
--- there is no error, but no memory
-pub no_memory : (faults : List BuildFault) (P Q : Type 0) → faults ≡ [] → Q → Answers faults (Err OutOfMemory) P Q
-no_memory [] P Q h q = (refl, q)
-no_memory (first ∷ later) P Q h q = cc
+declared faults P Q h p = grind arith
 
 pub want_of_memory : (faults : List BuildFault) (answer : Answer) (P Q : Type 0) → IsErrAnd answer (λ stated. stated ≡ OutOfMemory) → faults ≡ [] → Q
     → Answers faults answer P Q
-want_of_memory faults (Ok x) P Q stated none q = absurd stated
-want_of_memory faults (Err e) P Q stated none q = subst (λ (t : BuildFault). Answers faults (Err t) P Q) (sym stated) (no_memory faults P Q none q)
+want_of_memory faults answer P Q stated none q = grind arith
 
 -- ---- what is known if a call has no error
 
 -- one more declaration is made
 pub made_next : {inner all : Draft} (d : Declaration) → inner ≡ all → IsMade inner → is_legal d ≡ true → refusals all d ≡ [] → is_free_rhs inner d ≡ false → IsMade (with_declaration inner d)
-made_next {inner} {all} d seen made legal none limited = made-with_declaration inner d made legal (ap (λ (before : Draft). refusals before d) seen ∙ none) limited
+made_next {inner} {all} d seen made legal none limited = grind (arith, made-with_declaration)
 
 -- a draft that equals one with one more declaration is made too
 pub made_after : {inner later : Draft} (d : Declaration) → later ≡ with_declaration inner d → IsMade inner → is_legal d ≡ true → refusals inner d ≡ [] → is_free_rhs inner d ≡ false → IsMade later
-made_after d after made legal none limited = subst IsMade (sym after) (made_next d refl made legal none limited)
+made_after d after made legal none limited = grind (arith, made_next)
 
 -- which proves the contract of the call
 pub answered : {inner all later : Draft} (d : Declaration) → inner ≡ all → later ≡ with_declaration inner d → refusals inner d ≡ [] → Answers (refusals all d) (Ok tt) (later ≡ with_declaration all d) (later ≡ all)
-answered {inner} {all} {later} d seen after none =
-    declared (refusals all d) (later ≡ with_declaration all d) (later ≡ all) (ap (λ (before : Draft). refusals before d) (sym seen) ∙ none) (after ∙ ap (λ (before : Draft). with_declaration before d) seen)
+answered {inner} {all} {later} d seen after none = grind arith
 
 -- a property of all names is one of each
 named_so : {X : Type 0} (p : List ℕ → Bool) (name : List ℕ) (es : List (List ℕ × X)) → list_all (λ e. p e.0) es ≡ true → has_name es name ≡ true → p name ≡ true
@@ -92,38 +73,19 @@ named_so {X} p name (e ∷ es) all h =
       | false ↦ λ _ there. named_so p name es (second_so (p e.0) (list_all (λ (e : List ℕ × X). p e.0) es) all) there
     ] refl h
 
--- a declared row has a legal name
-pub row_is_legal : (all : Draft) (name : List ℕ) → IsMade all → has_row all name ≡ true → is_mps_name name ≡ true
-row_is_legal all name made =
-    let good = good-from_made all made in
-    either (is_objective all name) (has_name all.rows name) (is_mps_name name)
-    (λ is. ap (λ (o : Option (List ℕ)). option_map_or is_mps_name o true) (sym (objective_is all.objective name is)) ∙ good.objective)
-    (named_so is_mps_name name all.rows (imp_all _ (λ e. is_mps_name e.0) all.rows (λ e h. first_so (is_mps_name e.0) _ h) good.rows))
-
 -- a declared column has a legal name
 pub column_is_legal : (all : Draft) (name : List ℕ) → IsMade all → has_column all name ≡ true → is_mps_name name ≡ true
 column_is_legal all name made h = named_so is_mps_name name all.columns (good-from_made all made).columns h
 
 -- ---- what is known if no test is true
 
-so_from : (b : Bool) → not b ≡ false → b ≡ true
-so_from true h = refl
-so_from false h = cc
-
-pub known_row : (all : Draft) (name : List ℕ) (more : List (Bool × BuildFault)) → those_of ((not (has_row all name), UnknownRow) ∷ more) ≡ [] → has_row all name ≡ true
-known_row all name more h = so_from (has_row all name) (first_none (not (has_row all name)) UnknownRow more h)
-
 pub known_column : (all : Draft) (name : List ℕ) (more : List (Bool × BuildFault)) → those_of ((not (has_column all name), UnknownColumn) ∷ more) ≡ [] → has_column all name ≡ true
-known_column all name more h = so_from (has_column all name) (first_none (not (has_column all name)) UnknownColumn more h)
+known_column all name more h = grind arith
 
 -- ---- a set that already has the name
 
-one_unit : (o : Option (Unit {0})) → is_some o ≡ true → o ≡ Some tt
-one_unit None h = cc
-one_unit (Some x) h = refl
-
 pub put_again : (name : List ℕ) (names : List (List ℕ × Unit {0})) → T (is_sorted bytes_cmp names) → has_name names name ≡ true → names ≡ put bytes_cmp name tt names
-put_again name names sorted there = sym (put-again bytes_cmp bytes_total name tt names tied_names sorted (one_unit (find bytes_cmp name names) there))
+put_again name names sorted there = grind (arith, put-again, bytes_total, tied_names)
 
 pub made_now : {inner all : Draft} → inner ≡ all → IsMade inner → IsMade all
 made_now seen made = subst IsMade seen made
@@ -131,28 +93,20 @@ made_now seen made = subst IsMade seen made
 -- ---- the bounds of a column
 
 none_there : {X : Type 0} (o : Option X) → is_some o ≡ false → o ≡ None
-none_there None h = refl
-none_there (Some x) h = cc
+none_there o h = grind arith
 
 -- neither of the given bounds is declared
 pub no_side : (all : Draft) (column : List ℕ) (lower upper : Option Limit) → bounds_refusals all column lower upper ≡ []
     → ((is_some lower && has_name all.lowers column) ≡ false) × ((is_some upper && has_name all.uppers column) ≡ false)
-no_side all column lower upper h =
-    let last : List (Bool × BuildFault) = (option_map_or is_plus_infinite lower false || option_map_or is_minus_infinite upper false, InfiniteValue) ∷ [] in
-    let declared : Bool = (is_some lower && has_name all.lowers column) || (is_some upper && has_name all.uppers column) in
-    let rest : List (Bool × BuildFault) = (declared, DuplicateBound) ∷ last in
-    nor (is_some lower && has_name all.lowers column) (is_some upper && has_name all.uppers column)
-    (first_none declared DuplicateBound last (rest_none (not (has_column all column)) UnknownColumn rest h))
+no_side all column lower upper h = grind arith
 
 given : (side : Option Limit) → ForSome side (λ s. IsTrue (is_given s)) → option_map_or is_given side true ≡ true
-given None h = refl
-given (Some limit) h = h limit refl
+given side h = grind arith
 
 -- the bounds of one call are declared
 pub made_sides : {inner all : Draft} (column : List ℕ) (lower upper : Option Limit) → inner ≡ all → IsMade inner → ForSome lower (λ s. IsTrue (is_given s))
     → ForSome upper (λ s. IsTrue (is_given s)) → bounds_refusals all column lower upper ≡ [] → IsMade (with_declarations inner (bounds_declared column lower upper))
-made_sides {inner} {all} column lower upper seen made l u none =
-    made-bounds inner column lower upper made (given lower l) (given upper u) (ap (λ (before : Draft). bounds_refusals before column lower upper) seen ∙ none)
+made_sides {inner} {all} column lower upper seen made l u none = grind (arith, made-bounds, given)
 
 -- ---- coefficients
 

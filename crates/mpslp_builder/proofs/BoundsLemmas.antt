@@ -1,10 +1,10 @@
 -- The bounds of a column follow from the printed ones and the defaults.
-use Rattle.std.proofs.Common.{◌≡◌, refl, sym, ap, ◌∙◌, List, ℕ, Bool, true, false, cond}
-use Rattle.std.specs.Prelude.{Option, Some, None, is_none, unwrap_or, ◌&&◌, ◌||◌, if◌then◌else◌}
+use Rattle.std.proofs.Common.{arith, ◌≡◌, List, ℕ, Bool, true, false}
+use Rattle.std.specs.Prelude.{Option, Some, None, is_none, unwrap_or, ◌&&◌, if◌then◌else◌}
 use Rattle.mpslp_decimal.specs.Decimal.{Number, is_zero, zero_number}
 use Rattle.mpslp_model_core.specs.Model.{Column}
 use Rattle.mpslp_types.specs.Limit.{is_lower_side, is_upper_side}
-use Rattle.mpslp_builder.specs.Bounds.{zero_limit, one_limit, kind_of, lower_bound, upper_bound}
+use Rattle.mpslp_builder.specs.Bounds.{zero_limit, one_limit, lower_bound, upper_bound}
 use Rattle.mpslp_builder.specs.Meaning.{column_of}
 use Rattle.mpslp_builder.specs.Declaration.{Draft, at_name, has_name, is_integer, is_semi}
 use Rattle.mpslp_types.specs.declared.kinds.Kind.{Kind}
@@ -50,55 +50,20 @@ upper_stated kind _ MinusInf = None
 -- the column follows from its type and bounds
 pub column_of-is : (all : Draft) (name : List ℕ) (column : Column) → is_integer all name ≡ is_integer_kind column.kind → is_semi all name ≡ is_semi_kind column.kind → lower_bound all name ≡ column.lower
     → upper_bound all name ≡ column.upper → column_of all name ≡ column
-column_of-is all name column integer semi lower upper =
-    let kind : kind_of all name ≡ column.kind = (λ i. if integer i then Integer else (if semi i then Semi else Continuous)) ∙ kinds column.kind in
-    λ i. record { kind = kind i; lower = lower i; upper = upper i }
-  where
-    kinds : (k : Kind) → cond (is_integer_kind k) Integer (cond (is_semi_kind k) Semi Continuous) ≡ k
-    kinds Integer = refl
-    kinds Continuous = refl
-    kinds Semi = refl
+column_of-is all name column integer semi lower upper = grind arith
 
 -- ---- what canonical MPS text says about a column
 
 module _ (same : Number → Number → Bool) where
-  lower_unless : (l : Number) (b : Bool) → is_zero l ≡ b → (is_zero l ≡ true → l ≡ zero_number) → unwrap_or (cond b None (Some (Finite l))) zero_limit ≡ Finite l
-  lower_unless l true e z = ap (λ (x : Number). Finite x) (sym (z e))
-  lower_unless l false e z = refl
-
-  same_fixed : (kind : Kind) (l u : Number) → fixed kind same l u ≡ true → same l u ≡ true
-  same_fixed Continuous l u h = h
-  same_fixed Integer l u h = h
-  same_fixed Semi l u h = cc
-
-  lower_either : (kind : Kind) (l u : Number) (b : Bool) → fixed kind same l u ≡ b → (same l u ≡ true → l ≡ u) → (is_zero l ≡ true → l ≡ zero_number)
-      → unwrap_or (cond b (Some (Finite u)) (unless_zero l)) zero_limit ≡ Finite l
-  lower_either kind l u true e s z = ap (λ (x : Number). Finite x) (sym (s (same_fixed kind l u e)))
-  lower_either kind l u false e s z = lower_unless l (is_zero l) refl z
-
   -- a lower bound follows from what is printed and the default
   pub lower_back : (kind : Kind) (l u : Limit) → is_lower_side l ≡ true → ((a b : Number) → l ≡ Finite a → u ≡ Finite b → same a b ≡ true → a ≡ b)
       → ((a : Number) → l ≡ Finite a → is_zero a ≡ true → a ≡ zero_number) → unwrap_or (lower_stated kind l u same) zero_limit ≡ l
-  lower_back kind MinusInf u h s z = refl
-  lower_back kind (Finite l) MinusInf h s z = lower_unless l (is_zero l) refl (z l refl)
-  lower_back kind (Finite l) (Finite u) h s z = lower_either kind l u (fixed kind same l u) refl (s l u refl refl) (z l refl)
-  lower_back kind (Finite l) PlusInf h s z = lower_unless l (is_zero l) refl (z l refl)
-  lower_back kind PlusInf u h s z = cc
+  lower_back kind l u h s z = grind arith
 
   -- the default is 1 only for a marked column without a printed bound
   pub upper_back : (kind : Kind) (l u : Limit) → is_upper_side u ≡ true
       → unwrap_or (upper_stated kind l u) (if is_integer_kind kind && (is_none (lower_stated kind l u same) && is_none (upper_stated kind l u)) then one_limit else PlusInf) ≡ u
-  upper_back kind l MinusInf h = cc
-  upper_back kind MinusInf (Finite u) h = refl
-  upper_back kind (Finite l) (Finite u) h = refl
-  upper_back kind PlusInf (Finite u) h = refl
-  upper_back kind MinusInf PlusInf h = refl
-  upper_back Continuous (Finite l) PlusInf h = refl
-  upper_back Integer (Finite l) PlusInf h = refl
-  upper_back Semi (Finite l) PlusInf h = refl
-  upper_back Continuous PlusInf PlusInf h = refl
-  upper_back Integer PlusInf PlusInf h = refl
-  upper_back Semi PlusInf PlusInf h = refl
+  upper_back kind l u h = grind arith
 
   -- a draft with these bounds of a column, and its mark or its semi-continuous type, gives the column back
   pub column_back : (all : Draft) (name : List ℕ) (column : Column) → at_name all.lowers name ≡ lower_stated column.kind column.lower column.upper same
@@ -106,12 +71,4 @@ module _ (same : Number → Number → Bool) where
       → has_name all.integers name ≡ false → has_name all.binaries name ≡ false → has_name all.semis name ≡ is_semi_kind column.kind → is_lower_side column.lower ≡ true → is_upper_side column.upper ≡ true
       → ((a b : Number) → column.lower ≡ Finite a → column.upper ≡ Finite b → same a b ≡ true → a ≡ b) → ((a : Number) → column.lower ≡ Finite a → is_zero a ≡ true → a ≡ zero_number)
       → column_of all name ≡ column
-  column_back all name column low up mark int bin semi hl hu s z =
-      column_of-is all name column
-      ((λ i. mark i || (int i || bin i)) ∙ or_none (is_integer_kind column.kind)) semi
-      (ap (λ (x : Option Limit). unwrap_or x zero_limit) low ∙ lower_back column.kind column.lower column.upper hl s z)
-      ((λ i. unwrap_or (up i) (cond (bin i || (mark i && (is_none (low i) && is_none (up i)))) one_limit PlusInf)) ∙ upper_back column.kind column.lower column.upper hu)
-    where
-      or_none : (b : Bool) → (b || (false || false)) ≡ b
-      or_none true = refl
-      or_none false = refl
+  column_back all name column low up mark int bin semi hl hu s z = grind (arith, column_of-is, lower_back, upper_back)

@@ -1,7 +1,7 @@
 -- The drafts that tables represent after each call.
-use Rattle.std.proofs.Common.{◌≡◌, refl, sym, ap, subst, ◌∙◌, ℕ, zero, suc, List, [], ◌∷◌, ◌++◌, Bool, true, false}
+use Rattle.std.proofs.Common.{arith, ◌≡◌, refl, sym, ap, subst, ◌∙◌, ℕ, zero, suc, List, [], ◌∷◌, ◌++◌, Bool, true, false}
 use Rattle.std.specs.Prelude.{None, Some, Option, is_some, slice_get, length, ◌<◌, ◌||◌}
-use Rattle.std.specs.Option.{option_map, option_map_or}
+use Rattle.std.specs.Option.{option_map}
 use Rattle.indexmap.specs.IndexMap.{set_value_at}
 use Rattle.mpslp_decimal.specs.Decimal.{Number}
 use Rattle.mpslp_types.specs.declared.kinds.Limit.{Limit}
@@ -24,27 +24,21 @@ abbrev Parts : Type 0
 Parts = Option ObjectiveParts × List (List ℕ × RowParts) × List (List ℕ × ColumnParts)
 
 numbered_as : (p q : Parts) → p ≡ q → AreNumbered q.0 q.1 q.2 → AreNumbered p.0 p.1 p.2
-numbered_as p q e h = subst (λ (x : Parts). AreNumbered x.0 x.1 x.2) (sym e) h
+numbered_as p q e h = grind arith
 
 -- an entry has the name of its number
 entry_named : {V : Type 0} (o : Option (List ℕ × V)) (k : List ℕ) (v : V) (name : List ℕ) → o ≡ Some (k, v) → option_map (λ e. e.0) o ≡ Some name → k ≡ name
-entry_named None k v name is named = cc
-entry_named {V} (Some e) k v name is named =
-    let here : ◌≡◌ {A = List ℕ × V} e (k, v) = cc in
-    let own : e.0 ≡ name = cc in
-    ap (λ (x : List ℕ × V). x.0) (sym here) ∙ own
+entry_named o k v name h h1 = grind arith
 
 -- equal tables represent equal drafts
 pub same_tables : (sense : Option Sense) (constant : Option Number) (t u : Tables) → IsSameTables t u → draft sense constant u ≡ draft sense constant t
-same_tables sense constant t u h = λ i. draft_from sense constant (h.objective i) (h.rows i) (h.columns i)
+same_tables sense constant t u h = grind arith
 
 pub same_numbered : (t u : Tables) → IsSameTables t u → IsNumbered t → IsNumbered u
-same_numbered t u h =
-    numbered_as (u.objective, u.rows.entries, u.columns.entries) (t.objective, t.rows.entries, t.columns.entries) (λ i. (h.objective i, h.rows i, h.columns i))
+same_numbered t u h = grind arith
 
 pub objective_absent : (o : Option ObjectiveParts) → is_some (name_of_objective o) ≡ false → o ≡ None
-objective_absent None h = refl
-objective_absent (Some parts) h = cc
+objective_absent o h = grind arith
 
 module _ (sense : Option Sense) (constant : Option Number) (t u : Tables) where
   -- ---- a row
@@ -111,16 +105,13 @@ module _ (sense : Option Sense) (constant : Option Number) (t u : Tables) where
         (objective_rhs_numbered sense constant h.parts x t.rows.entries t.columns.entries (subst (λ (o : Option ObjectiveParts). AreNumbered o t.rows.entries t.columns.entries) h.was numbered))
 
   no_rhs : (value : Option Number) (b : Bool) → (is_some value || b) ≡ false → value ≡ None
-  no_rhs None b h = refl
-  no_rhs (Some x) b h = cc
+  no_rhs value b h = grind arith
 
   -- a right-hand side that was not declared
   pub rhs_added : IsNumbered t → IsOnceEach t → (p : RowRef) (r : List ℕ) (x : Number) (b : Bool) → row_name t (row_key_of p) ≡ Some r
       → row_satisfies t p (λ o. is_some o.rhs || b) (λ row. is_some row.rhs || is_definition_by_limits row.definition) ≡ false → HasRhsPut t p x u
       → draft sense constant u ≡ with_declaration (draft sense constant t) (declare_rhs r x)
-  rhs_added numbered once Objective r x b is absent h =
-      let none = ap (λ (o : Option ObjectiveParts). option_map_or (λ o. is_some o.rhs || b) o false) (sym h.was) ∙ absent in
-      objective_rhs_added x h r is (no_rhs h.parts.rhs b none)
+  rhs_added numbered once Objective r x b is absent h = grind (arith, no_rhs)
   rhs_added numbered once (Row i) r x b is absent h = row_rhs_added numbered once i r is x h
 
   pub rhs_added_numbered : (p : RowRef) (x : Number) → IsNumbered t → HasRhsPut t p x u → IsNumbered u

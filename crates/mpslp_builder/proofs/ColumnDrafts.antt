@@ -1,22 +1,21 @@
 -- How the draft of tables changes with a column that is added or written.
-use Rattle.std.proofs.Common.{◌≡◌, refl, sym, ap, ◌∙◌, ℕ, zero, suc, List, [], ◌∷◌, ◌++◌, Bool, true, false}
+use Rattle.std.proofs.Common.{arith, ◌≡◌, refl, sym, ap, ◌∙◌, ℕ, zero, suc, List, [], ◌∷◌, ◌++◌, Bool, true, false}
 use Rattle.std.specs.Prelude.{Option, Some, None, is_some, slice_get}
 use Rattle.std.specs.List.{list_all}
 use Rattle.std.specs.Option.{option_map_or, option_and_then}
 use Rattle.std.specs.Ordering.{nat_cmp}
 use Rattle.std.specs.Cmp.{first_so, second_so}
 use Rattle.std.specs.declared.cmp.Ordering.{Ordering}
-use Rattle.std.specs.declared.cmp.Ordering.TheVariants.{Less, Equal, Greater}
+use Rattle.std.specs.declared.cmp.Ordering.TheVariants.{Equal}
 use Rattle.std.specs.FinMap.{find, put, nat_cmp-IsAntisymmetric}
-use Rattle.std.specs.FinMap.Entries.{by_order}
 use Rattle.indexmap.specs.IndexMap.{set_value_at}
 use Rattle.mpslp_decimal.specs.Decimal.{Number}
 use Rattle.mpslp_types.specs.Name.{bytes_cmp}
 use Rattle.mpslp_types.specs.declared.kinds.Limit.{Limit}
 use Rattle.mpslp_types.specs.declared.kinds.Sense.{Sense}
 use Rattle.mpslp_types.proofs.BoolLemmas.{both_so}
-use Rattle.mpslp_model_core.specs.Model.{CoefficientKey, key_cmp}
-use Rattle.mpslp_model_core.specs.Numbered.{sorted_of, each_part, given_parts, column_cells, all_cells, all_named, IsOnce}
+use Rattle.mpslp_model_core.specs.Model.{key_cmp}
+use Rattle.mpslp_model_core.specs.Numbered.{sorted_of, each_part, given_parts, all_cells, all_named, IsOnce}
 use Rattle.mpslp_model_core.proofs.KeyLemmas.{bytes_total, key_total, tied_names, same_key}
 use Rattle.mpslp_model_core.proofs.SortedLemmas.{find-sorted_of, sorted_of-put, sorted_of-append}
 use Rattle.mpslp_model_core.proofs.CellLemmas.{at, find-all_cells}
@@ -32,7 +31,7 @@ use Rattle.mpslp_builder.proofs.PartLemmas.{each_part-append, each_part-kept, gi
 
 cells-empty : (name : ℕ → Option (List ℕ)) (c : List ℕ) (cols : List (List ℕ × List (ℕ × Number))) → all_cells name (cols ++ (c, []) ∷ []) ≡ all_cells name cols
 cells-empty name c [] = refl
-cells-empty name c (col ∷ cols) = ap (λ (more : List (CoefficientKey × Number)). column_cells name col.0 col.1 ++ more) (cells-empty name c cols)
+cells-empty name c (col ∷ cols) = grind (arith, cells-empty name c cols)
 
 named-empty : (name : ℕ → Option (List ℕ)) (c : List ℕ) (cols : List (List ℕ × List (ℕ × Number))) → all_named name cols ≡ true → all_named name (cols ++ (c, []) ∷ []) ≡ true
 named-empty name c [] h = refl
@@ -44,12 +43,7 @@ named-empty name c (col ∷ cols) h =
 put_all : {X : Type 0} (R : ℕ → ℕ → Ordering) (p : ℕ × X → Bool) (k : ℕ) (v : X) (es : List (ℕ × X)) → ((j : ℕ) → R k j ≡ Equal → p (j, v) ≡ true) → p (k, v) ≡ true
     → list_all p es ≡ true → list_all p (put R k v es) ≡ true
 put_all R p k v [] tied h all = both_so (p (k, v)) true h refl
-put_all {X} R p k v (e ∷ es) tied h all =
-    elim (R k e.0) as (λ r. R k e.0 ≡ r → list_all p (by_order r ((k, v) ∷ e ∷ es) ((e.0, v) ∷ es) (e ∷ put R k v es)) ≡ true) [
-      | Less ↦ λ _. both_so (p (k, v)) (list_all p (e ∷ es)) h all
-      | Equal ↦ λ is. both_so (p (e.0, v)) (list_all p es) (tied e.0 is) (second_so (p e) (list_all p es) all)
-      | Greater ↦ λ _. both_so (p e) (list_all p (put R k v es)) (first_so (p e) (list_all p es) all) (put_all R p k v es tied h (second_so (p e) (list_all p es) all))
-    ] refl
+put_all {X} R p k v (e ∷ es) tied h all = grind (arith, both_so, put_all R p k v es tied h (second_so (p e) (list_all p es) all))
 
 module _ (sense : Option Sense) (constant : Option Number) (objective : Option ObjectiveParts) (rows : List (List ℕ × RowParts)) (columns : List (List ℕ × ColumnParts)) where
   -- ---- a column

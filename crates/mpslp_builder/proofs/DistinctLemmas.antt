@@ -1,11 +1,10 @@
 -- Lists without duplicates: joined, made by a flat_map, and the keys of sorted entries.
-use Rattle.std.proofs.Common.{◌≡◌, refl, sym, ap, ◌∙◌, List, [], ◌∷◌, ◌++◌, Bool, true, false, map}
-use Rattle.std.specs.Prelude.{◌&&◌, ◌||◌, not}
+use Rattle.std.proofs.Common.{arith, ◌≡◌, refl, ap, List, [], ◌∷◌, ◌++◌, Bool, true, false, map}
+use Rattle.std.specs.Prelude.{◌&&◌, not}
 use Rattle.std.specs.List.{list_any, flat_map}
-use Rattle.std.specs.Cmp.{first_so, second_so, IsTotalOrder, tied_itself}
+use Rattle.std.specs.Cmp.{first_so, second_so, IsTotalOrder}
 use Rattle.std.specs.Ordering.{is_lt}
 use Rattle.std.specs.declared.cmp.Ordering.{Ordering}
-use Rattle.std.specs.declared.cmp.Ordering.TheVariants.{Equal}
 use Rattle.std.specs.FinMap.{is_sorted}
 use Rattle.std.specs.FinMap.Entries.{below_all}
 use Rattle.std.proofs.lemmas.List.Folds.{list_any-append}
@@ -13,12 +12,10 @@ use Rattle.mpslp_types.specs.Lists.{are_distinct}
 use Rattle.mpslp_types.proofs.EachLemmas.{Each, Each-weaker}
 
 both : (a b : Bool) → a ≡ true → b ≡ true → (a && b) ≡ true
-both true b p q = q
-both false b p q = p
+both a b p q = grind arith
 
 not_of : (a : Bool) → not a ≡ true → a ≡ false
-not_of true h = cc
-not_of false h = refl
+not_of a h = grind arith
 
 module _ {K : Type 0} (same : K → K → Bool) where
   -- no key equals this one
@@ -26,7 +23,7 @@ module _ {K : Type 0} (same : K → K → Bool) where
   IsNew k keys = list_any (λ later. same later k) keys ≡ false
 
   new_append : (k : K) (xs ys : List K) → IsNew k xs → IsNew k ys → IsNew k (xs ++ ys)
-  new_append k xs ys h i = list_any-append (λ later. same later k) xs ys ∙ (λ j. h j || i j)
+  new_append k xs ys h i = grind (arith, list_any-append)
 
   -- joined: no later key is an earlier one
   pub distinct-append : (xs ys : List K) → are_distinct same xs ≡ true → are_distinct same ys ≡ true → Each (λ x. IsNew x ys) xs → are_distinct same (xs ++ ys) ≡ true
@@ -54,21 +51,14 @@ module _ {K : Type 0} (same : K → K → Bool) where
 
 module _ {K : Type 0} (R : K → K → Ordering) (o : IsTotalOrder R) (same : K → K → Bool) (equal : (x y : K) → same x y ≡ true → x ≡ y) where
   differs : (x y : K) (b : Bool) → same y x ≡ b → is_lt (R x y) ≡ true → b ≡ false
-  differs x y true e below =
-      let same_key : y ≡ x = equal y x e in
-      let itself : R x y ≡ Equal = ap (R x) same_key ∙ tied_itself o x in
-      let no : is_lt Equal ≡ true = ap is_lt (sym itself) ∙ below in cc
-  differs x y false e below = refl
+  differs x y b e below = grind arith
 
 module _ {K X : Type 0} (R : K → K → Ordering) (o : IsTotalOrder R) (same : K → K → Bool) (equal : (x y : K) → same x y ≡ true → x ≡ y) where
   none_above : (x : K) (es : List (K × X)) → below_all R x es ≡ true → list_any (λ later. same later x) (map (λ e. e.0) es) ≡ false
   none_above x [] h = refl
-  none_above x (e ∷ es) h =
-      (λ i. differs R o same equal x e.0 (same e.0 x) refl (first_so (is_lt (R x e.0)) (below_all R x es) h) i || none_above x es (second_so (is_lt (R x e.0)) (below_all R x es) h) i)
+  none_above x (e ∷ es) h = grind (arith, differs, none_above x es (second_so (is_lt (R x e.0)) (below_all R x es) h))
 
   -- the keys of sorted entries
   pub distinct-sorted : (es : List (K × X)) → is_sorted R es ≡ true → are_distinct same (map (λ e. e.0) es) ≡ true
   distinct-sorted [] h = refl
-  distinct-sorted (e ∷ es) h =
-      both (not (list_any (λ later. same later e.0) (map (λ e. e.0) es))) (are_distinct same (map (λ e. e.0) es))
-      (ap not (none_above e.0 es (first_so (below_all R e.0 es) (is_sorted R es) h))) (distinct-sorted es (second_so (below_all R e.0 es) (is_sorted R es) h))
+  distinct-sorted (e ∷ es) h = grind (arith, both, none_above, distinct-sorted es (second_so (below_all R e.0 es) (is_sorted R es) h))

@@ -1,5 +1,5 @@
 -- A property of all declarations is one of all entries of the draft.
-use Rattle.std.proofs.Common.{◌≡◌, refl, sym, ap, ◌∙◌, ℕ, List, [], ◌∷◌, Bool, true, not}
+use Rattle.std.proofs.Common.{arith, ◌≡◌, refl, sym, ap, ◌∙◌, ℕ, List, [], ◌∷◌, Bool, true, not}
 use Rattle.std.specs.Prelude.{◌&&◌}
 use Rattle.std.specs.List.{list_all}
 use Rattle.std.specs.Option.{option_map_or}
@@ -9,18 +9,17 @@ use Rattle.std.proofs.Math.Dec.{T}
 use Rattle.std.specs.declared.cmp.Ordering.{Ordering}
 use Rattle.std.specs.declared.cmp.Ordering.TheVariants as orders
 use Rattle.std.specs.FinMap.{put, is_sorted}
-use Rattle.std.specs.FinMap.Entries.{by_order, is_sorted-put}
+use Rattle.std.specs.FinMap.Entries.{is_sorted-put}
 use Rattle.mpslp_decimal.specs.Decimal.{Number, is_decimal}
 use Rattle.mpslp_types.specs.Name.{is_mps_name, bytes_cmp}
 use Rattle.mpslp_model_core.specs.Model.{CoefficientKey, key_cmp}
 use Rattle.mpslp_model_core.specs.KeyOrder.{key_total}
 pub use Rattle.mpslp_model_core.proofs.KeyLemmas.{same_key}
 use Rattle.mpslp_model_core.proofs.KeyLemmas.{tied_names}
-use Rattle.mpslp_builder.specs.Declaration.{RowDefinition, Declaration, declare_objective, declare_constant, declare_row, declare_rhs, declare_column, declare_coefficient, declare_lower, declare_upper, Declarations, Draft, empty_draft, with_declaration, with_declarations, has_row, has_column, have_infinite_side}
+use Rattle.mpslp_builder.specs.Declaration.{RowDefinition, Declaration, declare_row, declare_rhs, declare_column, declare_coefficient, declare_lower, declare_upper, Declarations, Draft, empty_draft, with_declaration, with_declarations, has_row, has_column, have_infinite_side}
 use Rattle.mpslp_types.specs.Limit.{is_given, is_plus_infinite, is_minus_infinite}
 use Rattle.mpslp_builder.specs.Made.{are_given, is_legal}
 use Rattle.mpslp_builder.specs.Consistency.{is_known, is_allowed}
-use Rattle.mpslp_types.specs.declared.kinds.Limit.{Limit}
 use Rattle.mpslp_types.proofs.BoolLemmas.{both_so}
 
 -- ---- one more entry
@@ -28,12 +27,7 @@ use Rattle.mpslp_types.proofs.BoolLemmas.{both_so}
 put_all : {K X : Type 0} (R : K → K → Ordering) (p : K × X → Bool) (k : K) (v : X) (es : List (K × X)) → ((j : K) → R k j ≡ orders.Equal → p (j, v) ≡ true) → p (k, v) ≡ true
     → list_all p es ≡ true → list_all p (put R k v es) ≡ true
 put_all R p k v [] tied h all = both_so (p (k, v)) true h refl
-put_all {K} {X} R p k v (e ∷ es) tied h all =
-    elim (R k e.0) as (λ r. R k e.0 ≡ r → list_all p (by_order r ((k, v) ∷ e ∷ es) ((e.0, v) ∷ es) (e ∷ put R k v es)) ≡ true) [
-      | orders.Less ↦ λ _. both_so (p (k, v)) (list_all p (e ∷ es)) h all
-      | orders.Equal ↦ λ is. both_so (p (e.0, v)) (list_all p es) (tied e.0 is) (second_so (p e) (list_all p es) all)
-      | orders.Greater ↦ λ _. both_so (p e) (list_all p (put R k v es)) (first_so (p e) (list_all p es) all) (put_all R p k v es tied h (second_so (p e) (list_all p es) all))
-    ] refl
+put_all {K} {X} R p k v (e ∷ es) tied h all = grind (arith, both_so, put_all R p k v es tied h (second_so (p e) (list_all p es) all))
 
 put_names : {X : Type 0} (p : List ℕ × X → Bool) (k : List ℕ) (v : X) (es : List (List ℕ × X)) → p (k, v) ≡ true → list_all p es ≡ true → list_all p (put bytes_cmp k v es) ≡ true
 put_names p k v es h all = put_all bytes_cmp p k v es (λ j tie. ap (λ (n : List ℕ). p (n, v)) (sym (tied_names k j tie)) ∙ h) h all
@@ -58,32 +52,6 @@ pub record IsGood (all draft : Draft) : Type 0 where
   pub coefficients_sorted : T (is_sorted key_cmp draft.coefficients)
 
 good-with_declaration : (all draft : Draft) (d : Declaration) → IsGood all draft → is_legal d ≡ true → is_known all d ≡ true → is_allowed all d ≡ true → IsGood all (with_declaration draft d)
-good-with_declaration all b (declare_objective name) g legal known allowed = record {
-  objective = legal;
-  constant = g.constant;
-  rows = g.rows;
-  rhs_values = g.rhs_values;
-  columns = g.columns;
-  coefficients = g.coefficients;
-  lowers = g.lowers;
-  uppers = g.uppers;
-  rows_sorted = g.rows_sorted;
-  columns_sorted = g.columns_sorted;
-  coefficients_sorted = g.coefficients_sorted;
-}
-good-with_declaration all b (declare_constant value) g legal known allowed = record {
-  objective = g.objective;
-  constant = legal;
-  rows = g.rows;
-  rhs_values = g.rhs_values;
-  columns = g.columns;
-  coefficients = g.coefficients;
-  lowers = g.lowers;
-  uppers = g.uppers;
-  rows_sorted = g.rows_sorted;
-  columns_sorted = g.columns_sorted;
-  coefficients_sorted = g.coefficients_sorted;
-}
 good-with_declaration all b (declare_row name definition) g legal known allowed = record {
   objective = g.objective;
   constant = g.constant;
@@ -99,19 +67,7 @@ good-with_declaration all b (declare_row name definition) g legal known allowed 
   columns_sorted = g.columns_sorted;
   coefficients_sorted = g.coefficients_sorted;
 }
-good-with_declaration all b (declare_rhs row value) g legal known allowed = record {
-  objective = g.objective;
-  constant = g.constant;
-  rows = g.rows;
-  rhs_values = put_names (λ (e : List ℕ × Number). is_decimal e.1) row value b.rhs_values legal g.rhs_values;
-  columns = g.columns;
-  coefficients = g.coefficients;
-  lowers = g.lowers;
-  uppers = g.uppers;
-  rows_sorted = g.rows_sorted;
-  columns_sorted = g.columns_sorted;
-  coefficients_sorted = g.coefficients_sorted;
-}
+good-with_declaration all b (declare_rhs row value) g legal known allowed = grind (arith, put_names)
 good-with_declaration all b (declare_column name) g legal known allowed = record {
   objective = g.objective;
   constant = g.constant;
@@ -139,54 +95,15 @@ good-with_declaration all b (declare_coefficient key value) g legal known allowe
   columns_sorted = g.columns_sorted;
   coefficients_sorted = is_sorted-put key_cmp key_total key value b.coefficients g.coefficients_sorted;
 }
-good-with_declaration all b (declare_lower column limit) g legal known allowed = record {
-  objective = g.objective;
-  constant = g.constant;
-  rows = g.rows;
-  rhs_values = g.rhs_values;
-  columns = g.columns;
-  coefficients = g.coefficients;
-  lowers = put_names (λ (e : List ℕ × Limit). is_given e.1 && not (is_plus_infinite e.1)) column limit b.lowers (both_so (is_given limit) (not (is_plus_infinite limit)) legal allowed) g.lowers;
-  uppers = g.uppers;
-  rows_sorted = g.rows_sorted;
-  columns_sorted = g.columns_sorted;
-  coefficients_sorted = g.coefficients_sorted;
-}
-good-with_declaration all b (declare_upper column limit) g legal known allowed = record {
-  objective = g.objective;
-  constant = g.constant;
-  rows = g.rows;
-  rhs_values = g.rhs_values;
-  columns = g.columns;
-  coefficients = g.coefficients;
-  lowers = g.lowers;
-  uppers = put_names (λ (e : List ℕ × Limit). is_given e.1 && not (is_minus_infinite e.1)) column limit b.uppers (both_so (is_given limit) (not (is_minus_infinite limit)) legal allowed) g.uppers;
-  rows_sorted = g.rows_sorted;
-  columns_sorted = g.columns_sorted;
-  coefficients_sorted = g.coefficients_sorted;
-}
-good-with_declaration all b _ g legal known allowed = record {
-  objective = g.objective;
-  constant = g.constant;
-  rows = g.rows;
-  rhs_values = g.rhs_values;
-  columns = g.columns;
-  coefficients = g.coefficients;
-  lowers = g.lowers;
-  uppers = g.uppers;
-  rows_sorted = g.rows_sorted;
-  columns_sorted = g.columns_sorted;
-  coefficients_sorted = g.coefficients_sorted;
-}
+good-with_declaration all b (declare_lower column limit) g legal known allowed = grind (arith, put_names, both_so)
+good-with_declaration all b (declare_upper column limit) g legal known allowed = grind (arith, put_names, both_so)
+good-with_declaration all b _ g legal known allowed = grind (arith)
 
 pub good-with_declarations : (all : Draft) (declarations : Declarations) (draft : Draft) → IsGood all draft → list_all is_legal declarations ≡ true
     → list_all (is_known all) declarations ≡ true → list_all (is_allowed all) declarations ≡ true → IsGood all (with_declarations draft declarations)
 good-with_declarations all [] draft g legal known allowed = g
-good-with_declarations all (d ∷ more) draft g legal known allowed =
-    good-with_declarations all more (with_declaration draft d)
-    (good-with_declaration all draft d g (first_so (is_legal d) (list_all is_legal more) legal) (first_so (is_known all d) (list_all (is_known all) more) known) (first_so (is_allowed all d) (list_all (is_allowed all) more) allowed))
-    (second_so (is_legal d) (list_all is_legal more) legal) (second_so (is_known all d) (list_all (is_known all) more) known) (second_so (is_allowed all d) (list_all (is_allowed all) more) allowed)
+good-with_declarations all (d ∷ more) draft g legal known allowed = grind (arith, good-with_declaration, good-with_declarations all more (with_declaration draft d) (good-with_declaration all draft d g (first_so (is_legal d) (list_all is_legal more) legal) (first_so (is_known all d) (list_all (is_known all) more) known) (first_so (is_allowed all d) (list_all (is_allowed all) more) allowed)) (second_so (is_legal d) (list_all is_legal more) legal) (second_so (is_known all d) (list_all (is_known all) more) known) (second_so (is_allowed all d) (list_all (is_allowed all) more) allowed))
 
 -- no entries
 pub empty_good : (all : Draft) → IsGood all empty_draft
-empty_good all = record { objective = refl; constant = refl; rows = refl; rhs_values = refl; columns = refl; coefficients = refl; lowers = refl; uppers = refl; rows_sorted = tt; columns_sorted = tt; coefficients_sorted = tt }
+empty_good all = grind arith

@@ -1,5 +1,5 @@
 -- Each map of a draft is what the declarations put into it.
-use Rattle.std.proofs.Common.{◌≡◌, refl, sym, ap, ◌∙◌, List, [], ◌∷◌, ℕ}
+use Rattle.std.proofs.Common.{arith, ◌≡◌, refl, List, [], ◌∷◌, ℕ}
 use Rattle.std.specs.List.{flat_map}
 use Rattle.mpslp_decimal.specs.Decimal.{Number}
 use Rattle.mpslp_model_core.specs.Model.{CoefficientKey, key_cmp}
@@ -57,100 +57,78 @@ semi_part _ = []
 -- ---- each map, after one declaration and after several
 
 rows-one : (all : Draft) (d : Declaration) → (with_declaration all d).rows ≡ puts bytes_cmp (row_part d) all.rows
-rows-one all (declare_row name definition) = refl
-rows-one all _ = refl
+rows-one all d = grind arith
 
 pub rows-all : (ds : Declarations) (all : Draft) → (with_declarations all ds).rows ≡ puts bytes_cmp (flat_map row_part ds) all.rows
 rows-all [] all = refl
-rows-all (d ∷ ds) all =
-    rows-all ds (with_declaration all d) ∙ ap (puts bytes_cmp (flat_map row_part ds)) (rows-one all d) ∙ sym (puts-append bytes_cmp (row_part d) (flat_map row_part ds) all.rows)
+rows-all (d ∷ ds) all = grind (arith, puts, rows-one, puts-append, rows-all ds (with_declaration all d))
 
 rhs_values-one : (all : Draft) (d : Declaration) → (with_declaration all d).rhs_values ≡ puts bytes_cmp (rhs_part d) all.rhs_values
-rhs_values-one all (declare_rhs row value) = refl
-rhs_values-one all _ = refl
+rhs_values-one all d = grind arith
 
 pub rhs_values-all : (ds : Declarations) (all : Draft) → (with_declarations all ds).rhs_values ≡ puts bytes_cmp (flat_map rhs_part ds) all.rhs_values
 rhs_values-all [] all = refl
-rhs_values-all (d ∷ ds) all =
-    rhs_values-all ds (with_declaration all d) ∙ ap (puts bytes_cmp (flat_map rhs_part ds)) (rhs_values-one all d) ∙ sym (puts-append bytes_cmp (rhs_part d) (flat_map rhs_part ds) all.rhs_values)
+rhs_values-all (d ∷ ds) all = grind (arith, puts, rhs_values-one, puts-append, rhs_values-all ds (with_declaration all d))
 
 ranges-one : (all : Draft) (d : Declaration) → (with_declaration all d).ranges ≡ puts bytes_cmp (range_part d) all.ranges
-ranges-one all (declare_range row value) = refl
-ranges-one all _ = refl
+ranges-one all d = grind arith
 
 pub ranges-all : (ds : Declarations) (all : Draft) → (with_declarations all ds).ranges ≡ puts bytes_cmp (flat_map range_part ds) all.ranges
 ranges-all [] all = refl
-ranges-all (d ∷ ds) all =
-    ranges-all ds (with_declaration all d) ∙ ap (puts bytes_cmp (flat_map range_part ds)) (ranges-one all d) ∙ sym (puts-append bytes_cmp (range_part d) (flat_map range_part ds) all.ranges)
+ranges-all (d ∷ ds) all = grind (arith, puts, ranges-one, puts-append, ranges-all ds (with_declaration all d))
 
 columns-one : (all : Draft) (d : Declaration) → (with_declaration all d).columns ≡ puts bytes_cmp (column_part d) all.columns
-columns-one all (declare_column name) = refl
-columns-one all _ = refl
+columns-one all d = grind arith
 
 pub columns-all : (ds : Declarations) (all : Draft) → (with_declarations all ds).columns ≡ puts bytes_cmp (flat_map column_part ds) all.columns
 columns-all [] all = refl
-columns-all (d ∷ ds) all =
-    columns-all ds (with_declaration all d) ∙ ap (puts bytes_cmp (flat_map column_part ds)) (columns-one all d) ∙ sym (puts-append bytes_cmp (column_part d) (flat_map column_part ds) all.columns)
+columns-all (d ∷ ds) all = grind (arith, puts, columns-one, puts-append, columns-all ds (with_declaration all d))
 
 coefficients-one : (all : Draft) (d : Declaration) → (with_declaration all d).coefficients ≡ puts key_cmp (coefficient_part d) all.coefficients
-coefficients-one all (declare_coefficient key value) = refl
-coefficients-one all _ = refl
+coefficients-one all d = grind arith
 
 pub coefficients-all : (ds : Declarations) (all : Draft) → (with_declarations all ds).coefficients ≡ puts key_cmp (flat_map coefficient_part ds) all.coefficients
 coefficients-all [] all = refl
-coefficients-all (d ∷ ds) all =
-    coefficients-all ds (with_declaration all d) ∙ ap (puts key_cmp (flat_map coefficient_part ds)) (coefficients-one all d) ∙ sym (puts-append key_cmp (coefficient_part d) (flat_map coefficient_part ds) all.coefficients)
+coefficients-all (d ∷ ds) all = grind (arith, puts, coefficients-one, puts-append, coefficients-all ds (with_declaration all d))
 
 lowers-one : (all : Draft) (d : Declaration) → (with_declaration all d).lowers ≡ puts bytes_cmp (lower_part d) all.lowers
-lowers-one all (declare_lower column limit) = refl
-lowers-one all _ = refl
+lowers-one all d = grind arith
 
 pub lowers-all : (ds : Declarations) (all : Draft) → (with_declarations all ds).lowers ≡ puts bytes_cmp (flat_map lower_part ds) all.lowers
 lowers-all [] all = refl
-lowers-all (d ∷ ds) all =
-    lowers-all ds (with_declaration all d) ∙ ap (puts bytes_cmp (flat_map lower_part ds)) (lowers-one all d) ∙ sym (puts-append bytes_cmp (lower_part d) (flat_map lower_part ds) all.lowers)
+lowers-all (d ∷ ds) all = grind (arith, puts, lowers-one, puts-append, lowers-all ds (with_declaration all d))
 
 uppers-one : (all : Draft) (d : Declaration) → (with_declaration all d).uppers ≡ puts bytes_cmp (upper_part d) all.uppers
-uppers-one all (declare_upper column limit) = refl
-uppers-one all _ = refl
+uppers-one all d = grind arith
 
 pub uppers-all : (ds : Declarations) (all : Draft) → (with_declarations all ds).uppers ≡ puts bytes_cmp (flat_map upper_part ds) all.uppers
 uppers-all [] all = refl
-uppers-all (d ∷ ds) all =
-    uppers-all ds (with_declaration all d) ∙ ap (puts bytes_cmp (flat_map upper_part ds)) (uppers-one all d) ∙ sym (puts-append bytes_cmp (upper_part d) (flat_map upper_part ds) all.uppers)
+uppers-all (d ∷ ds) all = grind (arith, puts, uppers-one, puts-append, uppers-all ds (with_declaration all d))
 
 marked-one : (all : Draft) (d : Declaration) → (with_declaration all d).marked ≡ puts bytes_cmp (marked_part d) all.marked
-marked-one all (declare_marked column) = refl
-marked-one all _ = refl
+marked-one all d = grind arith
 
 pub marked-all : (ds : Declarations) (all : Draft) → (with_declarations all ds).marked ≡ puts bytes_cmp (flat_map marked_part ds) all.marked
 marked-all [] all = refl
-marked-all (d ∷ ds) all =
-    marked-all ds (with_declaration all d) ∙ ap (puts bytes_cmp (flat_map marked_part ds)) (marked-one all d) ∙ sym (puts-append bytes_cmp (marked_part d) (flat_map marked_part ds) all.marked)
+marked-all (d ∷ ds) all = grind (arith, puts, marked-one, puts-append, marked-all ds (with_declaration all d))
 
 integers-one : (all : Draft) (d : Declaration) → (with_declaration all d).integers ≡ puts bytes_cmp (integer_part d) all.integers
-integers-one all (declare_integer column) = refl
-integers-one all _ = refl
+integers-one all d = grind arith
 
 pub integers-all : (ds : Declarations) (all : Draft) → (with_declarations all ds).integers ≡ puts bytes_cmp (flat_map integer_part ds) all.integers
 integers-all [] all = refl
-integers-all (d ∷ ds) all =
-    integers-all ds (with_declaration all d) ∙ ap (puts bytes_cmp (flat_map integer_part ds)) (integers-one all d) ∙ sym (puts-append bytes_cmp (integer_part d) (flat_map integer_part ds) all.integers)
+integers-all (d ∷ ds) all = grind (arith, puts, integers-one, puts-append, integers-all ds (with_declaration all d))
 
 binaries-one : (all : Draft) (d : Declaration) → (with_declaration all d).binaries ≡ puts bytes_cmp (binary_part d) all.binaries
-binaries-one all (declare_binary column) = refl
-binaries-one all _ = refl
+binaries-one all d = grind arith
 
 pub binaries-all : (ds : Declarations) (all : Draft) → (with_declarations all ds).binaries ≡ puts bytes_cmp (flat_map binary_part ds) all.binaries
 binaries-all [] all = refl
-binaries-all (d ∷ ds) all =
-    binaries-all ds (with_declaration all d) ∙ ap (puts bytes_cmp (flat_map binary_part ds)) (binaries-one all d) ∙ sym (puts-append bytes_cmp (binary_part d) (flat_map binary_part ds) all.binaries)
+binaries-all (d ∷ ds) all = grind (arith, puts, binaries-one, puts-append, binaries-all ds (with_declaration all d))
 
 semis-one : (all : Draft) (d : Declaration) → (with_declaration all d).semis ≡ puts bytes_cmp (semi_part d) all.semis
-semis-one all (declare_semi column) = refl
-semis-one all _ = refl
+semis-one all d = grind arith
 
 pub semis-all : (ds : Declarations) (all : Draft) → (with_declarations all ds).semis ≡ puts bytes_cmp (flat_map semi_part ds) all.semis
 semis-all [] all = refl
-semis-all (d ∷ ds) all =
-    semis-all ds (with_declaration all d) ∙ ap (puts bytes_cmp (flat_map semi_part ds)) (semis-one all d) ∙ sym (puts-append bytes_cmp (semi_part d) (flat_map semi_part ds) all.semis)
+semis-all (d ∷ ds) all = grind (arith, puts, semis-one, puts-append, semis-all ds (with_declaration all d))

@@ -1,5 +1,5 @@
 -- What the steps of `finish` require of tables.
-use Rattle.std.proofs.Common.{◌≡◌, refl, sym, ap, subst, ◌∙◌, ℕ, zero, suc, ◌+◌, ◌<◌, List, [], ◌∷◌, ◌++◌, length, arith, Bool, true, false, cond, IsPermutation}
+use Rattle.std.proofs.Common.{rules, ◌≡◌, refl, sym, ap, subst, ◌∙◌, ℕ, zero, suc, ◌+◌, ◌<◌, List, [], ◌∷◌, ◌++◌, length, arith, Bool, true, false, cond, IsPermutation}
 use Rattle.std.specs.Prelude.{◌≢◌, Option, Some, None, is_some, unwrap_or, slice_get, slice_index}
 use Rattle.std.specs.Option.{option_map, option_map_or}
 use Rattle.std.specs.Ordering.{is_lt, eq_by_cmp}
@@ -68,15 +68,13 @@ objective_says o rows apart =
 
 pub constant_is : (sense : Option Sense) (constant : Option Number) (objective : Option ObjectiveParts) (rows : List (List ℕ × RowParts)) (columns : List (List ℕ × ColumnParts)) → is_some objective ≡ true → IsInjective (name_of_row_key objective rows)
     → unwrap_or constant (negated (unwrap_or (rhs_in objective) zero_number)) ≡ constant_of (draft_from sense constant objective rows columns)
-constant_is sense constant None rows columns there apart = cc
-constant_is sense constant (Some o) rows columns there apart = ap (λ (r : Option Number). unwrap_or constant (negated (unwrap_or r zero_number))) (sym (objective_says o rows apart))
+constant_is sense constant objective rows columns there apart = grind (arith, objective_says)
 
 -- ---- the order of entries, as the contracts state it
 
 name_of_part : {V X : Type 0} (f : V → X) (es : List (List ℕ × V)) (n : ℕ) → name_at es n ≡ option_map_or (λ part. part.0) (slice_get (each_part f es) n) []
-name_of_part f [] n = refl
-name_of_part f (e ∷ es) zero = refl
 name_of_part f (e ∷ es) (suc n) = name_of_part f es n
+name_of_part f _ _ = refl
 
 -- entries with the same parts have the same names
 names_alike : {V W X : Type 0} (f : W → X) (g : V → X) (made : List (List ℕ × W)) (entries : List (List ℕ × V)) → each_part f made ≡ each_part g entries → (n : ℕ) → name_at made n ≡ name_at entries n
@@ -86,28 +84,23 @@ names_alike f g made entries same n =
 -- the order of entries with the same parts
 pub ordered_alike : {V W X : Type 0} (f : W → X) (g : V → X) (made : List (List ℕ × W)) (entries : List (List ℕ × V)) (order : List ℕ) → each_part f made ≡ each_part g entries
     → IsPermutation (range_with_len 0 (length made)) order → IsSortedBy (λ n k. is_lt (bytes_cmp (name_at made n) (name_at made k))) order → AreOrdered entries order (entries_at entries order)
-ordered_alike f g made entries order same permuted sorted = record {
-  permuted = subst (λ (n : ℕ). IsPermutation (range_with_len 0 n) order) (as_many f g made entries same) permuted;
-  sorted = subst (λ (name : ℕ → List ℕ). IsSortedBy (λ n k. is_lt (bytes_cmp (name n) (name k))) order) (λ i n. names_alike f g made entries same n i) sorted;
-  are = refl;
-}
+ordered_alike f g made entries order same permuted sorted = grind (arith, as_many, names_alike)
 
 -- entries are the whole parts of themselves
 pub each_whole : {X : Type 0} (es : List (List ℕ × X)) → each_part itself es ≡ es
 each_whole [] = refl
-each_whole {X} (e ∷ es) = ap (λ (more : List (List ℕ × X)). e ∷ more) (each_whole es)
+each_whole {X} (e ∷ es) = grind (arith, each_whole es)
 
 module _ (rows : List (List ℕ × RowParts)) (order : List ℕ) (ordered : List (List ℕ × RowParts)) (o : AreOrdered rows order ordered) where
   pub few_of : length rows < 4294967295 → length order < 4294967295
-  few_of few = omega (arith, few, order_length (length rows) order o.permuted)
+  few_of few = search (rules, order_length)
 
   pub within_of : (p : ℕ) → p < length order → slice_index order p < length order
-  within_of p h = let under = order_within (length rows) order o.permuted p h in omega (arith, under, order_length (length rows) order o.permuted)
+  within_of p h = grind (arith, order_within, order_length)
 
   pub apart_of : (p q : ℕ) → p < q → q < length order → slice_index order p ≢ slice_index order q
   apart_of = order_apart (length rows) order o.permuted
 
 -- an objective that is declared has a name
 pub named_there : (objective : Option ObjectiveParts) → is_some objective ≡ true → is_some (name_of_objective objective) ≡ true
-named_there None h = cc
-named_there (Some o) h = refl
+named_there objective h = grind arith

@@ -1,11 +1,11 @@
 -- Entries in the order of their keys: put one after another, made of what some elements have, and filtered.
-use Rattle.std.proofs.Common.{◌≡◌, refl, sym, ap, subst, ◌∙◌, List, [], ◌∷◌, ◌++◌, Bool, true, false, not, cond}
+use Rattle.std.proofs.Common.{arith, ◌≡◌, refl, sym, ap, subst, ◌∙◌, List, [], ◌∷◌, ◌++◌, Bool, true, false, not, cond}
 use Rattle.std.specs.Prelude.{Option, Some, None, is_some, filter, ◌||◌}
 use Rattle.std.specs.List.{flat_map, list_any}
 use Rattle.std.specs.Ordering.{is_eq, is_lt, eq_by_cmp}
 use Rattle.std.specs.Cmp.{IsTotalOrder, first_so, second_so}
 use Rattle.std.specs.declared.cmp.Ordering.{Ordering}
-use Rattle.std.specs.declared.cmp.Ordering.TheVariants.{Less, Equal, Greater}
+use Rattle.std.specs.declared.cmp.Ordering.TheVariants.{Equal}
 use Rattle.std.specs.FinMap.{find, put, is_sorted}
 use Rattle.std.specs.FinMap.Entries.{find-put, same_entries, below_all}
 use Rattle.mpslp_types.proofs.BoolLemmas.{both_so, or_left, or_right, T_from, true_from}
@@ -28,43 +28,21 @@ stated key None = []
 stated key (Some value) = (key, value) ∷ []
 
 below_not_tied : (r : Ordering) → is_lt r ≡ true → is_eq r ≡ false
-below_not_tied Less h = refl
-below_not_tied Equal h = cc
-below_not_tied Greater h = cc
+below_not_tied r h = grind arith
 
 module _ {K X : Type 0} (R : K → K → Ordering) where
-  pub find-join : (q : K) (xs ys : List (K × X)) → find R q (xs ++ ys) ≡ first_there (find R q xs) (find R q ys)
-  find-join q [] ys = refl
-  find-join q (x ∷ xs) ys =
-      elim (eq_by_cmp R q x.0) as (λ b. cond b (Some x.1) (find R q (xs ++ ys)) ≡ first_there (cond b (Some x.1) (find R q xs)) (find R q ys)) [
-        | true ↦ refl
-        | false ↦ find-join q xs ys
-      ]
-
   -- a key below all keys is not found
   none-later : (x : K) (es : List (K × X)) → below_all R x es ≡ true → find R x es ≡ None
   none-later x [] h = refl
-  none-later x (e ∷ es) h =
-      ap (λ (b : Bool). cond b (Some e.1) (find R x es)) (below_not_tied (R x e.0) (first_so (is_lt (R x e.0)) (below_all R x es) h))
-      ∙ none-later x es (second_so (is_lt (R x e.0)) (below_all R x es) h)
+  none-later x (e ∷ es) h = grind (arith, below_not_tied, none-later x es (second_so (is_lt (R x e.0)) (below_all R x es) h))
 
   below-kept : (p : K × X → Bool) (x : K) (es : List (K × X)) → below_all R x es ≡ true → below_all R x (filter p es) ≡ true
   below-kept p x [] h = refl
-  below-kept p x (e ∷ es) h =
-      let rest = below-kept p x es (second_so (is_lt (R x e.0)) (below_all R x es) h) in
-      elim (p e) as (λ b. below_all R x (cond b (e ∷ filter p es) (filter p es)) ≡ true) [
-        | true ↦ both_so (is_lt (R x e.0)) (below_all R x (filter p es)) (first_so (is_lt (R x e.0)) (below_all R x es) h) rest
-        | false ↦ rest
-      ]
+  below-kept p x (e ∷ es) h = grind (arith, both_so, below-kept p x es (second_so (is_lt (R x e.0)) (below_all R x es) h))
 
   pub sorted-kept : (p : K × X → Bool) (es : List (K × X)) → is_sorted R es ≡ true → is_sorted R (filter p es) ≡ true
   sorted-kept p [] h = refl
-  sorted-kept p (e ∷ es) h =
-      let rest = sorted-kept p es (second_so (below_all R e.0 es) (is_sorted R es) h) in
-      elim (p e) as (λ b. is_sorted R (cond b (e ∷ filter p es) (filter p es)) ≡ true) [
-        | true ↦ both_so (below_all R e.0 (filter p es)) (is_sorted R (filter p es)) (below-kept p e.0 es (first_so (below_all R e.0 es) (is_sorted R es) h)) rest
-        | false ↦ rest
-      ]
+  sorted-kept p (e ∷ es) h = grind (arith, both_so, below-kept, sorted-kept p es (second_so (below_all R e.0 es) (is_sorted R es) h))
 
   module _ (o : IsTotalOrder R) (same : (x y : K) → R x y ≡ Equal → x ≡ y) where
     -- a key equal to one below all keys is not found
@@ -191,22 +169,12 @@ all_stated f xs = flat_map (λ x. stated x.0 (f x.1)) xs
 module _ {K X V : Type 0} (R : K → K → Ordering) (f : X → Option V) where
   below-stated : (k : K) (xs : List (K × X)) → below_all R k xs ≡ true → below_all R k (all_stated f xs) ≡ true
   below-stated k [] h = refl
-  below-stated k (x ∷ xs) h =
-      let rest = below-stated k xs (second_so (is_lt (R k x.0)) (below_all R k xs) h) in
-      elim (f x.1) as (λ v. below_all R k (stated x.0 v ++ all_stated f xs) ≡ true) [
-        | None ↦ rest
-        | Some v ↦ both_so (is_lt (R k x.0)) (below_all R k (all_stated f xs)) (first_so (is_lt (R k x.0)) (below_all R k xs) h) rest
-      ]
+  below-stated k (x ∷ xs) h = grind (arith, both_so, below-stated k xs (second_so (is_lt (R k x.0)) (below_all R k xs) h))
 
   -- entries that some of sorted ones make are sorted
   pub sorted-stated : (xs : List (K × X)) → is_sorted R xs ≡ true → is_sorted R (all_stated f xs) ≡ true
   sorted-stated [] h = refl
-  sorted-stated (x ∷ xs) h =
-      let rest = sorted-stated xs (second_so (below_all R x.0 xs) (is_sorted R xs) h) in
-      elim (f x.1) as (λ v. is_sorted R (stated x.0 v ++ all_stated f xs) ≡ true) [
-        | None ↦ rest
-        | Some v ↦ both_so (below_all R x.0 (all_stated f xs)) (is_sorted R (all_stated f xs)) (below-stated x.0 xs (first_so (below_all R x.0 xs) (is_sorted R xs) h)) rest
-      ]
+  sorted-stated (x ∷ xs) h = grind (arith, both_so, below-stated, sorted-stated xs (second_so (below_all R x.0 xs) (is_sorted R xs) h))
 
   -- what is found among them
   pub find-stated : (o : IsTotalOrder R) (same : (x y : K) → R x y ≡ Equal → x ≡ y) (q : K) (xs : List (K × X)) → is_sorted R xs ≡ true → find R q (all_stated f xs) ≡ then_stated f (find R q xs)
@@ -224,29 +192,17 @@ module _ {K X V : Type 0} (R : K → K → Ordering) (f : X → Option V) where
 
 pub filter-not_not : {X : Type 0} (p : X → Bool) (xs : List X) → filter (λ x. not (not (p x))) xs ≡ filter p xs
 filter-not_not p [] = refl
-filter-not_not p (x ∷ xs) =
-    elim (p x) as (λ b. cond (not (not b)) (x ∷ filter (λ y. not (not (p y))) xs) (filter (λ y. not (not (p y))) xs) ≡ cond b (x ∷ filter p xs) (filter p xs)) [
-      | true ↦ ap (λ (ys : List _). x ∷ ys) (filter-not_not p xs)
-      | false ↦ filter-not_not p xs
-    ]
+filter-not_not p (x ∷ xs) = grind (arith, filter-not_not p xs)
 
 module _ {K X Y : Type 0} (R : K → K → Ordering) (o : IsTotalOrder R) (same : (x y : K) → R x y ≡ Equal → x ≡ y) (f : Y → List (K × X)) where
   abbrev SomeIn : K → List (K × X) → List (K × X) → Type 0
   SomeIn q left right = (is_some (find R q left) || is_some (find R q right)) ≡ true
 
   wider_left : (q : K) (own left right : List (K × X)) → SomeIn q left right → SomeIn q (own ++ left) right
-  wider_left q own left right h = by (is_some (find R q left)) refl h
-    where
-      by : (a : Bool) → is_some (find R q left) ≡ a → (a || is_some (find R q right)) ≡ true → SomeIn q (own ++ left) right
-      by true e k = or_left (is_some (find R q (own ++ left))) (is_some (find R q right)) (some_append_right R o same q own left e)
-      by false e k = or_right (is_some (find R q (own ++ left))) (is_some (find R q right)) k
+  wider_left q own left right h = grind (arith, or_left, some_append_right, or_right)
 
   wider_right : (q : K) (own left right : List (K × X)) → SomeIn q left right → SomeIn q left (own ++ right)
-  wider_right q own left right h = by (is_some (find R q left)) refl h
-    where
-      by : (a : Bool) → is_some (find R q left) ≡ a → (a || is_some (find R q right)) ≡ true → SomeIn q left (own ++ right)
-      by true e k = or_left (is_some (find R q left)) (is_some (find R q (own ++ right))) e
-      by false e k = or_right (is_some (find R q left)) (is_some (find R q (own ++ right))) (some_append_right R o same q own right k)
+  wider_right q own left right h = grind (arith, or_left, or_right, some_append_right)
 
   -- what is found among an element's own entries is found in one of the two parts
   pub found-either : (p hit : Y → Bool) (q : K) (xs : List Y) → list_any hit xs ≡ true → ((y : Y) → hit y ≡ true → is_some (find R q (f y)) ≡ true)

@@ -1,12 +1,10 @@
 -- A file has no whole-file error if and only if no row and no column passes a test of one.
-use Rattle.std.proofs.Common.{◌≡◌, refl, ap, ◌∙◌, ℕ, List, [], ◌∷◌, Bool, true, false, not, cond, map}
+use Rattle.std.proofs.Common.{arith, ◌≡◌, refl, ℕ, List, [], ◌∷◌, Bool, true, false, not, cond, map}
 use Rattle.std.specs.Prelude.{◌&&◌, Option, Some, None, filter, filter_map}
 use Rattle.std.specs.List.{list_all, cons_option}
 use Rattle.std.specs.Option.{option_map, option_map_or}
-use Rattle.std.specs.Cmp.{first_so, second_so}
-use Rattle.std.specs.Ordering.{eq_by_cmp}
+use Rattle.std.specs.Cmp.{second_so}
 use Rattle.mpslp_decimal.specs.Decimal.{Number}
-use Rattle.mpslp_types.specs.Name.{bytes_cmp}
 use Rattle.mpslp_builder.specs.Declaration.{RowDefinition, Draft, at_name, names_in}
 use Rattle.mpslp_model_core.specs.Limits.{limits_of, has_infinite_rhs}
 use Rattle.mpslp_model_core.specs.WrongParts.{is_inexact, is_too_large, is_crossed}
@@ -62,21 +60,8 @@ none_mapped f (x ∷ xs) h = cc
 abbrev stated : FaultKind → List ℕ → Fault
 stated kind name = whole_fault kind (Some name)
 
-no_first : {X Y : Type 0} (f : X → Y) (xs : List X) → option_map f (head_of xs) ≡ None → xs ≡ []
-no_first f [] h = refl
-no_first f (x ∷ xs) h = cc
-
 first_left : {X : Type 0} (o : Option X) (rest : List X) → head_of (cons_option o rest) ≡ None → o ≡ None
-first_left None rest h = refl
-first_left (Some x) rest h = cc
-
-first_right : {X : Type 0} (o : Option X) (rest : List X) → head_of (cons_option o rest) ≡ None → head_of rest ≡ None
-first_right None rest h = h
-first_right (Some x) rest h = cc
-
-first_join : {X : Type 0} (o : Option X) (rest : List X) → o ≡ None → head_of rest ≡ None → head_of (cons_option o rest) ≡ None
-first_join None rest h k = k
-first_join (Some x) rest h k = cc
+first_left o rest h = grind arith
 
 abbrev fault_of : Draft → FaultKind → Option Fault
 fault_of all kind = option_map (stated kind) (head_of (names_with all kind))
@@ -85,27 +70,22 @@ abbrev faults_from : Draft → List FaultKind → List Fault
 faults_from all kinds = filter_map (fault_of all) kinds
 
 here : (all : Draft) (kind : FaultKind) (more : List FaultKind) → head_of (faults_from all (kind ∷ more)) ≡ None → names_with all kind ≡ []
-here all kind more h = no_first (stated kind) (names_with all kind) (first_left (fault_of all kind) (faults_from all more) h)
+here all kind more h = grind arith
 
 later : (all : Draft) (kind : FaultKind) (more : List FaultKind) → head_of (faults_from all (kind ∷ more)) ≡ None → head_of (faults_from all more) ≡ None
-later all kind more h = first_right (fault_of all kind) (faults_from all more) h
+later all kind more h = grind arith
 
 add : (all : Draft) (kind : FaultKind) (more : List FaultKind) → names_with all kind ≡ [] → head_of (faults_from all more) ≡ None → head_of (faults_from all (kind ∷ more)) ≡ None
-add all kind more h k = first_join (fault_of all kind) (faults_from all more) (ap (λ (names : List (List ℕ)). option_map (stated kind) (head_of names)) h) k
+add all kind more h k = grind arith
 
 rows_pass : (all : Draft) (test : RowDefinition → Number → Option Number → Bool) → rows_where all test ≡ [] → passes_rows all test ≡ true
 rows_pass all test h = none_filtered (row_passes all test) all.rows (none_mapped (λ (entry : List ℕ × RowDefinition). entry.0) _ h)
 
-pass_rows : (all : Draft) (test : RowDefinition → Number → Option Number → Bool) → passes_rows all test ≡ true → rows_where all test ≡ []
-pass_rows all test h = ap names_in (filtered_none (row_passes all test) all.rows h)
-
 test_of : {X : Type 0} (b : Bool) (x : X) (o : Option X) → cond b o (Some x) ≡ None → b ≡ true
-test_of true x o h = refl
-test_of false x o h = cc
+test_of b x o h = grind arith
 
 branch_of : {X : Type 0} (b : Bool) (x : X) (o : Option X) → cond b o (Some x) ≡ None → o ≡ None
-branch_of true x o h = h
-branch_of false x o h = cc
+branch_of b x o h = grind arith
 
 -- No error is reported, so there is none.
 pub no_fault-from_none : (all : Draft) → file_fault all ≡ None → HasNoFault all
@@ -141,29 +121,9 @@ no_fault-from_none all h =
 
 -- There is none, so none is reported.
 pub none-from_no_fault : (all : Draft) → HasNoFault all → file_fault all ≡ None
-none-from_no_fault all f =
-    let k8 = SemiBounds ∷ [] in
-    let k7 = BinaryBounds ∷ k8 in
-    let k6 = BoundsCrossed ∷ k7 in
-    let k5 = NegativeUpper ∷ k6 in
-    let k4 = LimitsCrossed ∷ k5 in
-    let k3 = LimitTooLarge ∷ k4 in
-    let k2 = RangeInexact ∷ k3 in
-    ap (λ (b : Bool). cond b (head_of (named_faults all)) (Some (whole_fault NoColumns None))) f.column
-    ∙ add all InfiniteLimit k2 (pass_rows all has_infinite_rhs f.rhs_values)
-    (add all RangeInexact k3 (pass_rows all (λ definition b r. is_inexact (limits_of definition b r)) f.exact)
-    (add all LimitTooLarge k4 (pass_rows all (λ definition b r. is_too_large (limits_of definition b r)) f.small)
-    (add all LimitsCrossed k5 (pass_rows all (λ definition b r. is_crossed (limits_of definition b r)) f.straight)
-    (add all NegativeUpper k6 (filtered_none (has_negative_upper all) (names_in all.columns) f.no_negative_upper)
-    (add all BoundsCrossed k7 (filtered_none (has_crossed_bounds all) (names_in all.columns) f.bounds)
-    (add all BinaryBounds k8 (filtered_none (has_binary_bounds all) (names_in all.columns) f.binary)
-    (add all SemiBounds [] (filtered_none (has_semi_bounds all) (names_in all.columns) f.semi) refl)))))))
+none-from_no_fault all f = grind (arith, add, filtered_none)
 
 -- a property of all values of entries is one of the value that is found
 pub found_all : {X : Type 0} (p : X → Bool) (name : List ℕ) (es : List (List ℕ × X)) → list_all (λ e. p e.1) es ≡ true → option_map_or p (at_name es name) true ≡ true
 found_all p name [] h = refl
-found_all {X} p name (e ∷ es) h =
-    elim (eq_by_cmp bytes_cmp name e.0) as (λ b. option_map_or p (cond b (Some e.1) (at_name es name)) true ≡ true) [
-      | true ↦ first_so (p e.1) (list_all (λ (e : List ℕ × X). p e.1) es) h
-      | false ↦ found_all p name es (second_so (p e.1) (list_all (λ (e : List ℕ × X). p e.1) es) h)
-    ]
+found_all {X} p name (e ∷ es) h = grind (arith, found_all p name es (second_so (p e.1) (list_all (λ (e : List ℕ × X). p e.1) es) h))

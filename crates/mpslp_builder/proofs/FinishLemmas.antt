@@ -1,12 +1,10 @@
 -- The model that `finish` makes of tables, from its parts.
-use Rattle.std.proofs.Common.{◌≡◌, refl, sym, ap, subst, ◌∙◌, ℕ, List, [], ◌∷◌, map, Bool, true}
+use Rattle.std.proofs.Common.{arith, rules, ◌≡◌, refl, sym, ap, subst, ◌∙◌, ℕ, List, [], ◌∷◌, map, Bool, true}
 use Rattle.std.specs.Prelude.{Option, Some, None, filter, is_some, slice_index, unwrap_or}
 use Rattle.std.specs.Ordering.{nat_cmp}
-use Rattle.std.specs.Cmp.{nat_cmp_total, first_so, second_so}
-use Rattle.std.specs.declared.cmp.Ordering.TheVariants.{Less, Equal, Greater}
+use Rattle.std.specs.Cmp.{first_so, second_so}
 use Rattle.std.specs.FinMap as maps
 use Rattle.std.specs.FinMap.{is_sorted, put}
-use Rattle.std.specs.FinMap.Entries.{by_order}
 use Rattle.std.specs.List.{list_all}
 use Rattle.mpslp_decimal.specs.Decimal.{Number, zero_number}
 use Rattle.mpslp_types.specs.Name.{bytes_cmp}
@@ -51,14 +49,7 @@ pub record AreMeantParts (all : Draft) (m : ModelParts) : Type 0 where
   pub coefficients : sorted_of key_cmp (all_cells (parts.name_of_row_key m) (parts.cells_by_name m)) ≡ filter is_kept all.coefficients
 
 pub meant_model : (all : Draft) (m : ModelParts) → AreMeantParts all m → linear_model m ≡ model_of all
-meant_model all m p = λ i. record {
-  sense = p.sense i;
-  objective = p.objective i;
-  constant = p.constant i;
-  rows = maps.from_sorted (p.rows i);
-  columns = maps.from_sorted (p.columns i);
-  coefficients = maps.from_sorted (p.coefficients i);
-}
+meant_model all m p = grind arith
 
 -- The cells of a model are in the order of their numbers, and each number is that of a row.
 pub record AreCells (m : ModelParts) : Type 0 where
@@ -88,21 +79,14 @@ all-from p (x ∷ xs) h = both_so (p x) (list_all p xs) h.0 (all-from p xs h.1)
 module _ (P : ℕ → Type 0) where
   each-put : (k : ℕ) (v : Number) (es : List (ℕ × Number)) → P k → Each (λ e. P e.0) es → Each (λ e. P e.0) (put nat_cmp k v es)
   each-put k v [] here h = (here, tt)
-  each-put k v (e ∷ es) here h =
-      elim (nat_cmp k e.0) as (λ w. Each (λ e. P e.0) (by_order w ((k, v) ∷ e ∷ es) ((e.0, v) ∷ es) (e ∷ put nat_cmp k v es))) [
-        | Less ↦ (here, h)
-        | Equal ↦ (h.0, h.1)
-        | Greater ↦ (h.0, each-put k v es here h.1)
-      ]
+  each-put k v (e ∷ es) here h = grind (arith, each-put k v es here h.1)
 
   each-sorted_of : (es : List (ℕ × Number)) → Each (λ e. P e.0) es → Each (λ e. P e.0) (sorted_of nat_cmp es)
   each-sorted_of [] h = tt
   each-sorted_of (e ∷ es) h = each-put e.0 e.1 (sorted_of nat_cmp es) h.0 (each-sorted_of es h.1)
 
 moved_sorted : (ranks : List ℕ) (cells : List (ℕ × Number)) → is_sorted nat_cmp (moved_cells ranks cells) ≡ true
-moved_sorted ranks cells =
-    let all = map (λ (e : ℕ × Number). (slice_index ranks e.0, e.1)) cells in
-    is_sorted-filter nat_cmp nat_cmp_total is_kept (sorted_of nat_cmp all) (true_from (is_sorted nat_cmp (sorted_of nat_cmp all)) (is_sorted-sorted_of nat_cmp nat_cmp_total all))
+moved_sorted ranks cells = search (rules, is_sorted-filter, true_from, is_sorted-sorted_of)
 
 module _ (objective : Option ObjectiveParts) (rows : List (List ℕ × RowParts)) (columns : List (List ℕ × ColumnParts)) (m : ModelParts) (f : AreFinished objective rows columns m) where
   all_sorted : (cs : List (List ℕ × ColumnParts)) → list_all (λ c. is_sorted nat_cmp c.1) (each_part (moved_in f.ranks) cs) ≡ true
@@ -136,7 +120,7 @@ module _ (objective : Option ObjectiveParts) (rows : List (List ℕ × RowParts)
 
   all_named-from : (cs : List (List ℕ × ColumnParts)) → Each (λ c. list_all (λ e. is_some (parts.name_of_row_key m e.0)) (moved_in f.ranks c.1) ≡ true) cs → all_named (parts.name_of_row_key m) (each_part (moved_in f.ranks) cs) ≡ true
   all_named-from [] h = refl
-  all_named-from (c ∷ cs) h = both_so (list_all (λ e. is_some (parts.name_of_row_key m e.0)) (moved_in f.ranks c.1)) (all_named (parts.name_of_row_key m) (each_part (moved_in f.ranks) cs)) h.0 (all_named-from cs h.1)
+  all_named-from (c ∷ cs) h = grind (arith, both_so, all_named-from cs h.1)
 
   pub finished_cells : AreNumbered objective rows columns → AreCells m
   finished_cells n = record {

@@ -1,10 +1,10 @@
 -- A result that meets the contract of `finish` is the model that the declarations mean.
-use Rattle.std.proofs.Common.{◌≡◌, refl, sym, subst, ◌∙◌, true}
-use Rattle.std.specs.Prelude.{Some, None, is_some, Result, Ok, Err, IfOk, MatchResult}
+use Rattle.std.proofs.Common.{arith, ◌≡◌, sym, subst, ◌∙◌, true}
+use Rattle.std.specs.Prelude.{Some, None, is_some, Result, IfOk, MatchResult}
 use Rattle.mpslp_model_core.specs.Model.{LinearModel}
 use Rattle.mpslp_types.specs.declared.faults.Fault.{Fault}
 use Rattle.mpslp_types.specs.declared.faults.ReadFault.{ReadFault}
-use Rattle.mpslp_types.specs.declared.faults.ReadFault.TheVariants.{File, Failed, OutOfMemory}
+use Rattle.mpslp_types.specs.declared.faults.ReadFault.TheVariants.{OutOfMemory}
 use Rattle.mpslp_builder.specs.Declaration.{Draft}
 use Rattle.mpslp_builder.specs.Finish.{Finishes}
 use Rattle.mpslp_builder.specs.Made.{IsMade}
@@ -19,24 +19,20 @@ module _ (all : Draft) (made : IsMade all) (there : is_some all.objective ≡ tr
   means m meant = record { consistent = consistent-from_made all made there; meant = subst (λ (draft : Draft). DraftMeans draft m) made.draft meant }
 
   draft_means : (m : LinearModel) → Means made.declarations m → DraftMeans all m
-  draft_means m meant = subst (λ (draft : Draft). DraftMeans draft m) (sym made.draft) meant.meant
+  draft_means m meant = grind arith
 
   no_fault : (m : LinearModel) → Means made.declarations m → file_fault all ≡ None
   no_fault m meant = no_fault-from_made all m made there (draft_means m meant)
 
   only_if_meant : (answer : Result LinearModel ReadFault) → Finishes all answer → IfOk answer (λ model. Means made.declarations model)
-  only_if_meant (Ok model) finished = means model finished.1
-  only_if_meant (Err fault) finished = tt
+  only_if_meant answer finished = grind (arith, means)
 
   a_fault : (fault : Fault) → file_fault all ≡ None → file_fault all ≡ Some fault → ⊥
   a_fault fault none some = let both = sym none ∙ some in cc
 
   if_meant : (answer : Result LinearModel ReadFault) → Finishes all answer → (m : LinearModel) → Means made.declarations m
       → MatchResult answer (λ model. model ≡ m) (λ fault. fault ≡ OutOfMemory)
-  if_meant (Ok model) finished m meant = finished.1.model ∙ sym (draft_means m meant).model
-  if_meant (Err (File fault)) finished m meant = absurd (a_fault fault (no_fault m meant) finished)
-  if_meant (Err Failed) finished m meant = absurd finished
-  if_meant (Err OutOfMemory) finished m meant = refl
+  if_meant answer finished m meant = grind (arith, draft_means, a_fault, no_fault)
 
 pub answers-the_meaning : (all : Draft) (made : IsMade all) (answer : Result LinearModel ReadFault) → is_some all.objective ≡ true → Finishes all answer → IsAnswerOf made.declarations answer
-answers-the_meaning all made answer there finished = record { meant = only_if_meant all made there answer finished; answered = if_meant all made there answer finished }
+answers-the_meaning all made answer there finished = grind (arith, only_if_meant, if_meant)

@@ -1,8 +1,8 @@
 -- The error that is found first is the one that is reported: of each kind, the one with the least name.
 use Rattle.std.proofs.Common.{◌≡◌, refl, sym, ap, ◌∙◌, ℕ, zero, suc, drop, ◌<◌, ◌+◌, ◌-◌, List, [], ◌∷◌, length, map, Bool, true, false, cond, arith}
-use Rattle.std.specs.Prelude.{◌||◌, Option, Some, None, is_some, filter, filter_map, slice_get, slice_index_or, unwrap_or}
+use Rattle.std.specs.Prelude.{Option, Some, None, is_some, filter, filter_map, slice_get, slice_index_or, unwrap_or}
 use Rattle.std.specs.Option.{option_map}
-use Rattle.std.specs.List.{list_any, cons_option}
+use Rattle.std.specs.List.{list_any}
 use Rattle.std.specs.Cmp.{first_so, second_so}
 use Rattle.std.specs.Ordering.{is_lt, is_eq}
 use Rattle.std.specs.declared.cmp.Ordering.{Ordering}
@@ -11,11 +11,9 @@ use Rattle.std.specs.FinMap.{find, put, is_sorted}
 use Rattle.std.specs.FinMap.Entries.{by_order, below_all}
 use Rattle.std.proofs.Math.Dec.{T}
 use Rattle.std.proofs.lemmas.List.{drop_more}
-use Rattle.mpslp_decimal.specs.Decimal.{Number, zero_number}
+use Rattle.mpslp_decimal.specs.Decimal.{zero_number}
 use Rattle.mpslp_types.specs.Name.{bytes_cmp}
 use Rattle.mpslp_types.proofs.BoolLemmas.{both_so, nor, true_from, T_from}
-use Rattle.mpslp_model_core.specs.Limits.{RowDefinition, limits_of, has_infinite_rhs, is_negative_upper, are_no_binary_bounds}
-use Rattle.mpslp_model_core.specs.WrongParts.{is_inexact, is_too_large, is_crossed, are_crossed_bounds, are_no_semi_bounds}
 use Rattle.mpslp_types.specs.Lists.{head_of, is_nonempty}
 use Rattle.mpslp_model_core.specs.Numbered.{sorted_of, each_part, IsOnce}
 use Rattle.mpslp_model_core.specs.declared.limits.RowFault.{RowFault}
@@ -24,20 +22,19 @@ use Rattle.mpslp_model_core.specs.declared.bounds.ColumnFault.{ColumnFault}
 use Rattle.mpslp_model_core.specs.declared.bounds.ColumnFault.TheVariants as columns
 use Rattle.mpslp_model_core.proofs.KeyLemmas.{bytes_total}
 use Rattle.mpslp_model_core.proofs.SortedLemmas.{find-sorted_of, is_sorted-sorted_of}
-use Rattle.mpslp_builder.specs.Declaration.{Draft, names_in, has_name}
+use Rattle.mpslp_builder.specs.Declaration.{Draft, names_in}
 use Rattle.mpslp_builder.specs.Meaning.{declared_of, row_passes}
-use Rattle.mpslp_builder.specs.FileFault.{whole_fault, named_faults, file_fault}
-use Rattle.mpslp_builder.specs.Tables.{definition_of, no_part, cells_of, draft, IsNumbered}
+use Rattle.mpslp_builder.specs.FileFault.{whole_fault, file_fault}
+use Rattle.mpslp_builder.specs.Tables.{definition_of, no_part, draft, IsNumbered}
 use Rattle.mpslp_builder.specs.Calls.{IsOnceEach}
-use Rattle.mpslp_builder.specs.FaultFound.{row_test, bounds_test, kind_of_row_fault, kind_of_column_fault, row_fails, column_fails, is_wrong_row, is_wrong_column, declared_in, lesser, is_below, least_name, entry_name, named_fault}
+use Rattle.mpslp_builder.specs.FaultFound.{row_test, bounds_test, kind_of_row_fault, kind_of_column_fault, row_fails, column_fails, is_wrong_row, is_wrong_column, lesser, is_below, least_name, entry_name, named_fault}
 use Rattle.mpslp_builder_parts.specs.RowParts.{RowParts}
 use Rattle.mpslp_builder_parts.specs.declared.parts.ColumnParts.{ColumnParts}
 use Rattle.mpslp_builder.specs.declared.tables.Tables.{Tables}
 use Rattle.mpslp_types.specs.declared.faults.FaultKind.{FaultKind}
 use Rattle.mpslp_types.specs.declared.faults.FaultKind.TheVariants as kinds
 use Rattle.mpslp_model_core.proofs.CellLemmas.{or_else}
-use Rattle.mpslp_builder.proofs.PartLemmas.{absent-each_part}
-use Rattle.mpslp_builder.proofs.NameLemmas.{once_too, there_found}
+use Rattle.mpslp_builder.proofs.NameLemmas.{once_too}
 use Rattle.mpslp_builder.proofs.OwnParts.{row_parts_at, column_parts_at}
 
 -- ---- the first name of a sorted map that passes a test
@@ -50,24 +47,15 @@ module _ {X : Type 0} (p : List ℕ × X → Bool) where
   -- a name below all names is the lesser one
   below_first : (k : List ℕ) (es : List (List ℕ × X)) → below_all bytes_cmp k es ≡ true → lesser k (first_of p es) ≡ k
   below_first k [] h = refl
-  below_first k (e ∷ es) h =
-      elim (p e) as (λ b. lesser k (head_of (names_in (cond b (e ∷ filter p es) (filter p es)))) ≡ k) [
-        | true ↦ ap (λ (b : Bool). cond b k e.0) (first_so (is_lt (bytes_cmp k e.0)) (below_all bytes_cmp k es) h)
-        | false ↦ below_first k es (second_so (is_lt (bytes_cmp k e.0)) (below_all bytes_cmp k es) h)
-      ]
+  below_first k (e ∷ es) h = grind (arith, below_first k es (second_so (is_lt (bytes_cmp k e.0)) (below_all bytes_cmp k es) h))
 
   less_from : (w : Ordering) → is_lt w ≡ true → w ≡ Less
-  less_from Less h = refl
-  less_from Equal h = cc
-  less_from Greater h = cc
+  less_from w h = grind arith
 
   -- a name below another one is below all names that are above that one
   below_through : (k m : List ℕ) (es : List (List ℕ × X)) → bytes_cmp k m ≡ Less → below_all bytes_cmp m es ≡ true → below_all bytes_cmp k es ≡ true
   below_through k m [] less h = refl
-  below_through k m (e ∷ es) less h =
-      let here = less_from (bytes_cmp m e.0) (first_so (is_lt (bytes_cmp m e.0)) (below_all bytes_cmp m es) h) in
-      let rest = below_through k m es less (second_so (is_lt (bytes_cmp m e.0)) (below_all bytes_cmp m es) h) in
-      both_so (is_lt (bytes_cmp k e.0)) (below_all bytes_cmp k es) (ap is_lt (bytes_total.trans k m e.0 less here)) rest
+  below_through k m (e ∷ es) less h = grind (arith, less_from, both_so, bytes_total, below_through k m es less (second_so (is_lt (bytes_cmp m e.0)) (below_all bytes_cmp m es) h))
 
   greater_no : (a b : List ℕ) → bytes_cmp a b ≡ Greater → is_lt (bytes_cmp a b) ≡ false
   greater_no a b h = ap is_lt h
@@ -75,11 +63,7 @@ module _ {X : Type 0} (p : List ℕ × X → Bool) where
   -- an entry that is put
   first_put : (k : List ℕ) (v : X) (es : List (List ℕ × X)) → T (is_sorted bytes_cmp es) → find bytes_cmp k es ≡ None
       → first_of p (put bytes_cmp k v es) ≡ cond (p (k, v)) (Some (lesser k (first_of p es))) (first_of p es)
-  first_put k v [] sorted none =
-      elim (p (k, v)) as (λ b. head_of (names_in (cond b ((k, v) ∷ []) [])) ≡ cond b (Some k) None) [
-        | true ↦ refl
-        | false ↦ refl
-      ]
+  first_put k v [] sorted none = grind arith
   first_put k v (e ∷ es) sorted none =
       elim (bytes_cmp k e.0) as (λ w. bytes_cmp k e.0 ≡ w → cond (is_eq w) (Some e.1) (find bytes_cmp k es) ≡ None
       → first_of p (by_order w ((k, v) ∷ e ∷ es) ((e.0, v) ∷ es) (e ∷ put bytes_cmp k v es)) ≡ cond (p (k, v)) (Some (lesser k (first_of p (e ∷ es)))) (first_of p (e ∷ es))) [
@@ -118,7 +102,7 @@ module _ {V : Type 0} (test : V → Bool) where
   -- the entries from an index on
   pub drop_at : (es : List (List ℕ × V)) (i : ℕ) (e : List ℕ × V) → slice_get es i ≡ Some e → drop i es ≡ e ∷ drop (suc i) es
   drop_at [] i e is = cc
-  drop_at (x ∷ es) zero e is = let same : ◌≡◌ {A = List ℕ × V} x e = cc in ap (λ (y : List ℕ × V). y ∷ es) same
+  drop_at (x ∷ es) zero e is = grind arith
   drop_at (x ∷ es) (suc i) e is = drop_at es i e is
 
   -- if none passes, there is no least one
@@ -133,12 +117,8 @@ module _ {V : Type 0} (test : V → Bool) where
 module _ {X : Type 0} (p : X → Bool) where
   pub any_at : (es : List X) (i : ℕ) (e : X) → slice_get es i ≡ Some e → p e ≡ true → true ≡ list_any p es
   any_at [] i e is passes = cc
-  any_at (x ∷ es) zero e is passes = let same : x ≡ e = cc in ap (λ (b : Bool). b || list_any p es) (sym (ap p same ∙ passes))
-  any_at (x ∷ es) (suc i) e is passes =
-      elim (p x) as (λ b. true ≡ (b || list_any p es)) [
-        | true ↦ refl
-        | false ↦ any_at es i e is passes
-      ]
+  any_at (x ∷ es) zero e is passes = grind arith
+  any_at (x ∷ es) (suc i) e is passes = grind (arith, any_at es i e is passes)
 
   pub drop_all : (es : List X) → list_any p (drop (length es) es) ≡ false
   drop_all [] = refl
@@ -146,7 +126,7 @@ module _ {X : Type 0} (p : X → Bool) where
 
   pub none_from : (es : List X) (i : ℕ) (e : X) → slice_get es i ≡ Some e → p e ≡ false → list_any p (drop (suc i) es) ≡ false → list_any p (drop i es) ≡ false
   none_from [] i e is fails rest = cc
-  none_from (x ∷ es) zero e is fails rest = let same : x ≡ e = cc in (λ i. (ap p same ∙ fails) i || rest i)
+  none_from (x ∷ es) zero e is fails rest = grind arith
   none_from (x ∷ es) (suc i) e is fails rest = none_from es i e is fails rest
 
 -- an index below the length has an entry
@@ -159,60 +139,30 @@ there (e ∷ es) (suc i) h none = there es i (omega (arith, h)) none
 pub before : (n : ℕ) → 0 < n → n ≡ suc (n - 1)
 before n h = omega (arith, h)
 
--- a name below the least so far is the least
-pub new_least : (name : List ℕ) (o : Option (List ℕ)) → is_below name o ≡ true → lesser name o ≡ name
-new_least name None h = refl
-new_least name (Some other) h = ap (λ (b : Bool). cond b name other) h
-
-pub old_least : (name : List ℕ) (o : Option (List ℕ)) → is_below name o ≡ false → Some (lesser name o) ≡ o
-old_least name None h = cc
-old_least name (Some other) h = ap (λ (b : Bool). Some (cond b name other)) h
-
 module _ {V : Type 0} (test : V → Bool) (es : List (List ℕ × V)) (i : ℕ) (k : List ℕ) (v : V) (is : slice_get es i ≡ Some (k, v)) (o : Option (List ℕ)) (so_far : o ≡ least_name test (drop (suc i) es)) where
   with_entry : least_name test (drop i es) ≡ cond (test v) (Some (lesser k o)) o
   with_entry = ap (least_name test) (drop_at test es i (k, v) is) ∙ ap (λ (m : Option (List ℕ)). cond (test v) (Some (lesser k m)) m) (sym so_far)
 
   -- an entry that passes and is below is the least
   pub least_put : test v ≡ true → is_below k o ≡ true → entry_name es i ≡ least_name test (drop i es)
-  least_put passes below =
-      ap (option_map (λ (e : List ℕ × V). e.0)) is
-      ∙ ap Some (sym (new_least k o below))
-      ∙ sym (with_entry ∙ ap (λ (b : Bool). cond b (Some (lesser k o)) o) passes)
+  least_put passes below = grind (arith, with_entry)
 
   -- one that does not pass, or is not below, does not change the least
   pub least_failing : test v ≡ false → o ≡ least_name test (drop i es)
-  least_failing fails = sym (with_entry ∙ ap (λ (b : Bool). cond b (Some (lesser k o)) o) fails)
+  least_failing fails = grind (arith, with_entry)
 
   pub least_above : test v ≡ true → is_below k o ≡ false → o ≡ least_name test (drop i es)
-  least_above passes above = sym (with_entry ∙ ap (λ (b : Bool). cond b (Some (lesser k o)) o) passes ∙ old_least k o above)
+  least_above passes above = grind (arith, with_entry)
 
 -- ---- rows
 
 -- a row without an error
 pub faultless_row : (fault : RowFault) (row : RowParts) → is_wrong_row row ≡ false → row_fails fault row ≡ false
-faultless_row fault row h = faultless fault row.definition (unwrap_or row.rhs zero_number) row.range h
-  where
-    faultless : (fault : RowFault) (definition : RowDefinition) (b : Number) (r : Option Number) → (has_infinite_rhs definition b r || (is_inexact (limits_of definition b r) || (is_too_large (limits_of definition b r) || is_crossed (limits_of definition b r)))) ≡ false → row_test fault definition b r ≡ false
-    faultless fault definition b r h =
-        let limits = limits_of definition b r in
-        let first = nor (has_infinite_rhs definition b r) (is_inexact limits || (is_too_large limits || is_crossed limits)) h in
-        let second = nor (is_inexact limits) (is_too_large limits || is_crossed limits) first.1 in
-        let third = nor (is_too_large limits) (is_crossed limits) second.1 in
-        by fault first.0 second.0 third.0 third.1
-      where
-        by : (f : RowFault) → has_infinite_rhs definition b r ≡ false → is_inexact (limits_of definition b r) ≡ false → is_too_large (limits_of definition b r) ≡ false
-            → is_crossed (limits_of definition b r) ≡ false → row_test f definition b r ≡ false
-        by rows.InfiniteLimit i e t x = i
-        by rows.RangeInexact i e t x = e
-        by rows.LimitTooLarge i e t x = t
-        by rows.LimitsCrossed i e t x = x
+faultless_row fault row h = grind arith
 
 of_row : (all : Draft) (fault : RowFault) → named_fault all (kind_of_row_fault fault)
     ≡ option_map (λ name. whole_fault (kind_of_row_fault fault) (Some name)) (head_of (names_in (filter (row_passes all (row_test fault)) all.rows)))
-of_row all rows.InfiniteLimit = refl
-of_row all rows.RangeInexact = refl
-of_row all rows.LimitTooLarge = refl
-of_row all rows.LimitsCrossed = refl
+of_row all fault = grind arith
 
 pub row_named : (t : Tables) → IsNumbered t → IsOnceEach t → (fault : RowFault) → named_fault (draft None None t) (kind_of_row_fault fault)
     ≡ option_map (λ name. whole_fault (kind_of_row_fault fault) (Some name)) (least_name (row_fails fault) t.rows.entries)
@@ -226,27 +176,11 @@ row_named t numbered once fault =
 -- ---- columns
 
 pub faultless_column : (fault : ColumnFault) (column : ColumnParts) → is_wrong_column column ≡ false → column_fails fault column ≡ false
-faultless_column fault column h =
-    let d = declared_in column in
-    let first = nor (is_negative_upper d) (are_crossed_bounds d || (are_no_binary_bounds d || are_no_semi_bounds d)) h in
-    let second = nor (are_crossed_bounds d) (are_no_binary_bounds d || are_no_semi_bounds d) first.1 in
-    let third = nor (are_no_binary_bounds d) (are_no_semi_bounds d) second.1 in
-    by fault first.0 second.0 third.0 third.1
-  where
-    by : (f : ColumnFault) → is_negative_upper (declared_in column) ≡ false → are_crossed_bounds (declared_in column) ≡ false → are_no_binary_bounds (declared_in column) ≡ false
-        → are_no_semi_bounds (declared_in column) ≡ false → column_fails f column ≡ false
-    by columns.NegativeUpper n c b s = n
-    by columns.BoundsCrossed n c b s = c
-    by columns.BinaryBounds n c b s = b
-    by columns.SemiBounds n c b s = s
+faultless_column fault column h = grind arith
 
 filter-map : {X Y : Type 0} (p : Y → Bool) (f : X → Y) (xs : List X) → filter p (map f xs) ≡ map f (filter (λ x. p (f x)) xs)
 filter-map p f [] = refl
-filter-map p f (x ∷ xs) =
-    elim (p (f x)) as (λ b. cond b (f x ∷ filter p (map f xs)) (filter p (map f xs)) ≡ map f (cond b (x ∷ filter (λ x. p (f x)) xs) (filter (λ x. p (f x)) xs))) [
-      | true ↦ ap (λ (ys : List _). f x ∷ ys) (filter-map p f xs)
-      | false ↦ filter-map p f xs
-    ]
+filter-map p f (x ∷ xs) = grind (arith, filter-map p f xs)
 
 of_column : (all : Draft) (fault : ColumnFault) → named_fault all (kind_of_column_fault fault)
     ≡ option_map (λ name. whole_fault (kind_of_column_fault fault) (Some name)) (head_of (names_in (filter (λ column. bounds_test fault (declared_of all column.0)) all.columns)))
@@ -265,27 +199,24 @@ column_named t once fault =
     (λ i k column is. ap (bounds_test fault) (column_parts_at None None t once i k column is)))
   where
     column_once : (t : Tables) → IsOnceEach t → IsOnce (each_part no_part t.columns.entries)
-    column_once t once = once_too cells_of no_part t.columns.entries once.columns
+    column_once t once = grind (arith, once_too)
 
 -- ---- the first of several options
 
 pub first_left : {X Y : Type 0} (f : X → Option Y) (xs : List X) (i : ℕ) (d : X) (y : Y) → i < length xs → f (slice_index_or xs i d) ≡ Some y → head_of (filter_map f (drop i xs)) ≡ Some y
-first_left {Y = Y} f xs i d y l h =
-    ap (λ (left : List _). head_of (filter_map f left)) (drop_more xs i d l) ∙ ap (λ (o : Option Y). head_of (cons_option o (filter_map f (drop (i + 1) xs)))) h
+first_left {Y = Y} f xs i d y l h = grind (arith, drop_more)
 
 pub next_left : {X Y : Type 0} (f : X → Option Y) (xs : List X) (i : ℕ) (d : X) → i < length xs → f (slice_index_or xs i d) ≡ None → head_of (filter_map f (drop (i + 1) xs)) ≡ head_of (filter_map f (drop i xs))
-next_left {Y = Y} f xs i d l h =
-    sym (ap (λ (left : List _). head_of (filter_map f left)) (drop_more xs i d l) ∙ ap (λ (o : Option Y). head_of (cons_option o (filter_map f (drop (i + 1) xs)))) h)
+next_left {Y = Y} f xs i d l h = grind (arith, drop_more)
 
 -- none of several is there
 pub none_left : {X Y : Type 0} (f : X → Option Y) → ((x : X) → f x ≡ None) → (xs : List X) → head_of (filter_map f xs) ≡ None
 none_left f none [] = refl
-none_left {Y = Y} f none (x ∷ xs) = ap (λ (o : Option Y). head_of (cons_option o (filter_map f xs))) (none x) ∙ none_left f none xs
+none_left {Y = Y} f none (x ∷ xs) = grind (arith, none_left f none xs)
 
 -- the name at an index, and the error that is reported for it
 pub stated : (kind : FaultKind) (name : Option (List ℕ)) (least : Option (List ℕ)) → name ≡ least → is_some name ≡ true → option_map (λ n. whole_fault kind (Some n)) least ≡ Some (whole_fault kind name)
-stated kind None least same h = cc
-stated kind (Some n) least same h = ap (option_map (λ (n : List ℕ). whole_fault kind (Some n))) (sym same)
+stated kind name least same h = grind arith
 
 pub entry_named : {V : Type 0} (es : List (List ℕ × V)) (i : ℕ) → i < length es → is_some (entry_name es i) ≡ true
 entry_named [] i h = absurd (omega (arith, h))
@@ -296,12 +227,7 @@ entry_named (e ∷ es) (suc i) h = entry_named es i (omega (arith, h))
 
 nonempty_put : {K X : Type 0} (R : K → K → Ordering) (k : K) (v : X) (es : List (K × X)) → is_nonempty (put R k v es) ≡ true
 nonempty_put R k v [] = refl
-nonempty_put R k v (e ∷ es) =
-    elim (R k e.0) as (λ w. is_nonempty (by_order w ((k, v) ∷ e ∷ es) ((e.0, v) ∷ es) (e ∷ put R k v es)) ≡ true) [
-      | Less ↦ refl
-      | Equal ↦ refl
-      | Greater ↦ refl
-    ]
+nonempty_put R k v (e ∷ es) = grind arith
 
 -- whether there are columns
 pub some_column : (es : List (List ℕ × ColumnParts)) → is_nonempty (sorted_of bytes_cmp (each_part no_part es)) ≡ is_nonempty es
@@ -309,49 +235,16 @@ some_column [] = refl
 some_column (e ∷ es) = nonempty_put bytes_cmp e.0 tt (sorted_of bytes_cmp (each_part no_part es))
 
 pub nonempty_from : {X : Type 0} (es : List X) → (length es ≡ 0 → ⊥) → is_nonempty es ≡ true
-nonempty_from [] h = absurd (h refl)
-nonempty_from (e ∷ es) h = refl
-
-pub empty_from : {X : Type 0} (es : List X) → length es ≡ 0 → is_nonempty es ≡ false
-empty_from [] h = refl
-empty_from (e ∷ es) h = absurd (omega (arith, h))
-
--- four options before others
-pub in_front : {X : Type 0} (a b c d : Option X) (rest : List X)
-    → head_of (cons_option a (cons_option b (cons_option c (cons_option d rest)))) ≡ or_else (head_of (cons_option a (cons_option b (cons_option c (cons_option d []))))) (head_of rest)
-in_front (Some x) b c d rest = refl
-in_front None (Some x) c d rest = refl
-in_front None None (Some x) d rest = refl
-in_front None None None (Some x) rest = refl
-in_front None None None None rest = refl
+nonempty_from es h = grind arith
 
 pub of_the_whole : (all : Draft) → is_nonempty all.columns ≡ true
     → file_fault all ≡ or_else (head_of (filter_map (λ fault. named_fault all (kind_of_row_fault fault)) (rows.InfiniteLimit ∷ rows.RangeInexact ∷ rows.LimitTooLarge ∷ rows.LimitsCrossed ∷ [])))
     (head_of (filter_map (λ fault. named_fault all (kind_of_column_fault fault)) (columns.NegativeUpper ∷ columns.BoundsCrossed ∷ columns.BinaryBounds ∷ columns.SemiBounds ∷ [])))
-of_the_whole all some =
-    ap (λ (b : Bool). cond b (head_of (named_faults all)) (Some (whole_fault kinds.NoColumns None))) some
-    ∙ in_front (named_fault all kinds.InfiniteLimit) (named_fault all kinds.RangeInexact) (named_fault all kinds.LimitTooLarge) (named_fault all kinds.LimitsCrossed)
-    (filter_map (λ fault. named_fault all (kind_of_column_fault fault)) (columns.NegativeUpper ∷ columns.BoundsCrossed ∷ columns.BinaryBounds ∷ columns.SemiBounds ∷ []))
-
-pub of_none : (all : Draft) → is_nonempty all.columns ≡ false → file_fault all ≡ Some (whole_fault kinds.NoColumns None)
-of_none all none = ap (λ (b : Bool). cond b (head_of (named_faults all)) (Some (whole_fault kinds.NoColumns None))) none
+of_the_whole all some = grind arith
 
 -- the first is there and is the result; or it is not, and the result is that of the others
 pub first_decides : {X Y : Type 0} (f : X → Y) (o : Option X) (a b : Option Y) → option_map f o ≡ a → true ≡ is_some o → option_map f o ≡ or_else a b
-first_decides f None a b same h = cc
-first_decides f (Some x) a b same h = ap (λ (z : Option _). or_else z b) same
+first_decides f o a b same h = grind arith
 
 pub later_decides : {X Y : Type 0} (f : X → Y) (o : Option X) (a b : Option Y) → option_map f o ≡ a → false ≡ is_some o → b ≡ or_else a b
-later_decides f None a b same h = ap (λ (z : Option _). or_else z b) same
-later_decides f (Some x) a b same h = cc
-
--- ---- names
-
-module _ {V X : Type 0} (f : V → X) where
-  -- a name at an index is one of the map's
-  pub name_there : (es : List (List ℕ × V)) (i : ℕ) (name : List ℕ) → entry_name es i ≡ Some name → has_name (sorted_of bytes_cmp (each_part f es)) name ≡ true
-  name_there es i name is =
-      elim (has_name (sorted_of bytes_cmp (each_part f es)) name) as (λ b. has_name (sorted_of bytes_cmp (each_part f es)) name ≡ b → b ≡ true) [
-        | true ↦ λ _. refl
-        | false ↦ λ absent. absurd (there_found f es i name is (absent-each_part f name es absent))
-      ] refl
+later_decides f o a b same h = grind arith

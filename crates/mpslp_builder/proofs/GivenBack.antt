@@ -1,6 +1,6 @@
 -- A draft that gives back the parts of a well-formed model gives back the model.
-use Rattle.std.proofs.Common.{◌≡◌, refl, sym, ap, subst, ◌∙◌, List, [], ◌∷◌, ℕ, Bool, true, false, not, map}
-use Rattle.std.specs.Prelude.{Option, Some, None, is_none, unwrap_or, filter, ◌&&◌}
+use Rattle.std.proofs.Common.{arith, ◌≡◌, refl, sym, ap, subst, ◌∙◌, List, [], ◌∷◌, ℕ, Bool, true, not, map}
+use Rattle.std.specs.Prelude.{unwrap_or, filter, ◌&&◌}
 use Rattle.std.specs.List.{list_all}
 use Rattle.std.specs.declared.cmp.Ordering.{Ordering}
 use Rattle.std.specs.FinMap as maps
@@ -10,13 +10,11 @@ use Rattle.mpslp_decimal.specs.Decimal.{is_zero}
 use Rattle.mpslp_model_core.specs.Model.{LinearModel, Column, is_sound_column}
 use Rattle.mpslp_types.specs.Limit.{is_at_most}
 use Rattle.mpslp_types.specs.declared.kinds.Sense.TheVariants.{Minimize}
-use Rattle.mpslp_types.specs.declared.kinds.Limit.{Limit}
-use Rattle.mpslp_builder.specs.Declaration.{Draft, at_name, has_name, names_in}
+use Rattle.mpslp_builder.specs.Declaration.{Draft, has_name, names_in}
 use Rattle.mpslp_builder.specs.Bounds.{zero_limit, one_limit, lower_bound, upper_bound}
 use Rattle.mpslp_builder.specs.Meaning.{column_of, has_negative_upper, has_binary_bounds, objective_name, constant_of, row_entry, model_of}
 use Rattle.mpslp_types.proofs.EachLemmas.{Each, Each-both, Each-map, Each-all, list_all-from_Each}
 use Rattle.mpslp_builder.proofs.NamedEntries.{named}
-use Rattle.mpslp_builder.proofs.SoundParts.{column_sides, straight_of}
 
 -- ---- the model
 
@@ -34,11 +32,7 @@ pub record GivesBack (all : Draft) (m : LinearModel) : Type 0 where
   pub coefficients : filter (λ entry. not (is_zero entry.1)) all.coefficients ≡ maps.entries m.coefficients
 
 pub model-back : (all : Draft) (m : LinearModel) → GivesBack all m → m ≡ model_of all
-model-back all m h =
-    let rows = from_sorted-back m.rows (map (row_entry all) all.rows) h.rows in
-    let columns = from_sorted-back m.columns (map (λ column. (column.0, column_of all column.0)) all.columns) h.columns in
-    let coefficients = from_sorted-back m.coefficients (filter (λ entry. not (is_zero entry.1)) all.coefficients) h.coefficients in
-    λ i. record { sense = sym h.sense i; objective = sym h.objective i; constant = sym h.constant i; rows = rows i; columns = columns i; coefficients = coefficients i }
+model-back all m h = grind (arith, from_sorted-back)
 
 -- ---- columns, each of which is given back
 
@@ -56,20 +50,7 @@ module _ (all : Draft) (columns : List (List ℕ × Column)) (declared : all.col
       ∙ list_all-from_Each p (names_in (map named columns)) (Each-map (λ name. p name ≡ true) (λ (e : List ℕ × Unit {0}). e.0) (map named columns) (Each-map (λ (e : List ℕ × Unit {0}). p e.0 ≡ true) named columns each))
 
   nonnegative-upper : (column : List ℕ × Column) → is_sound_column column ≡ true → column_of all column.0 ≡ column.1 → not (has_negative_upper all column.0) ≡ true
-  nonnegative-upper column sound is = by (at_name all.lowers column.0) refl
-    where
-      ordered : is_at_most (lower_bound all column.0) (upper_bound all column.0) ≡ true
-      ordered = ap (λ (c : Column). is_at_most c.lower c.upper) is ∙ straight_of column.1.lower column.1.upper (column_sides column sound)
-
-      fine : (b : Bool) → b ≡ true → not (true && not b) ≡ true
-      fine true e = refl
-      fine false e = e
-
-      by : (o : Option Limit) → at_name all.lowers column.0 ≡ o → not (is_none (at_name all.lowers column.0) && not (is_at_most zero_limit (upper_bound all column.0))) ≡ true
-      by (Some l) e = ap (λ (o : Option Limit). not (is_none o && not (is_at_most zero_limit (upper_bound all column.0)))) e
-      by None e =
-          ap (λ (o : Option Limit). not (is_none o && not (is_at_most zero_limit (upper_bound all column.0)))) e
-          ∙ fine (is_at_most zero_limit (upper_bound all column.0)) (ap (λ (o : Option Limit). is_at_most (unwrap_or o zero_limit) (upper_bound all column.0)) (sym e) ∙ ordered)
+  nonnegative-upper column sound is = grind arith
 
   -- bounds are not crossed, so no column without a declared lower bound has an upper bound below 0
   pub no-negative_upper : Each (λ column. is_sound_column column ≡ true) columns → list_all (λ name. not (has_negative_upper all name)) (names_in all.columns) ≡ true

@@ -1,6 +1,6 @@
 -- What a later draft keeps of an earlier one: if no slot is filled twice, what was declared stays declared.
-use Rattle.std.proofs.Common.{◌≡◌, refl, sym, ap, ◌∙◌, ℕ, List, [], ◌∷◌, Bool, true, false, not, cond}
-use Rattle.std.specs.Prelude.{◌&&◌, ◌||◌, Option, Some, None, is_some}
+use Rattle.std.proofs.Common.{arith, rules, ◌≡◌, refl, ℕ, List, [], ◌∷◌, Bool, true, false, not, cond}
+use Rattle.std.specs.Prelude.{◌&&◌, Option, Some, is_some}
 use Rattle.std.specs.Option.{option_map_or}
 use Rattle.std.specs.Cmp.{first_so, second_so}
 use Rattle.std.specs.FinMap.{put}
@@ -8,7 +8,7 @@ use Rattle.std.specs.Cmp.Lexicographic.{nat_list_eq_equiv}
 use Rattle.mpslp_types.specs.Name.{same_bytes, bytes_cmp}
 use Rattle.mpslp_builder.specs.Declaration.{RowDefinition, Declaration, declare_sense, declare_objective, declare_constant, declare_row, declare_rhs, declare_range, declare_column, declare_coefficient, declare_lower, declare_upper, declare_marked, declare_integer, declare_binary, declare_semi, Declarations, Draft, with_declaration, with_declarations, at_name, has_name, has_row, has_column, is_objective, is_integer, is_semi}
 use Rattle.mpslp_builder.specs.Consistency.{slots_of, is_known}
-use Rattle.mpslp_types.proofs.BoolLemmas.{both_so, or_left, or_right, either_more, not_so}
+use Rattle.mpslp_types.proofs.BoolLemmas.{or_right, either_more, not_so}
 use Rattle.mpslp_builder.proofs.SlotLemmas.{at-put, has-put, are_fresh, are_fresh_in_turn, same_name}
 
 -- ---- what a later draft keeps
@@ -24,7 +24,7 @@ pub record Extends (before after : Draft) : Type 0 where
   pub semi : (name : List ℕ) → is_semi before name ≡ true → is_semi after name ≡ true
 
 pub itself : (all : Draft) → Extends all all
-itself all = record { objective = λ _ h. h; constant = λ h. h; right_side = λ _ h. h; row = λ _ _ h. h; column = λ _ h. h; integer = λ _ h. h; semi = λ _ h. h }
+itself all = grind arith
 
 pub then_on : (a b c : Draft) → Extends a b → Extends b c → Extends a c
 then_on a b c f g = record {
@@ -37,74 +37,28 @@ then_on a b c f g = record {
   semi = λ n h. g.semi n (f.semi n h);
 }
 
-none_before : (o : Option (List ℕ)) (name : List ℕ) (rest : Bool) → (not (is_some o) && rest) ≡ true → o ≡ Some name → ⊥
-none_before None name rest h e = cc
-none_before (Some x) name rest h e = cc
-
 pub more_entries : {X : Type 0} (q k : List ℕ) (v : X) (es : List (List ℕ × X)) → has_name es q ≡ true → has_name (put bytes_cmp k v es) q ≡ true
-more_entries q k v es h = has-put q k v es ∙ or_right (same_bytes q k) (has_name es q) h
+more_entries q k v es h = grind (arith, has-put, or_right)
 
 -- one more row, of a new name
 kept_row : (b : Bool) (new : RowDefinition) (o : Option RowDefinition) (definition : RowDefinition) → (b ≡ true → o ≡ Some definition → ⊥) → o ≡ Some definition → cond b (Some new) o ≡ Some definition
-kept_row true new o definition apart h = absurd (apart refl h)
-kept_row false new o definition apart h = h
-
-pub found_so : {X : Type 0} (o : Option X) (x : X) → o ≡ Some x → is_some o ≡ true
-found_so o x h = ap is_some h
+kept_row b new o definition apart h = grind arith
 
 is_new_row : (all : Draft) (name q : List ℕ) (definition : RowDefinition) (rest : Bool) → (not (has_row all name) && rest) ≡ true → same_bytes q name ≡ true → at_name all.rows q ≡ Some definition → ⊥
-is_new_row all name q definition rest h same found =
-    let there : has_name all.rows name ≡ true = ap (λ (k : List ℕ). has_name all.rows k) (sym (same_name q name same)) ∙ ap is_some found in
-    let none : has_row all name ≡ false = not_so (has_row all name) (first_so (not (has_row all name)) rest h) in
-    let so : has_row all name ≡ true = or_right (is_objective all name) (has_name all.rows name) there in
-    cc
+is_new_row all name q definition rest h same found = search (rules, same_name, not_so, or_right)
 
 pub extends-with_declaration : (all : Draft) (d : Declaration) → are_fresh all (slots_of d) ≡ true → Extends all (with_declaration all d)
-extends-with_declaration all (declare_sense s) h = record { objective = λ _ h. h; constant = λ h. h; right_side = λ _ h. h; row = λ _ _ h. h; column = λ _ h. h; integer = λ _ h. h; semi = λ _ h. h }
-extends-with_declaration all (declare_objective name) h = record { objective = λ n e. absurd (none_before all.objective n (not (has_row all name) && true) h e); constant = λ h. h; right_side = λ _ h. h; row = λ _ _ h. h; column = λ _ h. h; integer = λ _ h. h; semi = λ _ h. h }
-extends-with_declaration all (declare_constant v) h = record { objective = λ _ h. h; constant = λ h. refl; right_side = λ _ h. h; row = λ _ _ h. h; column = λ _ h. h; integer = λ _ h. h; semi = λ _ h. h }
-extends-with_declaration all (declare_row name definition) h = record {
-  objective = λ _ h. h;
-  constant = λ h. h;
-  right_side = λ _ h. h;
-  row = λ q was e. at-put q name definition all.rows ∙ kept_row (same_bytes q name) definition (at_name all.rows q) was (λ same found. is_new_row all name q was _ h same found) e;
-  column = λ _ h. h;
-  integer = λ _ h. h;
-  semi = λ _ h. h;
-}
+extends-with_declaration all (declare_sense s) h = grind arith
+extends-with_declaration all (declare_objective name) h = grind arith
+extends-with_declaration all (declare_constant v) h = grind arith
+extends-with_declaration all (declare_row name definition) h = grind (arith, at-put, kept_row, is_new_row)
 extends-with_declaration all (declare_rhs row v) h = record { objective = λ _ h. h; constant = λ h. h; right_side = λ q e. more_entries q row v all.rhs_values e; row = λ _ _ h. h; column = λ _ h. h; integer = λ _ h. h; semi = λ _ h. h }
 extends-with_declaration all (declare_column name) h = record { objective = λ _ h. h; constant = λ h. h; right_side = λ _ h. h; row = λ _ _ h. h; column = λ q e. more_entries q name tt all.columns e; integer = λ _ h. h; semi = λ _ h. h }
-extends-with_declaration all (declare_marked c) h = record {
-  objective = λ _ h. h;
-  constant = λ h. h;
-  right_side = λ _ h. h;
-  row = λ _ _ h. h;
-  column = λ _ h. h;
-  integer = λ q is. either_more (has_name all.marked q) (has_name all.integers q || has_name all.binaries q) _ _ (more_entries q c tt all.marked) (λ h. h) is;
-  semi = λ _ h. h;
-}
-extends-with_declaration all (declare_integer c) h = record {
-  objective = λ _ h. h;
-  constant = λ h. h;
-  right_side = λ _ h. h;
-  row = λ _ _ h. h;
-  column = λ _ h. h;
-  integer = λ q is. either_more (has_name all.marked q) (has_name all.integers q || has_name all.binaries q) _ _ (λ h. h)
-      (either_more (has_name all.integers q) (has_name all.binaries q) _ _ (more_entries q c tt all.integers) (λ h. h)) is;
-  semi = λ _ h. h;
-}
-extends-with_declaration all (declare_binary c) h = record {
-  objective = λ _ h. h;
-  constant = λ h. h;
-  right_side = λ _ h. h;
-  row = λ _ _ h. h;
-  column = λ _ h. h;
-  integer = λ q is. either_more (has_name all.marked q) (has_name all.integers q || has_name all.binaries q) _ _ (λ h. h)
-      (either_more (has_name all.integers q) (has_name all.binaries q) _ _ (λ h. h) (more_entries q c tt all.binaries)) is;
-  semi = λ _ h. h;
-}
+extends-with_declaration all (declare_marked c) h = grind (arith, either_more, more_entries)
+extends-with_declaration all (declare_integer c) h = grind (arith, either_more, more_entries)
+extends-with_declaration all (declare_binary c) h = grind (arith, either_more, more_entries)
 extends-with_declaration all (declare_semi c) h = record { objective = λ _ h. h; constant = λ h. h; right_side = λ _ h. h; row = λ _ _ h. h; column = λ _ h. h; integer = λ _ h. h; semi = λ q e. more_entries q c tt all.semis e }
-extends-with_declaration all _ h = record { objective = λ _ h. h; constant = λ h. h; right_side = λ _ h. h; row = λ _ _ h. h; column = λ _ h. h; integer = λ _ h. h; semi = λ _ h. h }
+extends-with_declaration all _ h = grind arith
 
 pub extends-in_turn : (declarations : Declarations) (before : Draft) → are_fresh_in_turn before declarations ≡ true → Extends before (with_declarations before declarations)
 extends-in_turn [] before h = itself before
@@ -116,34 +70,24 @@ extends-in_turn (d ∷ more) before h =
 -- ---- what follows for names
 
 pub objective_is : (o : Option (List ℕ)) (q : List ℕ) → option_map_or (same_bytes q) o false ≡ true → o ≡ Some q
-objective_is None q h = cc
-objective_is (Some name) q h = ap (λ (n : List ℕ). Some n) (sym (same_name q name h))
+objective_is o q h = search (rules, same_name)
 
 pub value_in : {X : Type 0} (o : Option X) → is_some o ≡ true → (x : X) × (o ≡ Some x)
-value_in None h = absurd cc
-value_in (Some x) h = (x, refl)
+value_in o h = grind arith
 
 pub itself_named : (q : List ℕ) → same_bytes q q ≡ true
 itself_named q = nat_list_eq_equiv.refl q
 
 pub is_objective-after : (before after : Draft) (q : List ℕ) → Extends before after → is_objective before q ≡ true → is_objective after q ≡ true
-is_objective-after before after q e h = ap (λ (o : Option (List ℕ)). option_map_or (same_bytes q) o false) (e.objective q (objective_is before.objective q h)) ∙ itself_named q
+is_objective-after before after q e h = grind arith
 
 pub has_row-after : (before after : Draft) (q : List ℕ) → Extends before after → has_row before q ≡ true → has_row after q ≡ true
-has_row-after before after q e h =
-    elim (is_objective before q) as (λ b. is_objective before q ≡ b → (b || has_name before.rows q) ≡ true → has_row after q ≡ true) [
-      | true ↦ λ o _. or_left (is_objective after q) (has_name after.rows q) (is_objective-after before after q e o)
-      | false ↦ λ o r. let found = value_in (at_name before.rows q) r in
-          or_right (is_objective after q) (has_name after.rows q) (ap is_some (e.row q found.0 found.1))
-    ] refl h
+has_row-after before after q e h = grind arith
 
 pub known-after : (before after : Draft) (d : Declaration) → Extends before after → is_known before d ≡ true → is_known after d ≡ true
 known-after before after (declare_rhs row v) e h = has_row-after before after row e h
 known-after before after (declare_range row v) e h = has_row-after before after row e h
-known-after before after (declare_coefficient key v) e h =
-    both_so (has_row after key.row) (has_column after key.column)
-    (has_row-after before after key.row e (first_so (has_row before key.row) (has_column before key.column) h))
-    (e.column key.column (second_so (has_row before key.row) (has_column before key.column) h))
+known-after before after (declare_coefficient key v) e h = grind arith
 known-after before after (declare_lower c l) e h = e.column c h
 known-after before after (declare_upper c l) e h = e.column c h
 known-after before after (declare_marked c) e h = e.column c h

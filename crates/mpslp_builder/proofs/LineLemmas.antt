@@ -1,24 +1,22 @@
 -- Lines of a column by number: what each step declares, and what is still known after it.
-use Rattle.std.proofs.Common.{◌≡◌, refl, sym, ap, subst, ◌∙◌, ℕ, zero, suc, List, [], ◌∷◌, ◌++◌, Bool, true, false, cond, length}
-use Rattle.std.specs.Prelude.{◌≢◌, Option, Some, None, is_some, slice_get, ◌||◌, Result, Ok, Err, OnOk, OnErr}
+use Rattle.std.proofs.Common.{arith, rules, ◌≡◌, refl, sym, ap, ◌∙◌, ℕ, zero, suc, List, [], ◌∷◌, ◌++◌, Bool, true, false, cond, length}
+use Rattle.std.specs.Prelude.{◌≢◌, Option, Some, None, is_some, slice_get, ◌||◌, Result, Ok, OnOk, OnErr}
 use Rattle.std.specs.Option.{option_map, option_map_or}
 use Rattle.std.specs.Ordering.{nat_cmp, is_eq}
 use Rattle.std.specs.declared.cmp.Ordering.{Ordering}
 use Rattle.std.specs.declared.cmp.Ordering.TheVariants.{Less, Equal, Greater}
 use Rattle.std.specs.Cmp.{nat_cmp_total}
-use Rattle.std.specs.Cmp.Lexicographic.{nat_list_eq_equiv}
 use Rattle.std.specs.FinMap.{find, nat_cmp-IsAntisymmetric}
 use Rattle.std.specs.FinMap.Entries.{find-put}
 use Rattle.indexmap.specs.IndexMap.{set_value_at}
 use Rattle.mpslp_decimal.specs.Decimal.{Number, is_decimal}
-use Rattle.mpslp_types.specs.Name.{same_bytes, is_mps_name}
+use Rattle.mpslp_types.specs.Name.{is_mps_name}
 use Rattle.mpslp_types.specs.declared.kinds.Sense.{Sense}
 use Rattle.mpslp_types.specs.declared.faults.BuildFault.{BuildFault}
 use Rattle.mpslp_model_core.proofs.CellLemmas.{at}
-use Rattle.mpslp_builder.specs.Declaration.{Draft, Declarations, with_declaration, with_declarations, declare_column, declare_marked, declare_coefficient, is_objective, has_row, has_column, has_name}
+use Rattle.mpslp_builder.specs.Declaration.{Draft, Declarations, with_declaration, with_declarations, declare_column, declare_marked, declare_coefficient, has_row, has_column}
 use Rattle.mpslp_builder.specs.Refusal.{refusals, refusals_in_turn}
-use Rattle.mpslp_builder.specs.Made.{IsMade}
-use Rattle.mpslp_builder.specs.Tables.{definition_of, no_part, cells_of, name_of_row_key, draft, IsNumbered}
+use Rattle.mpslp_builder.specs.Tables.{no_part, cells_of, name_of_row_key, draft, IsNumbered}
 use Rattle.mpslp_builder.specs.Calls.{row_name, column_name, column_satisfies, cells_at, new_column, with_cell, IsOnceEach, IsSameTables, HasColumnAdded, HasColumnChanged}
 use Rattle.mpslp_builder.specs.ColumnLine.{entry_declared, TakesLine}
 use Rattle.mpslp_builder.specs.LineTables.{IsLaid, Follows, HasStarted}
@@ -29,7 +27,7 @@ use Rattle.mpslp_builder.proofs.MadeDrafts.{with_declarations-append, refusals_i
 use Rattle.mpslp_builder.proofs.RefusalLemmas.{join_none}
 use Rattle.mpslp_builder.proofs.ReadingLemmas.{number_there, entry_at, cell_at}
 use Rattle.mpslp_builder.proofs.TestLemmas.{integer_stated, cell_stated}
-use Rattle.mpslp_builder.proofs.CallLemmas.{same_tables, same_numbered, cell_added, cell_added_numbered, mark_added, column_changed_numbered, column_added, column_added_numbered}
+use Rattle.mpslp_builder.proofs.CallLemmas.{cell_added, cell_added_numbered, mark_added, column_changed_numbered, column_added, column_added_numbered}
 
 -- ---- entries by number
 
@@ -63,30 +61,19 @@ added_there (e ∷ es) x = added_there es x
 -- ---- rows
 
 or_true : (b : Bool) → true ≡ (b || true)
-or_true true = refl
-or_true false = refl
+or_true b = grind arith
 
 -- a row, or the objective, with a number is declared
 row_there : (sense : Option Sense) (constant : Option Number) (t : Tables) (n : ℕ) (r : List ℕ) → row_name t n ≡ Some r → true ≡ has_row (draft sense constant t) r
-row_there sense constant t zero r is =
-    sym (ap (λ (o : Option (List ℕ)). option_map_or (same_bytes r) o false || has_name (draft sense constant t).rows r) is
-    ∙ ap (λ (b : Bool). b || has_name (draft sense constant t).rows r) (nat_list_eq_equiv.refl r))
-row_there sense constant t (suc i) r is =
-    or_true (is_objective (draft sense constant t) r) ∙ ap (λ (b : Bool). is_objective (draft sense constant t) r || b) (number_there definition_of t.rows.entries i r is)
+row_there sense constant t n r is = search (rules, or_true, number_there)
 
 -- ---- steps
 
 pub either_way : {A E P Q R : Type 0} (r : Result A E) → (P → R) → (Q → R) → OnOk r P → OnErr r Q → R
-either_way (Ok x) f g p q = f p
-either_way (Err e) f g p q = g q
+either_way r f g p q = grind arith
 
 pub follows_same : (t u : Tables) → IsNumbered t → IsSameTables t u → Follows t u
-follows_same t u numbered h = record {
-  numbered = same_numbered t u h numbered;
-  made = λ sense constant made. subst IsMade (sym (same_tables sense constant t u h)) made;
-  rows = λ n i. name_of_row_key (h.objective i) (h.rows i) n;
-  columns = λ i name is. ap (λ (es : List (List ℕ × ColumnParts)). option_map (λ e. e.0) (slice_get es i)) h.columns ∙ is;
-}
+follows_same t u numbered h = grind arith
 
 pub follows_then : (t u v : Tables) → Follows t u → Follows u v → Follows t v
 follows_then t u v a b = record {
@@ -98,10 +85,10 @@ follows_then t u v a b = record {
 
 -- unchanged tables have the same coefficients
 pub same_cells : (t u : Tables) (i m : ℕ) → IsSameTables t u → find nat_cmp m (cells_at u i) ≡ find nat_cmp m (cells_at t i)
-same_cells t u i m h = ap (λ (es : List (List ℕ × ColumnParts)). find nat_cmp m (option_map_or (λ e. cells_of e.1) (slice_get es i) [])) h.columns
+same_cells t u i m h = grind arith
 
 pub laid_none : (t : Tables) → IsLaid t [] t
-laid_none t = record { free = λ sense constant. refl; laid = λ sense constant. refl }
+laid_none t = grind arith
 
 pub laid_then : (t u v : Tables) (ds es : Declarations) → IsLaid t ds u → IsLaid u es v → IsLaid t (ds ++ es) v
 laid_then t u v ds es a b = record {
@@ -237,5 +224,4 @@ module _ (t u : Tables) (numbered : IsNumbered t) where
 -- a column that is declared may be declared again
 pub taken_next : (earlier later : Draft) (column : List ℕ) (more : Declarations) → with_declaration earlier (declare_column column) ≡ earlier → refusals_in_turn earlier more ≡ []
     → later ≡ with_declarations earlier more → TakesLine earlier (declare_column column ∷ more) (Ok true) later
-taken_next earlier later column more again free laid =
-    (ap (λ (d : Draft). refusals_in_turn d more) again ∙ free, laid ∙ ap (λ (d : Draft). with_declarations d more) (sym again))
+taken_next earlier later column more again free laid = grind arith

@@ -1,15 +1,13 @@
 -- If no declaration of a line of a column is rejected, the tables have room for all of it.
-use Rattle.std.proofs.Common.{◌≡◌, refl, sym, ap, subst, ◌∙◌, ℕ, List, [], ◌∷◌, Bool, true, false, not}
+use Rattle.std.proofs.Common.{arith, rules, ◌≡◌, refl, sym, ap, ◌∙◌, ℕ, List, [], ◌∷◌, Bool, true, false, not}
 use Rattle.std.specs.Prelude.{◌≢◌, ◌&&◌, Option, Some, None}
 use Rattle.std.specs.List.{flat_map}
 use Rattle.std.specs.Option.{ForSome}
 use Rattle.std.specs.Ordering.{nat_cmp}
-use Rattle.std.specs.Cmp.Lexicographic.{nat_list_eq_equiv}
 use Rattle.std.specs.FinMap.{find}
 use Rattle.mpslp_decimal.specs.Decimal.{Number}
-use Rattle.mpslp_types.specs.Name.{same_bytes}
 use Rattle.mpslp_types.specs.declared.kinds.Sense.{Sense}
-use Rattle.mpslp_types.specs.declared.faults.BuildFault.TheVariants.{UnknownRow, UnknownColumn, DuplicateEntry, SemiContinuous}
+use Rattle.mpslp_types.specs.declared.faults.BuildFault.TheVariants.{UnknownColumn, SemiContinuous}
 use Rattle.mpslp_types.proofs.BoolLemmas.{nor}
 use Rattle.mpslp_model_core.proofs.CellLemmas.{at}
 use Rattle.mpslp_builder.specs.Declaration.{Draft, with_declaration, declare_column, declare_marked, declare_coefficient, has_row, has_column, has_coefficient, is_semi}
@@ -22,7 +20,6 @@ use Rattle.mpslp_builder.specs.declared.lines.Entry.{Entry}
 use Rattle.mpslp_builder.specs.declared.lines.Entries.{Entries}
 use Rattle.mpslp_builder.specs.declared.lines.RowNumbers.{RowNumbers}
 use Rattle.mpslp_builder.specs.declared.tables.Tables.{Tables}
-use Rattle.mpslp_builder.proofs.AnswerLemmas.{known_row}
 use Rattle.mpslp_builder.proofs.PartLemmas.{none_there}
 use Rattle.mpslp_builder.proofs.RefusalLemmas.{first_none, rest_none, left_none, right_none}
 use Rattle.mpslp_builder.proofs.SlotLemmas.{has-put_key}
@@ -41,44 +38,11 @@ AreFreeEntries all column first second =
     × ForSome second (λ entry. (has_row all entry.row.now ≡ true) × (has_coefficient all (at entry.row.now column) ≡ false) × (entry.row.now ≢ first.row.now))
 
 entry_free : (all : Draft) (row column : List ℕ) (value : Number) → refusals all (declare_coefficient (at row column) value) ≡ [] → IsFreeEntry all column row
-entry_free all row column value free =
-    let entry = (has_coefficient all (at row column), DuplicateEntry) ∷ [] in
-    let more = (not (has_column all column), UnknownColumn) ∷ entry in (
-      known_row all row more free,
-      first_none (has_coefficient all (at row column)) DuplicateEntry []
-          (rest_none (not (has_column all column)) UnknownColumn entry (rest_none (not (has_row all row)) UnknownRow more free)),
-    )
+entry_free all row column value free = grind arith
 
 entries_free : (all : Draft) (column : List ℕ) (first : Entry) (second : Option Entry) → refusals_in_turn all (flat_map (entry_declared column) (pair_of first ∷ pair_if_some second)) ≡ []
     → AreFreeEntries all column first second
-entries_free all column first None free =
-    let own = entry_free all first.row.now column first.value (left_none (refusals all (declare_coefficient (at first.row.now column) first.value)) [] free) in
-    (own.0, own.1, λ entry is. cc)
-entries_free all column first (Some other) free =
-    let one = declare_coefficient (at first.row.now column) first.value in
-    let next = with_declaration all one in
-    let two = declare_coefficient (at other.row.now column) other.value in
-    let own = entry_free all first.row.now column first.value (left_none (refusals all one) (refusals_in_turn next (two ∷ [])) free) in
-    let later = entry_free next other.row.now column other.value (left_none (refusals next two) [] (right_none (refusals all one) (refusals_in_turn next (two ∷ [])) free)) in
-    let parts = nor (same_bytes other.row.now first.row.now && same_bytes column column) (has_coefficient all (at other.row.now column))
-    (sym (has-put_key (at other.row.now column) (at first.row.now column) first.value all.coefficients) ∙ later.1) in (
-      own.0,
-      own.1,
-      λ entry is. subst (λ (e : Entry). (has_row all e.row.now ≡ true) × (has_coefficient all (at e.row.now column) ≡ false) × (e.row.now ≢ first.row.now)) (unwrapped is)
-          (later.0, parts.1, apart other.row.now first.row.now parts.0),
-    )
-  where
-    unwrapped : {x y : Entry} → ◌≡◌ {A = Option Entry} (Some x) (Some y) → x ≡ y
-    unwrapped h = cc
-
-    no : true ≡ false → ⊥
-    no h = cc
-
-    apart : (row other : List ℕ) → (same_bytes row other && same_bytes column column) ≡ false → row ≢ other
-    apart row other differ same =
-        let row_same : same_bytes row other ≡ true = ap (same_bytes row) (sym same) ∙ nat_list_eq_equiv.refl row in
-        let column_same : same_bytes column column ≡ true = nat_list_eq_equiv.refl column in
-        no ((λ i. sym row_same i && sym column_same i) ∙ differ)
+entries_free all column first second free = search (rules, entry_free, left_none, at, right_none, nor, has-put_key)
 
 -- what follows for a line
 line_free : (all : Draft) (marked : Bool) (column : List ℕ) (entries : Entries) → refusals_in_turn all (column_line marked column (listed entries)) ≡ []
@@ -103,11 +67,7 @@ module _ (sense : Option Sense) (constant : Option Number) (t : Tables) (is_mark
 
   -- its rows are found
   pub rows_known : AreKnownRows t entries
-  rows_known = record {
-    first = line_parts.1.0;
-    second = λ entry is. (line_parts.1.2 entry is).0;
-    apart = λ entry is. (line_parts.1.2 entry is).2;
-  }
+  rows_known = grind (arith, line_parts)
 
   module _ (once : IsOnceEach t) (i : ℕ) (is : column_name t i ≡ Some column) where
     -- a column that may be marked is not semi-continuous

@@ -1,27 +1,25 @@
 -- Drafts that a builder can hold: each call that is not rejected makes another such draft, and at the end a draft means a
 -- model if and only if it has no whole-file error.
-use Rattle.std.proofs.Common.{◌≡◌, refl, sym, ap, subst, ◌∙◌, ℕ, List, [], ◌∷◌, ◌++◌, Bool, true, false, not, cond}
-use Rattle.std.specs.Prelude.{◌&&◌, ◌||◌, Option, Some, None, is_some}
+use Rattle.std.proofs.Common.{arith, rules, ◌≡◌, refl, sym, ap, subst, ◌∙◌, ℕ, List, [], ◌∷◌, ◌++◌, Bool, true, false, not}
+use Rattle.std.specs.Prelude.{◌&&◌, ◌||◌, Option, None, is_some}
 use Rattle.std.specs.List.{list_all}
 use Rattle.std.specs.Option.{option_map_or}
 use Rattle.std.proofs.lemmas.List.{append-nil, append_assoc}
 use Rattle.std.proofs.lemmas.List.Folds.{list_all-append}
 use Rattle.mpslp_decimal.specs.Decimal.{Number}
 use Rattle.mpslp_model_core.specs.Model.{LinearModel}
-use Rattle.mpslp_builder.specs.Declaration.{RowDefinition, by_type, by_limits, Declaration, declare_objective, declare_row, declare_rhs, declare_lower, declare_upper, Declarations, Draft, empty_draft, with_declaration, with_declarations, draft_of, at_name, has_name, has_row, has_column, is_objective, is_free_definition, is_free_row, is_row_by_limits, is_definition_by_limits, have_infinite_side, bounds_declared}
-use Rattle.mpslp_types.specs.Name.{same_bytes}
-use Rattle.mpslp_types.specs.Limit.{is_plus_infinite, is_minus_infinite, is_given}
+use Rattle.mpslp_builder.specs.Declaration.{RowDefinition, Declaration, declare_objective, declare_row, declare_rhs, Declarations, Draft, empty_draft, with_declaration, with_declarations, draft_of, at_name, has_name, has_row, is_objective, is_free_definition, is_free_row, is_row_by_limits, is_definition_by_limits, bounds_declared}
+use Rattle.mpslp_types.specs.Limit.{is_given}
 use Rattle.mpslp_builder.specs.Consistency.{has_objective, AreConsistent}
-use Rattle.mpslp_types.specs.Lists.{those_of}
 use Rattle.mpslp_builder.specs.Refusal.{refusals, refusals_in_turn, bounds_refusals}
 use Rattle.mpslp_builder.specs.Made.{is_legal, HasNoFreeRhs, IsMade}
 use Rattle.mpslp_builder.specs.Meaning.{model_of, DraftMeans}
 use Rattle.mpslp_builder.specs.FileFault.{file_fault}
 use Rattle.mpslp_types.specs.declared.kinds.Limit.{Limit}
 use Rattle.mpslp_types.specs.declared.faults.BuildFault.{BuildFault}
-use Rattle.mpslp_types.specs.declared.faults.BuildFault.TheVariants.{UnknownRow, UnknownColumn, DuplicateRow, DuplicateRhs, DuplicateBound, InfiniteValue}
-use Rattle.mpslp_types.proofs.BoolLemmas.{both_so, or_right, back, nor, both_false}
-use Rattle.mpslp_builder.proofs.RefusalLemmas.{HasDeclaredNames, not_both, first_none, rest_none, pass, join_none, empty_declared_names, empty_kinds_apart, none-fine, consistent-from_none}
+use Rattle.mpslp_types.specs.declared.faults.BuildFault.TheVariants.{UnknownRow, UnknownColumn, DuplicateRhs, DuplicateBound, InfiniteValue}
+use Rattle.mpslp_types.proofs.BoolLemmas.{both_so, or_right, back, both_false}
+use Rattle.mpslp_builder.proofs.RefusalLemmas.{HasDeclaredNames, not_both, first_none, pass, join_none, empty_declared_names, empty_kinds_apart, none-fine, consistent-from_none}
 use Rattle.mpslp_builder.proofs.SlotLemmas.{at-put, has-put, same_name}
 use Rattle.mpslp_builder.proofs.DraftEntries.{IsGood, good-with_declarations, empty_good}
 use Rattle.mpslp_builder.proofs.WellFormed.{IsWellFormed, well_formed-from_consistent}
@@ -38,9 +36,7 @@ with_declarations-append (x ∷ xs) ys before = with_declarations-append xs ys (
 pub refusals_in_turn-append : (xs ys : Declarations) (before : Draft)
     → refusals_in_turn before (xs ++ ys) ≡ refusals_in_turn before xs ++ refusals_in_turn (with_declarations before xs) ys
 refusals_in_turn-append [] ys before = refl
-refusals_in_turn-append (x ∷ xs) ys before =
-    ap (λ (faults : List _). refusals before x ++ faults) (refusals_in_turn-append xs ys (with_declaration before x))
-    ∙ sym (append_assoc (refusals before x) (refusals_in_turn (with_declaration before x) xs) (refusals_in_turn (with_declarations (with_declaration before x) xs) ys))
+refusals_in_turn-append (x ∷ xs) ys before = grind (arith, append_assoc, refusals_in_turn-append xs ys (with_declaration before x))
 
 -- ---- right-hand sides of rows of type N
 
@@ -52,33 +48,16 @@ is_free_rhs all _ = false
 -- a new row, which has no right-hand side yet
 free_rhs-row : (all : Draft) (name : List ℕ) (definition : RowDefinition) → HasDeclaredNames all → has_row all name ≡ false → HasNoFreeRhs all
     → HasNoFreeRhs (with_declaration all (declare_row name definition))
-free_rhs-row all name definition names new none = λ row free.
-    by row (same_bytes row name) refl (sym (ap (λ (o : Option RowDefinition). option_map_or is_free_definition o false) (at-put row name definition all.rows)) ∙ free)
-  where
-    by : (row : List ℕ) (same : Bool) → same_bytes row name ≡ same → option_map_or is_free_definition (cond same (Some definition) (at_name all.rows row)) false ≡ true
-        → has_name all.rhs_values row ≡ false
-    by row true same free = back (has_name all.rhs_values row) (has_row all row) (names.rhs_values row) (ap (has_row all) (same_name row name same) ∙ new)
-    by row false same free = none row free
+free_rhs-row all name definition names new none = search (rules, at-put, back, same_name)
 
 -- the right-hand side of another row
 free_rhs-side : (all : Draft) (name : List ℕ) (value : Number) → is_free_row all name ≡ false → HasNoFreeRhs all → HasNoFreeRhs (with_declaration all (declare_rhs name value))
-free_rhs-side all name value limited none = λ row free. has-put row name value all.rhs_values ∙ by row free (same_bytes row name) refl
-  where
-    by : (row : List ℕ) → is_free_row all row ≡ true → (same : Bool) → same_bytes row name ≡ same → (same || has_name all.rhs_values row) ≡ false
-    by row free true same = let limited' : is_free_row all row ≡ false = ap (is_free_row all) (same_name row name same) ∙ limited in cc
-    by row free false same = none row free
+free_rhs-side all name value limited none = search (rules, has-put, same_name)
 
 free_rhs-kept : (all : Draft) (d : Declaration) → HasDeclaredNames all → refusals all d ≡ [] → is_free_rhs all d ≡ false → HasNoFreeRhs all → HasNoFreeRhs (with_declaration all d)
-free_rhs-kept all (declare_row name definition) names unrefused limited none =
-    free_rhs-row all name definition names (first_none (has_row all name) DuplicateRow ((have_infinite_side definition, InfiniteValue) ∷ []) unrefused) none
-free_rhs-kept all (declare_rhs name value) names unrefused limited none = free_rhs-side all name value limited none
-free_rhs-kept all _ names unrefused limited none = none
+free_rhs-kept all d names unrefused limited none = grind (arith, free_rhs-row, first_none, free_rhs-side)
 
 -- ---- what makes a draft that a builder can hold
-
--- a builder starts without declarations
-pub empty_made : IsMade empty_draft
-empty_made = record { declarations = []; legal = refl; unrefused = refl; draft = refl; no_free_rhs = λ row free. refl }
 
 -- the names that it uses are declared
 pub declared_names-from_made : (all : Draft) → IsMade all → HasDeclaredNames all
@@ -109,48 +88,14 @@ made-with_declaration all d made legal unrefused limited =
 abbrev bound_tests : Bool → Bool → Bool → List (Bool × BuildFault)
 bound_tests unknown filled infinite = (unknown, UnknownColumn) ∷ (filled, DuplicateBound) ∷ (infinite, InfiniteValue) ∷ []
 
-all_fail : (a b c : Bool) → those_of (bound_tests a b c) ≡ [] → (a ≡ false) × (b ≡ false) × (c ≡ false)
-all_fail a b c h =
-    let last : List (Bool × BuildFault) = (c, InfiniteValue) ∷ [] in
-    let rest : List (Bool × BuildFault) = (b, DuplicateBound) ∷ last in
-    let h1 = rest_none a UnknownColumn rest h in
-    (first_none a UnknownColumn rest h, first_none b DuplicateBound last h1, first_none c InfiniteValue [] (rest_none b DuplicateBound last h1))
-
-none_passes : (a b c : Bool) → a ≡ false → b ≡ false → c ≡ false → those_of (bound_tests a b c) ≡ []
-none_passes a b c p q r =
-    let last : List (Bool × BuildFault) = (c, InfiniteValue) ∷ [] in
-    let rest : List (Bool × BuildFault) = (b, DuplicateBound) ∷ last in
-    pass a UnknownColumn rest p (pass b DuplicateBound last q (pass c InfiniteValue [] r refl))
-
 -- the bounds of a column from one call are not rejected one after another
 pub bounds-in_turn : (all : Draft) (column : List ℕ) (lower upper : Option Limit) → bounds_refusals all column lower upper ≡ []
     → refusals_in_turn all (bounds_declared column lower upper) ≡ []
-bounds-in_turn all column None None h = refl
-bounds-in_turn all column (Some l) None h =
-    let unknown = not (has_column all column) in
-    let t = all_fail unknown (has_name all.lowers column || false) (is_plus_infinite l || false) h in
-    append-nil (refusals all (declare_lower column l))
-    ∙ none_passes unknown (has_name all.lowers column) (is_plus_infinite l) t.0 (nor (has_name all.lowers column) false t.1).0 (nor (is_plus_infinite l) false t.2).0
-bounds-in_turn all column None (Some u) h =
-    let unknown = not (has_column all column) in
-    let t = all_fail unknown (has_name all.uppers column) (is_minus_infinite u) h in
-    append-nil (refusals all (declare_upper column u)) ∙ none_passes unknown (has_name all.uppers column) (is_minus_infinite u) t.0 t.1 t.2
-bounds-in_turn all column (Some l) (Some u) h =
-    let unknown = not (has_column all column) in
-    let t = all_fail unknown (has_name all.lowers column || has_name all.uppers column) (is_plus_infinite l || is_minus_infinite u) h in
-    let filled = nor (has_name all.lowers column) (has_name all.uppers column) t.1 in
-    let infinite = nor (is_plus_infinite l) (is_minus_infinite u) t.2 in
-    join_none (refusals all (declare_lower column l)) (refusals_in_turn (with_declaration all (declare_lower column l)) (declare_upper column u ∷ []))
-    (none_passes unknown (has_name all.lowers column) (is_plus_infinite l) t.0 filled.0 infinite.0)
-    (append-nil (refusals (with_declaration all (declare_lower column l)) (declare_upper column u))
-    ∙ none_passes unknown (has_name all.uppers column) (is_minus_infinite u) t.0 filled.1 infinite.1)
+bounds-in_turn all column lower upper h = grind arith
 
 legal_bounds : (column : List ℕ) (lower upper : Option Limit) → option_map_or is_given lower true ≡ true → option_map_or is_given upper true ≡ true
     → list_all is_legal (bounds_declared column lower upper) ≡ true
-legal_bounds column None None h k = refl
-legal_bounds column (Some l) None h k = both_so (is_given l) true h refl
-legal_bounds column None (Some u) h k = both_so (is_given u) true k refl
-legal_bounds column (Some l) (Some u) h k = both_so (is_given l) (is_given u && true) h (both_so (is_given u) true k refl)
+legal_bounds column lower upper h k = grind arith
 
 -- the bounds that one call gives
 pub made-bounds : (all : Draft) (column : List ℕ) (lower upper : Option Limit) → IsMade all → option_map_or is_given lower true ≡ true
@@ -159,10 +104,7 @@ made-bounds all column lower upper made h k unrefused =
     made-with_declarations all (bounds_declared column lower upper) made (legal_bounds column lower upper h k) (bounds-in_turn all column lower upper unrefused) (free_rhs-bounds lower upper)
   where
     free_rhs-bounds : (lower upper : Option Limit) → HasNoFreeRhs (with_declarations all (bounds_declared column lower upper))
-    free_rhs-bounds None None = made.no_free_rhs
-    free_rhs-bounds (Some l) None = made.no_free_rhs
-    free_rhs-bounds None (Some u) = made.no_free_rhs
-    free_rhs-bounds (Some l) (Some u) = made.no_free_rhs
+    free_rhs-bounds lower upper = grind arith
 
 -- ---- properties of such a draft
 
@@ -174,9 +116,7 @@ objective-declared (d ∷ more) before none there = objective-declared more (wit
 
 -- with an objective, its declarations are consistent
 pub consistent-from_made : (all : Draft) (made : IsMade all) → is_some all.objective ≡ true → AreConsistent made.declarations
-consistent-from_made all made there =
-    consistent-from_none made.declarations
-    (objective-declared made.declarations empty_draft refl (ap (λ (draft : Draft). is_some draft.objective) (sym made.draft) ∙ there)) made.unrefused
+consistent-from_made all made there = grind (arith, consistent-from_none, objective-declared)
 
 -- a right-hand side of a row of type N is never rejected
 pub free_rhs-passes : (all : Draft) (row : List ℕ) (value : Number) → IsMade all → is_free_row all row ≡ true → refusals all (declare_rhs row value) ≡ []
@@ -190,13 +130,10 @@ free_rhs-passes all row value made free =
     (ap (λ (b : Bool). b && is_some all.constant) no_objective))) refl)
   where
     definition_there : (o : Option RowDefinition) → option_map_or is_free_definition o false ≡ true → is_some o ≡ true
-    definition_there None h = cc
-    definition_there (Some definition) h = refl
+    definition_there o h = grind arith
 
     not_by_limits : (o : Option RowDefinition) → option_map_or is_free_definition o false ≡ true → option_map_or is_definition_by_limits o false ≡ false
-    not_by_limits None h = refl
-    not_by_limits (Some (by_type type)) h = refl
-    not_by_limits (Some (by_limits lower upper)) h = cc
+    not_by_limits o h = grind arith
 
 -- each entry of it is valid, also before the objective is named
 pub good-from_made : (all : Draft) → IsMade all → IsGood all all
@@ -208,8 +145,7 @@ good-from_made all made =
 
 -- with an objective, it is well-formed
 pub well_formed-from_made : (all : Draft) → IsMade all → is_some all.objective ≡ true → IsWellFormed all
-well_formed-from_made all made there =
-    subst IsWellFormed (sym made.draft) (well_formed-from_consistent made.declarations (consistent-from_made all made there) made.legal)
+well_formed-from_made all made there = grind (arith, well_formed-from_consistent, consistent-from_made)
 
 -- ---- the end: a model is meant if and only if there is no whole-file error
 

@@ -1,6 +1,6 @@
 -- Declarations without a whole-file error mean their model.
-use Rattle.std.proofs.Common.{◌≡◌, ◌<◌, refl, sym, ap, subst, ◌∙◌, ℕ, zero, suc, List, [], ◌∷◌, length, Bool, true, false, not, cond, map, arith}
-use Rattle.std.specs.Prelude.{◌&&◌, ◌||◌, ℤ, Option, Some, None, is_some, unwrap_or, filter, pos, negsuc}
+use Rattle.std.proofs.Common.{rules, ◌≡◌, ◌<◌, refl, sym, ap, subst, ◌∙◌, ℕ, List, [], ◌∷◌, length, Bool, true, false, not, cond, map, arith}
+use Rattle.std.specs.Prelude.{◌&&◌, ◌||◌, ℤ, Option, Some, None, is_some, unwrap_or, filter}
 use Rattle.std.specs.List.{list_all}
 use Rattle.std.specs.Option.{option_map_or}
 use Rattle.std.specs.Cmp.{first_so, second_so}
@@ -12,21 +12,21 @@ use Rattle.std.specs.FinMap.{find, is_sorted}
 use Rattle.std.specs.FinMap.Entries.{below_all}
 use Rattle.mpslp_decimal.specs.Decimal.{Number, zero_number, is_decimal, is_zero, negated}
 use Rattle.mpslp_types.specs.Name.{same_bytes, is_mps_name, is_one_of, bytes_cmp}
-use Rattle.mpslp_model_core.specs.Model.{LinearModel, Row, Column, CoefficientKey, key_cmp, is_sound_row, is_sound_column, is_sound_coefficient, suits}
-use Rattle.mpslp_types.specs.Limit.{are_sides, is_at_most, is_lower_side, is_upper_side, has_bounded_distance, is_bounded_decimal, is_plus_infinite, is_minus_infinite, is_given}
-use Rattle.mpslp_builder.specs.Declaration.{RowDefinition, by_type, by_limits, Declarations, Draft, draft_of, at_name, has_name, has_row, has_column, names_in, have_infinite_side}
+use Rattle.mpslp_model_core.specs.Model.{LinearModel, Row, Column, CoefficientKey, key_cmp, is_sound_row, is_sound_column, is_sound_coefficient}
+use Rattle.mpslp_types.specs.Limit.{is_lower_side, is_upper_side, is_plus_infinite, is_minus_infinite, is_given}
+use Rattle.mpslp_builder.specs.Declaration.{RowDefinition, Declarations, Draft, draft_of, at_name, has_name, has_row, has_column, names_in, have_infinite_side}
 use Rattle.mpslp_model_core.specs.Limits.{limits_of, plain_limits, has_infinite_rhs}
 use Rattle.mpslp_model_core.specs.WrongParts.{is_inexact, is_too_large, is_crossed}
-use Rattle.mpslp_builder.specs.Bounds.{zero_limit, one_limit, lower_bound, upper_bound, has_no_side, kind_of, has_crossed_bounds, has_semi_bounds}
+use Rattle.mpslp_builder.specs.Bounds.{zero_limit, one_limit, has_crossed_bounds, has_semi_bounds}
 use Rattle.mpslp_builder.specs.Meaning.{column_of, rhs_or_zero, row_limits, row_entry, model_of, objective_name, DraftMeans, Means}
 use Rattle.mpslp_builder.specs.Made.{are_given, is_legal}
 use Rattle.mpslp_types.specs.Lists.{is_nonempty}
 use Rattle.mpslp_builder.specs.FileFault.{file_fault}
 use Rattle.mpslp_builder.specs.Consistency.{AreConsistent}
 use Rattle.mpslp_types.specs.declared.kinds.Limit.{Limit}
-use Rattle.mpslp_types.specs.declared.kinds.Limit.TheVariants.{MinusInf, Finite, PlusInf}
+use Rattle.mpslp_types.specs.declared.kinds.Limit.TheVariants.{PlusInf}
 use Rattle.mpslp_types.specs.declared.kinds.RowType.TheVariants.{Free}
-use Rattle.mpslp_types.proofs.BoolLemmas.{both_so, or_right, not_so}
+use Rattle.mpslp_types.proofs.BoolLemmas.{both_so, not_so}
 use Rattle.mpslp_builder.proofs.LaterDrafts.{itself_named}
 use Rattle.mpslp_builder.proofs.RowSoundness.{IsSoundForm, sound-from_no_fault, is_legal_form}
 use Rattle.mpslp_builder.proofs.DraftEntries.{IsGood}
@@ -37,16 +37,13 @@ use Rattle.mpslp_builder.proofs.FileFaultLemmas.{HasNoFault, no_fault-from_none,
 -- ---- the objective
 
 named_objective : (o : Option (List ℕ)) → is_some o ≡ true → option_map_or (same_bytes (unwrap_or o [])) o false ≡ true
-named_objective None h = h
-named_objective (Some name) h = itself_named name
+named_objective o h = grind (arith, itself_named)
 
 legal_objective : (o : Option (List ℕ)) → is_some o ≡ true → option_map_or is_mps_name o true ≡ true → is_mps_name (unwrap_or o []) ≡ true
-legal_objective None h k = cc
-legal_objective (Some name) h k = k
+legal_objective o h k = grind arith
 
 named_row : (o : Option (List ℕ)) (q : List ℕ) (r s : Bool) → r ≡ s → (option_map_or (same_bytes q) o false || s) ≡ true → (same_bytes q (unwrap_or o []) || r) ≡ true
-named_row None q r s e h = or_right (same_bytes q []) r (e ∙ h)
-named_row (Some name) q r s e h = ap (λ (b : Bool). same_bytes q name || b) e ∙ h
+named_row o q r s e h = grind arith
 
 -- ---- entries
 
@@ -58,7 +55,7 @@ one_of-names {X} q (e ∷ es) =
 
 below-mapped : {X Y : Type 0} (g : List ℕ × X → Y) (x : List ℕ) (es : List (List ℕ × X)) → below_all bytes_cmp x (map (λ e. (e.0, g e)) es) ≡ below_all bytes_cmp x es
 below-mapped g x [] = refl
-below-mapped g x (e ∷ es) = ap (λ (b : Bool). is_lt (bytes_cmp x e.0) && b) (below-mapped g x es)
+below-mapped g x (e ∷ es) = grind (arith, below-mapped g x es)
 
 -- entries with other values for the same names are in the same order, and have the same names
 pub sorted-mapped : {X Y : Type 0} (g : List ℕ × X → Y) (es : List (List ℕ × X)) → is_sorted bytes_cmp (map (λ e. (e.0, g e)) es) ≡ is_sorted bytes_cmp es
@@ -67,75 +64,47 @@ sorted-mapped g (e ∷ es) = λ i. below-mapped g e.0 es i && sorted-mapped g es
 
 pub names-mapped : {X Y : Type 0} (g : List ℕ × X → Y) (es : List (List ℕ × X)) → names_in (map (λ e. (e.0, g e)) es) ≡ names_in es
 names-mapped g [] = refl
-names-mapped g (e ∷ es) = ap (λ (names : List (List ℕ)). e.0 ∷ names) (names-mapped g es)
+names-mapped g (e ∷ es) = grind (arith, names-mapped g es)
 
 t_first : (a b : Bool) → T (a && b) → T a
-t_first true b h = tt
-t_first false b h = h
+t_first a b h = grind arith
 
 t_second : (a b : Bool) → T (a && b) → T b
-t_second true b h = h
-t_second false b h = absurd h
+t_second a b h = grind arith
 
 t_both : (a b : Bool) → T a → T b → T (a && b)
-t_both true b h k = k
-t_both false b h k = h
+t_both a b h k = grind arith
 
 below-filtered : {X : Type 0} (p : CoefficientKey × X → Bool) (x : CoefficientKey) (es : List (CoefficientKey × X)) → T (below_all key_cmp x es) → T (below_all key_cmp x (filter p es))
 below-filtered p x [] h = tt
-below-filtered {X} p x (e ∷ es) h =
-    let rest = below-filtered p x es (t_second (is_lt (key_cmp x e.0)) (below_all key_cmp x es) h) in
-    elim (p e) as (λ b. T (below_all key_cmp x (cond b (e ∷ filter p es) (filter p es)))) [
-      | true ↦ t_both (is_lt (key_cmp x e.0)) (below_all key_cmp x (filter p es)) (t_first (is_lt (key_cmp x e.0)) (below_all key_cmp x es) h) rest
-      | false ↦ rest
-    ]
+below-filtered {X} p x (e ∷ es) h = grind (arith, t_second, t_both, t_first, below-filtered p x es (t_second (is_lt (key_cmp x e.0)) (below_all key_cmp x es) h))
 
 pub sorted-filtered : {X : Type 0} (p : CoefficientKey × X → Bool) (es : List (CoefficientKey × X)) → T (is_sorted key_cmp es) → T (is_sorted key_cmp (filter p es))
 sorted-filtered p [] h = tt
-sorted-filtered {X} p (e ∷ es) h =
-    let rest = sorted-filtered p es (t_second (below_all key_cmp e.0 es) (is_sorted key_cmp es) h) in
-    elim (p e) as (λ b. T (is_sorted key_cmp (cond b (e ∷ filter p es) (filter p es)))) [
-      | true ↦ t_both (below_all key_cmp e.0 (filter p es)) (is_sorted key_cmp (filter p es)) (below-filtered p e.0 es (t_first (below_all key_cmp e.0 es) (is_sorted key_cmp es) h)) rest
-      | false ↦ rest
-    ]
+sorted-filtered {X} p (e ∷ es) h = grind (arith, t_second, t_both, below-filtered, t_first, sorted-filtered p es (t_second (below_all key_cmp e.0 es) (is_sorted key_cmp es) h))
 
 filter_all : {X : Type 0} (p q : X → Bool) (xs : List X) → list_all q xs ≡ true → list_all (λ x. q x && p x) (filter p xs) ≡ true
 filter_all p q [] h = refl
-filter_all {X} p q (x ∷ xs) h =
-    let rest = filter_all p q xs (second_so (q x) (list_all q xs) h) in
-    elim (p x) as (λ b. p x ≡ b → list_all (λ x. q x && p x) (cond b (x ∷ filter p xs) (filter p xs)) ≡ true) [
-      | true ↦ λ is. both_so (q x && p x) (list_all (λ x. q x && p x) (filter p xs)) (both_so (q x) (p x) (first_so (q x) (list_all q xs) h) is) rest
-      | false ↦ λ is. rest
-    ] refl
+filter_all {X} p q (x ∷ xs) h = grind (arith, both_so, filter_all p q xs (second_so (q x) (list_all q xs) h))
 
 -- ---- values
 
 or_zero : (o : Option Number) → option_map_or is_decimal o true ≡ true → is_decimal (unwrap_or o zero_number) ≡ true
-or_zero None h = refl
-or_zero (Some d) h = h
+or_zero o h = grind arith
 
 decimal-negated : (m e : ℤ) → is_decimal (record { mantissa = m; exponent = e }) ≡ true → is_decimal (negated (record { mantissa = m; exponent = e })) ≡ true
-decimal-negated (pos zero) e h = h
-decimal-negated (pos (suc n)) e h = h
-decimal-negated (negsuc n) e h = h
+decimal-negated m e h = grind arith
 
 legal_constant : (o : Option Number) (d : Number) → option_map_or is_decimal o true ≡ true → is_decimal d ≡ true → is_decimal (unwrap_or o (negated d)) ≡ true
-legal_constant None d h k = decimal-negated d.mantissa d.exponent k
-legal_constant (Some c) d h k = h
+legal_constant o d h k = grind arith
 
 definition-legal : (definition : RowDefinition) → (are_given definition && not (have_infinite_side definition)) ≡ true → is_legal_form definition ≡ true
-definition-legal (by_type type) h = refl
-definition-legal (by_limits l u) h = h
+definition-legal definition h = grind arith
 
 -- ---- rows
 
 sound_entry : (name : List ℕ) (limits : Option Row) → is_mps_name name ≡ true → IsSoundForm limits → is_sound_row (name, unwrap_or limits (plain_limits Free zero_number)) ≡ true
-sound_entry name None h s = let e = s.is in cc
-sound_entry name (Some row) h s =
-    let same : s.row ≡ row = ap (λ (o : Option Row). unwrap_or o row) (sym s.is) in
-    both_so (is_mps_name name) (are_sides row.lower row.upper && has_bounded_distance row.lower row.upper) h
-    (both_so (are_sides row.lower row.upper) (has_bounded_distance row.lower row.upper)
-    (ap (λ (r : Row). are_sides r.lower r.upper) (sym same) ∙ s.sides) (ap (λ (r : Row). has_bounded_distance r.lower r.upper) (sym same) ∙ s.distance))
+sound_entry name limits h s = grind arith
 
 some_limits : (limits : Option Row) → IsSoundForm limits → is_some limits ≡ true
 some_limits limits s = ap is_some s.is
@@ -172,41 +141,18 @@ rows_pass all g f =
 
 -- ---- columns
 
-lower_ok : (l : Limit) → (is_given l && not (is_plus_infinite l)) ≡ true → is_lower_side l ≡ true
-lower_ok MinusInf h = refl
-lower_ok (Finite d) h = first_so (is_bounded_decimal d) true h
-lower_ok PlusInf h = h
-
-upper_ok : (l : Limit) → (is_given l && not (is_minus_infinite l)) ≡ true → is_upper_side l ≡ true
-upper_ok MinusInf h = h
-upper_ok (Finite d) h = first_so (is_bounded_decimal d) true h
-upper_ok PlusInf h = refl
-
 lower_or : (o : Option Limit) → option_map_or (λ l. is_given l && not (is_plus_infinite l)) o true ≡ true → is_lower_side (unwrap_or o zero_limit) ≡ true
-lower_or None h = refl
-lower_or (Some l) h = lower_ok l h
+lower_or o h = grind arith
 
 upper_or : (o : Option Limit) (b : Bool) → option_map_or (λ l. is_given l && not (is_minus_infinite l)) o true ≡ true → is_upper_side (unwrap_or o (cond b one_limit PlusInf)) ≡ true
-upper_or None true h = refl
-upper_or None false h = refl
-upper_or (Some l) b h = upper_ok l h
+upper_or o b h = grind arith
 
 straight : (b : Bool) → not (not b) ≡ true → b ≡ true
-straight true h = refl
-straight false h = h
+straight b h = grind arith
 
 sound_column : (all : Draft) (name : List ℕ) → IsGood all all → is_mps_name name ≡ true → not (has_crossed_bounds all name) ≡ true → not (has_semi_bounds all name) ≡ true
     → is_sound_column (name, column_of all name) ≡ true
-sound_column all name g h k s =
-    let l = lower_bound all name in
-    let u = upper_bound all name in
-    let suited = suits (kind_of all name) l u in
-    both_so (is_mps_name name) ((is_lower_side l && (is_upper_side u && is_at_most l u)) && suited) h
-    (both_so (is_lower_side l && (is_upper_side u && is_at_most l u)) suited
-    (both_so (is_lower_side l) (is_upper_side u && is_at_most l u) (lower_or (at_name all.lowers name) (found_all (λ l. is_given l && not (is_plus_infinite l)) name all.lowers g.lowers))
-    (both_so (is_upper_side u) (is_at_most l u)
-    (upper_or (at_name all.uppers name) (has_name all.binaries name || (has_name all.marked name && has_no_side all name)) (found_all (λ l. is_given l && not (is_minus_infinite l)) name all.uppers g.uppers))
-    (straight (is_at_most l u) k))) (straight suited s))
+sound_column all name g h k s = grind (arith, both_so, lower_or, found_all, upper_or, straight)
 
 abbrev column_tests : Draft → List ℕ → Bool
 column_tests all name = is_mps_name name && (not (has_crossed_bounds all name) && not (has_semi_bounds all name))
@@ -219,8 +165,7 @@ tested_column all name g h =
     sound_column all name g (first_so (is_mps_name name) (crossed && semi) h) (first_so crossed semi rest) (second_so crossed semi rest)
 
 some_columns : {X Y : Type 0} (f : X → Y) (xs : List X) → is_nonempty xs ≡ true → 0 < length (map f xs)
-some_columns f [] h = absurd cc
-some_columns f (x ∷ xs) h = omega arith
+some_columns f xs h = grind arith
 
 -- ---- without an error the model is meant
 
@@ -286,7 +231,4 @@ meant-from_no_fault all w none =
 
 -- Consistent declarations with legal names and values, without a whole-file error, mean the model of their draft.
 pub means-from_no_fault : (declarations : Declarations) → AreConsistent declarations → list_all is_legal declarations ≡ true → file_fault (draft_of declarations) ≡ None → Means declarations (model_of (draft_of declarations))
-means-from_no_fault declarations c legal none = record {
-  consistent = c;
-  meant = meant-from_no_fault (draft_of declarations) (well_formed-from_consistent declarations c legal) none;
-}
+means-from_no_fault declarations c legal none = search (rules, meant-from_no_fault, well_formed-from_consistent)

@@ -1,6 +1,5 @@
 -- Tables whose rows and columns are sorted by name make the model that their draft means.
-use Rattle.std.proofs.Common.{◌≡◌, refl, sym, ap, subst, ◌∙◌, ℕ, zero, suc, ◌+◌, ◌<◌, List, [], ◌∷◌, length, get_or, arith, Bool, true, false, cond, IsPermutation}
-use Rattle.std.proofs.Common.{inl, inr}
+use Rattle.std.proofs.Common.{◌≡◌, refl, sym, ap, subst, ◌∙◌, ℕ, zero, suc, ◌+◌, ◌<◌, List, [], ◌∷◌, length, get_or, arith, Bool, true, false, cond, IsPermutation, inl, inr}
 use Rattle.std.specs.Prelude.{Option, Some, None, is_some, ◌⊎◌, filter, slice_get, slice_index}
 use Rattle.std.specs.Option.{option_map, option_and_then}
 use Rattle.std.specs.Ordering.{is_lt, eq_by_cmp, nat_cmp}
@@ -73,11 +72,7 @@ all_named_rows objective rows r =
 -- ---- numbers that have a name
 
 named-row : (objective : Option ObjectiveParts) (rows : List (List ℕ × RowParts)) (i : ℕ) (r : List ℕ) → name_of_row_key objective rows (suc i) ≡ Some r → i < length rows
-named-row objective rows i r is =
-    elim (slice_get rows i) as (λ o. slice_get rows i ≡ o → option_map (λ e. e.0) o ≡ Some r → i < length rows) [
-      | None ↦ λ _ never. cc
-      | Some e ↦ λ at _. place_below rows i e at
-    ] refl is
+named-row objective rows i r is = grind (arith, place_below)
 
 module _ (objective : Option ObjectiveParts) (rows : List (List ℕ × RowParts)) where
   number-within : (n : ℕ) (r : List ℕ) → name_of_row_key objective rows n ≡ Some r → n < length rows + 1
@@ -118,9 +113,8 @@ pub record AreFinished (objective : Option ObjectiveParts) (rows : List (List �
   pub cells_are : parts.cells_by_name m ≡ each_part (moved_in ranks) (entries_at columns column_order)
 
 part-get : {V X : Type 0} (f : V → X) (es : List (List ℕ × V)) (i : ℕ) → option_map (λ e. e.0) (slice_get (each_part f es) i) ≡ option_map (λ e. e.0) (slice_get es i)
-part-get f [] i = refl
-part-get f (e ∷ es) zero = refl
 part-get f (e ∷ es) (suc i) = part-get f es i
+part-get f _ _ = refl
 
 module _ (objective : Option ObjectiveParts) (rows : List (List ℕ × RowParts)) (columns : List (List ℕ × ColumnParts)) (m : ModelParts) (f : AreFinished objective rows columns m) where
   -- the names of the later numbers
@@ -128,18 +122,16 @@ module _ (objective : Option ObjectiveParts) (rows : List (List ℕ × RowParts)
   later-row k = (λ i. option_map (λ (e : List ℕ × Row). e.0) (slice_get (f.rows_are i) k)) ∙ part-get limits_in (entries_at rows f.row_order) k
 
   later-at : (k : ℕ) → k < length f.row_order → parts.name_of_row_key m (suc k) ≡ name_of_row_key objective rows (suc (get_or f.row_order k 0))
-  later-at k h =
-      later-row k
-      ∙ ap (option_map (λ (e : List ℕ × RowParts). e.0)) (get-taken rows f.row_order k (order_within (length rows) f.row_order f.rows_permuted) h)
+  later-at k h = grind (arith, later-row, get-taken, order_within)
 
   pub keeps : (n : ℕ) (r : List ℕ) → name_of_row_key objective rows n ≡ Some r → parts.name_of_row_key m (slice_index f.ranks n) ≡ Some r
-  keeps zero r is = ap (parts.name_of_row_key m) f.ranked.objective ∙ sym f.objective_is ∙ is
+  keeps zero r is = grind arith
   keeps (suc i) r is =
       let at = rank_at (length rows) f.row_order f.ranks f.rows_permuted f.ranked i (named-row objective rows i r is) in
       ap (parts.name_of_row_key m) at.3 ∙ later-at at.0 at.1 ∙ ap (λ (k : ℕ). name_of_row_key objective rows (suc k)) at.2 ∙ is
 
   earlier : (k : ℕ) (r : List ℕ) → parts.name_of_row_key m k ≡ Some r → (n : ℕ) × (name_of_row_key objective rows n ≡ Some r) × (slice_index f.ranks n ≡ k)
-  earlier zero r is = (zero, f.objective_is ∙ is, f.ranked.objective)
+  earlier zero r is = grind arith
   earlier (suc k) r is =
       let there : k < length f.row_order = placed (sym (later-row k) ∙ is) in
       let place : suc (get_or f.row_order k 0) ≡ get_or f.row_order k 0 + 1 = omega arith in

@@ -1,11 +1,9 @@
 -- Entries with distinct names, and what is found by a name.
-use Rattle.std.proofs.Common.{◌≡◌, refl, sym, ap, ◌∙◌, ℕ, zero, suc, List, [], ◌∷◌, ◌++◌, Bool, true, false, cond, length}
+use Rattle.std.proofs.Common.{arith, ◌≡◌, refl, sym, ap, ◌∙◌, ℕ, zero, suc, List, [], ◌∷◌, ◌++◌, Bool, true, false, cond, length, inl, inr}
 use Rattle.std.specs.Prelude.{Option, Some, None, is_some, slice_get, ◌⊎◌}
-use Rattle.std.proofs.Common.{inl, inr}
 use Rattle.std.specs.List.{IsDistinct, AllByRecursion}
 use Rattle.std.specs.Option.{option_map, option_map_or}
-use Rattle.std.specs.Ordering.{is_eq, eq_by_cmp}
-use Rattle.std.specs.Cmp.{tied_itself}
+use Rattle.std.specs.Ordering.{eq_by_cmp}
 use Rattle.std.specs.Cmp.Lexicographic.{texts_ties}
 use Rattle.std.specs.FinMap.{find}
 use Rattle.std.specs.Map.{keys_of}
@@ -15,7 +13,7 @@ use Rattle.mpslp_model_core.proofs.KeyLemmas.{bytes_total, tied_names}
 use Rattle.mpslp_model_core.specs.Numbered.{each_part, given_parts, IsOnce}
 
 name_tied : (a b : List ℕ) → a ≡ b → eq_by_cmp bytes_cmp a b ≡ true
-name_tied a b e = ap (λ (x : List ℕ). eq_by_cmp bytes_cmp a x) (sym e) ∙ ap is_eq (tied_itself bytes_total a)
+name_tied a b e = grind (arith, bytes_total)
 
 name_same : (a b : List ℕ) → eq_by_cmp bytes_cmp a b ≡ true → a ≡ b
 name_same a b e = tied_names a b (equal_from (bytes_cmp a b) e)
@@ -34,10 +32,7 @@ module _ {V X : Type 0} (f : V → X) where
   -- a name among the entries is found
   pub there_found : (es : List (List ℕ × V)) (i : ℕ) (q : List ℕ) → option_map (λ e. e.0) (slice_get es i) ≡ Some q → find bytes_cmp q (each_part f es) ≡ None → ⊥
   there_found [] i q h none = cc
-  there_found (e ∷ es) zero q h none =
-      let same : e.0 ≡ q = cc in
-      let found : Some (f e.1) ≡ None = sym (ap (λ (b : Bool). cond b (Some (f e.1)) (find bytes_cmp q (each_part f es))) (name_tied q e.0 (sym same))) ∙ none in
-      cc
+  there_found (e ∷ es) zero q h none = grind (arith, name_tied)
   there_found (e ∷ es) (suc i) q h none =
       elim (eq_by_cmp bytes_cmp q e.0) as (λ b. cond b (Some (f e.1)) (find bytes_cmp q (each_part f es)) ≡ None → ⊥) [
         | true ↦ λ is. cc
@@ -57,10 +52,7 @@ module _ {V X : Type 0} (f : V → X) where
   -- what is found by the name of an entry is the part of that entry
   pub find_own : (es : List (List ℕ × V)) (i : ℕ) (k : List ℕ) (v : V) → IsOnce (each_part f es) → slice_get es i ≡ Some (k, v) → find bytes_cmp k (each_part f es) ≡ Some (f v)
   find_own [] i k v once is = cc
-  find_own (e ∷ es) zero k v once is =
-      let here : ◌≡◌ {A = List ℕ × V} e (k, v) = cc in
-      ap (λ (b : Bool). cond b (Some (f e.1)) (find bytes_cmp k (each_part f es))) (name_tied k e.0 (ap (λ (x : List ℕ × V). x.0) (sym here)))
-      ∙ ap (λ (x : List ℕ × V). Some (f x.1)) here
+  find_own (e ∷ es) zero k v once is = grind (arith, name_tied)
   find_own (e ∷ es) (suc i) k v once is =
       let rest = find_own es i k v once.1 is in
       elim (eq_by_cmp bytes_cmp k e.0) as (λ b. eq_by_cmp bytes_cmp k e.0 ≡ b → cond b (Some (f e.1)) (find bytes_cmp k (each_part f es)) ≡ Some (f v)) [
@@ -101,14 +93,7 @@ module _ {V X Y : Type 0} (f : V → X) (g : V → Option Y) where
   -- what is given by the name of an entry is the part of that entry
   pub find_given_own : (es : List (List ℕ × V)) (i : ℕ) (k : List ℕ) (v : V) → IsOnce (each_part f es) → slice_get es i ≡ Some (k, v) → find bytes_cmp k (given_parts g es) ≡ g v
   find_given_own [] i k v once is = cc
-  find_given_own (e ∷ es) zero k v once is =
-      let here : ◌≡◌ {A = List ℕ × V} e (k, v) = cc in
-      let same : e.0 ≡ k = ap (λ (x : List ℕ × V). x.0) here in
-      let later : find bytes_cmp k (given_parts g es) ≡ None = ap (λ (q : List ℕ). find bytes_cmp q (given_parts g es)) (sym same) ∙ none_given e.0 es once.0 in
-      elim (g e.1) as (λ o. find bytes_cmp k (option_map_or (λ y. (e.0, y) ∷ given_parts g es) o (given_parts g es)) ≡ o) [
-        | None ↦ later
-        | Some y ↦ ap (λ (b : Bool). cond b (Some y) (find bytes_cmp k (given_parts g es))) (name_tied k e.0 (sym same))
-      ] ∙ ap (λ (x : List ℕ × V). g x.1) here
+  find_given_own (e ∷ es) zero k v once is = grind (arith, none_given, name_tied)
   find_given_own (e ∷ es) (suc i) k v once is =
       let rest = find_given_own es i k v once.1 is in
       elim (g e.1) as (λ o. find bytes_cmp k (option_map_or (λ y. (e.0, y) ∷ given_parts g es) o (given_parts g es)) ≡ g v) [
@@ -132,8 +117,4 @@ pub old_or_last : {V : Type 0} (xs : List (List ℕ × V)) (k : List ℕ) (v : V
 old_or_last [] k v zero r h = inr (refl, cc)
 old_or_last [] k v (suc i) r h = cc
 old_or_last (x ∷ xs) k v zero r h = inl h
-old_or_last (x ∷ xs) k v (suc i) r h =
-    elim (old_or_last xs k v i r h) [
-      | inl old ↦ inl old
-      | inr last ↦ inr (ap suc last.0, last.1)
-    ]
+old_or_last (x ∷ xs) k v (suc i) r h = grind (arith, inl, inr, old_or_last xs k v i r h)

@@ -1,6 +1,6 @@
 -- Entries with names: what is found among them by a name.
-use Rattle.std.proofs.Common.{◌≡◌, refl, ap, ◌∙◌, List, [], ◌∷◌, ℕ, Bool, true, false, cond, map}
-use Rattle.std.specs.Prelude.{Option, Some, None, is_some, ◌||◌}
+use Rattle.std.proofs.Common.{arith, ◌≡◌, refl, ap, ◌∙◌, List, [], ◌∷◌, ℕ, Bool, true, false, cond, map}
+use Rattle.std.specs.Prelude.{Some, is_some, ◌||◌}
 use Rattle.std.specs.List.{list_any}
 use Rattle.std.specs.Ordering.{eq_by_cmp}
 use Rattle.std.specs.Cmp.Lexicographic.{texts_ties}
@@ -8,7 +8,7 @@ use Rattle.std.specs.FinMap.{find, is_sorted}
 use Rattle.mpslp_types.specs.Name.{same_bytes, is_one_of, bytes_cmp}
 use Rattle.mpslp_builder.specs.Declaration.{at_name, has_name, names_in}
 use Rattle.mpslp_types.proofs.EachLemmas.{Each}
-use Rattle.mpslp_types.proofs.BoolLemmas.{or_left, or_right, T_from}
+use Rattle.mpslp_types.proofs.BoolLemmas.{or_left, or_right}
 use Rattle.mpslp_model_core.proofs.PutsLemmas.{finds_own}
 use Rattle.mpslp_builder.proofs.EntryLemmas.{then_stated}
 use Rattle.mpslp_builder.proofs.MeaningFromNoFault.{sorted-mapped}
@@ -27,14 +27,11 @@ one_of-names {X} q (e ∷ es) =
 -- the same as a test of each entry
 pub any-name : {X : Type 0} (q : List ℕ) (es : List (List ℕ × X)) → is_one_of (names_in es) q ≡ list_any (λ e. same_bytes q e.0) es
 any-name q [] = refl
-any-name q (e ∷ es) = ap (λ (b : Bool). same_bytes q e.0 || b) (any-name q es)
+any-name q (e ∷ es) = grind (arith, any-name q es)
 
 -- an entry that is found is in the list
 pub found-any : {X : Type 0} (q : List ℕ) (x : X) (es : List (List ℕ × X)) → at_name es q ≡ Some x → list_any (λ e. same_bytes q e.0) es ≡ true
-found-any {X} q x [] is = absurd (never is)
-  where
-    never : ◌≡◌ {A = Option X} None (Some x) → ⊥
-    never e = cc
+found-any {X} q x [] is = grind (arith)
 found-any {X} q x (e ∷ es) is = by (eq_by_cmp bytes_cmp q e.0) refl is (λ more. found-any q x es more)
   where
     by : (b : Bool) → eq_by_cmp bytes_cmp q e.0 ≡ b → cond b (Some e.1) (at_name es q) ≡ Some x → (at_name es q ≡ Some x → list_any (λ d. same_bytes q d.0) es ≡ true) → (same_bytes q e.0 || list_any (λ d. same_bytes q d.0) es) ≡ true
@@ -43,15 +40,11 @@ found-any {X} q x (e ∷ es) is = by (eq_by_cmp bytes_cmp q e.0) refl is (λ mor
 
 -- a sorted list finds its own entries
 pub own-found : {X : Type 0} (es : List (List ℕ × X)) → is_sorted bytes_cmp es ≡ true → Each (λ e. at_name es e.0 ≡ Some e.1) es
-own-found es h = finds_own bytes_cmp bytes_total tied_names es (T_from (is_sorted bytes_cmp es) h)
+own-found es h = grind (arith, finds_own, bytes_total, tied_names)
 
 pub names_sorted : {X Y : Type 0} (g : X → Y) (es : List (List ℕ × X)) → is_sorted bytes_cmp es ≡ true → is_sorted bytes_cmp (map (λ e. (e.0, g e.1)) es) ≡ true
 names_sorted g es h = sorted-mapped (λ e. g e.1) es ∙ h
 
 pub at-mapped : {X Y : Type 0} (g : X → Y) (q : List ℕ) (es : List (List ℕ × X)) → at_name (map (λ e. (e.0, g e.1)) es) q ≡ then_stated (λ x. Some (g x)) (at_name es q)
 at-mapped g q [] = refl
-at-mapped {X} {Y} g q (e ∷ es) =
-    elim (eq_by_cmp bytes_cmp q e.0) as (λ b. cond b (Some (g e.1)) (at_name (map (λ d. (d.0, g d.1)) es) q) ≡ then_stated (λ x. Some (g x)) (cond b (Some e.1) (at_name es q))) [
-      | true ↦ refl
-      | false ↦ at-mapped g q es
-    ]
+at-mapped {X} {Y} g q (e ∷ es) = grind (arith, then_stated, at-mapped g q es)

@@ -1,18 +1,18 @@
 -- Declarations that mean a model have no whole-file error.
-use Rattle.std.proofs.Common.{◌≡◌, ◌<◌, refl, sym, ap, subst, ◌∙◌, ℕ, List, [], ◌∷◌, length, Bool, true, false, not, cond, map, arith}
+use Rattle.std.proofs.Common.{◌≡◌, ◌<◌, refl, sym, ap, subst, ◌∙◌, ℕ, List, length, Bool, true, false, not, cond, map, arith}
 use Rattle.std.specs.Prelude.{◌&&◌, ◌||◌, Option, Some, None, is_some, is_none, unwrap_or}
 use Rattle.std.specs.List.{list_all}
 use Rattle.std.specs.Option.{option_map_or}
 use Rattle.std.specs.Cmp.{first_so, second_so}
 use Rattle.std.proofs.Math.Dec.{T}
 use Rattle.std.specs.FinMap as maps
-use Rattle.mpslp_decimal.specs.Decimal.{Number, zero_number, is_decimal, is_negative, is_infinite_size, size_of, sum_of, difference_of}
+use Rattle.mpslp_decimal.specs.Decimal.{Number, zero_number, is_infinite_size, difference_of}
 use Rattle.mpslp_types.specs.Name.{is_mps_name, bytes_cmp}
 use Rattle.mpslp_model_core.specs.Model.{LinearModel, Row, Column, IsSound, is_sound_row, is_sound_column, suits}
-use Rattle.mpslp_types.specs.Limit.{are_sides, is_at_most, is_lower_side, is_upper_side, has_bounded_distance, is_bounded_decimal, limit_of}
-use Rattle.mpslp_builder.specs.Declaration.{RowDefinition, by_type, by_limits, Declarations, Draft, draft_of, at_name, names_in}
+use Rattle.mpslp_types.specs.Limit.{are_sides, is_at_most, is_lower_side, is_upper_side, has_bounded_distance, is_bounded_decimal}
+use Rattle.mpslp_builder.specs.Declaration.{RowDefinition, Declarations, Draft, draft_of, at_name, names_in}
 use Rattle.mpslp_model_core.specs.Limits.{sides, plain_limits, limits_of, has_infinite_rhs}
-use Rattle.mpslp_model_core.specs.WrongParts.{is_inexact, is_too_large, is_large_limit, is_crossed}
+use Rattle.mpslp_model_core.specs.WrongParts.{is_inexact, is_too_large, is_crossed}
 use Rattle.mpslp_builder.specs.Bounds.{lower_bound, upper_bound, kind_of, has_crossed_bounds, has_semi_bounds}
 use Rattle.mpslp_builder.specs.Meaning.{column_of, rhs_or_zero, row_limits, row_entry, model_of, DraftMeans, Means}
 use Rattle.mpslp_builder.specs.Made.{is_legal}
@@ -20,8 +20,8 @@ use Rattle.mpslp_types.specs.Lists.{is_nonempty}
 use Rattle.mpslp_builder.specs.FileFault.{file_fault}
 use Rattle.mpslp_types.specs.declared.kinds.Limit.{Limit}
 use Rattle.mpslp_types.specs.declared.kinds.Limit.TheVariants.{MinusInf, Finite, PlusInf}
-use Rattle.mpslp_types.specs.declared.kinds.RowType.TheVariants.{Free, AtMost, AtLeast, Equal}
-use Rattle.mpslp_types.proofs.BoolLemmas.{not_so, so_not, both_false}
+use Rattle.mpslp_types.specs.declared.kinds.RowType.TheVariants.{Free}
+use Rattle.mpslp_types.proofs.BoolLemmas.{so_not, both_false}
 use Rattle.mpslp_builder.proofs.WellFormed.{IsWellFormed, well_formed-from_consistent}
 use Rattle.mpslp_types.proofs.EachLemmas.{imp_all, and_all, map_all}
 use Rattle.mpslp_builder.proofs.FileFaultLemmas.{none-from_no_fault}
@@ -32,71 +32,41 @@ sides_hold None = false
 sides_hold (Some row) = are_sides row.lower row.upper
 
 no_inf_upper : (inf neg : Bool) (b : Number) → is_upper_side (cond inf (cond neg MinusInf PlusInf) (Finite b)) ≡ true → (inf && neg) ≡ false
-no_inf_upper true true b h = sym h
-no_inf_upper true false b h = refl
-no_inf_upper false neg b h = refl
+no_inf_upper inf neg b h = grind arith
 
 no_inf_lower : (inf neg : Bool) (b : Number) → is_lower_side (cond inf (cond neg MinusInf PlusInf) (Finite b)) ≡ true → (inf && not neg) ≡ false
-no_inf_lower true true b h = refl
-no_inf_lower true false b h = sym h
-no_inf_lower false neg b h = refl
+no_inf_lower inf neg b h = grind arith
 
 no_inf : (inf neg : Bool) (b : Number) → is_lower_side (cond inf (cond neg MinusInf PlusInf) (Finite b)) ≡ true → is_upper_side (cond inf (cond neg MinusInf PlusInf) (Finite b)) ≡ true → inf ≡ false
-no_inf true true b h k = sym k
-no_inf true false b h k = sym h
-no_inf false neg b h k = refl
+no_inf inf neg b h k = grind arith
 
 finite_size : (b : Number) → is_bounded_decimal b ≡ true → is_infinite_size b ≡ false
-finite_size b h = not_so (is_infinite_size b) (second_so (is_decimal b) (not (is_infinite_size b)) h)
+finite_size b h = grind arith
 
 and_false : (a b : Bool) → a ≡ false → (a && b) ≡ false
-and_false true b h = cc
-and_false false b h = refl
+and_false a b h = grind arith
 
 lower_of : (l u : Limit) → are_sides l u ≡ true → is_lower_side l ≡ true
-lower_of l u h = first_so (is_lower_side l) (is_upper_side u && is_at_most l u) h
+lower_of l u h = grind arith
 
 upper_of : (l u : Limit) → are_sides l u ≡ true → is_upper_side u ≡ true
-upper_of l u h = first_so (is_upper_side u) (is_at_most l u) (second_so (is_lower_side l) (is_upper_side u && is_at_most l u) h)
+upper_of l u h = grind arith
 
 straight_of : (l u : Limit) → are_sides l u ≡ true → is_at_most l u ≡ true
-straight_of l u h = second_so (is_upper_side u) (is_at_most l u) (second_so (is_lower_side l) (is_upper_side u && is_at_most l u) h)
+straight_of l u h = grind arith
 
 finite_above : (o : Option Number) (b : Number) → sides_hold (sides o (Some b)) ≡ true → is_infinite_size b ≡ false
 finite_above None b h = cc
 finite_above (Some a) b h = finite_size b (upper_of (Finite a) (Finite b) h)
 
 finite_below : (o : Option Number) (b : Number) → sides_hold (sides (Some b) o) ≡ true → is_infinite_size b ≡ false
-finite_below None b h = cc
-finite_below (Some a) b h = finite_size b (lower_of (Finite b) (Finite a) h)
+finite_below o b h = grind arith
 
 no_infinite_side : (definition : RowDefinition) (b : Number) (r : Option Number) → sides_hold (limits_of definition b r) ≡ true → has_infinite_rhs definition b r ≡ false
-no_infinite_side (by_limits l u) b r h = refl
-no_infinite_side (by_type Free) b r h = refl
-no_infinite_side (by_type AtMost) b None h = no_inf_upper (is_infinite_size b) (is_negative b) b (upper_of MinusInf (limit_of b) h)
-no_infinite_side (by_type AtLeast) b None h = no_inf_lower (is_infinite_size b) (is_negative b) b (lower_of (limit_of b) PlusInf h)
-no_infinite_side (by_type Equal) b None h = no_inf (is_infinite_size b) (is_negative b) b (lower_of (limit_of b) (limit_of b) h) (upper_of (limit_of b) (limit_of b) h)
-no_infinite_side (by_type AtMost) b (Some r) h = and_false (is_infinite_size b) true (finite_above (difference_of b (size_of r)) b h)
-no_infinite_side (by_type AtLeast) b (Some r) h = and_false (is_infinite_size b) true (finite_below (sum_of b (size_of r)) b h)
-no_infinite_side (by_type Equal) b (Some r) h =
-    elim (is_negative r) as (λ (n : Bool). sides_hold (cond n (sides (difference_of b (size_of r)) (Some b)) (sides (Some b) (sum_of b (size_of r)))) ≡ true → is_infinite_size b ≡ false) [
-      | true ↦ finite_above (difference_of b (size_of r)) b
-      | false ↦ finite_below (sum_of b (size_of r)) b
-    ] h
-
-small_lower : (l : Limit) → is_lower_side l ≡ true → is_large_limit l ≡ false
-small_lower MinusInf h = refl
-small_lower (Finite a) h = finite_size a h
-small_lower PlusInf h = refl
-
-small_upper : (l : Limit) → is_upper_side l ≡ true → is_large_limit l ≡ false
-small_upper MinusInf h = refl
-small_upper (Finite a) h = finite_size a h
-small_upper PlusInf h = refl
+no_infinite_side definition b r h = grind (arith, no_inf_upper, upper_of, no_inf_lower, lower_of, no_inf, and_false, finite_above, finite_below)
 
 exact_distance : (o : Option Number) → option_map_or is_bounded_decimal o false ≡ true → (is_none o ≡ false) × (option_map_or is_infinite_size o false ≡ false)
-exact_distance None h = absurd cc
-exact_distance (Some d) h = (refl, finite_size d h)
+exact_distance o h = grind arith
 
 near : (l u : Limit) → is_lower_side l ≡ true → is_upper_side u ≡ true → has_bounded_distance l u ≡ true → (is_inexact (Some (record { lower = l; upper = u })) ≡ false) × (is_too_large (Some (record { lower = l; upper = u })) ≡ false)
 near (Finite a) (Finite b) h k d =
@@ -105,12 +75,11 @@ near (Finite a) (Finite b) h k d =
       both_false (is_infinite_size a) (is_infinite_size b || option_map_or is_infinite_size (difference_of b a) false) (finite_size a h)
           (both_false (is_infinite_size b) (option_map_or is_infinite_size (difference_of b a) false) (finite_size b k) e.1),
     )
-near (Finite a) MinusInf h k d = absurd cc
-near (Finite a) PlusInf h k d = (refl, both_false (is_infinite_size a) false (finite_size a h) refl)
+near (Finite a) PlusInf h k d = grind arith
 near MinusInf MinusInf h k d = (refl, refl)
-near MinusInf (Finite b) h k d = (refl, both_false (is_infinite_size b) false (finite_size b k) refl)
+near MinusInf (Finite b) h k d = grind arith
 near MinusInf PlusInf h k d = (refl, refl)
-near PlusInf u h k d = absurd cc
+near _ _ h k d = absurd cc
 
 -- a row without an error
 pub record PassesTests (definition : RowDefinition) (b : Number) (r : Option Number) : Type 0 where
@@ -138,8 +107,7 @@ row_tested all row h =
     (second_so (is_sound_row (row_entry all row)) (is_some (row_limits all row)) h) (first_so (is_sound_row (row_entry all row)) (is_some (row_limits all row)) h)
 
 not_not : (b : Bool) → b ≡ true → not (not b) ≡ true
-not_not true h = refl
-not_not false h = h
+not_not b h = grind arith
 
 column_straight : (all : Draft) (name : List ℕ) → is_sound_column (name, column_of all name) ≡ true → not (has_crossed_bounds all name) ≡ true
 column_straight all name h =
@@ -155,8 +123,7 @@ column_suited all name h =
     not_not suited (second_so sides suited (second_so (is_mps_name name) (sides && suited) h))
 
 has_columns : {X Y : Type 0} (f : X → Y) (xs : List X) → 0 < length (map f xs) → is_nonempty xs ≡ true
-has_columns f [] h = absurd (omega arith)
-has_columns f (x ∷ xs) h = refl
+has_columns f xs h = grind arith
 
 -- A well-formed draft that means a model has no whole-file error.
 pub no_fault-from_meant : (all : Draft) (m : LinearModel) → IsWellFormed all → DraftMeans all m → file_fault all ≡ None
@@ -192,5 +159,4 @@ no_fault-from_meant all m w meant =
 
 -- Legal declarations that mean a model have no whole-file error.
 pub no_fault-from_means : (declarations : Declarations) (m : LinearModel) → Means declarations m → list_all is_legal declarations ≡ true → file_fault (draft_of declarations) ≡ None
-no_fault-from_means declarations m means legal =
-    no_fault-from_meant (draft_of declarations) m (well_formed-from_consistent declarations means.consistent legal) means.meant
+no_fault-from_means declarations m means legal = grind (arith, no_fault-from_meant, well_formed-from_consistent)

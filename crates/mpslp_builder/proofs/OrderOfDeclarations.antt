@@ -1,8 +1,7 @@
 -- The order of declarations does not matter: consistent declarations make the same draft in any order.
-use Rattle.std.proofs.Common.{◌≡◌, refl, sym, ap, subst, ◌∙◌, ℕ, List, [], ◌∷◌, ◌++◌, Bool, true, false, not, IsPermutation}
+use Rattle.std.proofs.Common.{arith, rules, ◌≡◌, refl, sym, ap, subst, ◌∙◌, ℕ, List, [], ◌∷◌, ◌++◌, Bool, true, false, not, IsPermutation}
 use Rattle.std.specs.Prelude.{◌&&◌, ◌||◌, if◌then◌else◌}
 use Rattle.std.specs.List.{list_any, list_all}
-use Rattle.std.specs.Cmp.{first_so, second_so}
 use Rattle.std.specs.Cmp.Lexicographic.{texts_ties, nat_list_cmp_total, nat_list_eq_equiv}
 use Rattle.std.specs.FinMap.{put}
 use Rattle.std.proofs.lemmas.List.Folds.{list_all-append}
@@ -13,7 +12,7 @@ use Rattle.mpslp_builder.specs.Declaration.{RowDefinition, Declaration, declare_
 use Rattle.mpslp_types.specs.Lists.{are_distinct}
 use Rattle.mpslp_builder.specs.Consistency.{Slot, sense_slot, objective_slot, constant_slot, row_slot, rhs_slot, range_slot, coefficient_slot, lower_slot, upper_slot, same_slot, slots_of, all_slots, declares_objective, is_known, is_allowed, has_one_constant, AreConsistent}
 use Rattle.mpslp_builder.specs.Meaning.{DraftMeans, Means}
-use Rattle.mpslp_types.proofs.BoolLemmas.{all_true, not_so, nor}
+use Rattle.mpslp_types.proofs.BoolLemmas.{all_true}
 use Rattle.mpslp_builder.proofs.SlotLemmas.{are_apart, apart-cons, are_distinct-append, key_ties, same_name}
 use Rattle.mpslp_builder.proofs.PutOrderLemmas.{put-put}
 use Rattle.mpslp_model_core.proofs.PermutationLemmas.{along_permutation}
@@ -26,11 +25,7 @@ names_turn j k w v es apart = sym (put-put bytes_cmp nat_list_cmp_total k j v w 
 
 -- the same value at either name
 units_turn : (j k : List ℕ) (es : List (List ℕ × Unit {0})) → put bytes_cmp k tt (put bytes_cmp j tt es) ≡ put bytes_cmp j tt (put bytes_cmp k tt es)
-units_turn j k es = by (same_bytes k j) refl
-  where
-    by : (b : Bool) → same_bytes k j ≡ b → put bytes_cmp k tt (put bytes_cmp j tt es) ≡ put bytes_cmp j tt (put bytes_cmp k tt es)
-    by true is = subst (λ (n : List ℕ). put bytes_cmp k tt (put bytes_cmp n tt es) ≡ put bytes_cmp n tt (put bytes_cmp k tt es)) (same_name k j is) refl
-    by false is = names_turn j k tt tt es is
+units_turn j k es = search (rules, same_name, names_turn)
 
 keys_turn : {X : Type 0} (j k : CoefficientKey) (w v : X) (es : List (CoefficientKey × X)) → (same_bytes k.row j.row && same_bytes k.column j.column) ≡ false
     → put key_cmp k v (put key_cmp j w es) ≡ put key_cmp j w (put key_cmp k v es)
@@ -40,9 +35,7 @@ keys_turn j k w v es apart =
 -- ---- two declarations
 
 heads_apart : (a b : Slot) (more others : List Slot) → are_apart (a ∷ more) (b ∷ others) ≡ true → same_slot b a ≡ false
-heads_apart a b more others h =
-    let filled = same_slot b a || list_any (same_slot b) more in
-    (nor (same_slot b a) (list_any (same_slot b) more) (not_so filled (first_so (not filled) (are_apart (a ∷ more) others) h))).0
+heads_apart a b more others h = grind arith
 
 abbrev limit_slots : List ℕ → RowDefinition → List Slot
 limit_slots name definition = if is_definition_by_limits definition then rhs_slot name ∷ range_slot name ∷ [] else []
@@ -52,19 +45,13 @@ pub with_declaration-with_declaration : (all : Draft) (x y : Declaration) → ar
 with_declaration-with_declaration all (declare_sense a) (declare_sense b) h = absurd cc
 with_declaration-with_declaration all (declare_objective a) (declare_objective b) h = absurd cc
 with_declaration-with_declaration all (declare_constant a) (declare_constant b) h = absurd cc
-with_declaration-with_declaration all (declare_row j w) (declare_row k v) h =
-    ap (λ (rows : List (List ℕ × RowDefinition)). record all { rows = rows }) (names_turn j k w v all.rows (heads_apart (row_slot j) (row_slot k) (limit_slots j w) (limit_slots k v) h))
-with_declaration-with_declaration all (declare_rhs j w) (declare_rhs k v) h =
-    ap (λ (sides : List (List ℕ × _)). record all { rhs_values = sides }) (names_turn j k w v all.rhs_values (heads_apart (rhs_slot j) (rhs_slot k) [] [] h))
-with_declaration-with_declaration all (declare_range j w) (declare_range k v) h =
-    ap (λ (ranges : List (List ℕ × _)). record all { ranges = ranges }) (names_turn j k w v all.ranges (heads_apart (range_slot j) (range_slot k) [] [] h))
+with_declaration-with_declaration all (declare_row j w) (declare_row k v) h = grind (arith, names_turn, heads_apart)
+with_declaration-with_declaration all (declare_rhs j w) (declare_rhs k v) h = grind (arith, names_turn, heads_apart)
+with_declaration-with_declaration all (declare_range j w) (declare_range k v) h = grind (arith, names_turn, heads_apart)
 with_declaration-with_declaration all (declare_column j) (declare_column k) h = ap (λ (columns : List (List ℕ × Unit {0})). record all { columns = columns }) (units_turn j k all.columns)
-with_declaration-with_declaration all (declare_coefficient j w) (declare_coefficient k v) h =
-    ap (λ (coefficients : List (CoefficientKey × _)). record all { coefficients = coefficients }) (keys_turn j k w v all.coefficients (heads_apart (coefficient_slot j) (coefficient_slot k) [] [] h))
-with_declaration-with_declaration all (declare_lower j w) (declare_lower k v) h =
-    ap (λ (lowers : List (List ℕ × _)). record all { lowers = lowers }) (names_turn j k w v all.lowers (heads_apart (lower_slot j) (lower_slot k) [] [] h))
-with_declaration-with_declaration all (declare_upper j w) (declare_upper k v) h =
-    ap (λ (uppers : List (List ℕ × _)). record all { uppers = uppers }) (names_turn j k w v all.uppers (heads_apart (upper_slot j) (upper_slot k) [] [] h))
+with_declaration-with_declaration all (declare_coefficient j w) (declare_coefficient k v) h = grind (arith, keys_turn, heads_apart)
+with_declaration-with_declaration all (declare_lower j w) (declare_lower k v) h = grind (arith, names_turn, heads_apart)
+with_declaration-with_declaration all (declare_upper j w) (declare_upper k v) h = grind (arith, names_turn, heads_apart)
 with_declaration-with_declaration all (declare_marked j) (declare_marked k) h = ap (λ (marked : List (List ℕ × Unit {0})). record all { marked = marked }) (units_turn j k all.marked)
 with_declaration-with_declaration all (declare_integer j) (declare_integer k) h = ap (λ (integers : List (List ℕ × Unit {0})). record all { integers = integers }) (units_turn j k all.integers)
 with_declaration-with_declaration all (declare_binary j) (declare_binary k) h = ap (λ (binaries : List (List ℕ × Unit {0})). record all { binaries = binaries }) (units_turn j k all.binaries)
@@ -87,43 +74,23 @@ same_slot_turn _ _ = refl
 
 apart_turn : (xs ys : List Slot) → are_apart xs ys ≡ are_apart ys xs
 apart_turn [] ys = all_true ys
-apart_turn (x ∷ xs) ys = apart-cons x xs ys ∙ (λ i. not (list_any (λ slot. same_slot_turn slot x i) ys) && apart_turn xs ys i)
+apart_turn (x ∷ xs) ys = grind (arith, apart-cons, same_slot_turn, apart_turn xs ys)
 
 and_turn : (a b c : Bool) → (a && (b && c)) ≡ (b && (a && c))
-and_turn true b c = refl
-and_turn false true c = refl
-and_turn false false c = refl
+and_turn a b c = grind arith
 
 or_turn : (a b c : Bool) → (a || (b || c)) ≡ (b || (a || c))
-or_turn true true c = refl
-or_turn true false c = refl
-or_turn false b c = refl
+or_turn a b c = grind arith
 
 distinct_parts : (a b c e f g : Bool) → (a && ((c && e) && (b && (f && g)))) ≡ (b && ((c && f) && (a && (e && g))))
-distinct_parts true true true true f g = refl
-distinct_parts true true true false true g = refl
-distinct_parts true true true false false g = refl
-distinct_parts true true false e f g = refl
-distinct_parts true false true true f g = refl
-distinct_parts true false true false f g = refl
-distinct_parts true false false e f g = refl
-distinct_parts false true true e true g = refl
-distinct_parts false true true e false g = refl
-distinct_parts false true false e f g = refl
-distinct_parts false false c e f g = refl
+distinct_parts a b c e f g = grind arith
 
 distinct_three : (xs ys zs : List Slot) → are_distinct same_slot (xs ++ (ys ++ zs))
     ≡ (are_distinct same_slot xs && ((are_apart xs ys && are_apart xs zs) && (are_distinct same_slot ys && (are_apart ys zs && are_distinct same_slot zs))))
-distinct_three xs ys zs =
-    are_distinct-append xs (ys ++ zs)
-    ∙ (λ i. are_distinct same_slot xs && (list_all-append (λ slot. not (list_any (same_slot slot) xs)) ys zs i && are_distinct-append ys zs i))
+distinct_three xs ys zs = grind (arith, are_distinct-append, list_all-append)
 
 distinct_turn : (xs ys zs : List Slot) → are_distinct same_slot (xs ++ (ys ++ zs)) ≡ are_distinct same_slot (ys ++ (xs ++ zs))
-distinct_turn xs ys zs =
-    distinct_three xs ys zs
-    ∙ distinct_parts (are_distinct same_slot xs) (are_distinct same_slot ys) (are_apart xs ys) (are_apart xs zs) (are_apart ys zs) (are_distinct same_slot zs)
-    ∙ ap (λ (b : Bool). are_distinct same_slot ys && ((b && are_apart ys zs) && (are_distinct same_slot xs && (are_apart xs zs && are_distinct same_slot zs)))) (apart_turn xs ys)
-    ∙ sym (distinct_three ys xs zs)
+distinct_turn xs ys zs = grind (arith, distinct_three, distinct_parts, are_apart, apart_turn)
 
 -- ---- declarations in another order
 
@@ -137,48 +104,16 @@ record Reorders (xs ys : Declarations) : Type 0 where
   pub draft : are_distinct same_slot (all_slots xs) ≡ true → (before : Draft) → with_declarations before xs ≡ with_declarations before ys
 
 reorders_same : (xs : Declarations) → Reorders xs xs
-reorders_same xs = record { any = λ p. refl; all = λ p. refl; slots = λ p. refl; distinct = refl; draft = λ h before. refl }
+reorders_same xs = grind arith
 
 reorders_skip : (x : Declaration) (xs ys : Declarations) → Reorders xs ys → Reorders (x ∷ xs) (x ∷ ys)
-reorders_skip x xs ys r =
-    let mine = slots_of x in
-    let apart : Slot → Bool = λ slot. not (list_any (same_slot slot) mine) in
-    record {
-      any = λ p. ap (λ (b : Bool). p x || b) (r.any p);
-      all = λ p. ap (λ (b : Bool). p x && b) (r.all p);
-      slots = λ p. list_all-append p mine (all_slots xs) ∙ ap (λ (b : Bool). list_all p mine && b) (r.slots p) ∙ sym (list_all-append p mine (all_slots ys));
-      distinct = are_distinct-append mine (all_slots xs) ∙ (λ i. are_distinct same_slot mine && (r.slots apart i && r.distinct i)) ∙ sym (are_distinct-append mine (all_slots ys));
-      draft = λ h before.
-          let parts = second_so (are_distinct same_slot mine) (are_apart mine (all_slots xs) && are_distinct same_slot (all_slots xs)) (sym (are_distinct-append mine (all_slots xs)) ∙ h) in
-          r.draft (second_so (are_apart mine (all_slots xs)) (are_distinct same_slot (all_slots xs)) parts) (with_declaration before x);
-    }
+reorders_skip x xs ys r = grind (arith, list_all-append, are_distinct-append, are_apart)
 
 reorders_turn : (x y : Declaration) (xs : Declarations) → Reorders (x ∷ y ∷ xs) (y ∷ x ∷ xs)
-reorders_turn x y xs =
-    let a = slots_of x in
-    let b = slots_of y in
-    let rest = all_slots xs in
-    record {
-      any = λ p. or_turn (p x) (p y) (list_any p xs);
-      all = λ p. and_turn (p x) (p y) (list_all p xs);
-      slots = λ p. list_all-append p a (b ++ rest) ∙ ap (λ (t : Bool). list_all p a && t) (list_all-append p b rest) ∙ and_turn (list_all p a) (list_all p b) (list_all p rest)
-          ∙ ap (λ (t : Bool). list_all p b && t) (sym (list_all-append p a rest)) ∙ sym (list_all-append p b (a ++ rest));
-      distinct = distinct_turn a b rest;
-      draft = λ h before.
-          let here = are_apart a b && are_apart a rest in
-          let more = are_distinct same_slot b && (are_apart b rest && are_distinct same_slot rest) in
-          let parts = first_so here more (second_so (are_distinct same_slot a) (here && more) (sym (distinct_three a b rest) ∙ h)) in
-          ap (λ (drafted : Draft). with_declarations drafted xs) (with_declaration-with_declaration before x y (first_so (are_apart a b) (are_apart a rest) parts));
-    }
+reorders_turn x y xs = grind (arith, or_turn, and_turn, list_all-append, distinct_turn, are_apart, distinct_three, with_declaration-with_declaration)
 
 reorders_chain : (xs ys zs : Declarations) → Reorders xs ys → Reorders ys zs → Reorders xs zs
-reorders_chain xs ys zs r s = record {
-  any = λ p. r.any p ∙ s.any p;
-  all = λ p. r.all p ∙ s.all p;
-  slots = λ p. r.slots p ∙ s.slots p;
-  distinct = r.distinct ∙ s.distinct;
-  draft = λ h before. r.draft h before ∙ s.draft (sym r.distinct ∙ h) before;
-}
+reorders_chain xs ys zs r s = grind arith
 
 reorders : (xs ys : Declarations) → IsPermutation xs ys → Reorders xs ys
 reorders = along_permutation Reorders reorders_same reorders_skip reorders_turn reorders_chain

@@ -27,9 +27,7 @@ front_kept None xs ys h = h
 front_kept (Some x) xs ys h = IsPermutation-cons x xs ys h
 
 fronts_turned : {Y : Type 0} (a b : Option Y) (xs : List Y) → IsPermutation (cons_option a (cons_option b xs)) (cons_option b (cons_option a xs))
-fronts_turned None b xs = IsPermutation-refl (cons_option b xs)
-fronts_turned (Some x) None xs = IsPermutation-refl (x ∷ xs)
-fronts_turned (Some x) (Some y) xs = two_heads x y xs
+fronts_turned a b xs = grind (arith, two_heads)
 
 filter_map-permutation : {X Y : Type 0} (f : X → Option Y) (xs ys : List X) → IsPermutation xs ys → IsPermutation (filter_map f xs) (filter_map f ys)
 filter_map-permutation f =
@@ -56,15 +54,11 @@ taken-permutation xs order p =
 -- ---- their names do not descend
 
 name_at-get : {V : Type 0} (entries : List (List ℕ × V)) (n : ℕ) (e : List ℕ × V) → slice_get entries n ≡ Some e → name_at entries n ≡ e.0
-name_at-get entries n e is = ap (λ (o : Option (List ℕ × _)). option_map_or (λ e. e.0) o []) is
+name_at-get entries n e is = grind arith
 
 taken-each : {X : Type 0} (xs : List X) (Q : ℕ → Type 0) (P : X → Type 0) → ((n : ℕ) (x : X) → slice_get xs n ≡ Some x → Q n → P x) → (ns : List ℕ) → Each Q ns → Each P (entries_at xs ns)
 taken-each xs Q P f [] h = tt
-taken-each {X} xs Q P f (n ∷ ns) h =
-    elim (slice_get xs n) as (λ o. slice_get xs n ≡ o → Each P (cons_option o (entries_at xs ns))) [
-      | None ↦ λ _. taken-each xs Q P f ns h.1
-      | Some x ↦ λ is. (f n x is h.0, taken-each xs Q P f ns h.1)
-    ] refl
+taken-each {X} xs Q P f (n ∷ ns) h = grind (arith, taken-each xs Q P f ns h.1)
 
 never_falls-taken : {V : Type 0} (entries : List (List ℕ × V)) (ns : List ℕ) → NeverFalls (λ n m. is_lt (bytes_cmp (name_at entries n) (name_at entries m))) ns
     → NeverFalls (λ e d. is_lt (bytes_cmp e.0 d.0)) (entries_at entries ns)
@@ -82,7 +76,7 @@ never_falls-taken {V} entries (n ∷ ns) h =
 module _ {V X : Type 0} (f : V → X) where
   part-map : (es : List (List ℕ × V)) → each_part f es ≡ map (λ e. (e.0, f e.1)) es
   part-map [] = refl
-  part-map (e ∷ es) = ap (λ (more : List (List ℕ × X)). (e.0, f e.1) ∷ more) (part-map es)
+  part-map (e ∷ es) = grind (arith, part-map es)
 
   part-each : (P : List ℕ → Type 0) (es : List (List ℕ × V)) → Each (λ e. P e.0) es → Each (λ e. P e.0) (each_part f es)
   part-each P [] h = tt
@@ -130,11 +124,7 @@ differs f q (e ∷ es) h =
 module _ {V X : Type 0} (f : V → Option X) where
   pub no_part-found : (q : List ℕ) (es : List (List ℕ × V)) → Each (λ d. eq_by_cmp bytes_cmp d.0 q ≡ false) es → find bytes_cmp q (given_parts f es) ≡ None
   no_part-found q [] h = refl
-  no_part-found q (e ∷ es) h =
-      elim (f e.1) as (λ o. find bytes_cmp q (option_map_or (λ x. (e.0, x) ∷ given_parts f es) o (given_parts f es)) ≡ None) [
-        | None ↦ no_part-found q es h.1
-        | Some x ↦ ap (λ (b : Bool). cond b (Some x) (find bytes_cmp q (given_parts f es))) ((eq_by_cmp_equiv bytes_total).symm q e.0 ∙ h.0) ∙ no_part-found q es h.1
-      ]
+  no_part-found q (e ∷ es) h = grind (arith, bytes_total, no_part-found q es h.1)
 
   -- each entry's own part is found at its name
   pub own_parts : {Y : Type 0} (g : V → Y) (es : List (List ℕ × V)) → IsOnce (each_part g es) → Each (λ e. find bytes_cmp e.0 (given_parts f es) ≡ f e.1) es

@@ -1,10 +1,9 @@
 -- The parts of a map's entries by their names, and how they change if an entry is added or written.
-use Rattle.std.proofs.Common.{◌≡◌, refl, sym, ap, ◌∙◌, ℕ, zero, suc, List, [], ◌∷◌, ◌++◌, Bool, true, false, cond}
-use Rattle.std.specs.Prelude.{Option, Some, None, is_some, slice_get, ◌||◌, Result, Ok, Err, OnOk, OnErr}
+use Rattle.std.proofs.Common.{arith, rules, ◌≡◌, refl, sym, ap, ◌∙◌, ℕ, zero, suc, List, [], ◌∷◌, ◌++◌, Bool, true, false, cond}
+use Rattle.std.specs.Prelude.{Option, Some, None, is_some, slice_get, ◌||◌, Result, OnOk, OnErr}
 use Rattle.std.specs.Option.{option_map, option_map_or}
-use Rattle.std.specs.Ordering.{is_eq, eq_by_cmp, nat_cmp}
-use Rattle.std.specs.Cmp.{tied_itself}
-use Rattle.std.specs.Cmp.Lexicographic.{texts_ties, bytes_decides}
+use Rattle.std.specs.Ordering.{eq_by_cmp, nat_cmp}
+use Rattle.std.specs.Cmp.Lexicographic.{texts_ties}
 use Rattle.std.specs.FinMap.{find, put}
 use Rattle.std.specs.FinMap.Entries.{find_tied}
 use Rattle.std.specs.Map.{lookup, lookup_key}
@@ -21,8 +20,7 @@ pub use Rattle.mpslp_builder_parts.proofs.PassLemmas.{each_part-append}
 use Rattle.mpslp_model_core.proofs.CellLemmas.{at, or_else, find-two, first_none, find-put_cell, swapped, clear}
 
 pub none_there : {X : Type 0} (o : Option X) → is_some o ≡ false → o ≡ None
-none_there None h = refl
-none_there (Some x) h = cc
+none_there o h = grind arith
 
 module _ {V X : Type 0} (f : V → X) where
   pub find-each_part : (q : List ℕ) (es : List (List ℕ × V)) → find bytes_cmp q (each_part f es) ≡ option_map f (lookup (λ k. same_bytes q k) es)
@@ -39,25 +37,21 @@ module _ {V X : Type 0} (f : V → X) where
   at_name-each_part q es o h = ap (option_map f) h ∙ sym (find-sorted_of bytes_cmp bytes_total q (each_part f es) ∙ find-each_part q es)
 
   some_mapped : (o : Option V) → is_some (option_map f o) ≡ is_some o
-  some_mapped None = refl
-  some_mapped (Some v) = refl
+  some_mapped o = grind arith
 
   -- a name is one of the map's if and only if it is a key
   pub has_name-each_part : (q : List ℕ) (es : List (List ℕ × V)) → is_some (lookup (λ k. same_bytes q k) es) ≡ has_name (sorted_of bytes_cmp (each_part f es)) q
-  has_name-each_part q es =
-      sym (ap is_some (find-sorted_of bytes_cmp bytes_total q (each_part f es) ∙ find-each_part q es) ∙ some_mapped (lookup (λ k. same_bytes q k) es))
+  has_name-each_part q es = grind (arith, find-sorted_of, bytes_total, find-each_part, some_mapped)
 
   -- a name that is not in the map is no key
   pub absent-each_part : (q : List ℕ) (es : List (List ℕ × V)) → has_name (sorted_of bytes_cmp (each_part f es)) q ≡ false → find bytes_cmp q (each_part f es) ≡ None
-  absent-each_part q es h = none_there (find bytes_cmp q (each_part f es)) (ap is_some (sym (find-sorted_of bytes_cmp bytes_total q (each_part f es))) ∙ h)
+  absent-each_part q es h = grind (arith, find-sorted_of, bytes_total)
 
   -- a write that keeps this part
   pub each_part-kept : (es : List (List ℕ × V)) (i : ℕ) (k : List ℕ) (v w : V) → slice_get es i ≡ Some (k, v) → f w ≡ f v → each_part f (set_value_at es i w) ≡ each_part f es
   each_part-kept [] i k v w at same = refl
-  each_part-kept (e ∷ es) zero k v w at same =
-      let here : ◌≡◌ {A = List ℕ × V} e (k, v) = cc in
-      ap (λ (x : X). (e.0, x) ∷ each_part f es) (same ∙ ap (λ (x : List ℕ × V). f x.1) (sym here))
-  each_part-kept (e ∷ es) (suc i) k v w at same = ap (λ (more : List (List ℕ × X)). (e.0, f e.1) ∷ more) (each_part-kept es i k v w at same)
+  each_part-kept (e ∷ es) zero k v w at same = grind (arith)
+  each_part-kept (e ∷ es) (suc i) k v w at same = grind (arith, at, each_part-kept es i k v w at same)
 
 -- ---- coefficients
 
@@ -100,17 +94,13 @@ module _ {V : Type 0} (f : V → List (ℕ × Number)) (name : ℕ → Option (L
 
 module _ {V X : Type 0} (f : V → Option X) where
   pub given_parts-without : (es : List (List ℕ × V)) (k : List ℕ) (v : V) → f v ≡ None → given_parts f (es ++ (k, v) ∷ []) ≡ given_parts f es
-  given_parts-without [] k v none = ap (λ (o : Option X). option_map_or (λ x. (k, x) ∷ []) o []) none
-  given_parts-without (e ∷ es) k v none =
-      ap (λ (more : List (List ℕ × X)). option_map_or (λ x. (e.0, x) ∷ more) (f e.1) more) (given_parts-without es k v none)
+  given_parts-without [] k v none = grind arith
+  given_parts-without (e ∷ es) k v none = grind (arith, given_parts-without es k v none)
 
   pub given_parts-kept : (es : List (List ℕ × V)) (i : ℕ) (k : List ℕ) (v w : V) → slice_get es i ≡ Some (k, v) → f w ≡ f v → given_parts f (set_value_at es i w) ≡ given_parts f es
   given_parts-kept [] i k v w at same = refl
-  given_parts-kept (e ∷ es) zero k v w at same =
-      let here : ◌≡◌ {A = List ℕ × V} e (k, v) = cc in
-      ap (λ (o : Option X). option_map_or (λ x. (e.0, x) ∷ given_parts f es) o (given_parts f es)) (same ∙ ap (λ (x : List ℕ × V). f x.1) (sym here))
-  given_parts-kept (e ∷ es) (suc i) k v w at same =
-      ap (λ (more : List (List ℕ × X)). option_map_or (λ x. (e.0, x) ∷ more) (f e.1) more) (given_parts-kept es i k v w at same)
+  given_parts-kept (e ∷ es) zero k v w at same = grind (arith)
+  given_parts-kept (e ∷ es) (suc i) k v w at same = grind (arith, at, given_parts-kept es i k v w at same)
 
   none_given : (q : List ℕ) (es : List (List ℕ × V)) → lookup (λ k. same_bytes q k) es ≡ None → find bytes_cmp q (given_parts f es) ≡ None
   none_given q [] none = refl
@@ -123,33 +113,6 @@ module _ {V X : Type 0} (f : V → Option X) where
               | Some x ↦ ap (λ (b : Bool). cond b (Some x) (find bytes_cmp q (given_parts f es))) (sym (texts_ties q e.0) ∙ differ) ∙ none_given q es h
             ]
       ] refl none
-
-  -- a part that was not declared is added
-  pub find-given : (q : List ℕ) (x : X) (es : List (List ℕ × V)) (i : ℕ) (k : List ℕ) (v w : V) → slice_get es i ≡ Some (k, v) → f v ≡ None → f w ≡ Some x
-      → find bytes_cmp k (given_parts f es) ≡ None
-      → find bytes_cmp q (given_parts f (set_value_at es i w)) ≡ cond (eq_by_cmp bytes_cmp q k) (Some x) (find bytes_cmp q (given_parts f es))
-  find-given q x [] i k v w is before after absent = cc
-  find-given q x (e ∷ es) zero k v w is before after absent =
-      let here : ◌≡◌ {A = List ℕ × V} e (k, v) = cc in
-      let rest = given_parts f es in
-      ap (λ (o : Option X). find bytes_cmp q (option_map_or (λ y. (e.0, y) ∷ rest) o rest)) after
-      ∙ ap (λ (y : List ℕ × V). cond (eq_by_cmp bytes_cmp q y.0) (Some x) (find bytes_cmp q rest)) here
-      ∙ ap (λ (o : Option X). cond (eq_by_cmp bytes_cmp q k) (Some x) (find bytes_cmp q (option_map_or (λ y. (e.0, y) ∷ rest) o rest))) (sym before ∙ ap (λ (y : List ℕ × V). f y.1) (sym here))
-  find-given q x (e ∷ es) (suc i) k v w is before after absent =
-      let rest = given_parts f es in
-      elim (f e.1) as (λ o. find bytes_cmp k (option_map_or (λ y. (e.0, y) ∷ rest) o rest) ≡ None
-      → find bytes_cmp q (option_map_or (λ y. (e.0, y) ∷ given_parts f (set_value_at es i w)) o (given_parts f (set_value_at es i w))) ≡ cond (eq_by_cmp bytes_cmp q k) (Some x) (find bytes_cmp q (option_map_or (λ y. (e.0, y) ∷ rest) o rest))) [
-        | None ↦ λ none. find-given q x es i k v w is before after none
-        | Some y ↦ λ none.
-            elim (eq_by_cmp bytes_cmp k e.0) as (λ b. eq_by_cmp bytes_cmp k e.0 ≡ b → cond b (Some y) (find bytes_cmp k rest) ≡ None
-            → cond (eq_by_cmp bytes_cmp q e.0) (Some y) (find bytes_cmp q (given_parts f (set_value_at es i w))) ≡ cond (eq_by_cmp bytes_cmp q k) (Some x) (cond (eq_by_cmp bytes_cmp q e.0) (Some y) (find bytes_cmp q rest))) [
-              | true ↦ λ _ h. cc
-              | false ↦ λ differ h.
-                  ap (cond (eq_by_cmp bytes_cmp q e.0) (Some y)) (find-given q x es i k v w is before after h)
-                  ∙ swapped (eq_by_cmp bytes_cmp q e.0) (eq_by_cmp bytes_cmp q k) (Some y) (Some x) (find bytes_cmp q rest)
-                  (λ a b. let joined : is_eq (bytes_cmp k e.0) ≡ true = ap is_eq (sym (bytes_total.congr q k e.0 (equal_from (bytes_cmp q k) b))) ∙ a in cc)
-            ] refl none
-      ] absent
 
 -- ---- what a look-up shows
 
@@ -164,28 +127,22 @@ key_found {K} t (e ∷ es) k h =
 -- the entry that is found has the name that was looked for
 pub found_name : {X : Type 0} (q : List ℕ) (es : List (List ℕ × X)) (i : ℕ) (k : List ℕ) (x : X) → slice_get es i ≡ Some (k, x) → Some k ≡ lookup_key (λ k. same_bytes q k) es
     → option_map (λ e. e.0) (slice_get es i) ≡ Some q
-found_name {X} q es i k x at h =
-    ap (option_map (λ (e : List ℕ × X). e.0)) at ∙ ap Some (sym ((bytes_decides q k).0 (key_found (λ k. same_bytes q k) es k h)))
+found_name {X} q es i k x at h = search (rules, at, key_found)
 
 -- writing what is already there changes nothing
 pub set_same : {K X : Type 0} (es : List (K × X)) (i : ℕ) (k : K) (x y : X) → slice_get es i ≡ Some (k, x) → y ≡ x → set_value_at es i y ≡ es
 set_same [] i k x y at same = refl
-set_same {K} {X} (e ∷ es) zero k x y at same =
-    let here : ◌≡◌ {A = K × X} e (k, x) = cc in
-    ap (λ (z : X). (e.0, z) ∷ es) (same ∙ ap (λ (z : K × X). z.1) (sym here))
-set_same {K} {X} (e ∷ es) (suc i) k x y at same = ap (λ (more : List (K × X)). e ∷ more) (set_same es i k x y at same)
+set_same {K} {X} (e ∷ es) zero k x y at same = grind (arith)
+set_same {K} {X} (e ∷ es) (suc i) k x y at same = grind (arith, at, set_same es i k x y at same)
 
 pub on_err : {A E P Q : Type 0} (r : Result A E) → (P → Q) → OnErr r P → OnErr r Q
-on_err (Ok a) f h = tt
-on_err (Err e) f h = f h
+on_err r f h = grind arith
 
 pub on_ok : {A E P Q : Type 0} (r : Result A E) → (P → Q) → OnOk r P → OnOk r Q
-on_ok (Ok a) f h = f h
-on_ok (Err e) f h = tt
+on_ok r f h = grind arith
 
 pub or_right : (a b r : Bool) → false ≡ a → r ≡ b → r ≡ (a || b)
-or_right true b r h e = cc
-or_right false b r h e = e
+or_right a b r h e = grind arith
 
 -- a name that is not in the map is no key
 pub absent_key : {V X : Type 0} (f : V → X) (q : List ℕ) (es : List (List ℕ × V)) → has_name (sorted_of bytes_cmp (each_part f es)) q ≡ false → lookup (λ k. same_bytes q k) es ≡ None
@@ -197,19 +154,7 @@ module _ {V X : Type 0} (f : V → Option X) where
   pub find-given_any : (q : List ℕ) (x : X) (es : List (List ℕ × V)) (i : ℕ) (k : List ℕ) (v w : V) → slice_get es i ≡ Some (k, v) → f w ≡ Some x → IsOnce (each_part (λ (y : V). y) es)
       → find bytes_cmp q (given_parts f (set_value_at es i w)) ≡ cond (eq_by_cmp bytes_cmp q k) (Some x) (find bytes_cmp q (given_parts f es))
   find-given_any q x [] i k v w is after once = cc
-  find-given_any q x (e ∷ es) zero k v w is after once =
-      let here : ◌≡◌ {A = List ℕ × V} e (k, v) = cc in
-      let rest = given_parts f es in
-      ap (λ (o : Option X). find bytes_cmp q (option_map_or (λ y. (e.0, y) ∷ rest) o rest)) after
-      ∙ ap (λ (y : List ℕ × V). cond (eq_by_cmp bytes_cmp q y.0) (Some x) (find bytes_cmp q rest)) here
-      ∙ elim (f e.1) as (λ o. cond (eq_by_cmp bytes_cmp q k) (Some x) (find bytes_cmp q rest) ≡ cond (eq_by_cmp bytes_cmp q k) (Some x) (find bytes_cmp q (option_map_or (λ y. (e.0, y) ∷ rest) o rest))) [
-        | None ↦ refl
-        | Some z ↦ again (eq_by_cmp bytes_cmp q k) (Some x) (Some z) (find bytes_cmp q rest) ∙ ap (λ (y : List ℕ × V). cond (eq_by_cmp bytes_cmp q k) (Some x) (cond (eq_by_cmp bytes_cmp q y.0) (Some z) (find bytes_cmp q rest))) (sym here)
-      ]
-    where
-      again : {A : Type 0} (b : Bool) (a c d : A) → cond b a d ≡ cond b a (cond b c d)
-      again true a c d = refl
-      again false a c d = refl
+  find-given_any q x (e ∷ es) zero k v w is after once = grind (arith)
   find-given_any q x (e ∷ es) (suc i) k v w is after once =
       let rest = given_parts f es in
       let more = find-given_any q x es i k v w is after once.1 in
@@ -225,11 +170,7 @@ module _ {V X : Type 0} (f : V → Option X) where
     where
       not_later : (es : List (List ℕ × V)) (i : ℕ) (k : List ℕ) (v : V) → slice_get es i ≡ Some (k, v) → find bytes_cmp k (each_part (λ (y : V). y) es) ≡ None → ⊥
       not_later [] i k v is none = cc
-      not_later (e ∷ es) zero k v is none =
-          let here : ◌≡◌ {A = List ℕ × V} e (k, v) = cc in
-          let tie : eq_by_cmp bytes_cmp k e.0 ≡ true = ap (λ (y : List ℕ × V). eq_by_cmp bytes_cmp k y.0) here ∙ ap is_eq (tied_itself bytes_total k) in
-          let found : Some e.1 ≡ None = sym (ap (λ (b : Bool). cond b (Some e.1) (find bytes_cmp k (each_part (λ (y : V). y) es))) tie) ∙ none in
-          cc
+      not_later (e ∷ es) zero k v is none = grind (arith, bytes_total)
       not_later (e ∷ es) (suc i) k v is none =
           elim (eq_by_cmp bytes_cmp k e.0) as (λ b. cond b (Some e.1) (find bytes_cmp k (each_part (λ (y : V). y) es)) ≡ None → ⊥) [
             | true ↦ λ h. cc

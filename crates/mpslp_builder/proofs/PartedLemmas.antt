@@ -1,5 +1,5 @@
 -- Entries of a list that is declared in two parts, with some elements in both: they are sorted again.
-use Rattle.std.proofs.Common.{◌≡◌, refl, sym, ap, subst, List, [], ◌∷◌, ◌++◌, Bool, true, false, cond, map}
+use Rattle.std.proofs.Common.{◌≡◌, refl, sym, subst, List, [], ◌∷◌, ◌++◌, Bool, true, false, cond, map, arith}
 use Rattle.std.specs.Prelude.{Some, is_some, filter, not}
 use Rattle.std.specs.List.{flat_map}
 use Rattle.std.specs.Cmp.{IsTotalOrder}
@@ -28,11 +28,7 @@ module _ {K X Y : Type 0} (R : K → K → Ordering) (o : IsTotalOrder R) (same 
 
   in_either : (p : Y → Bool) (xs ys : List (K × X)) (x : Y) → (p x ≡ true → is_some (find R (entry x).0 xs) ≡ true) → (not (p x) ≡ true → is_some (find R (entry x).0 ys) ≡ true)
       → is_some (find R (entry x).0 (xs ++ ys)) ≡ true
-  in_either p xs ys x g h = by (p x) refl
-    where
-      by : (b : Bool) → p x ≡ b → is_some (find R (entry x).0 (xs ++ ys)) ≡ true
-      by true e = some_append_left R o same (entry x).0 xs ys (g e)
-      by false e = some_append_right R o same (entry x).0 xs ys (h (ap not e))
+  in_either p xs ys x g h = grind (arith, some_append_left, some_append_right)
 
   -- Entries of the elements that pass, and then of the others, give all elements' entries in order.
   pub parted-give : (p : Y → Bool) (xs : List Y) → T (is_sorted R (map entry xs)) → Each (λ x. is_some (find R (entry x).0 (f x)) ≡ true) xs

@@ -1,6 +1,5 @@
 -- What tables state of a number is what their draft states of the name.
-use Rattle.std.proofs.Common.{◌≡◌, refl, sym, ap, ◌∙◌, ℕ, zero, suc, List, [], ◌∷◌, ◌++◌, Bool, true, false, cond}
-use Rattle.std.proofs.Common.{◌<◌, arith}
+use Rattle.std.proofs.Common.{◌≡◌, refl, sym, ap, ◌∙◌, ℕ, zero, suc, List, [], ◌∷◌, ◌++◌, Bool, true, false, cond, ◌<◌, arith}
 use Rattle.std.proofs.lemmas.Option.{slice_get_within}
 use Rattle.std.specs.Prelude.{Option, Some, None, is_some, slice_get, length, ◌||◌, ◌&&◌}
 use Rattle.std.specs.Option.{option_map, option_map_or}
@@ -51,9 +50,7 @@ pub record HasEntryAt {V : Type 0} (es : List (List ℕ × V)) (i : ℕ) (wanted
 pub entry_at : {V : Type 0} (es : List (List ℕ × V)) (i : ℕ) (name : List ℕ) → option_map (λ e. e.0) (slice_get es i) ≡ Some name → HasEntryAt es i name
 entry_at [] i name h = cc
 entry_at (e ∷ es) zero name h = record { key = e.0; parts = e.1; at = refl; named = cc }
-entry_at (e ∷ es) (suc i) name h =
-    let s = entry_at es i name h in
-    record { key = s.key; parts = s.parts; at = s.at; named = s.named }
+entry_at (e ∷ es) (suc i) name h = grind (arith, at, entry_at es i name h)
 
 -- it is one of the map's
 pub within : {V : Type 0} (es : List (List ℕ × V)) (i : ℕ) (name : List ℕ) → HasEntryAt es i name → i < length es
@@ -61,22 +58,16 @@ within es i name s = slice_get_within es i (s.key, s.parts) s.at
 
 -- the entry at the number
 pub own_parts : {V : Type 0} (es : List (List ℕ × V)) (i : ℕ) (name : List ℕ) (s : HasEntryAt es i name) (key : List ℕ) (parts : V) → slice_get es i ≡ Some (key, parts) → (key ≡ name) × (parts ≡ s.parts)
-own_parts {V} es i name s key parts is =
-    let same : ◌≡◌ {A = List ℕ × V} (key, parts) (s.key, s.parts) = let both : ◌≡◌ {A = Option (List ℕ × V)} (Some (key, parts)) (Some (s.key, s.parts)) = sym is ∙ s.at in cc in
-    (ap (λ (e : List ℕ × V). e.0) same ∙ s.named, ap (λ (e : List ℕ × V). e.1) same)
+own_parts {V} es i name s key parts is = grind arith
 
 or_nothing : (a b : Bool) → (a || (b || false)) ≡ (a || b)
-or_nothing true b = refl
-or_nothing false true = refl
-or_nothing false false = refl
+or_nothing a b = grind arith
 
 part_there : (b : Bool) → is_some (as_part b) ≡ b
-part_there true = refl
-part_there false = refl
+part_there b = grind arith
 
 found_first : {X : Type 0} (o : Option X) → or_else o None ≡ o
-found_first None = refl
-found_first (Some x) = refl
+found_first o = grind arith
 
 module _ (sense : Option Sense) (constant : Option Number) (t : Tables) (once : IsOnceEach t) where
   -- ---- columns

@@ -1,11 +1,10 @@
 -- How the draft of tables changes with the objective, and with a row that is added or written.
-use Rattle.std.proofs.Common.{◌≡◌, refl, sym, ap, ◌∙◌, ℕ, zero, suc, List, [], ◌∷◌, ◌++◌, Bool, true, false, cond}
-use Rattle.std.proofs.Common.{inl, inr, ◌<◌, arith, length-append}
+use Rattle.std.proofs.Common.{◌≡◌, refl, sym, ap, ◌∙◌, ℕ, zero, suc, List, [], ◌∷◌, ◌++◌, Bool, true, false, cond, inl, inr, ◌<◌, arith, length-append}
 use Rattle.std.specs.Prelude.{Option, Some, None, is_some, slice_get, length, ◌||◌, ◌⊎◌}
 use Rattle.std.specs.List.{list_all}
 use Rattle.std.specs.Option.{option_map, option_map_or}
 use Rattle.std.specs.Ordering.{eq_by_cmp}
-use Rattle.std.specs.Cmp.{first_so, second_so}
+use Rattle.std.specs.Cmp.{second_so}
 use Rattle.std.specs.Cmp.Lexicographic.{nat_list_eq_equiv}
 use Rattle.std.specs.FinMap.{find, put}
 use Rattle.indexmap.specs.IndexMap.{set_value_at}
@@ -32,43 +31,29 @@ use Rattle.mpslp_builder.proofs.PartLemmas.{each_part-append, each_part-kept, gi
 
 module _ (name later : ℕ → Option (List ℕ)) (more : (n : ℕ) (r : List ℕ) → name n ≡ Some r → later n ≡ Some r) where
   named_later : (n : ℕ) → is_some (name n) ≡ true → later n ≡ name n
-  named_later n h = elim (name n) as (λ o. name n ≡ o → is_some o ≡ true → later n ≡ o) [ None ↦ λ _ no. cc | Some r ↦ λ is _. more n r is ] refl h
+  named_later n h = grind arith
 
   column_cells-more : (c : List ℕ) (es : List (ℕ × Number)) → list_all (λ e. is_some (name e.0)) es ≡ true → column_cells later c es ≡ column_cells name c es
   column_cells-more c [] h = refl
-  column_cells-more c (e ∷ es) h =
-      let rest = column_cells-more c es (second_so (is_some (name e.0)) (list_all (λ (e : ℕ × Number). is_some (name e.0)) es) h) in
-      let own = named_later e.0 (first_so (is_some (name e.0)) (list_all (λ (e : ℕ × Number). is_some (name e.0)) es) h) in
-      λ i. option_map_or (λ row. (record { row = row; column = c }, e.1) ∷ rest i) (own i) (rest i)
+  column_cells-more c (e ∷ es) h = grind (arith, named_later, column_cells-more c es (second_so (is_some (name e.0)) (list_all (λ (e : ℕ × Number). is_some (name e.0)) es) h))
 
   pub all_cells-more : (cols : List (List ℕ × List (ℕ × Number))) → all_named name cols ≡ true → all_cells later cols ≡ all_cells name cols
   all_cells-more [] h = refl
-  all_cells-more (c ∷ cols) h =
-      let own = column_cells-more c.0 c.1 (first_so (list_all (λ (e : ℕ × Number). is_some (name e.0)) c.1) (all_named name cols) h) in
-      let rest = all_cells-more cols (second_so (list_all (λ (e : ℕ × Number). is_some (name e.0)) c.1) (all_named name cols) h) in
-      λ i. own i ++ rest i
+  all_cells-more (c ∷ cols) h = grind (arith, column_cells-more, all_cells-more cols (second_so (list_all (λ (e : ℕ × Number). is_some (name e.0)) c.1) (all_named name cols) h))
 
   cells_named-more : (es : List (ℕ × Number)) → list_all (λ e. is_some (name e.0)) es ≡ true → list_all (λ e. is_some (later e.0)) es ≡ true
   cells_named-more [] h = refl
-  cells_named-more (e ∷ es) h =
-      let first = first_so (is_some (name e.0)) (list_all (λ (e : ℕ × Number). is_some (name e.0)) es) h in
-      both_so (is_some (later e.0)) (list_all (λ (e : ℕ × Number). is_some (later e.0)) es) (ap is_some (named_later e.0 first) ∙ first)
-      (cells_named-more es (second_so (is_some (name e.0)) (list_all (λ (e : ℕ × Number). is_some (name e.0)) es) h))
+  cells_named-more (e ∷ es) h = grind (arith, both_so, named_later, cells_named-more es (second_so (is_some (name e.0)) (list_all (λ (e : ℕ × Number). is_some (name e.0)) es) h))
 
   pub all_named-more : (cols : List (List ℕ × List (ℕ × Number))) → all_named name cols ≡ true → all_named later cols ≡ true
   all_named-more [] h = refl
-  all_named-more (c ∷ cols) h =
-      both_so (list_all (λ (e : ℕ × Number). is_some (later e.0)) c.1) (all_named later cols)
-      (cells_named-more c.1 (first_so (list_all (λ (e : ℕ × Number). is_some (name e.0)) c.1) (all_named name cols) h))
-      (all_named-more cols (second_so (list_all (λ (e : ℕ × Number). is_some (name e.0)) c.1) (all_named name cols) h))
+  all_named-more (c ∷ cols) h = grind (arith, both_so, cells_named-more, all_named-more cols (second_so (list_all (λ (e : ℕ × Number). is_some (name e.0)) c.1) (all_named name cols) h))
 
 left_false : (a b : Bool) → (a || b) ≡ false → a ≡ false
-left_false true b h = cc
-left_false false b h = refl
+left_false a b h = grind arith
 
 right_false : (a b : Bool) → (a || b) ≡ false → b ≡ false
-right_false true b h = cc
-right_false false b h = h
+right_false a b h = grind arith
 
 -- one more entry in front of others
 pub find-after : {X : Type 0} (q k : List ℕ) (x : X) (front back more : List (List ℕ × X)) → find bytes_cmp k front ≡ None
@@ -271,11 +256,7 @@ module _ (sense : Option Sense) (constant : Option Number) (name : List ℕ) (ro
 -- the right-hand side of the objective
 module _ (sense : Option Sense) (constant : Option Number) (o : ObjectiveParts) (x : Number) (rows : List (List ℕ × RowParts)) (columns : List (List ℕ × ColumnParts)) where
   pub objective_rhs_draft : o.rhs ≡ None → draft_from sense constant (Some (record o { rhs = Some x })) rows columns ≡ with_declaration (draft_from sense constant (Some o) rows columns) (declare_rhs o.name x)
-  objective_rhs_draft none =
-      ap (λ (value : Option Number). record (draft_from sense constant (Some o) rows columns) {
-        rhs_values = put bytes_cmp o.name x (sorted_of bytes_cmp (option_map_or (λ v. (o.name, v) ∷ []) value [] ++ given_parts rhs_of rows));
-      })
-      (sym none)
+  objective_rhs_draft none = grind arith
 
   pub objective_rhs_numbered : AreNumbered (Some o) rows columns → AreNumbered (Some (record o { rhs = Some x })) rows columns
-  objective_rhs_numbered numbered = record { few = numbered.few; apart = numbered.apart; named = numbered.named }
+  objective_rhs_numbered numbered = grind arith

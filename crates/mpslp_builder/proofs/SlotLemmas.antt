@@ -1,11 +1,11 @@
 -- Slots that are free before each declaration are filled only once.
-use Rattle.std.proofs.Common.{◌≡◌, refl, sym, ap, ◌∙◌, ℕ, List, [], ◌∷◌, ◌++◌, Bool, true, false, not, cond}
+use Rattle.std.proofs.Common.{arith, rules, ◌≡◌, refl, sym, ap, ◌∙◌, ℕ, List, [], ◌∷◌, ◌++◌, Bool, true, false, not, cond}
 use Rattle.std.proofs.Math.Bool.{and_comm}
-use Rattle.std.specs.Prelude.{◌&&◌, ◌||◌, Option, Some, None, is_some}
+use Rattle.std.specs.Prelude.{◌&&◌, ◌||◌, Option, Some, is_some}
 use Rattle.std.specs.Option.{option_map_or}
 use Rattle.std.specs.List.{list_any, list_all}
 use Rattle.std.specs.Ordering.{eq_by_cmp}
-use Rattle.std.specs.Cmp.{first_so, both_tied}
+use Rattle.std.specs.Cmp.{both_tied}
 use Rattle.std.specs.Cmp.Lexicographic.{texts_ties, nat_list_cmp_total, same_text}
 use Rattle.std.specs.FinMap.{find, put}
 use Rattle.std.specs.FinMap.Entries.{find-put}
@@ -13,7 +13,7 @@ use Rattle.std.proofs.lemmas.List.Folds.{list_any-append, list_all-append}
 use Rattle.mpslp_types.specs.Name.{same_bytes, bytes_cmp}
 use Rattle.mpslp_model_core.specs.Model.{CoefficientKey, key_cmp}
 use Rattle.mpslp_model_core.specs.KeyOrder.{key_total}
-use Rattle.mpslp_builder.specs.Declaration.{RowDefinition, by_type, by_limits, Declaration, declare_sense, declare_objective, declare_constant, declare_row, declare_rhs, declare_range, declare_column, declare_coefficient, declare_lower, declare_upper, declare_marked, declare_integer, declare_binary, declare_semi, Declarations, Draft, with_declaration, at_name, has_name, has_row, is_objective, has_coefficient, is_definition_by_limits, is_row_by_limits}
+use Rattle.mpslp_builder.specs.Declaration.{RowDefinition, by_type, by_limits, Declaration, declare_sense, declare_objective, declare_constant, declare_row, declare_rhs, declare_range, declare_column, declare_coefficient, declare_lower, declare_upper, declare_marked, declare_integer, declare_binary, declare_semi, Declarations, Draft, with_declaration, at_name, has_name, has_row, has_coefficient, is_definition_by_limits, is_row_by_limits}
 use Rattle.mpslp_types.specs.Lists.{are_distinct}
 use Rattle.mpslp_builder.specs.Consistency.{Slot, sense_slot, objective_slot, constant_slot, row_slot, rhs_slot, range_slot, coefficient_slot, lower_slot, upper_slot, same_slot, slots_of, all_slots}
 use Rattle.mpslp_types.proofs.BoolLemmas.{or_end, all_true, mixed, mixed_more}
@@ -24,8 +24,7 @@ pub at-put : {X : Type 0} (q k : List ℕ) (v : X) (es : List (List ℕ × X)) �
 at-put {X} q k v es = find-put bytes_cmp nat_list_cmp_total q k v es ∙ ap (λ (b : Bool). cond b (Some v) (find bytes_cmp q es)) (sym (texts_ties q k))
 
 is_some-cond : {X : Type 0} (b : Bool) (v : X) (o : Option X) → is_some (cond b (Some v) o) ≡ (b || is_some o)
-is_some-cond true v o = refl
-is_some-cond false v o = refl
+is_some-cond b v o = grind arith
 
 pub has-put : {X : Type 0} (q k : List ℕ) (v : X) (es : List (List ℕ × X)) → has_name (put bytes_cmp k v es) q ≡ (same_bytes q k || has_name es q)
 has-put q k v es = ap is_some (at-put q k v es) ∙ is_some-cond (same_bytes q k) v (at_name es q)
@@ -63,44 +62,26 @@ fills d slot = list_any (same_slot slot) (slots_of d)
 -- there was no objective
 row_by_objective : (o : Option (List ℕ)) (name n : List ℕ) (r : Bool) → (not (is_some o)) ≡ true
     → (same_bytes n name || r) ≡ ((same_bytes n name || false) || (option_map_or (same_bytes n) o false || r))
-row_by_objective None name n r h = or_end (same_bytes n name) r
-row_by_objective (Some o) name n r h = cc
+row_by_objective o name n r h = grind arith
 
 in_row : (a o r : Bool) (rest : Bool) → rest ≡ false → (o || (a || r)) ≡ ((a || rest) || (o || r))
-in_row true true r rest h = refl
-in_row true false r rest h = refl
-in_row false o r rest h = ap (λ (b : Bool). b || (o || r)) (sym h)
+in_row a o r rest h = grind arith
 
 after_or : (s a r l : Bool) → ((s || r) || l) ≡ ((s || false) || (r || l))
-after_or true a r l = refl
-after_or false a r l = refl
+after_or s a r l = grind arith
 
 limits_of_cond : (b : Bool) (definition : RowDefinition) (o : Option RowDefinition) → option_map_or is_definition_by_limits (cond b (Some definition) o) false ≡ cond b (is_definition_by_limits definition) (option_map_or is_definition_by_limits o false)
-limits_of_cond true definition o = refl
-limits_of_cond false definition o = refl
-
-pub limits_need_row : (o : Option RowDefinition) → is_some o ≡ false → option_map_or is_definition_by_limits o false ≡ false
-limits_need_row None h = refl
-limits_need_row (Some definition) h = cc
+limits_of_cond b definition o = grind arith
 
 pub fresh_row : (a b : Bool) (rest : Bool) → (not (a || b) && rest) ≡ true → b ≡ false
-fresh_row true b rest h = cc
-fresh_row false true rest h = cc
-fresh_row false false rest h = refl
+fresh_row a b rest h = grind arith
 
 -- a slot of a row by limits, after one more row: `here` says that the row has this name
 by_type_after : (here r was : Bool) → (here ≡ true → was ≡ false) → (r || cond here false was) ≡ (r || was)
-by_type_after true true was h = refl
-by_type_after true false was h = sym (h refl)
-by_type_after false r was h = refl
+by_type_after here r was h = grind arith
 
 by_limits_after : (here r was : Bool) → (r || cond here true was) ≡ ((here || false) || (r || was))
-by_limits_after true true was = refl
-by_limits_after true false was = refl
-by_limits_after false r was = refl
-
-by_limits_second : (here r was : Bool) → (r || cond here true was) ≡ ((here || false) || (r || was))
-by_limits_second = by_limits_after
+by_limits_after here r was = grind arith
 
 limits_at : (all : Draft) (n name : List ℕ) (definition : RowDefinition) → is_row_by_limits (with_declaration all (declare_row name definition)) n ≡ cond (same_bytes n name) (is_definition_by_limits definition) (is_row_by_limits all n)
 limits_at all n name definition = ap (λ (o : Option RowDefinition). option_map_or is_definition_by_limits o false) (at-put n name definition all.rows) ∙ limits_of_cond (same_bytes n name) definition (at_name all.rows n)
@@ -109,37 +90,22 @@ pub same_name : (a b : List ℕ) → same_bytes a b ≡ true → a ≡ b
 same_name a b h = same_text a b (sym h)
 
 was_no_limits : (all : Draft) (n name : List ℕ) (rest : Bool) → (not (has_row all name) && rest) ≡ true → same_bytes n name ≡ true → is_row_by_limits all n ≡ false
-was_no_limits all n name rest h same =
-    limits_need_row (at_name all.rows n)
-    (ap (λ (k : List ℕ). has_name all.rows k) (same_name n name same) ∙ fresh_row (is_objective all name) (has_name all.rows name) rest h)
+was_no_limits all n name rest h same = search (rules, fresh_row)
 
 -- A declaration whose slots were free fills these and no others.
 pub filled-with_declaration : (all : Draft) (d : Declaration) (slot : Slot) → are_fresh all (slots_of d) ≡ true
     → is_filled (with_declaration all d) slot ≡ (fills d slot || is_filled all slot)
-filled-with_declaration all (declare_objective name) (row_slot n) h =
-    row_by_objective all.objective name n (has_name all.rows n) (first_so (not (is_some all.objective)) (not (has_row all name) && true) h)
-filled-with_declaration all (declare_row name (by_type type)) (row_slot n) h =
-    ap (λ (b : Bool). is_objective all n || b) (has-put n name (by_type type) all.rows) ∙ in_row (same_bytes n name) (is_objective all n) (has_name all.rows n) false refl
-filled-with_declaration all (declare_row name (by_limits l u)) (row_slot n) h =
-    ap (λ (b : Bool). is_objective all n || b) (has-put n name (by_limits l u) all.rows) ∙ in_row (same_bytes n name) (is_objective all n) (has_name all.rows n) false refl
-filled-with_declaration all (declare_row name (by_type type)) (rhs_slot n) h =
-    ap (λ (b : Bool). has_name all.rhs_values n || b) (limits_at all n name (by_type type))
-    ∙ by_type_after (same_bytes n name) (has_name all.rhs_values n) (is_row_by_limits all n) (was_no_limits all n name _ h)
-filled-with_declaration all (declare_row name (by_type type)) (range_slot n) h =
-    ap (λ (b : Bool). has_name all.ranges n || b) (limits_at all n name (by_type type))
-    ∙ by_type_after (same_bytes n name) (has_name all.ranges n) (is_row_by_limits all n) (was_no_limits all n name _ h)
-filled-with_declaration all (declare_row name (by_limits l u)) (rhs_slot n) h =
-    ap (λ (b : Bool). has_name all.rhs_values n || b) (limits_at all n name (by_limits l u))
-    ∙ by_limits_after (same_bytes n name) (has_name all.rhs_values n) (is_row_by_limits all n)
-filled-with_declaration all (declare_row name (by_limits l u)) (range_slot n) h =
-    ap (λ (b : Bool). has_name all.ranges n || b) (limits_at all n name (by_limits l u))
-    ∙ by_limits_after (same_bytes n name) (has_name all.ranges n) (is_row_by_limits all n)
+filled-with_declaration all (declare_objective name) (row_slot n) h = grind (arith, row_by_objective)
+filled-with_declaration all (declare_row name (by_type type)) (row_slot n) h = grind (arith, has-put, in_row)
+filled-with_declaration all (declare_row name (by_limits l u)) (row_slot n) h = grind (arith, has-put, in_row)
+filled-with_declaration all (declare_row name (by_type type)) (rhs_slot n) h = grind (arith, limits_at, by_type_after, was_no_limits)
+filled-with_declaration all (declare_row name (by_type type)) (range_slot n) h = grind (arith, limits_at, by_type_after, was_no_limits)
+filled-with_declaration all (declare_row name (by_limits l u)) (rhs_slot n) h = grind (arith, limits_at, by_limits_after)
+filled-with_declaration all (declare_row name (by_limits l u)) (range_slot n) h = grind (arith, limits_at, by_limits_after)
 filled-with_declaration all (declare_row name (by_type type)) _ h = refl
 filled-with_declaration all (declare_row name (by_limits l u)) _ h = refl
-filled-with_declaration all (declare_rhs row v) (rhs_slot n) h =
-    ap (λ (b : Bool). b || is_row_by_limits all n) (has-put n row v all.rhs_values) ∙ after_or (same_bytes n row) true (has_name all.rhs_values n) (is_row_by_limits all n)
-filled-with_declaration all (declare_range row v) (range_slot n) h =
-    ap (λ (b : Bool). b || is_row_by_limits all n) (has-put n row v all.ranges) ∙ after_or (same_bytes n row) true (has_name all.ranges n) (is_row_by_limits all n)
+filled-with_declaration all (declare_rhs row v) (rhs_slot n) h = grind (arith, has-put, after_or)
+filled-with_declaration all (declare_range row v) (range_slot n) h = grind (arith, has-put, after_or)
 filled-with_declaration all (declare_coefficient key v) (coefficient_slot p) h = has-put_key p key v all.coefficients ∙ or_end (same_bytes p.row key.row && same_bytes p.column key.column) (has_coefficient all p)
 filled-with_declaration all (declare_lower name v) (lower_slot n) h = has-put n name v all.lowers ∙ or_end (same_bytes n name) (has_name all.lowers n)
 filled-with_declaration all (declare_upper name v) (upper_slot n) h = has-put n name v all.uppers ∙ or_end (same_bytes n name) (has_name all.uppers n)
@@ -160,37 +126,19 @@ are_apart earlier later = list_all (λ slot. not (list_any (same_slot slot) earl
 
 pub apart-cons : (x : Slot) (xs later : List Slot) → are_apart (x ∷ xs) later ≡ (not (list_any (λ slot. same_slot slot x) later) && are_apart xs later)
 apart-cons x xs [] = refl
-apart-cons x xs (y ∷ later) =
-    ap (λ (b : Bool). not (same_slot y x || list_any (same_slot y) xs) && b) (apart-cons x xs later)
-    ∙ mixed' (same_slot y x) (list_any (same_slot y) xs) (list_any (λ slot. same_slot slot x) later) (are_apart xs later)
-  where
-    mixed' : (a b c d : Bool) → (not (a || b) && (not c && d)) ≡ (not (a || c) && (not b && d))
-    mixed' true b c d = refl
-    mixed' false true true d = refl
-    mixed' false true false d = refl
-    mixed' false false true d = refl
-    mixed' false false false d = refl
+apart-cons x xs (y ∷ later) = grind (arith, apart-cons x xs later)
 
 pub are_distinct-append : (earlier later : List Slot) → are_distinct same_slot (earlier ++ later) ≡ (are_distinct same_slot earlier && (are_apart earlier later && are_distinct same_slot later))
 are_distinct-append [] later = ap (λ (b : Bool). b && are_distinct same_slot later) (sym (all_true later))
-are_distinct-append (x ∷ xs) later =
-    ap (λ (b : Bool). not b && are_distinct same_slot (xs ++ later)) (list_any-append (λ slot. same_slot slot x) xs later)
-    ∙ ap (λ (b : Bool). not (list_any (λ slot. same_slot slot x) xs || list_any (λ slot. same_slot slot x) later) && b) (are_distinct-append xs later)
-    ∙ mixed_more (list_any (λ slot. same_slot slot x) xs) (list_any (λ slot. same_slot slot x) later) (are_distinct same_slot xs) (are_apart xs later) (are_distinct same_slot later)
-    ∙ ap (λ (b : Bool). (not (list_any (λ slot. same_slot slot x) xs) && are_distinct same_slot xs) && (b && are_distinct same_slot later)) (sym (apart-cons x xs later))
+are_distinct-append (x ∷ xs) later = grind (arith, list_any-append, mixed_more, apart-cons, are_distinct-append xs later)
 
 distinct_own : (d : Declaration) → are_distinct same_slot (slots_of d) ≡ true
-distinct_own (declare_row name (by_type type)) = refl
-distinct_own (declare_row name (by_limits l u)) = refl
-distinct_own _ = refl
+distinct_own d = grind arith
 
 fresh-with_declaration : (all : Draft) (d : Declaration) (later : List Slot) → are_fresh all (slots_of d) ≡ true
     → are_fresh (with_declaration all d) later ≡ (are_apart (slots_of d) later && are_fresh all later)
 fresh-with_declaration all d [] h = refl
-fresh-with_declaration all d (slot ∷ later) h =
-    ap (λ (b : Bool). not b && are_fresh (with_declaration all d) later) (filled-with_declaration all d slot h)
-    ∙ ap (λ (b : Bool). not (fills d slot || is_filled all slot) && b) (fresh-with_declaration all d later h)
-    ∙ mixed (fills d slot) (is_filled all slot) (are_apart (slots_of d) later) (are_fresh all later)
+fresh-with_declaration all d (slot ∷ later) h = grind (arith, filled-with_declaration, mixed, fresh-with_declaration all d later h)
 
 -- ---- in turn
 
@@ -217,7 +165,4 @@ fresh_in_turn-is (d ∷ more) before =
     ∙ ap (λ (b : Bool). b && are_distinct same_slot (mine ++ rest)) (sym (list_all-append (λ slot. not (is_filled before slot)) mine rest))
   where
     swapped : (a b c : Bool) → ((a && b) && c) ≡ (b && (a && c))
-    swapped true true c = refl
-    swapped true false c = refl
-    swapped false true c = refl
-    swapped false false c = refl
+    swapped a b c = grind arith

@@ -1,5 +1,5 @@
 -- Each map of a draft holds its entries in the order of their keys.
-use Rattle.std.proofs.Common.{sym, subst, ℕ, List}
+use Rattle.std.proofs.Common.{sym, subst, ℕ, List, arith}
 use Rattle.std.specs.List.{flat_map}
 use Rattle.std.specs.FinMap.{is_sorted}
 use Rattle.std.proofs.Math.Dec.{T}
@@ -30,7 +30,7 @@ pub record IsSortedDraft (all : Draft) : Type 0 where
   pub semis : T (is_sorted bytes_cmp all.semis)
 
 pub empty_sorted : IsSortedDraft empty_draft
-empty_sorted = record { rows = tt; rhs_values = tt; ranges = tt; columns = tt; coefficients = tt; lowers = tt; uppers = tt; marked = tt; integers = tt; binaries = tt; semis = tt }
+empty_sorted = grind arith
 
 pub sorted-with_declarations : (ds : Declarations) (all : Draft) → IsSortedDraft all → IsSortedDraft (with_declarations all ds)
 sorted-with_declarations ds all s = record {

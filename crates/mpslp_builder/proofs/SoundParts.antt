@@ -1,23 +1,21 @@
 -- What a well-formed row or column implies for its name and its limits, and names that differ.
-use Rattle.std.proofs.Common.{◌≡◌, refl, sym, ap, ◌∙◌, List, [], ◌∷◌, ℕ, Bool, true, false, not}
+use Rattle.std.proofs.Common.{arith, ◌≡◌, List, [], ◌∷◌, ℕ, true, false}
 use Rattle.std.specs.Prelude.{◌&&◌}
-use Rattle.std.specs.List.{list_all}
 use Rattle.std.specs.Ordering.{is_lt}
-use Rattle.std.specs.Cmp.{first_so, second_so, tied_itself}
+use Rattle.std.specs.Cmp.{first_so, second_so}
 use Rattle.std.specs.FinMap.Entries.{below_all}
-use Rattle.mpslp_decimal.specs.Decimal.{Number, IsDecimal, is_decimal, is_infinite_size}
-use Rattle.mpslp_types.specs.Name.{is_mps_name, has_name_length, is_visible, same_bytes, marker, bytes_cmp}
+use Rattle.mpslp_decimal.specs.Decimal.{Number, IsDecimal}
+use Rattle.mpslp_types.specs.Name.{is_mps_name, same_bytes, marker, bytes_cmp}
 use Rattle.mpslp_model_core.specs.Model.{Row, Column, suits, is_sound_row, is_sound_column}
 use Rattle.mpslp_types.specs.Limit.{limit_of, is_bounded_decimal, is_lower_side, is_upper_side, is_at_most, are_sides, has_bounded_distance}
 use Rattle.mpslp_types.specs.declared.kinds.Limit.{Limit}
 use Rattle.mpslp_types.specs.declared.kinds.Limit.TheVariants.{Finite}
-use Rattle.mpslp_types.proofs.BoolLemmas.{not_so}
 use Rattle.mpslp_types.proofs.EachLemmas.{Each}
 use Rattle.mpslp_builder.proofs.SlotLemmas.{same_name}
 use Rattle.mpslp_builder.proofs.SortedDrafts.{bytes_total}
 
 pub row_named : (row : List ℕ × Row) → is_sound_row row ≡ true → is_mps_name row.0 ≡ true
-row_named row h = first_so (is_mps_name row.0) (are_sides row.1.lower row.1.upper && has_bounded_distance row.1.lower row.1.upper) h
+row_named row h = grind arith
 
 pub row_sides : (row : List ℕ × Row) → is_sound_row row ≡ true → are_sides row.1.lower row.1.upper ≡ true
 row_sides row h =
@@ -25,12 +23,10 @@ row_sides row h =
     (second_so (is_mps_name row.0) (are_sides row.1.lower row.1.upper && has_bounded_distance row.1.lower row.1.upper) h)
 
 pub row_distance : (row : List ℕ × Row) → is_sound_row row ≡ true → has_bounded_distance row.1.lower row.1.upper ≡ true
-row_distance row h =
-    second_so (are_sides row.1.lower row.1.upper) (has_bounded_distance row.1.lower row.1.upper)
-    (second_so (is_mps_name row.0) (are_sides row.1.lower row.1.upper && has_bounded_distance row.1.lower row.1.upper) h)
+row_distance row h = grind arith
 
 pub column_named : (column : List ℕ × Column) → is_sound_column column ≡ true → is_mps_name column.0 ≡ true
-column_named column h = first_so (is_mps_name column.0) (are_sides column.1.lower column.1.upper && suits column.1.kind column.1.lower column.1.upper) h
+column_named column h = grind arith
 
 pub column_sides : (column : List ℕ × Column) → is_sound_column column ≡ true → are_sides column.1.lower column.1.upper ≡ true
 column_sides column h =
@@ -43,29 +39,22 @@ column_suited column h =
     (second_so (is_mps_name column.0) (are_sides column.1.lower column.1.upper && suits column.1.kind column.1.lower column.1.upper) h)
 
 pub lower_of : (l u : Limit) → are_sides l u ≡ true → is_lower_side l ≡ true
-lower_of l u h = first_so (is_lower_side l) (is_upper_side u && is_at_most l u) h
+lower_of l u h = grind arith
 
 pub upper_of : (l u : Limit) → are_sides l u ≡ true → is_upper_side u ≡ true
-upper_of l u h = first_so (is_upper_side u) (is_at_most l u) (second_so (is_lower_side l) (is_upper_side u && is_at_most l u) h)
+upper_of l u h = grind arith
 
 pub straight_of : (l u : Limit) → are_sides l u ≡ true → is_at_most l u ≡ true
-straight_of l u h = second_so (is_upper_side u) (is_at_most l u) (second_so (is_lower_side l) (is_upper_side u && is_at_most l u) h)
+straight_of l u h = grind arith
 
 pub no_marker : (name : List ℕ) → is_mps_name name ≡ true → same_bytes name marker ≡ false
-no_marker name h =
-    let sized = has_name_length name in
-    let seen = list_all is_visible name in
-    not_so (same_bytes name marker) (second_so seen (not (same_bytes name marker)) (second_so sized (seen && not (same_bytes name marker)) h))
+no_marker name h = grind arith
 
 pub bounded_so : (d : Number) → is_bounded_decimal d ≡ true → IsDecimal d
-bounded_so d h = first_so (is_decimal d) (not (is_infinite_size d)) h
+bounded_so d h = grind arith
 
 pub bounded_finite : (d : Number) → is_bounded_decimal d ≡ true → limit_of d ≡ Finite d
-bounded_finite d h = by (is_infinite_size d) refl (second_so (is_decimal d) (not (is_infinite_size d)) h)
-  where
-    by : (b : Bool) → is_infinite_size d ≡ b → not b ≡ true → limit_of d ≡ Finite d
-    by true e n = cc
-    by false e n = rw e refl
+bounded_finite d h = grind arith
 
 -- ---- names that differ
 
@@ -73,11 +62,7 @@ no_truth : false ≡ true → ⊥
 no_truth e = cc
 
 pub differs : (x y : List ℕ) → is_lt (bytes_cmp x y) ≡ true → same_bytes y x ≡ false
-differs x y below = by (same_bytes y x) refl
-  where
-    by : (b : Bool) → same_bytes y x ≡ b → b ≡ false
-    by true e = absurd (no_truth (ap is_lt (sym (ap (bytes_cmp x) (same_name y x e) ∙ tied_itself bytes_total x)) ∙ below))
-    by false e = refl
+differs x y below = grind (arith, no_truth, same_name, bytes_total)
 
 pub later_differ : {X : Type 0} (x : List ℕ) (es : List (List ℕ × X)) → below_all bytes_cmp x es ≡ true → Each (λ e. same_bytes e.0 x ≡ false) es
 later_differ x [] h = tt

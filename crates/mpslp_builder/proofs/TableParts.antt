@@ -1,15 +1,13 @@
 -- What tables state of a row or of a column is what their draft states of its name.
-use Rattle.std.proofs.Common.{◌≡◌, refl, sym, ap, ◌∙◌, ℕ, zero, suc, List, [], ◌∷◌, ◌++◌, map, Bool, true, false, cond}
-use Rattle.std.specs.Prelude.{Option, Some, None, is_some, unwrap_or, slice_get}
+use Rattle.std.proofs.Common.{arith, ◌≡◌, refl, sym, ap, ◌∙◌, ℕ, zero, suc, List, [], ◌∷◌, ◌++◌, map, Bool, true, false, cond}
+use Rattle.std.specs.Prelude.{Option, Some, None, is_some, slice_get}
 use Rattle.std.specs.Option.{option_map, option_map_or}
 use Rattle.std.specs.Ordering.{eq_by_cmp}
 use Rattle.std.specs.FinMap.{find}
-use Rattle.mpslp_decimal.specs.Decimal.{Number, zero_number}
+use Rattle.mpslp_decimal.specs.Decimal.{Number}
 use Rattle.mpslp_types.specs.Name.{bytes_cmp}
 use Rattle.mpslp_types.specs.declared.kinds.Sense.{Sense}
-use Rattle.mpslp_types.specs.declared.kinds.RowType.TheVariants.{Free}
 use Rattle.mpslp_types.proofs.EachLemmas.{Each, Each-both, Each-weaker}
-use Rattle.mpslp_model_core.specs.Limits.{limits_of, plain_limits, declared_column}
 use Rattle.mpslp_model_core.specs.Numbered.{sorted_of, each_part, given_parts, IsOnce, IsInjective}
 use Rattle.mpslp_model_core.proofs.KeyLemmas.{bytes_total}
 use Rattle.mpslp_model_core.proofs.SortedLemmas.{find-sorted_of}
@@ -69,8 +67,7 @@ rows_say sense constant objective rows columns apart once =
 -- rows with the same parts as in the draft have the limits that are meant
 pub rows_meant : (d : Draft) (rows : List (List ℕ × RowParts)) → Each (SaysRow d) rows → each_part limits_in rows ≡ map (row_entry d) (each_part definition_of rows)
 rows_meant d [] h = refl
-rows_meant d (e ∷ rows) h =
-    (λ i. (e.0, unwrap_or (limits_of e.1.definition (unwrap_or (sym h.0.0 i) zero_number) (sym h.0.1 i)) (plain_limits Free zero_number)) ∷ rows_meant d rows h.1 i)
+rows_meant d (e ∷ rows) h = grind (arith, rows_meant d rows h.1)
 
 -- ---- columns
 
@@ -78,8 +75,7 @@ abbrev pub SaysColumn : Draft → List ℕ × ColumnParts → Type 0
 SaysColumn d e = declared_in e.1 ≡ declared_of d e.0
 
 is_part : (b : Bool) → is_some (as_part b) ≡ b
-is_part true = refl
-is_part false = refl
+is_part b = grind arith
 
 module _ (columns : List (List ℕ × ColumnParts)) (once : IsOnce (each_part no_part columns)) where
   says : {X : Type 0} (f : ColumnParts → Option X) → Each (λ e. f e.1 ≡ at_name (sorted_of bytes_cmp (given_parts f columns)) e.0) columns
@@ -112,4 +108,4 @@ module _ (columns : List (List ℕ × ColumnParts)) (once : IsOnce (each_part no
 
 pub columns_meant : (d : Draft) (columns : List (List ℕ × ColumnParts)) → Each (SaysColumn d) columns → each_part bounds_of columns ≡ map (λ column. (column.0, column_of d column.0)) (each_part no_part columns)
 columns_meant d [] h = refl
-columns_meant d (e ∷ columns) h = (λ i. (e.0, declared_column (h.0 i)) ∷ columns_meant d columns h.1 i)
+columns_meant d (e ∷ columns) h = grind (arith, columns_meant d columns h.1)

@@ -1,12 +1,11 @@
 -- Terms of a row: how they are kept, and what each step of their declarations does to the tables.
-use Rattle.std.proofs.Common.{◌≡◌, refl, sym, ap, subst, ◌∙◌, ℕ, zero, suc, List, [], ◌∷◌, ◌++◌, Bool, true, false, cond, length, drop, get_or, not, inl, inr, ◌+◌, ◌<◌, ◌≤◌, arith}
+use Rattle.std.proofs.Common.{rules, ◌≡◌, refl, sym, ap, ◌∙◌, ℕ, zero, suc, List, [], ◌∷◌, ◌++◌, Bool, true, false, length, drop, get_or, not, inl, inr, ◌+◌, ◌<◌, ◌≤◌, arith}
 use Rattle.std.specs.Prelude.{◌≢◌, Option, Some, None, is_some, slice_get, insert, ◌||◌, Result, Ok, Err, IfOk, ◌-◌}
 use Rattle.std.specs.declared.alloc.AllocError.{AllocError}
 use Rattle.std.specs.Option.{option_map_or}
 use Rattle.std.specs.List.{list_any, flat_map}
 use Rattle.std.specs.Result.{IsErrAnd}
 use Rattle.std.specs.Map.{lookup}
-use Rattle.std.specs.Cmp.Lexicographic.{nat_list_eq_equiv}
 use Rattle.std.specs.Ordering.{nat_cmp, is_gt}
 use Rattle.std.specs.FinMap.{find, is_sorted}
 use Rattle.std.proofs.lemmas.Option.{slice_get_read}
@@ -17,19 +16,18 @@ use Rattle.mpslp_decimal.specs.Decimal.{Number, is_decimal}
 use Rattle.mpslp_types.specs.Name.{same_bytes, bytes_cmp}
 use Rattle.mpslp_types.specs.declared.kinds.Sense.{Sense}
 use Rattle.mpslp_types.specs.declared.faults.BuildFault.{BuildFault}
-use Rattle.mpslp_types.specs.declared.faults.BuildFault.TheVariants.{OutOfMemory, UnknownRow, UnknownColumn, DuplicateEntry}
+use Rattle.mpslp_types.specs.declared.faults.BuildFault.TheVariants.{OutOfMemory, UnknownRow, DuplicateEntry}
 use Rattle.mpslp_maps.proofs.PutKeyLemmas.{put-insert}
 use Rattle.mpslp_maps.proofs.SearchLemmas.{found_nowhere, place_after, sorted-put}
-use Rattle.mpslp_types.specs.Lists.{head_of, those_of}
-use Rattle.mpslp_model_core.specs.Numbered.{each_part}
+use Rattle.mpslp_types.specs.Lists.{head_of}
 use Rattle.mpslp_model_core.proofs.CellLemmas.{at}
 use Rattle.mpslp_model_core.proofs.SortedLemmas.{is_sorted-sorted_of}
 use Rattle.mpslp_builder.specs.Answer.{Answer}
-use Rattle.mpslp_builder.specs.Declaration.{Draft, Declarations, with_declaration, with_declarations, declare_column, declare_coefficient, is_objective, has_row, has_column, has_coefficient, has_name}
+use Rattle.mpslp_builder.specs.Declaration.{Draft, Declarations, with_declarations, declare_column, declare_coefficient, has_row}
 use Rattle.mpslp_builder.specs.Refusal.{refusals, refusals_in_turn}
-use Rattle.mpslp_builder.specs.Tables.{definition_of, no_part, draft, IsNumbered}
+use Rattle.mpslp_builder.specs.Tables.{no_part, draft, IsNumbered}
 use Rattle.mpslp_builder.specs.Calls.{row_name, column_name, cells_at, with_cell, IsOnceEach, HasColumnChanged}
-use Rattle.mpslp_builder.specs.LineTables.{IsLaid, Follows, HasStarted}
+use Rattle.mpslp_builder.specs.LineTables.{IsLaid, Follows}
 use Rattle.mpslp_builder.specs.RowTerms.{term_declared, DeclaresInTurn}
 use Rattle.mpslp_builder.specs.TermTables.{HasColumn, IsLaidUnless}
 use Rattle.mpslp_builder.specs.declared.tables.Tables.{Tables}
@@ -49,9 +47,7 @@ Terms = List (List ℕ × Number)
 -- a name that is greater than the last one is not there
 pub above_absent : (name : List ℕ) (terms : Terms) → is_sorted bytes_cmp terms ≡ true → option_map_or (λ last. is_gt (bytes_cmp name last.0)) (slice_get terms (length terms - 1)) true ≡ true
     → find bytes_cmp name terms ≡ None
-above_absent name terms sorted above =
-    let following = place_after bytes_cmp bytes_total name terms sorted above in
-    found_nowhere bytes_cmp bytes_total name terms (length terms) sorted following (omega arith)
+above_absent name terms sorted above = grind (arith, place_after, bytes_total, found_nowhere, arith)
 
 -- and comes after all
 pub above_sorted : (name : List ℕ) (value : Number) (terms : Terms) → is_sorted bytes_cmp terms ≡ true → option_map_or (λ last. is_gt (bytes_cmp name last.0)) (slice_get terms (length terms - 1)) true ≡ true
@@ -68,12 +64,7 @@ any-found name terms = sym (any-name name terms) ∙ one_of-names name terms
 
 pub any-looked_up : (name : List ℕ) (terms : Terms) → list_any (λ term. same_bytes name term.0) terms ≡ is_some (lookup (same_bytes name) terms)
 any-looked_up name [] = refl
-any-looked_up name (term ∷ terms) = by (same_bytes name term.0) (any-looked_up name terms)
-  where
-    by : (b : Bool) → list_any (λ t. same_bytes name t.0) terms ≡ is_some (lookup (same_bytes name) terms)
-        → (b || list_any (λ t. same_bytes name t.0) terms) ≡ is_some (cond b (Some term.1) (lookup (same_bytes name) terms))
-    by true h = refl
-    by false h = h
+any-looked_up name (term ∷ terms) = grind (arith, any-looked_up name terms)
 
 -- in two lists one after the other
 pub any-both : (name : List ℕ) (first more : Terms) (b : Bool) → is_some (find bytes_cmp name first) ≡ false → list_any (λ term. same_bytes name term.0) more ≡ b
@@ -94,21 +85,13 @@ any-none name (term ∷ terms) h = absurd (omega arith)
 -- a name that is not in the first list
 pub any-more : (name key : List ℕ) (first more all : Terms) (r : Result Bool AllocError) → first ++ more ≡ all → key ≡ name → is_some (find bytes_cmp name first) ≡ false
     → IfOk r (λ is_new. list_any (λ term. same_bytes key term.0) more ≡ not is_new) → IfOk r (λ is_new. list_any (λ term. same_bytes name term.0) all ≡ not is_new)
-any-more name key first more all (Ok is_new) seen named absent h =
-    ap (λ (terms : Terms). list_any (λ term. same_bytes name term.0) terms) (sym seen)
-    ∙ any-both name first more (not is_new) absent (ap (λ (k : List ℕ). list_any (λ term. same_bytes k term.0) more) (sym named) ∙ h)
-any-more name key first more all (Err error) seen named absent h = tt
+any-more name key first more all r seen named absent h = grind (arith, any-both)
 
 -- ---- steps
 
 -- a column that is declared may be declared again
 pub there_laid : (t : Tables) (name : List ℕ) (i : ℕ) → column_name t i ≡ Some name → IsLaid t (declare_column name ∷ []) t
-there_laid t name i is = record {
-  free = λ sense constant. refl;
-  laid = λ sense constant.
-      ap (λ (columns : List (List ℕ × Unit {0})). record (draft sense constant t) { columns = columns })
-      (put_again name (draft sense constant t).columns (is_sorted-sorted_of bytes_cmp bytes_total (each_part no_part t.columns.entries)) (sym (number_there no_part t.columns.entries i name is)));
-}
+there_laid t name i is = grind (arith, put_again, is_sorted-sorted_of, bytes_total, number_there)
 
 pub unless_then : (t u v : Tables) (ds es : Declarations) (answer : Answer) → IsLaid t ds u → IsLaidUnless u es answer v → IsLaidUnless t (ds ++ es) answer v
 unless_then t u v ds es (Ok x) a b = laid_then t u v ds es a b
@@ -124,37 +107,26 @@ unless_then t u v ds es (Err fault) a (inr first) =
 
 -- there is no memory
 pub unless_memory : (t u : Tables) (ds : Declarations) (answer : Answer) → IsErrAnd answer (λ fault. fault ≡ OutOfMemory) → IsLaidUnless t ds answer u
-unless_memory t u ds (Ok x) none = absurd none
-unless_memory t u ds (Err fault) none = inl none
+unless_memory t u ds answer none = grind arith
 
 -- the error that is reported
 pub unless_reported : (t u : Tables) (ds : Declarations) (answer : Answer) (fault : BuildFault) → IsErrAnd answer (λ stated. stated ≡ fault) → IsLaidUnless t ds (Err fault) u → IsLaidUnless t ds answer u
 unless_reported t u ds (Ok x) fault stated h = absurd stated
-unless_reported t u ds (Err other) fault stated h = subst (λ (f : BuildFault). IsLaidUnless t ds (Err f) u) (sym stated) h
+unless_reported t u ds (Err other) fault stated h = grind arith
 
 head-first : (faults more : List BuildFault) (fault : BuildFault) → head_of faults ≡ Some fault → head_of (faults ++ more) ≡ Some fault
-head-first [] more fault h = cc
-head-first (first ∷ faults) more fault h = h
+head-first faults more fault h = grind arith
 
 -- an error of the first declarations is the first of all
 pub unless_err : (t u v : Tables) (ds es : Declarations) (fault : BuildFault) → IsLaidUnless t ds (Err fault) u → IsLaidUnless t (ds ++ es) (Err fault) v
-unless_err t u v ds es fault (inl none) = inl none
-unless_err t u v ds es fault (inr first) =
-    inr (λ sense constant.
-    ap head_of (refusals_in_turn-append ds es (draft sense constant t))
-    ∙ head-first (refusals_in_turn (draft sense constant t) ds) (refusals_in_turn (with_declarations (draft sense constant t) ds) es) fault (first sense constant))
+unless_err t u v ds es fault h = grind (arith, inl, inr, refusals_in_turn-append, head-first)
 
 or_true : (b : Bool) → true ≡ (b || true)
-or_true true = refl
-or_true false = refl
+or_true b = grind arith
 
 -- a row, or the objective, with a number is declared
 row_there : (constant : Option Number) (t : Tables) (n : ℕ) (r : List ℕ) → row_name t n ≡ Some r → true ≡ has_row (draft None constant t) r
-row_there constant t zero r is =
-    sym (ap (λ (o : Option (List ℕ)). option_map_or (same_bytes r) o false || has_name (draft None constant t).rows r) is
-    ∙ ap (λ (b : Bool). b || has_name (draft None constant t).rows r) (nat_list_eq_equiv.refl r))
-row_there constant t (suc i) r is =
-    or_true (is_objective (draft None constant t) r) ∙ ap (λ (b : Bool). is_objective (draft None constant t) r || b) (number_there definition_of t.rows.entries i r is)
+row_there constant t n r is = search (rules, or_true, number_there)
 
 -- the coefficient is declared already
 pub taken_place : (t u v : Tables) (once : IsOnceEach u) (numbered : IsNumbered u) (n i : ℕ) (r c : List ℕ) (x : Number) → HasColumn t c i u → row_name u n ≡ Some r
@@ -164,15 +136,6 @@ taken_place t u v once numbered n i r c x column row stated =
     ap (λ (all : Draft). head_of (refusals all (declare_coefficient (at r c) x) ++ [])) (sym (column.laid.laid sense constant))
     ∙ ap (λ (faults : List BuildFault). head_of (faults ++ []))
     (cell_stated constant u once i c column.named (number_there no_part u.columns.entries i c column.named) n r true numbered row (row_there constant u n r row) stated))
-
--- no row has the name
-pub row_unknown : (all : Draft) (row : List ℕ) (term : List ℕ × Number) (more : Declarations) → has_row all row ≡ false
-    → head_of (refusals_in_turn all (term_declared row term ++ more)) ≡ Some UnknownRow
-row_unknown all row term more absent =
-    let next = with_declaration all (declare_column term.0) in
-    let key = at row term.0 in
-    let later = with_declaration next (declare_coefficient key term.1) in
-    ap (λ (b : Bool). head_of (those_of ((not b, UnknownRow) ∷ (not (has_column next term.0), UnknownColumn) ∷ (has_coefficient next key, DuplicateEntry) ∷ []) ++ refusals_in_turn later more)) absent
 
 -- a coefficient of any row that there is
 pub cell_follows_there : (t u : Tables) → IsNumbered t → IsOnceEach t → (i n : ℕ) → is_some (row_name t n) ≡ true → (x : Number) → HasColumnChanged t i (with_cell n x) u
@@ -192,16 +155,11 @@ cell_others_there t u numbered once i n row x h absent m other = by (row_name t 
     by None is there = cc
     by (Some name) is there = cell_others t u numbered once i n name is x h absent m other
 
--- a column that has started is there
-pub started_column : (t u : Tables) (name : List ℕ) (r : Result ℕ AllocError) → IfOk r (λ column. HasStarted t name column u) → IfOk r (λ column. HasColumn t name column u)
-started_column t u name (Ok column) h = record { named = h.named; laid = h.laid }
-started_column t u name (Err e) h = h
-
 -- ---- terms in turn
 
 pub rest_at : {X : Type 0} (f : X → Declarations) (xs : List X) (k : ℕ) (x : X) → slice_get xs k ≡ Some x → flat_map f (drop k xs) ≡ f x ++ flat_map f (drop (suc k) xs)
 rest_at f [] k x h = cc
-rest_at f (y ∷ xs) zero x h = let same : y ≡ x = cc in λ i. f (same i) ++ flat_map f xs
+rest_at f (y ∷ xs) zero x h = grind arith
 rest_at f (y ∷ xs) (suc k) x h = rest_at f xs k x h
 
 -- what is left decides: whatever comes of these declarations comes of those, too
@@ -209,7 +167,7 @@ abbrev pub Decides : Tables → Declarations → Tables → Declarations → Typ
 Decides u left t all = (answer : Answer) (v : Tables) → IsLaidUnless u left answer v → IsLaidUnless t all answer v
 
 pub decides_next : (t u v : Tables) (first left all : Declarations) → IsLaid u first v → Decides u (first ++ left) t all → Decides v left t all
-decides_next t u v first left all laid before = λ answer w rest. before answer w (unless_then u v w first left answer laid rest)
+decides_next t u v first left all laid before = grind (arith, unless_then)
 
 -- an error of the next of these declarations decides
 pub decides_err : (t u v : Tables) (first left all : Declarations) (answer : Answer) (fault : BuildFault) → IsErrAnd answer (λ stated. stated ≡ fault) → IsLaidUnless u first (Err fault) v
@@ -224,9 +182,7 @@ decides_all t u all before = before (Ok tt) u (laid_none u)
 -- the same of the drafts of builders
 pub in_turn : (sense : Option Sense) (constant : Option Number) (t u : Tables) (ds : Declarations) (answer : Answer) → IsLaidUnless t ds answer u
     → DeclaresInTurn (draft sense constant t) ds answer (draft sense constant u)
-in_turn sense constant t u ds (Ok x) laid = (laid.free sense constant, laid.laid sense constant)
-in_turn sense constant t u ds (Err fault) (inl none) = inl none
-in_turn sense constant t u ds (Err fault) (inr first) = inr (first sense constant)
+in_turn sense constant t u ds answer h = grind arith
 
 next_is : (k : ℕ) → suc k ≡ k + 1
 next_is k = omega arith
@@ -236,8 +192,7 @@ rest_of {X} f xs k x inside here = rest_at f xs k x (slice_get_read xs (length x
 
 -- of two lists one after the other
 pub both_parts : {X : Type 0} (f : X → Declarations) (first more given all : List X) → given ≡ first → first ++ more ≡ all → flat_map f all ≡ flat_map f given ++ flat_map f more
-both_parts {X} f first more given all is seen =
-    ap (flat_map f) (sym seen) ∙ flat_map-append f first more ∙ ap (λ (xs : List X). flat_map f xs ++ flat_map f more) (sym is)
+both_parts {X} f first more given all is seen = grind (arith, flat_map-append)
 
 pub none_first : (first more : Terms) → first ++ more ≡ [] → length first ≡ 0
 none_first [] more h = refl
@@ -246,21 +201,20 @@ none_first (term ∷ first) more h = cc
 -- no row has the name, and there is a term
 pub rows_unknown : (all : Draft) (row : List ℕ) (terms : Terms) → has_row all row ≡ false → (terms ≡ [] → ⊥) → head_of (refusals_in_turn all (flat_map (term_declared row) terms)) ≡ Some UnknownRow
 rows_unknown all row [] absent some = absurd (some refl)
-rows_unknown all row (term ∷ terms) absent some = row_unknown all row term (flat_map (term_declared row) terms) absent
+rows_unknown all row (term ∷ terms) absent some = grind arith
 
 pub drop_none : {X : Type 0} (k : ℕ) (xs : List X) → length xs ≤ k → drop k xs ≡ []
-drop_none zero [] h = refl
 drop_none zero (x ∷ xs) h = absurd (omega arith)
-drop_none (suc k) [] h = refl
 drop_none (suc k) (x ∷ xs) h = drop_none k xs (omega arith)
+drop_none _ _ h = refl
 
 module _ (t u v : Tables) (name column : List ℕ) (term : List ℕ × Number) (rest left all : Declarations) (named : column ≡ term.0) (split : left ≡ term_declared name term ++ rest) (before : Decides u left t all) where
   decides : Decides u (term_declared name (column, term.1) ++ rest) t all
-  decides = subst (λ (ds : Declarations). Decides u ds t all) (split ∙ (λ i. term_declared name (sym named i, term.1) ++ rest)) before
+  decides = grind arith
 
   -- after the next term
   pub term_laid : IsLaid u (term_declared name (column, term.1)) v → Decides v rest t all
-  term_laid laid = decides_next t u v (term_declared name (column, term.1)) rest all laid decides
+  term_laid laid = grind (arith, decides_next, decides)
 
   pub term_refused : (answer : Answer) (fault : BuildFault) → IsErrAnd answer (λ stated. stated ≡ fault) → IsLaidUnless u (term_declared name (column, term.1)) (Err fault) v → IsLaidUnless t all answer v
   term_refused answer fault stated refused = decides_err t u v (term_declared name (column, term.1)) rest all answer fault stated refused decides

@@ -1,6 +1,6 @@
 -- The result of a query of tables is the first error of the declaration.
-use Rattle.std.proofs.Common.{◌≡◌, refl, sym, ap, ◌∙◌, ℕ, List, [], ◌∷◌, Bool, true, false, not}
-use Rattle.std.specs.Prelude.{Option, Some, None, is_some, ◌||◌, ◌&&◌, slice_get}
+use Rattle.std.proofs.Common.{arith, ◌≡◌, sym, ap, ◌∙◌, ℕ, List, [], ◌∷◌, Bool, true, false, not}
+use Rattle.std.specs.Prelude.{Option, Some, None, is_some, ◌||◌, ◌&&◌}
 use Rattle.std.specs.Option.{option_map_or}
 use Rattle.std.specs.Ordering.{nat_cmp}
 use Rattle.std.specs.FinMap.{find}
@@ -18,7 +18,6 @@ use Rattle.mpslp_builder.specs.Calls.{row_key_of, row_name, column_name, row_sat
 use Rattle.mpslp_builder_parts.specs.RowParts.{RowParts}
 use Rattle.mpslp_builder_parts.specs.declared.parts.ObjectiveParts.{ObjectiveParts}
 use Rattle.mpslp_builder.specs.declared.tables.RowRef.{RowRef}
-use Rattle.mpslp_builder.specs.declared.tables.RowRef.TheVariants.{Objective, Row}
 use Rattle.mpslp_builder.specs.declared.tables.Tables.{Tables}
 use Rattle.mpslp_builder.proofs.ReadingLemmas.{entry_at, part_at, flag_at, integer_at, cell_at, objective_at, free_at, has_range_at, has_rhs_at}
 
@@ -75,21 +74,10 @@ module _ (constant : Option Number) (t : Tables) (once : IsOnceEach t) where
 
 -- ---- rows by type
 
-second_no : (a b : Bool) → (a || b) ≡ false → b ≡ false
-second_no true b h = cc
-second_no false b h = h
-
-typed_row : (test : RowParts → Bool) (o : Option (List ℕ × RowParts)) → option_map_or (λ e. test e.1 || is_definition_by_limits e.1.definition) o false ≡ false
-    → option_map_or (λ e. is_definition_by_limits e.1.definition) o false ≡ false
-typed_row test None h = refl
-typed_row test (Some e) h = second_no (test e.1) (is_definition_by_limits e.1.definition) h
-
 no_row : (o : Option ObjectiveParts) → option_map_or (λ o. false) o false ≡ false
-no_row None = refl
-no_row (Some o) = refl
+no_row o = grind arith
 
 -- a place whose right-hand side or range may be declared is no row by limits
 pub typed_place : (t : Tables) (of_objective : ObjectiveParts → Bool) (test : RowParts → Bool) (p : RowRef) → row_satisfies t p of_objective (λ row. test row || is_definition_by_limits row.definition) ≡ false
     → has_limits t p ≡ false
-typed_place t of_objective test Objective h = no_row t.objective
-typed_place t of_objective test (Row i) h = typed_row test (slice_get t.rows.entries i) h
+typed_place t of_objective test p h = grind arith

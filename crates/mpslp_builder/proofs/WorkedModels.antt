@@ -1,6 +1,6 @@
 -- Worked examples: declarations, the calls of a builder, and the models that they mean, by computation.
 use Rattle.std.proofs.Common.{◌≡◌, refl, cond}
-use Rattle.std.specs.Prelude.{ℕ, pos, negsuc, Option, Some, None, List, [], ◌∷◌, codes}
+use Rattle.std.specs.Prelude.{map, ℕ, pos, negsuc, Option, Some, None, List, [], ◌∷◌, codes}
 use Rattle.std.specs.FinMap as maps
 use Rattle.mpslp_decimal.specs.Decimal.{Number, trailing_zeros}
 use Rattle.mpslp_model_core.specs.Model.{CoefficientKey, key_cmp}
@@ -19,6 +19,7 @@ use Rattle.mpslp_types.specs.declared.kinds.Limit.TheVariants.{MinusInf, Finite,
 use Rattle.mpslp_types.specs.declared.kinds.RowType.TheVariants.{Free, AtMost, AtLeast}
 use Rattle.mpslp_types.specs.declared.faults.BuildFault.{BuildFault}
 use Rattle.mpslp_types.specs.declared.faults.BuildFault.TheVariants as builds
+use Rattle.mpslp_types.specs.declared.faults.Fault.{Fault}
 use Rattle.mpslp_types.specs.declared.faults.FaultKind.TheVariants as kinds
 use Rattle.mpslp_builder.proofs.WorkedRows.{number, whole}
 
@@ -170,33 +171,12 @@ marked_with_side = refl
 binary_with_side : column_of (bounded_by (declare_binary x ∷ declare_lower x one_limit ∷ [])) x ≡ record { kind = Integer; lower = one_limit; upper = one_limit }
 binary_with_side = refl
 
-upper_zero : file_fault (bounded_by (declare_upper x zero_limit ∷ [])) ≡ None
-upper_zero = refl
-
-below_zero : file_fault (bounded_by (declare_upper x minus_one ∷ [])) ≡ Some (whole_fault kinds.NegativeUpper (Some x))
-below_zero = refl
-
-below_zero_with_lower : file_fault (bounded_by (declare_upper x minus_one ∷ declare_lower x MinusInf ∷ [])) ≡ None
-below_zero_with_lower = refl
-
-crossed_bounds : file_fault (bounded_by (declare_upper x minus_one ∷ declare_lower x zero_limit ∷ [])) ≡ Some (whole_fault kinds.BoundsCrossed (Some x))
-crossed_bounds = refl
-
 free_by_size : column_of (bounded_by (declare_lower x (limit_of (number (negsuc 0) (pos 30))) ∷ declare_upper x (limit_of (number (pos 1) (pos 30))) ∷ [])) x
     ≡ record { kind = Continuous; lower = MinusInf; upper = PlusInf }
 free_by_size = refl
 
 fixed_binary : file_fault (bounded_by (declare_lower x one_limit ∷ declare_upper x one_limit ∷ declare_binary x ∷ [])) ≡ None
 fixed_binary = refl
-
-binary_to_five : file_fault (bounded_by (declare_upper x (Finite (whole (pos 5))) ∷ declare_binary x ∷ [])) ≡ Some (whole_fault kinds.BinaryBounds (Some x))
-binary_to_five = refl
-
-binary_below_zero : file_fault (bounded_by (declare_upper x minus_one ∷ declare_binary x ∷ [])) ≡ Some (whole_fault kinds.NegativeUpper (Some x))
-binary_below_zero = refl
-
-binary_from_two : file_fault (bounded_by (declare_lower x (Finite (whole (pos 2))) ∷ declare_binary x ∷ [])) ≡ Some (whole_fault kinds.BoundsCrossed (Some x))
-binary_from_two = refl
 
 -- ---- semi-continuous columns
 
@@ -223,45 +203,13 @@ semi_target = refl
 semi_with_both_sides : column_of (bounded_by (declare_upper x four ∷ declare_lower x one_limit ∷ declare_semi x ∷ [])) x ≡ record { kind = Semi; lower = one_limit; upper = four }
 semi_with_both_sides = refl
 
-semi_from_zero : file_fault (bounded_by (declare_semi x ∷ declare_upper x four ∷ [])) ≡ None
-semi_from_zero = refl
-
-semi_at_one_value : file_fault (bounded_by (declare_semi x ∷ declare_upper x four ∷ declare_lower x four ∷ [])) ≡ None
-semi_at_one_value = refl
-
-semi_without_upper : file_fault (bounded_by (declare_semi x ∷ [])) ≡ Some (whole_fault kinds.SemiBounds (Some x))
-semi_without_upper = refl
-
-semi_to_infinity : file_fault (bounded_by (declare_semi x ∷ declare_upper x (limit_of (number (pos 1) (pos 20))) ∷ [])) ≡ Some (whole_fault kinds.SemiBounds (Some x))
-semi_to_infinity = refl
-
-semi_to_zero : file_fault (bounded_by (declare_semi x ∷ declare_upper x zero_limit ∷ [])) ≡ Some (whole_fault kinds.SemiBounds (Some x))
-semi_to_zero = refl
-
 semi_below_zero : file_fault (bounded_by (declare_semi x ∷ declare_upper x minus_one ∷ [])) ≡ Some (whole_fault kinds.NegativeUpper (Some x))
 semi_below_zero = refl
-
-semi_from_below_zero : file_fault (bounded_by (declare_semi x ∷ declare_upper x four ∷ declare_lower x minus_one ∷ [])) ≡ Some (whole_fault kinds.SemiBounds (Some x))
-semi_from_below_zero = refl
-
-semi_from_minus_infinity : file_fault (bounded_by (declare_semi x ∷ declare_upper x four ∷ declare_lower x MinusInf ∷ [])) ≡ Some (whole_fault kinds.SemiBounds (Some x))
-semi_from_minus_infinity = refl
-
-semi_crossed : file_fault (bounded_by (declare_semi x ∷ declare_upper x one_limit ∷ declare_lower x four ∷ [])) ≡ Some (whole_fault kinds.BoundsCrossed (Some x))
-semi_crossed = refl
-
--- an error of an earlier kind is reported, whichever column has it
-semi_and_binary : file_fault (bounded_by (declare_semi x ∷ declare_column y ∷ declare_upper y (Finite (whole (pos 5))) ∷ declare_binary y ∷ []))
-    ≡ Some (whole_fault kinds.BinaryBounds (Some y))
-semi_and_binary = refl
 
 -- ---- whole-file errors
 
 nothing : file_fault empty_draft ≡ Some (whole_fault kinds.NoColumns None)
 nothing = refl
-
-objective_only : file_fault (draft_of (declare_objective f ∷ [])) ≡ Some (whole_fault kinds.NoColumns None)
-objective_only = refl
 
 -- the first kind, with its least name in byte order: an error of a row comes before one of a column
 abbrev crossed : List ℕ → Declaration
@@ -271,8 +219,40 @@ least_name : file_fault (bounded_by (declare_upper x minus_one ∷ crossed (code
 unfolding trailing_zeros
 least_name = refl
 
--- an infinite right-hand side comes before its inexact range
-least_of_two : file_fault (bounded_by (declare_row r (by_type AtLeast) ∷ declare_rhs r (number (pos 1) (pos 30)) ∷ declare_range r one ∷ []))
-    ≡ Some (whole_fault kinds.InfiniteLimit (Some r))
+abbrev faulty_drafts : List (Draft × Option Fault)
+faulty_drafts =
+    (bounded_by (declare_upper x zero_limit ∷ []), None) ∷
+    (bounded_by (declare_upper x minus_one ∷ []), Some (whole_fault kinds.NegativeUpper (Some x))) ∷
+    (bounded_by (declare_upper x minus_one ∷ declare_lower x MinusInf ∷ []), None) ∷
+    (bounded_by (declare_upper x minus_one ∷ declare_lower x zero_limit ∷ []), Some (whole_fault kinds.BoundsCrossed (Some x))) ∷
+    (bounded_by (declare_upper x (Finite (whole (pos 5))) ∷ declare_binary x ∷ []), Some (whole_fault kinds.BinaryBounds (Some x))) ∷
+    (bounded_by (declare_upper x minus_one ∷ declare_binary x ∷ []), Some (whole_fault kinds.NegativeUpper (Some x))) ∷
+    (bounded_by (declare_lower x (Finite (whole (pos 2))) ∷ declare_binary x ∷ []), Some (whole_fault kinds.BoundsCrossed (Some x))) ∷
+    (bounded_by (declare_semi x ∷ declare_upper x four ∷ []), None) ∷
+    (bounded_by (declare_semi x ∷ declare_upper x four ∷ declare_lower x four ∷ []), None) ∷
+    (bounded_by (declare_semi x ∷ []), Some (whole_fault kinds.SemiBounds (Some x))) ∷ (
+      bounded_by (declare_semi x ∷ declare_upper x (limit_of (number (pos 1) (pos 20))) ∷ []),
+      Some (whole_fault kinds.SemiBounds (Some x)),
+    ) ∷
+    (bounded_by (declare_semi x ∷ declare_upper x zero_limit ∷ []), Some (whole_fault kinds.SemiBounds (Some x))) ∷
+    (bounded_by (declare_semi x ∷ declare_upper x four ∷ declare_lower x minus_one ∷ []), Some (whole_fault kinds.SemiBounds (Some x))) ∷
+    (bounded_by (declare_semi x ∷ declare_upper x four ∷ declare_lower x MinusInf ∷ []), Some (whole_fault kinds.SemiBounds (Some x))) ∷ (
+      bounded_by (declare_semi x ∷ declare_upper x one_limit ∷ declare_lower x four ∷ []),
+      Some (whole_fault kinds.BoundsCrossed (Some x)),
+    ) ∷
+    -- an error of an earlier kind is reported, whichever column has it
+    (
+      bounded_by (declare_semi x ∷ declare_column y ∷ declare_upper y (Finite (whole (pos 5))) ∷ declare_binary y ∷ []),
+      Some (whole_fault kinds.BinaryBounds (Some y)),
+    ) ∷
+    (draft_of (declare_objective f ∷ []), Some (whole_fault kinds.NoColumns None)) ∷
+    -- an infinite right-hand side comes before its inexact range
+    (
+      bounded_by (declare_row r (by_type AtLeast) ∷ declare_rhs r (number (pos 1) (pos 30)) ∷ declare_range r one ∷ []),
+      Some (whole_fault kinds.InfiniteLimit (Some r)),
+    ) ∷
+    []
+
+pub faulty_drafts-right : map (λ row. file_fault row.0) faulty_drafts ≡ map (λ row. row.1) faulty_drafts
 unfolding trailing_zeros
-least_of_two = refl
+faulty_drafts-right = refl

@@ -13,7 +13,7 @@ use crate::tables::Tables;
 use mpslp_decimal::Decimal;
 use mpslp_decimal::laws::each_value_is_a_decimal;
 use mpslp_model_core::{PackedRowDefinition, RowLimits};
-use mpslp_types::{BuildFault, Limit, Name, RowType, Sense};
+use mpslp_types::{BuildFault, HashSeed, Limit, Name, RowType, Sense};
 use std::alloc::Global;
 use std::marker::Model;
 
@@ -21,9 +21,7 @@ use std::marker::Model;
 /// they are used. Contracts see what has been declared.
 ///
 /// A call that is rejected returns the first error that applies, in the order in which the call lists them. Only a call
-/// without such an error may return [`OutOfMemory`](BuildFault::OutOfMemory). In both cases the builder is unchanged, except
-/// that [`next_line`](Self::next_line) and [`first_line`](Self::first_line) without memory, and [`row_term`](Self::row_term)
-/// and [`row_terms`](Self::row_terms) with any error, may have declared a part.
+/// without such an error may return [`OutOfMemory`](BuildFault::OutOfMemory). In both cases the builder is unchanged.
 ///
 /// Each declaring call has a query, such as [`check_rhs`](Self::check_rhs) for [`rhs`](Self::rhs). It returns the error
 /// that the call would return, allocates nothing and changes nothing.
@@ -49,15 +47,16 @@ impl Model for Builder {
 }
 
 impl Builder {
-    /// A builder without declarations.
-    pub fn new(alloc: Global) -> Builder
+    /// A builder without declarations. Only the time of its calls depends on the seed, which is to be secret if names may be chosen
+    /// to make it slow.
+    pub fn new(alloc: Global, seed: HashSeed) -> Builder
         ensures { result ≡ empty_draft }
     {
         Builder {
             alloc,
             sense: None,
             constant: None,
-            tables: Tables::new(alloc),
+            tables: Tables::new(alloc, seed),
         }
     }
 

@@ -4,10 +4,12 @@
 mod builder;
 pub mod laws;
 mod lines;
+mod reader_builder;
 mod refusals;
 mod row_terms;
 mod tables;
 
 pub use builder::Builder;
 pub use lines::{Entries, Entry};
+pub use reader_builder::ReaderBuilder;
 pub use row_terms::RowTerms;

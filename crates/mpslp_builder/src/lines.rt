@@ -14,7 +14,7 @@ ghost use Rattle.mpslp_builder.specs.Tables.{draft, IsNumbered};
 ghost use Rattle.mpslp_builder.specs.Calls.{row_name, column_name, column_satisfies, cells_at};
 ghost use Rattle.mpslp_builder.specs.LineTables.{AreRows, AreKnownRows, AreFree, IsLinePlace, IsFreeLine, IsLaid, Follows, HasStarted};
 
-use crate::builder::Builder;
+use crate::reader_builder::ReaderBuilder;
 use crate::tables::Tables;
 use mpslp_decimal::Decimal;
 use mpslp_decimal::laws::each_value_is_a_decimal;
@@ -217,65 +217,66 @@ impl Tables {
     }
 }
 
-impl Builder {
+impl ReaderBuilder {
     /// Declares one or two coefficients of a column that is declared already, and that it is marked if it is in an integer block
-    /// of an MPS file. It does what [`marked`](Self::marked) and [`coefficient`](Self::coefficient) do, and looks each name up
-    /// only once.
+    /// of an MPS file. It does what [`marked`](crate::Builder::marked) and [`coefficient`](crate::Builder::coefficient) do, and
+    /// looks each name up only once.
     ///
     /// Returns `false`, and changes nothing, if the column is not declared or one of these calls, made in turn, would be
     /// rejected, and for no other reason. Those calls return the error.
     ///
     /// # Errors
     ///
-    /// Only `OutOfMemory`. Then a first part of these declarations is made: this call is for readers, which return `Failed` from
-    /// then on. So `mpslp_model` does not re-export the types of its argument.
+    /// Only `OutOfMemory`. Then a first part of these declarations is made.
     pub fn next_line(
         &mut self,
         column: &[u8],
         is_marked: bool,
         entries: &Entries<'_>,
     ) -> Result<bool, BuildFault>
-        ensures taken { TakesLine self.old (column_line is_marked column.now (listed entries.now)) result self.new }
-        ensures there { result ≡ Ok true → has_column self.old column.now ≡ true }
-        ensures refused { result ≡ Ok false → has_column self.old column.now ≡ true → refusals_in_turn self.old (column_line is_marked column.now (listed entries.now)) ≢ [] }
+        ensures taken { TakesLine self.old.draft (column_line is_marked column.now (listed entries.now)) result self.new.draft }
+        ensures there { result ≡ Ok true → has_column self.old.draft column.now ≡ true }
+        ensures refused { result ≡ Ok false → has_column self.old.draft column.now ≡ true → refusals_in_turn self.old.draft (column_line is_marked column.now (listed entries.now)) ≢ [] }
     {
-        let Some(place) = self.tables.next_place(column, is_marked, entries) else {
+        let draft = &mut self.draft;
+        let Some(place) = draft.tables.next_place(column, is_marked, entries) else {
             return Ok(false);
         };
-        self.tables
+        draft
+            .tables
             .put_line(place.column, is_marked, place.rows, entries)?;
         Ok(true)
     }
 
     /// Declares a new column with one or two coefficients, and that it is marked if it is in an integer block of an MPS file. It
-    /// does what [`column`](Self::column), [`marked`](Self::marked) and [`coefficient`](Self::coefficient) do, and looks each
-    /// row up only once.
+    /// does what [`column`](crate::Builder::column), [`marked`](crate::Builder::marked) and
+    /// [`coefficient`](crate::Builder::coefficient) do, and looks each row up only once.
     ///
     /// Returns `false`, and changes nothing, if the column is declared already or one of these calls, made in turn, would be
     /// rejected, and for no other reason. Those calls return the error. The name is then dropped.
     ///
     /// # Errors
     ///
-    /// Only `OutOfMemory`. Then a first part of these declarations is made: this call is for readers, which return `Failed` from
-    /// then on. So `mpslp_model` does not re-export the types of its argument.
+    /// Only `OutOfMemory`. Then a first part of these declarations is made.
     pub fn first_line(
         &mut self,
         name: Name,
         is_marked: bool,
         entries: &Entries<'_>,
     ) -> Result<bool, BuildFault>
-        ensures taken { TakesLine self.old (column_line is_marked name (listed entries.now)) result self.new }
-        ensures absent { result ≡ Ok true → has_column self.old name ≡ false }
-        ensures refused { result ≡ Ok false → has_column self.old name ≡ false → refusals_in_turn self.old (column_line is_marked name (listed entries.now)) ≢ [] }
+        ensures taken { TakesLine self.old.draft (column_line is_marked name (listed entries.now)) result self.new.draft }
+        ensures absent { result ≡ Ok true → has_column self.old.draft name ≡ false }
+        ensures refused { result ≡ Ok false → has_column self.old.draft name ≡ false → refusals_in_turn self.old.draft (column_line is_marked name (listed entries.now)) ≢ [] }
     {
-        let Some(rows) = self.tables.row_numbers(entries) else {
+        let draft = &mut self.draft;
+        let Some(rows) = draft.tables.row_numbers(entries) else {
             return Ok(false);
         };
-        if self.has_column(name.as_bytes()) {
+        if draft.has_column(name.as_bytes()) {
             return Ok(false);
         }
-        let column = self.tables.start_column(self.alloc, name)?;
-        self.tables.put_line(column, is_marked, rows, entries)?;
+        let column = draft.tables.start_column(draft.alloc, name)?;
+        draft.tables.put_line(column, is_marked, rows, entries)?;
         Ok(true)
     }
 }

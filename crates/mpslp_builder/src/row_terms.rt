@@ -14,14 +14,14 @@ ghost use Rattle.mpslp_builder.specs.ColumnLine.{entry_declared};
 ghost use Rattle.mpslp_builder.specs.LineTables.{IsLaid, Follows};
 ghost use Rattle.mpslp_builder.specs.TermTables.{HasColumn, IsLaidUnless};
 
-use crate::builder::Builder;
+use crate::reader_builder::ReaderBuilder;
 use crate::tables::Tables;
 use indexmap::IndexMap;
 use mpslp_decimal::Decimal;
 use mpslp_decimal::laws::each_value_is_a_decimal;
 use mpslp_maps::find_entry;
 use mpslp_types::laws::each_name_is_legal;
-use mpslp_types::{BuildFault, Name};
+use mpslp_types::{BuildFault, HashSeed, Name};
 use std::alloc::{AllocError, Global};
 use std::marker::Model;
 
@@ -40,7 +40,7 @@ pub struct RowTerms {
     /// The terms up to the first one that is out of byte order.
     rising: Vec<(Name, Decimal)>,
     /// The others.
-    others: IndexMap<Name, Decimal>,
+    others: IndexMap<Name, Decimal, HashSeed>,
 }
 
 impl Model for RowTerms {
@@ -76,7 +76,7 @@ fn has_term(terms: &[(Name, Decimal)], name: &[u8]) -> bool
 
 /// Adds a term whose column is not among those in byte order. Returns whether it is new among the others.
 fn add_other(
-    others: &mut IndexMap<Name, Decimal>,
+    others: &mut IndexMap<Name, Decimal, HashSeed>,
     name: Name,
     value: Decimal,
 ) -> Result<bool, AllocError>
@@ -91,13 +91,13 @@ fn add_other(
 }
 
 impl RowTerms {
-    /// No terms. Allocates nothing.
-    pub fn new(alloc: Global) -> RowTerms
+    /// No terms. Allocates nothing. Only the time of its calls depends on the seed.
+    pub fn new(alloc: Global, seed: HashSeed) -> RowTerms
         ensures { result ≡ [] }
     {
         RowTerms {
             rising: Vec::new(alloc),
-            others: IndexMap::new(alloc),
+            others: IndexMap::with_hasher(alloc, seed),
         }
     }
 
@@ -256,7 +256,7 @@ impl Tables {
         &mut self,
         alloc: Global,
         row: u32,
-        terms: &IndexMap<Name, Decimal>,
+        terms: &IndexMap<Name, Decimal, HashSeed>,
     ) -> Result<(), BuildFault>
         requires numbered { IsNumbered self.old }
         requires row { is_some (row_name self.old row) ≡ true }
@@ -285,46 +285,47 @@ impl Tables {
     }
 }
 
-impl Builder {
-    /// Declares a column, and its coefficient of a row or of the objective. It does what [`column`](Self::column) and
-    /// [`coefficient`](Self::coefficient) do, and looks each name up only once.
+impl ReaderBuilder {
+    /// Declares a column, and its coefficient of a row or of the objective. It does what [`column`](crate::Builder::column) and
+    /// [`coefficient`](crate::Builder::coefficient) do, and looks each name up only once.
     ///
     /// # Errors
     ///
-    /// The first error of these calls: `UnknownRow`, `DuplicateEntry` or `OutOfMemory`. Then the column may be declared: this
-    /// call is for readers, which return `Failed` from then on.
+    /// The first error of these calls: `UnknownRow`, `DuplicateEntry` or `OutOfMemory`. Then the column may be declared.
     pub fn row_term(&mut self, row: &[u8], column: &[u8], value: Decimal) -> Result<(), BuildFault>
         requires { IsMpsName column.now }
-        ensures declared { DeclaresInTurn self.old (term_declared row.now (column.now, value)) result self.new }
-        ensures rows { self.new.rows ≡ self.old.rows }
+        ensures declared { DeclaresInTurn self.old.draft (term_declared row.now (column.now, value)) result self.new.draft }
+        ensures rows { self.new.draft.rows ≡ self.old.draft.rows }
     {
-        match self.tables.row_number(row) {
+        let draft = &mut self.draft;
+        match draft.tables.row_number(row) {
             Some(number) => {
-                let guess = self.tables.recent.saturating_add(1);
-                self.tables
-                    .lay_term(self.alloc, number, column, guess, value)
+                let guess = draft.tables.recent.saturating_add(1);
+                draft
+                    .tables
+                    .lay_term(draft.alloc, number, column, guess, value)
             }
             None => Err(BuildFault::UnknownRow),
         }
     }
 
-    /// Declares the terms of a row in order: each column, and its coefficient. It does what [`column`](Self::column) and
-    /// [`coefficient`](Self::coefficient) do, and looks each name up only once.
+    /// Declares the terms of a row in order: each column, and its coefficient. It does what
+    /// [`column`](crate::Builder::column) and [`coefficient`](crate::Builder::coefficient) do, and looks each name up only once.
     ///
     /// # Errors
     ///
     /// The first error of these calls, in order: `UnknownRow`, `DuplicateEntry` or `OutOfMemory`. Then the declarations before
-    /// it are made: this call is for readers, which return `Failed` from then on. So `mpslp_model` does not re-export the type
-    /// of its argument.
+    /// it are made.
     pub fn row_terms(&mut self, row: &[u8], terms: &RowTerms) -> Result<(), BuildFault>
-        ensures declared { DeclaresInTurn self.old (flat_map (term_declared row.now) terms.now) result self.new }
-        ensures rows { self.new.rows ≡ self.old.rows }
+        ensures declared { DeclaresInTurn self.old.draft (flat_map (term_declared row.now) terms.now) result self.new.draft }
+        ensures rows { self.new.draft.rows ≡ self.old.draft.rows }
     {
         if terms.is_empty() {
             return Ok(());
         }
-        match self.tables.row_number(row) {
-            Some(number) => self.tables.lay_terms(self.alloc, number, terms),
+        let draft = &mut self.draft;
+        match draft.tables.row_number(row) {
+            Some(number) => draft.tables.lay_terms(draft.alloc, number, terms),
             None => Err(BuildFault::UnknownRow),
         }
     }

@@ -17,11 +17,11 @@ use indexmap::IndexMap;
 use mpslp_builder_parts::{ColumnParts, ObjectiveParts, RowParts};
 use mpslp_decimal::{Decimal, PackedDecimal};
 use mpslp_model_core::PackedRowDefinition;
-use mpslp_types::{Limit, Name, NameBytes};
+use mpslp_types::{HashSeed, Limit, Name, NameBytes};
 use std::alloc::{AllocError, Global};
 
 /// A map by names, which their bytes find, in the order of insertion.
-pub(crate) type NameMap<V> = IndexMap<Name, V>;
+pub(crate) type NameMap<V> = IndexMap<Name, V, HashSeed>;
 
 /// The maximum number of rows: they and the objective have numbers of 32 bits.
 const MOST_ROWS: usize = 4_294_967_294;
@@ -72,13 +72,13 @@ impl RowRef {
 
 impl Tables {
     /// Tables without declarations.
-    pub(crate) fn new(alloc: Global) -> Tables
+    pub(crate) fn new(alloc: Global, seed: HashSeed) -> Tables
         ensures { IsEmptyTables result }
     {
         Tables {
             objective: None,
-            rows: IndexMap::new(alloc),
-            columns: IndexMap::new(alloc),
+            rows: IndexMap::with_hasher(alloc, seed),
+            columns: IndexMap::with_hasher(alloc, seed),
             recent_row: 0,
             recent: 0,
         }

@@ -9,7 +9,7 @@ ghost use Rattle.mpslp_lines.specs.Pieces.{IsFed, WasFed, Feeds, EndsText};
 use crate::line_ends::{split_after_last_feed, split_at_first_feed, without_return};
 use crate::open_line::OpenLine;
 use crate::read_lines::{ReadLines, read_lines};
-use mpslp_model::{Model, ReadFault};
+use mpslp_model::{HashSeed, Model, ReadFault};
 use std::alloc::Global;
 
 /// Reads a text that comes in pieces. Lines that are complete within a piece are read in place, and a line that crosses
@@ -25,11 +25,11 @@ pub struct PieceReader<L> {
 
 impl<L: ReadLines> PieceReader<L> {
     /// A reader that has read nothing. Does not allocate.
-    pub fn new(alloc: Global) -> PieceReader<L>
+    pub fn new(alloc: Global, seed: HashSeed) -> PieceReader<L>
         ensures { IsFed L.has_read L.at_end result [] }
     {
         PieceReader {
-            lines: L::new(alloc),
+            lines: L::new(alloc, seed),
             open_line: OpenLine::new(alloc),
         }
     }

@@ -9,7 +9,7 @@ ghost use Rattle.mpslp_lines.specs.FaultTests.{has_legal_length};
 ghost use Rattle.mpslp_lines.specs.LinesRead.{IsReader, RefusesLines, ReadsOn};
 
 use bstr::ByteSlice;
-use mpslp_model::{Model, ReadFault};
+use mpslp_model::{HashSeed, Model, ReadFault};
 use std::alloc::Global;
 
 /// Reads the lines of a text one after another, up to the one that ends it, and keeps none of them. After an error the
@@ -31,7 +31,7 @@ pub trait ReadLines: Drop {
     ghost first_fault: { List ℕ → Fault → Type 0 };
 
     /// A reader that has read nothing. Does not allocate.
-    fn new(alloc: Global) -> Self
+    fn new(alloc: Global, seed: HashSeed) -> Self
         ensures { has_read result [] };
 
     /// Whether the line that ends the text was read.

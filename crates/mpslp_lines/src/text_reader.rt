@@ -2,7 +2,7 @@
 
 use crate::piece_reader::PieceReader;
 use crate::read_lines::ReadLines;
-use mpslp_model::{ModelReader, ReadFault};
+use mpslp_model::{HashSeed, ModelReader, ReadFault};
 use std::alloc::Global;
 use std::marker::Model;
 
@@ -41,9 +41,9 @@ impl<L: ReadLines> ModelReader for TextReader<L> {
 
     ghost early_fault = { IsFaultOfComplete L.lines_fault };
 
-    fn new(alloc: Global) -> TextReader<L> {
+    fn new(alloc: Global, seed: HashSeed) -> TextReader<L> {
         TextReader {
-            pieces: Some(PieceReader::new(alloc)),
+            pieces: Some(PieceReader::new(alloc, seed)),
             alloc,
         }
     }

@@ -1,8 +1,7 @@
-use Rattle.std.proofs.Common.{sym, ap, true, false}
+use Rattle.std.proofs.Common.{sym, ap, true, false, refl}
 use Rattle.std.specs.Prelude.{None, Bool, ◌||◌}
 use Rattle.std.specs.Option.{option_map_or}
 use Rattle.mpslp_types.specs.Limit.{is_plus_infinite, is_minus_infinite}
-use Rattle.std.proofs.Common.{refl}
 use Rattle.mpslp_builder.specs.Answer.{first_refusal}
 use Rattle.mpslp_builder.proofs.TestLemmas.{sides_stated}
 use Rattle.mpslp_builder.proofs.tables.Tables.bounds_target.Goals as goal

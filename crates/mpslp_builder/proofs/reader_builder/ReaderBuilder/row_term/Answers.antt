@@ -3,14 +3,14 @@ use Rattle.mpslp_builder.specs.Declaration.{Draft}
 use Rattle.mpslp_builder.specs.RowTerms.{term_declared, DeclaresInTurn}
 use Rattle.mpslp_builder.specs.Tables.{draft}
 use Rattle.mpslp_builder.proofs.TermLemmas.{in_turn}
-use Rattle.mpslp_builder.proofs.builder.Builder.row_term.Goals as goal
+use Rattle.mpslp_builder.proofs.reader_builder.ReaderBuilder.row_term.Goals as goal
 
-pub invariant_of-self : goal.invariant_of-self
-invariant_of-self c = (c.lay_term.ensures.kept.made c.self.inside.sense c.self.inside.constant c.self.invariant.0, c.lay_term.ensures.kept.numbered)
+pub invariant_of-draft : goal.invariant_of-draft
+invariant_of-draft c = (c.lay_term.ensures.kept.made c.draft.inside.sense c.draft.inside.constant c.draft.invariant.0, c.lay_term.ensures.kept.numbered)
 
 pub returns-in-Some-clause-declared : goal.returns-in-Some-clause-declared
 returns-in-Some-clause-declared c =
-    let b = c.self.inside in
+    let b = c.draft.inside in
     let ds = term_declared c.args.row.now (c.args.column.now, c.args.value) in
-    subst (λ (all : Draft). DeclaresInTurn all ds c.lay_term.result (draft b.sense b.constant c.lay_term.new.self)) c.self.view_is
+    subst (λ (all : Draft). DeclaresInTurn all ds c.lay_term.result (draft b.sense b.constant c.lay_term.new.self)) c.draft.view_is
     (in_turn b.sense b.constant b.tables c.lay_term.new.self ds c.lay_term.result (c.lay_term.ensures.laid c.args.row.now c.in-Some.ensures.number))

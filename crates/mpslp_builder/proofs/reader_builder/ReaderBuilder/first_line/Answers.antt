@@ -7,27 +7,22 @@ use Rattle.mpslp_builder.specs.Tables.{draft}
 use Rattle.mpslp_builder.specs.ColumnLine.{listed, entry_declared, column_line}
 use Rattle.mpslp_builder.proofs.LineLemmas.{laid_then}
 use Rattle.mpslp_builder.proofs.LineRefusals.{rows_known}
-use Rattle.mpslp_builder.proofs.builder.Builder.first_line.Goals as goal
+use Rattle.mpslp_builder.proofs.reader_builder.ReaderBuilder.first_line.Goals as goal
 
-pub invariant_of-self : goal.invariant_of-self
-invariant_of-self c = (c.start_column.ensures.kept.made c.self.inside.sense c.self.inside.constant c.self.invariant.0, c.start_column.ensures.kept.numbered)
+pub invariant_of-draft : goal.invariant_of-draft
+invariant_of-draft c = (c.start_column.ensures.kept.made c.draft.inside.sense c.draft.inside.constant c.draft.invariant.0, c.start_column.ensures.kept.numbered)
 
-pub invariant_of-self-in_err-put_line : goal.invariant_of-self-in_err-put_line
-invariant_of-self-in_err-put_line c =
-    let b = c.self.inside in
-    (c.put_line.ensures.kept.made b.sense b.constant (c.start_column.ensures.kept.made b.sense b.constant c.self.invariant.0), c.put_line.ensures.kept.numbered)
-
-pub invariant_of-self-2 : goal.invariant_of-self-2
-invariant_of-self-2 c =
-    let b = c.self.inside in
-    (c.put_line.ensures.kept.made b.sense b.constant (c.start_column.ensures.kept.made b.sense b.constant c.self.invariant.0), c.put_line.ensures.kept.numbered)
+pub invariant_of-draft-2 : goal.invariant_of-draft-2
+invariant_of-draft-2 c =
+    let b = c.draft.inside in
+    (c.put_line.ensures.kept.made b.sense b.constant (c.start_column.ensures.kept.made b.sense b.constant c.draft.invariant.0), c.put_line.ensures.kept.numbered)
 
 pub returns-clause-absent : goal.returns-clause-absent
-returns-clause-absent c = λ _. ap (has_column c.args.self.now) (sym c.as_bytes.ensures) ∙ sym c.has_column.ensures ∙ c.if-has_column.false
+returns-clause-absent c = λ _. ap (has_column c.args.self.now.draft) (sym c.as_bytes.ensures) ∙ sym c.has_column.ensures ∙ c.if-has_column.false
 
 pub returns-clause-taken : goal.returns-clause-taken
 returns-clause-taken c =
-    let b = c.self.inside in
+    let b = c.draft.inside in
     let inner = draft b.sense b.constant b.tables in
     let marked = c.args.is_marked in
     let entries = listed c.args.entries.now in
@@ -36,18 +31,18 @@ returns-clause-taken c =
     let laid =
     laid_then b.tables c.start_column.new.self c.put_line.new.self (declare_column given ∷ []) (when marked (declare_marked given) ++ flat_map (entry_declared given) entries) started.laid
     (c.in_ok-put_line.ensures.ok given started.named) in (
-      ap (λ (d : Draft). refusals_in_turn d (column_line marked c.args.name entries)) (sym c.self.view_is)
+      ap (λ (d : Draft). refusals_in_turn d (column_line marked c.args.name entries)) (sym c.draft.view_is)
           ∙ laid.free b.sense b.constant,
-      laid.laid b.sense b.constant ∙ ap (λ (d : Draft). with_declarations d (column_line marked c.args.name entries)) c.self.view_is,
+      laid.laid b.sense b.constant ∙ ap (λ (d : Draft). with_declarations d (column_line marked c.args.name entries)) c.draft.view_is,
     )
 
 pub returns-in_default-clause-refused : goal.returns-in_default-clause-refused
 returns-in_default-clause-refused c =
-    let b = c.self.inside in
+    let b = c.draft.inside in
     let entries = c.args.entries.now in
     let line = column_line c.args.is_marked c.args.name (listed entries) in
     λ _ _ free.
-    not_found (c.in_default.ensures.found (rows_known b.sense b.constant b.tables c.args.is_marked c.args.name entries (ap (λ (d : Draft). refusals_in_turn d line) c.self.view_is ∙ free)))
+    not_found (c.in_default.ensures.found (rows_known b.sense b.constant b.tables c.args.is_marked c.args.name entries (ap (λ (d : Draft). refusals_in_turn d line) c.draft.view_is ∙ free)))
   where
     not_found : false ≡ true → ⊥
     not_found h = cc

@@ -4,19 +4,19 @@ use Rattle.mpslp_builder.specs.Declaration.{Draft, has_row}
 use Rattle.mpslp_builder.specs.RowTerms.{term_declared, DeclaresInTurn}
 use Rattle.mpslp_builder.specs.Tables.{draft}
 use Rattle.mpslp_builder.proofs.TermLemmas.{in_turn, rows_unknown}
-use Rattle.mpslp_builder.proofs.builder.Builder.row_terms.Goals as goal
+use Rattle.mpslp_builder.proofs.reader_builder.ReaderBuilder.row_terms.Goals as goal
 
-pub invariant_of-self : goal.invariant_of-self
-invariant_of-self c = (c.lay_terms.ensures.kept.made c.self.inside.sense c.self.inside.constant c.self.invariant.0, c.lay_terms.ensures.kept.numbered)
+pub invariant_of-draft : goal.invariant_of-draft
+invariant_of-draft c = (c.lay_terms.ensures.kept.made c.draft.inside.sense c.draft.inside.constant c.draft.invariant.0, c.lay_terms.ensures.kept.numbered)
 
 pub returns-in-Some-clause-declared : goal.returns-in-Some-clause-declared
 returns-in-Some-clause-declared c =
-    let b = c.self.inside in
+    let b = c.draft.inside in
     let ds = flat_map (term_declared c.args.row.now) c.args.terms.now in
-    subst (λ (all : Draft). DeclaresInTurn all ds c.lay_terms.result (draft b.sense b.constant c.lay_terms.new.self)) c.self.view_is
+    subst (λ (all : Draft). DeclaresInTurn all ds c.lay_terms.result (draft b.sense b.constant c.lay_terms.new.self)) c.draft.view_is
     (in_turn b.sense b.constant b.tables c.lay_terms.new.self ds c.lay_terms.result (c.lay_terms.ensures.laid c.args.row.now c.in-Some.ensures.number))
 
 pub returns-in-None-clause-declared : goal.returns-in-None-clause-declared
 returns-in-None-clause-declared c =
-    inr (rows_unknown c.args.self.now c.args.row.now c.args.terms.now (ap (λ (d : Draft). has_row d c.args.row.now) (sym c.self.view_is) ∙ sym c.in-None.ensures.found)
+    inr (rows_unknown c.args.self.now.draft c.args.row.now c.args.terms.now (ap (λ (d : Draft). has_row d c.args.row.now) (sym c.draft.view_is) ∙ sym c.in-None.ensures.found)
     (λ none. let is = c.is_empty.ensures.some none in let not_is : c.is_empty.result ≡ false = c.if-is_empty.false in cc))
