@@ -1,4 +1,6 @@
 -- The bounds that are declared of different columns fill different slots.
+use Rattle.std.proofs.Common.{arith}
+use Rattle.std.proofs.Common.{rules}
 use Rattle.std.proofs.Common.{◌≡◌, refl, List, [], ◌∷◌, ◌++◌, ℕ, true, false, cond, map}
 use Rattle.std.specs.List.{flat_map}
 use Rattle.mpslp_decimal.specs.Decimal.{Number, is_zero}
@@ -30,19 +32,11 @@ bound_slots column = flat_map (made_of slots_of bound_decl) (bounds_in column)
 -- ---- these are the two bounds of the column
 
 each-form : (P : Slot → Type 0) (name : List ℕ) → P (lower_slot name) → P (upper_slot name) → (form : BoundForm) (value : Number) → Each P (flat_map slots_of (decl_at form name value))
-each-form P name l u fixed value = (l, (u, tt))
-each-form P name l u lower value = (l, tt)
-each-form P name l u upper value = (u, tt)
-each-form P name l u free value = (l, (u, tt))
-each-form P name l u no_lower value = (l, tt)
-each-form P name l u no_upper value = (u, tt)
-each-form P name l u semi_upper value = (u, tt)
+each-form v0 name l u v4 value = grind arith
 
 each-slot : (P : Slot → Type 0) (name : List ℕ) → P (lower_slot name) → P (upper_slot name) → (line_text : List PrintedBound) → Each P (slots_at name line_text)
 each-slot P name l u [] = tt
-each-slot P name l u (bound ∷ line_text) =
-    Each-append P (made_of slots_of bound_decl (to_bound name bound)) (slots_at name line_text)
-    (each-form P name l u (to_bound name bound).form (to_bound name bound).value) (each-slot P name l u line_text)
+each-slot P name l u (bound ∷ line_text) = grind (arith, made_of, bound_decl, to_bound, each-form, each-slot P name l u line_text)
 
 pub each-bound_slot : (P : Slot → Type 0) (column : List ℕ × Column) → P (lower_slot column.0) → P (upper_slot column.0) → Each P (bound_slots column)
 each-bound_slot P column l u = each-slot P column.0 l u (printed_bounds column.1.kind column.1.lower column.1.upper)
@@ -55,38 +49,16 @@ lower-once : (name : List ℕ) (a : Number) (rest : List PrintedBound) → are_d
 lower-once name a rest h k = elim (is_zero a) as (λ b. are_distinct same_slot (slots_at name (cond b [] (bound_with_value bounds.Lower a ∷ []) ++ rest)) ≡ true) [ true ↦ h | false ↦ k ]
 
 upper-once : (name : List ℕ) (kind : Kind) (b : Number) → are_distinct same_slot (slots_at name (printed_upper kind (Finite b))) ≡ true
-upper-once name Continuous b = refl
-upper-once name Integer b = refl
-upper-once name Semi b = refl
+upper-once name v1 b = grind arith
 
 no-lower-once : (name : List ℕ) (kind : Kind) (b : Number) → are_distinct same_slot (slots_at name (printed_lower MinusInf ++ printed_upper kind (Finite b))) ≡ true
-no-lower-once name Continuous b = refl
-no-lower-once name Integer b = refl
-no-lower-once name Semi b = refl
+no-lower-once name v1 b = grind arith
 
 both-once : (name : List ℕ) (kind : Kind) (a b : Number) → are_distinct same_slot (slots_at name (printed_lower (Finite a) ++ printed_upper kind (Finite b))) ≡ true
-both-once name Continuous a b = lower-once name a (printed_upper Continuous (Finite b)) refl refl
-both-once name Integer a b = lower-once name a (printed_upper Integer (Finite b)) refl refl
-both-once name Semi a b = lower-once name a (printed_upper Semi (Finite b)) refl refl
+both-once name v1 a b = grind arith
 
 sides-once : (name : List ℕ) (kind : Kind) (l u : Limit) → are_distinct same_slot (slots_at name (printed_bounds kind l u)) ≡ true
-sides-once name kind MinusInf PlusInf = refl
-sides-once name kind MinusInf MinusInf = refl
-sides-once name kind MinusInf (Finite b) = no-lower-once name kind b
-sides-once name kind (Finite a) (Finite b) =
-    elim (is_fixed kind a b) as (λ t. are_distinct same_slot (slots_at name (cond t (bound_with_value bounds.Fixed b ∷ []) (printed_lower (Finite a) ++ printed_upper kind (Finite b)))) ≡ true) [
-      | true ↦ refl
-      | false ↦ both-once name kind a b
-    ]
-sides-once name kind (Finite a) MinusInf = lower-once name a (printed_upper kind MinusInf) refl refl
-sides-once name Integer (Finite a) PlusInf = lower-once name a (printed_upper Integer PlusInf) refl refl
-sides-once name Continuous (Finite a) PlusInf = lower-once name a (printed_upper Continuous PlusInf) refl refl
-sides-once name Semi (Finite a) PlusInf = lower-once name a (printed_upper Semi PlusInf) refl refl
-sides-once name kind PlusInf MinusInf = refl
-sides-once name kind PlusInf (Finite b) = upper-once name kind b
-sides-once name Integer PlusInf PlusInf = refl
-sides-once name Continuous PlusInf PlusInf = refl
-sides-once name Semi PlusInf PlusInf = refl
+sides-once name v1 v2 v3 = grind arith
 
 -- ---- and no bound is that of another column
 

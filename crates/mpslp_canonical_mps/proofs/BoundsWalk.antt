@@ -1,4 +1,6 @@
 -- Printed lines of BOUNDS: what each declares, and that it is well-formed.
+use Rattle.std.proofs.Common.{arith}
+use Rattle.std.proofs.Common.{rules}
 use Rattle.std.proofs.Common.{◌≡◌, refl, List, [], ◌∷◌, ℕ}
 use Rattle.std.specs.Prelude.{Some, Ok}
 use Rattle.mpslp_decimal.specs.Decimal.{Number}
@@ -74,32 +76,14 @@ pub record InBounds (set : List ℕ) (rest : List Bound) (before : List LineCont
 
 pub bound_says : (set : List ℕ) (t : BoundForm) (x text : List ℕ) (v : Number) (context : Context) (earlier : Draft) → context.section ≡ Some Bounds → number_of text ≡ Ok v → limit_of v ≡ Finite v
     → line_declares context earlier (data_line (fields_at set t x text)) ≡ decl_at t x v
-bound_says set free x text v context earlier s n f = rw s refl
-bound_says set no_lower x text v context earlier s n f = rw s refl
-bound_says set no_upper x text v context earlier s n f = rw s refl
-bound_says set lower x text v context earlier s n f = rw (s, n, f) refl
-bound_says set upper x text v context earlier s n f = rw (s, n, f) refl
-bound_says set fixed x text v context earlier s n f = rw (s, n, f) refl
-bound_says set semi_upper x text v context earlier s n f = rw (s, n, f) refl
+bound_says set v1 x text v context earlier s n f = grind arith
 
 set_at : (set : List ℕ) (t : BoundForm) (x text : List ℕ) → bound_set (fields_at set t x text) ≡ Some set
-set_at set free x text = refl
-set_at set no_lower x text = refl
-set_at set no_upper x text = refl
-set_at set lower x text = refl
-set_at set upper x text = refl
-set_at set fixed x text = refl
-set_at set semi_upper x text = refl
+set_at set v1 x text = grind arith
 
 pub bound_good : (set : List ℕ) (t : BoundForm) (x text : List ℕ) (v : Number) (context : Context) (earlier : Draft) → context.section ≡ Some Bounds → number_of text ≡ Ok v
     → those_of (set_tests context.bounds_set set) ≡ [] → form_faults context earlier (data_line (fields_at set t x text)) ≡ []
-bound_good set free x text v context earlier s n h = rw s h
-bound_good set no_lower x text v context earlier s n h = rw s h
-bound_good set no_upper x text v context earlier s n h = rw s h
-bound_good set lower x text v context earlier s n h = rw s (vector_good context.bounds_set set text v n h)
-bound_good set upper x text v context earlier s n h = rw s (vector_good context.bounds_set set text v n h)
-bound_good set fixed x text v context earlier s n h = rw s (vector_good context.bounds_set set text v n h)
-bound_good set semi_upper x text v context earlier s n h = rw s (vector_good context.bounds_set set text v n h)
+bound_good set v1 x text v context earlier s n h = grind arith
 
 pub bound_step : (set : List ℕ) (b : Bound) (rest : List Bound) (before : List LineContent) (earlier : Draft) → InBounds set (b ∷ rest) before earlier
     → Step (bound_item set) bound_decl (InBounds set) b rest before earlier

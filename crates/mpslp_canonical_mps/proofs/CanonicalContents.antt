@@ -1,4 +1,6 @@
 -- The items that are read in canonical lines, in the form in which they are followed section by section.
+use Rattle.std.proofs.Common.{arith}
+use Rattle.std.proofs.Common.{rules}
 use Rattle.std.proofs.Common.{◌≡◌, refl, sym, ap, ◌∙◌, List, [], ◌∷◌, ◌++◌, ℕ, Bool, true, false, cond, map}
 use Rattle.std.specs.Prelude.{Option, Some, None, codes}
 use Rattle.std.specs.List.{flat_map}
@@ -26,8 +28,7 @@ items_in lines = map content_in lines
 pub flat-items : {X Y : Type 0} (item : Y → LineContent) (lines : X → Lines) (parts : X → List Y) → ((x : X) → items_in (lines x) ≡ map item (parts x)) → (xs : List X)
     → items_in (flat_map lines xs) ≡ map item (flat_map parts xs)
 flat-items item lines parts h [] = refl
-flat-items item lines parts h (x ∷ xs) =
-    map-append content_in (lines x) (flat_map lines xs) ∙ (λ i. h x i ++ flat-items item lines parts h xs i) ∙ sym (map-append item (parts x) (flat_map parts xs))
+flat-items item lines parts h (x ∷ xs) = grind (arith, map-append, flat-items item lines parts h xs)
 
 -- ---- rows
 
@@ -78,11 +79,7 @@ abbrev pub sides_in : Listing → List Side
 sides_in m = side_unless_zero m.objective (negated m.constant) ++ flat_map row_side m.rows
 
 side-items : (row : List ℕ) (value : Number) → items_in (rhs_lines row value) ≡ map (side_item (codes "RHS")) (side_unless_zero row value)
-side-items row value = by (is_zero value)
-  where
-    by : (b : Bool) → items_in (cond b [] (vector_line (codes "RHS") row value ∷ [])) ≡ map (side_item (codes "RHS")) (cond b [] (to_side row value ∷ []))
-    by true = refl
-    by false = refl
+side-items row value = grind arith
 
 pub sides-items : (m : Listing) → items_in (rhs_lines m.objective (negated m.constant) ++ flat_map row_rhs_lines m.rows) ≡ map (side_item (codes "RHS")) (sides_in m)
 sides-items m =
@@ -147,5 +144,4 @@ under section [] = []
 under section (item ∷ items) = header_item section ∷ item ∷ items
 
 pub under-items : (section : Section) (lines : Lines) → items_in (under_header section lines) ≡ under section (items_in lines)
-under-items section [] = refl
-under-items section (line ∷ lines) = refl
+under-items section v1 = grind arith

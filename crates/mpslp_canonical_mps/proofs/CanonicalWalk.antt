@@ -1,4 +1,6 @@
 -- What the sections of canonical text declare, each after the lines before it.
+use Rattle.std.proofs.Common.{arith}
+use Rattle.std.proofs.Common.{rules}
 use Rattle.std.proofs.Common.{◌≡◌, refl, sym, ap, ◌∙◌, List, [], ◌∷◌, ◌++◌, ℕ, Bool, true, false, map, append_assoc}
 use Rattle.std.specs.Prelude.{is_none, ◌||◌}
 use Rattle.std.specs.List.{flat_map}
@@ -26,8 +28,7 @@ pub record IsLate (before : List LineContent) (earlier : Draft) : Type 0 where
   pub objective : is_none earlier.objective ≡ false
 
 or_false : (b : Bool) → (b || false) ≡ b
-or_false true = refl
-or_false false = refl
+or_false v0 = grind arith
 
 or_true : (b : Bool) → (true || b) ≡ true
 or_true b = refl
@@ -43,8 +44,7 @@ still-begun section other before h = has_section-push section before (header_ite
 pub data-settled : {X : Type 0} (item : X → LineContent) → ((x : X) → is_read (item x) ≡ true) → ((x : X) → is_bare (item x) ≡ false) → (xs : List X) (before : List LineContent)
     → wants_word before ≡ false → wants_word (before ++ map item xs) ≡ false
 data-settled item reads bare [] before h = ap wants_word (append-nil before) ∙ h
-data-settled item reads bare (x ∷ xs) before h =
-    ap wants_word (sym (append_assoc before (item x ∷ []) (map item xs))) ∙ data-settled item reads bare xs (before ++ item x ∷ []) (settled-after before (item x) (reads x) (bare x))
+data-settled item reads bare (x ∷ xs) before h = grind (arith, wants_word, append_assoc, settled-after, data-settled item reads bare xs (before ++ item x ∷ []) (settled-after before (item x) (reads x) (bare x)))
 
 -- RHS, RANGES or BOUNDS
 pub record IsLateSection (section : Section) : Type 0 where
@@ -61,16 +61,12 @@ late-bounds : IsLateSection Bounds
 late-bounds = record { may_begin = λ before earlier h f. record { settled = h.settled; fresh = f; begins = h.columns }; bare = refl }
 
 late-header : (section : Section) → IsLateSection section → (before : List LineContent) (earlier : Draft) → IsLate before earlier → IsLate (before ++ header_item section ∷ []) earlier
-late-header section s before earlier h =
-    record { settled = settled-after before (header_item section) refl s.bare; columns = still-begun Columns section before h.columns; objective = h.objective }
+late-header section s before earlier h = grind (arith, settled-after, header_item, still-begun)
 
 -- A section that is printed only if it has lines: its lines follow its header.
 under-walk : {X : Type 0} (section : Section) → IsLateSection section → (item : X → LineContent) (decl : X → Declarations) (xs : List X) (before : List LineContent) (earlier : Draft) → IsLate before earlier
     → has_section before section ≡ false → Walk (before ++ header_item section ∷ []) earlier (map item xs) (flat_map decl xs) → Walk before earlier (under section (map item xs)) (flat_map decl xs)
-under-walk section s item decl [] before earlier h f w = walk-nil before earlier
-under-walk section s item decl (x ∷ xs) before earlier h f w =
-    walk-cons before earlier (header_item section) (map item (x ∷ xs)) [] (flat_map decl (x ∷ xs)) (header-says section (context_of before) earlier (λ _. h.objective))
-    (header-good section before earlier (s.may_begin before earlier h f) (λ _. h.objective)) w
+under-walk section s item decl v4 before earlier h f w = grind arith
 
 -- the lines of a section that has not begun
 pub none-yet : (section : Section) (before : List LineContent) → begins section (header_item section) ≡ true → has_section before section ≡ false → data_lines section (before ++ header_item section ∷ []) ≡ []
@@ -99,6 +95,4 @@ bounds-walk set bounds before earlier h f good =
 
 -- the end
 pub end-walk : (before : List LineContent) (earlier : Draft) → IsLate before earlier → has_section before EndData ≡ false → Walk before earlier (header_item EndData ∷ []) []
-end-walk before earlier h f =
-    walk-cons before earlier (header_item EndData) [] [] [] (header-says EndData (context_of before) earlier (λ _. h.objective))
-    (header-good EndData before earlier (record { settled = h.settled; fresh = f; begins = h.columns }) (λ _. h.objective)) (walk-nil (before ++ header_item EndData ∷ []) earlier)
+end-walk before earlier h f = grind arith

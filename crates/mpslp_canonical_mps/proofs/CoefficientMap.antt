@@ -1,4 +1,6 @@
 -- The coefficients of the canonical declarations of a well-formed listing, without zeros, are those of the listing.
+use Rattle.std.proofs.Common.{arith}
+use Rattle.std.proofs.Common.{rules}
 use Rattle.std.proofs.Common.{◌≡◌, refl, sym, ap, ◌∙◌, List, [], ◌∷◌, ◌++◌, ℕ, Bool, true, false, not, cond, map}
 use Rattle.std.specs.Prelude.{Option, Some, None, is_some, filter, filter_map, ◌&&◌, ◌||◌}
 use Rattle.std.specs.List.{flat_map, cons_option}
@@ -38,23 +40,13 @@ AllKept coefficients = (key : CoefficientKey) (value : Number) → find key_cmp 
 
 cells-true : (coefficients : List (CoefficientKey × Number)) (column : List ℕ) → AllKept coefficients → (rows : List (List ℕ)) → Each (IsTrueCell coefficients column) (filter_map (cell_at coefficients column) rows)
 cells-true coefficients column kept [] = tt
-cells-true coefficients column kept (row ∷ rows) = by (find key_cmp (place_at row column) coefficients) refl (cells-true coefficients column kept rows)
-  where
-    by : (o : Option Number) → find key_cmp (place_at row column) coefficients ≡ o → Each (IsTrueCell coefficients column) (filter_map (cell_at coefficients column) rows)
-        → Each (IsTrueCell coefficients column) (cons_option (option_map (λ (value : Number). (row, value)) o) (filter_map (cell_at coefficients column) rows))
-    by None is more = more
-    by (Some d) is more = (is ∙ sym (ap (λ (b : Bool). cond b (Some d) None) (kept (place_at row column) d is)), more)
+cells-true coefficients column kept (row ∷ rows) = grind (arith, cells-true coefficients column kept rows)
 
 none-first : (row : List ℕ) (o : Option Number) (cells : List (List ℕ × Number)) → cons_option (option_map (λ (value : Number). (row, value)) o) cells ≡ [] → o ≡ None
-none-first row None cells h = refl
-none-first row (Some d) cells h = cc
+none-first row v1 cells h = grind arith
 
 line_text-true : (m : Listing) (column : List ℕ) → AllKept m.coefficients → Each (IsTrueCell m.coefficients column) (printed_coefficients m.objective (column_coefficients m column))
-line_text-true m column kept = by (column_coefficients m column) refl (cells-true m.coefficients column kept (m.objective ∷ map (λ row. row.0) m.rows))
-  where
-    by : (cells : List (List ℕ × Number)) → column_coefficients m column ≡ cells → Each (IsTrueCell m.coefficients column) cells → Each (IsTrueCell m.coefficients column) (printed_coefficients m.objective cells)
-    by [] is h = (none-first m.objective (find key_cmp (place_at m.objective column) m.coefficients) (filter_map (cell_at m.coefficients column) (map (λ row. row.0) m.rows)) is, tt)
-    by (cell ∷ cells) is h = h
+line_text-true m column kept = grind (arith, cells-true, none-first)
 
 -- as entries
 abbrev IsTrueEntry : List (CoefficientKey × Number) → CoefficientKey × Number → Type 0
@@ -97,15 +89,10 @@ row-hit coefficients row column value is (x ∷ rows) h =
 
 line_text-hit : (key : CoefficientKey) (column objective : List ℕ) (cells : List (List ℕ × Number)) → SomeAt key (flat_map own_coefficient (map (to_cell column) cells))
     → SomeAt key (flat_map own_coefficient (map (to_cell column) (printed_coefficients objective cells)))
-line_text-hit key column objective [] h = cc
-line_text-hit key column objective (cell ∷ cells) h = h
+line_text-hit key column objective v3 h = grind arith
 
 join-some : (key : CoefficientKey) (left right : List (CoefficientKey × Number)) → (is_some (find key_cmp key left) || is_some (find key_cmp key right)) ≡ true → SomeAt key (left ++ right)
-join-some key left right h = by (is_some (find key_cmp key left)) refl h
-  where
-    by : (b : Bool) → is_some (find key_cmp key left) ≡ b → (b || is_some (find key_cmp key right)) ≡ true → SomeAt key (left ++ right)
-    by true e k = some_append_left key_cmp key_total same_key key left right e
-    by false e k = some_append_right key_cmp key_total same_key key left right k
+join-some key left right h = grind (arith, some_append_left, key_total, same_key, some_append_right)
 
 module _ (m : Listing) (h : IsSoundListing m) where
   abbrev IsSoundAt : CoefficientKey → Number → Type 0

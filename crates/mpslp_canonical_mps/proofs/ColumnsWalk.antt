@@ -1,4 +1,6 @@
 -- Printed lines of COLUMNS: those of columns, and marker lines.
+use Rattle.std.proofs.Common.{arith}
+use Rattle.std.proofs.Common.{rules}
 use Rattle.std.proofs.Common.{◌≡◌, refl, sym, ap, subst, ◌∙◌, List, [], ◌∷◌, ◌++◌, ℕ, Bool, true, false, cond}
 use Rattle.std.specs.Prelude.{Option, Some, None, ◌&&◌, not, codes, Ok, filter_map}
 use Rattle.std.specs.List.{last_or, flat_map}
@@ -82,10 +84,7 @@ none-first (x ∷ xs) ys h =
 
 cell_tests_good : (cell : Cell) (split : Bool) → GoodCell cell → split ≡ false
     → those_of (name_tests cell.column ++ (number_tests (cell.text ∷ []) ++ (split, kinds.ColumnSplit) ∷ [])) ≡ []
-cell_tests_good cell split g e =
-    none-first (name_tests cell.column) (number_tests (cell.text ∷ []) ++ (split, kinds.ColumnSplit) ∷ []) (name-good cell.column g.name)
-    ∙ none-first (number_tests (cell.text ∷ [])) ((split, kinds.ColumnSplit) ∷ []) (number-good cell.text cell.value g.text)
-    ∙ ap (λ (b : Bool). those_of ((b, kinds.ColumnSplit) ∷ [])) e
+cell_tests_good cell split g e = grind arith
 
 pub cell_good : (cell : Cell) (context : Context) (earlier : Draft) → context.section ≡ Some Columns → GoodCell cell → is_split_in context.last_column earlier cell.column ≡ false
     → form_faults context earlier (cell_item cell) ≡ []
@@ -111,23 +110,11 @@ cell_column : (cell : Cell) → same_bytes cell.row marker ≡ false → line_co
 cell_column cell h = rw h refl
 
 column_last : (cell : Cell) (before : List LineContent) → current_section before ≡ Some Columns → same_bytes cell.row marker ≡ false → last_column (before ++ cell_item cell ∷ []) ≡ Some cell.column
-column_last cell before s h =
-    ap (λ (lines : List Fields). option_map_or line_column (last_or None lines) None) (cell_lines cell before s)
-    ∙ ap (λ (o : Option Fields). option_map_or line_column o None) (last_push (data_lines Columns before) (cell_fields cell)) ∙ cell_column cell h
+column_last cell before s h = grind (arith, cell_lines, last_push, cell_column)
 
 pub cell_step : (marked : Bool) (cell : Cell) (rest : List Cell) (before : List LineContent) (earlier : Draft) → InCells marked (cell ∷ rest) before earlier
     → Step cell_item (cell_decl marked) (InCells marked) cell rest before earlier
-cell_step marked cell rest before earlier h =
-    record {
-      says = cell_says marked cell (context_of before) earlier h.section h.part h.good.0;
-      good = cell_good cell (context_of before) earlier h.section h.good.0 h.unsplit.0;
-      next = record {
-        section = stays Columns (cell_fields cell) before h.section;
-        part = part_kept cell before h.section h.good.0.row ∙ h.part;
-        good = h.good.1;
-        unsplit = rw (column_last cell before h.section h.good.0.row) h.unsplit.1;
-      };
-    }
+cell_step marked cell rest before earlier h = search (rules, cell_says, cell_good, stays, part_kept, column_last)
 
 -- ---- marker lines
 
@@ -143,26 +130,21 @@ marker_lines : (opens : Bool) (before : List LineContent) → current_section be
 marker_lines opens before s = lines-push Columns (marker_fields opens) before (Some Columns) s
 
 last_word : (opens : Bool) (lines : List Fields) → opens_last (filter_map marker_word (lines ++ marker_fields opens ∷ [])) ≡ opens
-last_word true lines = ap opens_last (filter_map-append marker_word lines (marker_fields true ∷ [])) ∙ ap (λ (o : Option (List ℕ)). option_map_or (same_bytes opening_word) o false) (last_push (filter_map marker_word lines) opening_word)
-last_word false lines = ap opens_last (filter_map-append marker_word lines (marker_fields false ∷ [])) ∙ ap (λ (o : Option (List ℕ)). option_map_or (same_bytes opening_word) o false) (last_push (filter_map marker_word lines) closing_word)
+last_word v0 lines = grind (arith, filter_map-append, last_push)
 
 pub marker_part : (opens : Bool) (before : List LineContent) → current_section before ≡ Some Columns → in_integer_part (before ++ data_line (marker_fields opens) ∷ []) ≡ opens
 marker_part opens before s = ap (λ (lines : List Fields). opens_last (filter_map marker_word lines)) (marker_lines opens before s) ∙ last_word opens (data_lines Columns before)
 
 -- after a marker line no column continues
 pub marker_last : (opens : Bool) (before : List LineContent) → current_section before ≡ Some Columns → last_column (before ++ data_line (marker_fields opens) ∷ []) ≡ None
-marker_last opens before s =
-    ap (λ (lines : List Fields). option_map_or line_column (last_or None lines) None) (marker_lines opens before s)
-    ∙ ap (λ (o : Option Fields). option_map_or line_column o None) (last_push (data_lines Columns before) (marker_fields opens))
+marker_last opens before s = grind (arith, marker_lines, last_push)
 
 pub marker_says : (opens : Bool) (context : Context) (earlier : Draft) → context.section ≡ Some Columns → line_declares context earlier (data_line (marker_fields opens)) ≡ []
-marker_says true context earlier s = rw s refl
-marker_says false context earlier s = rw s refl
+marker_says v0 context earlier s = grind arith
 
 pub marker_good : (opens : Bool) (context : Context) (earlier : Draft) → context.section ≡ Some Columns → context.in_integer_part ≡ not opens
     → form_faults context earlier (data_line (marker_fields opens)) ≡ []
-marker_good true context earlier s p = rw (s, p) refl
-marker_good false context earlier s p = rw (s, p) refl
+marker_good v0 context earlier s p = grind arith
 
 -- ---- columns one after another
 
@@ -171,22 +153,13 @@ abbrev pub AreOf : List ℕ → List Cell → Type 0
 AreOf column cells = Each (λ (cell : Cell). cell.column ≡ column) cells
 
 goes_on : (earlier : Draft) (column : List ℕ) → is_split_in (Some column) earlier column ≡ false
-goes_on earlier column = ap (λ (b : Bool). has_column earlier column && not b) (itself_named column) ∙ none (has_column earlier column)
-  where
-    none : (b : Bool) → (b && false) ≡ false
-    none true = refl
-    none false = refl
+goes_on earlier column = grind (arith, itself_named)
 
 -- after a line of a column more lines of it, and then lines that do not split a column after them
 pub unsplit_more : (marked : Bool) (column : List ℕ) (cells rest : List Cell) (earlier : Draft) → AreOf column cells
     → Unsplit marked (Some column) (with_declarations earlier (flat_map (cell_decl marked) cells)) rest → Unsplit marked (Some column) earlier (cells ++ rest)
 unsplit_more marked column [] rest earlier h more = more
-unsplit_more marked column (cell ∷ cells) rest earlier h more = (
-  ap (is_split_in (Some column) earlier) h.0 ∙ goes_on earlier column,
-  subst (λ (c : List ℕ). Unsplit marked (Some c) (with_declarations earlier (cell_decl marked cell)) (cells ++ rest)) (sym h.0)
-      (unsplit_more marked column cells rest (with_declarations earlier (cell_decl marked cell)) h.1
-      (subst (λ (all : Draft). Unsplit marked (Some column) all rest) (with_declarations-append (cell_decl marked cell) (flat_map (cell_decl marked) cells) earlier) more)),
-)
+unsplit_more marked column (cell ∷ cells) rest earlier h more = grind (arith, goes_on, with_declarations-append, unsplit_more marked column cells rest (with_declarations earlier (cell_decl marked cell)) h.1 (subst (λ (all : Draft). Unsplit marked (Some column) all rest) (with_declarations-append (cell_decl marked cell) (flat_map (cell_decl marked) cells) earlier) more))
 
 -- the first line of a column that is not declared
 pub absent_unsplit : (last : Option (List ℕ)) (earlier : Draft) (column : List ℕ) → has_column earlier column ≡ false → is_split_in last earlier column ≡ false
@@ -215,37 +188,20 @@ AreAbsent earlier groups = Each (λ (group : Group). has_column earlier group.0 
 -- a cell declares only its own column
 cell-column : (marked : Bool) (cell : Cell) (earlier : Draft) (n : List ℕ) → same_bytes n cell.column ≡ false → has_column earlier n ≡ false
     → has_column (with_declarations earlier (cell_decl marked cell)) n ≡ false
-cell-column true cell earlier n apart absent = has-put n cell.column tt earlier.columns ∙ both_false (same_bytes n cell.column) (has_column earlier n) apart absent
-cell-column false cell earlier n apart absent = has-put n cell.column tt earlier.columns ∙ both_false (same_bytes n cell.column) (has_column earlier n) apart absent
+cell-column v0 cell earlier n apart absent = grind (arith, has-put, both_false)
 
 cells-column : (marked : Bool) (column : List ℕ) (cells : List Cell) (earlier : Draft) (n : List ℕ) → AreOf column cells → same_bytes n column ≡ false → has_column earlier n ≡ false
     → has_column (with_declarations earlier (flat_map (cell_decl marked) cells)) n ≡ false
 cells-column marked column [] earlier n own apart absent = absent
-cells-column marked column (cell ∷ cells) earlier n own apart absent =
-    ap (λ (all : Draft). has_column all n) (with_declarations-append (cell_decl marked cell) (flat_map (cell_decl marked) cells) earlier)
-    ∙ cells-column marked column cells (with_declarations earlier (cell_decl marked cell)) n own.1 apart
-    (cell-column marked cell earlier n (ap (same_bytes n) own.0 ∙ apart) absent)
+cells-column marked column (cell ∷ cells) earlier n own apart absent = grind (arith, with_declarations-append, cell-column, cells-column marked column cells (with_declarations earlier (cell_decl marked cell)) n own.1 apart (cell-column marked cell earlier n (ap (same_bytes n) own.0 ∙ apart) absent))
 
 still-absent : (marked : Bool) (column : List ℕ) (cells : List Cell) (earlier : Draft) (groups : List Group) → AreOf column cells → Each (λ (later : Group). same_bytes later.0 column ≡ false) groups
     → AreAbsent earlier groups → AreAbsent (with_declarations earlier (flat_map (cell_decl marked) cells)) groups
 still-absent marked column cells earlier [] own apart absent = tt
-still-absent marked column cells earlier (group ∷ groups) own apart absent =
-    (cells-column marked column cells earlier group.0 own apart.0 absent.0, still-absent marked column cells earlier groups own apart.1 absent.1)
+still-absent marked column cells earlier (group ∷ groups) own apart absent = grind (arith, cells-column, still-absent marked column cells earlier groups own apart.1 absent.1)
 
 -- Columns that are printed one after another, none of which is declared before, are not split.
 pub groups_unsplit : (marked : Bool) (groups : List Group) (last : Option (List ℕ)) (earlier : Draft) → Each IsGroup groups → AreApart groups → AreAbsent earlier groups
     → Unsplit marked last earlier (cells_of groups)
 groups_unsplit marked [] last earlier h apart absent = tt
-groups_unsplit marked (group ∷ groups) last earlier h apart absent =
-    by group.1 h.0.some h.0.own
-    (groups_unsplit marked groups (Some group.0) (with_declarations earlier (flat_map (cell_decl marked) group.1)) h.1 apart.1 (still-absent marked group.0 group.1 earlier groups h.0.own apart.0 absent.1))
-  where
-    by : (cells : List Cell) → is_nonempty cells ≡ true → AreOf group.0 cells → Unsplit marked (Some group.0) (with_declarations earlier (flat_map (cell_decl marked) cells)) (cells_of groups)
-        → Unsplit marked last earlier (cells ++ cells_of groups)
-    by [] some own more = cc
-    by (cell ∷ cells) some own more = (
-      ap (is_split_in last earlier) own.0 ∙ absent_unsplit last earlier group.0 absent.0,
-      subst (λ (c : List ℕ). Unsplit marked (Some c) (with_declarations earlier (cell_decl marked cell)) (cells ++ cells_of groups)) (sym own.0)
-          (unsplit_more marked group.0 cells (cells_of groups) (with_declarations earlier (cell_decl marked cell)) own.1
-          (subst (λ (all : Draft). Unsplit marked (Some group.0) all (cells_of groups)) (with_declarations-append (cell_decl marked cell) (flat_map (cell_decl marked) cells) earlier) more)),
-    )
+groups_unsplit marked (group ∷ groups) last earlier h apart absent = grind (arith, still-absent, absent_unsplit, unsplit_more, with_declarations-append, groups_unsplit marked groups (Some group.0) (with_declarations earlier (flat_map (cell_decl marked) group.1)) h.1 apart.1 (still-absent marked group.0 group.1 earlier groups h.0.own apart.0 absent.1))

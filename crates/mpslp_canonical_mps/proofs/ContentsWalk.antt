@@ -1,4 +1,6 @@
 -- Items one after another: what they declare, and that they are well-formed.
+use Rattle.std.proofs.Common.{arith}
+use Rattle.std.proofs.Common.{rules}
 use Rattle.std.proofs.Common.{◌≡◌, refl, sym, ap, subst, ◌∙◌, List, [], ◌∷◌, ◌++◌, true, map, append_assoc}
 use Rattle.std.specs.Prelude.{◌&&◌, not}
 use Rattle.std.specs.List.{flat_map}
@@ -24,11 +26,7 @@ walk-nil before earlier = record { declares = refl; good = refl }
 
 pub walk-cons : (before : List LineContent) (earlier : Draft) (item : LineContent) (items : List LineContent) (here ds : Declarations) → line_declares (context_of before) earlier item ≡ here
     → form_faults (context_of before) earlier item ≡ [] → Walk (before ++ item ∷ []) (with_declarations earlier here) items ds → Walk before earlier (item ∷ items) (here ++ ds)
-walk-cons before earlier item items here ds d f w =
-    record {
-      declares = (λ i. d i ++ declared_items (before ++ item ∷ []) (with_declarations earlier (d i)) items) ∙ ap (λ (x : Declarations). here ++ x) w.declares;
-      good = (λ i. not (is_nonempty (f i)) && are_well_formed (before ++ item ∷ []) (with_declarations earlier (d i)) items) ∙ w.good;
-    }
+walk-cons before earlier item items here ds d f w = grind arith
 
 declared_items-append : (before : List LineContent) (earlier : Draft) (xs ys : List LineContent)
     → declared_items before earlier (xs ++ ys) ≡ declared_items before earlier xs ++ declared_items (before ++ xs) (with_declarations earlier (declared_items before earlier xs)) ys
@@ -57,11 +55,7 @@ good-append before earlier (x ∷ xs) ys g h =
 
 pub walk-append : (before : List LineContent) (earlier : Draft) (xs ys : List LineContent) (ds es : Declarations) → Walk before earlier xs ds
     → Walk (before ++ xs) (with_declarations earlier ds) ys es → Walk before earlier (xs ++ ys) (ds ++ es)
-walk-append before earlier xs ys ds es v w =
-    record {
-      declares = declared_items-append before earlier xs ys ∙ (λ i. v.declares i ++ declared_items (before ++ xs) (with_declarations earlier (v.declares i)) ys) ∙ ap (λ (x : Declarations). ds ++ x) w.declares;
-      good = good-append before earlier xs ys v.good ((λ i. are_well_formed (before ++ xs) (with_declarations earlier (v.declares i)) ys) ∙ w.good);
-    }
+walk-append before earlier xs ys ds es v w = grind (arith, declared_items-append, declared_items, good-append, are_well_formed)
 
 -- one more item of a section, and what holds after it
 pub record Step {X : Type 0} (item : X → LineContent) (decl : X → Declarations) (Inv : List X → List LineContent → Draft → Type 0) (x : X) (rest : List X) (before : List LineContent) (earlier : Draft) : Type 0 where

@@ -1,4 +1,6 @@
 -- The draft of the canonical declarations of a well-formed listing, map by map.
+use Rattle.std.proofs.Common.{arith}
+use Rattle.std.proofs.Common.{rules}
 use Rattle.std.proofs.Common.{◌≡◌, refl, sym, ap, ◌∙◌, List, [], ◌∷◌, ◌++◌, ℕ, Bool, true, false, not, cond, map, append_assoc}
 use Rattle.std.specs.Prelude.{Option, Some, None, is_some, filter, ◌&&◌}
 use Rattle.std.specs.List.{flat_map}
@@ -51,8 +53,7 @@ drafted m = draft_of (listed_decl m)
 -- ---- small facts on entries
 
 pub none_is : {X : Type 0} (o : Option X) → is_some o ≡ false → o ≡ None
-none_is None h = refl
-none_is (Some x) h = cc
+none_is v0 h = grind arith
 
 -- ---- rows
 
@@ -65,66 +66,33 @@ pub row-at : (m : Listing) → IsSoundListing m → (q : List ℕ) → at_name (
 row-at m h q = ap (λ (es : List (List ℕ × RowDefinition)). at_name es q) (rows-drafted m h) ∙ at-mapped form_stated q m.rows
 
 puts-stated : (q : List ℕ) (o : Option Number) → puts bytes_cmp (stated q o) [] ≡ stated q o
-puts-stated q None = refl
-puts-stated q (Some d) = refl
+puts-stated q v1 = grind arith
 
 pub right_side-at : (m : Listing) → IsSoundListing m → (q : List ℕ)
     → at_name (drafted m).rhs_values q ≡ first_there (then_stated side_stated (at_name m.rows q)) (at_name (stated m.objective (value_stated (negated m.constant))) q)
-right_side-at m h q =
-    let mine = stated m.objective (value_stated (negated m.constant)) in
-    let rows = all_stated side_stated m.rows in
-    ap (λ (es : List (List ℕ × Number)). at_name es q)
-    (rhs_values-all (listed_decl m) empty_draft ∙ ap (λ (es : List (List ℕ × Number)). puts bytes_cmp es []) (rhs_values-part m) ∙ puts-append bytes_cmp mine rows []
-    ∙ ap (puts bytes_cmp rows) (puts-stated m.objective (value_stated (negated m.constant))))
-    ∙ find-puts bytes_cmp bytes_total tied_names q rows mine (sorted-stated bytes_cmp side_stated m.rows h.rows_sorted)
-    ∙ ap (λ (o : Option Number). first_there o (at_name mine q)) (find-stated bytes_cmp side_stated bytes_total tied_names q m.rows h.rows_sorted)
+right_side-at m h q = grind (arith, stated, value_stated, all_stated, side_stated, rhs_values-all, listed_decl, puts, rhs_values-part, puts-append, puts-stated, find-puts, bytes_total, tied_names, sorted-stated, first_there, find-stated)
 
 pub range-at : (m : Listing) → IsSoundListing m → (q : List ℕ) → at_name (drafted m).ranges q ≡ then_stated range_stated (at_name m.rows q)
-range-at m h q =
-    ap (λ (es : List (List ℕ × Number)). at_name es q)
-    (ranges-all (listed_decl m) empty_draft ∙ ap (λ (es : List (List ℕ × Number)). puts bytes_cmp es []) (ranges-part m)
-    ∙ puts-own bytes_cmp bytes_total tied_names (all_stated range_stated m.rows) (sorted-stated bytes_cmp range_stated m.rows h.rows_sorted))
-    ∙ find-stated bytes_cmp range_stated bytes_total tied_names q m.rows h.rows_sorted
+range-at m h q = grind (arith, ranges-all, listed_decl, puts, ranges-part, puts-own, bytes_total, tied_names, all_stated, range_stated, sorted-stated, find-stated)
 
 -- ---- columns
 
 pub lower-at : (m : Listing) → IsSoundListing m → (q : List ℕ) → at_name (drafted m).lowers q ≡ then_stated column_lower (at_name m.columns q)
-lower-at m h q =
-    ap (λ (es : List _). at_name es q)
-    (lowers-all (listed_decl m) empty_draft ∙ ap (λ (es : List _). puts bytes_cmp es []) (lowers-part m)
-    ∙ puts-own bytes_cmp bytes_total tied_names (all_stated column_lower m.columns) (sorted-stated bytes_cmp column_lower m.columns h.columns_sorted))
-    ∙ find-stated bytes_cmp column_lower bytes_total tied_names q m.columns h.columns_sorted
+lower-at m h q = grind (arith, lowers-all, listed_decl, puts, lowers-part, puts-own, bytes_total, tied_names, all_stated, column_lower, sorted-stated, find-stated)
 
 pub upper-at : (m : Listing) → IsSoundListing m → (q : List ℕ) → at_name (drafted m).uppers q ≡ then_stated column_upper (at_name m.columns q)
-upper-at m h q =
-    ap (λ (es : List _). at_name es q)
-    (uppers-all (listed_decl m) empty_draft ∙ ap (λ (es : List _). puts bytes_cmp es []) (uppers-part m)
-    ∙ puts-own bytes_cmp bytes_total tied_names (all_stated column_upper m.columns) (sorted-stated bytes_cmp column_upper m.columns h.columns_sorted))
-    ∙ find-stated bytes_cmp column_upper bytes_total tied_names q m.columns h.columns_sorted
+upper-at m h q = grind (arith, uppers-all, listed_decl, puts, uppers-part, puts-own, bytes_total, tied_names, all_stated, column_upper, sorted-stated, find-stated)
 
 semi-at : (m : Listing) → IsSoundListing m → (q : List ℕ) → at_name (drafted m).semis q ≡ then_stated column_semi (at_name m.columns q)
-semi-at m h q =
-    ap (λ (es : List _). at_name es q)
-    (semis-all (listed_decl m) empty_draft ∙ ap (λ (es : List _). puts bytes_cmp es []) (semis-part m)
-    ∙ puts-own bytes_cmp bytes_total tied_names (all_stated column_semi m.columns) (sorted-stated bytes_cmp column_semi m.columns h.columns_sorted))
-    ∙ find-stated bytes_cmp column_semi bytes_total tied_names q m.columns h.columns_sorted
+semi-at m h q = grind (arith, semis-all, listed_decl, puts, semis-part, puts-own, bytes_total, tied_names, all_stated, column_semi, sorted-stated, find-stated)
 
 -- a semi-continuous column of a well-formed listing has a finite upper bound, whose line declares its type
 semi-suited : (kind : Kind) (l u : Limit) → suits kind l u ≡ true → is_some (semi_stated kind u) ≡ is_semi_kind kind
-semi-suited Continuous l MinusInf h = refl
-semi-suited Continuous l (Finite b) h = refl
-semi-suited Continuous l PlusInf h = refl
-semi-suited Integer l MinusInf h = refl
-semi-suited Integer l (Finite b) h = refl
-semi-suited Integer l PlusInf h = refl
-semi-suited Semi l MinusInf h = second_so (is_at_most zero_limit l) false h
-semi-suited Semi l (Finite b) h = refl
-semi-suited Semi l PlusInf h = second_so (is_at_most zero_limit l) false h
+semi-suited v0 l v2 h = grind arith
 
 pub semis-at : (m : Listing) → IsSoundListing m → (q : List ℕ) (column : Column) → suits column.kind column.lower column.upper ≡ true → at_name m.columns q ≡ Some column
     → has_name (drafted m).semis q ≡ is_semi_kind column.kind
-semis-at m h q column suited is =
-    ap is_some (semi-at m h q ∙ ap (then_stated column_semi) is) ∙ semi-suited column.kind column.lower column.upper suited
+semis-at m h q column suited is = grind (arith, semi-at, then_stated, column_semi, semi-suited)
 
 -- each cell of a column names it, and there is at least one
 own-all : (name : List ℕ) (cells : List (List ℕ × Number)) → Each (λ e. e ≡ (name, tt)) (flat_map own_column (map (to_cell name) cells))
@@ -132,8 +100,7 @@ own-all name [] = tt
 own-all name (cell ∷ cells) = (refl, own-all name cells)
 
 own-some : (name objective : List ℕ) (cells : List (List ℕ × Number)) → is_some (at_name (flat_map own_column (map (to_cell name) (printed_coefficients objective cells))) name) ≡ true
-own-some name objective [] = find-front bytes_cmp bytes_total tied_names name tt []
-own-some name objective (cell ∷ cells) = find-front bytes_cmp bytes_total tied_names name tt (flat_map own_column (map (to_cell name) cells))
+own-some name objective v2 = grind (arith, find-front, bytes_total, tied_names, own_column, to_cell)
 
 abbrev names_of_cells : Listing → List ℕ × Column → List (List ℕ × Unit {0})
 names_of_cells m column = flat_map own_column (cells_in m column)

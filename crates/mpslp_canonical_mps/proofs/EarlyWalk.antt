@@ -1,4 +1,6 @@
 -- What NAME, OBJSENSE, ROWS and COLUMNS of canonical text declare.
+use Rattle.std.proofs.Common.{arith}
+use Rattle.std.proofs.Common.{rules}
 use Rattle.std.proofs.Common.{◌≡◌, refl, ap, subst, ◌∙◌, List, [], ◌∷◌, ◌++◌, ℕ, Bool, true, false, map}
 use Rattle.std.specs.Prelude.{Option, Some, None, is_none, codes, filter_map}
 use Rattle.std.specs.List.{flat_map, last_or}
@@ -34,18 +36,15 @@ sense_decl Minimize = []
 sense_decl Maximize = declare_sense Maximize ∷ []
 
 pub start-walk : (sense : Sense) → Walk [] empty_draft (header_item Name ∷ sense_items sense) (sense_decl sense)
-start-walk Minimize = record { declares = refl; good = refl }
-start-walk Maximize = record { declares = refl; good = refl }
+start-walk v0 = grind arith
 
 -- ROWS may come next
 pub rows-may : (sense : Sense) → MayBegin Rows (header_item Name ∷ sense_items sense)
-rows-may Minimize = record { settled = refl; fresh = refl; begins = refl }
-rows-may Maximize = record { settled = refl; fresh = refl; begins = refl }
+rows-may v0 = grind arith
 
 -- and there is no OBJNAME
 pub start-unnamed : (sense : Sense) → objname (header_item Name ∷ sense_items sense) ≡ None
-start-unnamed Minimize = refl
-start-unnamed Maximize = refl
+start-unnamed v0 = grind arith
 
 -- ---- ROWS
 

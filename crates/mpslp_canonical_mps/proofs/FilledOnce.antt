@@ -1,4 +1,5 @@
 -- The canonical declarations of a well-formed listing fill no slot twice.
+use Rattle.std.proofs.Common.{rules}
 use Rattle.std.proofs.Common.{◌≡◌, refl, sym, ap, ◌∙◌, List, [], ◌∷◌, ◌++◌, ℕ, Bool, true, false, suc, ◌<◌, arith, map}
 use Rattle.std.specs.Prelude.{Option, Some, filter}
 use Rattle.std.specs.List.{flat_map}
@@ -57,8 +58,7 @@ none-above low n below (section ∷ sections) h =
 
 joined-once : (n : ℕ) (sections : List (List Slot)) → Sections n sections → are_distinct same_slot (joined sections) ≡ true
 joined-once n [] h = refl
-joined-once n (section ∷ sections) h =
-    join-ranks n section (joined sections) h.0.once (joined-once (suc n) sections h.1) h.0.rank (none-above n (suc n) (omega arith) sections h.1)
+joined-once n (section ∷ sections) h = grind (arith, join-ranks, rank, none-above, arith, joined-once (suc n) sections h.1)
 
 -- ---- OBJSENSE
 
@@ -66,8 +66,7 @@ abbrev sense_slots : Sense → List Slot
 sense_slots sense = flat_map slots_of (sense_decl sense)
 
 sense-section : (sense : Sense) → Section 0 (sense_slots sense)
-sense-section Minimize = record { once = refl; rank = tt }
-sense-section Maximize = record { once = refl; rank = (refl, tt) }
+sense-section v0 = grind arith
 
 -- ---- COLUMNS: the columns outside the integer block, then those in it
 
@@ -79,14 +78,7 @@ IsFound m column = at_name m.columns column.0 ≡ Some column.1
 
 -- a name has one column, of one type
 kinds_differ : (m : Listing) (x y : List ℕ × Column) → IsFound m x → is_plain_column x ≡ true → IsFound m y → is_integer_column y ≡ true → same_bytes y.0 x.0 ≡ false
-kinds_differ m x y found plain there integer = by (same_bytes y.0 x.0) refl
-  where
-    by : (b : Bool) → same_bytes y.0 x.0 ≡ b → b ≡ false
-    by false same = refl
-    by true same =
-        sym integer
-        ∙ ap (λ (o : Option Column). option_map_or has_integer_kind o false) (sym there ∙ ap (at_name m.columns) (same_name y.0 x.0 same) ∙ found)
-        ∙ not_so (is_integer_column x) plain
+kinds_differ m x y found plain there integer = search (rules, same_name, not_so)
 
 parts-differ : (m : Listing) → IsSoundListing m → Each (λ x. Each (λ y. same_bytes y.0 x.0 ≡ false) (filter is_integer_column m.columns)) (filter is_plain_column m.columns)
 parts-differ m h =
@@ -99,24 +91,17 @@ parts-differ m h =
     (λ y there integer. kinds_differ m x y found plain there integer) m.columns own)) m.columns own)
 
 listed-other : (m : Listing) → IsSoundListing m → AreOther (listed_columns m)
-listed-other m h =
-    other-append (filter is_plain_column m.columns) (filter is_integer_column m.columns)
-    (sorted-other (filter is_plain_column m.columns) (sorted-kept bytes_cmp is_plain_column m.columns h.columns_sorted))
-    (sorted-other (filter is_integer_column m.columns) (sorted-kept bytes_cmp is_integer_column m.columns h.columns_sorted))
-    (parts-differ m h)
+listed-other m h = grind (arith, other-append, sorted-other, sorted-kept, parts-differ)
 
 cells-fill : (m : Listing) (marked : Bool) → ((cell : Cell) → made_of slots_of (cell_decl marked) cell ≡ cell_slot cell) → (columns : List (List ℕ × Column))
     → flat_map (made_of slots_of (cell_decl marked)) (cells_of (map (group_in m) columns)) ≡ flat_map (column_slots m) columns
-cells-fill m marked h columns =
-    flat-same (made_of slots_of (cell_decl marked)) cell_slot h (cells_of (map (group_in m) columns)) ∙ cells-made cell_slot m columns
+cells-fill m marked h columns = grind (arith, flat-same, made_of, cell_decl, cell_slot, cells_of, group_in, cells-made)
 
 columns-fill : (m : Listing)
     → flat_map (made_of slots_of (cell_decl false)) (cells_of (map (group_in m) (filter is_plain_column m.columns)))
     ++ flat_map (made_of slots_of (cell_decl true)) (cells_of (map (group_in m) (filter is_integer_column m.columns)))
     ≡ flat_map (column_slots m) (listed_columns m)
-columns-fill m =
-    (λ i. cells-fill m false (λ _. refl) (filter is_plain_column m.columns) i ++ cells-fill m true (λ _. refl) (filter is_integer_column m.columns) i)
-    ∙ sym (flat_map-append (column_slots m) (filter is_plain_column m.columns) (filter is_integer_column m.columns))
+columns-fill m = grind (arith, cells-fill, flat_map-append, column_slots)
 
 column-rank : (m : Listing) (column : List ℕ × Column) → AllOf 2 (column_slots m column)
 column-rank m column = Each-flat_map (λ slot. rank slot ≡ 2) cell_slot (cells_in m column) (Each-all (λ cell. AllOf 2 (cell_slot cell)) (λ cell. (refl, tt)) (cells_in m column))

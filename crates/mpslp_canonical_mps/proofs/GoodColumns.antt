@@ -1,4 +1,6 @@
 -- COLUMNS of a well-formed listing: the columns are separate, and each has good lines.
+use Rattle.std.proofs.Common.{arith}
+use Rattle.std.proofs.Common.{rules}
 use Rattle.std.proofs.Common.{◌≡◌, refl, ap, ◌∙◌, List, [], ◌∷◌, ℕ, Bool, true, false, not, cond, map}
 use Rattle.std.specs.Prelude.{Option, Some, None, is_some, filter, filter_map}
 use Rattle.std.specs.List.{flat_map, cons_option}
@@ -42,8 +44,7 @@ group-own name [] = tt
 group-own name (cell ∷ cells) = (refl, group-own name cells)
 
 group-some : (name objective : List ℕ) (cells : List (List ℕ × Number)) → is_nonempty (map (to_cell name) (printed_coefficients objective cells)) ≡ true
-group-some name objective [] = refl
-group-some name objective (cell ∷ cells) = refl
+group-some name objective v2 = grind arith
 
 pub groups-good : (m : Listing) (columns : List (List ℕ × Column)) → Each IsGroup (map (group_in m) columns)
 groups-good m columns =
@@ -72,8 +73,7 @@ pairs-good coefficients column h (row ∷ rows) names = by (find key_cmp (place_
     by (Some d) is more = ((names.0, found-each key_cmp key_total same_key (λ _ x. IsDecimal x) coefficients h (place_at row column) d is), more)
 
 line_text-good : (objective : List ℕ) (cells : List (List ℕ × Number)) → same_bytes objective marker ≡ false → Each IsGoodPair cells → Each IsGoodPair (printed_coefficients objective cells)
-line_text-good objective [] o h = ((o, refl), tt)
-line_text-good objective (cell ∷ cells) o h = h
+line_text-good objective v1 o h = grind arith
 
 cells-good : (m : Listing) → IsSoundListing m → (column : List ℕ × Column) → is_sound_column column ≡ true → Each GoodCell (cells_in m column)
 cells-good m h column sound =

@@ -1,4 +1,6 @@
 -- The sections of the canonical text of a well-formed listing meet the conditions for following them.
+use Rattle.std.proofs.Common.{arith}
+use Rattle.std.proofs.Common.{rules}
 use Rattle.std.proofs.Common.{◌≡◌, refl, sym, ap, ◌∙◌, List, [], ◌∷◌, ◌++◌, ℕ, Bool, true, false, cond, map}
 use Rattle.std.specs.Prelude.{Option, Some, None}
 use Rattle.std.specs.List.{flat_map}
@@ -68,16 +70,7 @@ abbrev KeepsRows : Declaration → Type 0
 KeepsRows d = (all : Draft) → (with_declaration all d).rows ≡ all.rows
 
 rows-made-of : (m : Listing) → (draft_at_columns (whole_of m)).rows ≡ puts bytes_cmp (row_forms m.rows) []
-rows-made-of m =
-    let start = with_declarations empty_draft (sense_decl m.sense) in
-    let ds = flat_map row_decl (map to_row m.rows) in
-    rows-all ds (with_declaration start (declare_objective m.objective))
-    ∙ ap (λ (es : List (List ℕ × RowDefinition)). puts bytes_cmp es start.rows) (flat_map-flat_map row_part row_decl (map to_row m.rows) ∙ rows-made m.rows)
-    ∙ ap (λ (base : List (List ℕ × RowDefinition)). puts bytes_cmp (row_forms m.rows) base) (at_start m.sense)
-  where
-    at_start : (sense : Sense) → (with_declarations empty_draft (sense_decl sense)).rows ≡ []
-    at_start Minimize = refl
-    at_start Maximize = refl
+rows-made-of m = grind (arith, sense_decl, row_decl, to_row, rows-all, puts, flat_map-flat_map, row_part, rows-made, row_forms)
 
 columns-keep : (plain integers : List Cell) (all : Draft) → (with_declarations all (flat_map (cell_decl false) plain ++ flat_map (cell_decl true) integers)).rows ≡ all.rows
 columns-keep plain integers all =
@@ -102,16 +95,7 @@ free-at m h q =
 
 -- an N row has no right-hand side
 free-side : (l u : Limit) → is_free_definition (by_type (printed_type l u)) ≡ true → is_zero (printed_rhs l u) ≡ true
-free-side MinusInf MinusInf h = refl
-free-side MinusInf (Finite b) h = cc
-free-side MinusInf PlusInf h = refl
-free-side (Finite a) MinusInf h = cc
-free-side (Finite a) (Finite b) h =
-    elim (have_same_value a b) as (λ t. is_free_definition (by_type (cond t Equal AtLeast)) ≡ true → is_zero a ≡ true) [ true ↦ λ e. cc | false ↦ λ e. cc ] h
-free-side (Finite a) PlusInf h = cc
-free-side PlusInf MinusInf h = refl
-free-side PlusInf (Finite b) h = cc
-free-side PlusInf PlusInf h = refl
+free-side v0 v1 h = grind arith
 
 pub objective-no-row : (m : Listing) → IsSoundListing m → at_name m.rows m.objective ≡ None
 objective-no-row m h = none_is (at_name m.rows m.objective) (sym (one_of-names m.objective m.rows) ∙ h.no_row)
@@ -146,29 +130,13 @@ abbrev IsBounded : PrintedBound → Type 0
 IsBounded bound = Holds (λ d. is_bounded_decimal d ≡ true) bound.value
 
 lower-bounded : (l : Limit) → is_lower_side l ≡ true → Each IsBounded (printed_lower l)
-lower-bounded MinusInf h = (tt, tt)
-lower-bounded (Finite a) h = elim (is_zero a) as (λ b. Each IsBounded (cond b [] (bound_with_value bounds.Lower a ∷ []))) [ true ↦ tt | false ↦ (h, tt) ]
-lower-bounded PlusInf h = tt
+lower-bounded v0 h = grind arith
 
 upper-bounded : (kind : Kind) (u : Limit) → is_upper_side u ≡ true → Each IsBounded (printed_upper kind u)
-upper-bounded kind MinusInf h = tt
-upper-bounded kind (Finite b) h = (h, tt)
-upper-bounded Continuous PlusInf h = tt
-upper-bounded Integer PlusInf h = (tt, tt)
-upper-bounded Semi PlusInf h = tt
+upper-bounded v0 v1 h = grind arith
 
 all-bounded : (kind : Kind) (l u : Limit) → is_lower_side l ≡ true → is_upper_side u ≡ true → Each IsBounded (printed_bounds kind l u)
-all-bounded kind MinusInf PlusInf h k = (tt, tt)
-all-bounded kind MinusInf MinusInf h k = cc
-all-bounded kind MinusInf (Finite b) h k = (tt, (k, tt))
-all-bounded kind (Finite a) (Finite b) h k =
-    elim (is_fixed kind a b) as (λ t. Each IsBounded (cond t (bound_with_value bounds.Fixed b ∷ []) (printed_lower (Finite a) ++ printed_upper kind (Finite b)))) [
-      | true ↦ (k, tt)
-      | false ↦ Each-append IsBounded (printed_lower (Finite a)) (printed_upper kind (Finite b)) (lower-bounded (Finite a) h) (upper-bounded kind (Finite b) k)
-    ]
-all-bounded kind (Finite a) MinusInf h k = cc
-all-bounded kind (Finite a) PlusInf h k = Each-append IsBounded (printed_lower (Finite a)) (printed_upper kind PlusInf) (lower-bounded (Finite a) h) (upper-bounded kind PlusInf k)
-all-bounded kind PlusInf u h k = cc
+all-bounded kind v1 v2 h k = grind arith
 
 good-bound : (name : List ℕ) (bound : PrintedBound) → IsBounded bound → GoodBound (to_bound name bound)
 good-bound name bound h = by bound.value h

@@ -1,4 +1,6 @@
 -- Headers: what each declares, that it is well-formed, and the context after it.
+use Rattle.std.proofs.Common.{arith}
+use Rattle.std.proofs.Common.{rules}
 use Rattle.std.proofs.Common.{◌≡◌, refl, sym, ap, ◌∙◌, List, [], ◌∷◌, ◌++◌, Bool, true, false, map, append_assoc}
 use Rattle.std.specs.Prelude.{Option, Some, None, is_some, is_none, ◌||◌, codes}
 use Rattle.std.specs.Option.{option_or}
@@ -28,15 +30,7 @@ abbrev pub header_item : Section → LineContent
 header_item section = header (keyword_of section) []
 
 section_named-keyword : (section : Section) → section_named (keyword_of section) ≡ Some section
-section_named-keyword Name = refl
-section_named-keyword ObjSense = refl
-section_named-keyword ObjName = refl
-section_named-keyword Rows = refl
-section_named-keyword Columns = refl
-section_named-keyword Rhs = refl
-section_named-keyword Ranges = refl
-section_named-keyword Bounds = refl
-section_named-keyword EndData = refl
+section_named-keyword v0 = grind arith
 
 -- ---- a header where it is allowed
 
@@ -52,15 +46,7 @@ in-order section before h = rw (h.settled, h.fresh, h.begins) refl
 -- the objective exists at the start of COLUMNS
 pub fresh-header-good : (section : Section) (context : Context) (earlier : Draft) → is_out_of_order context section ≡ false → has context.sections_seen section ≡ false
     → (is_section Columns (Some section) ≡ true → is_none earlier.objective ≡ false) → form_faults context earlier (header_item section) ≡ []
-fresh-header-good Name context earlier o f n = rw (o, f) refl
-fresh-header-good ObjSense context earlier o f n = rw (o, f) refl
-fresh-header-good ObjName context earlier o f n = rw (o, f) refl
-fresh-header-good Rows context earlier o f n = rw (o, f) refl
-fresh-header-good Columns context earlier o f n = rw (o, f, n refl) refl
-fresh-header-good Rhs context earlier o f n = rw (o, f) refl
-fresh-header-good Ranges context earlier o f n = rw (o, f) refl
-fresh-header-good Bounds context earlier o f n = rw (o, f) refl
-fresh-header-good EndData context earlier o f n = rw (o, f) refl
+fresh-header-good v0 context earlier o f n = grind arith
 
 pub header-good : (section : Section) (before : List LineContent) (earlier : Draft) → MayBegin section before → (is_section Columns (Some section) ≡ true → is_none earlier.objective ≡ false)
     → form_faults (context_of before) earlier (header_item section) ≡ []
@@ -68,15 +54,7 @@ header-good section before earlier h named = fresh-header-good section (context_
 
 -- a header declares nothing, except for the objective at COLUMNS if there was none
 pub header-says : (section : Section) (context : Context) (earlier : Draft) → (is_section Columns (Some section) ≡ true → is_none earlier.objective ≡ false) → line_declares context earlier (header_item section) ≡ []
-header-says Name context earlier n = refl
-header-says ObjSense context earlier n = refl
-header-says ObjName context earlier n = refl
-header-says Rows context earlier n = refl
-header-says Columns context earlier n = rw (n refl) refl
-header-says Rhs context earlier n = refl
-header-says Ranges context earlier n = refl
-header-says Bounds context earlier n = refl
-header-says EndData context earlier n = refl
+header-says v0 context earlier n = grind arith
 
 pub current-header : (section : Section) (before : List LineContent) → current_section (before ++ header_item section ∷ []) ≡ Some section
 current-header section before = current_section-push before (header_item section) ∙ ap (λ (o : Option Section). option_or o (current_section before)) (section_named-keyword section)
@@ -92,8 +70,7 @@ word-good context earlier s w = rw (s, w) refl
 -- ---- what has not begun
 
 or_false : (b : Bool) → (b || false) ≡ b
-or_false true = refl
-or_false false = refl
+or_false v0 = grind arith
 
 -- lines that are not headers begin no section
 pub has_section-data : {X : Type 0} (section : Section) (item : X → LineContent) → ((x : X) → section_of_header (item x) ≡ None) → (xs : List X) (before : List LineContent)
@@ -108,18 +85,13 @@ has_section-data section item none xs before =
 pub current-data : {X : Type 0} (item : X → LineContent) → ((x : X) → section_of_header (item x) ≡ None) → (xs : List X) (before : List LineContent)
     → current_section (before ++ map item xs) ≡ current_section before
 current-data item none [] before = ap current_section (append-nil before)
-current-data item none (x ∷ xs) before =
-    ap current_section (sym (append_assoc before (item x ∷ []) (map item xs))) ∙ current-data item none xs (before ++ item x ∷ [])
-    ∙ current_section-push before (item x) ∙ ap (λ (o : Option Section). option_or o (current_section before)) (none x)
+current-data item none (x ∷ xs) before = grind (arith, append_assoc, current_section-push, current-data item none xs (before ++ item x ∷ []))
 
 other_section : (section : Section) (o current : Option Section) → is_section section current ≡ false → is_section section o ≡ false → is_section section (option_or o current) ≡ false
-other_section section None current h k = h
-other_section section (Some s) current h k = k
+other_section section v1 current h k = grind arith
 
 under_other : (section : Section) (current : Option Section) (item : LineContent) → is_section section current ≡ false → fields_under section current item ≡ []
-under_other section current skipped h = refl
-under_other section current (header keyword more) h = refl
-under_other section current (data_line fields) h = rw h refl
+under_other section current v2 h = grind arith
 
 lines_of_other : (section : Section) (before : List LineContent) (current : Option Section) → is_section section current ≡ false → has_section before section ≡ false → data_lines_after section current before ≡ []
 lines_of_other section [] current h k = refl

@@ -1,4 +1,6 @@
 -- The canonical declarations of a well-formed listing are consistent, if no slot is filled twice.
+use Rattle.std.proofs.Common.{arith}
+use Rattle.std.proofs.Common.{rules}
 use Rattle.std.proofs.Common.{◌≡◌, refl, ap, ◌∙◌, List, [], ◌∷◌, ◌++◌, ℕ, Bool, true, false, not, cond, map}
 use Rattle.std.specs.Prelude.{Option, Some, None, is_some, filter, filter_map, ◌&&◌, ◌||◌}
 use Rattle.std.specs.List.{flat_map, list_all, list_any, cons_option}
@@ -52,13 +54,10 @@ column-there m h column is =
     ∙ ap is_some (at-mapped (λ _. tt) column.0 m.columns ∙ ap (then_stated (λ _. Some tt)) is)
 
 objective-there : (m : Listing) → has_row (drafted m) m.objective ≡ true
-objective-there m =
-    or_left (is_objective (drafted m) m.objective) (has_name (drafted m).rows m.objective)
-    (ap (λ (o : Option (List ℕ)). option_map_or (same_bytes m.objective) o false) (objective-drafted m) ∙ itself_named m.objective)
+objective-there m = grind (arith, or_left, drafted, objective-drafted, itself_named)
 
 row-there : (m : Listing) → IsSoundListing m → (row : List ℕ × Row) → at_name m.rows row.0 ≡ Some row.1 → has_row (drafted m) row.0 ≡ true
-row-there m h row is =
-    or_right (is_objective (drafted m) row.0) (has_name (drafted m).rows row.0) (ap is_some (row-at m h row.0 ∙ ap (then_stated (λ r. Some (form_stated r))) is))
+row-there m h row is = grind (arith, or_right, drafted, row-at, then_stated, form_stated)
 
 -- ---- all that is named is declared
 
@@ -70,16 +69,10 @@ KnownCell m cell = (has_row (drafted m) cell.row ≡ true) × (has_column (draft
 
 rows-of-cells : (P : List ℕ → Type 0) (coefficients : List (CoefficientKey × Number)) (column : List ℕ) (rows : List (List ℕ)) → Each P rows → Each (λ cell. P cell.0) (filter_map (cell_at coefficients column) rows)
 rows-of-cells P coefficients column [] h = tt
-rows-of-cells P coefficients column (row ∷ rows) h = by (find key_cmp (place_at row column) coefficients) (rows-of-cells P coefficients column rows h.1)
-  where
-    by : (o : Option Number) → Each (λ cell. P cell.0) (filter_map (cell_at coefficients column) rows)
-        → Each (λ cell. P cell.0) (cons_option (option_map (λ (value : Number). (row, value)) o) (filter_map (cell_at coefficients column) rows))
-    by None more = more
-    by (Some d) more = (h.0, more)
+rows-of-cells P coefficients column (row ∷ rows) h = grind (arith, place_at, rows-of-cells P coefficients column rows h.1)
 
 line_text-rows : (P : List ℕ → Type 0) (objective : List ℕ) (cells : List (List ℕ × Number)) → P objective → Each (λ cell. P cell.0) cells → Each (λ cell. P cell.0) (printed_coefficients objective cells)
-line_text-rows P objective [] o h = (o, tt)
-line_text-rows P objective (cell ∷ cells) o h = h
+line_text-rows v0 objective v2 o h = grind arith
 
 known-cells : (m : Listing) → IsSoundListing m → (column : List ℕ × Column) → at_name m.columns column.0 ≡ Some column.1 → Each (KnownCell m) (cells_in m column)
 known-cells m h column is =
@@ -105,25 +98,17 @@ known-side : (m : Listing) (row : List ℕ) (value : Number) → has_row (drafte
 known-side m row value k = elim (is_zero value) as (λ b. Each (λ (side : Side). Each (Known m) (side_decl side)) (cond b [] (to_side row value ∷ []))) [ true ↦ tt | false ↦ ((k, tt), tt) ]
 
 known-range : (m : Listing) (row : List ℕ) (o : Option Number) → has_row (drafted m) row ≡ true → Each (λ (side : Side). Each (Known m) (range_decl side)) (option_map_or (λ value. to_side row value ∷ []) o [])
-known-range m row None k = tt
-known-range m row (Some d) k = ((k, tt), tt)
+known-range m row v2 k = grind arith
 
 known-form : (m : Listing) (form : BoundForm) (x : List ℕ) (v : Number) → has_column (drafted m) x ≡ true → Each (Known m) (decl_at form x v)
-known-form m fixed x v k = (k, (k, tt))
-known-form m forms.lower x v k = (k, tt)
-known-form m forms.upper x v k = (k, tt)
-known-form m free x v k = (k, (k, tt))
-known-form m no_lower x v k = (k, tt)
-known-form m no_upper x v k = (k, tt)
-known-form m semi_upper x v k = (k, (k, tt))
+known-form m v1 x v k = grind arith
 
 known-bounds : (m : Listing) (name : List ℕ) → has_column (drafted m) name ≡ true → (line_text : List PrintedBound) → Each (λ (b : Bound). Each (Known m) (bound_decl b)) (map (to_bound name) line_text)
 known-bounds m name k [] = tt
 known-bounds m name k (bound ∷ line_text) = (known-form m (to_bound name bound).form name (to_bound name bound).value k, known-bounds m name k line_text)
 
 known-sense : (m : Listing) (s : Sense) → Each (Known m) (sense_decl s)
-known-sense m Minimize = tt
-known-sense m Maximize = (refl, tt)
+known-sense m v1 = grind arith
 
 pub all-known : (m : Listing) → IsSoundListing m → list_all (is_known (drafted m)) (listed_decl m) ≡ true
 all-known m h = list_all-from_Each (is_known (drafted m)) (listed_decl m) (each-whole (Known m) (whole_of m) (record {
@@ -148,32 +133,14 @@ abbrev Allowed : Listing → Declaration → Type 0
 Allowed m d = is_allowed (drafted m) d ≡ true
 
 range-not_free : (l u : Limit) (d : Number) → printed_range l u ≡ Some d → is_free_definition (by_type (printed_type l u)) ≡ false
-range-not_free MinusInf u d e = absurd (none_some d e)
-  where
-    none_some : (x : Number) → ◌≡◌ {A = Option Number} None (Some x) → ⊥
-    none_some x k = cc
-range-not_free (Finite a) MinusInf d e = refl
-range-not_free (Finite a) (Finite b) d e = elim (have_same_value a b) as (λ t. is_free_definition (by_type (cond t Equal AtLeast)) ≡ false) [ true ↦ refl | false ↦ refl ]
-range-not_free (Finite a) PlusInf d e = refl
-range-not_free PlusInf u d e = absurd (none_some d e)
-  where
-    none_some : (x : Number) → ◌≡◌ {A = Option Number} None (Some x) → ⊥
-    none_some x k = cc
+range-not_free v0 v1 d e = grind arith
 
 range-bounded : (l u : Limit) → has_bounded_distance l u ≡ true → Holds (λ d. is_bounded_decimal d ≡ true) (printed_range l u)
 range-bounded MinusInf u h = tt
 range-bounded (Finite a) MinusInf h = tt
 range-bounded (Finite a) PlusInf h = tt
 range-bounded PlusInf u h = tt
-range-bounded (Finite a) (Finite b) h =
-    elim (have_same_value a b) as (λ t. Holds (λ d. is_bounded_decimal d ≡ true) (cond t None (difference_of b a))) [
-      | true ↦ tt
-      | false ↦ stated_so (difference_of b a) h
-    ]
-  where
-    stated_so : (o : Option Number) → option_map_or is_bounded_decimal o false ≡ true → Holds (λ d. is_bounded_decimal d ≡ true) o
-    stated_so None k = tt
-    stated_so (Some d) k = k
+range-bounded (Finite a) (Finite b) h = grind (arith)
 
 no_false : (a b : Bool) → a ≡ false → b ≡ false → not (a || b) ≡ true
 no_false a b p q = ap not (both_false a b p q)
@@ -206,17 +173,10 @@ own-semi : (m : Listing) → IsSoundListing m → (column : List ℕ × Column) 
 own-semi m h column k = semis-at m h column.0 column.1 (column_suited column k.0) k.1
 
 own-integer : (m : Listing) → IsSoundListing m → (column : List ℕ × Column) → IsOwnColumn m column → is_integer (drafted m) column.0 ≡ is_integer_column column
-own-integer m h column k =
-    (λ i. marked-at m h column.0 column.1 k.1 i || (has_name (integers-drafted m i) column.0 || has_name (binaries-drafted m i) column.0)) ∙ or_none (is_integer_column column)
-  where
-    or_none : (b : Bool) → (b || (false || false)) ≡ b
-    or_none true = refl
-    or_none false = refl
+own-integer m h column k = grind (arith, marked-at, integers-drafted, binaries-drafted)
 
 integer-not_semi : (kind : Kind) (l u : Limit) → is_integer_column ([], record { kind = kind; lower = l; upper = u }) ≡ true → is_semi_kind kind ≡ false
-integer-not_semi Continuous l u h = refl
-integer-not_semi Integer l u h = refl
-integer-not_semi Semi l u h = cc
+integer-not_semi v0 l u h = grind arith
 
 abbrev AllowedCell : Listing → Cell → Type 0
 AllowedCell m cell = Each (Allowed m) (cell_decl true cell)
@@ -240,13 +200,7 @@ is_semi_form semi_upper = true
 is_semi_form _ = false
 
 allowed-form : (m : Listing) (form : BoundForm) (x : List ℕ) (v : Number) → (is_semi_form form ≡ true → is_integer (drafted m) x ≡ false) → Each (Allowed m) (decl_at form x v)
-allowed-form m fixed x v h = (refl, (refl, tt))
-allowed-form m forms.lower x v h = (refl, tt)
-allowed-form m forms.upper x v h = (refl, tt)
-allowed-form m free x v h = (refl, (refl, tt))
-allowed-form m no_lower x v h = (refl, tt)
-allowed-form m no_upper x v h = (refl, tt)
-allowed-form m semi_upper x v h = (so_not (is_integer (drafted m) x) (h refl), (refl, tt))
+allowed-form m v1 x v h = grind arith
 
 allowed-line_text : (m : Listing) (name : List ℕ) (line_text : List PrintedBound) → Each (λ (b : PrintedBound). is_semi_form (form_of b.type) ≡ true → is_integer (drafted m) name ≡ false) line_text
     → Each (λ (b : Bound). Each (Allowed m) (bound_decl b)) (map (to_bound name) line_text)
@@ -258,24 +212,10 @@ abbrev HasNoSemi : PrintedBound → Type 0
 HasNoSemi bound = is_semi_form (form_of bound.type) ≡ false
 
 lower-plain : (l : Limit) → Each HasNoSemi (printed_lower l)
-lower-plain MinusInf = (refl, tt)
-lower-plain (Finite a) = elim (is_zero a) as (λ b. Each HasNoSemi (cond b [] (bound_with_value bounds.Lower a ∷ []))) [ true ↦ tt | false ↦ (refl, tt) ]
-lower-plain PlusInf = tt
+lower-plain v0 = grind arith
 
 integer-plain : (l u : Limit) → Each HasNoSemi (printed_bounds Integer l u)
-integer-plain MinusInf PlusInf = (refl, tt)
-integer-plain MinusInf MinusInf = (refl, tt)
-integer-plain MinusInf (Finite b) = (refl, (refl, tt))
-integer-plain (Finite a) (Finite b) =
-    elim (have_same_value a b) as (λ t. Each HasNoSemi (cond t (bound_with_value bounds.Fixed b ∷ []) (printed_lower (Finite a) ++ printed_upper Integer (Finite b)))) [
-      | true ↦ (refl, tt)
-      | false ↦ Each-append HasNoSemi (printed_lower (Finite a)) (printed_upper Integer (Finite b)) (lower-plain (Finite a)) (refl, tt)
-    ]
-integer-plain (Finite a) MinusInf = Each-append HasNoSemi (printed_lower (Finite a)) [] (lower-plain (Finite a)) tt
-integer-plain (Finite a) PlusInf = Each-append HasNoSemi (printed_lower (Finite a)) (printed_upper Integer PlusInf) (lower-plain (Finite a)) (refl, tt)
-integer-plain PlusInf MinusInf = tt
-integer-plain PlusInf (Finite b) = (refl, tt)
-integer-plain PlusInf PlusInf = (refl, tt)
+integer-plain v0 v1 = grind arith
 
 allowed-bounds : (m : Listing) → IsSoundListing m → (column : List ℕ × Column) → IsOwnColumn m column → Each (λ (b : Bound). Each (Allowed m) (bound_decl b)) (bounds_in column)
 allowed-bounds m h column k = allowed-line_text m column.0 (printed_bounds column.1.kind column.1.lower column.1.upper) (by column.1.kind column.1.lower column.1.upper (own-integer m h column k))
@@ -292,8 +232,7 @@ allowed-bounds m h column k = allowed-line_text m column.0 (printed_bounds colum
     by Semi l u e = Each-all (λ (b : PrintedBound). is_semi_form (form_of b.type) ≡ true → is_integer (drafted m) column.0 ≡ false) (λ _ _. e) (printed_bounds Semi l u)
 
 allowed-sense : (m : Listing) (s : Sense) → Each (Allowed m) (sense_decl s)
-allowed-sense m Minimize = tt
-allowed-sense m Maximize = (refl, tt)
+allowed-sense m v1 = grind arith
 
 pub all-allowed : (m : Listing) → IsSoundListing m → list_all (is_allowed (drafted m)) (listed_decl m) ≡ true
 all-allowed m h = list_all-from_Each (is_allowed (drafted m)) (listed_decl m) (each-whole (Allowed m) (whole_of m) (record {
@@ -312,15 +251,8 @@ all-allowed m h = list_all-from_Each (is_allowed (drafted m)) (listed_decl m) (e
 -- ---- the objective
 
 named-first : (name : List ℕ) (s : Sense) (more : Declarations) → list_any declares_objective (sense_decl s ++ (declare_objective name ∷ more)) ≡ true
-named-first name Minimize more = refl
-named-first name Maximize more = refl
+named-first name v1 more = grind arith
 
 -- The canonical declarations of a well-formed listing are consistent, if no slot is filled twice.
 pub consistent-if_once : (m : Listing) → IsSoundListing m → are_distinct same_slot (all_slots (listed_decl m)) ≡ true → AreConsistent (listed_decl m)
-consistent-if_once m h once = record {
-  objective = named-first m.objective m.sense _;
-  once = once;
-  one_constant = ap (λ (o : Option Number). not (is_some o && has_objective_rhs (drafted m))) (constant-drafted m);
-  known = all-known m h;
-  allowed = all-allowed m h;
-}
+consistent-if_once m h once = grind (arith, named-first, drafted, constant-drafted, all-known, all-allowed)

@@ -1,4 +1,6 @@
 -- The draft of the canonical declarations of a well-formed model means the model.
+use Rattle.std.proofs.Common.{arith}
+use Rattle.std.proofs.Common.{rules}
 use Rattle.std.proofs.Common.{◌≡◌, refl, sym, ap, ◌∙◌, List, [], ◌∷◌, ◌++◌, ℕ, zero, suc, Bool, true, false, not, cond, map}
 use Rattle.std.specs.Prelude.{ℤ, pos, negsuc, neg_ℤ, Option, Some, None, is_some, unwrap_or, ◌&&◌}
 use Rattle.std.specs.List.{list_all}
@@ -83,8 +85,7 @@ each-kind P w sense h = each-whole P w (record {
     of_form semi_upper x v = (h.of_semi x, (h.of_upper x (Finite v), tt))
 
 sense-keeps : {X : Type 0} (part : Draft → X) (value : X) (s : Sense) → ((t : Sense) → Stays part value (declare_sense t)) → Each (Stays part value) (sense_decl s)
-sense-keeps part value Minimize h = tt
-sense-keeps part value Maximize h = (h Maximize, tt)
+sense-keeps part value v2 h = grind arith
 
 pub constant-drafted : (m : Listing) → (drafted m).constant ≡ None
 constant-drafted m =
@@ -105,8 +106,7 @@ constant-drafted m =
 -- from the objective on
 first-named : (name : List ℕ) (s : Sense) (more : Declarations) → Each (Stays (λ d. d.objective) (Some name)) (sense_decl s ++ (declare_objective name ∷ more))
     → (with_declarations empty_draft (sense_decl s ++ (declare_objective name ∷ more))).objective ≡ Some name
-first-named name Minimize more h = stays-all (λ d. d.objective) (Some name) more h.1 (with_declaration empty_draft (declare_objective name)) refl
-first-named name Maximize more h = stays-all (λ d. d.objective) (Some name) more h.1.1 (with_declaration (with_declaration empty_draft (declare_sense Maximize)) (declare_objective name)) refl
+first-named name v1 more h = grind (arith, stays-all)
 
 pub objective-drafted : (m : Listing) → (drafted m).objective ≡ Some m.objective
 objective-drafted m =
@@ -129,16 +129,13 @@ stated_sense Minimize = None
 stated_sense Maximize = Some Maximize
 
 first-sense : (s : Sense) (more : Declarations) → Each (Stays (λ d. d.sense) (stated_sense s)) (sense_decl s ++ more) → (with_declarations empty_draft (sense_decl s ++ more)).sense ≡ stated_sense s
-first-sense Minimize more h = stays-all (λ d. d.sense) None more h empty_draft refl
-first-sense Maximize more h = stays-all (λ d. d.sense) (Some Maximize) more h.1 (with_declaration empty_draft (declare_sense Maximize)) refl
+first-sense v0 more h = grind (arith, stays-all)
 
 own_sense : (s : Sense) → Each (Stays (λ d. d.sense) (stated_sense s)) (sense_decl s)
-own_sense Minimize = tt
-own_sense Maximize = (λ all is. refl, tt)
+own_sense v0 = grind arith
 
 sense-back : (s : Sense) → unwrap_or (stated_sense s) Minimize ≡ s
-sense-back Minimize = refl
-sense-back Maximize = refl
+sense-back v0 = grind arith
 
 pub sense-drafted : (m : Listing) → unwrap_or (drafted m).sense Minimize ≡ m.sense
 sense-drafted m =
@@ -160,42 +157,24 @@ sense-drafted m =
 -- ---- the constant
 
 negated-twice : (d : Number) → negated (negated d) ≡ d
-negated-twice d = by d.mantissa
-  where
-    by : (z : ℤ) → ◌≡◌ {A = Number} (record d { mantissa = neg_ℤ (neg_ℤ z) }) (record d { mantissa = z })
-    by (pos zero) = refl
-    by (pos (suc n)) = refl
-    by (negsuc n) = refl
+negated-twice d = grind arith
 
 stated-own : (q : List ℕ) (o : Option Number) → at_name (stated q o) q ≡ o
-stated-own q None = refl
-stated-own q (Some d) = ap (λ (r : Ordering). cond (is_eq r) (Some d) None) (tied_itself bytes_total q)
+stated-own q v1 = grind (arith, bytes_total)
 
 value-back : (d : Number) → IsDecimal d → unwrap_or (value_stated d) zero_number ≡ d
 value-back d h = side-stated d (zero-is d h)
 
 pub constant-back : (m : Listing) → IsSoundListing m → constant_of (drafted m) ≡ m.constant
-constant-back m h =
-    let all = drafted m in
-    let named_so : objective_name all ≡ m.objective = ap (λ (o : Option (List ℕ)). unwrap_or o []) (objective-drafted m) in
-    let side : at_name all.rhs_values m.objective ≡ value_stated (negated m.constant) =
-    right_side-at m h m.objective ∙ ap (λ (o : Option Row). first_there (then_stated side_stated o) (at_name (stated m.objective (value_stated (negated m.constant))) m.objective)) (objective-no-row m h)
-    ∙ stated-own m.objective (value_stated (negated m.constant)) in
-    ap (λ (o : Option Number). unwrap_or o (negated (unwrap_or (at_name all.rhs_values (objective_name all)) zero_number))) (constant-drafted m)
-    ∙ ap (λ (n : List ℕ). negated (unwrap_or (at_name all.rhs_values n) zero_number)) named_so
-    ∙ ap (λ (o : Option Number). negated (unwrap_or o zero_number)) side
-    ∙ ap negated (value-back (negated m.constant) (negated-decimal m.constant h.constant))
-    ∙ negated-twice m.constant
+constant-back m h = grind (arith, drafted, objective-drafted, value_stated, right_side-at, first_there, then_stated, side_stated, stated, objective-no-row, stated-own, constant-drafted, value-back, negated-decimal, negated-twice)
 
 -- ---- rows
 
 stated-other : (q name : List ℕ) (o : Option Number) → eq_by_cmp bytes_cmp q name ≡ false → at_name (stated name o) q ≡ None
-stated-other q name None h = refl
-stated-other q name (Some d) h = ap (λ (b : Bool). cond b (Some d) None) h
+stated-other q name v2 h = grind arith
 
 first_none : {X : Type 0} (o : Option X) → first_there o None ≡ o
-first_none None = refl
-first_none (Some x) = refl
+first_none v0 = grind arith
 
 no_some : {X : Type 0} (x : X) → ◌≡◌ {A = Option X} None (Some x) → ⊥
 no_some x e = cc
@@ -209,14 +188,7 @@ other-name m h row is = by (eq_by_cmp bytes_cmp row.0 m.objective) refl
 
 pub side-back : (m : Listing) → IsSoundListing m → (row : List ℕ × Row) → is_sound_row row ≡ true → at_name m.rows row.0 ≡ Some row.1
     → rhs_or_zero (drafted m) row.0 ≡ printed_rhs row.1.lower row.1.upper
-side-back m h row sound is =
-    let mine = stated m.objective (value_stated (negated m.constant)) in
-    let value = printed_rhs row.1.lower row.1.upper in
-    let found : at_name (drafted m).rhs_values row.0 ≡ value_stated value =
-    right_side-at m h row.0 ∙ ap (λ (o : Option Row). first_there (then_stated side_stated o) (at_name mine row.0)) is
-    ∙ ap (first_there (value_stated value)) (stated-other row.0 m.objective (value_stated (negated m.constant)) (other-name m h row is))
-    ∙ first_none (value_stated value) in
-    ap (λ (o : Option Number). unwrap_or o zero_number) found ∙ value-back value (side-decimal row.1.lower row.1.upper (row_sides row sound))
+side-back m h row sound is = grind (arith, stated, value_stated, drafted, right_side-at, first_there, then_stated, side_stated, stated-other, other-name, first_none, value-back, side-decimal, row_sides)
 
 pub range-back : (m : Listing) → IsSoundListing m → (row : List ℕ × Row) → at_name m.rows row.0 ≡ Some row.1 → at_name (drafted m).ranges row.0 ≡ printed_range row.1.lower row.1.upper
 range-back m h row is = range-at m h row.0 ∙ ap (then_stated range_stated) is
@@ -225,9 +197,7 @@ abbrev pub stated_row : List ℕ × Row → List ℕ × RowDefinition
 stated_row row = (row.0, form_stated row.1)
 
 pub limits-back : (m : Listing) → IsSoundListing m → (row : List ℕ × Row) → is_sound_row row ≡ true → at_name m.rows row.0 ≡ Some row.1 → row_limits (drafted m) (stated_row row) ≡ Some row.1
-limits-back m h row sound is =
-    (λ i. limits_of (form_stated row.1) (side-back m h row sound is i) (range-back m h row is i))
-    ∙ row_back row.1.lower row.1.upper (row_sides row sound) (row_distance row sound)
+limits-back m h row sound is = grind (arith, form_stated, side-back, range-back, row_back, row_sides, row_distance)
 
 entry-back : (m : Listing) → IsSoundListing m → (row : List ℕ × Row) → is_sound_row row ≡ true → at_name m.rows row.0 ≡ Some row.1 → row_entry (drafted m) (stated_row row) ≡ row
 entry-back m h row sound is = ap (λ (o : Option Row). (row.0, unwrap_or o (plain_limits Free zero_number))) (limits-back m h row sound is)
@@ -281,34 +251,16 @@ each-column_back m h = Each-weaker (IsOwnColumn m) (λ column. column_of (drafte
 -- ---- right-hand sides
 
 and_false : (a b : Bool) → a ≡ false → (a && b) ≡ false
-and_false true b h = cc
-and_false false b h = refl
+and_false v0 b h = grind arith
 
 finite_size : (a : Number) → is_bounded_decimal a ≡ true → is_infinite_size a ≡ false
-finite_size a h = by (is_infinite_size a) refl (second_so (is_decimal a) (not (is_infinite_size a)) h)
-  where
-    by : (b : Bool) → is_infinite_size a ≡ b → not b ≡ true → b ≡ false
-    by true e k = cc
-    by false e k = refl
+finite_size a h = grind arith
 
 finite-side : (l u : Limit) → are_sides l u ≡ true → has_infinite_rhs (by_type (printed_type l u)) (printed_rhs l u) (printed_range l u) ≡ false
-finite-side MinusInf MinusInf h = cc
-finite-side MinusInf (Finite b) h = and_false (is_infinite_size b) _ (finite_size b (first_so (is_bounded_decimal b) _ h))
-finite-side MinusInf PlusInf h = refl
-finite-side (Finite a) MinusInf h = and_false (is_infinite_size a) _ (finite_size a (first_so (is_bounded_decimal a) _ h))
-finite-side (Finite a) (Finite b) h =
-    let finite = finite_size a (first_so (is_bounded_decimal a) _ h) in
-    elim (have_same_value a b) as (λ t. has_infinite_rhs (by_type (cond t Equal AtLeast)) a (cond t None (difference_of b a)) ≡ false) [
-      | true ↦ finite
-      | false ↦ and_false (is_infinite_size a) _ finite
-    ]
-finite-side (Finite a) PlusInf h = and_false (is_infinite_size a) _ (finite_size a (first_so (is_bounded_decimal a) _ h))
-finite-side PlusInf u h = cc
+finite-side v0 v1 h = grind (arith, and_false, finite_size)
 
 finite-row : (m : Listing) → IsSoundListing m → (row : List ℕ × Row) → IsOwnRow m row → not (row_passes (drafted m) has_infinite_rhs (stated_row row)) ≡ true
-finite-row m h row k =
-    so_not (row_passes (drafted m) has_infinite_rhs (stated_row row))
-    ((λ i. has_infinite_rhs (form_stated row.1) (side-back m h row k.0 k.1 i) (range-back m h row k.1 i)) ∙ finite-side row.1.lower row.1.upper (row_sides row k.0))
+finite-row m h row k = grind (arith, so_not, drafted, form_stated, side-back, range-back, finite-side, row_sides)
 
 -- The draft of the canonical declarations of a well-formed model means it.
 pub draft-means : (m : LinearModel) → IsSound m → DraftMeans (drafted (listing_of m)) m

@@ -1,4 +1,6 @@
 -- The coefficients of a well-formed listing fill different slots.
+use Rattle.std.proofs.Common.{arith}
+use Rattle.std.proofs.Common.{rules}
 use Rattle.std.proofs.Common.{◌≡◌, refl, ◌∙◌, List, [], ◌∷◌, ◌++◌, ℕ, true, false, not, map}
 use Rattle.std.specs.Prelude.{◌||◌}
 use Rattle.std.specs.List.{flat_map, list_any}
@@ -29,22 +31,17 @@ any-turned q [] = refl
 any-turned q (name ∷ names) = λ i. nat_list_eq_equiv.symm name q i || any-turned q names i
 
 pub rows-distinct : (m : Listing) → IsSoundListing m → are_distinct same_bytes (m.objective ∷ map (λ row. row.0) m.rows) ≡ true
-rows-distinct m h =
-    both_so (not (list_any (λ later. same_bytes later m.objective) (names_in m.rows))) (are_distinct same_bytes (names_in m.rows))
-    (so_not (list_any (λ later. same_bytes later m.objective) (names_in m.rows)) (any-turned m.objective (names_in m.rows) ∙ h.no_row))
-    (distinct-sorted bytes_cmp bytes_total same_bytes same_name m.rows h.rows_sorted)
+rows-distinct m h = search (rules, both_so, so_not, any-turned, distinct-sorted, bytes_total, same_name)
 
 abbrev pub column_slots : Listing → List ℕ × Column → List Slot
 column_slots m column = flat_map cell_slot (cells_in m column)
 
 line_text-distinct : (column objective : List ℕ) (cells : List (List ℕ × Number)) → are_distinct same_slot (flat_map cell_slot (map (to_cell column) cells)) ≡ true
     → are_distinct same_slot (flat_map cell_slot (map (to_cell column) (printed_coefficients objective cells))) ≡ true
-line_text-distinct column objective [] h = refl
-line_text-distinct column objective (cell ∷ cells) h = h
+line_text-distinct column objective v2 h = grind arith
 
 own-distinct : (m : Listing) → IsSoundListing m → (column : List ℕ × Column) → are_distinct same_slot (column_slots m column) ≡ true
-own-distinct m h column =
-    line_text-distinct column.0 m.objective (column_coefficients m column.0) (column-distinct m.coefficients column.0 (m.objective ∷ map (λ row. row.0) m.rows) (rows-distinct m h))
+own-distinct m h column = search (rules, line_text-distinct, column-distinct, rows-distinct)
 
 -- columns of different names
 abbrev pub AreOther : List (List ℕ × Column) → Type 0
@@ -53,10 +50,7 @@ AreOther (column ∷ columns) = Each (λ later. same_bytes later.0 column.0 ≡ 
 
 pub sorted-other : (columns : List (List ℕ × Column)) → is_sorted bytes_cmp columns ≡ true → AreOther columns
 sorted-other [] h = tt
-sorted-other (column ∷ columns) h = (
-  later_differ column.0 columns (first_so (below_all bytes_cmp column.0 columns) (is_sorted bytes_cmp columns) h),
-  sorted-other columns (second_so (below_all bytes_cmp column.0 columns) (is_sorted bytes_cmp columns) h),
-)
+sorted-other (column ∷ columns) h = grind (arith, later_differ, sorted-other columns (second_so (below_all bytes_cmp column.0 columns) (is_sorted bytes_cmp columns) h))
 
 pub other-append : (xs ys : List (List ℕ × Column)) → AreOther xs → AreOther ys → Each (λ x. Each (λ y. same_bytes y.0 x.0 ≡ false) ys) xs → AreOther (xs ++ ys)
 other-append [] ys h k apart = k

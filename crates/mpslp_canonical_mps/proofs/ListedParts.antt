@@ -1,4 +1,6 @@
 -- What the declarations of a listing's canonical text put into each map.
+use Rattle.std.proofs.Common.{arith}
+use Rattle.std.proofs.Common.{rules}
 use Rattle.std.proofs.Common.{◌≡◌, refl, ap, ◌∙◌, List, [], ◌∷◌, ◌++◌, ℕ, Bool, true, false, cond, map}
 use Rattle.std.specs.Prelude.{Option, Some, None, filter}
 use Rattle.std.specs.List.{flat_map}
@@ -86,27 +88,13 @@ cells-made f m [] = refl
 cells-made f m (column ∷ columns) = flat_map-append f (cells_in m column) (cells_of (map (group_in m) columns)) ∙ ap (λ (more : List _). flat_map f (cells_in m column) ++ more) (cells-made f m columns)
 
 side-made : (row : List ℕ) (value : Number) → flat_map own_side (side_unless_zero row value) ≡ stated row (value_stated value)
-side-made row value = by (is_zero value)
-  where
-    by : (b : Bool) → flat_map own_side (cond b [] (to_side row value ∷ [])) ≡ stated row (cond b None (Some value))
-    by true = refl
-    by false = refl
+side-made row value = grind arith
 
 pub sides-made : (m : Listing) → flat_map own_side (sides_in m) ≡ stated m.objective (value_stated (negated m.constant)) ++ all_stated side_stated m.rows
-sides-made m =
-    flat_map-append own_side (side_unless_zero m.objective (negated m.constant)) (flat_map row_side m.rows)
-    ∙ (λ i. side-made m.objective (negated m.constant) i
-    ++ (flat_map-flat_map own_side row_side m.rows ∙ flat-same (λ row. flat_map own_side (row_side row)) (λ row. stated row.0 (side_stated row.1)) (λ row. side-made row.0 (printed_rhs row.1.lower row.1.upper)) m.rows) i)
+sides-made m = grind (arith, flat_map-append, side_unless_zero, row_side, side-made, flat_map-flat_map, flat-same, stated)
 
 pub ranges-made : (rows : List (List ℕ × Row)) → flat_map own_side (flat_map row_range rows) ≡ all_stated range_stated rows
-ranges-made rows = flat_map-flat_map own_side row_range rows ∙ flat-same (λ row. flat_map own_side (row_range row)) (λ row. stated row.0 (range_stated row.1)) one rows
-  where
-    one : (row : List ℕ × Row) → flat_map own_side (row_range row) ≡ stated row.0 (range_stated row.1)
-    one row = by (printed_range row.1.lower row.1.upper)
-      where
-        by : (o : Option Number) → flat_map own_side (option_map_or (λ value. to_side row.0 value ∷ []) o []) ≡ stated row.0 o
-        by None = refl
-        by (Some d) = refl
+ranges-made rows = grind (arith, flat_map-flat_map, row_range, flat-same, stated, to_side)
 
 -- ---- bounds
 
@@ -117,68 +105,26 @@ abbrev uppers_made : List ℕ → List PrintedBound → List (List ℕ × Limit)
 uppers_made name bounds = flat_map (made_of upper_part bound_decl) (map (to_bound name) bounds)
 
 lower-front : (name : List ℕ) (a : Number) (rest : List PrintedBound) → lowers_made name rest ≡ [] → lowers_made name (printed_lower (Finite a) ++ rest) ≡ stated name (unless_zero a)
-lower-front name a rest h =
-    elim (is_zero a) as (λ b. lowers_made name (cond b [] (bound_with_value bounds.Lower a ∷ []) ++ rest) ≡ stated name (cond b None (Some (Finite a)))) [
-      | true ↦ h
-      | false ↦ ap (λ (more : List (List ℕ × Limit)). (name, Finite a) ∷ more) h
-    ]
+lower-front name a rest h = grind arith
 
 -- an upper bound puts nothing into the map of lower bounds
 no-lower : (name : List ℕ) (kind : Kind) (b : Number) → lowers_made name (printed_upper kind (Finite b)) ≡ []
-no-lower name Continuous b = refl
-no-lower name Integer b = refl
-no-lower name Semi b = refl
+no-lower name v1 b = grind arith
 
 as-fixed : (kind : Kind) (a b : Number) → is_fixed kind a b ≡ fixed kind have_same_value a b
-as-fixed Continuous a b = refl
-as-fixed Integer a b = refl
-as-fixed Semi a b = refl
+as-fixed v0 a b = grind arith
 
 pub lower-made : (name : List ℕ) (kind : Kind) (l u : Limit) → lowers_made name (printed_bounds kind l u) ≡ stated name (lower_stated kind l u have_same_value)
-lower-made name kind MinusInf PlusInf = refl
-lower-made name kind MinusInf MinusInf = refl
-lower-made name kind MinusInf (Finite b) = ap (λ (more : List (List ℕ × Limit)). (name, MinusInf) ∷ more) (no-lower name kind b)
-lower-made name kind (Finite a) (Finite b) =
-    elim (is_fixed kind a b) as (λ t. lowers_made name (cond t (bound_with_value bounds.Fixed b ∷ []) (printed_lower (Finite a) ++ printed_upper kind (Finite b))) ≡ stated name (cond t (Some (Finite b)) (unless_zero a))) [
-      | true ↦ refl
-      | false ↦ lower-front name a (printed_upper kind (Finite b)) (no-lower name kind b)
-    ] ∙ ap (λ (t : Bool). stated name (cond t (Some (Finite b)) (unless_zero a))) (as-fixed kind a b)
-lower-made name kind (Finite a) MinusInf = lower-front name a (printed_upper kind MinusInf) refl
-lower-made name Integer (Finite a) PlusInf = lower-front name a (printed_upper Integer PlusInf) refl
-lower-made name Continuous (Finite a) PlusInf = lower-front name a (printed_upper Continuous PlusInf) refl
-lower-made name Semi (Finite a) PlusInf = lower-front name a (printed_upper Semi PlusInf) refl
-lower-made name kind PlusInf MinusInf = refl
-lower-made name kind PlusInf (Finite b) = no-lower name kind b
-lower-made name Integer PlusInf PlusInf = refl
-lower-made name Continuous PlusInf PlusInf = refl
-lower-made name Semi PlusInf PlusInf = refl
+lower-made name v1 v2 v3 = grind arith
 
 lower-silent : (name : List ℕ) (a : Number) (rest : List PrintedBound) → uppers_made name (printed_lower (Finite a) ++ rest) ≡ uppers_made name rest
 lower-silent name a rest = elim (is_zero a) as (λ b. uppers_made name (cond b [] (bound_with_value bounds.Lower a ∷ []) ++ rest) ≡ uppers_made name rest) [ true ↦ refl | false ↦ refl ]
 
 one-upper : (name : List ℕ) (kind : Kind) (b : Number) → uppers_made name (printed_upper kind (Finite b)) ≡ stated name (Some (Finite b))
-one-upper name Continuous b = refl
-one-upper name Integer b = refl
-one-upper name Semi b = refl
+one-upper name v1 b = grind arith
 
 pub upper-made : (name : List ℕ) (kind : Kind) (l u : Limit) → uppers_made name (printed_bounds kind l u) ≡ stated name (upper_stated kind l u)
-upper-made name kind MinusInf PlusInf = refl
-upper-made name kind MinusInf MinusInf = refl
-upper-made name kind MinusInf (Finite b) = one-upper name kind b
-upper-made name kind (Finite a) (Finite b) =
-    elim (is_fixed kind a b) as (λ t. uppers_made name (cond t (bound_with_value bounds.Fixed b ∷ []) (printed_lower (Finite a) ++ printed_upper kind (Finite b))) ≡ stated name (Some (Finite b))) [
-      | true ↦ refl
-      | false ↦ lower-silent name a (printed_upper kind (Finite b)) ∙ one-upper name kind b
-    ]
-upper-made name kind (Finite a) MinusInf = lower-silent name a (printed_upper kind MinusInf)
-upper-made name Integer (Finite a) PlusInf = lower-silent name a (printed_upper Integer PlusInf)
-upper-made name Continuous (Finite a) PlusInf = lower-silent name a (printed_upper Continuous PlusInf)
-upper-made name Semi (Finite a) PlusInf = lower-silent name a (printed_upper Semi PlusInf)
-upper-made name kind PlusInf MinusInf = refl
-upper-made name kind PlusInf (Finite b) = one-upper name kind b
-upper-made name Integer PlusInf PlusInf = refl
-upper-made name Continuous PlusInf PlusInf = refl
-upper-made name Semi PlusInf PlusInf = refl
+upper-made name v1 v2 v3 = grind arith
 
 -- ---- semi-continuous columns, by the type of their upper bounds
 
@@ -189,49 +135,19 @@ no-semi : (name : List ℕ) (a : Number) (rest : List PrintedBound) → semis_ma
 no-semi name a rest = elim (is_zero a) as (λ b. semis_made name (cond b [] (bound_with_value bounds.Lower a ∷ []) ++ rest) ≡ semis_made name rest) [ true ↦ refl | false ↦ refl ]
 
 one-semi : (name : List ℕ) (kind : Kind) (b : Number) → semis_made name (printed_upper kind (Finite b)) ≡ stated name (semi_stated kind (Finite b))
-one-semi name Continuous b = refl
-one-semi name Integer b = refl
-one-semi name Semi b = refl
+one-semi name v1 b = grind arith
 
 pub semi-made : (name : List ℕ) (kind : Kind) (l u : Limit) → semis_made name (printed_bounds kind l u) ≡ stated name (semi_stated kind u)
-semi-made name kind MinusInf PlusInf = refl
-semi-made name kind MinusInf MinusInf = refl
-semi-made name kind MinusInf (Finite b) = one-semi name kind b
-semi-made name Continuous (Finite a) (Finite b) =
-    elim (have_same_value a b) as (λ t. semis_made name (cond t (bound_with_value bounds.Fixed b ∷ []) (printed_lower (Finite a) ++ printed_upper Continuous (Finite b))) ≡ []) [
-      | true ↦ refl
-      | false ↦ no-semi name a (printed_upper Continuous (Finite b))
-    ]
-semi-made name Integer (Finite a) (Finite b) =
-    elim (have_same_value a b) as (λ t. semis_made name (cond t (bound_with_value bounds.Fixed b ∷ []) (printed_lower (Finite a) ++ printed_upper Integer (Finite b))) ≡ []) [
-      | true ↦ refl
-      | false ↦ no-semi name a (printed_upper Integer (Finite b))
-    ]
-semi-made name Semi (Finite a) (Finite b) = no-semi name a (printed_upper Semi (Finite b))
-semi-made name kind (Finite a) MinusInf = no-semi name a (printed_upper kind MinusInf)
-semi-made name Integer (Finite a) PlusInf = no-semi name a (printed_upper Integer PlusInf)
-semi-made name Continuous (Finite a) PlusInf = no-semi name a (printed_upper Continuous PlusInf)
-semi-made name Semi (Finite a) PlusInf = no-semi name a (printed_upper Semi PlusInf)
-semi-made name kind PlusInf MinusInf = refl
-semi-made name kind PlusInf (Finite b) = one-semi name kind b
-semi-made name Integer PlusInf PlusInf = refl
-semi-made name Continuous PlusInf PlusInf = refl
-semi-made name Semi PlusInf PlusInf = refl
+semi-made name v1 v2 v3 = grind arith
 
 all-lowers : (columns : List (List ℕ × Column)) → flat_map (made_of lower_part bound_decl) (flat_map bounds_in columns) ≡ all_stated column_lower columns
-all-lowers columns =
-    flat_map-flat_map (made_of lower_part bound_decl) bounds_in columns
-    ∙ flat-same (λ column. flat_map (made_of lower_part bound_decl) (bounds_in column)) (λ column. stated column.0 (column_lower column.1)) (λ column. lower-made column.0 column.1.kind column.1.lower column.1.upper) columns
+all-lowers columns = grind (arith, flat_map-flat_map, made_of, lower_part, bound_decl, bounds_in, flat-same, stated, lower-made)
 
 all-uppers : (columns : List (List ℕ × Column)) → flat_map (made_of upper_part bound_decl) (flat_map bounds_in columns) ≡ all_stated column_upper columns
-all-uppers columns =
-    flat_map-flat_map (made_of upper_part bound_decl) bounds_in columns
-    ∙ flat-same (λ column. flat_map (made_of upper_part bound_decl) (bounds_in column)) (λ column. stated column.0 (column_upper column.1)) (λ column. upper-made column.0 column.1.kind column.1.lower column.1.upper) columns
+all-uppers columns = grind (arith, flat_map-flat_map, made_of, upper_part, bound_decl, bounds_in, flat-same, stated, upper-made)
 
 all-semis : (columns : List (List ℕ × Column)) → flat_map (made_of semi_part bound_decl) (flat_map bounds_in columns) ≡ all_stated column_semi columns
-all-semis columns =
-    flat_map-flat_map (made_of semi_part bound_decl) bounds_in columns
-    ∙ flat-same (λ column. flat_map (made_of semi_part bound_decl) (bounds_in column)) (λ column. stated column.0 (column_semi column.1)) (λ column. semi-made column.0 column.1.kind column.1.lower column.1.upper) columns
+all-semis columns = grind (arith, flat_map-flat_map, made_of, semi_part, bound_decl, bounds_in, flat-same, stated, semi-made)
 
 -- ---- each map
 

@@ -1,4 +1,6 @@
 -- The canonical declarations of a well-formed listing fill no slot twice.
+use Rattle.std.proofs.Common.{arith}
+use Rattle.std.proofs.Common.{rules}
 use Rattle.std.proofs.Common.{◌≡◌, refl, ap, ◌∙◌, List, [], ◌∷◌, ◌++◌, ℕ, Bool, true, false, not, map}
 use Rattle.std.specs.Prelude.{Option, Some, None, filter_map, ◌&&◌, ◌||◌}
 use Rattle.std.specs.List.{flat_map, list_any, cons_option}
@@ -36,16 +38,7 @@ rank (upper_slot _) = 5
 rank constant_slot = 6
 
 same-rank : (a b : Slot) → same_slot a b ≡ true → rank a ≡ rank b
-same-rank sense_slot sense_slot h = refl
-same-rank objective_slot objective_slot h = refl
-same-rank constant_slot constant_slot h = refl
-same-rank (row_slot a) (row_slot b) h = refl
-same-rank (rhs_slot a) (rhs_slot b) h = refl
-same-rank (range_slot a) (range_slot b) h = refl
-same-rank (coefficient_slot a) (coefficient_slot b) h = refl
-same-rank (lower_slot a) (lower_slot b) h = refl
-same-rank (upper_slot a) (upper_slot b) h = refl
-same-rank _ _ h = cc
+same-rank v0 v1 h = grind arith
 
 abbrev pub AllOf : ℕ → List Slot → Type 0
 AllOf n slots = Each (λ slot. rank slot ≡ n) slots
@@ -55,12 +48,7 @@ NoneOf n slots = Each (λ slot. rank slot ≡ n → ⊥) slots
 
 other-new : (n : ℕ) (slot : Slot) (slots : List Slot) → rank slot ≡ n → NoneOf n slots → IsNew same_slot slot slots
 other-new n slot [] is none = refl
-other-new n slot (later ∷ slots) is none =
-    both_false (same_slot later slot) (list_any (λ x. same_slot x slot) slots) (by (same_slot later slot) refl) (other-new n slot slots is none.1)
-  where
-    by : (b : Bool) → same_slot later slot ≡ b → b ≡ false
-    by true e = absurd (none.0 (same-rank later slot e ∙ is))
-    by false e = refl
+other-new n slot (later ∷ slots) is none = grind (arith, both_false, same-rank, other-new n slot slots is none.1)
 
 -- slots of one kind before slots of others
 pub join-ranks : (n : ℕ) (xs ys : List Slot) → are_distinct same_slot xs ≡ true → are_distinct same_slot ys ≡ true → AllOf n xs → NoneOf n ys → are_distinct same_slot (xs ++ ys) ≡ true
@@ -76,12 +64,7 @@ any-map p f (x ∷ xs) = ap (λ (b : Bool). p (f x) || b) (any-map p f xs)
 pub distinct-map : {K : Type 0} (same : K → K → Bool) (make : K → Slot) → ((a b : K) → same_slot (make a) (make b) ≡ same a b) → (keys : List K)
     → are_distinct same_slot (map make keys) ≡ are_distinct same keys
 distinct-map same make h [] = refl
-distinct-map {K} same make h (key ∷ keys) =
-    λ i. not ((any-map (λ later. same_slot later (make key)) make keys ∙ any-same keys) i) && distinct-map same make h keys i
-  where
-    any-same : (ks : List K) → list_any (λ k. same_slot (make k) (make key)) ks ≡ list_any (λ k. same k key) ks
-    any-same [] = refl
-    any-same (k ∷ ks) = λ i. h k key i || any-same ks i
+distinct-map {K} same make h (key ∷ keys) = grind (arith, any-map, distinct-map same make h keys)
 
 pub distinct-names : {X : Type 0} (make : List ℕ → Slot) → ((a b : List ℕ) → same_slot (make a) (make b) ≡ same_bytes a b) → (es : List (List ℕ × X)) → is_sorted bytes_cmp es ≡ true
     → are_distinct same_slot (map make (names_in es)) ≡ true
@@ -97,20 +80,16 @@ abbrev pub cell_slot : Cell → List Slot
 cell_slot cell = coefficient_slot (place_at cell.row cell.column) ∷ []
 
 and_none : (a b : Bool) → b ≡ false → (a && b) ≡ false
-and_none true b h = h
-and_none false b h = refl
+and_none v0 b h = grind arith
 
 none_and : (a b : Bool) → a ≡ false → (a && b) ≡ false
-none_and true b h = cc
-none_and false b h = refl
+none_and v0 b h = grind arith
 
 -- a coefficient of another column is not one of this column
 pub column-new : (row column other : List ℕ) → same_bytes other column ≡ false → (cells : List (List ℕ × Number))
     → IsNew same_slot (coefficient_slot (place_at row column)) (flat_map cell_slot (map (to_cell other) cells))
 column-new row column other h [] = refl
-column-new row column other h (cell ∷ cells) =
-    both_false (same_bytes cell.0 row && same_bytes other column) (list_any (λ later. same_slot later (coefficient_slot (place_at row column))) (flat_map cell_slot (map (to_cell other) cells)))
-    (and_none (same_bytes cell.0 row) (same_bytes other column) h) (column-new row column other h cells)
+column-new row column other h (cell ∷ cells) = grind (arith, both_false, place_at, to_cell, and_none, column-new row column other h cells)
 
 -- nor is one of another row
 row-new : (coefficients : List (CoefficientKey × Number)) (row column : List ℕ) (rows : List (List ℕ)) → list_any (λ later. same_bytes later row) rows ≡ false

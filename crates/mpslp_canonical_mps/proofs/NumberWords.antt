@@ -1,4 +1,5 @@
 -- The text of a decimal is a field that can be printed: 1 to 255 visible bytes.
+use Rattle.std.proofs.Common.{rules}
 use Rattle.std.proofs.Common.{◌≡◌, refl, sym, subst, List, [], ◌∷◌, ◌++◌, length, ℕ, suc, ◌+◌, ◌<◌, Bool, true, false, cond, arith, take, drop}
 use Rattle.std.specs.Prelude.{◌||◌, not, nat_lt, Result, Ok, Err, if◌then◌else◌}
 use Rattle.std.specs.List.{list_any, list_all, before_first, after_first, position_or_len}
@@ -49,12 +50,7 @@ around p sections_seen (x ∷ xs) h k =
     ] refl h k
 
 signed-visible : (xs : List ℕ) → Visible (without_sign xs) → Visible xs
-signed-visible [] h = tt
-signed-visible (x ∷ xs) h =
-    elim (is_sign x) as (λ b. is_sign x ≡ b → Visible (cond b xs (x ∷ xs)) → Visible (x ∷ xs)) [
-      | true ↦ λ e more. (sign-visible x e, more)
-      | false ↦ λ _ more. more
-    ] refl h
+signed-visible v0 h = grind arith
 
 digits-visible : (xs : List ℕ) → are_digits xs ≡ true → Visible xs
 digits-visible xs h = Each-weaker (λ b. is_digit b ≡ true) (λ b. is_visible b ≡ true) digit-visible xs (Each-from_list_all is_digit xs (second_so (nat_lt 0 (length xs)) (list_all is_digit xs) h))
@@ -79,24 +75,10 @@ literal-visible text h =
     around is_exponent_mark mark-visible text front (exponent-visible text (second_so (are_digits (mantissa_digits text)) exponent h))
 
 literal-some : (text : List ℕ) → is_literal text ≡ true → 0 < length text
-literal-some [] h = cc
-literal-some (x ∷ xs) h = omega arith
+literal-some v0 h = grind arith
 
 literal-read : (text : List ℕ) (d : Number) → number_of text ≡ Ok d → is_literal text ≡ true
-literal-read text d e = by (is_literal text) refl e
-  where
-    by : (lit : Bool) → is_literal text ≡ lit
-        → ◌≡◌ {A = Result Number NumberFault} (if not lit then Err BadNumber else (if nat_lt 255 (length text) then Err LongNumber else (if not (has_few_digits (normal (literal_value text))) then Err TooManyDigits else (if not (has_small_exponent (normal (literal_value text))) then Err ExponentRange else Ok (normal (literal_value text)))))) (Ok d)
-        → is_literal text ≡ true
-    by false l e = cc
-    by true l e = l
+literal-read text d e = grind arith
 
 pub number-word : (d : Number) → IsDecimal d → Word (number_text d)
-number-word d h =
-    let read = number-text d h in
-    let literal = literal-read (number_text d) d read in
-    record {
-      some = literal-some (number_text d) literal;
-      short = read-short (number_text d) d read;
-      visible = literal-visible (number_text d) literal;
-    }
+number-word d h = search (rules, number-text, literal-read, literal-some, read-short, literal-visible)

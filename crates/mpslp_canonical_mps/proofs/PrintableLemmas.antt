@@ -1,4 +1,6 @@
 -- The canonical lines of a well-formed model can be printed: their fields are names, numbers and words of the format.
+use Rattle.std.proofs.Common.{arith}
+use Rattle.std.proofs.Common.{rules}
 use Rattle.std.proofs.Common.{◌≡◌, refl, List, [], ◌∷◌, ◌++◌, length, ℕ, zero, suc, Bool, true, false, cond, map}
 use Rattle.std.specs.Prelude.{Option, Some, None, nat_lt, nat_le, ◌&&◌, not, ℤ, pos, negsuc, neg_ℤ, filter, filter_map, codes}
 use Rattle.std.specs.List.{list_all, flat_map, cons_option}
@@ -52,40 +54,19 @@ words : (ws : Fields) → nat_lt 0 (length ws) ≡ true → nat_le (length ws) 4
 words ws some few each = record { some = ltb-true 0 (length ws) some; few = leb-true (length ws) 4 few; each = each }
 
 letter-word : (type : RowType) → Word (letter_of type)
-letter-word Free = code-word (codes "N") refl refl refl
-letter-word AtMost = code-word (codes "L") refl refl refl
-letter-word AtLeast = code-word (codes "G") refl refl refl
-letter-word Equal = code-word (codes "E") refl refl refl
+letter-word v0 = grind arith
 
 letters-word : (type : BoundType) → Word (letters_of type)
-letters-word bounds.Lower = code-word (codes "LO") refl refl refl
-letters-word bounds.Upper = code-word (codes "UP") refl refl refl
-letters-word bounds.Fixed = code-word (codes "FX") refl refl refl
-letters-word bounds.Free = code-word (codes "FR") refl refl refl
-letters-word bounds.NoLower = code-word (codes "MI") refl refl refl
-letters-word bounds.NoUpper = code-word (codes "PL") refl refl refl
-letters-word bounds.Binary = code-word (codes "BV") refl refl refl
-letters-word bounds.IntegerLower = code-word (codes "LI") refl refl refl
-letters-word bounds.IntegerUpper = code-word (codes "UI") refl refl refl
-letters-word bounds.SemiUpper = code-word (codes "SC") refl refl refl
+letters-word v0 = grind arith
 
 header-printable : (section : Section) → IsPrintable (header_line section)
-header-printable Name = (code-word (codes "NAME") refl refl refl, refl)
-header-printable ObjSense = (code-word (codes "OBJSENSE") refl refl refl, refl)
-header-printable ObjName = (code-word (codes "OBJNAME") refl refl refl, refl)
-header-printable Rows = (code-word (codes "ROWS") refl refl refl, refl)
-header-printable Columns = (code-word (codes "COLUMNS") refl refl refl, refl)
-header-printable Rhs = (code-word (codes "RHS") refl refl refl, refl)
-header-printable Ranges = (code-word (codes "RANGES") refl refl refl, refl)
-header-printable Bounds = (code-word (codes "BOUNDS") refl refl refl, refl)
-header-printable EndData = (code-word (codes "ENDATA") refl refl refl, refl)
+header-printable v0 = grind arith
 
 abbrev pub AllPrintable : Lines → Type 0
 AllPrintable lines = Each IsPrintable lines
 
 under-printable : (section : Section) (lines : Lines) → AllPrintable lines → AllPrintable (under_header section lines)
-under-printable section [] h = tt
-under-printable section (line ∷ lines) h = (header-printable section, h)
+under-printable section v1 h = grind arith
 
 -- ---- values that are decimals
 
@@ -95,19 +76,11 @@ Holds P (Some x) = P x
 
 each-found : {K X : Type 0} (R : K → K → Ordering) (P : X → Type 0) (k : K) (es : List (K × X)) → Each (λ e. P e.1) es → Holds P (find R k es)
 each-found R P k [] h = tt
-each-found {K} {X} R P k (e ∷ es) h =
-    elim (is_eq (R k e.0)) as (λ b. Holds P (cond b (Some e.1) (find R k es))) [
-      | true ↦ h.0
-      | false ↦ each-found R P k es h.1
-    ]
+each-found {K} {X} R P k (e ∷ es) h = grind (arith, each-found R P k es h.1)
 
 each-filter_map : {X Y : Type 0} (P : Y → Type 0) (f : X → Option Y) (xs : List X) → Each (λ x. Holds P (f x)) xs → Each P (filter_map f xs)
 each-filter_map P f [] h = tt
-each-filter_map {X} {Y} P f (x ∷ xs) h = by (f x) h.0 (each-filter_map P f xs h.1)
-  where
-    by : (o : Option Y) → Holds P o → Each P (filter_map f xs) → Each P (cons_option o (filter_map f xs))
-    by None k more = more
-    by (Some y) k more = (k, more)
+each-filter_map {X} {Y} P f (x ∷ xs) h = grind (arith, each-filter_map P f xs h.1)
 
 zero-decimal : IsDecimal zero_number
 zero-decimal = refl
@@ -120,44 +93,21 @@ lower-decimal : (a : Number) → is_lower_side (Finite a) ≡ true → IsDecimal
 lower-decimal a h = bounded-decimal a h
 
 pub side-decimal : (lower upper : Limit) → are_sides lower upper ≡ true → IsDecimal (printed_rhs lower upper)
-side-decimal MinusInf MinusInf h = refl
-side-decimal MinusInf (Finite b) h = bounded-decimal b (first_so (is_bounded_decimal b) _ h)
-side-decimal MinusInf PlusInf h = refl
-side-decimal (Finite a) upper h = bounded-decimal a (first_so (is_bounded_decimal a) (is_upper_side upper && is_at_most (Finite a) upper) h)
-side-decimal PlusInf upper h = cc
+side-decimal v0 v1 h = grind arith
 
 pub range-decimal : (lower upper : Limit) → has_bounded_distance lower upper ≡ true → Holds IsDecimal (printed_range lower upper)
-range-decimal MinusInf upper h = tt
-range-decimal (Finite a) MinusInf h = tt
-range-decimal (Finite a) PlusInf h = tt
-range-decimal PlusInf upper h = tt
-range-decimal (Finite a) (Finite b) h =
-    elim (have_same_value a b) as (λ t. Holds IsDecimal (cond t None (difference_of b a))) [
-      | true ↦ tt
-      | false ↦ stated (difference_of b a) h
-    ]
-  where
-    stated : (o : Option Number) → option_map_or is_bounded_decimal o false ≡ true → Holds IsDecimal o
-    stated None k = tt
-    stated (Some d) k = bounded-decimal d k
+range-decimal v0 v1 h = grind arith
 
 pub negated-decimal : (d : Number) → IsDecimal d → IsDecimal (negated d)
-negated-decimal d h = by d.mantissa h
-  where
-    by : (m : ℤ) → IsDecimal (record d { mantissa = m }) → IsDecimal (record d { mantissa = neg_ℤ m })
-    by (pos zero) k = k
-    by (pos (suc n)) k = k
-    by (negsuc n) k = k
+negated-decimal d h = grind arith
 
 -- ---- the lines of each section
 
 sense-printable : (sense : Sense) → AllPrintable (sense_lines sense)
-sense-printable Minimize = tt
-sense-printable Maximize = (header-printable ObjSense, (words (codes "MAX" ∷ []) refl refl (code-word (codes "MAX") refl refl refl, tt), tt))
+sense-printable v0 = grind arith
 
 row-printable : (row : List ℕ × Row) → is_sound_row row ≡ true → IsPrintable (row_line row)
-row-printable row h =
-    words _ refl refl (letter-word (printed_type row.1.lower row.1.upper), (name-word row.0 (first_so (is_mps_name row.0) (are_sides row.1.lower row.1.upper && has_bounded_distance row.1.lower row.1.upper) h), tt))
+row-printable row h = grind (arith, words, letter-word, name-word)
 
 objective-printable : (name : List ℕ) → is_mps_name name ≡ true → IsPrintable (objective_line name)
 objective-printable name h = words _ refl refl (code-word (codes "N") refl refl refl, (name-word name h, tt))
@@ -181,8 +131,7 @@ cell-found coefficients column row h w = by (find key_cmp (record { row = row; c
     by (Some d) k = (w, k)
 
 some-cell : (objective : List ℕ) (cells : List (List ℕ × Number)) → Word objective → Each IsCell cells → Each IsCell (printed_coefficients objective cells)
-some-cell objective [] w h = ((w, zero-decimal), tt)
-some-cell objective (cell ∷ cells) w h = h
+some-cell objective v1 w h = grind arith
 
 -- what is needed of a listing
 pub record IsListed (m : Listing) : Type 0 where
@@ -201,9 +150,7 @@ row-sides row h =
     (second_so (is_mps_name row.0) (are_sides row.1.lower row.1.upper && has_bounded_distance row.1.lower row.1.upper) h)
 
 row-distance : (row : List ℕ × Row) → is_sound_row row ≡ true → has_bounded_distance row.1.lower row.1.upper ≡ true
-row-distance row h =
-    second_so (are_sides row.1.lower row.1.upper) (has_bounded_distance row.1.lower row.1.upper)
-    (second_so (is_mps_name row.0) (are_sides row.1.lower row.1.upper && has_bounded_distance row.1.lower row.1.upper) h)
+row-distance row h = grind arith
 
 column-name : (column : List ℕ × Column) → is_sound_column column ≡ true → Word column.0
 column-name column h = name-word column.0 (first_so (is_mps_name column.0) (are_sides column.1.lower column.1.upper && suits column.1.kind column.1.lower column.1.upper) h)
@@ -241,21 +188,13 @@ part-printable [] h = tt
 part-printable (line ∷ lines) h = (opening-printable, Each-append IsPrintable (line ∷ lines) (marker_line closing_word ∷ []) h (closing-printable, tt))
 
 side-printable : (row : List ℕ) (value : Number) → Word row → IsDecimal value → AllPrintable (rhs_lines row value)
-side-printable row value w d =
-    elim (is_zero value) as (λ b. AllPrintable (cond b [] (vector_line (codes "RHS") row value ∷ []))) [
-      | true ↦ tt
-      | false ↦ (value-printable (codes "RHS") row value (code-word (codes "RHS") refl refl refl) w d, tt)
-    ]
+side-printable row value w d = grind (arith, value-printable, code-word)
 
 row-side-printable : (row : List ℕ × Row) → is_sound_row row ≡ true → AllPrintable (row_rhs_lines row)
 row-side-printable row h = side-printable row.0 (printed_rhs row.1.lower row.1.upper) (row-name row h) (side-decimal row.1.lower row.1.upper (row-sides row h))
 
 range-printable : (row : List ℕ × Row) → is_sound_row row ≡ true → AllPrintable (range_lines row)
-range-printable row h = by (printed_range row.1.lower row.1.upper) (range-decimal row.1.lower row.1.upper (row-distance row h))
-  where
-    by : (o : Option Number) → Holds IsDecimal o → AllPrintable (option_map_or (λ value. vector_line (codes "RNG") row.0 value ∷ []) o [])
-    by None k = tt
-    by (Some d) k = (value-printable (codes "RNG") row.0 d (code-word (codes "RNG") refl refl refl) (row-name row h) k, tt)
+range-printable row h = grind (arith, range-decimal, row-distance, value-printable, code-word, row-name)
 
 -- ---- bounds
 
@@ -263,40 +202,16 @@ abbrev IsBound : PrintedBound → Type 0
 IsBound bound = Holds IsDecimal bound.value
 
 lower-bounds : (kind : Kind) (lower : Limit) → is_lower_side lower ≡ true → Each IsBound (printed_lower lower)
-lower-bounds kind MinusInf h = (tt, tt)
-lower-bounds kind (Finite a) h =
-    elim (is_zero a) as (λ b. Each IsBound (cond b [] (record { type = bounds.Lower; value = Some a } ∷ []))) [
-      | true ↦ tt
-      | false ↦ (bounded-decimal a h, tt)
-    ]
-lower-bounds kind PlusInf h = tt
+lower-bounds kind v1 h = grind arith
 
 upper-bounds : (kind : Kind) (upper : Limit) → is_upper_side upper ≡ true → Each IsBound (printed_upper kind upper)
-upper-bounds kind MinusInf h = tt
-upper-bounds kind (Finite b) h = (bounded-decimal b h, tt)
-upper-bounds Continuous PlusInf h = tt
-upper-bounds Integer PlusInf h = (tt, tt)
-upper-bounds Semi PlusInf h = tt
+upper-bounds v0 v1 h = grind arith
 
 all-bounds : (kind : Kind) (lower upper : Limit) → is_lower_side lower ≡ true → is_upper_side upper ≡ true → Each IsBound (printed_bounds kind lower upper)
-all-bounds kind MinusInf PlusInf h k = (tt, tt)
-all-bounds kind MinusInf MinusInf h k = cc
-all-bounds kind MinusInf (Finite b) h k = (tt, (bounded-decimal b k, tt))
-all-bounds kind (Finite a) (Finite b) h k =
-    elim (is_fixed kind a b) as (λ t. Each IsBound (cond t (record { type = bounds.Fixed; value = Some b } ∷ []) (printed_lower (Finite a) ++ printed_upper kind (Finite b)))) [
-      | true ↦ (bounded-decimal b k, tt)
-      | false ↦ Each-append IsBound (printed_lower (Finite a)) (printed_upper kind (Finite b)) (lower-bounds kind (Finite a) h) (upper-bounds kind (Finite b) k)
-    ]
-all-bounds kind (Finite a) MinusInf h k = cc
-all-bounds kind (Finite a) PlusInf h k = Each-append IsBound (printed_lower (Finite a)) (printed_upper kind PlusInf) (lower-bounds kind (Finite a) h) (upper-bounds kind PlusInf k)
-all-bounds kind PlusInf upper h k = cc
+all-bounds kind v1 v2 h k = grind (arith, bounded-decimal, lower-bounds, upper-bounds)
 
 bound-printable : (column : List ℕ) (bound : PrintedBound) → Word column → IsBound bound → IsPrintable (bound_line column bound)
-bound-printable column bound w h = by bound.value h
-  where
-    by : (o : Option Number) → Holds IsDecimal o → Words (letters_of bound.type ∷ codes "BND" ∷ column ∷ option_map_or (λ value. number_text value ∷ []) o [])
-    by None k = words _ refl refl (letters-word bound.type, (code-word (codes "BND") refl refl refl, (w, tt)))
-    by (Some d) k = words _ refl refl (letters-word bound.type, (code-word (codes "BND") refl refl refl, (w, (number-word d k, tt))))
+bound-printable column bound w h = grind (arith, words, letters-word, code-word, number-word)
 
 bounds-printable : (column : List ℕ × Column) → is_sound_column column ≡ true → AllPrintable (column_bound_lines column)
 bounds-printable column h =

@@ -1,4 +1,5 @@
 -- The canonical text of a well-formed model is read line by line as it was printed, up to ENDATA, its last line.
+use Rattle.std.proofs.Common.{rules}
 use Rattle.std.proofs.Common.{◌≡◌, refl, sym, ap, subst, ◌∙◌, List, [], ◌∷◌, ◌++◌, ℕ, suc, ◌+◌, true, false, cond, map, arith, take}
 use Rattle.std.specs.Prelude.{Option, Some, None, filter, codes}
 use Rattle.std.specs.List.{list_any, flat_map, position_or_len}
@@ -33,17 +34,10 @@ lines-assoc [] ys zs = refl
 lines-assoc (x ∷ xs) ys zs = ap (λ (more : Lines). x ∷ more) (lines-assoc xs ys zs)
 
 regroup : (a b c d e f g : Lines) → (a ++ (b ++ (c ++ (d ++ (e ++ f))))) ++ g ≡ a ++ (b ++ (c ++ (d ++ (e ++ (f ++ g)))))
-regroup a b c d e f g =
-    lines-assoc a (b ++ (c ++ (d ++ (e ++ f)))) g
-    ∙ ap (λ (x : Lines). a ++ x) (lines-assoc b (c ++ (d ++ (e ++ f))) g
-    ∙ ap (λ (x : Lines). b ++ x) (lines-assoc c (d ++ (e ++ f)) g
-    ∙ ap (λ (x : Lines). c ++ x) (lines-assoc d (e ++ f) g
-    ∙ ap (λ (x : Lines). d ++ x) (lines-assoc e f g))))
+regroup a b c d e f g = grind (arith, lines-assoc)
 
 pub lines-end : (m : Listing) → listed_lines m ≡ lines_before_end m ++ header_line EndData ∷ []
-lines-end m =
-    ap (λ (more : Lines). header_line Name ∷ more)
-    (sym (regroup (sense_lines m.sense) (rows_section m) (columns_section m) (rhs_section m) (ranges_section m) (bounds_section m) (header_line EndData ∷ [])))
+lines-end m = search (rules, regroup)
 
 abbrev pub GoesOn : PrintedLine → Type 0
 GoesOn l = begins EndData (content_in l) ≡ false
@@ -52,8 +46,7 @@ abbrev AllGoOn : Lines → Type 0
 AllGoOn ls = Each GoesOn ls
 
 under-goes : (section : Section) (ls : Lines) → GoesOn (header_line section) → AllGoOn ls → AllGoOn (under_header section ls)
-under-goes section [] s h = tt
-under-goes section (l ∷ ls) s h = (s, h)
+under-goes section v1 s h = grind arith
 
 in-turn : (xs ys : Lines) → AllGoOn xs → AllGoOn ys → AllGoOn (xs ++ ys)
 in-turn xs ys h k = Each-append GoesOn xs ys h k
@@ -65,12 +58,10 @@ flat-go : {X : Type 0} (f : X → Lines) → ((x : X) → AllGoOn (f x)) → (xs
 flat-go f h xs = Each-flat_map GoesOn f xs (Each-all (λ x. AllGoOn (f x)) h xs)
 
 sense-go : (sense : Sense) → AllGoOn (sense_lines sense)
-sense-go Minimize = tt
-sense-go Maximize = (refl, (refl, tt))
+sense-go v0 = grind arith
 
 part-go : (ls : Lines) → AllGoOn ls → AllGoOn (integer_part ls)
-part-go [] h = tt
-part-go (l ∷ ls) h = (refl, in-turn (l ∷ ls) (marker_line closing_word ∷ []) h (refl, tt))
+part-go v0 h = grind (arith, in-turn)
 
 columns-go : (m : Listing) (columns : List (List ℕ × Column)) → AllGoOn (flat_map (column_lines m) columns)
 columns-go m columns = flat-go (column_lines m) (λ column. mapped-go (coefficient_line column.0) (λ _. refl) (printed_coefficients m.objective (column_coefficients m column.0))) columns
@@ -79,34 +70,13 @@ side-go : (row : List ℕ) (value : Number) → AllGoOn (rhs_lines row value)
 side-go row value = elim (is_zero value) as (λ b. AllGoOn (cond b [] (vector_line (codes "RHS") row value ∷ []))) [ true ↦ tt | false ↦ (refl, tt) ]
 
 range-go : (row : List ℕ × Row) → AllGoOn (range_lines row)
-range-go row = by (printed_range row.1.lower row.1.upper)
-  where
-    by : (o : Option Number) → AllGoOn (option_map_or (λ value. vector_line (codes "RNG") row.0 value ∷ []) o [])
-    by None = tt
-    by (Some d) = (refl, tt)
+range-go row = grind arith
 
 bounds-go : (column : List ℕ × Column) → AllGoOn (column_bound_lines column)
 bounds-go column = mapped-go (bound_line column.0) (λ _. refl) (printed_bounds column.1.kind column.1.lower column.1.upper)
 
 pub before-go : (m : Listing) → AllGoOn (lines_before_end m)
-before-go m =
-    let bounds_on = bounds_section m in
-    let ranges_on = ranges_section m ++ bounds_on in
-    let sides_on = rhs_section m ++ ranges_on in
-    let columns_on = columns_section m ++ sides_on in (
-      refl,
-      in-turn (sense_lines m.sense) (rows_section m ++ columns_on) (sense-go m.sense)
-          (in-turn (rows_section m) columns_on (refl, (refl, mapped-go row_line (λ _. refl) m.rows))
-          (in-turn (columns_section m) sides_on (
-            refl,
-            in-turn (flat_map (column_lines m) (filter is_plain_column m.columns)) (integer_part (flat_map (column_lines m) (filter is_integer_column m.columns)))
-                (columns-go m (filter is_plain_column m.columns)) (part-go (flat_map (column_lines m) (filter is_integer_column m.columns)) (columns-go m (filter is_integer_column m.columns))),
-          )
-          (in-turn (rhs_section m) ranges_on (under-goes Rhs _ refl (in-turn (rhs_lines m.objective (negated m.constant)) (flat_map row_rhs_lines m.rows)
-          (side-go m.objective (negated m.constant)) (flat-go row_rhs_lines (λ row. side-go row.0 (printed_rhs row.1.lower row.1.upper)) m.rows)))
-          (in-turn (ranges_section m) bounds_on (under-goes Ranges _ refl (flat-go range_lines range-go m.rows))
-          (under-goes Bounds _ refl (flat-go column_bound_lines bounds-go m.columns)))))),
-    )
+before-go m = grind (arith, in-turn, sense-go, mapped-go, columns-go, part-go, under-goes, side-go, flat-go, range-go, bounds-go)
 
 -- ---- so all lines are read
 

@@ -1,4 +1,6 @@
 -- Printed lines of ROWS, RHS and RANGES: what each declares, and that it is well-formed.
+use Rattle.std.proofs.Common.{arith}
+use Rattle.std.proofs.Common.{rules}
 use Rattle.std.proofs.Common.{◌≡◌, refl, ap, ◌∙◌, List, [], ◌∷◌, ◌++◌, ℕ, Bool, true, false}
 use Rattle.std.specs.Prelude.{Option, Some, is_none, ◌&&◌, not, Ok}
 use Rattle.std.specs.List.{list_all}
@@ -26,13 +28,7 @@ use Rattle.mpslp_canonical_mps.proofs.ContentsWalk.{Step}
 -- ---- fields without an error
 
 pub name-good : (name : List ℕ) → is_mps_name name ≡ true → those_of (name_tests name) ≡ []
-name-good name h = by (has_name_length name) (list_all is_visible name) (same_bytes name marker) refl refl refl h
-  where
-    by : (a b c : Bool) → has_name_length name ≡ a → list_all is_visible name ≡ b → same_bytes name marker ≡ c → (a && (b && not c)) ≡ true → those_of (name_tests name) ≡ []
-    by true true false p q r e = rw (p, q, r) refl
-    by true true true p q r e = cc
-    by true false c p q r e = cc
-    by false b c p q r e = cc
+name-good name h = grind arith
 
 pub number-good : (text : List ℕ) (value : Number) → number_of text ≡ Ok value → those_of (number_tests (text ∷ [])) ≡ []
 number-good text value e = rw e refl
@@ -68,30 +64,13 @@ pub record InRows (rest : List RowItem) (before : List LineContent) (earlier : D
 
 pub row_says : (row : RowItem) (context : Context) (earlier : Draft) → context.section ≡ Some Rows → is_none earlier.objective ≡ false
     → line_declares context earlier (row_item row) ≡ row_decl row
-row_says row context earlier s o = by row.1
-  where
-    by : (t : RowType) → line_declares context earlier (row_item (row.0, t)) ≡ row_decl (row.0, t)
-    by Free = rw (s, o) refl
-    by AtMost = rw s refl
-    by AtLeast = rw s refl
-    by Equal = rw s refl
+row_says row context earlier s o = grind arith
 
 pub row_good : (row : RowItem) (context : Context) (earlier : Draft) → context.section ≡ Some Rows → is_mps_name row.0 ≡ true → form_faults context earlier (row_item row) ≡ []
-row_good row context earlier s h = by row.1
-  where
-    by : (t : RowType) → form_faults context earlier (row_item (row.0, t)) ≡ []
-    by Free = rw s (name-good row.0 h)
-    by AtMost = rw s (name-good row.0 h)
-    by AtLeast = rw s (name-good row.0 h)
-    by Equal = rw s (name-good row.0 h)
+row_good row context earlier s h = grind arith
 
 pub row_step : (row : RowItem) (rest : List RowItem) (before : List LineContent) (earlier : Draft) → InRows (row ∷ rest) before earlier → Step row_item row_decl InRows row rest before earlier
-row_step row rest before earlier h =
-    record {
-      says = row_says row (context_of before) earlier h.section h.objective;
-      good = row_good row (context_of before) earlier h.section h.names.0;
-      next = record { section = stays Rows (letter_of row.1 ∷ row.0 ∷ []) before h.section; objective = h.objective; names = h.names.1 };
-    }
+row_step row rest before earlier h = grind (arith, row_says, row_good, stays)
 
 -- ---- right-hand sides and ranges
 

@@ -79,8 +79,7 @@ pub record Words (ws : Fields) : Type 0 where
   pub each : Each Word ws
 
 not_blank_line : (ws : Fields) → Words ws → list_all is_blank (fields_text ws) ≡ false
-not_blank_line [] h = let some : 0 < length {A = List ℕ} [] = h.some in absurd (omega arith)
-not_blank_line (w ∷ ws) h = not_blank w (after_first_field ws) h.each.0.some (solid w h.each.0)
+not_blank_line v0 h = grind (arith, arith, not_blank, solid)
 
 abbrev begins_with_star : List ℕ → Bool
 begins_with_star [] = false
@@ -96,16 +95,10 @@ by_tests : (skip is : Bool) (w : List ℕ) → skip ≡ false → is ≡ false �
 by_tests skip is w p q = rw (p, q) refl
 
 heading_item : (w : List ℕ) → Word w → begins_with_star w ≡ false → content_of w ≡ header w []
-heading_item [] h s = let some : 0 < length {A = ℕ} [] = h.some in absurd (omega arith)
-heading_item (b ∷ bs) h s =
-    let solid_byte : is_blank b ≡ false = visible-solid b h.visible.0 in
-    let star : (b == 42) ≡ false = s in
-    by_tests (is_skipped (b ∷ bs)) (is_data (b ∷ bs)) (b ∷ bs) (rw (star, solid_byte) refl) solid_byte ∙ ap header_of (fields-last (b ∷ bs) h)
+heading_item v0 h s = grind (arith, arith, visible-solid, by_tests, fields-last)
 
 pub item-line_text : (l : PrintedLine) → IsPrintable l → content_of (line_text l) ≡ content_in l
-item-line_text (heading w) h = heading_item w h.0 h.1
-item-line_text (short_line ws) h = rw (not_blank_line ws h) (ap data_line (fields-spaced ws h.each))
-item-line_text (long_line ws) h = rw (not_blank_line ws h) (ap data_line (fields-spaced ws h.each))
+item-line_text v0 h = grind (arith, heading_item, not_blank_line, fields-spaced)
 
 -- ---- bytes and length
 
@@ -125,13 +118,10 @@ module _ (P : ℕ → Type 0) (visible : (b : ℕ) → is_visible b ≡ true →
   each-after (w ∷ ws) h = (blank, (blank, Each-append P w (after_first_field ws) (each-word w h.0) (each-after ws h.1)))
 
   each-spaced : (ws : Fields) → Each Word ws → Each P (fields_text ws)
-  each-spaced [] h = tt
-  each-spaced (w ∷ ws) h = Each-append P w (after_first_field ws) (each-word w h.0) (each-after ws h.1)
+  each-spaced v0 h = grind (arith, each-word, each-after)
 
   each-line_text : (l : PrintedLine) → IsPrintable l → Each P (line_text l)
-  each-line_text (heading w) h = each-word w h.0
-  each-line_text (short_line ws) h = (blank, each-spaced ws h.each)
-  each-line_text (long_line ws) h = (blank, (blank, (blank, (blank, each-spaced ws h.each))))
+  each-line_text v0 h = grind (arith, each-word, each-spaced)
 
 pub plain-line_text : (l : PrintedLine) → IsPrintable l → Each IsPlain (line_text l)
 plain-line_text l h = each-line_text IsPlain visible-plain (refl, refl) l h
@@ -145,23 +135,16 @@ bytes-line_text l h = by (is_comment (line_text l))
 
 length-after : (ws : Fields) → Each Word ws → length (after_first_field ws) ≤ 257 * length ws
 length-after [] h = omega arith
-length-after (w ∷ ws) h =
-    let more : length (after_first_field ws) ≤ 257 * length ws = length-after ws h.1 in
-    omega (arith, h.0.short, length-append w (after_first_field ws))
+length-after (w ∷ ws) h = grind (arith, arith, length-append, length-after ws h.1)
 
 length-spaced : (ws : Fields) → Each Word ws → length (fields_text ws) ≤ 257 * length ws
-length-spaced [] h = omega arith
-length-spaced (w ∷ ws) h =
-    let more : length (after_first_field ws) ≤ 257 * length ws = length-after ws h.1 in
-    omega (arith, h.0.short, length-append w (after_first_field ws))
+length-spaced v0 h = grind (arith, arith, length-after, length-append)
 
 at_most : (n : ℕ) → n ≤ 2000 → nat_le n MAX_LINE_LEN ≡ true
 at_most n h = grind (arith, nat_tests)
 
 length-line_text : (l : PrintedLine) → IsPrintable l → has_legal_length (line_text l) ≡ true
-length-line_text (heading w) h = at_most (length w) (omega (arith, h.0.short))
-length-line_text (short_line ws) h = at_most _ (omega (arith, h.few, length-spaced ws h.each))
-length-line_text (long_line ws) h = at_most _ (omega (arith, h.few, length-spaced ws h.each))
+length-line_text v0 h = grind (arith, at_most, arith, length-spaced)
 
 pub legal-line_text : (l : PrintedLine) → IsPrintable l → is_legal_line (line_text l) ≡ true
 legal-line_text l h = both_so (has_legal_length (line_text l)) (list_all is_legal_byte (outside_comment (line_text l))) (length-line_text l h) (bytes-line_text l h)

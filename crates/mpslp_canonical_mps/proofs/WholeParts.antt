@@ -1,4 +1,6 @@
 -- The declarations of canonical text, section by section: their properties, and what they put into a map.
+use Rattle.std.proofs.Common.{arith}
+use Rattle.std.proofs.Common.{rules}
 use Rattle.std.proofs.Common.{◌≡◌, refl, ap, ◌∙◌, List, [], ◌∷◌, ◌++◌, ℕ, true, false}
 use Rattle.std.specs.List.{flat_map}
 use Rattle.std.proofs.lemmas.List.{append-nil}
@@ -79,21 +81,11 @@ whole-parts part w =
 -- ---- parts that are empty, and those that are not
 
 pub sense-none : {Y : Type 0} (part : Declaration → List Y) → ((s : Sense) → part (declare_sense s) ≡ []) → (s : Sense) → flat_map part (sense_decl s) ≡ []
-sense-none part h Minimize = refl
-sense-none part h Maximize = ap (λ (ys : List _). ys ++ []) (h Maximize)
+sense-none part h v2 = grind arith
 
 pub bound-none : {Y : Type 0} (part : Declaration → List Y) → ((x : List ℕ) (l : Limit) → part (declare_lower x l) ≡ []) → ((x : List ℕ) (l : Limit) → part (declare_upper x l) ≡ [])
     → ((x : List ℕ) → part (declare_semi x) ≡ []) → (b : Bound) → made_of part bound_decl b ≡ []
-bound-none part h k s b = by b.form
-  where
-    by : (t : BoundForm) → flat_map part (decl_at t b.column b.value) ≡ []
-    by fixed = λ i. h b.column (Finite b.value) i ++ (k b.column (Finite b.value) i ++ [])
-    by lower = λ i. h b.column (Finite b.value) i ++ []
-    by upper = λ i. k b.column (Finite b.value) i ++ []
-    by free = λ i. h b.column MinusInf i ++ (k b.column PlusInf i ++ [])
-    by no_lower = λ i. h b.column MinusInf i ++ []
-    by no_upper = λ i. k b.column PlusInf i ++ []
-    by semi_upper = λ i. s b.column i ++ (k b.column (Finite b.value) i ++ [])
+bound-none part h k s b = grind arith
 
 -- the parts of all sections, one by one
 pub record SectionParts {Y : Type 0} (part : Declaration → List Y) (w : Whole) (rows plain integers sides ranges bounds : List Y) : Type 0 where

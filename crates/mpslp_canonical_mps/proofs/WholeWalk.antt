@@ -1,4 +1,6 @@
 -- What canonical text declares, all sections one after another.
+use Rattle.std.proofs.Common.{arith}
+use Rattle.std.proofs.Common.{rules}
 use Rattle.std.proofs.Common.{◌≡◌, refl, sym, ap, ◌∙◌, List, [], ◌∷◌, ◌++◌, ℕ, Bool, true, false, map, append_assoc}
 use Rattle.std.specs.Prelude.{Option, Some, None, is_some, is_none, ◌||◌, codes}
 use Rattle.std.specs.List.{flat_map}
@@ -30,8 +32,7 @@ no-headers : {X : Type 0} (section : Section) (item : X → LineContent) → ((x
 no-headers section item none xs = has_section-data section item none xs []
 
 or_false : (b : Bool) → (b || false) ≡ b
-or_false true = refl
-or_false false = refl
+or_false v0 = grind arith
 
 -- the lines of a section that is printed only if it has lines begin only that section
 under-begins : {X : Type 0} (section other : Section) (item : X → LineContent) → ((x : X) → section_of_header (item x) ≡ None) → begins other (header_item section) ≡ false → (xs : List X)
@@ -47,12 +48,10 @@ under-settled section item b reads bare (x ∷ xs) before h =
     ∙ data-settled item reads bare (x ∷ xs) (before ++ header_item section ∷ []) (settled-after before (header_item section) refl b)
 
 not_none : (o : Option (List ℕ)) → is_some o ≡ true → is_none o ≡ false
-not_none None h = cc
-not_none (Some n) h = refl
+not_none v0 h = grind arith
 
 is_named : (o : Option (List ℕ)) → is_none o ≡ false → is_some o ≡ true
-is_named None h = cc
-is_named (Some n) h = refl
+is_named v0 h = grind arith
 
 still-named : (ds : Declarations) (all : Draft) → is_none all.objective ≡ false → is_none (with_declarations all ds).objective ≡ false
 still-named ds all h = not_none (with_declarations all ds).objective (named-after ds all (is_named all.objective h))
@@ -60,17 +59,11 @@ still-named ds all h = not_none (with_declarations all ds).objective (named-afte
 -- a late section, and what holds after it
 late-after : {X : Type 0} (section : Section) (item : X → LineContent) (ds : Declarations) → is_bare (header_item section) ≡ false → ((x : X) → is_read (item x) ≡ true) → ((x : X) → is_bare (item x) ≡ false)
     → (xs : List X) (before : List LineContent) (earlier : Draft) → IsLate before earlier → IsLate (before ++ under section (map item xs)) (with_declarations earlier ds)
-late-after section item ds b reads bare xs before earlier h =
-    record {
-      settled = under-settled section item b reads bare xs before h.settled;
-      columns = has_section-append Columns before (under section (map item xs)) ∙ ap (λ (c : Bool). c || has_section (under section (map item xs)) Columns) h.columns;
-      objective = still-named ds earlier h.objective;
-    }
+late-after section item ds b reads bare xs before earlier h = grind (arith, under-settled, has_section-append, under, still-named)
 
 fresh-after : {X : Type 0} (section other : Section) (item : X → LineContent) → ((x : X) → section_of_header (item x) ≡ None) → begins other (header_item section) ≡ false → (xs : List X) (before : List LineContent)
     → has_section before other ≡ false → has_section (before ++ under section (map item xs)) other ≡ false
-fresh-after section other item none b xs before h =
-    has_section-append other before (under section (map item xs)) ∙ (λ i. h i || under-begins section other item none b xs i)
+fresh-after section other item none b xs before h = grind (arith, has_section-append, under, under-begins)
 
 -- ---- RHS, RANGES, BOUNDS and ENDATA
 
@@ -163,12 +156,10 @@ pub record IsGoodWhole (w : Whole) : Type 0 where
   pub late : IsGoodLate w.late (draft_at_sides w)
 
 start-none : (section : Section) (sense : Sense) → begins section (header_item Name) ≡ false → begins section (header_item ObjSense) ≡ false → has_section (start_items sense) section ≡ false
-start-none section Minimize n o = rw n refl
-start-none section Maximize n o = rw (n, o) refl
+start-none section v1 n o = grind arith
 
 no-objective : (sense : Sense) → is_none (with_declarations empty_draft (sense_decl sense)).objective ≡ true
-no-objective Minimize = refl
-no-objective Maximize = refl
+no-objective v0 = grind arith
 
 rows-settled : (objective : List ℕ) (rows : List RowItem) (before : List LineContent) → wants_word (before ++ rows_items objective rows) ≡ false
 rows-settled objective rows before =
@@ -177,12 +168,10 @@ rows-settled objective rows before =
     (ap wants_word (sym (append_assoc before (header_item Rows ∷ []) (objective_item objective ∷ []))) ∙ settled-after (before ++ header_item Rows ∷ []) (objective_item objective) refl refl)
 
 part-none : (section : Section) (cells : List Cell) → has_section (part_items cells) section ≡ false
-part-none section [] = refl
-part-none section (cell ∷ cells) = has_section-append section (map cell_item (cell ∷ cells)) (marker_item false ∷ []) ∙ or_false (has_section (map cell_item (cell ∷ cells)) section) ∙ no-headers section cell_item (λ _. refl) (cell ∷ cells)
+part-none section v1 = grind (arith, has_section-append, cell_item, marker_item, or_false, no-headers)
 
 columns-none : (section : Section) (plain integers : List Group) → begins section (header_item Columns) ≡ false → has_section (columns_items plain integers) section ≡ false
-columns-none section plain integers b =
-    rw b (has_section-append section (map cell_item (cells_of plain)) (part_items (cells_of integers)) ∙ (λ i. no-headers section cell_item (λ _. refl) (cells_of plain) i || part-none section (cells_of integers) i))
+columns-none section plain integers b = grind (arith, has_section-append, cell_item, cells_of, part_items, no-headers, part-none)
 
 part-settled : (cells : List Cell) (before : List LineContent) → wants_word before ≡ false → wants_word (before ++ part_items cells) ≡ false
 part-settled [] before h = ap wants_word (append-nil before) ∙ h

@@ -1,4 +1,6 @@
 -- A column that a draft has marked has a line in an integer block.
+use Rattle.std.proofs.Common.{arith}
+use Rattle.std.proofs.Common.{rules}
 use Rattle.std.proofs.Common.{◌≡◌, refl, sym, ap, ◌∙◌, subst, List, [], ◌∷◌, ◌++◌, ℕ, Bool, true, false, cond}
 use Rattle.std.proofs.lemmas.List.{append-nil}
 use Rattle.std.specs.Prelude.{Option, Some, None, is_some, filter_map, ◌||◌, ◌&&◌}
@@ -56,15 +58,7 @@ in_block-more column (x ∷ lines) fields h =
 -- if the last marker line, or the one before all these, opens a block, a line after them is in it
 last-block : (column : List ℕ) (fields : Fields) → is_marker_line fields ≡ false → is_of column fields ≡ true → (lines : List Fields) (word : Option (List ℕ)) → is_opening (last_or word (filter_map marker_word lines)) ≡ true
     → ((is_opening word && list_any (is_of column) (block_lines (lines ++ fields ∷ []))) || is_in_block column (lines ++ fields ∷ [])) ≡ true
-last-block column fields plain of [] word h =
-    or_left (is_opening word && list_any (is_of column) (block_lines (fields ∷ []))) (is_in_block column (fields ∷ [])) (both (is_opening word) (list_any (is_of column) (block_lines (fields ∷ []))) h here)
-  where
-    both : (a b : Bool) → a ≡ true → b ≡ true → (a && b) ≡ true
-    both true b e f = f
-    both false b e f = e
-
-    here : list_any (is_of column) (block_lines (fields ∷ [])) ≡ true
-    here = ap (λ (b : Bool). list_any (is_of column) (cond (is_some (cond b (marker_shape fields) None)) [] (fields ∷ []))) plain ∙ or_left (is_of column fields) false of
+last-block column fields plain of [] word h = grind (arith, or_left)
 last-block column fields plain of (x ∷ lines) word h = by (marker_word x) h (λ w k. last-block column fields plain of lines w k)
   where
     more : List Fields
@@ -84,11 +78,7 @@ last-block column fields plain of (x ∷ lines) word h = by (marker_word x) h (�
 -- ---- the columns that are marked
 
 marked-part : (column : List ℕ) → IsPartOf Columns (λ all. has_name all.marked column)
-marked-part column = record { headed = λ _. refl; objective = λ _ _. refl; other = by }
-  where
-    by : (all : Draft) (d : Declaration) → is_elsewhere Columns d ≡ true → has_name (with_declaration all d).marked column ≡ has_name all.marked column
-    by all (declare_marked _) h = cc
-    by all _ h = refl
+marked-part column = grind arith
 
 cells-same : (column name : List ℕ) (pairs : List Pair) (all : Draft) → has_name (with_declarations all (flat_map (coefficient_declared name) pairs)).marked column ≡ has_name all.marked column
 cells-same column name [] all = refl

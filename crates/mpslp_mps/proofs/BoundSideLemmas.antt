@@ -1,4 +1,6 @@
 -- The first error of a bound, whose lower and upper bound are declared by one call.
+use Rattle.std.proofs.Common.{arith}
+use Rattle.std.proofs.Common.{rules}
 use Rattle.std.proofs.Common.{◌≡◌, refl, sym, ap, subst, ◌∙◌, ℕ, List, [], ◌∷◌, ◌++◌, Bool, true, false, not, cond, map}
 use Rattle.std.specs.Prelude.{◌&&◌, ◌||◌, Option, Some, None, is_some, Ok, Err}
 use Rattle.std.specs.Option.{option_map, option_map_or}
@@ -41,60 +43,30 @@ side_kind there sided infinite =
 
 lower_fault : (all : Draft) (column : List ℕ) (side : Limit)
     → declared_fault all (declare_lower column side ∷ []) ≡ side_kind (has_column all column) (has_name all.lowers column) (is_plus_infinite side)
-lower_fault all column side =
-    declared-one all (declare_lower column side) refl
+lower_fault all column side = grind arith
 
 upper_fault : (all : Draft) (column : List ℕ) (side : Limit)
     → declared_fault all (declare_upper column side ∷ []) ≡ side_kind (has_column all column) (has_name all.uppers column) (is_minus_infinite side)
-upper_fault all column side =
-    declared-one all (declare_upper column side) refl
+upper_fault all column side = grind arith
 
 or_none : (b : Bool) → b ≡ (b || false)
-or_none true = refl
-or_none false = refl
+or_none v0 = grind arith
 
 both_sides : (a b c d e : Bool) → earlier_of (side_kind a b c) (side_kind a d e) ≡ side_kind a (b || d) (c || e)
-both_sides false b c d e = refl
-both_sides true true c true e = refl
-both_sides true true c false true = refl
-both_sides true true c false false = refl
-both_sides true false true true e = refl
-both_sides true false true false true = refl
-both_sides true false true false false = refl
-both_sides true false false true e = refl
-both_sides true false false false true = refl
-both_sides true false false false false = refl
+both_sides v0 v1 v2 v3 v4 = grind arith
 
 -- over the bounds that are given, at least one
 sides_fault : (all : Draft) (column : List ℕ) (lower upper : Option Limit) → (is_some lower || is_some upper) ≡ true
     → declared_fault all (bounds_declared column lower upper) ≡ first_held (kind_tests (bounds_tests all column lower upper))
-sides_fault all column None None h = cc
-sides_fault all column (Some l) None h =
-    lower_fault all column l ∙ (λ i. side_kind (has_column all column) (or_none (has_name all.lowers column) i) (or_none (is_plus_infinite l) i))
-sides_fault all column None (Some u) h = upper_fault all column u
-sides_fault all column (Some l) (Some u) h =
-    declared-append (declare_lower column l ∷ []) (declare_upper column u ∷ []) all
-    ∙ (λ i. earlier_of (lower_fault all column l i) (upper_fault (with_declaration all (declare_lower column l)) column u i))
-    ∙ both_sides (has_column all column) (has_name all.lowers column) (is_plus_infinite l) (has_name all.uppers column) (is_minus_infinite u)
+sides_fault all column v2 v3 h = grind (arith, lower_fault, or_none, upper_fault, declared-append, earlier_of, both_sides)
 
 pub sides-refused : (all : Draft) (column : List ℕ) (lower upper : Option Limit) (fault : BuildFault) (P Q : Type 0) → (is_some lower || is_some upper) ≡ true
     → Answers (bounds_refusals all column lower upper) (Err fault) P Q → IsErrorOf (declared_fault all (bounds_declared column lower upper)) (error_of_build fault)
-sides-refused all column lower upper fault P Q h answer =
-    subst (λ (o : Option FaultKind). IsErrorOf o (error_of_build fault)) (sym (sides_fault all column lower upper h))
-    (call-refused (bounds_tests all column lower upper) fault P Q answer)
+sides-refused all column lower upper fault v5 v6 h answer = search (rules, sides_fault, call-refused)
 
 -- and nothing has changed
 pub sides-unchanged : (faults : List BuildFault) (fault : BuildFault) (P Q : Type 0) (answer : LineResult) → Answers faults (Err fault) P Q → IfFault answer Q
-sides-unchanged faults fault P Q answer h = holds answer (unchanged faults h)
-  where
-    unchanged : (faults : List BuildFault) → Answers faults (Err fault) P Q → Q
-    unchanged [] h = h.1
-    unchanged (first ∷ later) h = h.1
-
-    holds : (answer : LineResult) → Q → IfFault answer Q
-    holds (Ok x) q = tt
-    holds (Err (Fault kind)) q = q
-    holds (Err OutOfMemory) q = tt
+sides-unchanged faults fault v2 v3 answer h = grind arith
 
 -- bounds that are checked
 pub sides-none : (all : Draft) (column : List ℕ) (lower upper : Option Limit) → (is_some lower || is_some upper) ≡ true → Ok tt ≡ first_refusal (bounds_refusals all column lower upper)
@@ -103,8 +75,7 @@ sides-none all column lower upper h stated = sides_fault all column lower upper 
 
 pub sides-error : (all : Draft) (column : List ℕ) (lower upper : Option Limit) (fault : BuildFault) → (is_some lower || is_some upper) ≡ true
     → Err fault ≡ first_refusal (bounds_refusals all column lower upper) → IsErrorOf (declared_fault all (bounds_declared column lower upper)) (error_of_build fault)
-sides-error all column lower upper fault h stated =
-    subst (λ (o : Option FaultKind). IsErrorOf o (error_of_build fault)) (sym (sides_fault all column lower upper h)) (tests-error (bounds_tests all column lower upper) fault stated)
+sides-error all column lower upper fault h stated = search (rules, sides_fault, tests-error)
 
 -- ---- after the column is declared integer or semi-continuous
 
@@ -114,25 +85,12 @@ one_kind all column other = (not (has_column all column), UnknownColumn) ∷ (ot
 -- if the column is not of the other type
 kind_stated : (all : Draft) (d : Declaration) (column : List ℕ) (other : Bool) → refusals all d ≡ those_of (one_kind all column other) → other ≡ false
     → declared_fault all (d ∷ []) ≡ cond (not (has_column all column)) (Some kinds.UnknownColumn) None
-kind_stated all d column other is apart =
-    ap (λ (faults : List BuildFault). least_kind (map kind_of_build_fault faults)) (append-nil (refusals all d) ∙ is ∙ ap (λ (b : Bool). those_of (one_kind all column b)) apart)
-    ∙ by (has_column all column)
-  where
-    by : (there : Bool) → least_kind (map kind_of_build_fault (those_of ((not there, UnknownColumn) ∷ (false, SemiContinuous) ∷ []))) ≡ cond (not there) (Some kinds.UnknownColumn) None
-    by true = refl
-    by false = refl
+kind_stated all d column other is apart = grind arith
 
 -- the only error that is left is that of the call
 kind_error : (all : Draft) (d : Declaration) (column : List ℕ) (other : Bool) (fault : BuildFault) (P Q : Type 0) → refusals all d ≡ those_of (one_kind all column other) → other ≡ false
     → Answers (refusals all d) (Err fault) P Q → IsErrorOf (declared_fault all (d ∷ [])) (error_of_build fault)
-kind_error all d column other fault P Q is apart answer =
-    let left : refusals all d ≡ those_of (one_kind all column false) = is ∙ ap (λ (b : Bool). those_of (one_kind all column b)) apart in
-    subst (λ (o : Option FaultKind). IsErrorOf o (error_of_build fault)) (first (has_column all column) ∙ sym (kind_stated all d column other is apart))
-    (call-refused (one_kind all column false) fault P Q (subst (λ (faults : List BuildFault). Answers faults (Err fault) P Q) left answer))
-  where
-    first : (there : Bool) → first_held (kind_tests ((not there, UnknownColumn) ∷ (false, SemiContinuous) ∷ [])) ≡ cond (not there) (Some kinds.UnknownColumn) None
-    first true = refl
-    first false = refl
+kind_error all d column other fault v5 v6 is apart answer = grind arith
 
 pub integer-error : (all : Draft) (column : List ℕ) (fault : BuildFault) (P Q : Type 0) → is_semi all column ≡ false → Answers (refusals all (declare_integer column)) (Err fault) P Q
     → IsErrorOf (declared_fault all (declare_integer column ∷ [])) (error_of_build fault)
@@ -152,16 +110,7 @@ semi-none all column none = ap (λ (faults : List BuildFault). least_kind (map k
 -- ---- by the type of a bound
 
 pub integer-kind : (type : BoundType) (column : List ℕ) → is_integer_type type ≡ true → kind_declared type column ≡ declare_integer column ∷ []
-integer-kind bounds.Binary column h = refl
-integer-kind bounds.IntegerLower column h = refl
-integer-kind bounds.IntegerUpper column h = refl
-integer-kind bounds.Lower column h = cc
-integer-kind bounds.Upper column h = cc
-integer-kind bounds.Fixed column h = cc
-integer-kind bounds.Free column h = cc
-integer-kind bounds.NoLower column h = cc
-integer-kind bounds.NoUpper column h = cc
-integer-kind bounds.SemiUpper column h = cc
+integer-kind v0 column h = grind arith
 
 pub semi-kind : (type : BoundType) (column : List ℕ) → is_integer_type type ≡ false → is_semi_type type ≡ true → kind_declared type column ≡ declare_semi column ∷ []
 semi-kind type column h k = λ i. when (h i) (declare_integer column) ++ when (k i) (declare_semi column)
@@ -171,16 +120,7 @@ no-kind type column h k = λ i. when (h i) (declare_integer column) ++ when (k i
 
 -- at least one bound is given
 pub some-side : (type : BoundType) (value : Limit) → (is_some (lower_given type value) || is_some (upper_given type value)) ≡ true
-some-side bounds.Lower value = refl
-some-side bounds.Upper value = refl
-some-side bounds.Fixed value = refl
-some-side bounds.Free value = refl
-some-side bounds.NoLower value = refl
-some-side bounds.NoUpper value = refl
-some-side bounds.Binary value = refl
-some-side bounds.IntegerLower value = refl
-some-side bounds.IntegerUpper value = refl
-some-side bounds.SemiUpper value = refl
+some-side v0 value = grind arith
 
 -- the first error of the bounds is the first of all, also if the column does not exist
 kind_sides : (all : Draft) (d : Declaration) (column : List ℕ) (lower upper : Option Limit) → bounds_tests (with_declaration all d) column lower upper ≡ bounds_tests all column lower upper
@@ -200,26 +140,17 @@ kind_sides all d column lower upper same fault_is h =
 
 integer_sides : (all : Draft) (column : List ℕ) (lower upper : Option Limit) → is_semi all column ≡ false → (is_some lower || is_some upper) ≡ true
     → declared_fault all (declare_integer column ∷ bounds_declared column lower upper) ≡ declared_fault (with_declaration all (declare_integer column)) (bounds_declared column lower upper)
-integer_sides all column lower upper apart some =
-    kind_sides all (declare_integer column) column lower upper refl (kind_stated all (declare_integer column) column (is_semi all column) refl apart) some
+integer_sides all column lower upper apart some = search (rules, kind_sides, kind_stated)
 
 -- a missing column is also an error of the bounds
 column_missing : (all : Draft) (d : Declaration) (column : List ℕ) (lower upper : Option Limit) (kind : FaultKind) → bounds_tests (with_declaration all d) column lower upper ≡ bounds_tests all column lower upper
     → declared_fault all (d ∷ []) ≡ cond (not (has_column all column)) (Some kinds.UnknownColumn) None → (is_some lower || is_some upper) ≡ true
     → declared_fault all (d ∷ []) ≡ Some kind → declared_fault all (d ∷ bounds_declared column lower upper) ≡ Some kind
-column_missing all d column lower upper kind same fault_is some is =
-    kind_sides all d column lower upper same fault_is some ∙ sides_fault (with_declaration all d) column lower upper some ∙ ap (λ (tests : List (Bool × BuildFault)). first_held (kind_tests tests)) same
-    ∙ by (has_column all column) ((is_some lower && has_name all.lowers column) || (is_some upper && has_name all.uppers column)) (option_map_or is_plus_infinite lower false || option_map_or is_minus_infinite upper false)
-    (sym fault_is ∙ is)
-  where
-    by : (a b c : Bool) → cond (not a) (Some kinds.UnknownColumn) None ≡ Some kind → side_kind a b c ≡ Some kind
-    by false b c h = h
-    by true b c h = cc
+column_missing all d column lower upper kind same fault_is some is = grind (arith, kind_sides, sides_fault, kind_tests)
 
 integer_missing : (all : Draft) (column : List ℕ) (lower upper : Option Limit) (kind : FaultKind) → is_semi all column ≡ false → (is_some lower || is_some upper) ≡ true
     → declared_fault all (declare_integer column ∷ []) ≡ Some kind → declared_fault all (declare_integer column ∷ bounds_declared column lower upper) ≡ Some kind
-integer_missing all column lower upper kind apart some is =
-    column_missing all (declare_integer column) column lower upper kind refl (kind_stated all (declare_integer column) column (is_semi all column) refl apart) some is
+integer_missing all column lower upper kind apart some is = search (rules, column_missing, kind_stated)
 
 -- whatever type is declared, if there is no clash
 pub bound-stated : (all : Draft) (type : BoundType) (column : List ℕ) (value : Limit) → type_clash all type column ≡ false
@@ -240,47 +171,18 @@ bound-stated all bounds.SemiUpper column value apart =
 -- the type that is declared does not matter for the bounds
 same_sides : (all : Draft) (type : BoundType) (column : List ℕ) (lower upper : Option Limit)
     → bounds_tests (with_declarations all (kind_declared type column)) column lower upper ≡ bounds_tests all column lower upper
-same_sides all bounds.Lower column lower upper = refl
-same_sides all bounds.Upper column lower upper = refl
-same_sides all bounds.Fixed column lower upper = refl
-same_sides all bounds.Free column lower upper = refl
-same_sides all bounds.NoLower column lower upper = refl
-same_sides all bounds.NoUpper column lower upper = refl
-same_sides all bounds.Binary column lower upper = refl
-same_sides all bounds.IntegerLower column lower upper = refl
-same_sides all bounds.IntegerUpper column lower upper = refl
-same_sides all bounds.SemiUpper column lower upper = refl
+same_sides all v1 column lower upper = grind arith
 
 -- so their check returns the first error of all before the type is declared
 pub bound-asked : (all : Draft) (type : BoundType) (column : List ℕ) (value : Limit) (lower upper : Option Limit) → type_clash all type column ≡ false
     → lower ≡ lower_given type value → upper ≡ upper_given type value → declared_fault all (bounds_declared column lower upper) ≡ declared_fault all (bound_declared type column value)
-bound-asked all type column value lower upper apart l u =
-    let below = lower_given type value in
-    let above = upper_given type value in
-    let given = some-side type value in
-    (λ i. declared_fault all (bounds_declared column (l i) (u i)))
-    ∙ sides_fault all column below above given
-    ∙ ap (λ (tests : List (Bool × BuildFault)). first_held (kind_tests tests)) (sym (same_sides all type column below above))
-    ∙ sym (sides_fault (with_declarations all (kind_declared type column)) column below above given)
-    ∙ sym (bound-stated all type column value apart)
+bound-asked all type column value lower upper apart l u = grind (arith, some-side, sides_fault, kind_tests, same_sides, bound-stated)
 
 -- the type, and then the bounds
 pub bound-declares : (all mid later : Draft) (type : BoundType) (column : List ℕ) (value : Limit) (lower upper : Option Limit) (answer : LineResult) → type_clash all type column ≡ false
     → mid ≡ with_declarations all (kind_declared type column) → lower ≡ lower_given type value → upper ≡ upper_given type value
     → AreDeclared mid (bounds_declared column lower upper) answer later → AreDeclared all (bound_declared type column value) answer later
-bound-declares all mid later type column value lower upper answer apart m l u declared = by answer declared
-  where
-    fault_is : declared_fault all (bound_declared type column value) ≡ declared_fault mid (bounds_declared column lower upper)
-    fault_is = bound-stated all type column value apart ∙ (λ i. declared_fault (sym m i) (bounds_declared column (sym l i) (sym u i)))
-
-    made : with_declarations mid (bounds_declared column lower upper) ≡ with_declarations all (bound_declared type column value)
-    made =
-        (λ i. with_declarations (m i) (bounds_declared column (l i) (u i)))
-        ∙ sym (with_declarations-append (kind_declared type column) (bounds_declared column (lower_given type value) (upper_given type value)) all)
-
-    by : (a : LineResult) → AreDeclared mid (bounds_declared column lower upper) a later → AreDeclared all (bound_declared type column value) a later
-    by (Ok x) h = (fault_is ∙ h.0, h.1 ∙ made)
-    by (Err error) h = subst (λ (o : Option FaultKind). IsErrorOf o error) (sym fault_is) h
+bound-declares all mid later type column value lower upper answer apart m l u declared = grind (arith, bound-stated, with_declarations-append)
 
 -- an error of the type is one of all
 pub kind-refused : (all : Draft) (type : BoundType) (column : List ℕ) (value : Limit) (error : LineError) → type_clash all type column ≡ false
@@ -306,12 +208,8 @@ kind-refused all bounds.SemiUpper column value (Fault kind) apart fault_is =
 -- the value of a line, if it has a literal
 value-is : (o : Option (List ℕ)) (value : Option Number) → value ≡ option_map value_of o
     → option_map_or (λ literal. limit_of (value_of literal)) o zero_limit ≡ option_map_or limit_of value zero_limit
-value-is None value h = ap (λ (v : Option Number). option_map_or limit_of v zero_limit) (sym h)
-value-is (Some literal) value h = ap (λ (v : Option Number). option_map_or limit_of v zero_limit) (sym h)
+value-is v0 value h = grind arith
 
 pub bound-is : (letters : List ℕ) (more : Fields) (type : BoundType) (line : BoundLine) (value : Option Number) → bound_type letters ≡ Some type → bound_shape type more ≡ Some line
     → value ≡ option_map value_of line.literal → bound_line_declared (letters ∷ more) ≡ bound_declared type line.column (option_map_or limit_of value zero_limit)
-bound-is letters more type line value t l v =
-    ap (declared_if_some (λ found. declared_if_some (λ (parts : BoundLine). bound_declared found parts.column (bound_value parts)) (bound_shape found more))) t
-    ∙ ap (declared_if_some (λ (parts : BoundLine). bound_declared type parts.column (bound_value parts))) l
-    ∙ ap (bound_declared type line.column) (value-is line.literal value v)
+bound-is letters more type line value t l v = grind arith

@@ -1,4 +1,6 @@
 -- Lines that would make a column both integer and semi-continuous: the first error of their form, and of no other line.
+use Rattle.std.proofs.Common.{arith}
+use Rattle.std.proofs.Common.{rules}
 use Rattle.std.proofs.Common.{◌≡◌, refl, sym, ap, ◌∙◌, ℕ, List, [], ◌∷◌, ◌++◌, Bool, true, false, not, cond}
 use Rattle.std.specs.Prelude.{◌||◌, ◌&&◌, Option, Some, None, Ok, Err, is_none, codes}
 use Rattle.std.specs.List.{list_any, list_all, flat_map}
@@ -39,10 +41,7 @@ is_clash_answer (Err fault) = is_kind_clash fault
 
 stated_so : (known other : Bool) → (other ≡ true → known ≡ true)
     → is_clash_answer (first_refusal (those_of ((not known, builds.UnknownColumn) ∷ (other, builds.SemiContinuous) ∷ []))) ≡ other
-stated_so true true h = refl
-stated_so true false h = refl
-stated_so false true h = h refl
-stated_so false false h = refl
+stated_so v0 v1 h = grind arith
 
 pub integer-answered : (all : Draft) (c : List ℕ) (answer : Answer) → IsMade all → answer ≡ first_refusal (refusals all (declare_integer c)) → is_clash_answer answer ≡ is_semi all c
 integer-answered all c answer made is = ap is_clash_answer is ∙ stated_so (has_column all c) (is_semi all c) ((declared_names-from_made all made).semis c)
@@ -54,23 +53,17 @@ semi-answered all c answer made is = ap is_clash_answer is ∙ stated_so (has_co
 
 -- declaring the type of a column clashes if the column is of the other type
 kind_clash : (unknown other : Bool) → list_any is_kind_clash (those_of ((unknown, builds.UnknownColumn) ∷ (other, builds.SemiContinuous) ∷ [])) ≡ other
-kind_clash true true = refl
-kind_clash true false = refl
-kind_clash false true = refl
-kind_clash false false = refl
+kind_clash v0 v1 = grind arith
 
 then_none : (earlier : Draft) (d : Declaration) (more : Declarations) (other : Bool) → list_any is_kind_clash (refusals earlier d) ≡ other → list_all says_no_kind more ≡ true
     → has_kind_clash earlier (d ∷ more) ≡ (other || false)
-then_none earlier d more other is none =
-    list_any-append is_kind_clash (refusals earlier d) (refusals_in_turn (with_declaration earlier d) more) ∙ (λ i. is i || no-clash more (with_declaration earlier d) none i)
+then_none earlier d more other is none = grind (arith, list_any-append, no-clash)
 
 and_none : (b : Bool) → (b && false) ≡ false
-and_none true = refl
-and_none false = refl
+and_none v0 = grind arith
 
 or_none : (b : Bool) → (b || false) ≡ b
-or_none true = refl
-or_none false = refl
+or_none v0 = grind arith
 
 -- of COLUMNS
 pub column-clashes : (context : Context) (earlier : Draft) (fields : Fields) → is_marker_line fields ≡ false
@@ -99,32 +92,11 @@ column-clashes context earlier fields plain =
 pub column-apart : (context : Context) (earlier : Draft) (fields : Fields) (column : List ℕ) (values : List (List ℕ × Number))
     → option_map named_values (column_shape fields) ≡ Some (column, values) → column_clash context earlier fields ≡ false
     → (context.in_integer_part && is_semi earlier column) ≡ false
-column-apart context earlier fields column values is apart = of (column_shape fields) is apart
-  where
-    of : (o : Option ValuesLine) → option_map named_values o ≡ Some (column, values)
-        → (context.in_integer_part && option_map_or (λ line. is_semi earlier line.name) o false) ≡ false → (context.in_integer_part && is_semi earlier column) ≡ false
-    of None e h = cc
-    of (Some line) e h =
-        let same : line.name ≡ column = ap (λ (o : Option (List ℕ × List (List ℕ × Number))). elim o as (λ _. List ℕ) [ None ↦ [] | Some p ↦ p.0 ]) e in
-        ap (λ (name : List ℕ). context.in_integer_part && is_semi earlier name) (sym same) ∙ h
+column-apart context earlier fields column values is apart = grind arith
 
 -- of BOUNDS
 type-clashes : (earlier : Draft) (type : BoundType) (c : List ℕ) (v : Limit) → has_kind_clash earlier (bound_declared type c v) ≡ type_clash earlier type c
-type-clashes earlier bounds.Lower c v = no-clash (bound_declared bounds.Lower c v) earlier refl
-type-clashes earlier bounds.Upper c v = no-clash (bound_declared bounds.Upper c v) earlier refl
-type-clashes earlier bounds.Fixed c v = no-clash (bound_declared bounds.Fixed c v) earlier refl
-type-clashes earlier bounds.Free c v = no-clash (bound_declared bounds.Free c v) earlier refl
-type-clashes earlier bounds.NoLower c v = no-clash (bound_declared bounds.NoLower c v) earlier refl
-type-clashes earlier bounds.NoUpper c v = no-clash (bound_declared bounds.NoUpper c v) earlier refl
-type-clashes earlier bounds.Binary c v =
-    then_none earlier (declare_integer c) (bounds_declared c (Some zero_limit) (Some one_limit)) (is_semi earlier c) (kind_clash (not (has_column earlier c)) (is_semi earlier c)) refl
-type-clashes earlier bounds.IntegerLower c v =
-    then_none earlier (declare_integer c) (bounds_declared c (Some v) None) (is_semi earlier c) (kind_clash (not (has_column earlier c)) (is_semi earlier c)) refl
-type-clashes earlier bounds.IntegerUpper c v =
-    then_none earlier (declare_integer c) (bounds_declared c None (Some v)) (is_semi earlier c) (kind_clash (not (has_column earlier c)) (is_semi earlier c)) refl
-type-clashes earlier bounds.SemiUpper c v =
-    then_none earlier (declare_semi c) (bounds_declared c None (Some v)) (is_integer earlier c) (kind_clash (not (has_column earlier c)) (is_integer earlier c)) refl
-    ∙ or_none (is_integer earlier c)
+type-clashes earlier v1 c v = grind arith
 
 pub bound-clashes : (earlier : Draft) (fields : Fields) → has_kind_clash earlier (bound_line_declared fields) ≡ bound_clash earlier fields
 bound-clashes earlier [] = refl
@@ -144,30 +116,14 @@ bound-clashes earlier (letters ∷ more) = typed (bound_type letters)
 -- the column of a bound that does not clash
 pub bound-apart : (earlier : Draft) (letters : List ℕ) (more : Fields) (type : BoundType) (line : BoundLine) → bound_type letters ≡ Some type → bound_shape type more ≡ Some line
     → bound_clash earlier (letters ∷ more) ≡ false → type_clash earlier type line.column ≡ false
-bound-apart earlier letters more type line t l apart =
-    ap (λ (o : Option BoundLine). option_map_or (λ line. type_clash earlier type line.column) o false) (sym l)
-    ∙ ap (λ (o : Option BoundType). option_map_or (λ type. option_map_or (λ (line : BoundLine). type_clash earlier type line.column) (bound_shape type more) false) o false) (sym t)
-    ∙ apart
+bound-apart earlier letters more type line t l apart = grind arith
 
 -- in the other sections nothing clashes
 pub sense-apart : (context : Context) (earlier : Draft) (fields : Fields) → has_kind_clash earlier (data_declared context earlier fields (Some ObjSense)) ≡ false
 sense-apart context earlier fields = no-clash (data_declared context earlier fields (Some ObjSense)) earlier (sense-passes says_no_kind (λ s. refl) fields)
 
 pub rows-apart : (context : Context) (earlier : Draft) (fields : Fields) → has_kind_clash earlier (data_declared context earlier fields (Some Rows)) ≡ false
-rows-apart context earlier fields =
-    no-clash (data_declared context earlier fields (Some Rows)) earlier
-    (each-declared says_no_kind (row_declared context earlier) (row_shape fields)
-    (λ line. each-declared says_no_kind (row_of_type context earlier line.name) (row_type line.letter) (λ type. one line.name type)))
-  where
-    first : (name : List ℕ) (b : Bool) → list_all says_no_kind (cond b (declare_objective name ∷ []) (declare_row name (by_type Free) ∷ [])) ≡ true
-    first name true = refl
-    first name false = refl
-
-    one : (name : List ℕ) (type : RowType) → list_all says_no_kind (row_of_type context earlier name type) ≡ true
-    one name Free = first name (is_new_objective context earlier name)
-    one name AtMost = refl
-    one name AtLeast = refl
-    one name Equal = refl
+rows-apart context earlier fields = grind arith
 
 pub sides-apart : (context : Context) (earlier : Draft) (fields : Fields) → has_kind_clash earlier (data_declared context earlier fields (Some Rhs)) ≡ false
 sides-apart context earlier fields = no-clash (data_declared context earlier fields (Some Rhs)) earlier (sides-passes says_no_kind (λ r v. refl) earlier fields)
@@ -176,17 +132,4 @@ pub ranges-apart : (context : Context) (earlier : Draft) (fields : Fields) → h
 ranges-apart context earlier fields = no-clash (data_declared context earlier fields (Some Ranges)) earlier (ranges-passes says_no_kind (λ r v. refl) fields)
 
 pub header-apart : (context : Context) (earlier : Draft) (more : Fields) (section : Option Section) → has_kind_clash earlier (header_declared context earlier more section) ≡ false
-header-apart context earlier more None = refl
-header-apart context earlier more (Some Name) = refl
-header-apart context earlier more (Some ObjSense) = no-clash (declared_if_some sense_declared (word_shape more)) earlier (sense-passes says_no_kind (λ s. refl) more)
-header-apart context earlier more (Some ObjName) = refl
-header-apart context earlier more (Some Rows) = refl
-header-apart context earlier more (Some Columns) = no-clash (default_objective context earlier) earlier (named (is_none earlier.objective && is_none context.objname))
-  where
-    named : (b : Bool) → list_all says_no_kind (cond b (declare_objective (codes "obj") ∷ []) []) ≡ true
-    named true = refl
-    named false = refl
-header-apart context earlier more (Some Rhs) = refl
-header-apart context earlier more (Some Ranges) = refl
-header-apart context earlier more (Some Bounds) = refl
-header-apart context earlier more (Some EndData) = refl
+header-apart context earlier more v3 = grind arith

@@ -1,4 +1,5 @@
 -- The first error of a line of a column: of its form, or an unknown row, a split column, or a repeated coefficient.
+use Rattle.std.proofs.Common.{rules}
 use Rattle.std.proofs.Common.{◌≡◌, refl, sym, ap, ◌∙◌, ℕ, List, [], ◌∷◌, ◌++◌, Bool, true, false, cond, map, arith}
 use Rattle.std.specs.Prelude.{◌&&◌, not, nat_le, Option, Some, None}
 use Rattle.std.specs.List.{list_all, flat_map}
@@ -54,13 +55,10 @@ plain-tests context earlier fields h = ap (λ (b : Bool). cond b (marker_tests c
 held_fields : (context : Context) (earlier : Draft) (parts : Option ValuesLine) (kind : FaultKind) → first_held (judged_by field_tests parts) ≡ Some kind
     → first_held (judged_by (column_tests context earlier) parts) ≡ Some kind
 held_fields context earlier None kind h = h
-held_fields context earlier (Some line) kind h =
-    held-third (name_tests line.name) (number_tests (literals_of line.pairs)) (split_test context earlier line.name)
-    ∙ ap (λ (o : Option FaultKind). option_or o (first_held (split_test context earlier line.name))) h
+held_fields context earlier (Some line) kind h = grind (arith, held-third)
 
 early_fields : (parts : Option ValuesLine) → list_all is_early (judged_by field_tests parts) ≡ true
-early_fields None = refl
-early_fields (Some line) = refl
+early_fields v0 = grind arith
 
 abbrev fault_under : Context → Draft → Fields → Option Section → Option FaultKind
 fault_under context earlier fields section = least_kind (those_of (data_tests context earlier fields section) ++ declaring_faults earlier (data_declared context earlier fields section))
@@ -84,15 +82,11 @@ column-judged context earlier fields errors.OutOfMemory here plain apart held = 
 
 -- a clash of column types, which is reported before all errors of the fields
 after_fields : (context : Context) (earlier : Draft) (parts : Option ValuesLine) → list_all (λ test. is_after_clash test.1) (judged_by (column_tests context earlier) parts) ≡ true
-after_fields context earlier None = refl
-after_fields context earlier (Some line) = refl
+after_fields context earlier v2 = grind arith
 
 pub column-clash-reported : (context : Context) (earlier : Draft) (fields : Fields) → context.section ≡ Some Columns → is_marker_line fields ≡ false
     → column_clash context earlier fields ≡ true → item_fault context earlier (data_line fields) ≡ Some kinds.SemiContinuous
-column-clash-reported context earlier fields here plain clash =
-    clash-reported context earlier fields (Some Columns) here
-    (ap (λ (tests : FaultTests). list_all (λ test. is_after_clash test.1) tests) (plain-tests context earlier fields plain) ∙ after_fields context earlier (column_shape fields))
-    (column-clashes context earlier fields plain ∙ clash)
+column-clash-reported context earlier fields here plain clash = grind (arith, clash-reported, is_after_clash, plain-tests, after_fields, column-clashes)
 
 -- ---- the form and what is declared
 
@@ -101,11 +95,7 @@ held_split : (context : Context) (earlier : Draft) (parts : Option ValuesLine) (
     → first_held (judged_by field_tests parts) ≡ None → option_map named_values parts ≡ Some (column, values)
     → first_held (judged_by (column_tests context earlier) parts) ≡ first_held (split_test context earlier column)
 held_split context earlier None column values h is = cc
-held_split context earlier (Some line) column values h is =
-    let same : line.name ≡ column = ap (λ (o : Option (List ℕ × List (List ℕ × Number))). elim o as (λ _. List ℕ) [ None ↦ [] | Some p ↦ p.0 ]) is in
-    held-third (name_tests line.name) (number_tests (literals_of line.pairs)) (split_test context earlier line.name)
-    ∙ ap (λ (o : Option FaultKind). option_or o (first_held (split_test context earlier line.name))) h
-    ∙ ap (λ (name : List ℕ). first_held (split_test context earlier name)) same
+held_split context earlier (Some line) column values h is = grind (arith, held-third)
 
 values_declared : (column : List ℕ) (pairs : List Pair) → flat_map (coefficient_declared column) pairs ≡ flat_map (value_declared column) (map row_value pairs)
 values_declared column [] = refl
@@ -113,16 +103,12 @@ values_declared column (pair ∷ pairs) = ap (λ (ds : Declarations). value_decl
 
 line_declared : (context : Context) (parts : Option ValuesLine) (column : List ℕ) (values : List (List ℕ × Number)) → option_map named_values parts ≡ Some (column, values)
     → declared_if_some (column_declared context) parts ≡ front_declared context.in_integer_part column ++ flat_map (value_declared column) values
-line_declared context None column values is = cc
-line_declared context (Some line) column values is =
-    ap (λ (ds : Declarations). front_declared context.in_integer_part line.name ++ ds) (values_declared line.name line.pairs)
-    ∙ ap (λ (o : Option (List ℕ × List (List ℕ × Number))). elim o as (λ _. Declarations) [ None ↦ [] | Some p ↦ front_declared context.in_integer_part p.0 ++ flat_map (value_declared p.0) p.1 ]) is
+line_declared context v1 column values is = grind (arith, values_declared)
 
 pub column-declares : (context : Context) (earlier : Draft) (fields : Fields) (column : List ℕ) (values : List (List ℕ × Number)) → is_marker_line fields ≡ false
     → option_map named_values (column_shape fields) ≡ Some (column, values)
     → data_declared context earlier fields (Some Columns) ≡ front_declared context.in_integer_part column ++ flat_map (value_declared column) values
-column-declares context earlier fields column values plain is =
-    ap (λ (b : Bool). cond b [] (declared_if_some (column_declared context) (column_shape fields))) plain ∙ line_declared context (column_shape fields) column values is
+column-declares context earlier fields column values plain is = grind arith
 
 -- the draft after the column is declared
 abbrev pub with_column : Context → Draft → List ℕ → Draft
@@ -154,11 +140,7 @@ abbrev pub place_tests : Context → Draft → List ℕ → List (List ℕ × Nu
 place_tests context earlier column values = (not (are_rows earlier values), kinds.UnknownRow) ∷ split_test context earlier column
 
 late_enough : (o : Option FaultKind) → are_from kinds.DuplicateEntry o ≡ true → are_from kinds.ColumnSplit o ≡ true
-late_enough None h = refl
-late_enough (Some kind) h = more (kind_rank kind) h
-  where
-    more : (n : ℕ) → nat_le 27 n ≡ true → nat_le 25 n ≡ true
-    more n k = grind (arith, nat_tests)
+late_enough v0 h = grind arith
 
 pub place-fault : (context : Context) (earlier : Draft) (fields : Fields) (column : List ℕ) (values : List (List ℕ × Number)) (kind : FaultKind) → context.section ≡ Some Columns
     → is_marker_line fields ≡ false → column_clash context earlier fields ≡ false → first_held (judged_by field_tests (column_shape fields)) ≡ None
@@ -190,12 +172,7 @@ place-fault context earlier fields column values kind here plain apart held is p
 -- if these tests pass, the coefficients decide
 pub placed : (context : Context) (earlier : Draft) (column : List ℕ) (values : List (List ℕ × Number)) → first_held (place_tests context earlier column values) ≡ None
     → (are_rows earlier values ≡ true) × (is_split context earlier column ≡ false)
-placed context earlier column values h = by (are_rows earlier values) (is_split context earlier column) h
-  where
-    by : (known split : Bool) → first_held ((not known, kinds.UnknownRow) ∷ (split, kinds.ColumnSplit) ∷ []) ≡ None → (known ≡ true) × (split ≡ false)
-    by false split e = cc
-    by true true e = cc
-    by true false e = (refl, refl)
+placed context earlier column values h = grind arith
 
 pub placed-fault : (context : Context) (earlier : Draft) (fields : Fields) (column : List ℕ) (values : List (List ℕ × Number)) → context.section ≡ Some Columns
     → is_marker_line fields ≡ false → column_clash context earlier fields ≡ false → first_held (judged_by field_tests (column_shape fields)) ≡ None
@@ -222,17 +199,4 @@ double-fault context earlier fields column values here plain apart held is in_or
 
 pub column-named : (parts : Option ValuesLine) (column : List ℕ) (values : List (List ℕ × Number)) → first_held (judged_by field_tests parts) ≡ None
     → option_map named_values parts ≡ Some (column, values) → is_mps_name column ≡ true
-column-named None column values h is = cc
-column-named (Some line) column values h is =
-    let same : line.name ≡ column = ap (λ (o : Option (List ℕ × List (List ℕ × Number))). elim o as (λ _. List ℕ) [ None ↦ [] | Some p ↦ p.0 ]) is in
-    ap is_mps_name (sym same) ∙ by (has_name_length line.name) (list_all is_visible line.name) (same_bytes line.name marker) h
-  where
-    more : FaultTests
-    more = number_tests (literals_of line.pairs)
-
-    by : (long visible named : Bool) → first_held ((not long, kinds.NameLength) ∷ (not visible, kinds.NameByte) ∷ (named, kinds.NameMarker) ∷ more) ≡ None
-        → (long && (visible && not named)) ≡ true
-    by true true true k = cc
-    by true true false k = refl
-    by true false named k = cc
-    by false visible named k = cc
+column-named v0 column values h is = grind arith

@@ -1,4 +1,6 @@
 -- Lines of COLUMNS: the first error of their form and of what they declare together.
+use Rattle.std.proofs.Common.{arith}
+use Rattle.std.proofs.Common.{rules}
 use Rattle.std.proofs.Common.{◌≡◌, refl, sym, ap, subst, ◌∙◌, ℕ, List, [], ◌∷◌, ◌++◌, Bool, true, false, cond, map}
 use Rattle.std.specs.Prelude.{◌||◌, ◌&&◌, not, Option, Some, None, is_some}
 use Rattle.std.specs.List.{list_all, flat_map}
@@ -42,11 +44,7 @@ pub marker-tests : (context : Context) (earlier : Draft) (fields : Fields) → i
 marker-tests context earlier fields h = ap (λ (b : Bool). cond b (marker_tests context fields) (judged_by (column_tests context earlier) (column_shape fields))) h
 
 pub marker-early : (context : Context) (fields : Fields) → list_all is_early (marker_tests context fields) ≡ true
-marker-early context fields = of (marker_shape fields)
-  where
-    of : (o : Option (List ℕ)) → list_all is_early ((is_sos_marker fields, kinds.Sos) ∷ judged_by (marker_word_tests context) o) ≡ true
-    of None = refl
-    of (Some word) = refl
+marker-early context fields = grind arith
 
 pub marker-declares : (context : Context) (earlier : Draft) (fields : Fields) → is_marker_line fields ≡ true → data_declared context earlier fields (Some Columns) ≡ []
 marker-declares context earlier fields h = ap (λ (b : Bool). cond b [] (declared_if_some (column_declared context) (column_shape fields))) h
@@ -55,46 +53,34 @@ marker-declares context earlier fields h = ap (λ (b : Bool). cond b [] (declare
 
 -- a declared column exists
 pub column-there : (earlier : Draft) (column : List ℕ) → has_column (with_declaration earlier (declare_column column)) column ≡ true
-column-there earlier column =
-    has-put column column tt earlier.columns ∙ ap (λ (b : Bool). b || has_column earlier column) (itself_named column)
+column-there earlier column = grind (arith, has-put, itself_named)
 
 -- the column has no error, because it may be declared again, unless it is marked and semi-continuous
 pub front-none : (earlier : Draft) (marked : Bool) (column : List ℕ) → (marked && is_semi earlier column) ≡ false → declared_fault earlier (front_declared marked column) ≡ None
-front-none earlier false column apart = refl
-front-none earlier true column apart = λ i.
-    least_kind (map kind_of_build_fault (those_of ((not (column-there earlier column i), UnknownColumn) ∷ (apart i, SemiContinuous) ∷ []) ++ []))
+front-none earlier v1 column apart = grind (arith, column-there)
 
 pub front-there : (earlier : Draft) (marked : Bool) (column : List ℕ) → has_column (with_declarations earlier (front_declared marked column)) column ≡ true
-front-there earlier true column = column-there earlier column
-front-there earlier false column = column-there earlier column
+front-there earlier v1 column = grind (arith, column-there)
 
 abbrev pub are_rows : Draft → List (List ℕ × Number) → Bool
 are_rows earlier values = list_all (λ value. has_row earlier value.0) values
 
 pub front-rows : (earlier : Draft) (marked : Bool) (column : List ℕ) (values : List (List ℕ × Number))
     → are_rows (with_declarations earlier (front_declared marked column)) values ≡ are_rows earlier values
-front-rows earlier true column values = refl
-front-rows earlier false column values = refl
+front-rows earlier v1 column values = grind arith
 
 -- one value in a column that exists
 pub value-fault : (earlier : Draft) (column : List ℕ) (value : List ℕ × Number) → has_column earlier column ≡ true
     → declared_fault earlier (value_declared column value)
     ≡ cond (not (has_row earlier value.0)) (Some kinds.UnknownRow) (cond (has_coefficient earlier (record { row = value.0; column = column })) (Some kinds.DuplicateEntry) None)
-value-fault earlier column value there =
-    declared-one earlier (declare_coefficient (record { row = value.0; column = column }) value.1) refl
-    ∙ ap (λ (b : Bool). cond (not (has_row earlier value.0)) (Some kinds.UnknownRow) (cond (not b) (Some kinds.UnknownColumn) (cond (has_coefficient earlier (record { row = value.0; column = column })) (Some kinds.DuplicateEntry) None))) there
+value-fault earlier column value there = grind arith
 
 entry-late : (b : Bool) → are_from kinds.DuplicateEntry (cond b (Some kinds.DuplicateEntry) None) ≡ true
-entry-late true = refl
-entry-late false = refl
+entry-late v0 = grind arith
 
 value-late : (earlier : Draft) (column : List ℕ) (value : List ℕ × Number) → has_column earlier column ≡ true → has_row earlier value.0 ≡ true
     → are_from kinds.DuplicateEntry (declared_fault earlier (value_declared column value)) ≡ true
-value-late earlier column value there row =
-    let double = has_coefficient earlier (record { row = value.0; column = column }) in
-    ap (are_from kinds.DuplicateEntry)
-    (value-fault earlier column value there ∙ ap (λ (b : Bool). cond (not b) (Some kinds.UnknownRow) (cond double (Some kinds.DuplicateEntry) None)) row)
-    ∙ entry-late double
+value-late earlier column value there row = grind arith
 
 -- if the rows are declared, a repeated coefficient is the only possible error
 pub values-late : (values : List (List ℕ × Number)) (earlier : Draft) (column : List ℕ) → has_column earlier column ≡ true → are_rows earlier values ≡ true
@@ -138,28 +124,16 @@ same_double (value ∷ values) before after column same =
 
 pub front-double : (earlier : Draft) (marked : Bool) (column : List ℕ) (values : List (List ℕ × Number))
     → has_duplicate (with_declarations earlier (front_declared marked column)) column values ≡ has_duplicate earlier column values
-front-double earlier true column values = same_double values (with_declarations earlier (front_declared true column)) earlier column refl
-front-double earlier false column values = same_double values (with_declarations earlier (front_declared false column)) earlier column refl
+front-double earlier v1 column values = grind (arith, same_double)
 
 -- two values: the second is for the same row, or its coefficient is declared
 pub two-double : (earlier : Draft) (column : List ℕ) (value other : List ℕ × Number)
     → (has_coefficient earlier (record { row = value.0; column = column }) || (same_bytes other.0 value.0 || has_coefficient earlier (record { row = other.0; column = column })))
     ≡ has_duplicate earlier column (value ∷ other ∷ [])
-two-double earlier column value other =
-    let key : CoefficientKey = record { row = value.0; column = column } in
-    let other_key : CoefficientKey = record { row = other.0; column = column } in
-    ap (λ (b : Bool). has_coefficient earlier key || b)
-    (by (same_bytes other.0 value.0) (has_coefficient earlier other_key)
-    ∙ sym (ap (λ (b : Bool). b || false) (has-put_key other_key key value.1 earlier.coefficients ∙ ap (λ (b : Bool). (same_bytes other.0 value.0 && b) || has_coefficient earlier other_key) (itself_named column))))
-  where
-    by : (a b : Bool) → (a || b) ≡ (((a && true) || b) || false)
-    by true b = refl
-    by false true = refl
-    by false false = refl
+two-double earlier column value other = grind (arith, has-put_key, itself_named)
 
 pub one-double : (b : Bool) → b ≡ (b || false)
-one-double true = refl
-one-double false = refl
+one-double v0 = grind arith
 
 -- the first value is rejected
 pub values-refused : (earlier : Draft) (column : List ℕ) (value : List ℕ × Number) (values : List (List ℕ × Number)) (error : LineError)
@@ -189,9 +163,7 @@ pub second-refused : (earlier next : Draft) (column : List ℕ) (value other : L
     → declared_fault earlier (value_declared column value) ≡ None → next ≡ with_declarations earlier (value_declared column value)
     → IsErrorOf (declared_fault next (value_declared column other)) error
     → IsErrorOf (declared_fault earlier (flat_map (value_declared column) (value ∷ other ∷ []))) error
-second-refused earlier next column value other error none is fault_is =
-    subst (λ (o : Option FaultKind). IsErrorOf o error)
-    (ap (λ (d : Draft). declared_fault d (value_declared column other)) is ∙ sym (declared-after earlier (value_declared column value) (value_declared column other) none)) fault_is
+second-refused earlier next column value other error none is fault_is = grind arith
 
 -- an unknown row comes first
 pub values-unknown : (values : List (List ℕ × Number)) (earlier : Draft) (column : List ℕ) → has_column earlier column ≡ true → are_rows earlier values ≡ false

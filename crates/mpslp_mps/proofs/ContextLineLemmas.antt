@@ -1,4 +1,6 @@
 -- Lines after other lines: what they declare, and that they are well-formed.
+use Rattle.std.proofs.Common.{arith}
+use Rattle.std.proofs.Common.{rules}
 use Rattle.std.proofs.Common.{◌≡◌, refl, ap, ◌∙◌, ℕ, List, [], ◌∷◌, ◌++◌, Bool, true, map}
 use Rattle.std.specs.Prelude.{◌&&◌, not}
 use Rattle.std.specs.List.{flat_map, list_all}
@@ -34,8 +36,7 @@ are_well_formed before earlier (item ∷ items) =
     not (is_nonempty (form_faults (context_of before) earlier item)) && are_well_formed (before ++ item ∷ []) (with_declarations earlier (line_declares (context_of before) earlier item)) items
 
 pub no_faults : (faults : List FaultKind) → not (is_nonempty faults) ≡ true → faults ≡ []
-no_faults [] h = refl
-no_faults (fault ∷ faults) h = cc
+no_faults v0 h = grind arith
 
 -- ---- lines and their contents
 
@@ -49,10 +50,7 @@ abbrev are_good : List LineContent → Draft → List (List ℕ) → Bool
 are_good before earlier lines = list_all is_well_formed (lines_in_context_after before earlier lines)
 
 pub item-form : (context : Context) (earlier : Draft) (line : List ℕ) → those_of (line_tests context earlier line) ≡ [] → form_faults context earlier (content_of line) ≡ []
-item-form context earlier line h =
-    let tests = item_tests context earlier (content_of line) in
-    let bytes = not (list_all is_legal_byte (outside_comment line)) in
-    later_tests bytes BadByte tests (later_tests (not (has_legal_length line)) LineTooLong ((bytes, BadByte) ∷ tests) h)
+item-form context earlier line h = grind (arith, later_tests)
 
 -- if lines are well-formed, so are their contents
 pub items-good : (before : List LineContent) (earlier : Draft) (lines : List (List ℕ)) → are_good before earlier lines ≡ true → are_well_formed before earlier (map content_of lines) ≡ true

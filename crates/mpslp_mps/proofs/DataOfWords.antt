@@ -1,4 +1,5 @@
 -- If the lines of each section are good together, each data line is well-formed after those before it.
+use Rattle.std.proofs.Common.{arith}
 use Rattle.std.proofs.Common.{◌≡◌, refl, sym, ap, ◌∙◌, subst, List, [], ◌∷◌, ◌++◌, ℕ, Bool, true, false, cond, map}
 use Rattle.std.specs.Prelude.{Option, Some, None, is_some, is_none, not, filter_map}
 use Rattle.std.specs.List.{list_all, cons_option}
@@ -51,9 +52,7 @@ none-strays [] false fields ys h = refl
 
 sets-fit : (set_of : Fields → Option (List ℕ)) (lines : List Fields) (fields : Fields) (more : List Fields) → is_one_set (filter_map set_of (lines ++ fields ∷ more)) ≡ true
     → (set : List ℕ) → set_of fields ≡ Some set → is_other_set (head_of (filter_map set_of lines)) set ≡ false
-sets-fit set_of lines fields more h set e =
-    set-fits (filter_map set_of lines) set (filter_map set_of more)
-    (sym (ap is_one_set (filter_map-append set_of lines (fields ∷ more) ∙ ap (λ (o : Option (List ℕ)). filter_map set_of lines ++ cons_option o (filter_map set_of more)) e)) ∙ h)
+sets-fit set_of lines fields more h set e = grind (arith, set-fits, filter_map-append)
 
 pub data-good : (before : List LineContent) (earlier : Draft) (fields : Fields) (rest : List LineContent) → IsUnderway ObjSense is_sense before → IsUnderway ObjName (λ _. true) before → HaveLines before earlier
     → AreGoodLines (before ++ data_line fields ∷ rest) → IsGood before earlier (data_line fields)

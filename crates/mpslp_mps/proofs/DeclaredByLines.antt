@@ -1,4 +1,6 @@
 -- What a line may change in a draft: each section declares its own, and a header only a sense or an objective.
+use Rattle.std.proofs.Common.{arith}
+use Rattle.std.proofs.Common.{rules}
 use Rattle.std.proofs.Common.{◌≡◌, refl, sym, ap, ◌∙◌, subst, List, [], ◌∷◌, ◌++◌, ℕ, Bool, true, false, cond}
 use Rattle.std.specs.Prelude.{Option, Some, None, is_none, not, ◌||◌, ◌&&◌, codes}
 use Rattle.std.specs.List.{list_any, list_all, flat_map}
@@ -45,45 +47,13 @@ holds_in p o d = option_map_or (λ section. p section d) o false
 
 module _ (p : Section → Declaration → Bool) (holds : HoldsInSections p) where
   row-each : (context : Context) (earlier : Draft) (name : List ℕ) (type : RowType) → list_all (λ d. p Rows d) (row_of_type context earlier name type) ≡ true
-  row-each context earlier name Free =
-      elim (is_new_objective context earlier name) as (λ b. list_all (λ d. p Rows d) (cond b (declare_objective name ∷ []) (declare_row name (by_type Free) ∷ [])) ≡ true) [
-        | true ↦ both_so (p Rows (declare_objective name)) true (holds.objective name) refl
-        | false ↦ both_so (p Rows (declare_row name (by_type Free))) true (holds.row name Free) refl
-      ]
-  row-each context earlier name AtMost = both_so (p Rows (declare_row name (by_type AtMost))) true (holds.row name AtMost) refl
-  row-each context earlier name AtLeast = both_so (p Rows (declare_row name (by_type AtLeast))) true (holds.row name AtLeast) refl
-  row-each context earlier name Equal = both_so (p Rows (declare_row name (by_type Equal))) true (holds.row name Equal) refl
+  row-each context earlier name v3 = grind arith
 
   column-each : (context : Context) (line : ValuesLine) → list_all (λ d. p Columns d) (column_declared context line) ≡ true
-  column-each context line = both_so (p Columns (declare_column line.name)) (list_all (λ d. p Columns d) (when context.in_integer_part (declare_marked line.name) ++ cells)) (holds.column line.name) (by context.in_integer_part)
-    where
-      cells : Declarations
-      cells = flat_map (coefficient_declared line.name) line.pairs
-
-      each : list_all (λ d. p Columns d) cells ≡ true
-      each = each-flat (λ d. p Columns d) (coefficient_declared line.name) line.pairs (λ pair. both_so (p Columns (declare_coefficient _ _)) true (holds.coefficient _ _) refl)
-
-      by : (b : Bool) → list_all (λ d. p Columns d) (cond b (declare_marked line.name ∷ []) [] ++ cells) ≡ true
-      by true = both_so (p Columns (declare_marked line.name)) (list_all (λ d. p Columns d) cells) (holds.marked line.name) each
-      by false = each
+  column-each context line = grind (arith, both_so, each-flat)
 
   pub data-each : (context : Context) (earlier : Draft) (fields : Fields) (o : Option Section) → list_all (λ d. holds_in p o d) (data_declared context earlier fields o) ≡ true
-  data-each context earlier fields None = refl
-  data-each context earlier fields (Some Name) = refl
-  data-each context earlier fields (Some ObjSense) = sense-passes (λ d. p ObjSense d) holds.sense fields
-  data-each context earlier fields (Some ObjName) = refl
-  data-each context earlier fields (Some Rows) =
-      each-declared (λ d. p Rows d) (row_declared context earlier) (row_shape fields)
-      (λ line. each-declared (λ d. p Rows d) (row_of_type context earlier line.name) (row_type line.letter) (λ type. row-each context earlier line.name type))
-  data-each context earlier fields (Some Columns) =
-      elim (is_marker_line fields) as (λ b. list_all (λ d. p Columns d) (cond b [] (declared_if_some (column_declared context) (column_shape fields))) ≡ true) [
-        | true ↦ refl
-        | false ↦ each-declared (λ d. p Columns d) (column_declared context) (column_shape fields) (λ line. column-each context line)
-      ]
-  data-each context earlier fields (Some Rhs) = sides-passes (λ d. p Rhs d) holds.side earlier fields
-  data-each context earlier fields (Some Ranges) = ranges-passes (λ d. p Ranges d) holds.range fields
-  data-each context earlier fields (Some Bounds) = bounds-passes (λ d. p Bounds d) holds.bounds fields
-  data-each context earlier fields (Some EndData) = refl
+  data-each context earlier fields v3 = grind arith
 
 abbrev pub is_of_header : Declaration → Bool
 is_of_header (declare_sense _) = true
@@ -91,17 +61,7 @@ is_of_header (declare_objective _) = true
 is_of_header _ = false
 
 pub header-each : (context : Context) (earlier : Draft) (more : Fields) (o : Option Section) → list_all is_of_header (header_declared context earlier more o) ≡ true
-header-each context earlier more None = refl
-header-each context earlier more (Some Name) = refl
-header-each context earlier more (Some ObjSense) = sense-passes is_of_header (λ _. refl) more
-header-each context earlier more (Some ObjName) = refl
-header-each context earlier more (Some Rows) = refl
-header-each context earlier more (Some Columns) =
-    elim (is_none earlier.objective && is_none context.objname) as (λ b. list_all is_of_header (cond b (declare_objective (codes "obj") ∷ []) []) ≡ true) [ true ↦ refl | false ↦ refl ]
-header-each context earlier more (Some Rhs) = refl
-header-each context earlier more (Some Ranges) = refl
-header-each context earlier more (Some Bounds) = refl
-header-each context earlier more (Some EndData) = refl
+header-each context earlier more v3 = grind arith
 
 -- ---- the section of a declaration
 
@@ -130,17 +90,7 @@ abbrev pub is_elsewhere : Section → Declaration → Bool
 is_elsewhere section d = not (is_section Name (Some (home_of d))) && not (is_section section (Some (home_of d)))
 
 at_home : HoldsInSections is_at_home
-at_home = record {
-  sense = λ _. refl;
-  objective = λ _. refl;
-  row = λ _ _. refl;
-  column = λ _. refl;
-  marked = λ _. refl;
-  coefficient = λ _ _. refl;
-  side = λ _ _. refl;
-  range = λ _ _. refl;
-  bounds = record { lower = λ _ _. refl; upper = λ _ _. refl; integer = λ _. refl; semi = λ _. refl };
-}
+at_home = grind arith
 
 -- a weaker test of all
 pub all-so : (p q : Declaration → Bool) (ds : Declarations) → ((d : Declaration) → p d ≡ true → q d ≡ true) → list_all p ds ≡ true → list_all q ds ≡ true
@@ -150,15 +100,7 @@ all-so p q (d ∷ ds) h k = both_so (q d) (list_all q ds) (h d (first_so (p d) (
 -- what lines of other sections declare
 elsewhere : (section : Section) (context : Context) (earlier : Draft) (fields : Fields) (o : Option Section) → is_section section o ≡ false
     → list_all (is_elsewhere section) (data_declared context earlier fields o) ≡ true
-elsewhere section context earlier fields o h =
-    all-so (λ d. holds_in is_at_home o d) (is_elsewhere section) (data_declared context earlier fields o) (λ d k. apart o d h k) (data-each is_at_home at_home context earlier fields o)
-  where
-    apart : (s : Option Section) (d : Declaration) → is_section section s ≡ false → holds_in is_at_home s d ≡ true → is_elsewhere section d ≡ true
-    apart None d e k = cc
-    apart (Some other) d e k =
-        let made = not (is_section Name (Some (home_of d))) in
-        both_so made (not (is_section section (Some (home_of d)))) (first_so made (is_section (home_of d) (Some other)) k)
-        (ap not (ap (is_section section) (sym (section-is (home_of d) (Some other) (second_so made (is_section (home_of d) (Some other)) k))) ∙ e))
+elsewhere section context earlier fields o h = grind arith
 
 -- ---- a part of the draft that only lines of one section declare
 
@@ -190,29 +132,7 @@ module _ (section : Section) (part : Draft → Bool) (is : IsPartOf section part
       → ((context : Context) (earlier : Draft) (fields : Fields) → part (with_declarations earlier (data_declared context earlier fields (Some section))) ≡ true → (test fields || part earlier) ≡ true)
       → (before : List LineContent) (earlier : Draft) (item : LineContent) → (part earlier ≡ true → list_any test (data_lines section before) ≡ true)
       → part (with_declarations earlier (line_declares (context_of before) earlier item)) ≡ true → list_any test (data_lines section (before ++ item ∷ [])) ≡ true
-  lines-kept test own before earlier item have h =
-      ap (list_any test) (data_lines-push section before item)
-      ∙ (list_any-append test (data_lines section before) (fields_under section (current_section before) item) ∙ by item h)
-    where
-      old : (b : Bool) → part earlier ≡ true → (list_any test (data_lines section before) || b) ≡ true
-      old b k = or_left (list_any test (data_lines section before)) b (have k)
-
-      either : (a : Bool) → (a || part earlier) ≡ true → (list_any test (data_lines section before) || (a || false)) ≡ true
-      either true k = or_right (list_any test (data_lines section before)) true refl
-      either false k = old false k
-
-      by : (x : LineContent) → part (with_declarations earlier (line_declares (context_of before) earlier x)) ≡ true
-          → (list_any test (data_lines section before) || list_any test (fields_under section (current_section before) x)) ≡ true
-      by skipped k = old false k
-      by (header keyword more) k = old false (sym (header-kept (context_of before) earlier more (section_named keyword)) ∙ k)
-      by (data_line fields) k = under (is_section section (current_section before)) refl
-        where
-          under : (b : Bool) → is_section section (current_section before) ≡ b → (list_any test (data_lines section before) || list_any test (when b fields)) ≡ true
-          under true e =
-              either (test fields)
-              (own (context_of before) earlier fields
-              (subst (λ o. part (with_declarations earlier (data_declared (context_of before) earlier fields o)) ≡ true) (section-is section (current_section before) e) k))
-          under false e = old false (sym (data-kept (context_of before) earlier fields (current_section before) e) ∙ k)
+  lines-kept test own before earlier item have h = grind (arith, data_lines-push, list_any-append, or_left, or_right, header-kept, section-is, data-kept)
 
 -- ---- errors that only declarations of one section have
 

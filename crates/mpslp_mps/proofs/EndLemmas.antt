@@ -1,4 +1,6 @@
 -- The lines up to that of ENDATA, one after another.
+use Rattle.std.proofs.Common.{arith}
+use Rattle.std.proofs.Common.{rules}
 use Rattle.std.proofs.Common.{◌≡◌, refl, ℕ, suc, List, [], ◌∷◌, take, true, false}
 use Rattle.std.specs.Prelude.{Option, Some, None}
 use Rattle.std.specs.List.{position_or_len}
@@ -23,8 +25,4 @@ up_to_end-more = to_end-more
 
 -- a context before the end is at the end only after the line of ENDATA
 pub at_end-after : (c : Context) (item : LineContent) → is_section EndData c.section ≡ false → is_section EndData (next_context c item).section ≡ begins EndData item
-at_end-after c item h = of (section_of_header item)
-  where
-    of : (o : Option Section) → is_section EndData (option_or o c.section) ≡ is_section EndData o
-    of None = h
-    of (Some section) = refl
+at_end-after c item h = grind arith

@@ -1,4 +1,5 @@
 -- The first line of a text with an error: its kind is that of one of its tests, or of a rejected declaration.
+use Rattle.std.proofs.Common.{rules}
 use Rattle.std.proofs.Common.{◌≡◌, refl, sym, ap, ◌∙◌, subst, List, [], ◌∷◌, ◌++◌, append_assoc, ℕ, suc, ◌+◌, ◌-◌, ◌^◌, Bool, true, false, cond, map, arith}
 use Rattle.std.specs.Prelude.{Option, Some, None, ◌||◌, ◌&&◌, ◌==◌, nat_le, nat_lt, not, filter_map, min, length, if◌then◌else◌}
 use Rattle.std.specs.List.{list_any, list_all, cons_option}
@@ -94,11 +95,7 @@ any-refused kind ((held, other) ∷ more) = by (any-refused kind more) held (is_
 
 any-declaring : (kind : FaultKind) (earlier : Draft) (ds : Declarations) → list_any (is_kind kind) (declaring_faults earlier ds) ≡ refuses kind earlier ds
 any-declaring kind earlier [] = refl
-any-declaring kind earlier (d ∷ ds) =
-    ap (list_any (is_kind kind)) (map-append kind_of_build_fault (refusals earlier d) (refusals_in_turn (with_declaration earlier d) ds))
-    ∙ (list_any-append (is_kind kind) (map kind_of_build_fault (refusals earlier d)) (declaring_faults (with_declaration earlier d) ds)
-    ∙ (ap (λ (b : Bool). b || list_any (is_kind kind) (declaring_faults (with_declaration earlier d) ds)) (any-refused kind (refusal_tests earlier d))
-    ∙ ap (λ (b : Bool). refused_as kind (refusal_tests earlier d) || b) (any-declaring kind (with_declaration earlier d) ds)))
+any-declaring kind earlier (d ∷ ds) = grind (arith, map-append, list_any-append, any-refused, any-declaring kind (with_declaration earlier d) ds)
 
 -- the kind of the first error of a line is that of a failing test, or of a rejected declaration
 reported-by : (tests : FaultTests) (earlier : Draft) (ds : Declarations) (kind : FaultKind) → first_fault tests earlier ds ≡ Some kind → (holds_of kind tests || refuses kind earlier ds) ≡ true
@@ -114,29 +111,14 @@ is_below kind other = nat_lt (kind_rank other) (kind_rank kind)
 
 least-passes : (p : FaultKind → Bool) (kinds : List FaultKind) → list_all p kinds ≡ true → option_map_or p (least_kind kinds) true ≡ true
 least-passes p [] h = refl
-least-passes p (kind ∷ kinds) h = by (least_kind kinds) (least-passes p kinds (second_so (p kind) (list_all p kinds) h))
-  where
-    of : (other : FaultKind) → p other ≡ true → (b : Bool) → p (cond b other kind) ≡ true
-    of other e true = e
-    of other e false = first_so (p kind) (list_all p kinds) h
-
-    by : (o : Option FaultKind) → option_map_or p o true ≡ true → p (lesser kind o) ≡ true
-    by None e = first_so (p kind) (list_all p kinds) h
-    by (Some other) e = of other e (nat_lt (kind_rank other) (kind_rank kind))
+least-passes p (kind ∷ kinds) h = grind (arith, lesser, least-passes p kinds (second_so (p kind) (list_all p kinds) h))
 
 those-below : (kind : FaultKind) (tests : FaultTests) → list_all (λ test. is_below kind test.1) tests ≡ true → list_all (is_below kind) (those_of tests) ≡ true
 those-below kind [] h = refl
-those-below kind ((held, other) ∷ more) h = by (those-below kind more (second_so (is_below kind other) (list_all (λ test. is_below kind test.1) more) h)) held
-  where
-    by : list_all (is_below kind) (those_of more) ≡ true → (b : Bool) → list_all (is_below kind) (cond b (other ∷ those_of more) (those_of more)) ≡ true
-    by rest true = both_so (is_below kind other) (list_all (is_below kind) (those_of more)) (first_so (is_below kind other) (list_all (λ test. is_below kind test.1) more) h) rest
-    by rest false = rest
+those-below kind ((held, other) ∷ more) h = grind (arith, both_so, those-below kind more (second_so (is_below kind other) (list_all (λ test. is_below kind test.1) more) h))
 
 not-below : (kind other : FaultKind) → is_below kind other ≡ true → other ≡ kind → ⊥
-not-below kind other h e = irreflexive (kind_rank kind) (sym (ap (λ (k : FaultKind). nat_lt (kind_rank k) (kind_rank kind)) e) ∙ h)
-  where
-    irreflexive : (n : ℕ) → nat_lt n n ≡ true → ⊥
-    irreflexive n k = grind (arith, nat_tests)
+not-below kind other h e = grind arith
 
 -- if the first error is of such a kind, no test of the form fails
 pub form-holds : (tests : FaultTests) (earlier : Draft) (ds : Declarations) (kind : FaultKind) → list_all (λ test. is_below kind test.1) tests ≡ true → first_fault tests earlier ds ≡ Some kind → those_of tests ≡ []
@@ -241,17 +223,7 @@ is_of_whole kind = nat_le (kind_rank MissingEnd) (kind_rank kind)
 named-whole : (all : Draft) (kinds : List FaultKind) (fault : Fault) → list_all is_of_whole kinds ≡ true
     → head_of (filter_map (λ kind. option_map (λ name. whole_fault kind (Some name)) (head_of (names_with all kind))) kinds) ≡ Some fault → is_of_whole fault.kind ≡ true
 named-whole all [] fault h e = cc
-named-whole all (kind ∷ kinds) fault h e = by (named-whole all kinds fault (second_so (is_of_whole kind) (list_all is_of_whole kinds) h)) (head_of (names_with all kind)) e
-  where
-    more : List Fault
-    more = filter_map (λ kind. option_map (λ name. whole_fault kind (Some name)) (head_of (names_with all kind))) kinds
-
-    by : (head_of more ≡ Some fault → is_of_whole fault.kind ≡ true) → (o : Option (List ℕ)) → head_of (cons_option (option_map (λ (name : List ℕ). whole_fault kind (Some name)) o) more) ≡ Some fault
-        → is_of_whole fault.kind ≡ true
-    by rest None k = rest k
-    by rest (Some name) k =
-        let same : whole_fault kind (Some name) ≡ fault = cc in
-        sym (ap (λ (f : Fault). is_of_whole f.kind) same) ∙ first_so (is_of_whole kind) (list_all is_of_whole kinds) h
+named-whole all (kind ∷ kinds) fault h e = grind (arith, named-whole all kinds fault (second_so (is_of_whole kind) (list_all is_of_whole kinds) h))
 
 of-whole : (bytes : List ℕ) (fault : Fault) → whole_mps_fault bytes ≡ Some fault → is_of_whole fault.kind ≡ true
 of-whole bytes fault h = by (has_end bytes) h

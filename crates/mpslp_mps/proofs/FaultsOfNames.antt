@@ -1,4 +1,6 @@
 -- Rows and columns that a line names and the draft does not have are unknown in the sense of `FaultsInWords`.
+use Rattle.std.proofs.Common.{arith}
+use Rattle.std.proofs.Common.{rules}
 use Rattle.std.proofs.Common.{◌≡◌, refl, ap, ◌∙◌, List, [], ◌∷◌, ◌++◌, ℕ, Bool, true, false, cond, map}
 use Rattle.std.specs.Prelude.{Option, Some, None, is_none, is_some, not, filter_map, nat_lt, nat_le, ◌||◌, ◌&&◌, codes}
 use Rattle.std.specs.List.{list_any, list_all, last_or, flat_map}
@@ -55,26 +57,11 @@ none-so kind ((held, fault) ∷ more) h = by (is_kind kind (kind_of_build_fault 
 
 -- the kinds of the tests of a declaration do not depend on the draft
 not-refused : (kind : FaultKind) (all : Draft) (d : Declaration) → not (may_refuse kind d) ≡ true → refused_as kind (refusal_tests all d) ≡ false
-not-refused kind all (declare_sense s) h = none-so kind (refusal_tests all (declare_sense s)) (not_so (may_refuse kind (declare_sense s)) h)
-not-refused kind all (declare_objective n) h = none-so kind (refusal_tests all (declare_objective n)) (not_so (may_refuse kind (declare_objective n)) h)
-not-refused kind all (declare_constant v) h = none-so kind (refusal_tests all (declare_constant v)) (not_so (may_refuse kind (declare_constant v)) h)
-not-refused kind all (declare_row n f) h = none-so kind (refusal_tests all (declare_row n f)) (not_so (may_refuse kind (declare_row n f)) h)
-not-refused kind all (declare_rhs r v) h = none-so kind (refusal_tests all (declare_rhs r v)) (not_so (may_refuse kind (declare_rhs r v)) h)
-not-refused kind all (declare_range r v) h = none-so kind (refusal_tests all (declare_range r v)) (not_so (may_refuse kind (declare_range r v)) h)
-not-refused kind all (declare_column n) h = none-so kind (refusal_tests all (declare_column n)) (not_so (may_refuse kind (declare_column n)) h)
-not-refused kind all (declare_coefficient k v) h = none-so kind (refusal_tests all (declare_coefficient k v)) (not_so (may_refuse kind (declare_coefficient k v)) h)
-not-refused kind all (declare_lower c l) h = none-so kind (refusal_tests all (declare_lower c l)) (not_so (may_refuse kind (declare_lower c l)) h)
-not-refused kind all (declare_upper c l) h = none-so kind (refusal_tests all (declare_upper c l)) (not_so (may_refuse kind (declare_upper c l)) h)
-not-refused kind all (declare_marked c) h = none-so kind (refusal_tests all (declare_marked c)) (not_so (may_refuse kind (declare_marked c)) h)
-not-refused kind all (declare_integer c) h = none-so kind (refusal_tests all (declare_integer c)) (not_so (may_refuse kind (declare_integer c)) h)
-not-refused kind all (declare_binary c) h = none-so kind (refusal_tests all (declare_binary c)) (not_so (may_refuse kind (declare_binary c)) h)
-not-refused kind all (declare_semi c) h = none-so kind (refusal_tests all (declare_semi c)) (not_so (may_refuse kind (declare_semi c)) h)
+not-refused kind all v2 h = grind arith
 
 none-refuse : (kind : FaultKind) (ds : Declarations) (all : Draft) → list_all (λ d. not (may_refuse kind d)) ds ≡ true → refuses kind all ds ≡ false
 none-refuse kind [] all h = refl
-none-refuse kind (d ∷ ds) all h =
-    ap (λ (b : Bool). b || refuses kind (with_declaration all d) ds) (not-refused kind all d (first_so (not (may_refuse kind d)) (list_all (λ d. not (may_refuse kind d)) ds) h))
-    ∙ none-refuse kind ds (with_declaration all d) (second_so (not (may_refuse kind d)) (list_all (λ d. not (may_refuse kind d)) ds) h)
+none-refuse kind (d ∷ ds) all h = grind (arith, refuses, not-refused, none-refuse kind ds (with_declaration all d) (second_so (not (may_refuse kind d)) (list_all (λ d. not (may_refuse kind d)) ds) h))
 
 pub no-one : {X : Type 0} (kind : FaultKind) (ds : Declarations) (all : Draft) → list_all (λ d. not (may_refuse kind d)) ds ≡ true → refuses kind all ds ≡ true → X
 no-one kind ds all h k = absurd (never (refuses kind all ds) k (none-refuse kind ds all h))
@@ -115,44 +102,17 @@ some p q (x ∷ xs) h k = by (λ e. some p q xs h e) (p x) refl k
 
 -- what does not exist is not named
 unnamed : (a b : Bool) → (a ≡ true → b ≡ true) → not b ≡ true → not a ≡ true
-unnamed true b h k = absurd (never b (h refl) (not_so b k))
-unnamed false b h k = refl
+unnamed v0 b h k = grind arith
 
 -- ---- UnknownColumn
 
 bounds-unknown : (type : BoundType) (column : List ℕ) (value : Limit) (all : Draft) → refuses kinds.UnknownColumn all (bound_declared type column value) ≡ true → not (has_column all column) ≡ true
-bounds-unknown type column value all h = by type h
-  where
-    one : (b : Bool) → ((b || false) || false) ≡ true → b ≡ true
-    one true e = refl
-    one false e = e
-
-    two : (b : Bool) → ((b || false) || ((b || false) || false)) ≡ true → b ≡ true
-    two true e = refl
-    two false e = e
-
-    three : (b : Bool) → ((b || false) || ((b || false) || ((b || false) || false))) ≡ true → b ≡ true
-    three true e = refl
-    three false e = e
-
-    by : (t : BoundType) → refuses kinds.UnknownColumn all (bound_declared t column value) ≡ true → not (has_column all column) ≡ true
-    by bounds.Lower e = one (not (has_column all column)) e
-    by bounds.Upper e = one (not (has_column all column)) e
-    by bounds.Fixed e = two (not (has_column all column)) e
-    by bounds.Free e = two (not (has_column all column)) e
-    by bounds.NoLower e = one (not (has_column all column)) e
-    by bounds.NoUpper e = one (not (has_column all column)) e
-    by bounds.Binary e = three (not (has_column all column)) e
-    by bounds.IntegerLower e = two (not (has_column all column)) e
-    by bounds.IntegerUpper e = two (not (has_column all column)) e
-    by bounds.SemiUpper e = two (not (has_column all column)) e
+bounds-unknown type column value all h = grind arith
 
 -- the line of a column declares it first
 cells-known : (column : List ℕ) (pairs : List Pair) (all : Draft) → has_column all column ≡ true → refuses kinds.UnknownColumn all (flat_map (coefficient_declared column) pairs) ≡ false
 cells-known column [] all h = refl
-cells-known column (pair ∷ pairs) all h =
-    ap (λ (b : Bool). (not b || false) || refuses kinds.UnknownColumn (with_declaration all (declare_coefficient (record { row = pair.row; column = column }) (value_of pair.literal))) (flat_map (coefficient_declared column) pairs)) h
-    ∙ cells-known column pairs (with_declaration all (declare_coefficient (record { row = pair.row; column = column }) (value_of pair.literal))) h
+cells-known column (pair ∷ pairs) all h = grind (arith, refuses, cells-known column pairs (with_declaration all (declare_coefficient (record { row = pair.row; column = column }) (value_of pair.literal))) h)
 
 column-known : (context : Context) (earlier : Draft) (fields : Fields) → refuses kinds.UnknownColumn earlier (columns_line_declared context fields) ≡ false
 column-known context earlier fields = by (is_marker_line fields)
@@ -268,13 +228,10 @@ row-there before earlier name stated begun h = by (names_row before name) refl h
 
 -- rows that do not exist are not named
 rows-unnamed : (before : List LineContent) (earlier : Draft) (pairs : List Pair) → Stated before earlier → has_section before Columns ≡ true → list_any (λ pair. not (has_row earlier pair.row)) pairs ≡ true → list_any (λ pair. not (is_row before pair.row)) pairs ≡ true
-rows-unnamed before earlier pairs stated begun =
-    some (λ pair. not (has_row earlier pair.row)) (λ pair. not (is_row before pair.row)) pairs
-    (λ pair e. unnamed (is_row before pair.row) (has_row earlier pair.row) (row-there before earlier pair.row stated begun) e)
+rows-unnamed before earlier pairs stated begun = grind (arith, some, unnamed, row-there)
 
 either-pair : (a c d : Bool) → (c ≡ true → d ≡ true) → ((a || false) || c) ≡ true → (a || d) ≡ true
-either-pair true c d f h = refl
-either-pair false c d f h = f h
+either-pair v0 c d f h = grind arith
 
 cells-unknown : (column : List ℕ) (pairs : List Pair) (all : Draft) → refuses kinds.UnknownRow all (flat_map (coefficient_declared column) pairs) ≡ true → list_any (λ pair. not (has_row all pair.row)) pairs ≡ true
 cells-unknown column [] all h = cc
@@ -305,35 +262,10 @@ word-unnamed : (test : List ℕ → Bool) (words : List Fields) (stated : List �
 word-unnamed test [] stated h k = cc
 word-unnamed test ([] ∷ more) stated h k = word-unnamed test more stated h k
 word-unnamed test ((word ∷ []) ∷ more) stated h k = let same : word ≡ stated = cc in ap (λ (b : Bool). b && list_all test (flat_map (λ fields. fields) more)) (ap test same ∙ k)
-word-unnamed test ((word ∷ next ∷ rest) ∷ more) stated h k =
-    list_all-append test (word ∷ next ∷ rest) (flat_map (λ fields. fields) more)
-    ∙ (ap (λ (b : Bool). list_all test (word ∷ next ∷ rest) && b) (word-unnamed test more stated h k) ∙ nowhere (list_all test (word ∷ next ∷ rest)))
-  where
-    nowhere : (b : Bool) → (b && false) ≡ false
-    nowhere true = refl
-    nowhere false = refl
+word-unnamed test ((word ∷ next ∷ rest) ∷ more) stated h k = grind (arith, list_all-append, word-unnamed test more stated h k)
 
 objective-missing : (before : List LineContent) (earlier : Draft) → Stated before earlier → lacks_objective (context_of before) earlier ≡ true → not (has_named_objective before) ≡ true
-objective-missing before earlier stated h =
-    so_not (has_named_objective before)
-    (named (objname before) refl (second_so (is_none earlier.objective) (is_some (objname before)) h))
-  where
-    none : is_none earlier.objective ≡ true
-    none = first_so (is_none earlier.objective) (is_some (objname before)) h
-
-    apart : (o : Option (List ℕ)) → is_none o ≡ true → is_some o ≡ true → ⊥
-    apart None e k = cc
-    apart (Some x) e k = cc
-
-    lacks : (word : List ℕ) (b : Bool) → objname before ≡ Some word → has_free_row before word ≡ b → b ≡ false
-    lacks word true e k = absurd (apart earlier.objective none (stated.known.declares word e k))
-    lacks word false e k = refl
-
-    named : (o : Option (List ℕ)) → objname before ≡ o → is_some o ≡ true → has_named_objective before ≡ false
-    named None e k = cc
-    named (Some word) e k =
-        word-unnamed (has_free_row before) (words_in ObjName before) word (ap head_of (stated-words None before) ∙ e)
-        (lacks word (has_free_row before word) e refl)
+objective-missing before earlier stated h = grind (arith, so_not, word-unnamed, stated-words)
 
 -- in a section from COLUMNS on, COLUMNS has begun
 columns-begun : (before : List LineContent) (s : Section) → AreOrdered (seen_sections before) → nat_le 3 (section_rank s) ≡ true → current_section before ≡ Some s → has_section before Columns ≡ true

@@ -1,4 +1,6 @@
 -- Each error that depends on other lines is as `FaultsInWords` defines its kind.
+use Rattle.std.proofs.Common.{arith}
+use Rattle.std.proofs.Common.{rules}
 use Rattle.std.proofs.lemmas.Bool.{false≢true, true≢false}
 use Rattle.std.proofs.Common.{◌≡◌, refl, sym, ap, ◌∙◌, List, [], ◌∷◌, ◌++◌, ℕ, Bool, true, false, cond, map}
 use Rattle.std.specs.Prelude.{Option, Some, None, is_none, is_some, not, filter_map, nat_lt, ◌||◌, ◌&&◌, codes}
@@ -43,19 +45,7 @@ repeated before earlier (header keyword more) known h = by (section_named keywor
     by (Some s) k =
         left_only (has_section before s) (holds_of kinds.SectionRepeated (section_tests (context_of before) earlier s more))
         (none-holds (kinds.BadType ∷ kinds.UnknownRow ∷ []) kinds.SectionRepeated (section_tests (context_of before) earlier s more) (section-among (context_of before) earlier s more) refl) k
-repeated before earlier (data_line fields) known h = by (current_section before) h
-  where
-    by : (o : Option Section) → holds_of kinds.SectionRepeated (data_tests (context_of before) earlier fields o) ≡ true → false ≡ true
-    by None k = no-data kinds.SectionRepeated (context_of before) earlier fields None refl k
-    by (Some Name) k = no-data kinds.SectionRepeated (context_of before) earlier fields (Some Name) refl k
-    by (Some ObjSense) k = no-data kinds.SectionRepeated (context_of before) earlier fields (Some ObjSense) refl k
-    by (Some ObjName) k = no-data kinds.SectionRepeated (context_of before) earlier fields (Some ObjName) refl k
-    by (Some Rows) k = no-data kinds.SectionRepeated (context_of before) earlier fields (Some Rows) refl k
-    by (Some Columns) k = no-data kinds.SectionRepeated (context_of before) earlier fields (Some Columns) refl k
-    by (Some Rhs) k = no-data kinds.SectionRepeated (context_of before) earlier fields (Some Rhs) refl k
-    by (Some Ranges) k = no-data kinds.SectionRepeated (context_of before) earlier fields (Some Ranges) refl k
-    by (Some Bounds) k = no-data kinds.SectionRepeated (context_of before) earlier fields (Some Bounds) refl k
-    by (Some EndData) k = no-data kinds.SectionRepeated (context_of before) earlier fields (Some EndData) refl k
+repeated before earlier (data_line fields) known h = grind (arith, holds_of, no-data)
 
 pub section-repeated : IsInWords kinds.SectionRepeated repeats_section
 section-repeated = in-words kinds.SectionRepeated repeats_section refl refl refl (by-form kinds.SectionRepeated repeats_section refl repeated)
@@ -153,8 +143,7 @@ column-split = in-words kinds.ColumnSplit splits_column refl refl refl (by-form 
 
 -- a name other than the first one
 other-first : (sets : List (List ℕ)) (set : List ℕ) → option_map_or (λ name. not (same_bytes name set)) (head_of sets) false ≡ true → differs_from sets set ≡ true
-other-first [] set h = absurd (false≢true h)
-other-first (first ∷ sets) set h = or_left (not (same_bytes first set)) (differs_from sets set) h
+other-first v0 set h = grind arith
 
 second : (before : List LineContent) (earlier : Draft) (item : LineContent) → Stated before earlier → holds_of kinds.SecondSet (item_tests (context_of before) earlier item) ≡ true → is_of_second_set before item ≡ true
 second before earlier skipped known h = absurd (false≢true h)
@@ -206,27 +195,12 @@ second-set = in-words kinds.SecondSet is_of_second_set refl refl refl (by-form k
 -- a word is missing: the current section has none
 without-word : (section : Section) (test : List ℕ → Bool) (before : List LineContent) → takes_word section ≡ true → IsUnderway section test before → current_section before ≡ Some section → is_section section (Some section) ≡ true
     → is_some (word_due before) ≡ true → is_without_word before section ≡ true
-without-word section test before takes (missing, (a, b, c)) here own w = absurd (never (is_section section (current_section before)) (ap (is_section section) here ∙ own) c)
-without-word section test before takes (without_word, (a, b, c, d)) here own w = both_so (takes_word section) (not (has_its_word before section)) takes (ap (λ (words : List Fields). not (is_nonempty (flat_map (λ fields. fields) words))) a)
-without-word section test before takes (with_word, (a, b, c)) here own w = absurd (never (is_some (word_due before)) w (c (ap (is_section section) here ∙ own)))
+without-word section test before takes v4 here own w = grind arith
 
 -- no word is missing: the section has it
 with-its_word : (section : Section) (test : List ℕ → Bool) (before : List LineContent) → takes_word section ≡ true → IsUnderway section test before → current_section before ≡ Some section → is_section section (Some section) ≡ true
     → is_some (word_due before) ≡ false → (takes_word section && has_its_word before section) ≡ true
-with-its_word section test before takes (missing, (a, b, c)) here own w = absurd (never (is_section section (current_section before)) (ap (is_section section) here ∙ own) c)
-with-its_word section test before takes (without_word, (a, b, c, d)) here own w = absurd (never (is_some (word_due before)) d w)
-with-its_word section test before takes (with_word, (a, b, c)) here own w = both_so (takes_word section) (has_its_word before section) takes (one (words_in section before) a)
-  where
-    one : (words : List Fields) → is_one_word test words ≡ true → is_nonempty (flat_map (λ (fields : Fields). fields) words) ≡ true
-    one [] h = absurd (false≢true h)
-    one ((word ∷ []) ∷ []) h = refl
-    one ([] ∷ (word ∷ []) ∷ []) h = refl
-    one ([] ∷ []) h = absurd (false≢true h)
-    one ([] ∷ [] ∷ more) h = absurd (false≢true h)
-    one ([] ∷ (word ∷ []) ∷ next ∷ more) h = absurd (false≢true h)
-    one ([] ∷ (word ∷ other ∷ rest) ∷ more) h = absurd (false≢true h)
-    one ((word ∷ []) ∷ next ∷ more) h = absurd (false≢true h)
-    one ((word ∷ other ∷ rest) ∷ more) h = absurd (false≢true h)
+with-its_word section test before takes v4 here own w = grind arith
 
 -- a section that has begun has a later place
 later-place : (p q : Section → Bool) (sections_seen : List Section) → ((x : Section) → p x ≡ true → q x ≡ true) → list_any p sections_seen ≡ true → list_any q sections_seen ≡ true
@@ -238,35 +212,15 @@ later-place p q (x ∷ sections_seen) h k = by (λ e. later-place p q sections_s
     by rest false e l = or_right (q x) (list_any q sections_seen) (rest l)
 
 rows-later : (x : Section) → is_section Rows (Some x) ≡ true → nat_lt 1 (section_rank x) ≡ true
-rows-later Name h = absurd (false≢true h)
-rows-later ObjSense h = absurd (false≢true h)
-rows-later ObjName h = absurd (false≢true h)
-rows-later Rows h = refl
-rows-later Columns h = absurd (false≢true h)
-rows-later Rhs h = absurd (false≢true h)
-rows-later Ranges h = absurd (false≢true h)
-rows-later Bounds h = absurd (false≢true h)
-rows-later EndData h = absurd (false≢true h)
+rows-later v0 h = grind arith
 
 -- any section that has begun, and is not NAME, has a later place than NAME
 first-later : (sections_seen : List Section) → is_none (last_or None sections_seen) ≡ false → has sections_seen Name ≡ false → list_any (λ other. nat_lt 0 (section_rank other)) sections_seen ≡ true
 first-later [] h k = cc
-first-later (x ∷ sections_seen) h k = or_left (nat_lt 0 (section_rank x)) (list_any (λ other. nat_lt 0 (section_rank other)) sections_seen) (by x (nor (is_section Name (Some x)) (has sections_seen Name) k).0)
-  where
-    by : (s : Section) → is_section Name (Some s) ≡ false → nat_lt 0 (section_rank s) ≡ true
-    by Name e = cc
-    by ObjSense e = refl
-    by ObjName e = refl
-    by Rows e = refl
-    by Columns e = refl
-    by Rhs e = refl
-    by Ranges e = refl
-    by Bounds e = refl
-    by EndData e = refl
+first-later (x ∷ sections_seen) h k = grind (arith, or_left, nor)
 
 turned : (b : Bool) → not b ≡ false → b ≡ true
-turned true h = refl
-turned false h = absurd (true≢false h)
+turned v0 h = grind arith
 
 misplaced : (before : List LineContent) (s : Section) → has_section before s ≡ false → may_begin (context_of before) s ≡ false → (comes_early before s || comes_late before s) ≡ true
 misplaced before Name f g = first-later (seen_sections before) g f

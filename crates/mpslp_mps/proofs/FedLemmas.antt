@@ -1,4 +1,5 @@
 -- Lines that are read one after another, and the rest of a text that comes in pieces.
+use Rattle.std.proofs.Common.{rules}
 use Rattle.std.proofs.Common.{◌≡◌, refl, sym, ap, subst, ◌∙◌, ℕ, ◌+◌, ◌-◌, ◌^◌, min, List, [], ◌∷◌, ◌++◌, length, Bool, true, false, append-nil, arith}
 use Rattle.std.specs.Prelude.{◌||◌, Option, Some, None, is_some, if◌then◌else◌}
 use Rattle.std.specs.List.{list_any}
@@ -28,8 +29,7 @@ use Rattle.mpslp_mps.proofs.ReadingLemmas.{fault_from-is}
 -- ---- lines after others
 
 or-after : (a b c : Option Fault) → option_or (option_or a b) c ≡ option_or a (option_or b c)
-or-after None b c = refl
-or-after (Some x) b c = refl
+or-after v0 b c = grind arith
 
 fault_from-append : (xs ys : List (List ℕ)) (n : ℕ) (context : Context) (earlier : Draft)
     → fault_from n context earlier (xs ++ ys) ≡ option_or (fault_from n context earlier xs) (fault_from (n + length xs) (context_from context xs) (draft_from context earlier xs) ys)
@@ -55,12 +55,10 @@ draft_from-append (line ∷ xs) ys context earlier = draft_from-append xs ys (co
 -- ---- up to that of ENDATA
 
 first_none : (a b : Bool) → (a || b) ≡ false → a ≡ false
-first_none true b h = h
-first_none false b h = refl
+first_none v0 b h = grind arith
 
 rest_none : (a b : Bool) → (a || b) ≡ false → b ≡ false
-rest_none true b h = cc
-rest_none false b h = h
+rest_none v0 b h = grind arith
 
 -- without a line of ENDATA all lines are read, and so are those after them
 unended-more : (xs ys : List (List ℕ)) → list_any is_end xs ≡ false → lines_to_end (xs ++ ys) ≡ xs ++ lines_to_end ys
@@ -73,11 +71,7 @@ unended-all : (xs : List (List ℕ)) → list_any is_end xs ≡ false → lines_
 unended-all xs h = ap lines_to_end (sym (append-nil xs)) ∙ unended-more xs [] h ∙ append-nil xs
 
 one-read : (line : List ℕ) → lines_to_end (line ∷ []) ≡ line ∷ []
-one-read line =
-    elim (is_end line) as (λ b. is_end line ≡ b → lines_to_end (line ∷ []) ≡ line ∷ []) [
-      | true ↦ λ e. to_end-last line [] e
-      | false ↦ λ e. to_end-more line [] e
-    ] refl
+one-read line = grind arith
 
 -- ---- one more line
 
@@ -180,6 +174,4 @@ module _ (text : List (List ℕ)) (context : Context) (earlier : Draft) (number 
 
   -- after the line of ENDATA the objective has a name
   pub led-named : is_section EndData context.section ≡ true → is_some earlier.objective ≡ true
-  led-named at_end =
-      ap (λ (d : Draft). is_some d.objective) led.draft
-      ∙ named-lines_to_end text 1 (context_of []) empty_draft (λ h. cc) (sym (lines_fault-is text) ∙ led.clean) (sym led.ended ∙ at_end)
+  led-named at_end = grind (arith, named-lines_to_end, lines_fault-is)

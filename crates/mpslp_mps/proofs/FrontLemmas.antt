@@ -1,4 +1,6 @@
 -- The first six fields of a line determine all that is checked of it: no data line of a known shape has so many.
+use Rattle.std.proofs.Common.{arith}
+use Rattle.std.proofs.Common.{rules}
 use Rattle.std.proofs.Common.{◌≡◌, refl, ℕ, List, [], ◌∷◌, take}
 use Rattle.std.specs.Prelude.{Option, Some, None}
 use Rattle.mpslp_builder.specs.Declaration.{Draft}
@@ -25,29 +27,11 @@ by-front g h (a ∷ b ∷ c ∷ d ∷ e ∷ x ∷ y ∷ more) = h a b c d e x y 
 
 pub data_tests-front : (context : Context) (earlier : Draft) (section : Option Section) (fields : Fields)
     → data_tests context earlier (take 6 fields) section ≡ data_tests context earlier fields section
-data_tests-front context earlier None fields = refl
-data_tests-front context earlier (Some Name) fields = refl
-data_tests-front context earlier (Some ObjSense) fields = by-front (λ f. data_tests context earlier f (Some ObjSense)) (λ a b c d e x y more. refl) fields
-data_tests-front context earlier (Some ObjName) fields = by-front (λ f. data_tests context earlier f (Some ObjName)) (λ a b c d e x y more. refl) fields
-data_tests-front context earlier (Some Rows) fields = by-front (λ f. data_tests context earlier f (Some Rows)) (λ a b c d e x y more. refl) fields
-data_tests-front context earlier (Some Columns) fields = by-front (λ f. data_tests context earlier f (Some Columns)) (λ a b c d e x y more. refl) fields
-data_tests-front context earlier (Some Rhs) fields = by-front (λ f. data_tests context earlier f (Some Rhs)) (λ a b c d e x y more. refl) fields
-data_tests-front context earlier (Some Ranges) fields = by-front (λ f. data_tests context earlier f (Some Ranges)) (λ a b c d e x y more. refl) fields
-data_tests-front context earlier (Some Bounds) fields = by-front (λ f. data_tests context earlier f (Some Bounds)) (λ a b c d e x y more. refl) fields
-data_tests-front context earlier (Some EndData) fields = refl
+data_tests-front context earlier v2 fields = grind arith
 
 pub data_declared-front : (context : Context) (earlier : Draft) (section : Option Section) (fields : Fields)
     → data_declared context earlier (take 6 fields) section ≡ data_declared context earlier fields section
-data_declared-front context earlier None fields = refl
-data_declared-front context earlier (Some Name) fields = refl
-data_declared-front context earlier (Some ObjSense) fields = by-front (λ f. data_declared context earlier f (Some ObjSense)) (λ a b c d e x y more. refl) fields
-data_declared-front context earlier (Some ObjName) fields = refl
-data_declared-front context earlier (Some Rows) fields = by-front (λ f. data_declared context earlier f (Some Rows)) (λ a b c d e x y more. refl) fields
-data_declared-front context earlier (Some Columns) fields = by-front (λ f. data_declared context earlier f (Some Columns)) (λ a b c d e x y more. refl) fields
-data_declared-front context earlier (Some Rhs) fields = by-front (λ f. data_declared context earlier f (Some Rhs)) (λ a b c d e x y more. refl) fields
-data_declared-front context earlier (Some Ranges) fields = by-front (λ f. data_declared context earlier f (Some Ranges)) (λ a b c d e x y more. refl) fields
-data_declared-front context earlier (Some Bounds) fields = by-front (λ f. data_declared context earlier f (Some Bounds)) (λ a b c d e x y more. refl) fields
-data_declared-front context earlier (Some EndData) fields = refl
+data_declared-front context earlier v2 fields = grind arith
 
 pub next_context-front : (context : Context) (fields : Fields) → next_context context (data_line (take 6 fields)) ≡ next_context context (data_line fields)
 next_context-front context fields = by-front (λ f. next_context context (data_line f)) (λ a b c d e x y more. refl) fields
@@ -56,45 +40,15 @@ next_context-front context fields = by-front (λ f. next_context context (data_l
 
 short-tests : (context : Context) (earlier : Draft) (keyword : List ℕ) (section : Section) (b c d e x y : List ℕ) (more : Fields)
     → header_tests context earlier keyword (b ∷ c ∷ d ∷ e ∷ x ∷ []) (Some section) ≡ header_tests context earlier keyword (b ∷ c ∷ d ∷ e ∷ x ∷ y ∷ more) (Some section)
-short-tests context earlier keyword Name b c d e x y more = refl
-short-tests context earlier keyword ObjSense b c d e x y more = refl
-short-tests context earlier keyword ObjName b c d e x y more = refl
-short-tests context earlier keyword Rows b c d e x y more = refl
-short-tests context earlier keyword Columns b c d e x y more = refl
-short-tests context earlier keyword Rhs b c d e x y more = refl
-short-tests context earlier keyword Ranges b c d e x y more = refl
-short-tests context earlier keyword Bounds b c d e x y more = refl
-short-tests context earlier keyword EndData b c d e x y more = refl
+short-tests context earlier keyword v3 b c d e x y more = grind arith
 
 pub header_tests-front : (context : Context) (earlier : Draft) (keyword : List ℕ) (section : Option Section) (more : Fields)
     → header_tests context earlier keyword (take 5 more) section ≡ header_tests context earlier keyword more section
-header_tests-front context earlier keyword None more = refl
-header_tests-front context earlier keyword (Some section) [] = refl
-header_tests-front context earlier keyword (Some section) (b ∷ []) = refl
-header_tests-front context earlier keyword (Some section) (b ∷ c ∷ []) = refl
-header_tests-front context earlier keyword (Some section) (b ∷ c ∷ d ∷ []) = refl
-header_tests-front context earlier keyword (Some section) (b ∷ c ∷ d ∷ e ∷ []) = refl
-header_tests-front context earlier keyword (Some section) (b ∷ c ∷ d ∷ e ∷ x ∷ []) = refl
-header_tests-front context earlier keyword (Some section) (b ∷ c ∷ d ∷ e ∷ x ∷ y ∷ more) = short-tests context earlier keyword section b c d e x y more
+header_tests-front context earlier keyword v3 v4 = grind arith
 
 short-declared : (context : Context) (earlier : Draft) (section : Section) (b c d e x y : List ℕ) (more : Fields)
     → header_declared context earlier (b ∷ c ∷ d ∷ e ∷ x ∷ []) (Some section) ≡ header_declared context earlier (b ∷ c ∷ d ∷ e ∷ x ∷ y ∷ more) (Some section)
-short-declared context earlier Name b c d e x y more = refl
-short-declared context earlier ObjSense b c d e x y more = refl
-short-declared context earlier ObjName b c d e x y more = refl
-short-declared context earlier Rows b c d e x y more = refl
-short-declared context earlier Columns b c d e x y more = refl
-short-declared context earlier Rhs b c d e x y more = refl
-short-declared context earlier Ranges b c d e x y more = refl
-short-declared context earlier Bounds b c d e x y more = refl
-short-declared context earlier EndData b c d e x y more = refl
+short-declared context earlier v2 b c d e x y more = grind arith
 
 pub header_declared-front : (context : Context) (earlier : Draft) (section : Option Section) (more : Fields) → header_declared context earlier (take 5 more) section ≡ header_declared context earlier more section
-header_declared-front context earlier None more = refl
-header_declared-front context earlier (Some section) [] = refl
-header_declared-front context earlier (Some section) (b ∷ []) = refl
-header_declared-front context earlier (Some section) (b ∷ c ∷ []) = refl
-header_declared-front context earlier (Some section) (b ∷ c ∷ d ∷ []) = refl
-header_declared-front context earlier (Some section) (b ∷ c ∷ d ∷ e ∷ []) = refl
-header_declared-front context earlier (Some section) (b ∷ c ∷ d ∷ e ∷ x ∷ []) = refl
-header_declared-front context earlier (Some section) (b ∷ c ∷ d ∷ e ∷ x ∷ y ∷ more) = short-declared context earlier section b c d e x y more
+header_declared-front context earlier v2 v3 = grind arith

@@ -1,4 +1,6 @@
 -- The first error of a header: that of its form, or else that of what it declares.
+use Rattle.std.proofs.Common.{arith}
+use Rattle.std.proofs.Common.{rules}
 use Rattle.std.proofs.Common.{◌≡◌, refl, ap, ◌∙◌, ℕ, List, [], ◌∷◌, Bool, true, false, cond}
 use Rattle.std.specs.Prelude.{Option, Some, None, codes}
 use Rattle.std.specs.List.{list_all}
@@ -23,28 +25,10 @@ use Rattle.mpslp_mps.proofs.RisingTests.{header-rising}
 use Rattle.mpslp_mps.proofs.TakingLemmas.{is_early}
 
 unknown_early : (keyword : List ℕ) → list_all is_early ((true, unknown_section keyword) ∷ []) ≡ true
-unknown_early keyword =
-    by (is_one_of (codes "QSECTION" ∷ codes "QMATRIX" ∷ codes "QUADOBJ" ∷ codes "QCMATRIX" ∷ codes "CSECTION" ∷ []) keyword)
-    (is_one_of (codes "SOS" ∷ codes "SOS1" ∷ codes "SOS2" ∷ []) keyword) (is_one_of (codes "INDICATORS" ∷ []) keyword)
-  where
-    by : (a b c : Bool) → list_all is_early ((true, cond a kinds.Quadratic (cond b kinds.Sos (cond c kinds.Indicator kinds.UnknownSection))) ∷ []) ≡ true
-    by true b c = refl
-    by false true c = refl
-    by false false true = refl
-    by false false false = refl
+unknown_early keyword = grind arith
 
 header-early : (context : Context) (earlier : Draft) (keyword : List ℕ) (more : Fields) (section : Option Section) → list_all is_early (header_tests context earlier keyword more section) ≡ true
-header-early context earlier keyword more None = unknown_early keyword
-header-early context earlier keyword more (Some Name) = refl
-header-early context earlier keyword [] (Some ObjSense) = refl
-header-early context earlier keyword (word ∷ more) (Some ObjSense) = refl
-header-early context earlier keyword more (Some ObjName) = refl
-header-early context earlier keyword more (Some Rows) = refl
-header-early context earlier keyword more (Some Columns) = refl
-header-early context earlier keyword more (Some Rhs) = refl
-header-early context earlier keyword more (Some Ranges) = refl
-header-early context earlier keyword more (Some Bounds) = refl
-header-early context earlier keyword more (Some EndData) = refl
+header-early context earlier keyword v3 v4 = grind arith
 
 pub header-form : (context : Context) (earlier : Draft) (keyword : List ℕ) (more : Fields) (kind : FaultKind)
     → first_held (header_tests context earlier keyword more (section_named keyword)) ≡ Some kind
@@ -58,7 +42,4 @@ header-form context earlier keyword more kind held =
 pub header-declares : (context : Context) (earlier : Draft) (keyword : List ℕ) (more : Fields) (section : Section) → section_named keyword ≡ Some section
     → first_held (header_tests context earlier keyword more (section_named keyword)) ≡ None
     → item_fault context earlier (header keyword more) ≡ declared_fault earlier (header_declared context earlier more (Some section))
-header-declares context earlier keyword more section is held =
-    declared-first (header_tests context earlier keyword more (section_named keyword)) earlier (header_declared context earlier more (section_named keyword))
-    (header-rising context earlier keyword more (section_named keyword)) held
-    ∙ ap (λ (o : Option Section). declared_fault earlier (header_declared context earlier more o)) is
+header-declares context earlier keyword more section is held = grind arith

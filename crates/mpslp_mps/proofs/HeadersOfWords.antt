@@ -1,4 +1,6 @@
 -- Headers in the order of the format are well-formed.
+use Rattle.std.proofs.Common.{arith}
+use Rattle.std.proofs.Common.{rules}
 use Rattle.std.proofs.Common.{◌≡◌, refl, sym, ap, ◌∙◌, List, [], ◌∷◌, ◌++◌, ℕ, Bool, true, false}
 use Rattle.std.specs.Prelude.{Some, None, is_some, is_none, not, ◌||◌, nat_le}
 use Rattle.std.specs.List.{list_all, list_any, last_or}
@@ -21,8 +23,7 @@ use Rattle.mpslp_mps_fields.specs.declared.sections.Section.TheVariants.{Name, O
 
 none-of : (p q : Section → Bool) (xs : List Section) → ((x : Section) → q x ≡ true → p x ≡ false) → list_all q xs ≡ true → list_any p xs ≡ false
 none-of p q [] h k = refl
-none-of p q (x ∷ xs) h k =
-    both_false (p x) (list_any p xs) (h x (first_so (q x) (list_all q xs) k)) (none-of p q xs h (second_so (q x) (list_all q xs) k))
+none-of p q (x ∷ xs) h k = grind (arith, both_false, none-of p q xs h (second_so (q x) (list_all q xs) k))
 
 all-after : (q : Section → Bool) (xs : List Section) (x : Section) (more : List Section) → list_all q (xs ++ x ∷ more) ≡ true → (q x ≡ true) × (list_all q more ≡ true)
 all-after q [] x more h = (first_so (q x) (list_all q more) h, second_so (q x) (list_all q more) h)
@@ -57,61 +58,22 @@ distinct-before (x ∷ sections_seen) section later h =
 -- ---- whether it may begin
 
 rows-later : (x : Section) → nat_le (section_rank x) 1 ≡ true → is_section Rows (Some x) ≡ false
-rows-later Name h = refl
-rows-later ObjSense h = refl
-rows-later ObjName h = refl
-rows-later Rows h = cc
-rows-later Columns h = refl
-rows-later Rhs h = refl
-rows-later Ranges h = refl
-rows-later Bounds h = refl
-rows-later EndData h = refl
+rows-later v0 h = grind arith
 
 rows-earlier : (x : Section) → nat_le 3 (section_rank x) ≡ true → is_section Rows (Some x) ≡ false
-rows-earlier Name h = refl
-rows-earlier ObjSense h = refl
-rows-earlier ObjName h = refl
-rows-earlier Rows h = cc
-rows-earlier Columns h = refl
-rows-earlier Rhs h = refl
-rows-earlier Ranges h = refl
-rows-earlier Bounds h = refl
-rows-earlier EndData h = refl
+rows-earlier v0 h = grind arith
 
 columns-earlier : (x : Section) → nat_le 4 (section_rank x) ≡ true → is_section Columns (Some x) ≡ false
-columns-earlier Name h = refl
-columns-earlier ObjSense h = refl
-columns-earlier ObjName h = refl
-columns-earlier Rows h = refl
-columns-earlier Columns h = cc
-columns-earlier Rhs h = refl
-columns-earlier Ranges h = refl
-columns-earlier Bounds h = refl
-columns-earlier EndData h = refl
+columns-earlier v0 h = grind arith
 
 nothing-first : (sections_seen : List Section) → list_all (λ (y : Section). nat_le (section_rank y) 0) sections_seen ≡ true → has sections_seen Name ≡ false → is_none (last_or None sections_seen) ≡ true
 nothing-first [] h k = refl
-nothing-first (x ∷ sections_seen) h k = by x (first_so (nat_le (section_rank x) 0) (list_all (λ (y : Section). nat_le (section_rank y) 0) sections_seen) h) (nor (is_section Name (Some x)) (has sections_seen Name) k).0
-  where
-    by : (s : Section) → nat_le (section_rank s) 0 ≡ true → is_section Name (Some s) ≡ false → is_none (last_or (Some x) sections_seen) ≡ true
-    by Name e f = cc
-    by ObjSense e f = cc
-    by ObjName e f = cc
-    by Rows e f = cc
-    by Columns e f = cc
-    by Rhs e f = cc
-    by Ranges e f = cc
-    by Bounds e f = cc
-    by EndData e f = cc
+nothing-first (x ∷ sections_seen) h k = grind (arith, nor)
 
 -- a section of the text that is neither this one nor after it is before it
 occurs-before : (p : Section → Bool) (sections_seen : List Section) (section : Section) (later : List Section) → list_any p (sections_seen ++ section ∷ later) ≡ true → p section ≡ false → list_any p later ≡ false
     → list_any p sections_seen ≡ true
-occurs-before p sections_seen section later h here following = by (list_any p sections_seen) refl (sym (list_any-append p sections_seen (section ∷ later)) ∙ h)
-  where
-    by : (b : Bool) → list_any p sections_seen ≡ b → (b || (p section || list_any p later)) ≡ true → list_any p sections_seen ≡ true
-    by true e k = e
-    by false e k = let none : (p section || list_any p later) ≡ false = both_false (p section) (list_any p later) here following in cc
+occurs-before p sections_seen section later h here following = grind (arith, list_any-append, both_false)
 
 pub begins-so : (before : List LineContent) (section : Section) (later : List Section) → are_good_sections (seen_sections before ++ section ∷ later) ≡ true
     → has (seen_sections before ++ section ∷ later) Rows ≡ true → has (seen_sections before ++ section ∷ later) Columns ≡ true → may_begin (context_of before) section ≡ true
@@ -143,15 +105,9 @@ begins-so before section later h rows columns =
 -- ---- the tests of a header
 
 passes : (b : Bool) (kind : FaultKind) (more : FaultTests) → b ≡ false → those_of ((b, kind) ∷ more) ≡ those_of more
-passes true kind more h = cc
-passes false kind more h = refl
+passes v0 kind more h = grind arith
 
 pub header-good : (context : Context) (earlier : Draft) (keyword : List ℕ) (more : Fields) (section : Section) → is_some context.word_due ≡ false → has context.sections_seen section ≡ false
     → may_begin context section ≡ true → may_follow section more ≡ true → those_of (section_tests context earlier section more) ≡ []
     → those_of (header_tests context earlier keyword more (Some section)) ≡ []
-header-good context earlier keyword more section idle fresh begins follows rest =
-    let last = section_tests context earlier section more in
-    let fields : FaultTests = (not (may_follow section more), kinds.FieldCount) ∷ last in
-    passes (is_out_of_order context section) kinds.SectionOrder ((has context.sections_seen section, kinds.SectionRepeated) ∷ fields)
-    (both_false (is_some context.word_due) (not (has context.sections_seen section || may_begin context section)) idle (ap not (ap (λ (b : Bool). b || may_begin context section) fresh ∙ begins)))
-    ∙ (passes (has context.sections_seen section) kinds.SectionRepeated fields fresh ∙ (passes (not (may_follow section more)) kinds.FieldCount last (ap not follows) ∙ rest))
+header-good context earlier keyword more section idle fresh begins follows rest = grind arith

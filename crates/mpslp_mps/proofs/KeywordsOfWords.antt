@@ -1,4 +1,6 @@
 -- If headers are good together, each is well-formed after the lines before it.
+use Rattle.std.proofs.Common.{arith}
+use Rattle.std.proofs.Common.{rules}
 use Rattle.std.proofs.Common.{◌≡◌, refl, sym, ap, ◌∙◌, subst, List, [], ◌∷◌, ◌++◌, ℕ, Bool, true, false}
 use Rattle.std.specs.Prelude.{Option, Some, None, is_some, is_none, not, ◌&&◌, ◌||◌}
 use Rattle.std.specs.List.{list_all, list_any, cons_option}
@@ -79,8 +81,7 @@ pub record AreGoodHeaders (items : List LineContent) : Type 0 where
   pub named : has_named_objective items ≡ true
 
 first-stays : {X : Type 0} (xs ys : List X) (x : X) → head_of xs ≡ Some x → head_of (xs ++ ys) ≡ Some x
-first-stays [] ys x h = cc
-first-stays (y ∷ xs) ys x h = h
+first-stays v0 ys x h = grind arith
 
 pub keyword-good : (before : List LineContent) (earlier : Draft) (keyword : List ℕ) (more : Fields) (rest : List LineContent) → IsUnderway ObjSense is_sense before → IsUnderway ObjName (λ _. true) before
     → IsWantedThere before → IsDeclared before earlier → AreGoodHeaders (before ++ header keyword more ∷ rest) → IsGood before earlier (header keyword more)

@@ -1,4 +1,6 @@
 -- The kinds of errors for which each line is tested, so that a kind determines the tests.
+use Rattle.std.proofs.Common.{arith}
+use Rattle.std.proofs.Common.{rules}
 use Rattle.std.proofs.Common.{◌≡◌, refl, sym, ap, ◌∙◌, List, [], ◌∷◌, ◌++◌, ℕ, Bool, true, false, cond}
 use Rattle.std.specs.Prelude.{Option, Some, None, ◌||◌, ◌&&◌, ◌==◌, codes}
 use Rattle.std.specs.List.{list_any, list_all}
@@ -50,27 +52,11 @@ abbrev refusal_kinds : List FaultKind
 refusal_kinds = kinds.UnknownRow ∷ kinds.UnknownColumn ∷ kinds.DuplicateRow ∷ kinds.DuplicateEntry ∷ kinds.DuplicateRhs ∷ kinds.DuplicateRange ∷ kinds.DuplicateBound ∷ kinds.RangeOnFree ∷ kinds.SemiContinuous ∷ kinds.InfiniteValue ∷ []
 
 refusal-among : (fault : BuildFault) → is_among refusal_kinds (kind_of_build_fault fault) ≡ true
-refusal-among builds.DuplicateSense = refl
-refusal-among builds.SecondObjective = refl
-refusal-among builds.UnknownRow = refl
-refusal-among builds.UnknownColumn = refl
-refusal-among builds.DuplicateRow = refl
-refusal-among builds.DuplicateEntry = refl
-refusal-among builds.DuplicateRhs = refl
-refusal-among builds.DuplicateRange = refl
-refusal-among builds.DuplicateBound = refl
-refusal-among builds.RangeOnFree = refl
-refusal-among builds.SemiContinuous = refl
-refusal-among builds.InfiniteValue = refl
-refusal-among builds.OutOfMemory = refl
+refusal-among v0 = grind arith
 
 pub none-refused : (kind : FaultKind) (tests : List (Bool × BuildFault)) → is_among refusal_kinds kind ≡ false → refused_as kind tests ≡ false
 none-refused kind [] k = refl
-none-refused kind ((held, other) ∷ more) k = by (none-refused kind more k) (is_kind kind (kind_of_build_fault other)) refl
-  where
-    by : refused_as kind more ≡ false → (b : Bool) → is_kind kind (kind_of_build_fault other) ≡ b → cond b (held || refused_as kind more) (refused_as kind more) ≡ false
-    by rest true e = absurd (never (is_among refusal_kinds (kind_of_build_fault other)) (refusal-among other) (alike refusal_kinds kind (kind_of_build_fault other) e ∙ k))
-    by rest false e = rest
+none-refused kind ((held, other) ∷ more) k = grind (arith, refused_as, never, refusal-among, alike, none-refused kind more k)
 
 -- a kind that only the form of a line has
 form-only : (kind : FaultKind) → is_among refusal_kinds kind ≡ false → (ds : Declarations) (earlier : Draft) → refuses kind earlier ds ≡ false
@@ -78,12 +64,10 @@ form-only kind k [] earlier = refl
 form-only kind k (d ∷ ds) earlier = ap (λ (b : Bool). b || refuses kind (with_declaration earlier d) ds) (none-refused kind (refusal_tests earlier d) k) ∙ form-only kind k ds (with_declaration earlier d)
 
 pub left_only : (a b : Bool) → b ≡ false → (a || b) ≡ true → a ≡ true
-left_only true b e h = refl
-left_only false b e h = absurd (never b h e)
+left_only v0 b e h = grind arith
 
 pub right_only : (a b : Bool) → a ≡ false → (a || b) ≡ true → b ≡ true
-right_only false b e h = h
-right_only true b e h = cc
+right_only v0 b e h = grind arith
 
 -- ---- the kinds of each line
 
@@ -112,88 +96,34 @@ abbrev pub AreAmong : List FaultKind → FaultTests → Type 0
 AreAmong ks tests = list_all (λ test. is_among ks test.1) tests ≡ true
 
 judged-among : {X : Type 0} (ks : List FaultKind) (tests : X → FaultTests) (o : Option X) → is_among ks kinds.FieldCount ≡ true → ((x : X) → AreAmong ks (tests x)) → AreAmong ks (judged_by tests o)
-judged-among ks tests None f h = ap (λ (b : Bool). b && true) f
-judged-among ks tests (Some x) f h = h x
+judged-among ks tests v2 f h = grind arith
 
 abbrev pub unknown_kinds : List FaultKind
 unknown_kinds = kinds.Quadratic ∷ kinds.Sos ∷ kinds.Indicator ∷ kinds.UnknownSection ∷ []
 
 pub unknown-among : (quadratic sos indicator : Bool) → AreAmong unknown_kinds ((true, cond quadratic kinds.Quadratic (cond sos kinds.Sos (cond indicator kinds.Indicator kinds.UnknownSection))) ∷ [])
-unknown-among true sos indicator = refl
-unknown-among false true indicator = refl
-unknown-among false false true = refl
-unknown-among false false false = refl
+unknown-among v0 v1 v2 = grind arith
 
 pub section-among : (context : Context) (earlier : Draft) (section : Section) (more : Fields) → AreAmong (kinds.BadType ∷ kinds.UnknownRow ∷ []) (section_tests context earlier section more)
-section-among context earlier Name more = refl
-section-among context earlier ObjSense [] = refl
-section-among context earlier ObjSense (word ∷ more) = refl
-section-among context earlier ObjName more = refl
-section-among context earlier Rows more = refl
-section-among context earlier Columns more = refl
-section-among context earlier Rhs more = refl
-section-among context earlier Ranges more = refl
-section-among context earlier Bounds more = refl
-section-among context earlier EndData more = refl
+section-among context earlier v2 v3 = grind arith
 
 bound-among : (context : Context) (line : BoundLine) → AreAmong number_kinds (bound_tests context line)
-bound-among context line = of line.literal
-  where
-    of : (o : Option (List ℕ)) → AreAmong number_kinds (option_map_or (λ literal. number_tests (literal ∷ [])) o [] ++ set_tests context.bounds_set line.set)
-    of None = refl
-    of (Some literal) = refl
+bound-among context line = grind arith
 
 pub column-among : (context : Context) (earlier : Draft) (fields : Fields) → AreAmong column_kinds (judged_by (column_tests context earlier) (column_shape fields))
 column-among context earlier fields = judged-among column_kinds (column_tests context earlier) (column_shape fields) refl (λ _. refl)
 
 bounds-among : (context : Context) (fields : Fields) → AreAmong number_kinds (bound_line_tests context fields)
-bounds-among context [] = refl
-bounds-among context (letters ∷ more) = of (bound_type letters)
-  where
-    of : (o : Option BoundType) → AreAmong number_kinds (typed_bound_tests context more o)
-    of None = refl
-    of (Some type) = judged-among number_kinds (bound_tests context) (bound_shape type more) refl (bound-among context)
+bounds-among context v1 = grind arith
 
 pub data-among : (context : Context) (earlier : Draft) (fields : Fields) (o : Option Section) → AreAmong (kinds_in o) (data_tests context earlier fields o)
-data-among context earlier fields None = refl
-data-among context earlier fields (Some Name) = refl
-data-among context earlier fields (Some ObjSense) = judged-among (kinds_in (Some ObjSense)) word_tests (word_shape fields) refl (λ _. refl)
-data-among context earlier fields (Some ObjName) = judged-among (kinds_in (Some ObjName)) (λ _. []) (word_shape fields) refl (λ _. refl)
-data-among context earlier fields (Some Rows) = judged-among (kinds_in (Some Rows)) row_line_tests (row_shape fields) refl (λ _. refl)
-data-among context earlier fields (Some Columns) = by (is_marker_line fields)
-  where
-    marker : (o : Option (List ℕ)) → AreAmong (kinds_in (Some Columns)) (judged_by (marker_word_tests context) o)
-    marker None = refl
-    marker (Some word) = refl
-
-    by : (b : Bool) → AreAmong (kinds_in (Some Columns)) (cond b (marker_tests context fields) (judged_by (column_tests context earlier) (column_shape fields)))
-    by true = marker (marker_shape fields)
-    by false = judged-among (kinds_in (Some Columns)) (column_tests context earlier) (column_shape fields) refl (λ _. refl)
-data-among context earlier fields (Some Rhs) = judged-among number_kinds (vector_tests context.rhs_set) (vector_shape fields) refl (λ _. refl)
-data-among context earlier fields (Some Ranges) = judged-among number_kinds (vector_tests context.ranges_set) (vector_shape fields) refl (λ _. refl)
-data-among context earlier fields (Some Bounds) = bounds-among context fields
-data-among context earlier fields (Some EndData) = refl
+data-among context earlier fields v3 = grind arith
 
 unknown-header : (quadratic sos indicator : Bool) → AreAmong header_kinds ((true, cond quadratic kinds.Quadratic (cond sos kinds.Sos (cond indicator kinds.Indicator kinds.UnknownSection))) ∷ [])
-unknown-header true sos indicator = refl
-unknown-header false true indicator = refl
-unknown-header false false true = refl
-unknown-header false false false = refl
+unknown-header v0 v1 v2 = grind arith
 
 pub header-among : (context : Context) (earlier : Draft) (keyword : List ℕ) (more : Fields) (o : Option Section) → AreAmong header_kinds (header_tests context earlier keyword more o)
-header-among context earlier keyword more None =
-    unknown-header (is_one_of (codes "QSECTION" ∷ codes "QMATRIX" ∷ codes "QUADOBJ" ∷ codes "QCMATRIX" ∷ codes "CSECTION" ∷ []) keyword)
-    (is_one_of (codes "SOS" ∷ codes "SOS1" ∷ codes "SOS2" ∷ []) keyword) (is_one_of (codes "INDICATORS" ∷ []) keyword)
-header-among context earlier keyword more (Some Name) = refl
-header-among context earlier keyword [] (Some ObjSense) = refl
-header-among context earlier keyword (word ∷ more) (Some ObjSense) = refl
-header-among context earlier keyword more (Some ObjName) = refl
-header-among context earlier keyword more (Some Rows) = refl
-header-among context earlier keyword more (Some Columns) = refl
-header-among context earlier keyword more (Some Rhs) = refl
-header-among context earlier keyword more (Some Ranges) = refl
-header-among context earlier keyword more (Some Bounds) = refl
-header-among context earlier keyword more (Some EndData) = refl
+header-among context earlier keyword v3 v4 = grind arith
 
 -- a kind that no data line has
 pub no-data : {X : Type 0} (kind : FaultKind) (context : Context) (earlier : Draft) (fields : Fields) (o : Option Section) → is_among (kinds_in o) kind ≡ false → holds_of kind (data_tests context earlier fields o) ≡ true → X
@@ -208,7 +138,4 @@ no-header kind context earlier keyword more o k h =
 pub by-form : (kind : FaultKind) (is_such : List LineContent → LineContent → Bool) → is_among refusal_kinds kind ≡ false
     → ((before : List LineContent) (earlier : Draft) (item : LineContent) → Stated before earlier → holds_of kind (item_tests (context_of before) earlier item) ≡ true → is_such before item ≡ true)
     → (before : List LineContent) (earlier : Draft) (item : LineContent) → Stated before earlier → IsFirst kind before earlier item → is_such before item ≡ true
-by-form kind is_such k such before earlier item known h =
-    such before earlier item known
-    (left_only (holds_of kind (item_tests (context_of before) earlier item)) (refuses kind earlier (line_declares (context_of before) earlier item))
-    (form-only kind k (line_declares (context_of before) earlier item) earlier) h.stated)
+by-form kind is_such k such before earlier item known h = grind (arith, left_only, holds_of, refuses, form-only)

@@ -1,4 +1,6 @@
 -- In well-formed lines each row and column is declared before it is used.
+use Rattle.std.proofs.Common.{arith}
+use Rattle.std.proofs.Common.{rules}
 use Rattle.std.proofs.Common.{◌≡◌, refl, sym, subst, ◌∙◌, List, [], ◌∷◌, ◌++◌, ℕ, Bool, true, false, cond}
 use Rattle.std.specs.Prelude.{Option, Some, None, is_none, ◌&&◌, not, codes}
 use Rattle.std.specs.List.{list_all, flat_map}
@@ -36,71 +38,26 @@ use Rattle.mpslp_mps.proofs.OrderLemmas.{header-fresh, Past, past-rows, past-col
 
 no-rows-header : (context : Context) (earlier : Draft) (keyword : List ℕ) (more : Fields) (o : Option Section) → those_of (header_tests context earlier keyword more o) ≡ [] → has context.sections_seen Columns ≡ true
     → no_rows (header_declared context earlier more o) ≡ true
-no-rows-header context earlier keyword more None h c = refl
-no-rows-header context earlier keyword more (Some Name) h c = refl
-no-rows-header context earlier keyword more (Some ObjSense) h c = sense-passes (λ d. not (declares_row d)) (λ _. refl) more
-no-rows-header context earlier keyword more (Some ObjName) h c = refl
-no-rows-header context earlier keyword more (Some Rows) h c = refl
-no-rows-header context earlier keyword more (Some Columns) h c = absurd (never (has context.sections_seen Columns) c (header-fresh context earlier keyword more Columns h))
-no-rows-header context earlier keyword more (Some Rhs) h c = refl
-no-rows-header context earlier keyword more (Some Ranges) h c = refl
-no-rows-header context earlier keyword more (Some Bounds) h c = refl
-no-rows-header context earlier keyword more (Some EndData) h c = refl
+no-rows-header context earlier keyword more v4 h c = grind arith
 
 pub no-rows-data : (context : Context) (earlier : Draft) (fields : Fields) (o : Option Section) → is_section Rows o ≡ false → no_rows (data_declared context earlier fields o) ≡ true
-no-rows-data context earlier fields None h = refl
-no-rows-data context earlier fields (Some Name) h = refl
-no-rows-data context earlier fields (Some ObjSense) h = sense-passes (λ d. not (declares_row d)) (λ _. refl) fields
-no-rows-data context earlier fields (Some ObjName) h = refl
-no-rows-data context earlier fields (Some Rows) h = cc
-no-rows-data context earlier fields (Some Columns) h = columns-line-no-rows context fields
-no-rows-data context earlier fields (Some Rhs) h = sides-passes (λ d. not (declares_row d)) (λ r v. refl) earlier fields
-no-rows-data context earlier fields (Some Ranges) h = ranges-passes (λ d. not (declares_row d)) (λ r v. refl) fields
-no-rows-data context earlier fields (Some Bounds) h = bounds-passes (λ d. not (declares_row d)) passes-no_rows fields
-no-rows-data context earlier fields (Some EndData) h = refl
+no-rows-data context earlier fields v3 h = grind arith
 
 no-rows-line : (before : List LineContent) (earlier : Draft) (item : LineContent) → IsGood before earlier item → Past Rows before → has_section before Columns ≡ true
     → no_rows (line_declares (context_of before) earlier item) ≡ true
-no-rows-line before earlier skipped h past columns = refl
-no-rows-line before earlier (header keyword more) h past columns = no-rows-header (context_of before) earlier keyword more (section_named keyword) h columns
-no-rows-line before earlier (data_line fields) h past columns = no-rows-data (context_of before) earlier fields (current_section before) past.left
+no-rows-line before earlier v2 h past columns = grind (arith, no-rows-header, no-rows-data)
 
 pub no-columns-header : (context : Context) (earlier : Draft) (more : Fields) (o : Option Section) → no_columns (header_declared context earlier more o) ≡ true
-no-columns-header context earlier more None = refl
-no-columns-header context earlier more (Some Name) = refl
-no-columns-header context earlier more (Some ObjSense) = sense-passes (λ d. not (declares_column d)) (λ _. refl) more
-no-columns-header context earlier more (Some ObjName) = refl
-no-columns-header context earlier more (Some Rows) = refl
-no-columns-header context earlier more (Some Columns) = elim (is_none earlier.objective && is_none context.objname) as (λ b. no_columns (cond b (declare_objective (codes "obj") ∷ []) []) ≡ true) [ true ↦ refl | false ↦ refl ]
-no-columns-header context earlier more (Some Rhs) = refl
-no-columns-header context earlier more (Some Ranges) = refl
-no-columns-header context earlier more (Some Bounds) = refl
-no-columns-header context earlier more (Some EndData) = refl
+no-columns-header context earlier more v3 = grind arith
 
 row-no-columns : (context : Context) (earlier : Draft) (name : List ℕ) (type : RowType) → no_columns (row_of_type context earlier name type) ≡ true
-row-no-columns context earlier name Free = elim (is_new_objective context earlier name) as (λ b. no_columns (cond b (declare_objective name ∷ []) (declare_row name (by_type Free) ∷ [])) ≡ true) [ true ↦ refl | false ↦ refl ]
-row-no-columns context earlier name AtMost = refl
-row-no-columns context earlier name AtLeast = refl
-row-no-columns context earlier name Equal = refl
+row-no-columns context earlier name v3 = grind arith
 
 pub no-columns-data : (context : Context) (earlier : Draft) (fields : Fields) (o : Option Section) → is_section Columns o ≡ false → no_columns (data_declared context earlier fields o) ≡ true
-no-columns-data context earlier fields None h = refl
-no-columns-data context earlier fields (Some Name) h = refl
-no-columns-data context earlier fields (Some ObjSense) h = sense-passes (λ d. not (declares_column d)) (λ _. refl) fields
-no-columns-data context earlier fields (Some ObjName) h = refl
-no-columns-data context earlier fields (Some Rows) h =
-    each-declared (λ d. not (declares_column d)) (row_declared context earlier) (row_shape fields)
-    (λ line. each-declared (λ d. not (declares_column d)) (row_of_type context earlier line.name) (row_type line.letter) (λ type. row-no-columns context earlier line.name type))
-no-columns-data context earlier fields (Some Columns) h = cc
-no-columns-data context earlier fields (Some Rhs) h = sides-passes (λ d. not (declares_column d)) (λ r v. refl) earlier fields
-no-columns-data context earlier fields (Some Ranges) h = ranges-passes (λ d. not (declares_column d)) (λ r v. refl) fields
-no-columns-data context earlier fields (Some Bounds) h = bounds-passes (λ d. not (declares_column d)) passes-no_columns fields
-no-columns-data context earlier fields (Some EndData) h = refl
+no-columns-data context earlier fields v3 h = grind arith
 
 no-columns-line : (before : List LineContent) (earlier : Draft) (item : LineContent) → Past Columns before → no_columns (line_declares (context_of before) earlier item) ≡ true
-no-columns-line before earlier skipped past = refl
-no-columns-line before earlier (header keyword more) past = no-columns-header (context_of before) earlier more (section_named keyword)
-no-columns-line before earlier (data_line fields) past = no-columns-data (context_of before) earlier fields (current_section before) past.left
+no-columns-line before earlier v2 past = grind arith
 
 -- the first of some well-formed lines, and the rest
 pub good-first : (before : List LineContent) (earlier : Draft) (item : LineContent) (items : List LineContent) → are_well_formed before earlier (item ∷ items) ≡ true → IsGood before earlier item
@@ -244,41 +201,13 @@ is_rowed _ = false
 
 -- a sense, an objective and a row refer to no other name
 sense-known : (before : Draft) (fields : Fields) → are_known_in_turn before (declared_if_some sense_declared (word_shape fields)) ≡ true
-sense-known before fields = worded (word_shape fields)
-  where
-    sensed : (o : Option Sense) → are_known_in_turn before (declared_if_some (λ sense. declare_sense sense ∷ []) o) ≡ true
-    sensed None = refl
-    sensed (Some sense) = refl
-
-    worded : (o : Option (List ℕ)) → are_known_in_turn before (declared_if_some sense_declared o) ≡ true
-    worded None = refl
-    worded (Some word) = sensed (sense_of word)
+sense-known before fields = grind arith
 
 rows-known : (context : Context) (earlier before : Draft) (fields : Fields) → are_known_in_turn before (declared_if_some (row_declared context earlier) (row_shape fields)) ≡ true
-rows-known context earlier before fields = lined (row_shape fields)
-  where
-    typed : (name : List ℕ) (o : Option RowType) → are_known_in_turn before (declared_if_some (row_of_type context earlier name) o) ≡ true
-    typed name None = refl
-    typed name (Some Free) = elim (is_new_objective context earlier name) as (λ b. are_known_in_turn before (cond b (declare_objective name ∷ []) (declare_row name (by_type Free) ∷ [])) ≡ true) [ true ↦ refl | false ↦ refl ]
-    typed name (Some AtMost) = refl
-    typed name (Some AtLeast) = refl
-    typed name (Some Equal) = refl
-
-    lined : (o : Option RowLine) → are_known_in_turn before (declared_if_some (row_declared context earlier) o) ≡ true
-    lined None = refl
-    lined (Some line) = typed line.name (row_type line.letter)
+rows-known context earlier before fields = grind arith
 
 header-known : (context : Context) (earlier : Draft) (more : Fields) (o : Option Section) → are_known_in_turn earlier (header_declared context earlier more o) ≡ true
-header-known context earlier more None = refl
-header-known context earlier more (Some Name) = refl
-header-known context earlier more (Some ObjSense) = sense-known earlier more
-header-known context earlier more (Some ObjName) = refl
-header-known context earlier more (Some Rows) = refl
-header-known context earlier more (Some Columns) = elim (is_none earlier.objective && is_none context.objname) as (λ b. are_known_in_turn earlier (cond b (declare_objective (codes "obj") ∷ []) []) ≡ true) [ true ↦ refl | false ↦ refl ]
-header-known context earlier more (Some Rhs) = refl
-header-known context earlier more (Some Ranges) = refl
-header-known context earlier more (Some Bounds) = refl
-header-known context earlier more (Some EndData) = refl
+header-known context earlier more v3 = grind arith
 
 data-known : (context : Context) (final earlier : Draft) (fields : Fields) (o : Option Section) → (is_rowed o ≡ true → HasRowsOf final earlier) → (is_section Bounds o ≡ true → HasColumnsOf final earlier)
     → AreKnown final (data_declared context earlier fields o) → are_known_in_turn earlier (data_declared context earlier fields o) ≡ true
@@ -305,9 +234,7 @@ data-known context final earlier fields (Some EndData) rows columns h = refl
 
 known-append : (before : Draft) (xs ys : Declarations) → are_known_in_turn before xs ≡ true → are_known_in_turn (with_declarations before xs) ys ≡ true → are_known_in_turn before (xs ++ ys) ≡ true
 known-append before [] ys h k = k
-known-append before (d ∷ ds) ys h k =
-    both_so (is_known before d) (are_known_in_turn (with_declaration before d) (ds ++ ys)) (first_so (is_known before d) (are_known_in_turn (with_declaration before d) ds) h)
-    (known-append (with_declaration before d) ds ys (second_so (is_known before d) (are_known_in_turn (with_declaration before d) ds) h) k)
+known-append before (d ∷ ds) ys h k = grind (arith, both_so, are_known_in_turn, known-append (with_declaration before d) ds ys (second_so (is_known before d) (are_known_in_turn (with_declaration before d) ds) h) k)
 
 -- what is declared from a line on leaves rows and columns unchanged, after their sections
 same-rows : (before : List LineContent) (earlier : Draft) (items : List LineContent) → are_well_formed before earlier items ≡ true → Past Rows before → has_section before Columns ≡ true
@@ -319,28 +246,10 @@ same-columns : (before : List LineContent) (earlier : Draft) (items : List LineC
 same-columns before earlier items h past c known = sym (columns-kept (declared_items before earlier items) earlier c (no-columns-later items before earlier h past)) ∙ known
 
 rowed-late : (o : Option Section) → is_rowed o ≡ true → (is_late o ≡ true) × (is_section Rows o ≡ false)
-rowed-late None h = cc
-rowed-late (Some Name) h = cc
-rowed-late (Some ObjSense) h = cc
-rowed-late (Some ObjName) h = cc
-rowed-late (Some Rows) h = cc
-rowed-late (Some Columns) h = (refl, refl)
-rowed-late (Some Rhs) h = (refl, refl)
-rowed-late (Some Ranges) h = (refl, refl)
-rowed-late (Some Bounds) h = cc
-rowed-late (Some EndData) h = cc
+rowed-late v0 h = grind arith
 
 bounds-late : (o : Option Section) → is_section Bounds o ≡ true → (is_late o ≡ true) × (is_section Columns o ≡ false)
-bounds-late None h = cc
-bounds-late (Some Name) h = cc
-bounds-late (Some ObjSense) h = cc
-bounds-late (Some ObjName) h = cc
-bounds-late (Some Rows) h = cc
-bounds-late (Some Columns) h = cc
-bounds-late (Some Rhs) h = cc
-bounds-late (Some Ranges) h = cc
-bounds-late (Some Bounds) h = (refl, refl)
-bounds-late (Some EndData) h = cc
+bounds-late v0 h = grind arith
 
 line-known : (before : List LineContent) (earlier : Draft) (item : LineContent) (items : List LineContent) → are_well_formed before earlier (item ∷ items) ≡ true → Ordered before
     → AreKnown (with_declarations earlier (declared_items before earlier (item ∷ items))) (line_declares (context_of before) earlier item)

@@ -1,4 +1,6 @@
 -- What well-formed lines declare has legal names and decimals.
+use Rattle.std.proofs.Common.{arith}
+use Rattle.std.proofs.Common.{rules}
 use Rattle.std.proofs.Common.{◌≡◌, refl, ◌∙◌, List, [], ◌∷◌, ◌++◌, ℕ, Bool, true, false, cond}
 use Rattle.std.specs.Prelude.{◌&&◌, Option, Some, None, is_none, codes}
 use Rattle.std.specs.List.{list_all, flat_map}
@@ -34,43 +36,24 @@ use Rattle.mpslp_mps.proofs.KnownLemmas.{good-first, good-rest}
 -- ---- lines
 
 sense-legal : (fields : Fields) → list_all is_legal (declared_if_some sense_declared (word_shape fields)) ≡ true
-sense-legal fields =
-    each-declared is_legal sense_declared (word_shape fields) (λ word. each-declared is_legal (λ sense. declare_sense sense ∷ []) (sense_of word) (λ s. refl))
+sense-legal fields = grind arith
 
 row-type-legal : (context : Context) (earlier : Draft) (name : List ℕ) (type : RowType) → is_mps_name name ≡ true → list_all is_legal (row_of_type context earlier name type) ≡ true
-row-type-legal context earlier name Free h =
-    elim (is_new_objective context earlier name) as (λ b. list_all is_legal (cond b (declare_objective name ∷ []) (declare_row name (by_type Free) ∷ [])) ≡ true) [ true ↦ rw h refl | false ↦ rw h refl ]
-row-type-legal context earlier name AtMost h = rw h refl
-row-type-legal context earlier name AtLeast h = rw h refl
-row-type-legal context earlier name Equal h = rw h refl
+row-type-legal context earlier name v3 h = grind arith
 
 row-legal : (context : Context) (earlier : Draft) (o : Option RowLine) → those_of (judged_by row_line_tests o) ≡ [] → list_all is_legal (declared_if_some (row_declared context earlier) o) ≡ true
-row-legal context earlier None h = refl
-row-legal context earlier (Some line) h =
-    let name = name-legal line.name [] (later_tests (is_none (row_type line.letter)) kinds.BadType (name_tests line.name) h) in
-    each-declared is_legal (row_of_type context earlier line.name) (row_type line.letter) (λ type. row-type-legal context earlier line.name type name)
+row-legal context earlier v2 h = grind arith
 
 cells-legal : (column : List ℕ) (pairs : List Pair) → list_all is_legal (flat_map (coefficient_declared column) pairs) ≡ true
 cells-legal column pairs = each-flat is_legal (coefficient_declared column) pairs (λ pair. rw (value-decimal pair.literal) refl)
 
 column-legal : (context : Context) (earlier : Draft) (o : Option ValuesLine) → those_of (judged_by (column_tests context earlier) o) ≡ []
     → list_all is_legal (declared_if_some (column_declared context) o) ≡ true
-column-legal context earlier None h = refl
-column-legal context earlier (Some line) h =
-    both_so (is_mps_name line.name) _ (name-legal line.name (number_tests (literals_of line.pairs) ++ (is_split context earlier line.name, kinds.ColumnSplit) ∷ []) h) (marked context.in_integer_part)
-  where
-    marked : (b : Bool) → list_all is_legal (cond b (declare_marked line.name ∷ []) [] ++ flat_map (coefficient_declared line.name) line.pairs) ≡ true
-    marked true = cells-legal line.name line.pairs
-    marked false = cells-legal line.name line.pairs
+column-legal context earlier v2 h = grind (arith, both_so, name-legal, cells-legal)
 
 columns-legal : (context : Context) (earlier : Draft) (fields : Fields) → those_of (columns_line_tests context earlier fields) ≡ []
     → list_all is_legal (columns_line_declared context fields) ≡ true
-columns-legal context earlier fields h = by (is_marker_line fields) h
-  where
-    by : (b : Bool) → those_of (cond b (marker_tests context fields) (judged_by (column_tests context earlier) (column_shape fields))) ≡ []
-        → list_all is_legal (cond b [] (declared_if_some (column_declared context) (column_shape fields))) ≡ true
-    by true k = refl
-    by false k = column-legal context earlier (column_shape fields) k
+columns-legal context earlier fields h = grind (arith, column-legal)
 
 sides-legal : (earlier : Draft) (fields : Fields) → list_all is_legal (declared_if_some (rhs_line_declared earlier) (vector_shape fields)) ≡ true
 sides-legal earlier fields =
@@ -82,28 +65,13 @@ sides-legal earlier fields =
     one pair false = rw (value-decimal pair.literal) refl
 
 ranges-legal : (fields : Fields) → list_all is_legal (declared_if_some ranges_declared (vector_shape fields)) ≡ true
-ranges-legal fields =
-    each-declared is_legal ranges_declared (vector_shape fields)
-    (λ line. each-mapped is_legal (λ (pair : Pair). declare_range pair.row (value_of pair.literal)) line.pairs (λ pair. value-decimal pair.literal))
+ranges-legal fields = grind (arith, each-declared, each-mapped, value-decimal)
 
 bound-legal : (type : BoundType) (c : List ℕ) (v : Limit) → is_given v ≡ true → list_all is_legal (bound_declared type c v) ≡ true
-bound-legal bounds.Lower c v h = rw h refl
-bound-legal bounds.Upper c v h = rw h refl
-bound-legal bounds.Fixed c v h = rw h refl
-bound-legal bounds.Free c v h = refl
-bound-legal bounds.NoLower c v h = refl
-bound-legal bounds.NoUpper c v h = refl
-bound-legal bounds.Binary c v h = refl
-bound-legal bounds.IntegerLower c v h = rw h refl
-bound-legal bounds.IntegerUpper c v h = rw h refl
-bound-legal bounds.SemiUpper c v h = rw h refl
+bound-legal v0 c v h = grind arith
 
 bound-value-given : (line : BoundLine) → is_given (bound_value line) ≡ true
-bound-value-given line = by line.literal
-  where
-    by : (o : Option (List ℕ)) → is_given (option_map_or (λ literal. limit_of (value_of literal)) o zero_limit) ≡ true
-    by None = refl
-    by (Some literal) = limit-given (value_of literal) (value-decimal literal)
+bound-value-given line = grind (arith, limit-given, value-decimal)
 
 bounds-legal : (fields : Fields) → list_all is_legal (bound_line_declared fields) ≡ true
 bounds-legal [] = refl
@@ -113,16 +81,7 @@ bounds-legal (letters ∷ more) =
     (λ line. bound-legal type line.column (bound_value line) (bound-value-given line)))
 
 header-legal : (context : Context) (earlier : Draft) (more : Fields) (o : Option Section) → list_all is_legal (header_declared context earlier more o) ≡ true
-header-legal context earlier more None = refl
-header-legal context earlier more (Some Name) = refl
-header-legal context earlier more (Some ObjSense) = sense-legal more
-header-legal context earlier more (Some ObjName) = refl
-header-legal context earlier more (Some Rows) = refl
-header-legal context earlier more (Some Columns) = elim (is_none earlier.objective && is_none context.objname) as (λ b. list_all is_legal (cond b (declare_objective (codes "obj") ∷ []) []) ≡ true) [ true ↦ refl | false ↦ refl ]
-header-legal context earlier more (Some Rhs) = refl
-header-legal context earlier more (Some Ranges) = refl
-header-legal context earlier more (Some Bounds) = refl
-header-legal context earlier more (Some EndData) = refl
+header-legal context earlier more v3 = grind arith
 
 data-legal : (context : Context) (earlier : Draft) (fields : Fields) (o : Option Section) → those_of (data_tests context earlier fields o) ≡ []
     → list_all is_legal (data_declared context earlier fields o) ≡ true

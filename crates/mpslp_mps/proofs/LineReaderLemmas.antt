@@ -1,4 +1,5 @@
 -- What a reader of lines returns for the next line, and at the end.
+use Rattle.std.proofs.Common.{arith}
 use Rattle.std.proofs.Common.{◌≡◌, sym, ap, subst, ◌∙◌, ℕ, List, [], ◌∷◌, true, false}
 use Rattle.std.specs.Prelude.{Some, None, Result}
 use Rattle.std.specs.Str.Lines.{lines}
@@ -24,10 +25,10 @@ use Rattle.mpslp_mps.proofs.ReadLemmas.{finished-reads}
 
 -- the next line is rejected
 pub refuses-line : (reader : LineReader) (line : List ℕ) (error : LineError) (answer : ReadFault) → is_section EndData reader.context.section ≡ false
-    → IsErrorOf (line_fault (placed_in reader.context reader.builder line)) error → IsFaultOn reader.number error answer → RefusesLines HasRead IsFaultOfLines reader (line ∷ []) answer
+    → IsErrorOf (line_fault (placed_in reader.context reader.builder.draft line)) error → IsFaultOn reader.number error answer → RefusesLines HasRead IsFaultOfLines reader (line ∷ []) answer
 refuses-line reader line (errors.Fault kind) answer unended fault_is answer_is =
     subst (RefusesLines HasRead IsFaultOfLines reader (line ∷ [])) (sym answer_is)
-    (λ before led. led-fault before reader.context reader.builder reader.number led unended line kind fault_is)
+    (λ before led. led-fault before reader.context reader.builder.draft reader.number led unended line kind fault_is)
 refuses-line reader line errors.OutOfMemory answer unended fault_is answer_is = subst (RefusesLines HasRead IsFaultOfLines reader (line ∷ [])) (sym answer_is) tt
 
 -- ---- the end
@@ -39,7 +40,5 @@ module _ (bytes : List ℕ) (reader : LineReader) (read : HasRead reader (lines 
   pub ends-missing : is_section EndData reader.context.section ≡ false → first_mps_fault bytes ≡ Some (whole_fault MissingEnd None)
   ends-missing unended = first_fault-whole bytes false none (sym read.ended ∙ unended)
 
-  pub ends-text : (answer : Result LinearModel ReadFault) → is_section EndData reader.context.section ≡ true → Finishes reader.builder answer → ReadsMps bytes answer
-  ends-text answer at_end =
-      let draft = read.draft ∙ draft-whole bytes in
-      finished-reads bytes reader.builder answer draft (first_fault-whole bytes true none (sym read.ended ∙ at_end) ∙ ap file_fault (sym draft))
+  pub ends-text : (answer : Result LinearModel ReadFault) → is_section EndData reader.context.section ≡ true → Finishes reader.builder.draft answer → ReadsMps bytes answer
+  ends-text answer at_end = grind (arith, draft-whole, finished-reads, first_fault-whole, none)

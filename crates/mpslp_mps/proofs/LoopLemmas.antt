@@ -1,4 +1,6 @@
 -- A line after those before it: its error by its length, its bytes and its content, and what holds after it if it has none.
+use Rattle.std.proofs.Common.{arith}
+use Rattle.std.proofs.Common.{rules}
 use Rattle.std.proofs.Common.{◌≡◌, sym, subst, ℕ, List, true, false}
 use Rattle.std.specs.Prelude.{Some, None}
 use Rattle.std.specs.List.{list_all}
@@ -20,9 +22,7 @@ use Rattle.mpslp_mps.specs.VectorDeclared.{HasMpsSides}
 use Rattle.mpslp_mps.proofs.MpsSidesLemmas.{sides-kept}
 
 pub no-item : (context : Context) (earlier : Draft) (line : List ℕ) → line_fault (placed_in context earlier line) ≡ None → item_fault context earlier (content_of line) ≡ None
-no-item context earlier line h =
-    let fine = faultless (line_tests context earlier line) earlier (line_declares context earlier (content_of line)) h in
-    no_fault (item_tests context earlier (content_of line)) earlier (line_declares context earlier (content_of line)) (item-form context earlier line fine.form) fine.unrefused
+no-item context earlier line h = search (rules, faultless, no_fault, item-form)
 
 -- ---- a line's length and bytes
 
@@ -30,13 +30,11 @@ line-rising : (context : Context) (earlier : Draft) (line : List ℕ) → are_ri
 line-rising context earlier line = item-rising context earlier (content_of line)
 
 pub line-too_long : (context : Context) (earlier : Draft) (line : List ℕ) → has_legal_length line ≡ false → line_fault (placed_in context earlier line) ≡ Some LineTooLong
-line-too_long context earlier line =
-    too-long line (outside_comment line) (item_tests context earlier (content_of line)) earlier (line_declares context earlier (content_of line)) (line-rising context earlier line)
+line-too_long context earlier line = grind (arith, too-long, line-rising)
 
 pub line-bad_byte : (context : Context) (earlier : Draft) (line : List ℕ) → has_legal_length line ≡ true → list_all is_legal_byte (outside_comment line) ≡ false
     → line_fault (placed_in context earlier line) ≡ Some BadByte
-line-bad_byte context earlier line =
-    bad-byte line (outside_comment line) (item_tests context earlier (content_of line)) earlier (line_declares context earlier (content_of line)) (line-rising context earlier line)
+line-bad_byte context earlier line = grind (arith, bad-byte, line-rising)
 
 pub line-legal : (context : Context) (earlier : Draft) (line : List ℕ) → has_legal_length line ≡ true → list_all is_legal_byte (outside_comment line) ≡ true
     → line_fault (placed_in context earlier line) ≡ item_fault context earlier (content_of line)
@@ -46,5 +44,4 @@ line-legal context earlier line = legal-first line (outside_comment line) (item_
 
 pub sides-next : (line : List ℕ) (context : Context) (earlier later : Draft) → HasMpsSides earlier → line_fault (placed_in context earlier line) ≡ None
     → later ≡ draft_after context earlier line → HasMpsSides later
-sides-next line context earlier later sides none draft =
-    subst HasMpsSides (sym draft) (sides-kept context earlier (content_of line) (no-item context earlier line none) sides)
+sides-next line context earlier later sides none draft = grind (arith, sides-kept, no-item)

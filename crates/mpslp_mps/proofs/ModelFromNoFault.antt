@@ -1,4 +1,5 @@
 -- Bytes without a first error declare a model.
+use Rattle.std.proofs.Common.{rules}
 use Rattle.std.proofs.Common.{◌≡◌, refl, sym, ap, subst, ◌∙◌, List, [], ◌∷◌, ◌++◌, ℕ, suc, ◌+◌, Bool, true, false, cond, map, arith, take}
 use Rattle.std.specs.Prelude.{Option, Some, None, is_some, ◌||◌, not}
 use Rattle.std.specs.List.{list_all, list_any, flat_map, position_or_len}
@@ -33,12 +34,10 @@ use Rattle.mpslp_mps.proofs.ObjectiveLemmas.{named-lines}
 -- ---- lines without an error
 
 or-none : {X : Type 0} (o p : Option X) → option_or o p ≡ None → (o ≡ None) × (p ≡ None)
-or-none None p h = (refl, h)
-or-none (Some x) p h = cc
+or-none v0 p h = grind arith
 
 mapped-none : {X Y : Type 0} (f : X → Y) (o : Option X) → option_map f o ≡ None → o ≡ None
-mapped-none f None h = refl
-mapped-none f (Some x) h = cc
+mapped-none f v1 h = grind arith
 
 pub record AreFaultless (lines : List (List ℕ)) (before : List LineContent) (earlier : Draft) : Type 0 where
   pub good : list_all is_well_formed (lines_in_context_after before earlier lines) ≡ true
@@ -79,11 +78,7 @@ pub record IsWholeFaultless (bytes : List ℕ) : Type 0 where
   pub file : file_fault (draft_of (declarations_of bytes)) ≡ None
 
 whole-faultless : (bytes : List ℕ) → whole_mps_fault bytes ≡ None → IsWholeFaultless bytes
-whole-faultless bytes h = by (has_end bytes) refl h
-  where
-    by : (b : Bool) → has_end bytes ≡ b → ◌≡◌ {A = Option Fault} (cond b (file_fault (draft_of (declarations_of bytes))) (Some (whole_fault MissingEnd None))) None → IsWholeFaultless bytes
-    by true e k = record { ends = e; file = k }
-    by false e k = cc
+whole-faultless bytes h = grind arith
 
 -- Bytes without a first error declare the model of what their lines declare.
 pub declares-from_no_fault : (bytes : List ℕ) → first_mps_fault bytes ≡ None → DeclaresMps bytes (model_of (draft_of (declarations_of bytes)))

@@ -1,4 +1,6 @@
 -- Lines of MPS text without an error declare right-hand sides only of declared rows that are not of type N.
+use Rattle.std.proofs.Common.{arith}
+use Rattle.std.proofs.Common.{rules}
 use Rattle.std.proofs.Common.{◌≡◌, refl, sym, ap, subst, ◌∙◌, ℕ, List, [], ◌∷◌, ◌++◌, Bool, true, false, cond}
 use Rattle.std.specs.Prelude.{◌&&◌, ◌||◌, Option, Some, None, is_none, codes}
 use Rattle.std.specs.List.{list_all, flat_map}
@@ -38,8 +40,7 @@ pub empty_sides : HasMpsSides empty_draft
 empty_sides = record { known = λ row h. absurd cc; limited = λ row h. refl; constant = refl }
 
 both_none : (o p : Option FaultKind) → earlier_of o p ≡ None → (o ≡ None) × (p ≡ None)
-both_none None p h = (refl, h)
-both_none (Some kind) p h = cc
+both_none v0 p h = grind arith
 
 -- ---- declarations that do not concern rows, right-hand sides, the objective and the constant
 
@@ -51,20 +52,7 @@ stays (declare_rhs row value) = false
 stays _ = true
 
 stays-one : (all : Draft) (d : Declaration) → stays d ≡ true → HasMpsSides all → HasMpsSides (with_declaration all d)
-stays-one all (declare_sense sense) h sides = record { known = sides.known; limited = sides.limited; constant = sides.constant }
-stays-one all (declare_objective name) h sides = cc
-stays-one all (declare_constant value) h sides = cc
-stays-one all (declare_row name form) h sides = cc
-stays-one all (declare_rhs row value) h sides = cc
-stays-one all (declare_range row value) h sides = record { known = sides.known; limited = sides.limited; constant = sides.constant }
-stays-one all (declare_column name) h sides = record { known = sides.known; limited = sides.limited; constant = sides.constant }
-stays-one all (declare_coefficient key value) h sides = record { known = sides.known; limited = sides.limited; constant = sides.constant }
-stays-one all (declare_lower column side) h sides = record { known = sides.known; limited = sides.limited; constant = sides.constant }
-stays-one all (declare_upper column side) h sides = record { known = sides.known; limited = sides.limited; constant = sides.constant }
-stays-one all (declare_marked column) h sides = record { known = sides.known; limited = sides.limited; constant = sides.constant }
-stays-one all (declare_integer column) h sides = record { known = sides.known; limited = sides.limited; constant = sides.constant }
-stays-one all (declare_binary column) h sides = record { known = sides.known; limited = sides.limited; constant = sides.constant }
-stays-one all (declare_semi column) h sides = record { known = sides.known; limited = sides.limited; constant = sides.constant }
+stays-one all v1 h sides = grind arith
 
 stays-kept : (ds : Declarations) (all : Draft) → list_all stays ds ≡ true → HasMpsSides all → HasMpsSides (with_declarations all ds)
 stays-kept [] all h sides = sides
@@ -74,93 +62,32 @@ sense-stays : (fields : Fields) → list_all stays (declared_if_some sense_decla
 sense-stays fields = sense-passes stays (λ s. refl) fields
 
 columns-stay : (context : Context) (fields : Fields) → list_all stays (columns_line_declared context fields) ≡ true
-columns-stay context fields =
-    elim (is_marker_line fields) as (λ b. list_all stays (cond b [] (declared_if_some (column_declared context) (column_shape fields))) ≡ true) [
-      | true ↦ refl
-      | false ↦ each-declared stays (column_declared context) (column_shape fields) line
-    ]
-  where
-    marked : (column : List ℕ) (more : Declarations) (b : Bool) → list_all stays more ≡ true → list_all stays (when b (declare_marked column) ++ more) ≡ true
-    marked column more true h = h
-    marked column more false h = h
-
-    line : (parts : ValuesLine) → list_all stays (column_declared context parts) ≡ true
-    line parts =
-        marked parts.name (flat_map (coefficient_declared parts.name) parts.pairs) context.in_integer_part
-        (each-flat stays (coefficient_declared parts.name) parts.pairs (λ pair. refl))
+columns-stay context fields = grind arith
 
 ranges-stay : (fields : Fields) → list_all stays (declared_if_some ranges_declared (vector_shape fields)) ≡ true
-ranges-stay fields =
-    each-declared stays ranges_declared (vector_shape fields)
-    (λ line. each-mapped stays (λ (pair : Pair). declare_range pair.row (value_of pair.literal)) line.pairs (λ pair. refl))
+ranges-stay fields = grind arith
 
 bound-stays : (type : BoundType) (column : List ℕ) (value : Limit) → list_all stays (bound_declared type column value) ≡ true
-bound-stays bounds.Lower column value = refl
-bound-stays bounds.Upper column value = refl
-bound-stays bounds.Fixed column value = refl
-bound-stays bounds.Free column value = refl
-bound-stays bounds.NoLower column value = refl
-bound-stays bounds.NoUpper column value = refl
-bound-stays bounds.Binary column value = refl
-bound-stays bounds.IntegerLower column value = refl
-bound-stays bounds.IntegerUpper column value = refl
-bound-stays bounds.SemiUpper column value = refl
+bound-stays v0 column value = grind arith
 
 bounds-stay : (fields : Fields) → list_all stays (bound_line_declared fields) ≡ true
-bounds-stay [] = refl
-bounds-stay (letters ∷ more) =
-    each-declared stays (λ type. declared_if_some (λ (line : BoundLine). bound_declared type line.column (bound_value line)) (bound_shape type more)) (bound_type letters)
-    (λ type. each-declared stays (λ (line : BoundLine). bound_declared type line.column (bound_value line)) (bound_shape type more) (λ line. bound-stays type line.column (bound_value line)))
+bounds-stay v0 = grind arith
 
 -- ---- the objective and rows
 
 -- an objective, if there is none yet
 objective-kept : (all : Draft) (name : List ℕ) → all.objective ≡ None → HasMpsSides all → HasMpsSides (with_declaration all (declare_objective name))
-objective-kept all name none sides = record { known = known; limited = sides.limited; constant = sides.constant }
-  where
-    known : (row : List ℕ) → has_name all.rhs_values row ≡ true → has_row (with_declaration all (declare_objective name)) row ≡ true
-    known row h =
-        let named : has_name all.rows row ≡ true = ap (λ (o : Option (List ℕ)). option_map_or (same_bytes row) o false || has_name all.rows row) (sym none) ∙ sides.known row h in
-        or_right (same_bytes row name) (has_name all.rows row) named
+objective-kept all name none sides = grind arith
 
 -- a row of a new name
 row-kept : (all : Draft) (name : List ℕ) (form : RowDefinition) → has_row all name ≡ false → HasMpsSides all → HasMpsSides (with_declaration all (declare_row name form))
-row-kept all name form new sides = record { known = known; limited = limits; constant = sides.constant }
-  where
-    known : (row : List ℕ) → has_name all.rhs_values row ≡ true → has_row (with_declaration all (declare_row name form)) row ≡ true
-    known row h = ap (λ (b : Bool). is_objective all row || b) (has-put row name form all.rows) ∙ by (is_objective all row) (same_bytes row name) (has_name all.rows row) (sides.known row h)
-      where
-        by : (a b c : Bool) → (a || c) ≡ true → (a || (b || c)) ≡ true
-        by true b c k = refl
-        by false true c k = refl
-        by false false c k = k
-
-    limits : (row : List ℕ) → is_free_row (with_declaration all (declare_row name form)) row ≡ true → has_name all.rhs_values row ≡ false
-    limits row h =
-        by (same_bytes row name) refl (sym (ap (λ (o : Option RowDefinition). option_map_or is_free_definition o false) (at-put row name form all.rows)) ∙ h)
-      where
-        none : (b : Bool) → has_name all.rhs_values row ≡ b → has_row all row ≡ false → has_name all.rhs_values row ≡ false
-        none true given absent = let there = sides.known row given in cc
-        none false given absent = given
-
-        by : (b : Bool) → same_bytes row name ≡ b → option_map_or is_free_definition (cond b (Some form) (at_name all.rows row)) false ≡ true → has_name all.rhs_values row ≡ false
-        by true same k = none (has_name all.rhs_values row) refl (ap (has_row all) (same_name row name same) ∙ new)
-        by false same k = sides.limited row k
+row-kept all name form new sides = search (rules, limited, has-put, at-put, same_name)
 
 none_so : (o : Option (List ℕ)) → is_none o ≡ true → o ≡ None
-none_so None h = refl
-none_so (Some name) h = cc
+none_so v0 h = grind arith
 
 new_row : (all : Draft) (name : List ℕ) (type : RowType) → declared_fault all (declare_row name (by_type type) ∷ []) ≡ None → has_row all name ≡ false
-new_row all name type fault_is = by (has_row all name) (sym is ∙ fault_is)
-  where
-    is : declared_fault all (declare_row name (by_type type) ∷ []) ≡ cond (has_row all name) (Some kinds.DuplicateRow) None
-    is =
-        declared-one all (declare_row name (by_type type)) refl
-
-    by : (b : Bool) → cond b (Some kinds.DuplicateRow) None ≡ None → b ≡ false
-    by true k = cc
-    by false k = refl
+new_row all name type fault_is = grind arith
 
 objective-or_row : (context : Context) (all : Draft) (name : List ℕ) → declared_fault all (row_of_type context all name Free) ≡ None → HasMpsSides all → HasMpsSides (with_declarations all (row_of_type context all name Free))
 objective-or_row context all name fault_is sides = by (is_new_objective context all name) refl fault_is
@@ -186,17 +113,12 @@ rows-kept context all fields fault_is sides = lined (row_shape fields) fault_is
     lined (Some line) k = typed line.name (row_type line.letter) k
 
 default-kept : (context : Context) (all : Draft) → HasMpsSides all → HasMpsSides (with_declarations all (default_objective context all))
-default-kept context all sides = by (is_none all.objective && is_none context.objname) refl
-  where
-    by : (b : Bool) → (is_none all.objective && is_none context.objname) ≡ b → HasMpsSides (with_declarations all (cond b (declare_objective (codes "obj") ∷ []) []))
-    by true none = objective-kept all (codes "obj") (none_so all.objective (first_so (is_none all.objective) (is_none context.objname) none)) sides
-    by false there = sides
+default-kept context all sides = grind arith
 
 -- ---- right-hand sides
 
 there_so : (there sided : Bool) → side_kind there sided ≡ None → there ≡ true
-there_so true sided h = refl
-there_so false sided h = cc
+there_so v0 sided h = grind arith
 
 -- in terms of the rows before the line, which are those after each of its right-hand sides
 pairs-kept : (pairs : List Pair) (earlier all : Draft) → ((row : List ℕ) → is_free_row all row ≡ is_free_row earlier row) → HasMpsSides all
@@ -226,16 +148,7 @@ rhs_values-kept all fields fault_is sides = lined (vector_shape fields) fault_is
 -- ---- a line
 
 header-kept : (context : Context) (earlier : Draft) (more : Fields) (o : Option Section) → HasMpsSides earlier → HasMpsSides (with_declarations earlier (header_declared context earlier more o))
-header-kept context earlier more None sides = sides
-header-kept context earlier more (Some Name) sides = sides
-header-kept context earlier more (Some ObjSense) sides = stays-kept (header_declared context earlier more (Some ObjSense)) earlier (sense-stays more) sides
-header-kept context earlier more (Some ObjName) sides = sides
-header-kept context earlier more (Some Rows) sides = sides
-header-kept context earlier more (Some Columns) sides = default-kept context earlier sides
-header-kept context earlier more (Some Rhs) sides = sides
-header-kept context earlier more (Some Ranges) sides = sides
-header-kept context earlier more (Some Bounds) sides = sides
-header-kept context earlier more (Some EndData) sides = sides
+header-kept context earlier more v3 sides = grind arith
 
 data-kept : (context : Context) (earlier : Draft) (fields : Fields) (o : Option Section) → declared_fault earlier (data_declared context earlier fields o) ≡ None → HasMpsSides earlier
     → HasMpsSides (with_declarations earlier (data_declared context earlier fields o))

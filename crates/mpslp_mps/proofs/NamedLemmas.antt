@@ -1,4 +1,6 @@
 -- After lines without an error, the last of which is that of ENDATA, the objective has a name.
+use Rattle.std.proofs.Common.{arith}
+use Rattle.std.proofs.Common.{rules}
 use Rattle.std.proofs.Common.{◌≡◌, refl, sym, ap, ◌∙◌, ℕ, ◌+◌, List, [], ◌∷◌, ◌++◌, Bool, true, false}
 use Rattle.std.specs.Prelude.{◌||◌, Option, Some, None, is_some}
 use Rattle.std.specs.List.{list_any}
@@ -35,43 +37,28 @@ HasName context earlier = has context.sections_seen Columns ≡ true → is_some
 -- a header without an error is well-formed
 header_good : (context : Context) (earlier : Draft) (keyword : List ℕ) (more : Fields) → item_fault context earlier (header keyword more) ≡ None
     → those_of (header_tests context earlier keyword more (section_named keyword)) ≡ []
-header_good context earlier keyword more none =
-    let faults = declaring_faults earlier (header_declared context earlier more (section_named keyword)) in
-    let tests = header_tests context earlier keyword more (section_named keyword) in
-    left_none (those_of tests) faults (least-none (those_of tests ++ faults) none)
+header_good context earlier keyword more none = grind (arith, left_none, least-none)
 
 named_begun : (context : Context) (earlier : Draft) (item : LineContent) → item_fault context earlier item ≡ None → begins Columns item ≡ true
     → is_some (with_declarations earlier (line_declares context earlier item)).objective ≡ true
-named_begun context earlier skipped none h = cc
-named_begun context earlier (header keyword more) none h =
-    columns-name context earlier keyword more (section_named keyword) (header_good context earlier keyword more none) h
-named_begun context earlier (data_line fields) none h = cc
+named_begun context earlier v2 none h = grind arith
 
 named_next : (context : Context) (earlier : Draft) (item : LineContent) → item_fault context earlier item ≡ None → HasName context earlier
     → HasName (next_context context item) (with_declarations earlier (line_declares context earlier item))
-named_next context earlier item none named h = by (has context.sections_seen Columns) refl (sym (has-more Columns context.sections_seen (section_of_header item)) ∙ h)
-  where
-    by : (b : Bool) → has context.sections_seen Columns ≡ b → (b || begins Columns item) ≡ true → is_some (with_declarations earlier (line_declares context earlier item)).objective ≡ true
-    by true e k = named-after (line_declares context earlier item) earlier (named e)
-    by false e k = named_begun context earlier item none k
+named_next context earlier item none named h = grind (arith, has-more, named-after, named_begun)
 
 -- ENDATA comes after COLUMNS
 ended_columns : (context : Context) (earlier : Draft) (item : LineContent) → item_fault context earlier item ≡ None → begins EndData item ≡ true
     → has context.sections_seen Columns ≡ true
-ended_columns context earlier skipped none h = cc
-ended_columns context earlier (header keyword more) none h =
-    end-after context earlier keyword more (section_named keyword) (header_good context earlier keyword more none) h
-ended_columns context earlier (data_line fields) none h = cc
+ended_columns context earlier v2 none h = grind arith
 
 -- ---- lines
 
 first_none : (n : ℕ) (o : Option FaultKind) (rest : Option Fault) → option_or (option_map (fault_on_line n) o) rest ≡ None → o ≡ None
-first_none n None rest h = refl
-first_none n (Some kind) rest h = cc
+first_none n v1 rest h = grind arith
 
 rest_none : (n : ℕ) (o : Option FaultKind) (rest : Option Fault) → option_or (option_map (fault_on_line n) o) rest ≡ None → rest ≡ None
-rest_none n None rest h = h
-rest_none n (Some kind) rest h = cc
+rest_none n v1 rest h = grind arith
 
 pub named-lines_to_end : (text : List (List ℕ)) (n : ℕ) (context : Context) (earlier : Draft) → HasName context earlier
     → fault_from n context earlier (lines_to_end text) ≡ None → list_any is_end text ≡ true → is_some (draft_from context earlier (lines_to_end text)).objective ≡ true

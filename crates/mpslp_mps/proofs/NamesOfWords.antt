@@ -1,4 +1,6 @@
 -- A draft has the rows, coefficients and sense of the lines before by `TextInWords`; each row that they name exists.
+use Rattle.std.proofs.Common.{arith}
+use Rattle.std.proofs.Common.{rules}
 use Rattle.std.proofs.lemmas.Bool.{false≢true, true≢false}
 use Rattle.std.proofs.Common.{◌≡◌, refl, sym, ap, ◌∙◌, subst, List, [], ◌∷◌, ◌++◌, ℕ, Bool, true, false, cond}
 use Rattle.std.specs.Prelude.{Option, Some, None, is_none, is_some, not, filter_map, ◌||◌, ◌&&◌, codes}
@@ -39,10 +41,7 @@ use Rattle.mpslp_mps.proofs.TextOfWords.{Known, none-known, known-kept}
 -- ---- one line more
 
 names_row-push : (before : List LineContent) (item : LineContent) (name : List ℕ) → names_row (before ++ item ∷ []) name ≡ (names_row before name || is_named name (filter_map row_name (fields_under Rows (current_section before) item)))
-names_row-push before item name =
-    ap (λ (lines : List Fields). is_named name (filter_map row_name lines)) (data_lines-push Rows before item)
-    ∙ (ap (is_named name) (filter_map-append row_name (data_lines Rows before) (fields_under Rows (current_section before) item))
-    ∙ list_any-append (same_bytes name) (filter_map row_name (data_lines Rows before)) (filter_map row_name (fields_under Rows (current_section before) item)))
+names_row-push before item name = grind (arith, data_lines-push, filter_map-append, list_any-append)
 
 -- ---- each row that a line of ROWS names exists
 
@@ -51,82 +50,20 @@ AreRowsThere before earlier = (name : List ℕ) → names_row before name ≡ tr
 
 -- a new objective keeps the other rows, if there was none
 new-objective : (all : Draft) (name other : List ℕ) → is_none all.objective ≡ true → has_row all name ≡ true → has_row (with_declaration all (declare_objective other)) name ≡ true
-new-objective all name other none h = or_right (same_bytes name other) (has_name all.rows name) (by all.objective none h)
-  where
-    by : (o : Option (List ℕ)) → is_none o ≡ true → (option_map_or (same_bytes name) o false || has_name all.rows name) ≡ true → has_name all.rows name ≡ true
-    by None e k = k
-    by (Some x) e k = cc
+new-objective all name other none h = grind arith
 
 new-row : (all : Draft) (name other : List ℕ) (form : RowDefinition) → has_row all name ≡ true → has_row (with_declaration all (declare_row other form)) name ≡ true
-new-row all name other form h = by (is_objective all name) h
-  where
-    by : (b : Bool) → (b || has_name all.rows name) ≡ true → (b || has_name (with_declaration all (declare_row other form)).rows name) ≡ true
-    by true k = refl
-    by false k = more_entries name other form all.rows k
+new-row all name other form h = grind (arith, more_entries)
 
 no-rows-header : (context : Context) (earlier : Draft) (more : Fields) (o : Option Section) → is_section Columns o ≡ false → no_rows (header_declared context earlier more o) ≡ true
-no-rows-header context earlier more None h = refl
-no-rows-header context earlier more (Some Name) h = refl
-no-rows-header context earlier more (Some ObjSense) h = sense-passes _ (λ _. refl) more
-no-rows-header context earlier more (Some ObjName) h = refl
-no-rows-header context earlier more (Some Rows) h = refl
-no-rows-header context earlier more (Some Columns) h = absurd (true≢false h)
-no-rows-header context earlier more (Some Rhs) h = refl
-no-rows-header context earlier more (Some Ranges) h = refl
-no-rows-header context earlier more (Some Bounds) h = refl
-no-rows-header context earlier more (Some EndData) h = refl
+no-rows-header context earlier more v3 h = grind arith
 
 rows-stay : (context : Context) (earlier : Draft) (item : LineContent) (name : List ℕ) → has_row earlier name ≡ true → has_row (with_declarations earlier (line_declares context earlier item)) name ≡ true
-rows-stay context earlier skipped name h = h
-rows-stay context earlier (header keyword more) name h = by (section_named keyword) (is_section Columns (section_named keyword)) refl
-  where
-    default : (b : Bool) → (is_none earlier.objective && is_none context.objname) ≡ b → has_row (with_declarations earlier (cond b (declare_objective (codes "obj") ∷ []) [])) name ≡ true
-    default true e = new-objective earlier name (codes "obj") (first_so (is_none earlier.objective) (is_none context.objname) e) h
-    default false e = h
-
-    by : (o : Option Section) (b : Bool) → is_section Columns o ≡ b → has_row (with_declarations earlier (header_declared context earlier more o)) name ≡ true
-    by o true e = subst (λ s. has_row (with_declarations earlier (header_declared context earlier more s)) name ≡ true) (sym (section-is Columns o e)) (default (is_none earlier.objective && is_none context.objname) refl)
-    by o false e = rows-kept (header_declared context earlier more o) earlier name (no-rows-header context earlier more o e) ∙ h
-rows-stay context earlier (data_line fields) name h = by context.section (is_section Rows context.section) refl
-  where
-    of : (line : RowLine) (type : RowType) → has_row (with_declarations earlier (row_of_type context earlier line.name type)) name ≡ true
-    of line Free = free (is_new_objective context earlier line.name) refl
-      where
-        free : (b : Bool) → is_new_objective context earlier line.name ≡ b → has_row (with_declarations earlier (cond b (declare_objective line.name ∷ []) (declare_row line.name (by_type Free) ∷ []))) name ≡ true
-        free true e = new-objective earlier name line.name (first_so (is_none earlier.objective) (option_map_or (same_bytes line.name) context.objname true) e) h
-        free false e = new-row earlier name line.name (by_type Free) h
-    of line AtMost = new-row earlier name line.name (by_type AtMost) h
-    of line AtLeast = new-row earlier name line.name (by_type AtLeast) h
-    of line Equal = new-row earlier name line.name (by_type Equal) h
-
-    typed : (line : RowLine) (o : Option RowType) → has_row (with_declarations earlier (declared_if_some (row_of_type context earlier line.name) o)) name ≡ true
-    typed line None = h
-    typed line (Some type) = of line type
-
-    row : (o : Option RowLine) → has_row (with_declarations earlier (declared_if_some (row_declared context earlier) o)) name ≡ true
-    row None = h
-    row (Some line) = typed line (row_type line.letter)
-
-    by : (o : Option Section) (b : Bool) → is_section Rows o ≡ b → has_row (with_declarations earlier (data_declared context earlier fields o)) name ≡ true
-    by o true e = subst (λ s. has_row (with_declarations earlier (data_declared context earlier fields s)) name ≡ true) (sym (section-is Rows o e)) (row (row_shape fields))
-    by o false e = rows-kept (data_declared context earlier fields o) earlier name (no-rows-data context earlier fields o e) ∙ h
+rows-stay context earlier v2 name h = search (rules, new-objective, section-is, rows-kept, no-rows-header, new-row, no-rows-data)
 
 -- what a row line declares exists
 line-there : (context : Context) (earlier : Draft) (line : RowLine) (type : RowType) (name : List ℕ) → same_bytes name line.name ≡ true → has_row (with_declarations earlier (row_of_type context earlier line.name type)) name ≡ true
-line-there context earlier line type name same = by type
-  where
-    row : (form : RowDefinition) → has_row (with_declaration earlier (declare_row line.name form)) name ≡ true
-    row form = or_right (is_objective earlier name) (has_name (with_declaration earlier (declare_row line.name form)).rows name) (has-put name line.name form earlier.rows ∙ or_left (same_bytes name line.name) (has_name earlier.rows name) same)
-
-    free : (b : Bool) → has_row (with_declarations earlier (cond b (declare_objective line.name ∷ []) (declare_row line.name (by_type Free) ∷ []))) name ≡ true
-    free true = or_left (same_bytes name line.name) (has_name earlier.rows name) same
-    free false = row (by_type Free)
-
-    by : (t : RowType) → has_row (with_declarations earlier (row_of_type context earlier line.name t)) name ≡ true
-    by Free = free (is_new_objective context earlier line.name)
-    by AtMost = row (by_type AtMost)
-    by AtLeast = row (by_type AtLeast)
-    by Equal = row (by_type Equal)
+line-there context earlier line type name same = grind (arith, or_right, has-put, or_left)
 
 rows_there-kept : (before : List LineContent) (earlier : Draft) (item : LineContent) → IsGood before earlier item → AreRowsThere before earlier → AreRowsThere (before ++ item ∷ []) (with_declarations earlier (line_declares (context_of before) earlier item))
 rows_there-kept before earlier item good there name h = by (names_row before name) refl item good (sym (names_row-push before item name) ∙ h)
@@ -168,77 +105,7 @@ abbrev pub HaveRowLines : List LineContent → Draft → Type 0
 HaveRowLines before earlier = (name : List ℕ) → has_row earlier name ≡ true → (names_row before name || has_section before Columns) ≡ true
 
 row_lines-kept : (before : List LineContent) (earlier : Draft) (item : LineContent) → HaveRowLines before earlier → HaveRowLines (before ++ item ∷ []) (with_declarations earlier (line_declares (context_of before) earlier item))
-row_lines-kept before earlier item have name h =
-    ap (λ (b : Bool). b || has_section (before ++ item ∷ []) Columns) (names_row-push before item name)
-    ∙ (ap (λ (b : Bool). (names_row before name || is_named name (filter_map row_name (fields_under Rows (current_section before) item))) || b) (has_section-push Columns before item)
-    ∙ by item h)
-  where
-    -- named before, or COLUMNS has begun
-    old : (a b : Bool) → (names_row before name || has_section before Columns) ≡ true → ((names_row before name || a) || (has_section before Columns || b)) ≡ true
-    old a b k = of (names_row before name) (has_section before Columns) k
-      where
-        of : (m n : Bool) → (m || n) ≡ true → ((m || a) || (n || b)) ≡ true
-        of true n e = refl
-        of false true e = or_right a true refl
-        of false false e = absurd (false≢true e)
-
-    of_line : (line : RowLine) (type : RowType) → has_row (with_declarations earlier (row_of_type (context_of before) earlier line.name type)) name ≡ true → ((same_bytes name line.name || false) || has_row earlier name) ≡ true
-    of_line line type k = of type k
-      where
-        turned : (o s r : Bool) → (o || (s || r)) ≡ true → ((s || false) || (o || r)) ≡ true
-        turned true true r e = refl
-        turned true false r e = refl
-        turned false true r e = refl
-        turned false false r e = e
-
-        more : (o s r : Bool) → (s || r) ≡ true → ((s || false) || (o || r)) ≡ true
-        more o true r e = refl
-        more o false r e = or_right o r e
-
-        row : (form : RowDefinition) → has_row (with_declaration earlier (declare_row line.name form)) name ≡ true → ((same_bytes name line.name || false) || has_row earlier name) ≡ true
-        row form e = turned (is_objective earlier name) (same_bytes name line.name) (has_name earlier.rows name) (sym (ap (λ (b : Bool). is_objective earlier name || b) (has-put name line.name form earlier.rows)) ∙ e)
-
-        free : (b : Bool) → has_row (with_declarations earlier (cond b (declare_objective line.name ∷ []) (declare_row line.name (by_type Free) ∷ []))) name ≡ true → ((same_bytes name line.name || false) || has_row earlier name) ≡ true
-        free true e = more (is_objective earlier name) (same_bytes name line.name) (has_name earlier.rows name) e
-        free false e = row (by_type Free) e
-
-        of : (t : RowType) → has_row (with_declarations earlier (row_of_type (context_of before) earlier line.name t)) name ≡ true → ((same_bytes name line.name || false) || has_row earlier name) ≡ true
-        of Free e = free (is_new_objective (context_of before) earlier line.name) e
-        of AtMost e = row (by_type AtMost) e
-        of AtLeast e = row (by_type AtLeast) e
-        of Equal e = row (by_type Equal) e
-
-    typed : (line : RowLine) (t : Option RowType) → has_row (with_declarations earlier (declared_if_some (row_of_type (context_of before) earlier line.name) t)) name ≡ true → ((same_bytes name line.name || false) || has_row earlier name) ≡ true
-    typed line None m = or_right (same_bytes name line.name || false) (has_row earlier name) m
-    typed line (Some type) m = of_line line type m
-
-    row : (o : Option RowLine) → has_row (with_declarations earlier (declared_if_some (row_declared (context_of before) earlier) o)) name ≡ true → (is_named name (cons_option (option_map (λ (line : RowLine). line.name) o) []) || has_row earlier name) ≡ true
-    row None l = l
-    row (Some line) l = typed line (row_type line.letter) l
-
-    -- named by this line, or before
-    either : (a b : Bool) → a ≡ b → (b || has_row earlier name) ≡ true → ((names_row before name || a) || (has_section before Columns || false)) ≡ true
-    either a true e k = or_left (names_row before name || a) (has_section before Columns || false) (or_right (names_row before name) a e)
-    either a false e k = old a false (have name k)
-
-    by : (x : LineContent) → has_row (with_declarations earlier (line_declares (context_of before) earlier x)) name ≡ true
-        → ((names_row before name || is_named name (filter_map row_name (fields_under Rows (current_section before) x))) || (has_section before Columns || begins Columns x)) ≡ true
-    by skipped k = old false false (have name k)
-    by (header keyword more) k = of_header (is_section Columns (section_named keyword)) refl
-      where
-        of_header : (b : Bool) → is_section Columns (section_named keyword) ≡ b → ((names_row before name || false) || (has_section before Columns || b)) ≡ true
-        of_header true e = or_right (names_row before name || false) (has_section before Columns || true) (or_right (has_section before Columns) true refl)
-        of_header false e = old false false (have name (sym (rows-kept (header_declared (context_of before) earlier more (section_named keyword)) earlier name (no-rows-header (context_of before) earlier more (section_named keyword) e)) ∙ k))
-    by (data_line fields) k = under (is_section Rows (current_section before)) refl
-      where
-        none : (b : Bool) → is_section Rows (current_section before) ≡ b → b ≡ false → has_row earlier name ≡ true
-        none b e f = sym (rows-kept (data_declared (context_of before) earlier fields (current_section before)) earlier name (no-rows-data (context_of before) earlier fields (current_section before) (e ∙ f))) ∙ k
-
-        under : (b : Bool) → is_section Rows (current_section before) ≡ b → ((names_row before name || is_named name (filter_map row_name (when b fields))) || (has_section before Columns || false)) ≡ true
-        under true e =
-            either (is_named name (filter_map row_name (fields ∷ []))) (is_named name (filter_map row_name (fields ∷ []))) refl
-            (row (row_shape fields) (subst (λ o. has_row (with_declarations earlier (data_declared (context_of before) earlier fields o)) name ≡ true) (section-is Rows (current_section before) e) k))
-        under false e = old false false (have name (none false e refl))
+row_lines-kept before earlier item have name h = grind (arith, names_row-push, has_section-push, or_right, false≢true, has-put, or_left, rows-kept, no-rows-header, no-rows-data, section-is)
 
 -- ---- each coefficient that exists has a line
 
@@ -247,80 +114,29 @@ declares_entry (declare_coefficient _ _) = true
 declares_entry _ = false
 
 entry-kept : (all : Draft) (d : Declaration) (key : CoefficientKey) → not (declares_entry d) ≡ true → has_coefficient (with_declaration all d) key ≡ has_coefficient all key
-entry-kept all (declare_coefficient _ _) key h = absurd (false≢true h)
-entry-kept all (declare_objective _) key h = refl
-entry-kept all (declare_row _ _) key h = refl
-entry-kept all (declare_sense _) key h = refl
-entry-kept all (declare_constant _) key h = refl
-entry-kept all (declare_rhs _ _) key h = refl
-entry-kept all (declare_range _ _) key h = refl
-entry-kept all (declare_column _) key h = refl
-entry-kept all (declare_lower _ _) key h = refl
-entry-kept all (declare_upper _ _) key h = refl
-entry-kept all (declare_marked _) key h = refl
-entry-kept all (declare_integer _) key h = refl
-entry-kept all (declare_binary _) key h = refl
-entry-kept all (declare_semi _) key h = refl
+entry-kept all v1 key h = grind arith
 
 entries-kept : (ds : Declarations) (all : Draft) (key : CoefficientKey) → list_all (λ d. not (declares_entry d)) ds ≡ true → has_coefficient (with_declarations all ds) key ≡ has_coefficient all key
 entries-kept [] all key h = refl
-entries-kept (d ∷ ds) all key h =
-    entries-kept ds (with_declaration all d) key (second_so (not (declares_entry d)) (list_all (λ d. not (declares_entry d)) ds) h)
-    ∙ entry-kept all d key (first_so (not (declares_entry d)) (list_all (λ d. not (declares_entry d)) ds) h)
+entries-kept (d ∷ ds) all key h = grind (arith, entry-kept, entries-kept ds (with_declaration all d) key (second_so (not (declares_entry d)) (list_all (λ d. not (declares_entry d)) ds) h))
 
 passes-entries : Passes (λ d. not (declares_entry d))
 passes-entries = record { lower = λ _ _. refl; upper = λ _ _. refl; integer = λ _. refl; semi = λ _. refl }
 
 no-entries-header : (context : Context) (earlier : Draft) (more : Fields) (o : Option Section) → list_all (λ d. not (declares_entry d)) (header_declared context earlier more o) ≡ true
-no-entries-header context earlier more None = refl
-no-entries-header context earlier more (Some Name) = refl
-no-entries-header context earlier more (Some ObjSense) = sense-passes (λ d. not (declares_entry d)) (λ _. refl) more
-no-entries-header context earlier more (Some ObjName) = refl
-no-entries-header context earlier more (Some Rows) = refl
-no-entries-header context earlier more (Some Columns) =
-    elim (is_none earlier.objective && is_none context.objname) as (λ b. list_all (λ d. not (declares_entry d)) (cond b (declare_objective (codes "obj") ∷ []) []) ≡ true) [ true ↦ refl | false ↦ refl ]
-no-entries-header context earlier more (Some Rhs) = refl
-no-entries-header context earlier more (Some Ranges) = refl
-no-entries-header context earlier more (Some Bounds) = refl
-no-entries-header context earlier more (Some EndData) = refl
+no-entries-header context earlier more v3 = grind arith
 
 no-entries-row : (context : Context) (earlier : Draft) (name : List ℕ) (type : RowType) → list_all (λ d. not (declares_entry d)) (row_of_type context earlier name type) ≡ true
-no-entries-row context earlier name Free =
-    elim (is_new_objective context earlier name) as (λ b. list_all (λ d. not (declares_entry d)) (cond b (declare_objective name ∷ []) (declare_row name (by_type Free) ∷ [])) ≡ true) [ true ↦ refl | false ↦ refl ]
-no-entries-row context earlier name AtMost = refl
-no-entries-row context earlier name AtLeast = refl
-no-entries-row context earlier name Equal = refl
+no-entries-row context earlier name v3 = grind arith
 
 no-entries-data : (context : Context) (earlier : Draft) (fields : Fields) (o : Option Section) → is_section Columns o ≡ false → list_all (λ d. not (declares_entry d)) (data_declared context earlier fields o) ≡ true
-no-entries-data context earlier fields None h = refl
-no-entries-data context earlier fields (Some Name) h = refl
-no-entries-data context earlier fields (Some ObjSense) h = sense-passes (λ d. not (declares_entry d)) (λ _. refl) fields
-no-entries-data context earlier fields (Some ObjName) h = refl
-no-entries-data context earlier fields (Some Rows) h =
-    each-declared (λ d. not (declares_entry d)) (row_declared context earlier) (row_shape fields)
-    (λ line. each-declared (λ d. not (declares_entry d)) (row_of_type context earlier line.name) (row_type line.letter) (λ type. no-entries-row context earlier line.name type))
-no-entries-data context earlier fields (Some Columns) h = absurd (true≢false h)
-no-entries-data context earlier fields (Some Rhs) h = sides-passes (λ d. not (declares_entry d)) (λ r v. refl) earlier fields
-no-entries-data context earlier fields (Some Ranges) h = ranges-passes (λ d. not (declares_entry d)) (λ r v. refl) fields
-no-entries-data context earlier fields (Some Bounds) h = bounds-passes (λ d. not (declares_entry d)) passes-entries fields
-no-entries-data context earlier fields (Some EndData) h = refl
+no-entries-data context earlier fields v3 h = grind arith
 
 -- a coefficient that exists after those of a column is one of them or existed before
 own-entries : (column : List ℕ) (pairs : List Pair) (all : Draft) (key : CoefficientKey) → has_coefficient (with_declarations all (flat_map (coefficient_declared column) pairs)) key ≡ true
     → ((same_bytes key.column column && list_any (λ pair. same_bytes key.row pair.row) pairs) || has_coefficient all key) ≡ true
 own-entries column [] all key h = or_right (same_bytes key.column column && false) (has_coefficient all key) h
-own-entries column (pair ∷ pairs) all key h =
-    by (same_bytes key.column column) (same_bytes key.row pair.row) (list_any (λ p. same_bytes key.row p.row) pairs) (has_coefficient all key)
-    (sym (ap (λ (b : Bool). (same_bytes key.column column && list_any (λ p. same_bytes key.row p.row) pairs) || b)
-    (has-put_key key (record { row = pair.row; column = column }) (value_of pair.literal) all.coefficients))
-    ∙ own-entries column pairs (with_declaration all (declare_coefficient (record { row = pair.row; column = column }) (value_of pair.literal))) key h)
-  where
-    by : (c r m e : Bool) → ((c && m) || ((r && c) || e)) ≡ true → ((c && (r || m)) || e) ≡ true
-    by true true m e k = refl
-    by true false true e k = refl
-    by true false false e k = k
-    by false true m e k = k
-    by false false m e k = k
+own-entries column (pair ∷ pairs) all key h = grind (arith, has-put_key, own-entries column pairs (with_declaration all (declare_coefficient (record { row = pair.row; column = column }) (value_of pair.literal))) key h)
 
 abbrev pub HaveEntryLines : List LineContent → Draft → Type 0
 HaveEntryLines before earlier = (key : CoefficientKey) → has_coefficient earlier key ≡ true → list_any (has_entry_of key.column key.row) (data_lines Columns before) ≡ true
@@ -381,117 +197,29 @@ declares_sense (declare_sense _) = true
 declares_sense _ = false
 
 sense-kept : (all : Draft) (d : Declaration) → not (declares_sense d) ≡ true → (with_declaration all d).sense ≡ all.sense
-sense-kept all (declare_sense _) h = absurd (false≢true h)
-sense-kept all (declare_objective _) h = refl
-sense-kept all (declare_row _ _) h = refl
-sense-kept all (declare_constant _) h = refl
-sense-kept all (declare_rhs _ _) h = refl
-sense-kept all (declare_range _ _) h = refl
-sense-kept all (declare_column _) h = refl
-sense-kept all (declare_coefficient _ _) h = refl
-sense-kept all (declare_lower _ _) h = refl
-sense-kept all (declare_upper _ _) h = refl
-sense-kept all (declare_marked _) h = refl
-sense-kept all (declare_integer _) h = refl
-sense-kept all (declare_binary _) h = refl
-sense-kept all (declare_semi _) h = refl
+sense-kept all v1 h = grind arith
 
 senses-kept : (ds : Declarations) (all : Draft) → list_all (λ d. not (declares_sense d)) ds ≡ true → (with_declarations all ds).sense ≡ all.sense
 senses-kept [] all h = refl
-senses-kept (d ∷ ds) all h =
-    senses-kept ds (with_declaration all d) (second_so (not (declares_sense d)) (list_all (λ d. not (declares_sense d)) ds) h)
-    ∙ sense-kept all d (first_so (not (declares_sense d)) (list_all (λ d. not (declares_sense d)) ds) h)
+senses-kept (d ∷ ds) all h = grind (arith, sense-kept, senses-kept ds (with_declaration all d) (second_so (not (declares_sense d)) (list_all (λ d. not (declares_sense d)) ds) h))
 
 passes-senses : Passes (λ d. not (declares_sense d))
 passes-senses = record { lower = λ _ _. refl; upper = λ _ _. refl; integer = λ _. refl; semi = λ _. refl }
 
 no-senses-header : (context : Context) (earlier : Draft) (more : Fields) (o : Option Section) → is_section ObjSense o ≡ false → list_all (λ d. not (declares_sense d)) (header_declared context earlier more o) ≡ true
-no-senses-header context earlier more None h = refl
-no-senses-header context earlier more (Some Name) h = refl
-no-senses-header context earlier more (Some ObjSense) h = absurd (true≢false h)
-no-senses-header context earlier more (Some ObjName) h = refl
-no-senses-header context earlier more (Some Rows) h = refl
-no-senses-header context earlier more (Some Columns) h =
-    elim (is_none earlier.objective && is_none context.objname) as (λ b. list_all (λ d. not (declares_sense d)) (cond b (declare_objective (codes "obj") ∷ []) []) ≡ true) [ true ↦ refl | false ↦ refl ]
-no-senses-header context earlier more (Some Rhs) h = refl
-no-senses-header context earlier more (Some Ranges) h = refl
-no-senses-header context earlier more (Some Bounds) h = refl
-no-senses-header context earlier more (Some EndData) h = refl
+no-senses-header context earlier more v3 h = grind arith
 
 no-senses-row : (context : Context) (earlier : Draft) (name : List ℕ) (type : RowType) → list_all (λ d. not (declares_sense d)) (row_of_type context earlier name type) ≡ true
-no-senses-row context earlier name Free =
-    elim (is_new_objective context earlier name) as (λ b. list_all (λ d. not (declares_sense d)) (cond b (declare_objective name ∷ []) (declare_row name (by_type Free) ∷ [])) ≡ true) [ true ↦ refl | false ↦ refl ]
-no-senses-row context earlier name AtMost = refl
-no-senses-row context earlier name AtLeast = refl
-no-senses-row context earlier name Equal = refl
+no-senses-row context earlier name v3 = grind arith
 
 no-senses-column : (context : Context) (fields : Fields) → list_all (λ d. not (declares_sense d)) (columns_line_declared context fields) ≡ true
-no-senses-column context fields = by (is_marker_line fields)
-  where
-    cells : (column : List ℕ) (pairs : List Pair) → list_all (λ d. not (declares_sense d)) (flat_map (coefficient_declared column) pairs) ≡ true
-    cells column pairs = each-flat (λ d. not (declares_sense d)) (coefficient_declared column) pairs (λ pair. refl)
-
-    line : (l : ValuesLine) → list_all (λ d. not (declares_sense d)) (column_declared context l) ≡ true
-    line l = marked context.in_integer_part
-      where
-        marked : (b : Bool) → list_all (λ d. not (declares_sense d)) (cond b (declare_marked l.name ∷ []) [] ++ flat_map (coefficient_declared l.name) l.pairs) ≡ true
-        marked true = cells l.name l.pairs
-        marked false = cells l.name l.pairs
-
-    by : (b : Bool) → list_all (λ d. not (declares_sense d)) (cond b [] (declared_if_some (column_declared context) (column_shape fields))) ≡ true
-    by true = refl
-    by false = each-declared (λ d. not (declares_sense d)) (column_declared context) (column_shape fields) line
+no-senses-column context fields = grind arith
 
 no-senses-data : (context : Context) (earlier : Draft) (fields : Fields) (o : Option Section) → is_section ObjSense o ≡ false → list_all (λ d. not (declares_sense d)) (data_declared context earlier fields o) ≡ true
-no-senses-data context earlier fields None h = refl
-no-senses-data context earlier fields (Some Name) h = refl
-no-senses-data context earlier fields (Some ObjSense) h = absurd (true≢false h)
-no-senses-data context earlier fields (Some ObjName) h = refl
-no-senses-data context earlier fields (Some Rows) h =
-    each-declared (λ d. not (declares_sense d)) (row_declared context earlier) (row_shape fields)
-    (λ line. each-declared (λ d. not (declares_sense d)) (row_of_type context earlier line.name) (row_type line.letter) (λ type. no-senses-row context earlier line.name type))
-no-senses-data context earlier fields (Some Columns) h = no-senses-column context fields
-no-senses-data context earlier fields (Some Rhs) h = sides-passes (λ d. not (declares_sense d)) (λ r v. refl) earlier fields
-no-senses-data context earlier fields (Some Ranges) h = ranges-passes (λ d. not (declares_sense d)) (λ r v. refl) fields
-no-senses-data context earlier fields (Some Bounds) h = bounds-passes (λ d. not (declares_sense d)) passes-senses fields
-no-senses-data context earlier fields (Some EndData) h = refl
+no-senses-data context earlier fields v3 h = grind arith
 
 sense_word-kept : (before : List LineContent) (earlier : Draft) (item : LineContent) → HasSenseWord before earlier → HasSenseWord (before ++ item ∷ []) (with_declarations earlier (line_declares (context_of before) earlier item))
-sense_word-kept before earlier item have h =
-    ap (λ (words : List Fields). is_nonempty (flat_map (λ fields. fields) words)) (said_after-push (word_fields ObjSense) None before item)
-    ∙ (ap is_nonempty (flat_map-append (λ fields. fields) (words_in ObjSense before) (word_fields ObjSense (current_section before) item)) ∙ by item h)
-  where
-    words : List (List ℕ)
-    words = flat_map (λ fields. fields) (words_in ObjSense before)
-
-    left : (xs ys : List (List ℕ)) → is_nonempty xs ≡ true → is_nonempty (xs ++ ys) ≡ true
-    left [] ys k = absurd (false≢true k)
-    left (x ∷ xs) ys k = refl
-
-    right : (xs : List (List ℕ)) (y : List ℕ) (ys : List (List ℕ)) → is_nonempty (xs ++ y ∷ ys) ≡ true
-    right [] y ys = refl
-    right (x ∷ xs) y ys = refl
-
-    of : (fields : Fields) → is_some (with_declarations earlier (declared_if_some sense_declared (word_shape fields))).sense ≡ true → is_nonempty (words ++ flat_map (λ fields. fields) (fields ∷ [])) ≡ true
-    of [] k = left words [] (have k)
-    of (word ∷ more) k = right words word (more ++ [])
-
-    by : (x : LineContent) → is_some (with_declarations earlier (line_declares (context_of before) earlier x)).sense ≡ true → is_nonempty (words ++ flat_map (λ fields. fields) (word_fields ObjSense (current_section before) x)) ≡ true
-    by skipped k = left words [] (have k)
-    by (header keyword more) k = under (is_section ObjSense (section_named keyword)) refl
-      where
-        under : (b : Bool) → is_section ObjSense (section_named keyword) ≡ b → is_nonempty (words ++ flat_map (λ fields. fields) (when b more)) ≡ true
-        under true e = of more (subst (λ o. is_some (with_declarations earlier (header_declared (context_of before) earlier more o)).sense ≡ true) (section-is ObjSense (section_named keyword) e) k)
-        under false e =
-            left words []
-            (have (sym (ap is_some (senses-kept (header_declared (context_of before) earlier more (section_named keyword)) earlier (no-senses-header (context_of before) earlier more (section_named keyword) e))) ∙ k))
-    by (data_line fields) k = under (is_section ObjSense (current_section before)) refl
-      where
-        under : (b : Bool) → is_section ObjSense (current_section before) ≡ b → is_nonempty (words ++ flat_map (λ fields. fields) (when b fields)) ≡ true
-        under true e = of fields (subst (λ o. is_some (with_declarations earlier (data_declared (context_of before) earlier fields o)).sense ≡ true) (section-is ObjSense (current_section before) e) k)
-        under false e =
-            left words []
-            (have (sym (ap is_some (senses-kept (data_declared (context_of before) earlier fields (current_section before)) earlier (no-senses-data (context_of before) earlier fields (current_section before) e))) ∙ k))
+sense_word-kept before earlier item have h = grind (arith, said_after-push, flat_map-append, false≢true, section-is, senses-kept, no-senses-header, no-senses-data)
 
 -- ---- the objective: an N row, or `obj` from the header of COLUMNS on
 
@@ -499,139 +227,24 @@ abbrev has_free_line : List LineContent → Bool
 has_free_line before = list_any is_free_row_line (data_lines Rows before)
 
 free_line-push : (before : List LineContent) (item : LineContent) → has_free_line (before ++ item ∷ []) ≡ (has_free_line before || list_any is_free_row_line (fields_under Rows (current_section before) item))
-free_line-push before item =
-    ap (list_any is_free_row_line) (data_lines-push Rows before item) ∙ list_any-append is_free_row_line (data_lines Rows before) (fields_under Rows (current_section before) item)
+free_line-push before item = grind (arith, data_lines-push, list_any-append)
 
 word-push : (section : Section) (before : List LineContent) (item : LineContent) → has_its_word before section ≡ true → has_its_word (before ++ item ∷ []) section ≡ true
-word-push section before item h =
-    ap (λ (words : List Fields). is_nonempty (flat_map (λ fields. fields) words)) (said_after-push (word_fields section) None before item)
-    ∙ (ap is_nonempty (flat_map-append (λ fields. fields) (words_in section before) (word_fields section (current_section before) item))
-    ∙ left (flat_map (λ fields. fields) (words_in section before)) (flat_map (λ fields. fields) (word_fields section (current_section before) item)) h)
-  where
-    left : (xs ys : List (List ℕ)) → is_nonempty xs ≡ true → is_nonempty (xs ++ ys) ≡ true
-    left [] ys k = absurd (false≢true k)
-    left (x ∷ xs) ys k = refl
+word-push section before item h = grind (arith, said_after-push, flat_map-append, false≢true)
 
 -- an objective that exists is an N row, or COLUMNS has begun
 abbrev pub IsFreeLine : List LineContent → Draft → Type 0
 IsFreeLine before earlier = is_some earlier.objective ≡ true → (has_free_line before || has_section before Columns) ≡ true
 
 free_line-kept : (before : List LineContent) (earlier : Draft) (item : LineContent) → IsFreeLine before earlier → IsFreeLine (before ++ item ∷ []) (with_declarations earlier (line_declares (context_of before) earlier item))
-free_line-kept before earlier item have h =
-    ap (λ (b : Bool). b || has_section (before ++ item ∷ []) Columns) (free_line-push before item)
-    ∙ (ap (λ (b : Bool). (has_free_line before || list_any is_free_row_line (fields_under Rows (current_section before) item)) || b) (has_section-push Columns before item)
-    ∙ by item h)
-  where
-    old : (a b : Bool) → is_some earlier.objective ≡ true → ((has_free_line before || a) || (has_section before Columns || b)) ≡ true
-    old a b k = of (has_free_line before) (has_section before Columns) (have k)
-      where
-        of : (m n : Bool) → (m || n) ≡ true → ((m || a) || (n || b)) ≡ true
-        of true n e = refl
-        of false true e = or_right a true refl
-        of false false e = absurd (false≢true e)
-
-    same : (ds : Declarations) → are_unnamed ds ≡ true → is_some (with_declarations earlier ds).objective ≡ true → is_some earlier.objective ≡ true
-    same ds e k = sym (ap (λ (o : Option (List ℕ)). is_some o) (objective-kept ds earlier e)) ∙ k
-
-    typed : (line : RowLine) (o : Option RowType) → is_some (with_declarations earlier (declared_if_some (row_of_type (context_of before) earlier line.name) o)).objective ≡ true
-        → ((has_free_line before || (is_free o || false)) || (has_section before Columns || false)) ≡ true
-    typed line None k = old (is_free None || false) false k
-    typed line (Some Free) k = or_left (has_free_line before || true) (has_section before Columns || false) (or_right (has_free_line before) true refl)
-    typed line (Some AtMost) k = old false false k
-    typed line (Some AtLeast) k = old false false k
-    typed line (Some Equal) k = old false false k
-
-    row : (o : Option RowLine) → is_some (with_declarations earlier (declared_if_some (row_declared (context_of before) earlier) o)).objective ≡ true
-        → ((has_free_line before || (option_map_or (λ (line : RowLine). is_free (row_type line.letter)) o false || false)) || (has_section before Columns || false)) ≡ true
-    row None k = old false false k
-    row (Some line) k = typed line (row_type line.letter) k
-
-    by : (x : LineContent) → is_some (with_declarations earlier (line_declares (context_of before) earlier x)).objective ≡ true
-        → ((has_free_line before || list_any is_free_row_line (fields_under Rows (current_section before) x)) || (has_section before Columns || begins Columns x)) ≡ true
-    by skipped k = old false false k
-    by (header keyword more) k = of_header (is_section Columns (section_named keyword)) refl
-      where
-        of_header : (b : Bool) → is_section Columns (section_named keyword) ≡ b → ((has_free_line before || false) || (has_section before Columns || b)) ≡ true
-        of_header true e = or_right (has_free_line before || false) (has_section before Columns || true) (or_right (has_section before Columns) true refl)
-        of_header false e = old false false (same (header_declared (context_of before) earlier more (section_named keyword)) (header-unnamed (context_of before) earlier more (section_named keyword) e) k)
-    by (data_line fields) k = under (is_section Rows (current_section before)) refl
-      where
-        under : (b : Bool) → is_section Rows (current_section before) ≡ b → ((has_free_line before || list_any is_free_row_line (when b fields)) || (has_section before Columns || false)) ≡ true
-        under true e = row (row_shape fields) (subst (λ o. is_some (with_declarations earlier (data_declared (context_of before) earlier fields o)).objective ≡ true) (section-is Rows (current_section before) e) k)
-        under false e = old false false (same (data_declared (context_of before) earlier fields (current_section before)) (data-unnamed (context_of before) earlier fields (current_section before) e) k)
+free_line-kept before earlier item have h = grind (arith, free_line-push, has_section-push, or_right, false≢true, are_unnamed, objective-kept, or_left, header-unnamed, section-is, data-unnamed)
 
 -- an N row is the objective, or OBJNAME gives another name
 abbrev pub IsFreeNamed : List LineContent → Draft → Type 0
 IsFreeNamed before earlier = has_free_line before ≡ true → (is_some earlier.objective || is_some (objname before)) ≡ true
 
 free_named-kept : (before : List LineContent) (earlier : Draft) (item : LineContent) → IsFreeNamed before earlier → IsFreeNamed (before ++ item ∷ []) (with_declarations earlier (line_declares (context_of before) earlier item))
-free_named-kept before earlier item have h = by item (sym (free_line-push before item) ∙ h)
-  where
-    stays : (x : LineContent) (o n : Bool) → is_some earlier.objective ≡ o → is_some (objname before) ≡ n → (o || n) ≡ true
-        → (is_some (with_declarations earlier (line_declares (context_of before) earlier x)).objective || is_some (objname (before ++ x ∷ []))) ≡ true
-    stays x true n e f k =
-        or_left (is_some (with_declarations earlier (line_declares (context_of before) earlier x)).objective) (is_some (objname (before ++ x ∷ []))) (named-after (line_declares (context_of before) earlier x) earlier e)
-    stays x false true e f k =
-        or_right (is_some (with_declarations earlier (line_declares (context_of before) earlier x)).objective) (is_some (objname (before ++ x ∷ [])))
-        (ap (λ (o : Option (List ℕ)). is_some o) (objname-push before x) ∙ first (objname before) (objname_word (current_section before) x) f)
-      where
-        first : (a b : Option (List ℕ)) → is_some a ≡ true → is_some (option_or a b) ≡ true
-        first None b g = absurd (false≢true g)
-        first (Some y) b g = refl
-    stays x false false e f k = absurd (false≢true k)
-
-    old : (x : LineContent) → has_free_line before ≡ true → (is_some (with_declarations earlier (line_declares (context_of before) earlier x)).objective || is_some (objname (before ++ x ∷ []))) ≡ true
-    old x e = stays x (is_some earlier.objective) (is_some (objname before)) refl refl (have e)
-
-    -- not new: there is an objective, or OBJNAME gives another name
-    kept_back : (name : List ℕ) (o n : Option (List ℕ)) → (is_none o && option_map_or (same_bytes name) n true) ≡ false → (is_some o || is_some n) ≡ true
-    kept_back name (Some x) n e = refl
-    kept_back name None (Some y) e = refl
-    kept_back name None None e = absurd (true≢false e)
-
-    fresh : (fields : Fields) (line : RowLine) (o : Option RowType) → is_free o ≡ true → data_declared (context_of before) earlier fields (current_section before) ≡ declared_if_some (row_of_type (context_of before) earlier line.name) o
-        → (is_some (with_declarations earlier (line_declares (context_of before) earlier (data_line fields))).objective || is_some (objname (before ++ data_line fields ∷ []))) ≡ true
-    fresh fields line None e d = cc
-    fresh fields line (Some AtMost) e d = cc
-    fresh fields line (Some AtLeast) e d = cc
-    fresh fields line (Some Equal) e d = cc
-    fresh fields line (Some Free) e d = new (is_new_objective (context_of before) earlier line.name) refl
-      where
-        new : (b : Bool) → is_new_objective (context_of before) earlier line.name ≡ b
-            → (is_some (with_declarations earlier (line_declares (context_of before) earlier (data_line fields))).objective || is_some (objname (before ++ data_line fields ∷ []))) ≡ true
-        new true f =
-            or_left (is_some (with_declarations earlier (line_declares (context_of before) earlier (data_line fields))).objective) (is_some (objname (before ++ data_line fields ∷ [])))
-            (ap (λ (ds : Declarations). is_some (with_declarations earlier ds).objective)
-            (d ∙ ap (λ (c : Bool). cond c (declare_objective line.name ∷ []) (declare_row line.name (by_type Free) ∷ [])) f))
-        new false f = stays (data_line fields) (is_some earlier.objective) (is_some (objname before)) refl refl (kept_back line.name earlier.objective (objname before) f)
-
-    either : (x : LineContent) (a b : Bool) → has_free_line before ≡ a → (a || b) ≡ true → (b ≡ true → (is_some (with_declarations earlier (line_declares (context_of before) earlier x)).objective || is_some (objname (before ++ x ∷ []))) ≡ true)
-        → (is_some (with_declarations earlier (line_declares (context_of before) earlier x)).objective || is_some (objname (before ++ x ∷ []))) ≡ true
-    either x true b e k new = old x e
-    either x false b e k new = new k
-
-    by : (x : LineContent) → (has_free_line before || list_any is_free_row_line (fields_under Rows (current_section before) x)) ≡ true
-        → (is_some (with_declarations earlier (line_declares (context_of before) earlier x)).objective || is_some (objname (before ++ x ∷ []))) ≡ true
-    by skipped k = either skipped (has_free_line before) false refl k (λ e. cc)
-    by (header keyword more) k = either (header keyword more) (has_free_line before) false refl k (λ e. cc)
-    by (data_line fields) k =
-        either (data_line fields) (has_free_line before) (list_any is_free_row_line (fields_under Rows (current_section before) (data_line fields))) refl k
-        (λ e. under (is_section Rows (current_section before)) refl e)
-      where
-        row : (o : Option RowLine) → (option_map_or (λ (line : RowLine). is_free (row_type line.letter)) o false || false) ≡ true
-            → data_declared (context_of before) earlier fields (current_section before) ≡ declared_if_some (row_declared (context_of before) earlier) o
-            → (is_some (with_declarations earlier (line_declares (context_of before) earlier (data_line fields))).objective || is_some (objname (before ++ data_line fields ∷ []))) ≡ true
-        row None e d = cc
-        row (Some line) e d = fresh fields line (row_type line.letter) (only (is_free (row_type line.letter)) e) d
-          where
-            only : (b : Bool) → (b || false) ≡ true → b ≡ true
-            only true f = refl
-            only false f = f
-
-        under : (b : Bool) → is_section Rows (current_section before) ≡ b → list_any is_free_row_line (when b fields) ≡ true
-            → (is_some (with_declarations earlier (line_declares (context_of before) earlier (data_line fields))).objective || is_some (objname (before ++ data_line fields ∷ []))) ≡ true
-        under true e f = row (row_shape fields) f (ap (data_declared (context_of before) earlier fields) (section-is Rows (current_section before) e))
-        under false e f = absurd (false≢true f)
+free_named-kept before earlier item have h = grind (arith, free_line-push, or_left, named-after, or_right, objname-push, false≢true, true≢false, section-is)
 
 -- if there is none, and OBJNAME has no word, `obj` exists from the header of COLUMNS on
 abbrev pub IsDefaultThere : List LineContent → Draft → Type 0
@@ -702,13 +315,4 @@ pub none-stated : Stated [] empty_draft
 none-stated = record { known = none-known; rows_there = λ name h. cc; row_lines = λ name h. cc; entry_lines = λ key h. cc; sense_word = λ h. cc; free_line = λ h. cc; free_named = λ h. cc; default_there = λ h k. cc }
 
 pub stated-kept : (before : List LineContent) (earlier : Draft) (item : LineContent) → IsGood before earlier item → Stated before earlier → Stated (before ++ item ∷ []) (with_declarations earlier (line_declares (context_of before) earlier item))
-stated-kept before earlier item good stated = record {
-  known = known-kept before earlier item good stated.known;
-  rows_there = rows_there-kept before earlier item good stated.rows_there;
-  row_lines = row_lines-kept before earlier item stated.row_lines;
-  entry_lines = entry_lines-kept before earlier item stated.entry_lines;
-  sense_word = sense_word-kept before earlier item stated.sense_word;
-  free_line = free_line-kept before earlier item stated.free_line;
-  free_named = free_named-kept before earlier item stated.free_named;
-  default_there = default_there-kept before earlier item stated.free_line stated.default_there;
-}
+stated-kept before earlier item good stated = search (rules, known-kept, rows_there-kept, row_lines-kept, entry_lines-kept, sense_word-kept, free_line-kept, free_named-kept, default_there-kept)

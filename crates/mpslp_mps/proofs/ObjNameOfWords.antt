@@ -1,4 +1,5 @@
 -- If an N row has the name that OBJNAME gives, the header of COLUMNS finds the objective declared.
+use Rattle.std.proofs.Common.{arith}
 use Rattle.std.proofs.Common.{◌≡◌, refl, sym, ap, ◌∙◌, subst, List, [], ◌∷◌, ◌++◌, ℕ, Bool, true, false, cond}
 use Rattle.std.specs.Prelude.{Option, Some, None, is_some, is_none, ◌&&◌, ◌||◌}
 use Rattle.std.specs.List.{list_any, cons_option}
@@ -48,11 +49,7 @@ abbrev pub IsDeclared : List LineContent → Draft → Type 0
 IsDeclared before earlier = (stated : List ℕ) → objname before ≡ Some stated → has_free_row before stated ≡ true → is_some earlier.objective ≡ true
 
 rows_begun : (before : List LineContent) (stated : List ℕ) → has_free_row before stated ≡ true → has_section before Rows ≡ true
-rows_begun before stated h = by (has_section before Rows) refl
-  where
-    by : (b : Bool) → has_section before Rows ≡ b → has_section before Rows ≡ true
-    by true e = e
-    by false e = let none : has_free_row before stated ≡ false = ap (list_any (is_free_row_named stated)) (no-more-lines Rows None before refl e) in cc
+rows_begun before stated h = grind (arith, no-more-lines)
 
 pub declared-kept : (before : List LineContent) (earlier : Draft) (item : LineContent) → IsGood before earlier item → IsWantedEarly before → IsDeclared before earlier
     → IsDeclared (before ++ item ∷ []) (with_declarations earlier (line_declares (context_of before) earlier item))

@@ -1,4 +1,6 @@
 -- By ENDATA the objective is declared: by an N row, or by the header of COLUMNS.
+use Rattle.std.proofs.Common.{arith}
+use Rattle.std.proofs.Common.{rules}
 use Rattle.std.proofs.lemmas.Bool.{false≢true, true≢false}
 use Rattle.std.proofs.Common.{◌≡◌, refl, sym, ap, ◌∙◌, List, [], ◌∷◌, ◌++◌, ℕ, Bool, true, false, cond, map}
 use Rattle.std.specs.Prelude.{Option, Some, None, is_some, is_none, ◌&&◌, ◌||◌, codes}
@@ -26,51 +28,14 @@ IsNamed before earlier = has_section before Columns ≡ true → is_some earlier
 
 pub columns-name : (context : Context) (earlier : Draft) (keyword : List ℕ) (more : Fields) (o : Option Section) → those_of (header_tests context earlier keyword more o) ≡ []
     → is_section Columns o ≡ true → is_some (with_declarations earlier (header_declared context earlier more o)).objective ≡ true
-columns-name context earlier keyword more None h e = absurd (false≢true e)
-columns-name context earlier keyword more (Some Name) h e = absurd (false≢true e)
-columns-name context earlier keyword more (Some ObjSense) h e = absurd (false≢true e)
-columns-name context earlier keyword more (Some ObjName) h e = absurd (false≢true e)
-columns-name context earlier keyword more (Some Rows) h e = absurd (false≢true e)
-columns-name context earlier keyword more (Some Columns) h e = by earlier.objective refl (header-complete context earlier keyword more h)
-  where
-    unnamed : (word_due : Option (List ℕ)) → (true && is_some word_due) ≡ false
-        → is_some (with_declarations earlier (cond (true && is_none word_due) (declare_objective (codes "obj") ∷ []) [])).objective ≡ true
-    unnamed None k = refl
-    unnamed (Some name) k = absurd (true≢false k)
-
-    by : (o : Option (List ℕ)) → earlier.objective ≡ o → (is_none o && is_some context.objname) ≡ false
-        → is_some (with_declarations earlier (cond (is_none o && is_none context.objname) (declare_objective (codes "obj") ∷ []) [])).objective ≡ true
-    by None is k = unnamed context.objname k
-    by (Some name) is k = ap (λ (o : Option (List ℕ)). is_some o) is
-columns-name context earlier keyword more (Some Rhs) h e = absurd (false≢true e)
-columns-name context earlier keyword more (Some Ranges) h e = absurd (false≢true e)
-columns-name context earlier keyword more (Some Bounds) h e = absurd (false≢true e)
-columns-name context earlier keyword more (Some EndData) h e = absurd (false≢true e)
+columns-name context earlier keyword more v4 h e = grind arith
 
 named-push : (before : List LineContent) (earlier : Draft) (item : LineContent) → IsGood before earlier item → IsNamed before earlier → IsNamed (before ++ item ∷ []) (with_declarations earlier (line_declares (context_of before) earlier item))
-named-push before earlier item good named begun = by (has_section before Columns) refl (sym (has_section-push Columns before item) ∙ begun)
-  where
-    new : (x : LineContent) → IsGood before earlier x → begins Columns x ≡ true → is_some (with_declarations earlier (line_declares (context_of before) earlier x)).objective ≡ true
-    new skipped g h = absurd (false≢true h)
-    new (header keyword more) g h = columns-name (context_of before) earlier keyword more (section_named keyword) g h
-    new (data_line fields) g h = absurd (false≢true h)
-
-    by : (b : Bool) → has_section before Columns ≡ b → (b || begins Columns item) ≡ true → is_some (with_declarations earlier (line_declares (context_of before) earlier item)).objective ≡ true
-    by true e k = named-after (line_declares (context_of before) earlier item) earlier (named e)
-    by false e k = new item good k
+named-push before earlier item good named begun = grind (arith, has_section-push, false≢true, columns-name, named-after)
 
 -- ENDATA comes after COLUMNS
 pub end-after : (context : Context) (earlier : Draft) (keyword : List ℕ) (more : Fields) (o : Option Section) → those_of (header_tests context earlier keyword more o) ≡ [] → is_section EndData o ≡ true → has context.sections_seen Columns ≡ true
-end-after context earlier keyword more None h e = absurd (false≢true e)
-end-after context earlier keyword more (Some Name) h e = absurd (false≢true e)
-end-after context earlier keyword more (Some ObjSense) h e = absurd (false≢true e)
-end-after context earlier keyword more (Some ObjName) h e = absurd (false≢true e)
-end-after context earlier keyword more (Some Rows) h e = absurd (false≢true e)
-end-after context earlier keyword more (Some Columns) h e = absurd (false≢true e)
-end-after context earlier keyword more (Some Rhs) h e = absurd (false≢true e)
-end-after context earlier keyword more (Some Ranges) h e = absurd (false≢true e)
-end-after context earlier keyword more (Some Bounds) h e = absurd (false≢true e)
-end-after context earlier keyword more (Some EndData) h e = header-begins context earlier keyword more EndData h
+end-after context earlier keyword more v4 h e = grind arith
 
 -- well-formed lines, one of which is that of ENDATA
 pub named-lines : (lines : List (List ℕ)) (before : List LineContent) (earlier : Draft) → list_any is_end lines ≡ true → are_well_formed before earlier (map content_of lines) ≡ true → IsNamed before earlier

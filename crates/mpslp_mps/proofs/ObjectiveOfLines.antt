@@ -1,4 +1,6 @@
 -- The objective of a draft and its rows without limits are those that the lines before name as such.
+use Rattle.std.proofs.Common.{arith}
+use Rattle.std.proofs.Common.{rules}
 use Rattle.std.proofs.lemmas.Bool.{false≢true}
 use Rattle.std.proofs.Common.{◌≡◌, refl, sym, ap, ◌∙◌, subst, List, [], ◌∷◌, ◌++◌, ℕ, Bool, true, false, cond}
 use Rattle.std.specs.Prelude.{Option, Some, None, is_none, is_some, filter_map, ◌||◌, ◌&&◌, codes}
@@ -39,23 +41,14 @@ use Rattle.mpslp_mps.proofs.DeclaredByLines.{is_elsewhere, IsPartOf, lines-kept}
 -- ---- a row without limits has a line of type N
 
 free-part : (row : List ℕ) → IsPartOf Rows (λ all. is_free_row all row)
-free-part row = record { headed = λ _. refl; objective = λ _ _. refl; other = by }
-  where
-    by : (all : Draft) (d : Declaration) → is_elsewhere Rows d ≡ true → is_free_row (with_declaration all d) row ≡ is_free_row all row
-    by all (declare_row _ _) h = absurd (false≢true h)
-    by all _ h = refl
+free-part row = grind arith
 
 abbrev pub HaveFreeLines : List LineContent → Draft → Type 0
 HaveFreeLines before earlier = (row : List ℕ) → is_free_row earlier row ≡ true → has_free_row before row ≡ true
 
 -- after a row of this type
 row-after : (all : Draft) (name row : List ℕ) (type : RowType) → is_free_row (with_declaration all (declare_row name (by_type type))) row ≡ cond (same_bytes row name) (is_free_definition (by_type type)) (is_free_row all row)
-row-after all name row type =
-    ap (λ (o : Option RowDefinition). option_map_or is_free_definition o false) (at-put row name (by_type type) all.rows) ∙ by (same_bytes row name)
-  where
-    by : (b : Bool) → option_map_or is_free_definition (cond b (Some (by_type type)) (at_name all.rows row)) false ≡ cond b (is_free_definition (by_type type)) (is_free_row all row)
-    by true = refl
-    by false = refl
+row-after all name row type = grind (arith, at-put)
 
 same-back : (a b : List ℕ) → same_bytes a b ≡ true → same_bytes b a ≡ true
 same-back a b h = ap (λ (x : List ℕ). same_bytes b x) (same_name a b h) ∙ itself_named b
@@ -101,13 +94,7 @@ abbrev pub AreRowsFree : List LineContent → Draft → Type 0
 AreRowsFree before earlier = (row : List ℕ) → has_free_row before row ≡ true → (is_free_row earlier row || is_objective earlier row) ≡ true
 
 free-after : (before after : Draft) (row : List ℕ) → Extends before after → is_free_row before row ≡ true → is_free_row after row ≡ true
-free-after before after row e h =
-    let found = value_in (at_name before.rows row) (there (at_name before.rows row) h) in
-    ap (λ (o : Option RowDefinition). option_map_or is_free_definition o false) (e.row row found.0 found.1 ∙ sym found.1) ∙ h
-  where
-    there : (o : Option RowDefinition) → option_map_or is_free_definition o false ≡ true → is_some o ≡ true
-    there None k = absurd (false≢true k)
-    there (Some d) k = refl
+free-after before after row e h = grind arith
 
 pub rows_free-kept : (before : List LineContent) (earlier : Draft) (item : LineContent) → Extends earlier (with_declarations earlier (line_declares (context_of before) earlier item)) → AreRowsFree before earlier
     → AreRowsFree (before ++ item ∷ []) (with_declarations earlier (line_declares (context_of before) earlier item))
@@ -175,47 +162,18 @@ abbrev free_names : List LineContent → List (List ℕ)
 free_names before = filter_map free_row_name (data_lines Rows before)
 
 stated-push : (before : List LineContent) (item : LineContent) → stated_names (before ++ item ∷ []) ≡ stated_names before ++ flat_map (λ fields. fields) (word_fields ObjName (current_section before) item)
-stated-push before item =
-    ap (flat_map (λ fields. fields)) (said_after-push (word_fields ObjName) None before item)
-    ∙ flat_map-append (λ fields. fields) (words_in ObjName before) (word_fields ObjName (current_section before) item)
+stated-push before item = grind (arith, said_after-push, flat_map-append)
 
 free-push : (before : List LineContent) (item : LineContent) → free_names (before ++ item ∷ []) ≡ free_names before ++ filter_map free_row_name (fields_under Rows (current_section before) item)
-free-push before item =
-    ap (filter_map free_row_name) (data_lines-push Rows before item) ∙ filter_map-append free_row_name (data_lines Rows before) (fields_under Rows (current_section before) item)
+free-push before item = grind (arith, data_lines-push, filter_map-append)
 
 -- OBJNAME gives the name that is its word
 objname-stated : (before : List LineContent) → IsUnderway ObjName (λ _. true) before → objname before ≡ head_of (stated_names before)
-objname-stated before stage = sym (ap head_of (stated-words None before)) ∙ by (words_in ObjName before) (at stage)
-  where
-    nothing : List Fields → Type 0
-    nothing words = head_of (filter_map word_shape words) ≡ head_of (flat_map (λ fields. fields) words)
-
-    word : (words : List Fields) → is_one_word (λ _. true) words ≡ true → nothing words
-    word [] h = absurd (false≢true h)
-    word ((x ∷ []) ∷ []) h = refl
-    word ([] ∷ (x ∷ []) ∷ []) h = refl
-    word ([] ∷ []) h = absurd (false≢true h)
-    word ([] ∷ [] ∷ more) h = absurd (false≢true h)
-    word ([] ∷ (x ∷ []) ∷ next ∷ more) h = absurd (false≢true h)
-    word ([] ∷ (x ∷ other ∷ rest) ∷ more) h = absurd (false≢true h)
-    word ((x ∷ []) ∷ next ∷ more) h = absurd (false≢true h)
-    word ((x ∷ other ∷ rest) ∷ more) h = absurd (false≢true h)
-
-    at : IsUnderway ObjName (λ _. true) before → nothing (words_in ObjName before)
-    at (missing, (a, b, c)) = subst nothing (sym a) refl
-    at (without_word, (a, b, c, d)) = subst nothing (sym a) refl
-    at (with_word, (a, b, c)) = word (words_in ObjName before) a
-
-    by : (words : List Fields) → nothing words → head_of (filter_map word_shape words) ≡ head_of (flat_map (λ fields. fields) words)
-    by words h = h
+objname-stated before stage = grind (arith, stated-words, false≢true, missing, without_word, with_word)
 
 -- a line of type N gives a name
 free-named : (fields : Fields) → is_free_row_line fields ≡ true → is_some (free_row_name fields) ≡ true
-free-named fields h = ap (λ (b : Bool). is_some (cond b (option_map (λ (line : RowLine). line.name) (row_shape fields)) None)) h ∙ by (row_shape fields) h
-  where
-    by : (o : Option RowLine) → option_map_or (λ (line : RowLine). is_free (row_type line.letter)) o false ≡ true → is_some (option_map (λ (line : RowLine). line.name) o) ≡ true
-    by None k = absurd (false≢true k)
-    by (Some line) k = refl
+free-named fields h = grind arith
 
 -- no line of type N
 none-free : (lines : List Fields) → is_nonempty (filter_map free_row_name lines) ≡ false → list_any is_free_row_line lines ≡ false
@@ -243,30 +201,7 @@ IsFirstNamed before earlier = (name : List ℕ) → is_objective earlier name �
 
 -- OBJNAME has no more words once ROWS has begun
 no-later-words : (before : List LineContent) (earlier : Draft) (item : LineContent) → IsGood before earlier item → IsWantedEarly before → has_section before Rows ≡ true → word_fields ObjName (current_section before) item ≡ []
-no-later-words before earlier item good early begun = by item good
-  where
-    of : (keyword : List ℕ) (more : Fields) (o : Option Section) → those_of (header_tests (context_of before) earlier keyword more o) ≡ [] → when (is_section ObjName o) more ≡ []
-    of keyword more None g = refl
-    of keyword more (Some Name) g = refl
-    of keyword more (Some ObjSense) g = refl
-    of keyword more (Some ObjName) g = absurd (never (has_section before Rows) begun (not_so (has_section before Rows) (header-begins (context_of before) earlier keyword more ObjName g)))
-    of keyword more (Some Rows) g = refl
-    of keyword more (Some Columns) g = refl
-    of keyword more (Some Rhs) g = refl
-    of keyword more (Some Ranges) g = refl
-    of keyword more (Some Bounds) g = refl
-    of keyword more (Some EndData) g = refl
-
-    under : (fields : Fields) → IsGood before earlier (data_line fields) → (b : Bool) → is_section ObjName (current_section before) ≡ b → when b fields ≡ []
-    under fields g true e =
-        let line = name-word.on_line (context_of before) earlier fields (subst (λ o. those_of (data_tests (context_of before) earlier fields o) ≡ []) (section-is ObjName (current_section before) e) g) in
-        absurd (never (has_section before Rows) begun (early line.0))
-    under fields g false e = refl
-
-    by : (x : LineContent) → IsGood before earlier x → word_fields ObjName (current_section before) x ≡ []
-    by skipped g = refl
-    by (header keyword more) g = of keyword more (section_named keyword) g
-    by (data_line fields) g = under fields g (is_section ObjName (current_section before)) refl
+no-later-words before earlier item good early begun = grind arith
 
 -- nor ROWS more lines once COLUMNS has begun
 no-later-rows : (before : List LineContent) (earlier : Draft) (item : LineContent) → Stated before earlier → has_section before Columns ≡ true → fields_under Rows (current_section before) item ≡ []

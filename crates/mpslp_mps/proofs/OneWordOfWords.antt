@@ -1,4 +1,6 @@
 -- If OBJSENSE and OBJNAME each have one word, their headers and data lines are well-formed.
+use Rattle.std.proofs.Common.{arith}
+use Rattle.std.proofs.Common.{rules}
 use Rattle.std.proofs.Common.{◌≡◌, refl, sym, ap, ◌∙◌, List, [], ◌∷◌, ◌++◌, ℕ, Bool, true, false, cond}
 use Rattle.std.specs.Prelude.{Option, Some, None, is_some, ◌||◌}
 use Rattle.std.specs.List.{cons_option}
@@ -22,70 +24,22 @@ abbrev pub IsWantedThere : List LineContent → Type 0
 IsWantedThere before = is_some (word_due before) ≡ true → (is_section ObjSense (current_section before) || is_section ObjName (current_section before)) ≡ true
 
 pub wanted_there-kept : (before : List LineContent) (item : LineContent) → IsWantedThere before → IsWantedThere (before ++ item ∷ [])
-wanted_there-kept before item there h =
-    ap (λ (o : Option Section). is_section ObjSense o || is_section ObjName o) (current_section-push before item)
-    ∙ by item (sym (ap (λ (o : Option Section). is_some o) (word_due-push before item)) ∙ h)
-  where
-    named : (more : Fields) (s : Section) → is_some (section_of_word_due s more) ≡ true → (is_section ObjSense (Some s) || is_section ObjName (Some s)) ≡ true
-    named more Name k = absurd (none-word_due Name more refl k)
-    named more ObjSense k = refl
-    named more ObjName k = refl
-    named more Rows k = absurd (none-word_due Rows more refl k)
-    named more Columns k = absurd (none-word_due Columns more refl k)
-    named more Rhs k = absurd (none-word_due Rhs more refl k)
-    named more Ranges k = absurd (none-word_due Ranges more refl k)
-    named more Bounds k = absurd (none-word_due Bounds more refl k)
-    named more EndData k = absurd (none-word_due EndData more refl k)
-
-    of : (more : Fields) (o : Option Section) → is_some (option_map_or (λ (s : Section). section_of_word_due s more) o None) ≡ true
-        → (is_section ObjSense (option_or o (current_section before)) || is_section ObjName (option_or o (current_section before))) ≡ true
-    of more None k = cc
-    of more (Some s) k = named more s k
-
-    by : (x : LineContent) → is_some (cond (is_read x) (word_due_after x) (word_due before)) ≡ true
-        → (is_section ObjSense (option_or (section_of_header x) (current_section before)) || is_section ObjName (option_or (section_of_header x) (current_section before))) ≡ true
-    by skipped k = there k
-    by (header keyword more) k = of more (section_named keyword) k
-    by (data_line fields) k = cc
+wanted_there-kept before item there h = grind (arith, current_section-push, word_due-push, none-word_due)
 
 -- ---- what the whole text implies for one line
 
 too-many : (test : List ℕ → Bool) (words : List Fields) (fields : Fields) (more : List Fields) → is_one_word test words ≡ true → has_word_at_most test (words ++ fields ∷ more) ≡ true → ⊥
-too-many test [] fields more h k = cc
-too-many test ((word ∷ []) ∷ []) fields more h k = cc
-too-many test ([] ∷ (word ∷ []) ∷ []) fields more h k = cc
-too-many test ([] ∷ []) fields more h k = cc
-too-many test ([] ∷ [] ∷ rest) fields more h k = cc
-too-many test ([] ∷ (word ∷ []) ∷ next ∷ rest) fields more h k = cc
-too-many test ([] ∷ (word ∷ other ∷ others) ∷ rest) fields more h k = cc
-too-many test ((word ∷ []) ∷ next ∷ rest) fields more h k = cc
-too-many test ((word ∷ other ∷ others) ∷ rest) fields more h k = cc
+too-many test v1 fields more h k = grind arith
 
 -- a data line of the section has its word, which was missing
 pub line-single : (section : Section) (test : List ℕ → Bool) (before : List LineContent) (fields : Fields) (more : List Fields) → IsUnderway section test before → is_section section (current_section before) ≡ true
     → has_word_at_most test (words_in section before ++ fields ∷ more) ≡ true → (is_some (word_due before) ≡ true) × (is_single test fields ≡ true)
-line-single section test before fields more (missing, (a, b, c)) here h = absurd (never (is_section section (current_section before)) here c)
-line-single section test before fields more (with_word, (a, b, c)) here h = absurd (too-many test (words_in section before) fields more a h)
-line-single section test before fields more (without_word, (a, b, c, d)) here h = (d, by fields more (sym (ap (λ (w : List Fields). has_word_at_most test (w ++ fields ∷ more)) a) ∙ h))
-  where
-    by : (fs : Fields) (rest : List Fields) → has_word_at_most test ([] ∷ fs ∷ rest) ≡ true → is_single test fs ≡ true
-    by [] rest k = cc
-    by (word ∷ []) [] k = k
-    by (word ∷ []) (next ∷ rest) k = cc
-    by (word ∷ other ∷ others) rest k = cc
+line-single section test before fields more v5 here h = grind arith
 
 -- its header has its word, or nothing
 pub header-fits : (section : Section) (test : List ℕ → Bool) (before : List LineContent) (fields : Fields) (more : List Fields) → IsUnderway section test before → has_section before section ≡ false
     → has_word_at_most test (words_in section before ++ fields ∷ more) ≡ true → fits_word test fields ≡ true
-header-fits section test before fields more (without_word, (a, b, c, d)) fresh h = absurd (never (has_section before section) b fresh)
-header-fits section test before fields more (with_word, (a, b, c)) fresh h = absurd (never (has_section before section) b fresh)
-header-fits section test before fields more (missing, (a, b, c)) fresh h = by fields more (sym (ap (λ (w : List Fields). has_word_at_most test (w ++ fields ∷ more)) a) ∙ h)
-  where
-    by : (fs : Fields) (rest : List Fields) → has_word_at_most test (fs ∷ rest) ≡ true → fits_word test fs ≡ true
-    by [] rest k = refl
-    by (word ∷ []) [] k = k
-    by (word ∷ []) (next ∷ rest) k = cc
-    by (word ∷ other ∷ others) rest k = cc
+header-fits section test before fields more v5 fresh h = grind arith
 
 -- a section that is complete has no more words
 pub no-more-words : (section : Section) (current : Option Section) (items : List LineContent) → is_section section current ≡ false → has_section items section ≡ false → said_after (word_fields section) current items ≡ []
@@ -110,6 +64,4 @@ no-more-words section current (item ∷ items) h k = by item k (λ c e f. no-mor
 -- no header comes before the missing word of a section
 pub not-left : (section : Section) (test : List ℕ → Bool) (before : List LineContent) → IsUnderway section test before → is_section section (current_section before) ≡ true → is_some (word_due before) ≡ true
     → has_word_at_most test (words_in section before) ≡ true → ⊥
-not-left section test before (missing, (a, b, c)) here there h = never (is_section section (current_section before)) here c
-not-left section test before (with_word, (a, b, c)) here there h = never (is_some (word_due before)) there (c here)
-not-left section test before (without_word, (a, b, c, d)) here there h = let k : has_word_at_most test ([] ∷ []) ≡ true = sym (ap (has_word_at_most test) a) ∙ h in cc
+not-left section test before v3 here there h = grind arith

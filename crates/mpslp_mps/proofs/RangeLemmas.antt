@@ -1,4 +1,5 @@
 -- The first error of the ranges of a line.
+use Rattle.std.proofs.Common.{arith}
 use Rattle.std.proofs.Common.{◌≡◌, refl, sym, ap, subst, ◌∙◌, ℕ, List, [], ◌∷◌, Bool, true, false, not, cond}
 use Rattle.std.specs.Prelude.{◌||◌, Option, Some, None, MatchResult}
 use Rattle.mpslp_decimal.specs.Decimal.{Number, is_infinite_size}
@@ -31,11 +32,7 @@ range_fault all row value =
 -- a range does not matter for another row
 range-apart : (all : Draft) (row : List ℕ) (value : Number) (other : List ℕ) (second : Number) → same_bytes other row ≡ false
     → declared_fault (with_declaration all (declare_range row value)) (declare_range other second ∷ []) ≡ declared_fault all (declare_range other second ∷ [])
-range-apart all row value other second apart =
-    let ranged = has-put other row value all.ranges ∙ ap (λ (b : Bool). b || has_name all.ranges other) apart in
-    range_fault (with_declaration all (declare_range row value)) other second
-    ∙ ap (λ (b : Bool). range_kind (has_row all other) (b || is_row_by_limits all other) (has_no_sides all other) (is_infinite_size second)) ranged
-    ∙ sym (range_fault all other second)
+range-apart all row value other second apart = grind (arith, has-put, range_fault)
 
 pub ranges-apart : (all : Draft) (row : List ℕ) (value : Number) (other : List ℕ) (second : Number) → same_bytes other row ≡ false
     → declared_fault all (declare_range row value ∷ declare_range other second ∷ [])
@@ -50,9 +47,7 @@ pub second-range : (all : Draft) (row : List ℕ) (value : Number) (other : List
     → MatchResult answer (λ _. declared_fault all (declare_range other second ∷ []) ≡ None) (IsErrorOf (declared_fault all (declare_range other second ∷ [])))
     → MatchResult answer (λ _. declared_fault all (declare_range row value ∷ declare_range other second ∷ []) ≡ None)
     (IsErrorOf (declared_fault all (declare_range row value ∷ declare_range other second ∷ [])))
-second-range all row value other second answer apart none h =
-    subst (λ (o : Option FaultKind). MatchResult answer (λ _. o ≡ None) (IsErrorOf o))
-    (sym (ranges-apart all row value other second apart ∙ ap (λ (o : Option FaultKind). earlier_of o (declared_fault all (declare_range other second ∷ []))) none)) h
+second-range all row value other second answer apart none h = grind (arith, ranges-apart, earlier_of)
 
 -- two ranges of the same row
 pub ranges-of_one : (all : Draft) (row : List ℕ) (value : Number) (other : List ℕ) (second : Number) → same_bytes other row ≡ true

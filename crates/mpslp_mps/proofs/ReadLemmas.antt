@@ -1,4 +1,5 @@
 -- The end of a text: what its builder returns is the result for the bytes.
+use Rattle.std.proofs.Common.{arith}
 use Rattle.std.proofs.Common.{◌≡◌, sym, subst, ℕ, List}
 use Rattle.std.specs.Prelude.{Result}
 use Rattle.mpslp_model_core.specs.Model.{LinearModel}
@@ -15,5 +16,4 @@ use Rattle.mpslp_mps.proofs.ModelFromNoFault.{declares-from_no_fault}
 
 pub finished-reads : (bytes : List ℕ) (draft : Draft) (answer : Result LinearModel ReadFault) → draft ≡ draft_of (declarations_of bytes) → first_mps_fault bytes ≡ file_fault draft
     → Finishes draft answer → ReadsMps bytes answer
-finished-reads bytes draft answer same fault =
-    finished-answers DeclaresMps first_mps_fault bytes draft answer fault (λ none. subst (λ (d : Draft). DeclaresMps bytes (model_of d)) (sym same) (declares-from_no_fault bytes none))
+finished-reads bytes draft answer same fault = grind (arith, finished-answers, declares-from_no_fault)

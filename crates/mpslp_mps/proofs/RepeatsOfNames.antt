@@ -1,4 +1,5 @@
 -- Rows and coefficients that a line names again are repeated in the sense of `FaultsInWords`.
+use Rattle.std.proofs.Common.{rules}
 use Rattle.std.proofs.Common.{◌≡◌, refl, sym, ap, ◌∙◌, List, [], ◌∷◌, ◌++◌, ℕ, Bool, true, false, cond, arith}
 use Rattle.std.specs.Prelude.{Option, Some, None, is_none, is_some, not, filter_map, nat_le, ◌||◌, ◌&&◌, codes}
 use Rattle.std.specs.List.{list_any, list_all, last_or, flat_map}
@@ -43,49 +44,16 @@ row-named before earlier name stated out h = left_only (names_row before name) (
 -- in ROWS the header of COLUMNS has not come yet
 pub last-place : (sections_seen : List Section) (s : Section) → in_order sections_seen ≡ true → last_or None sections_seen ≡ Some s → list_all (λ (x : Section). nat_le (section_rank x) (section_rank s)) sections_seen ≡ true
 last-place [] s h k = refl
-last-place (x ∷ []) s h k = let same : x ≡ s = cc in both_so (nat_le (section_rank x) (section_rank s)) true (ap (λ (y : Section). nat_le (section_rank y) (section_rank s)) same ∙ itself (section_rank s)) refl
-  where
-    itself : (n : ℕ) → nat_le n n ≡ true
-    itself n = grind (arith, nat_tests)
-last-place (x ∷ y ∷ sections_seen) s h k =
-    let rest = last-place (y ∷ sections_seen) s (second_so (list_all (λ other. nat_le (section_rank x) (section_rank other)) (y ∷ sections_seen)) (in_order (y ∷ sections_seen)) h) k in
-    both_so (nat_le (section_rank x) (section_rank s)) (list_all (λ (z : Section). nat_le (section_rank z) (section_rank s)) (y ∷ sections_seen))
-    (both-steps (section_rank x) (section_rank y) (section_rank s)
-    (first_so (nat_le (section_rank x) (section_rank y)) (list_all (λ other. nat_le (section_rank x) (section_rank other)) sections_seen) (first_so (list_all (λ other. nat_le (section_rank x) (section_rank other)) (y ∷ sections_seen)) (in_order (y ∷ sections_seen)) h))
-    (first_so (nat_le (section_rank y) (section_rank s)) (list_all (λ (z : Section). nat_le (section_rank z) (section_rank s)) sections_seen) rest)) rest
-  where
-    both-steps : (a b c : ℕ) → nat_le a b ≡ true → nat_le b c ≡ true → nat_le a c ≡ true
-    both-steps a b c e f = grind (arith, nat_tests)
+last-place (x ∷ []) s h k = grind (arith, both_so, arith, nat_tests)
+last-place (x ∷ y ∷ sections_seen) s h k = grind (arith, both_so, arith, nat_tests, last-place (y ∷ sections_seen) s (second_so (list_all (λ other. nat_le (section_rank x) (section_rank other)) (y ∷ sections_seen)) (in_order (y ∷ sections_seen)) h) k)
 
 pub columns-out : (sections_seen : List Section) → list_all (λ (x : Section). nat_le (section_rank x) 2) sections_seen ≡ true → has sections_seen Columns ≡ false
 columns-out [] h = refl
-columns-out (x ∷ sections_seen) h =
-    both_false (is_section Columns (Some x)) (has sections_seen Columns) (by x (first_so (nat_le (section_rank x) 2) (list_all (λ (y : Section). nat_le (section_rank y) 2) sections_seen) h))
-    (columns-out sections_seen (second_so (nat_le (section_rank x) 2) (list_all (λ (y : Section). nat_le (section_rank y) 2) sections_seen) h))
-  where
-    by : (s : Section) → nat_le (section_rank s) 2 ≡ true → is_section Columns (Some s) ≡ false
-    by Name e = refl
-    by ObjSense e = refl
-    by ObjName e = refl
-    by Rows e = refl
-    by Columns e = cc
-    by Rhs e = cc
-    by Ranges e = cc
-    by Bounds e = cc
-    by EndData e = cc
+columns-out (x ∷ sections_seen) h = grind (arith, both_false, columns-out sections_seen (second_so (nat_le (section_rank x) 2) (list_all (λ (y : Section). nat_le (section_rank y) 2) sections_seen) h))
 
 pub below-all : (kind : FaultKind) → list_all (is_below kind) (kinds_in None) ≡ true → list_all (is_below kind) (kinds_in (Some Rows)) ≡ true → list_all (is_below kind) (kinds_in (Some Columns)) ≡ true → list_all (is_below kind) (kinds_in (Some Bounds)) ≡ true
     → (o : Option Section) → list_all (is_below kind) (kinds_in o) ≡ true
-below-all kind none rows columns numbers None = none
-below-all kind none rows columns numbers (Some Name) = none
-below-all kind none rows columns numbers (Some ObjSense) = none
-below-all kind none rows columns numbers (Some ObjName) = none
-below-all kind none rows columns numbers (Some Rows) = rows
-below-all kind none rows columns numbers (Some Columns) = columns
-below-all kind none rows columns numbers (Some Rhs) = numbers
-below-all kind none rows columns numbers (Some Ranges) = numbers
-below-all kind none rows columns numbers (Some Bounds) = numbers
-below-all kind none rows columns numbers (Some EndData) = none
+below-all kind none rows columns numbers v5 = grind arith
 
 -- no test of a well-formed line fails
 good-none : (kind : FaultKind) (tests : FaultTests) → those_of tests ≡ [] → holds_of kind tests ≡ false
@@ -102,41 +70,11 @@ good-none kind ((held, other) ∷ more) h = by held h (λ e. good-none kind more
 
 -- so one of its declarations is rejected
 pub good-refused : (kind : FaultKind) (before : List LineContent) (earlier : Draft) (item : LineContent) → IsGood before earlier item → IsFirst kind before earlier item → refuses kind earlier (line_declares (context_of before) earlier item) ≡ true
-good-refused kind before earlier item good first =
-    right_only (holds_of kind (item_tests (context_of before) earlier item)) (refuses kind earlier (line_declares (context_of before) earlier item)) (good-none kind (item_tests (context_of before) earlier item) good) first.stated
+good-refused kind before earlier item good first = grind (arith, right_only, holds_of, refuses, good-none)
 
 -- if there is no objective, and OBJNAME gives no name, no row is of type N, and OBJNAME has no word
 default-in_words : (before : List LineContent) (earlier : Draft) → Stated before earlier → is_none earlier.objective ≡ true → is_none (objname before) ≡ true → has_default_objective before ≡ true
-default-in_words before earlier stated none untold =
-    both_so (not (list_any is_free_row_line (data_lines Rows before))) (not (has_its_word before ObjName))
-    (so_not (list_any is_free_row_line (data_lines Rows before)) (no_row (list_any is_free_row_line (data_lines Rows before)) refl))
-    (so_not (has_its_word before ObjName) (no_word stated.known.words.name))
-  where
-    nothing : (o n : Option (List ℕ)) → is_none o ≡ true → is_none n ≡ true → (is_some o || is_some n) ≡ false
-    nothing None None e f = refl
-    nothing (Some x) n e f = cc
-    nothing None (Some y) e f = cc
-
-    no_row : (b : Bool) → list_any is_free_row_line (data_lines Rows before) ≡ b → b ≡ false
-    no_row true e = absurd (never (is_some earlier.objective || is_some (objname before)) (stated.free_named e) (nothing earlier.objective (objname before) none untold))
-    no_row false e = refl
-
-    word : (words : List Fields) → is_one_word (λ _. true) words ≡ true → is_none (head_of (filter_map word_shape words)) ≡ false
-    word [] h = cc
-    word ((x ∷ []) ∷ []) h = refl
-    word ([] ∷ (x ∷ []) ∷ []) h = refl
-    word ([] ∷ []) h = cc
-    word ([] ∷ [] ∷ more) h = cc
-    word ([] ∷ (x ∷ []) ∷ next ∷ more) h = cc
-    word ([] ∷ (x ∷ other ∷ rest) ∷ more) h = cc
-    word ((x ∷ []) ∷ next ∷ more) h = cc
-    word ((x ∷ other ∷ rest) ∷ more) h = cc
-
-    no_word : IsUnderway ObjName (λ _. true) before → has_its_word before ObjName ≡ false
-    no_word (missing, (a, b, c)) = ap (λ (words : List Fields). is_nonempty (flat_map (λ fields. fields) words)) a
-    no_word (without_word, (a, b, c, d)) = ap (λ (words : List Fields). is_nonempty (flat_map (λ fields. fields) words)) a
-    no_word (with_word, (a, b, c)) =
-        absurd (never (is_none (objname before)) untold (sym (ap (λ (names : List (List ℕ)). is_none (head_of names)) (stated-words None before)) ∙ word (words_in ObjName before) a))
+default-in_words before earlier stated none untold = grind (arith, both_so, so_not, never, missing, without_word, with_word, stated-words)
 
 repeated-row : (before : List LineContent) (earlier : Draft) (item : LineContent) → Stated before earlier → IsFirst kinds.DuplicateRow before earlier item → repeats_row before item ≡ true
 repeated-row before earlier item stated first =
@@ -235,13 +173,7 @@ repeated-rows = in-words kinds.DuplicateRow repeats_row refl refl refl repeated-
 -- one of two tests holds for some entry
 some-either : {X : Type 0} (p q : X → Bool) (xs : List X) → list_any (λ x. p x || q x) xs ≡ (list_any p xs || list_any q xs)
 some-either p q [] = refl
-some-either p q (x ∷ xs) = ap (λ (b : Bool). (p x || q x) || b) (some-either p q xs) ∙ mix (p x) (q x) (list_any p xs) (list_any q xs)
-  where
-    mix : (a b c d : Bool) → ((a || b) || (c || d)) ≡ ((a || c) || (b || d))
-    mix true b c d = refl
-    mix false true true d = refl
-    mix false true false d = refl
-    mix false false c d = refl
+some-either p q (x ∷ xs) = grind (arith, some-either p q xs)
 
 cells-repeat : (column : List ℕ) (pairs : List Pair) (all : Draft) → refuses kinds.DuplicateEntry all (flat_map (coefficient_declared column) pairs) ≡ true
     → (has_row_twice pairs || list_any (λ pair. has_coefficient all (record { row = pair.row; column = column })) pairs) ≡ true
@@ -283,30 +215,14 @@ cells-repeat column (pair ∷ pairs) all h = by (has_coefficient all (key pair))
 
 -- a well-formed line does not declare a second sense: OBJSENSE has not begun, or has no word yet
 fresh-sense : (before : List LineContent) (earlier : Draft) → Stated before earlier → is_nonempty (flat_map (λ fields. fields) (words_in ObjSense before)) ≡ false → is_some earlier.sense ≡ false
-fresh-sense before earlier stated none = by (is_some earlier.sense) refl
-  where
-    by : (b : Bool) → is_some earlier.sense ≡ b → b ≡ false
-    by true e = absurd (never (is_nonempty (flat_map (λ fields. fields) (words_in ObjSense before))) (stated.sense_word e) none)
-    by false e = refl
+fresh-sense before earlier stated none = grind arith
 
 sense-once : (fields : Fields) (all : Draft) → is_some all.sense ≡ false → refuses kinds.DuplicateEntry all (declared_if_some sense_declared (word_shape fields)) ≡ false
-sense-once fields all none = by (word_shape fields)
-  where
-    of : (o : Option Sense) → refuses kinds.DuplicateEntry all (declared_if_some (λ sense. declare_sense sense ∷ []) o) ≡ false
-    of None = refl
-    of (Some s) = ap (λ (b : Bool). (b || false) || false) none
-
-    by : (o : Option (List ℕ)) → refuses kinds.DuplicateEntry all (declared_if_some sense_declared o) ≡ false
-    by None = refl
-    by (Some word) = of (sense_of word)
+sense-once fields all none = grind arith
 
 -- nor a second objective
 objective-once : (all : Draft) (name : List ℕ) → is_none all.objective ≡ true → refuses kinds.DuplicateEntry all (declare_objective name ∷ []) ≡ false
-objective-once all name h = by all.objective h
-  where
-    by : (o : Option (List ℕ)) → is_none o ≡ true → ((is_some o || false) || false) ≡ false
-    by None e = refl
-    by (Some x) e = cc
+objective-once all name h = grind arith
 
 repeated-entry : (before : List LineContent) (earlier : Draft) (item : LineContent) → Stated before earlier → IsFirst kinds.DuplicateEntry before earlier item → repeats_entry before item ≡ true
 repeated-entry before earlier item stated first =

@@ -1,4 +1,6 @@
 -- The first error of the right-hand sides of a line.
+use Rattle.std.proofs.Common.{arith}
+use Rattle.std.proofs.Common.{rules}
 use Rattle.std.proofs.Common.{◌≡◌, refl, sym, ap, subst, ◌∙◌, ℕ, List, [], ◌∷◌, ◌++◌, Bool, true, false, not, cond}
 use Rattle.std.specs.Prelude.{◌&&◌, ◌||◌, Option, Some, None, is_some, MatchResult}
 use Rattle.std.specs.Option.{option_map_or}
@@ -29,31 +31,23 @@ abbrev pub side_kind : Bool → Bool → Option FaultKind
 side_kind there sided = cond (not there) (Some kinds.UnknownRow) (cond sided (Some kinds.DuplicateRhs) None)
 
 free_there : (o : Option RowDefinition) → option_map_or is_free_definition o false ≡ true → is_some o ≡ true
-free_there None h = cc
-free_there (Some form) h = refl
+free_there v0 h = grind arith
 
 free_unlimited : (o : Option RowDefinition) → option_map_or is_free_definition o false ≡ true → option_map_or is_definition_by_limits o false ≡ false
-free_unlimited None h = cc
-free_unlimited (Some (by_type type)) h = refl
-free_unlimited (Some (by_limits lower upper)) h = cc
+free_unlimited v0 h = grind arith
 
 free_row : (all : Draft) (row : List ℕ) → is_free_row all row ≡ true → has_row all row ≡ true
 free_row all row h = or_right (is_objective all row) (has_name all.rows row) (free_there (at_name all.rows row) h)
 
 none_so : (b : Bool) (o : Option Number) → o ≡ None → (b && is_some o) ≡ false
-none_so true o h = ap is_some h
-none_so false o h = refl
+none_so v0 o h = grind arith
 
 -- N rows have no right-hand sides
 abbrev pub AreLimited : Draft → Type 0
 AreLimited all = (row : List ℕ) → is_free_row all row ≡ true → is_sided all row ≡ false
 
 limited-from : (all : Draft) → ((row : List ℕ) → is_free_row all row ≡ true → has_name all.rhs_values row ≡ false) → all.constant ≡ None → AreLimited all
-limited-from all limited constant row h =
-    let given = limited row h in
-    let limits = free_unlimited (at_name all.rows row) h in
-    let objective = none_so (is_objective all row) all.constant constant in
-    λ i. given i || (limits i || objective i)
+limited-from all limited constant row h = grind arith
 
 pub limited : (all : Draft) → HasMpsSides all → AreLimited all
 limited all sides = limited-from all sides.limited sides.constant
@@ -61,13 +55,7 @@ limited all sides = limited-from all sides.limited sides.constant
 -- one right-hand side
 pub side_fault : (all : Draft) (row : List ℕ) (value : Number) → AreLimited all
     → declared_fault all (rhs_declared all row value) ≡ side_kind (has_row all row) (is_sided all row)
-side_fault all row value free_unsided =
-    elim (is_free_row all row) as (λ b. is_free_row all row ≡ b
-    → declared_fault all (cond b [] (declare_rhs row value ∷ [])) ≡ side_kind (has_row all row) (is_sided all row)) [
-      | true ↦ λ free. let there = free_row all row free in let sided = free_unsided row free in λ i. side_kind (sym there i) (sym sided i)
-      | false ↦ λ _.
-          declared-one all (declare_rhs row value) refl
-    ] refl
+side_fault all row value free_unsided = grind arith
 
 -- ---- after a right-hand side
 
@@ -76,12 +64,10 @@ after_side all row value = with_declarations all (rhs_declared all row value)
 
 -- right-hand sides leave the rows unchanged
 same_row : (all : Draft) (row : List ℕ) (value : Number) (other : List ℕ) → has_row (after_side all row value) other ≡ has_row all other
-same_row all row value other =
-    elim (is_free_row all row) as (λ b. has_row (with_declarations all (cond b [] (declare_rhs row value ∷ []))) other ≡ has_row all other) [ true ↦ refl | false ↦ refl ]
+same_row all row value other = grind arith
 
 pub same_free : (all : Draft) (row : List ℕ) (value : Number) (other : List ℕ) → is_free_row (after_side all row value) other ≡ is_free_row all other
-same_free all row value other =
-    elim (is_free_row all row) as (λ b. is_free_row (with_declarations all (cond b [] (declare_rhs row value ∷ []))) other ≡ is_free_row all other) [ true ↦ refl | false ↦ refl ]
+same_free all row value other = grind arith
 
 same_side : (all : Draft) (row : List ℕ) (value : Number) (other : List ℕ) (second : Number)
     → rhs_declared (after_side all row value) other second ≡ rhs_declared all other second
@@ -89,19 +75,11 @@ same_side all row value other second = ap (λ (b : Bool). cond b [] (declare_rhs
 
 side_known : (all : Draft) (row : List ℕ) (value : Number) → HasMpsSides all → has_row all row ≡ true → (q : List ℕ)
     → has_name (with_declaration all (declare_rhs row value)).rhs_values q ≡ true → has_row all q ≡ true
-side_known all row value sides there q h = by (same_bytes q row) refl (sym (has-put q row value all.rhs_values) ∙ h)
-  where
-    by : (b : Bool) → same_bytes q row ≡ b → (b || has_name all.rhs_values q) ≡ true → has_row all q ≡ true
-    by true same k = ap (has_row all) (same_name q row same) ∙ there
-    by false same k = sides.known q k
+side_known all row value sides there q h = search (rules, has-put, same_name)
 
 side_limited : (all : Draft) (row : List ℕ) (value : Number) → HasMpsSides all → is_free_row all row ≡ false → (q : List ℕ)
     → is_free_row all q ≡ true → has_name (with_declaration all (declare_rhs row value)).rhs_values q ≡ false
-side_limited all row value sides limited q h = has-put q row value all.rhs_values ∙ by (same_bytes q row) refl
-  where
-    by : (b : Bool) → same_bytes q row ≡ b → (b || has_name all.rhs_values q) ≡ false
-    by true same = let free = ap (is_free_row all) (sym (same_name q row same)) ∙ h in cc
-    by false same = sides.limited q h
+side_limited all row value sides limited q h = search (rules, limited, has-put, same_name)
 
 limited-after : (all : Draft) (row : List ℕ) (value : Number) → HasMpsSides all → AreLimited (after_side all row value)
 limited-after all row value sides =
@@ -111,11 +89,7 @@ limited-after all row value sides =
     ] refl
 
 pub sides-after : (all : Draft) (row : List ℕ) (value : Number) → HasMpsSides all → has_row all row ≡ true → HasMpsSides (after_side all row value)
-sides-after all row value sides there =
-    elim (is_free_row all row) as (λ b. is_free_row all row ≡ b → HasMpsSides (with_declarations all (cond b [] (declare_rhs row value ∷ [])))) [
-      | true ↦ λ _. sides
-      | false ↦ λ limited. record { known = side_known all row value sides there; limited = side_limited all row value sides limited; constant = sides.constant }
-    ] refl
+sides-after all row value sides there = grind (arith, limited, side_known, side_limited)
 
 -- ---- two right-hand sides
 
@@ -133,31 +107,11 @@ both_fault all row value other second sides =
 
 pub row-unknown : (all : Draft) (row : List ℕ) (value : Number) (other : List ℕ) (second : Number) → HasMpsSides all → (has_row all row && has_row all other) ≡ false
     → both all row value other second ≡ Some kinds.UnknownRow
-row-unknown all row value other second sides h =
-    both_fault all row value other second sides ∙ by (has_row all row) (is_sided all row) (has_row all other) (is_sided (after_side all row value) other) h
-  where
-    by : (a b c d : Bool) → (a && c) ≡ false → earlier_of (side_kind a b) (side_kind c d) ≡ Some kinds.UnknownRow
-    by true b true d k = cc
-    by true true false d k = refl
-    by true false false d k = refl
-    by false b true true k = refl
-    by false b true false k = refl
-    by false b false d k = refl
+row-unknown all row value other second sides h = grind (arith, both_fault, earlier_of)
 
 pub first-refused : (all : Draft) (row : List ℕ) (value : Number) (other : List ℕ) (second : Number) (error : LineError) → HasMpsSides all → (has_row all row && has_row all other) ≡ true
     → IsErrorOf (declared_fault all (rhs_declared all row value)) error → IsErrorOf (both all row value other second) error
-first-refused all row value other second error sides h fault_is =
-    subst (λ (o : Option FaultKind). IsErrorOf o error) (sym (both_fault all row value other second sides))
-    (by (has_row all row) (is_sided all row) (has_row all other) (is_sided (after_side all row value) other) error h
-    (subst (λ (o : Option FaultKind). IsErrorOf o error) (side_fault all row value (limited all sides)) fault_is))
-  where
-    by : (a b c d : Bool) (e : LineError) → (a && c) ≡ true → IsErrorOf (side_kind a b) e → IsErrorOf (earlier_of (side_kind a b) (side_kind c d)) e
-    by a b c d OutOfMemory k given = tt
-    by true true true true (Fault kind) k given = given
-    by true true true false (Fault kind) k given = given
-    by true false c d (Fault kind) k given = cc
-    by false b c d (Fault kind) k given = cc
-    by true b false d (Fault kind) k given = cc
+first-refused all row value other second error sides h fault_is = grind (arith, both_fault, side_fault, limited, earlier_of)
 
 -- ---- right-hand sides that are checked before they are declared
 
@@ -166,40 +120,19 @@ abbrev is_again : Draft → List ℕ → List ℕ → Bool
 is_again all row other = same_bytes other row && not (is_free_row all row)
 
 sided_after : (all : Draft) (row : List ℕ) (value : Number) (other : List ℕ) → is_sided (after_side all row value) other ≡ (is_again all row other || is_sided all other)
-sided_after all row value other =
-    elim (is_free_row all row) as (λ b. is_sided (with_declarations all (cond b [] (declare_rhs row value ∷ []))) other ≡ ((same_bytes other row && not b) || is_sided all other)) [
-      | true ↦ free (same_bytes other row)
-      | false ↦
-          ap (λ (b : Bool). b || (is_row_by_limits all other || (is_objective all other && is_some all.constant))) (has-put other row value all.rhs_values)
-          ∙ held (same_bytes other row) (has_name all.rhs_values other) (is_row_by_limits all other || (is_objective all other && is_some all.constant))
-    ]
-  where
-    free : (a : Bool) → is_sided all other ≡ ((a && false) || is_sided all other)
-    free true = refl
-    free false = refl
-
-    held : (a b c : Bool) → ((a || b) || c) ≡ ((a && true) || (b || c))
-    held true b c = refl
-    held false b c = refl
+sided_after all row value other = grind (arith, has-put)
 
 both_after : (all : Draft) (row : List ℕ) (value : Number) (other : List ℕ) (second : Number) → HasMpsSides all → declared_fault all (rhs_declared all row value) ≡ None
     → both all row value other second ≡ side_kind (has_row all other) (is_again all row other || is_sided all other)
-both_after all row value other second sides none =
-    both_fault all row value other second sides
-    ∙ (λ i. earlier_of (side_kind (has_row all row) (is_sided all row)) (side_kind (has_row all other) (sided_after all row value other i)))
-    ∙ ap (λ (o : Option FaultKind). earlier_of o (side_kind (has_row all other) (is_again all row other || is_sided all other))) (sym (side_fault all row value (limited all sides)) ∙ none)
+both_after all row value other second sides none = grind (arith, both_fault, earlier_of, sided_after, side_fault, limited)
 
 -- if the first one has no error
 pub given-again : (all : Draft) (row : List ℕ) (value : Number) (other : List ℕ) (second : Number) → HasMpsSides all → (has_row all row && has_row all other) ≡ true
     → declared_fault all (rhs_declared all row value) ≡ None → (same_bytes other row && not (is_free_row all row)) ≡ true → both all row value other second ≡ Some kinds.DuplicateRhs
-given-again all row value other second sides rows none again =
-    let there = second_so (has_row all row) (has_row all other) rows in
-    both_after all row value other second sides none ∙ (λ i. side_kind (there i) (again i || is_sided all other))
+given-again all row value other second sides rows none again = grind (arith, both_after)
 
 pub given-apart : (all : Draft) (row : List ℕ) (value : Number) (other : List ℕ) (second : Number) (answer : LineResult) → HasMpsSides all
     → declared_fault all (rhs_declared all row value) ≡ None → (same_bytes other row && not (is_free_row all row)) ≡ false
     → MatchResult answer (λ _. declared_fault all (rhs_declared all other second) ≡ None) (IsErrorOf (declared_fault all (rhs_declared all other second)))
     → MatchResult answer (λ _. both all row value other second ≡ None) (IsErrorOf (both all row value other second))
-given-apart all row value other second answer sides none apart h =
-    subst (λ (o : Option FaultKind). MatchResult answer (λ _. o ≡ None) (IsErrorOf o))
-    (side_fault all other second (limited all sides) ∙ (λ i. side_kind (has_row all other) (sym apart i || is_sided all other)) ∙ sym (both_after all row value other second sides none)) h
+given-apart all row value other second answer sides none apart h = grind (arith, side_fault, limited, both_after)

@@ -1,4 +1,6 @@
 -- The tests of a line are in the order of kinds.
+use Rattle.std.proofs.Common.{arith}
+use Rattle.std.proofs.Common.{rules}
 use Rattle.std.proofs.Common.{◌≡◌, refl, ℕ, List, [], ◌∷◌, ◌++◌, Bool, true, false, cond}
 use Rattle.std.specs.Prelude.{not, is_some, Option, Some, None, codes}
 use Rattle.mpslp_types.specs.Name.{is_one_of}
@@ -23,43 +25,31 @@ AreRising tests = are_rising ((false, kinds.LineTooLong) ∷ (false, kinds.BadBy
 
 -- and so are these tests without the latter
 pub rising-only : (tests : FaultTests) → AreRising tests → are_rising tests ≡ true
-rising-only tests h =
-    second_so (list_all (λ later. is_from kinds.BadByte later.1) tests) (are_rising tests)
-    (second_so (list_all (λ later. is_from kinds.LineTooLong later.1) ((false, kinds.BadByte) ∷ tests)) (are_rising ((false, kinds.BadByte) ∷ tests)) h)
+rising-only tests h = grind arith
 
 -- ---- by the shape of a line
 
 judged-rising : {X : Type 0} (tests : X → FaultTests) (o : Option X) → ((x : X) → AreRising (tests x)) → AreRising (judged_by tests o)
-judged-rising tests None h = refl
-judged-rising tests (Some x) h = h x
+judged-rising tests v1 h = grind arith
 
 bound-rising : (context : Context) (line : BoundLine) → AreRising (bound_tests context line)
-bound-rising context line = of line.literal
-  where
-    of : (o : Option (List ℕ)) → AreRising (option_map_or (λ literal. number_tests (literal ∷ [])) o [] ++ set_tests context.bounds_set line.set)
-    of None = refl
-    of (Some literal) = refl
+bound-rising context line = grind arith
 
 typed-rising : (context : Context) (more : Fields) (o : Option BoundType)
     → AreRising (typed_bound_tests context more o)
-typed-rising context more None = refl
-typed-rising context more (Some type) = judged-rising (bound_tests context) (bound_shape type more) (bound-rising context)
+typed-rising context more v2 = grind arith
 
 rising-if : (b : Bool) (x y : FaultTests) → AreRising x → AreRising y → AreRising (cond b x y)
-rising-if true x y h k = h
-rising-if false x y h k = k
+rising-if v0 x y h k = grind arith
 
 sense-rising : (b : Bool) (o : Option (List ℕ)) → AreRising ((b, kinds.SectionOrder) ∷ judged_by word_tests o)
-sense-rising b None = refl
-sense-rising b (Some word) = refl
+sense-rising b v1 = grind arith
 
 judged-after-order : (b : Bool) (o : Option (List ℕ)) → AreRising ((b, kinds.SectionOrder) ∷ judged_by (λ _. []) o)
-judged-after-order b None = refl
-judged-after-order b (Some word) = refl
+judged-after-order b v1 = grind arith
 
 marker-rising : (b : Bool) (context : Context) (o : Option (List ℕ)) → AreRising ((b, kinds.Sos) ∷ judged_by (marker_word_tests context) o)
-marker-rising b context None = refl
-marker-rising b context (Some word) = refl
+marker-rising b context v2 = grind arith
 
 data-after : (context : Context) (earlier : Draft) (fields : Fields) (section : Option Section) → AreRising (data_tests context earlier fields section)
 data-after context earlier fields None = refl
@@ -78,30 +68,13 @@ data-after context earlier fields (Some EndData) = refl
 -- all kinds of unknown sections
 unknown-after : (quadratic sos indicator : Bool)
     → AreRising ((true, cond quadratic kinds.Quadratic (cond sos kinds.Sos (cond indicator kinds.Indicator kinds.UnknownSection))) ∷ [])
-unknown-after true sos indicator = refl
-unknown-after false true indicator = refl
-unknown-after false false true = refl
-unknown-after false false false = refl
+unknown-after v0 v1 v2 = grind arith
 
 header-after : (context : Context) (earlier : Draft) (keyword : List ℕ) (more : Fields) (section : Option Section) → AreRising (header_tests context earlier keyword more section)
-header-after context earlier keyword more None =
-    unknown-after (is_one_of (codes "QSECTION" ∷ codes "QMATRIX" ∷ codes "QUADOBJ" ∷ codes "QCMATRIX" ∷ codes "CSECTION" ∷ []) keyword)
-    (is_one_of (codes "SOS" ∷ codes "SOS1" ∷ codes "SOS2" ∷ []) keyword) (is_one_of (codes "INDICATORS" ∷ []) keyword)
-header-after context earlier keyword more (Some Name) = refl
-header-after context earlier keyword [] (Some ObjSense) = refl
-header-after context earlier keyword (word ∷ more) (Some ObjSense) = refl
-header-after context earlier keyword more (Some ObjName) = refl
-header-after context earlier keyword more (Some Rows) = refl
-header-after context earlier keyword more (Some Columns) = refl
-header-after context earlier keyword more (Some Rhs) = refl
-header-after context earlier keyword more (Some Ranges) = refl
-header-after context earlier keyword more (Some Bounds) = refl
-header-after context earlier keyword more (Some EndData) = refl
+header-after context earlier keyword v3 v4 = grind arith
 
 pub item-rising : (context : Context) (earlier : Draft) (item : LineContent) → AreRising (item_tests context earlier item)
-item-rising context earlier skipped = refl
-item-rising context earlier (header keyword more) = header-after context earlier keyword more (section_named keyword)
-item-rising context earlier (data_line fields) = data-after context earlier fields context.section
+item-rising context earlier v2 = grind (arith, header-after)
 
 pub data-rising : (context : Context) (earlier : Draft) (fields : Fields) (section : Option Section) → are_rising (data_tests context earlier fields section) ≡ true
 data-rising context earlier fields section = rising-only (data_tests context earlier fields section) (data-after context earlier fields section)

@@ -1,4 +1,6 @@
 -- Lines of OBJSENSE, OBJNAME and ROWS: the kinds of their forms come before those of what they declare.
+use Rattle.std.proofs.Common.{arith}
+use Rattle.std.proofs.Common.{rules}
 use Rattle.std.proofs.Common.{◌≡◌, refl, List, [], ◌∷◌, Bool, true, ℕ}
 use Rattle.std.specs.Prelude.{Option, Some, None}
 use Rattle.std.specs.List.{list_all}
@@ -9,13 +11,10 @@ use Rattle.mpslp_mps.specs.LineFault.{word_tests, row_line_tests}
 use Rattle.mpslp_mps.proofs.TakingLemmas.{is_early}
 
 pub sense-early : (b : Bool) (o : Option (List ℕ)) → list_all is_early ((b, kinds.SectionOrder) ∷ judged_by word_tests o) ≡ true
-sense-early b None = refl
-sense-early b (Some word) = refl
+sense-early b v1 = grind arith
 
 pub objective-name-early : (b : Bool) (o : Option (List ℕ)) → list_all is_early ((b, kinds.SectionOrder) ∷ judged_by (λ _. []) o) ≡ true
-objective-name-early b None = refl
-objective-name-early b (Some word) = refl
+objective-name-early b v1 = grind arith
 
 pub row-early : (o : Option RowLine) → list_all is_early (judged_by row_line_tests o) ≡ true
-row-early None = refl
-row-early (Some line) = refl
+row-early v0 = grind arith

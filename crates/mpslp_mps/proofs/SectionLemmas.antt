@@ -1,4 +1,6 @@
 -- How one more line changes what is known of the lines before.
+use Rattle.std.proofs.Common.{arith}
+use Rattle.std.proofs.Common.{rules}
 use Rattle.std.proofs.Common.{◌≡◌, refl, sym, ap, ◌∙◌, List, [], ◌∷◌, ◌++◌, append_assoc, Bool, true, false}
 use Rattle.std.specs.Prelude.{Option, Some, None, ◌||◌, filter_map}
 use Rattle.std.specs.List.{last_or, cons_option}
@@ -16,52 +18,31 @@ last_or-append o [] ys = refl
 last_or-append o (x ∷ xs) ys = last_or-append (Some x) xs ys
 
 last-one : (o c : Option Section) → last_or c (cons_option o []) ≡ option_or o c
-last-one None c = refl
-last-one (Some s) c = refl
+last-one v0 c = grind arith
 
 -- the section after a line: the one that it begins, or the one before
 pub current_section-push : (before : List LineContent) (item : LineContent) → current_section (before ++ item ∷ []) ≡ option_or (section_of_header item) (current_section before)
-current_section-push before item =
-    ap (last_or None) (filter_map-append section_of_header before (item ∷ [])) ∙ last_or-append None (filter_map section_of_header before) (cons_option (section_of_header item) [])
-    ∙ last-one (section_of_header item) (current_section before)
+current_section-push before item = grind (arith, filter_map-append, last_or-append, last-one)
 
 or_false : (b : Bool) → (b || false) ≡ b
-or_false true = refl
-or_false false = refl
+or_false v0 = grind arith
 
 -- sections, and optionally one more
 pub has-more : (section : Section) (begun : List Section) (o : Option Section) → has (begun ++ cons_option o []) section ≡ (has begun section || is_section section o)
-has-more section begun o =
-    list_any-append (λ other. is_section section (Some other)) begun (cons_option o []) ∙ ap (λ (b : Bool). has begun section || b) (by o)
-  where
-    by : (x : Option Section) → has (cons_option x []) section ≡ is_section section x
-    by None = refl
-    by (Some s) = or_false (is_section section (Some s))
+has-more section begun o = grind (arith, list_any-append, or_false)
 
 -- a section has begun after its header
 pub has_section-push : (section : Section) (before : List LineContent) (item : LineContent) → has_section (before ++ item ∷ []) section ≡ (has_section before section || begins section item)
-has_section-push section before item =
-    ap (λ (begun : List Section). has begun section) (filter_map-append section_of_header before (item ∷ []))
-    ∙ has-more section (seen_sections before) (section_of_header item)
+has_section-push section before item = grind (arith, filter_map-append, has-more)
 
 pub has_section-append : (section : Section) (before items : List LineContent) → has_section (before ++ items) section ≡ (has_section before section || has_section items section)
-has_section-append section before items =
-    ap (λ (begun : List Section). has begun section) (filter_map-append section_of_header before items)
-    ∙ list_any-append (λ other. is_section section (Some other)) (seen_sections before) (seen_sections items)
+has_section-append section before items = grind (arith, filter_map-append, list_any-append)
 
 pub has_section-cons : (section : Section) (item : LineContent) (before : List LineContent) → has_section (item ∷ before) section ≡ (begins section item || has_section before section)
-has_section-cons section item before = by (section_of_header item)
-  where
-    by : (o : Option Section) → has (cons_option o (seen_sections before)) section ≡ (is_section section o || has_section before section)
-    by None = refl
-    by (Some s) = refl
+has_section-cons section item before = grind arith
 
 section_after-cons : (current : Option Section) (x : LineContent) (before : List LineContent) → section_after current (x ∷ before) ≡ section_after (option_or (section_of_header x) current) before
-section_after-cons current x before = by (section_of_header x)
-  where
-    by : (o : Option Section) → last_or current (cons_option o (filter_map section_of_header before)) ≡ last_or (option_or o current) (filter_map section_of_header before)
-    by None = refl
-    by (Some s) = refl
+section_after-cons current x before = grind arith
 
 -- what lines give where they are, including this one
 pub said_after-push : {X : Type 0} (says : Option Section → LineContent → List X) (current : Option Section) (before : List LineContent) (item : LineContent)

@@ -1,4 +1,6 @@
 -- What the data lines of a section are together implies their fields, set names and markers, and that columns continue.
+use Rattle.std.proofs.Common.{arith}
+use Rattle.std.proofs.Common.{rules}
 use Rattle.std.proofs.Common.{◌≡◌, refl, sym, ap, ◌∙◌, List, [], ◌∷◌, ◌++◌, append_assoc, ℕ, Bool, true, false, cond}
 use Rattle.std.specs.Prelude.{Option, Some, None, not, ◌&&◌, ◌||◌}
 use Rattle.std.specs.List.{list_all, list_any, last_or, cons_option}
@@ -20,11 +22,7 @@ use Rattle.mpslp_mps.proofs.WordsOfColumns.{Column, last_of, comes_again, one_co
 -- ---- lines, and those after them
 
 pub section_after-more : (current : Option Section) (item : LineContent) (items : List LineContent) → section_after current (item ∷ items) ≡ section_after (option_or (section_of_header item) current) items
-section_after-more current item items = by (section_of_header item)
-  where
-    by : (o : Option Section) → last_or current (cons_option o (seen_sections items)) ≡ last_or (option_or o current) (seen_sections items)
-    by None = refl
-    by (Some s) = refl
+section_after-more current item items = grind arith
 
 pub said_after-append : {X : Type 0} (says : Option Section → LineContent → List X) (current : Option Section) (before items : List LineContent)
     → said_after says current (before ++ items) ≡ said_after says current before ++ said_after says (section_after current before) items
@@ -48,8 +46,7 @@ pub passes-all : {X : Type 0} (test : X → Bool) (xs : List X) (x : X) (more : 
 passes-all test xs x more h = first_so (test x) (list_all test more) (second_so (list_all test xs) (list_all test (x ∷ more)) (sym (list_all-append test xs (x ∷ more)) ∙ h))
 
 pub set-fits : (sets : List (List ℕ)) (set : List ℕ) (more : List (List ℕ)) → is_one_set (sets ++ set ∷ more) ≡ true → is_other_set (head_of sets) set ≡ false
-set-fits [] set more h = refl
-set-fits (first ∷ sets) set more h = ap not (passes-all (same_bytes first) sets set more h)
+set-fits v0 set more h = grind (arith, passes-all)
 
 pub marker-follows : (words : List (List ℕ)) (last : Option (List ℕ)) (word : List ℕ) (more : List (List ℕ)) (b : Bool) → opens last ≡ b → alternate (next_word b) (next_word (not b)) (words ++ word ∷ more) ≡ true
     → same_bytes word (next_word (opens (last_or last words))) ≡ true
@@ -63,30 +60,15 @@ marker-follows (first ∷ words) last word more false e h =
 
 -- a column that has ended and has a later line
 found-later : (c x d : Column) (columns more : List Column) → same_column c x ≡ true → list_any (same_column c) (d ∷ (columns ++ x ∷ more)) ≡ true
-found-later c x d columns more h =
-    list_any-append (same_column c) (d ∷ columns) (x ∷ more)
-    ∙ or_right (list_any (same_column c) (d ∷ columns)) (same_column c x || list_any (same_column c) more) (or_left (same_column c x) (list_any (same_column c) more) h)
+found-later c x d columns more h = grind (arith, list_any-append, or_right, or_left)
 
 comes-later : (c x d : Column) (columns more : List Column) → same_column c x ≡ true → same_column c (last_of d columns) ≡ false → list_any (same_column c) (entries_after c (d ∷ (columns ++ x ∷ more))) ≡ true
-comes-later c x d [] more h k = by (same_column c d) k
-  where
-    by : (b : Bool) → b ≡ false → list_any (same_column c) (cond b (entries_after c (x ∷ more)) (d ∷ x ∷ more)) ≡ true
-    by true e = cc
-    by false e = found-later c x d [] more h
-comes-later c x d (e ∷ columns) more h k = by (comes-later c x e columns more h k) (same_column c d)
-  where
-    by : list_any (same_column c) (entries_after c (e ∷ (columns ++ x ∷ more))) ≡ true
-        → (b : Bool) → list_any (same_column c) (cond b (entries_after c (e ∷ (columns ++ x ∷ more))) (d ∷ e ∷ (columns ++ x ∷ more))) ≡ true
-    by rest true = rest
-    by rest false = found-later c x d (e ∷ columns) more h
+comes-later c x d [] more h k = grind (arith, found-later)
+comes-later c x d (e ∷ columns) more h k = grind (arith, found-later, comes-later c x e columns more h k)
 
 pub together-apart : (x : Column) (columns more : List Column) → are_together (columns ++ x ∷ more) ≡ true → comes_again x columns ≡ false
 together-apart x [] more h = refl
-together-apart x (c ∷ []) more h = by (same_column x c)
-  where
-    by : (b : Bool) → ((b || false) && not b) ≡ false
-    by true = refl
-    by false = refl
+together-apart x (c ∷ []) more h = grind (arith)
 together-apart x (c ∷ d ∷ columns) more h =
     by (same_column x c) refl (together-apart x (d ∷ columns) more (second_so (not (list_any (same_column c) (entries_after c (d ∷ (columns ++ x ∷ more))))) (are_together (d ∷ (columns ++ x ∷ more))) h))
   where

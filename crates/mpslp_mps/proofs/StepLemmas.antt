@@ -1,4 +1,6 @@
 -- What a line of a known shape does to the context, as `next_context` defines.
+use Rattle.std.proofs.Common.{arith}
+use Rattle.std.proofs.Common.{rules}
 use Rattle.std.proofs.Common.{◌≡◌, refl, ap, ◌∙◌, ℕ, List, [], ◌∷◌, ◌++◌, Bool, true, false, cond}
 use Rattle.std.specs.Prelude.{Option, Some, None}
 use Rattle.std.specs.List.{cons_option}
@@ -19,8 +21,7 @@ use Rattle.mpslp_mps_fields.specs.declared.sections.Section.TheVariants.{ObjSens
 
 -- a line that gives nothing leaves what is known unchanged
 same-option : {X : Type 0} (o : Option X) → option_or o None ≡ o
-same-option None = refl
-same-option (Some x) = refl
+same-option v0 = grind arith
 
 pub step-skipped : (c : Context) → next_context c skipped ≡ c
 step-skipped c = λ i. record c { sections_seen = append-nil c.sections_seen i; objname = same-option c.objname i }
@@ -29,13 +30,7 @@ step-skipped c = λ i. record c { sections_seen = append-nil c.sections_seen i; 
 
 pub step-header : (c : Context) (keyword : List ℕ) (more : Fields) (section : Section) → section_named keyword ≡ Some section
     → next_context c (header keyword more) ≡ after_header c section (section_of_word_due section more) (header_objname section more)
-step-header c keyword more section h =
-    ap (λ (o : Option Section). record c {
-      section = option_or o c.section;
-      sections_seen = c.sections_seen ++ cons_option o [];
-      word_due = option_map_or (λ begun. section_of_word_due begun more) o None;
-      objname = option_or c.objname (cond (is_section ObjName o) (word_shape more) None);
-    }) h
+step-header c keyword more section h = grind arith
 
 -- ---- data lines
 
@@ -54,8 +49,7 @@ under c fields section = record c {
 
 pub step-objname : (c : Context) (fields : Fields) (name : List ℕ) → c.section ≡ Some ObjName → word_shape fields ≡ Some name
     → next_context c (data_line fields) ≡ after_objname c name
-step-objname c fields name h k =
-    ap (under c fields) h ∙ (λ i. record c { sections_seen = append-nil c.sections_seen i; word_due = None; objname = option_or c.objname (k i) })
+step-objname c fields name h k = grind (arith, append-nil)
 
 pub step-sense : (c : Context) (fields : Fields) → c.section ≡ Some ObjSense → next_context c (data_line fields) ≡ after_data c
 step-sense c fields h = ap (under c fields) h ∙ (λ i. record c { sections_seen = append-nil c.sections_seen i; word_due = None; objname = same-option c.objname i })
@@ -65,60 +59,24 @@ step-row c fields h = ap (under c fields) h ∙ (λ i. record c { sections_seen 
 
 pub step-column : (c : Context) (fields : Fields) (column : List ℕ) (values : List (List ℕ × Number)) → c.section ≡ Some Columns → is_marker_line fields ≡ false
     → option_map named_values (column_shape fields) ≡ Some (column, values) → next_context c (data_line fields) ≡ after_column c column
-step-column c fields column values h plain k =
-    ap (under c fields) h
-    ∙ (λ i. record c { sections_seen = append-nil c.sections_seen i; word_due = None; objname = same-option c.objname i; in_integer_part = part i; last_column = last i })
-  where
-    part : next_part fields c.in_integer_part ≡ c.in_integer_part
-    part = ap (λ (b : Bool). option_map_or (same_bytes opening_word) (cond b (marker_shape fields) None) c.in_integer_part) plain
-
-    of : (o : Option ValuesLine) → option_map named_values o ≡ Some (column, values) → option_map (λ line. line.name) o ≡ Some column
-    of None e = cc
-    of (Some line) e = ap (option_map (λ (p : List ℕ × List (List ℕ × Number)). p.0)) e
-
-    last : line_column fields ≡ Some column
-    last = ap (λ (b : Bool). cond b None (option_map (λ line. line.name) (column_shape fields))) plain ∙ of (column_shape fields) k
+step-column c fields column values h plain k = grind (arith, append-nil, same-option)
 
 pub step-marker : (c : Context) (fields : Fields) (opens : Bool) → c.section ≡ Some Columns → is_marker_line fields ≡ true
     → option_map (same_bytes opening_word) (marker_shape fields) ≡ Some opens → next_context c (data_line fields) ≡ after_marker c opens
-step-marker c fields opens h marked k =
-    ap (under c fields) h
-    ∙ (λ i. record c { sections_seen = append-nil c.sections_seen i; word_due = None; objname = same-option c.objname i; in_integer_part = part i; last_column = last i })
-  where
-    of : (o : Option (List ℕ)) → option_map (same_bytes opening_word) o ≡ Some opens → option_map_or (same_bytes opening_word) o c.in_integer_part ≡ opens
-    of None e = cc
-    of (Some word) e = cc
-
-    part : next_part fields c.in_integer_part ≡ opens
-    part = ap (λ (b : Bool). option_map_or (same_bytes opening_word) (cond b (marker_shape fields) None) c.in_integer_part) marked ∙ of (marker_shape fields) k
-
-    last : line_column fields ≡ None
-    last = ap (λ (b : Bool). cond b None (option_map (λ line. line.name) (column_shape fields))) marked
+step-marker c fields opens h marked k = grind (arith, append-nil, same-option)
 
 -- the set name of a line of RHS or RANGES
 set-of : (fields : Fields) (set : List ℕ) (values : List (List ℕ × Number)) → option_map named_values (vector_shape fields) ≡ Some (set, values) → vector_set fields ≡ Some set
-set-of fields set values k = of (vector_shape fields) k
-  where
-    of : (o : Option ValuesLine) → option_map named_values o ≡ Some (set, values) → option_map (λ line. line.name) o ≡ Some set
-    of None e = cc
-    of (Some line) e = ap (option_map (λ (p : List ℕ × List (List ℕ × Number)). p.0)) e
+set-of fields set values k = grind arith
 
 pub step-right_side : (c : Context) (fields : Fields) (set : List ℕ) (values : List (List ℕ × Number)) → c.section ≡ Some Rhs
     → option_map named_values (vector_shape fields) ≡ Some (set, values) → next_context c (data_line fields) ≡ after_set c Rhs set
-step-right_side c fields set values h k =
-    ap (under c fields) h ∙ (λ i. record c { sections_seen = append-nil c.sections_seen i; word_due = None; objname = same-option c.objname i; rhs_set = option_or c.rhs_set (set-of fields set values k i) })
+step-right_side c fields set values h k = grind (arith, append-nil, same-option, set-of)
 
 pub step-range : (c : Context) (fields : Fields) (set : List ℕ) (values : List (List ℕ × Number)) → c.section ≡ Some Ranges
     → option_map named_values (vector_shape fields) ≡ Some (set, values) → next_context c (data_line fields) ≡ after_set c Ranges set
-step-range c fields set values h k =
-    ap (under c fields) h ∙ (λ i. record c { sections_seen = append-nil c.sections_seen i; word_due = None; objname = same-option c.objname i; ranges_set = option_or c.ranges_set (set-of fields set values k i) })
+step-range c fields set values h k = grind (arith, append-nil, same-option, set-of)
 
 pub step-bound : (c : Context) (letters : List ℕ) (more : Fields) (type : BoundType) (line : BoundLine) → c.section ≡ Some Bounds → bound_type letters ≡ Some type
     → bound_shape type more ≡ Some line → next_context c (data_line (letters ∷ more)) ≡ after_set c Bounds line.set
-step-bound c letters more type line h t k =
-    ap (under c (letters ∷ more)) h ∙ (λ i. record c { sections_seen = append-nil c.sections_seen i; word_due = None; objname = same-option c.objname i; bounds_set = option_or c.bounds_set (set i) })
-  where
-    set : bound_set (letters ∷ more) ≡ Some line.set
-    set =
-        ap (λ (o : Option BoundType). option_map_or (λ found. option_map (λ l. l.set) (bound_shape found more)) o None) t
-        ∙ ap (option_map (λ (l : BoundLine). l.set)) k
+step-bound c letters more type line h t k = grind (arith, append-nil, same-option)

@@ -1,4 +1,5 @@
 -- Data lines that are accepted, and those that are not.
+use Rattle.std.proofs.Common.{arith}
 use Rattle.std.proofs.Common.{◌≡◌, sym, ap, ◌∙◌, Bool, true, false}
 use Rattle.std.specs.Prelude.{Some, None, Ok}
 use Rattle.std.specs.List.{list_all}
@@ -37,8 +38,4 @@ pub data-taken : (context : Context) (earlier : Draft) (fields : Fields) (sectio
     → context.section ≡ Some section → first_held (data_tests context earlier fields (Some section)) ≡ None → data_declared context earlier fields (Some section) ≡ ds
     → declared_fault earlier ds ≡ None → next ≡ next_context context (data_line fields) → later ≡ with_declarations earlier ds
     → ReadsContent context earlier (data_line fields) (Ok tt) next later
-data-taken context earlier fields section ds next later here held is fault_is step draft = (
-  data_fault-declared context earlier fields (Some section) ds here held is ∙ fault_is,
-  step,
-  draft ∙ ap (with_declarations earlier) (sym (declared-is context earlier fields (Some section) ds here is)),
-)
+data-taken context earlier fields section ds next later here held is fault_is step draft = grind (arith, data_fault-declared, declared-is)

@@ -1,4 +1,5 @@
 -- What the lines of a text determine together.
+use Rattle.std.proofs.Common.{arith}
 use Rattle.std.proofs.Common.{◌≡◌, sym, ap, ◌∙◌, ℕ, List, [], Bool, cond}
 use Rattle.std.specs.Prelude.{Option, Some, None}
 use Rattle.std.specs.Option.{option_or}
@@ -26,8 +27,7 @@ abbrev whole : List ℕ → Bool → Option Fault
 whole bytes ended = cond ended (file_fault (draft_of (declarations_of bytes))) (Some (whole_fault MissingEnd None))
 
 pub first_fault-whole : (bytes : List ℕ) (ended : Bool) → fault_of_lines bytes ≡ None → has_end bytes ≡ ended → first_mps_fault bytes ≡ whole bytes ended
-first_fault-whole bytes ended none is =
-    first_fault-is bytes ∙ ap (λ (o : Option Fault). option_or o (whole_mps_fault bytes)) none ∙ ap (whole bytes) is
+first_fault-whole bytes ended none is = grind (arith, first_fault-is)
 
 pub draft-whole : (bytes : List ℕ) → draft_lines bytes ≡ draft_of (declarations_of bytes)
 draft-whole bytes = sym (draft-is bytes)

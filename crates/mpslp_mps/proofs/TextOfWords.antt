@@ -1,4 +1,6 @@
 -- Text in the sense of `TextInWords` is MPS text.
+use Rattle.std.proofs.Common.{arith}
+use Rattle.std.proofs.Common.{rules}
 use Rattle.std.proofs.Common.{◌≡◌, refl, sym, ap, subst, List, [], ◌∷◌, ◌++◌, append_assoc, ℕ, Bool, true, false, map}
 use Rattle.std.specs.Prelude.{not, ◌&&◌}
 use Rattle.std.specs.List.{list_all}
@@ -21,8 +23,7 @@ use Rattle.mpslp_mps.proofs.DataOfWords.{AreGoodLines, data-good}
 use Rattle.mpslp_mps.proofs.KeywordsOfWords.{AreGoodHeaders, keyword-good}
 
 both : (a b : Bool) → (a && b) ≡ true → (a ≡ true) × (b ≡ true)
-both true b h = (refl, h)
-both false b h = absurd cc
+both v0 b h = grind arith
 
 -- what the lines before imply for the next one
 pub record Known (before : List LineContent) (earlier : Draft) : Type 0 where
@@ -35,12 +36,7 @@ pub none-known : Known [] empty_draft
 none-known = record { words = none-yet; lines = λ name h. cc; declares = λ stated name row. cc; there = λ h. cc }
 
 pub known-kept : (before : List LineContent) (earlier : Draft) (item : LineContent) → IsGood before earlier item → Known before earlier → Known (before ++ item ∷ []) (with_declarations earlier (line_declares (context_of before) earlier item))
-known-kept before earlier item good known = record {
-  words = one-more before earlier item good known.words;
-  lines = lines-push before earlier item known.lines;
-  declares = declared-kept before earlier item good known.words.early known.declares;
-  there = wanted_there-kept before item known.there;
-}
+known-kept before earlier item good known = search (rules, one-more, lines-push, declared-kept, wanted_there-kept)
 
 all-good : (items before : List LineContent) (earlier : Draft) → Known before earlier → AreGoodLines (before ++ items) → AreGoodHeaders (before ++ items) → are_well_formed before earlier items ≡ true
 all-good [] before earlier known lines headers = refl
@@ -58,52 +54,10 @@ all-good (item ∷ items) before earlier known lines headers =
     here (data_line fields) l h = data-good before earlier fields items known.words.sense known.words.name known.lines l
 
 text-of_words : (bytes : List ℕ) → is_text_in_words bytes ≡ true → is_mps_text bytes ≡ true
-text-of_words bytes h =
-    let items = map content_of (read_lines bytes) in
-    let (ended, rest) = both _ _ h in
-    let (legal, together) = both _ _ rest in
-    let (heads, more) = both _ _ together in
-    let (each, more1) = both _ _ heads in
-    let (sections, more2) = both _ _ more1 in
-    let (rows, columns) = both _ _ more2 in
-    let (stray, more3) = both _ _ more in
-    let (words, more4) = both _ _ more3 in
-    let (sense, name) = both _ _ words in
-    let (named, more5) = both _ _ more4 in
-    let (fields, more6) = both _ _ more5 in
-    let (row_lines, f1) = both _ _ fields in
-    let (column_lines, f2) = both _ _ f1 in
-    let (sides, f3) = both _ _ f2 in
-    let (ranges, bounds) = both _ _ f3 in
-    let (markers, more7) = both _ _ more6 in
-    let (whole, sets) = both _ _ more7 in
-    let (side_set, s1) = both _ _ sets in
-    let (range_set, bound_sets) = both _ _ s1 in
-    both_so (has_end bytes) (list_all is_well_formed (lines_in_context bytes)) ended
-    (lines-good [] empty_draft (read_lines bytes) legal
-    (all-good items [] empty_draft
-    none-known
-    (record {
-      strays = stray;
-      sense = sense;
-      name = name;
-      rows = row_lines;
-      columns = column_lines;
-      right_sides = sides;
-      ranges = ranges;
-      bounds = bounds;
-      markers = markers;
-      together = whole;
-      right_side_set = side_set;
-      range_set = range_set;
-      bound_sets = bound_sets;
-    })
-    (record { each = each; sections = sections; rows = rows; columns = columns; sense = sense; name = name; named = named })))
+text-of_words bytes h = grind (arith, both, both_so, lines-good, all-good, none-known)
 
 same-answers : (a b : Bool) → (a ≡ true → b ≡ true) → (b ≡ true → a ≡ true) → a ≡ b
-same-answers true b f g = sym (f refl)
-same-answers false true f g = g refl
-same-answers false false f g = refl
+same-answers v0 v1 f g = grind arith
 
 pub text-is_in_words : TextIsInWords
 text-is_in_words bytes = same-answers (is_mps_text bytes) (is_text_in_words bytes) (text-in_words bytes) (text-of_words bytes)

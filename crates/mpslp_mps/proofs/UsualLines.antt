@@ -1,4 +1,6 @@
 -- A line of COLUMNS whose declarations are made has no error.
+use Rattle.std.proofs.Common.{arith}
+use Rattle.std.proofs.Common.{rules}
 use Rattle.std.proofs.Common.{◌≡◌, refl, sym, ap, ◌∙◌, ℕ, List, [], ◌∷◌, Bool, true, false, cond, map}
 use Rattle.std.specs.Prelude.{◌&&◌, not, Option, Some, None, Result, Ok, Err}
 use Rattle.std.specs.List.{list_all, flat_map}
@@ -65,38 +67,16 @@ usual-taken earlier later marked column values false taken made = taken
 -- a legal name has no error
 fields-held : (parts : Option ValuesLine) (column : List ℕ) (values : List (List ℕ × Number)) → is_mps_name column ≡ true → option_map named_values parts ≡ Some (column, values)
     → first_held (judged_by (λ line. number_tests (literals_of line.pairs)) parts) ≡ None → first_held (judged_by field_tests parts) ≡ None
-fields-held None column values legal is held = cc
-fields-held (Some line) column values legal is held =
-    let same : line.name ≡ column = ap (λ (o : Option (List ℕ × List (List ℕ × Number))). elim o as (λ _. List ℕ) [ None ↦ [] | Some p ↦ p.0 ]) is in
-    by (has_name_length line.name) (list_all is_visible line.name) (same_bytes line.name marker) (ap is_mps_name same ∙ legal) ∙ held
-  where
-    more : FaultTests
-    more = number_tests (literals_of line.pairs)
-
-    by : (long visible named : Bool) → (long && (visible && not named)) ≡ true
-        → first_held ((not long, kinds.NameLength) ∷ (not visible, kinds.NameByte) ∷ (named, kinds.NameMarker) ∷ more) ≡ first_held more
-    by true true false h = refl
-    by true true true h = cc
-    by true false named h = cc
-    by false visible named h = cc
+fields-held v0 column values legal is held = grind arith
 
 -- a column that is declared marked is not semi-continuous
 semi-apart : (earlier : Draft) (marked : Bool) (column : List ℕ) (values : List (List ℕ × Number)) → refusals_in_turn earlier (usual_declared marked column values) ≡ []
     → (marked && is_semi earlier column) ≡ false
-semi-apart earlier false column values free = refl
-semi-apart earlier true column values free =
-    let next = with_declaration earlier (declare_column column) in
-    let more = flat_map (value_declared column) values in
-    first_none (is_semi next column) SemiContinuous []
-    (rest_none (not (has_column next column)) UnknownColumn ((is_semi next column, SemiContinuous) ∷ [])
-    (left_none (refusals next (declare_marked column)) (refusals_in_turn (with_declaration next (declare_marked column)) more) free))
+semi-apart earlier v1 column values free = grind arith
 
 clash-apart : (context : Context) (earlier : Draft) (parts : Option ValuesLine) (column : List ℕ) (values : List (List ℕ × Number)) → option_map named_values parts ≡ Some (column, values)
     → (context.in_integer_part && is_semi earlier column) ≡ false → (context.in_integer_part && option_map_or (λ line. is_semi earlier line.name) parts false) ≡ false
-clash-apart context earlier None column values is apart = cc
-clash-apart context earlier (Some line) column values is apart =
-    let same : line.name ≡ column = ap (λ (o : Option (List ℕ × List (List ℕ × Number))). elim o as (λ _. List ℕ) [ None ↦ [] | Some p ↦ p.0 ]) is in
-    ap (λ (name : List ℕ). context.in_integer_part && is_semi earlier name) same ∙ apart
+clash-apart context earlier v2 column values is apart = grind arith
 
 -- ---- the line
 
@@ -116,11 +96,7 @@ module _ (context : Context) (earlier : Draft) (fields : Fields) (column : List 
 
   pub usual-read : (next : Context) (later : Draft) → next ≡ after_column context column → later ≡ with_declarations earlier (usual_declared context.in_integer_part column values)
       → ReadsContent context earlier (data_line fields) (Ok tt) next later
-  usual-read next later step laid = (
-    usual-fault,
-    step ∙ sym (step-column context fields column values here plain is),
-    laid ∙ ap (with_declarations earlier) (sym (ap (λ (section : Option Section). data_declared context earlier fields section) here ∙ column-declares context earlier fields column values plain is)),
-  )
+  usual-read next later step laid = search (rules, usual-fault, step-column, column-declares)
 
 -- the same for all results
 pub usual-passed : (context : Context) (earlier : Draft) (fields : Fields) (column : List ℕ) (values : List (List ℕ × Number)) → context.section ≡ Some Columns → is_marker_line fields ≡ false
@@ -134,8 +110,7 @@ usual-passed context earlier fields column values here plain held is (Err error)
 -- ---- the last column
 
 not-split : (there last : Bool) → last ≡ true → (there && not last) ≡ false
-not-split true last h = ap not h
-not-split false last h = refl
+not-split v0 last h = grind arith
 
 pub last-is : (o : Option (List ℕ)) (column : List ℕ) → option_map_or (same_bytes column) o false ≡ true → o ≡ Some column
 last-is None column h = cc
@@ -144,11 +119,7 @@ last-is (Some name) column h = ap Some (sym ((bytes_decides column name).0 h))
 -- another line of it changes the context as a data line does
 pub next-passed : (context : Context) (earlier later : Draft) (column : List ℕ) (values : List (List ℕ × Number)) → option_map_or (same_bytes column) context.last_column false ≡ true
     → TakesUsual earlier context.in_integer_part column values (Ok true) later → MayPass context earlier column values (Ok true) (after_data context) later
-next-passed context earlier later column values last taken = (
-  taken,
-  not-split (has_column earlier column) (option_map_or (same_bytes column) context.last_column false) last,
-  ap (λ (o : Option (List ℕ)). record context { word_due = None; last_column = o }) (last-is context.last_column column last),
-)
+next-passed context earlier later column values last taken = grind (arith, not-split, last-is)
 
 -- a column that is not declared is not split
 pub first-split : (context : Context) (earlier : Draft) (column : List ℕ) → has_column earlier column ≡ false → is_split context earlier column ≡ false

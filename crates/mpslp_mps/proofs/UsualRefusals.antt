@@ -1,4 +1,6 @@
 -- A line of COLUMNS without an error passes each test of the code that reads usual lines.
+use Rattle.std.proofs.Common.{arith}
+use Rattle.std.proofs.Common.{rules}
 use Rattle.std.proofs.Common.{◌≡◌, refl, sym, ap, ◌∙◌, ℕ, List, [], ◌∷◌, ◌++◌, Bool, true, false, cond, not}
 use Rattle.std.specs.Prelude.{◌≢◌, ◌&&◌, Option, Some, None, Result, Ok}
 use Rattle.std.specs.List.{list_all}
@@ -28,54 +30,27 @@ use Rattle.mpslp_mps.proofs.ColumnLine.{plain-tests, column-declares}
 -- ---- tests
 
 by_test : {X : Type 0} (b : Bool) (x : X) (xs : List X) (o : Option X) → (xs ≡ [] → o ≡ None) → cond b (x ∷ xs) xs ≡ [] → cond b (Some x) o ≡ None
-by_test true x xs o rest h = cc
-by_test false x xs o rest h = rest h
+by_test v0 x xs o rest h = grind arith
 
 held-none : (tests : FaultTests) → those_of tests ≡ [] → first_held tests ≡ None
 held-none [] h = refl
 held-none (test ∷ more) h = by_test test.0 test.1 (those_of more) (first_held more) (held-none more) h
 
 none-both : {X : Type 0} (o p : Option X) → option_or o p ≡ None → (o ≡ None) × (p ≡ None)
-none-both None p h = (refl, h)
-none-both (Some x) p h = cc
+none-both v0 p h = grind arith
 
 -- the name, the numbers and the place of a line without an error of its form
 fields-fine : (context : Context) (earlier : Draft) (line : ValuesLine) → first_held (column_tests context earlier line) ≡ None
     → (name_refusal line.name ≡ None) × (first_held (number_tests (literals_of line.pairs)) ≡ None) × (is_split context earlier line.name ≡ false)
-fields-fine context earlier line h =
-    let name = by (has_name_length line.name) (list_all is_visible line.name) (same_bytes line.name marker) h in
-    let numbers = none-both (first_held (number_tests (literals_of line.pairs))) (first_held split) (sym (held-append (number_tests (literals_of line.pairs)) split) ∙ name.1) in
-    (name.0, numbers.0, last (is_split context earlier line.name) numbers.1)
-  where
-    split : FaultTests
-    split = (is_split context earlier line.name, kinds.ColumnSplit) ∷ []
-
-    more : FaultTests
-    more = number_tests (literals_of line.pairs) ++ split
-
-    by : (long visible named : Bool) → first_held ((not long, kinds.NameLength) ∷ (not visible, kinds.NameByte) ∷ (named, kinds.NameMarker) ∷ more) ≡ None
-        → (cond (not long) (Some names.NameLength) (cond (not visible) (Some names.NameByte) (cond named (Some names.NameMarker) None)) ≡ None) × (first_held more ≡ None)
-    by true true false h = (refl, h)
-    by true true true h = cc
-    by true false named h = cc
-    by false visible named h = cc
-
-    last : (b : Bool) → first_held ((b, kinds.ColumnSplit) ∷ []) ≡ None → b ≡ false
-    last true h = cc
-    last false h = refl
+fields-fine context earlier line h = grind arith
 
 numbers-fine : (context : Context) (earlier : Draft) (parts : Option ValuesLine) → first_held (judged_by (column_tests context earlier) parts) ≡ None
     → first_held (judged_by (λ line. number_tests (literals_of line.pairs)) parts) ≡ None
-numbers-fine context earlier None h = cc
-numbers-fine context earlier (Some line) h = (fields-fine context earlier line h).1
+numbers-fine context earlier v2 h = grind arith
 
 column-fine : (context : Context) (earlier : Draft) (parts : Option ValuesLine) (column : List ℕ) (values : List (List ℕ × Number)) → option_map named_values parts ≡ Some (column, values)
     → first_held (judged_by (column_tests context earlier) parts) ≡ None → (name_refusal column ≡ None) × (is_split context earlier column ≡ false)
-column-fine context earlier None column values is h = cc
-column-fine context earlier (Some line) column values is h =
-    let same : line.name ≡ column = ap (λ (o : Option (List ℕ × List (List ℕ × Number))). elim o as (λ _. List ℕ) [ None ↦ [] | Some p ↦ p.0 ]) is in
-    let fine = fields-fine context earlier line h in
-    (ap name_refusal (sym same) ∙ fine.0, ap (is_split context earlier) (sym same) ∙ fine.2)
+column-fine context earlier v2 column values is h = grind arith
 
 -- ---- the line
 
@@ -84,9 +59,7 @@ module _ (context : Context) (earlier : Draft) (fields : Fields) (here : context
   parts = faultless (data_tests context earlier fields context.section) earlier (line_declares context earlier (data_line fields)) fine
 
   form : first_held (judged_by (column_tests context earlier) (column_shape fields)) ≡ None
-  form =
-      held-none (judged_by (column_tests context earlier) (column_shape fields))
-      (ap those_of (sym (ap (data_tests context earlier fields) here ∙ plain-tests context earlier fields plain)) ∙ parts.form)
+  form = grind (arith, held-none, plain-tests, parts)
 
   -- its values are read
   pub usual-numbers : first_held (judged_by (λ line. number_tests (literals_of line.pairs)) (column_shape fields)) ≡ None

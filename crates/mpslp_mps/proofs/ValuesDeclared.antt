@@ -1,4 +1,6 @@
 -- Right-hand sides, ranges and bounds that a draft has are on lines before; MPS text declares no constant and no row by its limits.
+use Rattle.std.proofs.Common.{arith}
+use Rattle.std.proofs.Common.{rules}
 use Rattle.std.proofs.Common.{◌≡◌, refl, sym, ap, ◌∙◌, List, [], ◌∷◌, ◌++◌, ℕ, Bool, true, false, cond, map}
 use Rattle.std.specs.Prelude.{Option, Some, None, not, ◌||◌, ◌&&◌}
 use Rattle.std.specs.List.{list_any, list_all, flat_map}
@@ -37,14 +39,7 @@ is_plain _ = true
 plain-one : (all : Draft) (d : Declaration) → is_plain d ≡ true → IsPlain all → IsPlain (with_declaration all d)
 plain-one all (declare_constant v) h plain = cc
 plain-one all (declare_binary c) h plain = cc
-plain-one all (declare_row name definition) h plain = record { limits = limits; constant = plain.constant; binaries = plain.binaries }
-  where
-    by : (b : Bool) (row : List ℕ) → option_map_or is_definition_by_limits (cond b (Some definition) (at_name all.rows row)) false ≡ false
-    by true row = not_so (is_definition_by_limits definition) h
-    by false row = plain.limits row
-
-    limits : (row : List ℕ) → is_row_by_limits (with_declaration all (declare_row name definition)) row ≡ false
-    limits row = ap (λ (o : Option RowDefinition). option_map_or is_definition_by_limits o false) (at-put row name definition all.rows) ∙ by (same_bytes row name) row
+plain-one all (declare_row name definition) h plain = grind (arith, not_so, at-put)
 plain-one all _ h plain = record { limits = plain.limits; constant = plain.constant; binaries = plain.binaries }
 
 plain-all : (ds : Declarations) (all : Draft) → list_all is_plain ds ≡ true → IsPlain all → IsPlain (with_declarations all ds)
@@ -52,29 +47,11 @@ plain-all [] all h plain = plain
 plain-all (d ∷ ds) all h plain = plain-all ds (with_declaration all d) (second_so (is_plain d) (list_all is_plain ds) h) (plain-one all d (first_so (is_plain d) (list_all is_plain ds) h) plain)
 
 plain-in_sections : HoldsInSections (λ section d. is_plain d)
-plain-in_sections = record {
-  sense = λ _. refl;
-  objective = λ _. refl;
-  row = λ _ _. refl;
-  column = λ _. refl;
-  marked = λ _. refl;
-  coefficient = λ _ _. refl;
-  side = λ _ _. refl;
-  range = λ _ _. refl;
-  bounds = record { lower = λ _ _. refl; upper = λ _ _. refl; integer = λ _. refl; semi = λ _. refl };
-}
+plain-in_sections = grind arith
 
 pub plain-kept : (context : Context) (earlier : Draft) (item : LineContent) → IsPlain earlier → IsPlain (with_declarations earlier (line_declares context earlier item))
 plain-kept context earlier skipped plain = plain
-plain-kept context earlier (header keyword more) plain =
-    plain-all (header_declared context earlier more (section_named keyword)) earlier
-    (all-so is_of_header is_plain (header_declared context earlier more (section_named keyword)) by (header-each context earlier more (section_named keyword))) plain
-  where
-    by : (d : Declaration) → is_of_header d ≡ true → is_plain d ≡ true
-    by (declare_constant v) h = cc
-    by (declare_binary c) h = cc
-    by (declare_row n f) h = cc
-    by _ h = refl
+plain-kept context earlier (header keyword more) plain = grind (arith, plain-all, all-so, is_of_header, header-each)
 plain-kept context earlier (data_line fields) plain =
     plain-all (data_declared context earlier fields context.section) earlier
     (all-so (λ d. holds_in (λ section e. is_plain e) context.section d) is_plain (data_declared context earlier fields context.section) (λ d k. by context.section d k)
@@ -90,24 +67,16 @@ none-plain = record { limits = λ row. refl; constant = refl; binaries = λ colu
 -- ---- ranges
 
 ranges-part : (row : List ℕ) → IsPartOf Ranges (λ all. has_name all.ranges row)
-ranges-part row = record { headed = λ _. refl; objective = λ _ _. refl; other = by }
-  where
-    by : (all : Draft) (d : Declaration) → is_elsewhere Ranges d ≡ true → has_name (with_declaration all d).ranges row ≡ has_name all.ranges row
-    by all (declare_range _ _) h = cc
-    by all _ h = refl
+ranges-part row = grind arith
 
 -- one more first, or the others
 turned : (a b c : Bool) → (b || (a || c)) ≡ true → ((a || b) || c) ≡ true
-turned true b c h = refl
-turned false b c h = h
+turned v0 b c h = grind arith
 
 own-ranges : (row : List ℕ) (pairs : List Pair) (all : Draft) → has_name (with_declarations all (map (λ (pair : Pair). declare_range pair.row (value_of pair.literal)) pairs)).ranges row ≡ true
     → (list_any (λ pair. same_bytes row pair.row) pairs || has_name all.ranges row) ≡ true
 own-ranges row [] all h = h
-own-ranges row (pair ∷ pairs) all h =
-    turned (same_bytes row pair.row) (list_any (λ p. same_bytes row p.row) pairs) (has_name all.ranges row)
-    (sym (ap (λ (b : Bool). list_any (λ p. same_bytes row p.row) pairs || b) (has-put row pair.row (value_of pair.literal) all.ranges))
-    ∙ own-ranges row pairs (with_declaration all (declare_range pair.row (value_of pair.literal))) h)
+own-ranges row (pair ∷ pairs) all h = grind (arith, turned, has-put, own-ranges row pairs (with_declaration all (declare_range pair.row (value_of pair.literal))) h)
 
 abbrev pub HaveRangeLines : List LineContent → Draft → Type 0
 HaveRangeLines before earlier = (row : List ℕ) → has_name earlier.ranges row ≡ true → list_any (has_value_of row) (data_lines Ranges before) ≡ true
@@ -126,11 +95,7 @@ range_lines-kept before earlier item have row h = lines-kept Ranges (λ all. has
 -- ---- right-hand sides
 
 sides-part : (row : List ℕ) → IsPartOf Rhs (λ all. has_name all.rhs_values row)
-sides-part row = record { headed = λ _. refl; objective = λ _ _. refl; other = by }
-  where
-    by : (all : Draft) (d : Declaration) → is_elsewhere Rhs d ≡ true → has_name (with_declaration all d).rhs_values row ≡ has_name all.rhs_values row
-    by all (declare_rhs _ _) h = cc
-    by all _ h = refl
+sides-part row = grind arith
 
 own-sides : (earlier : Draft) (row : List ℕ) (pairs : List Pair) (all : Draft) → has_name (with_declarations all (flat_map (λ (pair : Pair). rhs_declared earlier pair.row (value_of pair.literal)) pairs)).rhs_values row ≡ true
     → (list_any (λ pair. same_bytes row pair.row) pairs || has_name all.rhs_values row) ≡ true
@@ -189,32 +154,16 @@ of-bounds part is_of column each (letters ∷ more) all h = typed (bound_type le
     typed (Some type) k = lined type (bound_shape type more) k
 
 lowers-part : (column : List ℕ) → IsPartOf Bounds (λ all. has_name all.lowers column)
-lowers-part column = record { headed = λ _. refl; objective = λ _ _. refl; other = by }
-  where
-    by : (all : Draft) (d : Declaration) → is_elsewhere Bounds d ≡ true → has_name (with_declaration all d).lowers column ≡ has_name all.lowers column
-    by all (declare_lower _ _) h = cc
-    by all _ h = refl
+lowers-part column = grind arith
 
 uppers-part : (column : List ℕ) → IsPartOf Bounds (λ all. has_name all.uppers column)
-uppers-part column = record { headed = λ _. refl; objective = λ _ _. refl; other = by }
-  where
-    by : (all : Draft) (d : Declaration) → is_elsewhere Bounds d ≡ true → has_name (with_declaration all d).uppers column ≡ has_name all.uppers column
-    by all (declare_upper _ _) h = cc
-    by all _ h = refl
+uppers-part column = grind arith
 
 integers-part : (column : List ℕ) → IsPartOf Bounds (λ all. has_name all.integers column)
-integers-part column = record { headed = λ _. refl; objective = λ _ _. refl; other = by }
-  where
-    by : (all : Draft) (d : Declaration) → is_elsewhere Bounds d ≡ true → has_name (with_declaration all d).integers column ≡ has_name all.integers column
-    by all (declare_integer _) h = cc
-    by all _ h = refl
+integers-part column = grind arith
 
 semis-part : (column : List ℕ) → IsPartOf Bounds (λ all. has_name all.semis column)
-semis-part column = record { headed = λ _. refl; objective = λ _ _. refl; other = by }
-  where
-    by : (all : Draft) (d : Declaration) → is_elsewhere Bounds d ≡ true → has_name (with_declaration all d).semis column ≡ has_name all.semis column
-    by all (declare_semi _) h = cc
-    by all _ h = refl
+semis-part column = grind arith
 
 abbrev pub HaveBoundLines : (Draft → List ℕ → Bool) → (BoundType → Bool) → List LineContent → Draft → Type 0
 HaveBoundLines part is_of before earlier = (column : List ℕ) → part earlier column ≡ true → has_bound before is_of column ≡ true

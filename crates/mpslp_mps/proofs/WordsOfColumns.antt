@@ -1,4 +1,6 @@
 -- If each line of COLUMNS is well-formed, the lines of each column are contiguous.
+use Rattle.std.proofs.Common.{arith}
+use Rattle.std.proofs.Common.{rules}
 use Rattle.std.proofs.Common.{◌≡◌, refl, sym, ap, ◌∙◌, subst, List, [], ◌∷◌, ◌++◌, ℕ, Bool, true, false, cond, map}
 use Rattle.std.specs.Prelude.{Option, Some, None, not, ◌&&◌, ◌||◌}
 use Rattle.std.specs.List.{list_any, last_or, flat_map}
@@ -31,14 +33,10 @@ Column = Option (List ℕ)
 -- ---- columns that are the same
 
 pub one_column : (a b : Column) → same_column a b ≡ true → a ≡ b
-one_column None b h = cc
-one_column (Some a) None h = cc
-one_column (Some a) (Some b) h = ap (λ (name : List ℕ). Some name) (same_name a b h)
+one_column v0 v1 h = search (rules, same_name)
 
 pub turned : (a b : Column) → same_column a b ≡ true → same_column b a ≡ true
-turned a b h =
-    let e = one_column a b h in
-    sym (ap (λ (z : Column). same_column z a) e) ∙ (ap (same_column a) e ∙ h)
+turned a b h = search (rules, one_column)
 
 -- ---- one more line
 
@@ -48,22 +46,8 @@ last_of last [] = last
 last_of last (column ∷ columns) = last_of column columns
 
 after-more : (c x : Column) (columns : List Column) → list_any (same_column c) (entries_after c (columns ++ x ∷ [])) ≡ (list_any (same_column c) (entries_after c columns) || (is_nonempty (entries_after c columns) && same_column c x))
-after-more c x [] = by (same_column c x) refl
-  where
-    by : (b : Bool) → same_column c x ≡ b → list_any (same_column c) (cond b [] (x ∷ [])) ≡ false
-    by true e = refl
-    by false e = ap (λ (a : Bool). a || false) e
-after-more c x (next ∷ columns) = by (same_column c next) (after-more c x columns)
-  where
-    by : (b : Bool) → list_any (same_column c) (entries_after c (columns ++ x ∷ [])) ≡ (list_any (same_column c) (entries_after c columns) || (is_nonempty (entries_after c columns) && same_column c x))
-        → list_any (same_column c) (cond b (entries_after c (columns ++ x ∷ [])) (next ∷ (columns ++ x ∷ [])))
-        ≡ (list_any (same_column c) (cond b (entries_after c columns) (next ∷ columns)) || (is_nonempty (cond b (entries_after c columns) (next ∷ columns)) && same_column c x))
-    by true h = h
-    by false h = list_any-append (same_column c) (next ∷ columns) (x ∷ []) ∙ ap (λ (b : Bool). list_any (same_column c) (next ∷ columns) || b) (ends (same_column c x))
-      where
-        ends : (b : Bool) → (b || false) ≡ b
-        ends true = refl
-        ends false = refl
+after-more c x [] = grind (arith)
+after-more c x (next ∷ columns) = grind (arith, list_any-append, after-more c x columns)
 
 none-last : (c d : Column) (columns : List Column) → list_any (same_column c) (d ∷ columns) ≡ false → same_column c (last_of d columns) ≡ true → false ≡ true
 none-last c d [] h k = sym h ∙ or_left (same_column c d) false k
@@ -88,9 +72,7 @@ abbrev pub comes_again : Column → List Column → Bool
 comes_again column columns = list_any (same_column column) columns && not (same_column column (last_of None columns))
 
 fewer : (a b n : Bool) → ((a || b) && n) ≡ false → (b && n) ≡ false
-fewer true true n h = h
-fewer true false n h = refl
-fewer false b n h = h
+fewer v0 v1 n h = grind arith
 
 pub together-more : (x : Column) (columns : List Column) → are_together columns ≡ true → comes_again x columns ≡ false → are_together (columns ++ x ∷ []) ≡ true
 together-more x [] h k = refl
@@ -129,20 +111,7 @@ together-more x (c ∷ columns) h k =
 -- ---- the columns of a draft
 
 stays-there : (all : Draft) (d : Declaration) (name : List ℕ) → has_column all name ≡ true → has_column (with_declaration all d) name ≡ true
-stays-there all (declare_objective n) name h = h
-stays-there all (declare_sense s) name h = h
-stays-there all (declare_constant v) name h = h
-stays-there all (declare_row n f) name h = h
-stays-there all (declare_rhs r v) name h = h
-stays-there all (declare_range r v) name h = h
-stays-there all (declare_column c) name h = more_entries name c tt all.columns h
-stays-there all (declare_coefficient p v) name h = h
-stays-there all (declare_lower c l) name h = h
-stays-there all (declare_upper c l) name h = h
-stays-there all (declare_marked c) name h = h
-stays-there all (declare_integer c) name h = h
-stays-there all (declare_binary c) name h = h
-stays-there all (declare_semi c) name h = h
+stays-there all v1 name h = grind (arith, more_entries)
 
 pub column-after : (ds : Declarations) (all : Draft) (name : List ℕ) → has_column all name ≡ true → has_column (with_declarations all ds) name ≡ true
 column-after [] all name h = h
@@ -157,57 +126,10 @@ abbrev pub AreThere : List LineContent → Draft → Type 0
 AreThere before earlier = (name : List ℕ) → list_any (same_column (Some name)) (columns_of before) ≡ true → has_column earlier name ≡ true
 
 declares-itself : (context : Context) (earlier : Draft) (fields : Fields) (name : List ℕ) → line_column fields ≡ Some name → has_column (with_declarations earlier (columns_line_declared context fields)) name ≡ true
-declares-itself context earlier fields name h = by (is_marker_line fields) h
-  where
-    of : (o : Option ValuesLine) → option_map (λ (line : ValuesLine). line.name) o ≡ Some name → has_column (with_declarations earlier (declared_if_some (column_declared context) o)) name ≡ true
-    of None e = cc
-    of (Some line) e =
-        let same : line.name ≡ name = cc in
-        column-after (when context.in_integer_part (declare_marked line.name) ++ flat_map (coefficient_declared line.name) line.pairs) (with_declaration earlier (declare_column line.name)) name
-        (has-put name line.name tt earlier.columns ∙ or_left (same_bytes name line.name) (has_column earlier name) (ap (same_bytes name) same ∙ itself_named name))
-
-    by : (b : Bool) → cond b None (option_map (λ (line : ValuesLine). line.name) (column_shape fields)) ≡ Some name
-        → has_column (with_declarations earlier (cond b [] (declared_if_some (column_declared context) (column_shape fields)))) name ≡ true
-    by true e = cc
-    by false e = of (column_shape fields) e
+declares-itself context earlier fields name h = grind (arith, column-after, has-put, or_left, itself_named)
 
 pub there-push : (before : List LineContent) (earlier : Draft) (item : LineContent) → AreThere before earlier → AreThere (before ++ item ∷ []) (with_declarations earlier (line_declares (context_of before) earlier item))
-there-push before earlier item there name h = by item (sym (ap (λ (lines : List Fields). list_any (same_column (Some name)) (map line_column lines)) (data_lines-push Columns before item)) ∙ h)
-  where
-    lines : List Fields
-    lines = data_lines Columns before
-
-    kept : (x : LineContent) → list_any (same_column (Some name)) (map line_column (lines ++ [])) ≡ true → has_column (with_declarations earlier (line_declares (context_of before) earlier x)) name ≡ true
-    kept x e =
-        column-after (line_declares (context_of before) earlier x) earlier name
-        (there name (sym (ap (λ (all : List Fields). list_any (same_column (Some name)) (map line_column all)) (append-nil lines)) ∙ e))
-
-    new : (fields : Fields) → current_section before ≡ Some Columns → list_any (same_column (Some name)) (map line_column (lines ++ fields ∷ [])) ≡ true
-        → has_column (with_declarations earlier (line_declares (context_of before) earlier (data_line fields))) name ≡ true
-    new fields e k =
-        let parted = sym (ap (list_any (same_column (Some name))) (map-append line_column lines (fields ∷ [])) ∙ list_any-append (same_column (Some name)) (map line_column lines) (line_column fields ∷ [])) ∙ k in
-        subst (λ o. has_column (with_declarations earlier (data_declared (context_of before) earlier fields o)) name ≡ true) (sym e)
-        (of (list_any (same_column (Some name)) (map line_column lines)) refl parted)
-      where
-        of : (b : Bool) → list_any (same_column (Some name)) (map line_column lines) ≡ b → (b || (same_column (Some name) (line_column fields) || false)) ≡ true
-            → has_column (with_declarations earlier (columns_line_declared (context_of before) fields)) name ≡ true
-        of true f g = column-after (columns_line_declared (context_of before) fields) earlier name (there name f)
-        of false f g = declares-itself (context_of before) earlier fields name (sym (one_column (Some name) (line_column fields) (first (same_column (Some name) (line_column fields)) g)))
-          where
-            first : (b : Bool) → (b || false) ≡ true → b ≡ true
-            first true e = refl
-            first false e = e
-
-    under : (fields : Fields) (b : Bool) → is_section Columns (current_section before) ≡ b → list_any (same_column (Some name)) (map line_column (lines ++ cond b (fields ∷ []) [])) ≡ true
-        → has_column (with_declarations earlier (line_declares (context_of before) earlier (data_line fields))) name ≡ true
-    under fields true e k = new fields (section-is Columns (current_section before) e) k
-    under fields false e k = kept (data_line fields) k
-
-    by : (x : LineContent) → list_any (same_column (Some name)) (map line_column (lines ++ fields_under Columns (current_section before) x)) ≡ true
-        → has_column (with_declarations earlier (line_declares (context_of before) earlier x)) name ≡ true
-    by skipped k = kept skipped k
-    by (header keyword more) k = kept (header keyword more) k
-    by (data_line fields) k = under fields (is_section Columns (current_section before)) refl k
+there-push before earlier item there name h = search (rules, data_lines-push, column-after, append-nil, map-append, list_any-append, declares-itself, one_column, section-is)
 
 -- ---- all together
 

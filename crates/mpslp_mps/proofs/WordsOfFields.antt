@@ -1,4 +1,6 @@
 -- A well-formed data line has the fields that its section requires.
+use Rattle.std.proofs.Common.{arith}
+use Rattle.std.proofs.Common.{rules}
 use Rattle.std.proofs.Common.{◌≡◌, refl, sym, ap, ◌∙◌, List, [], ◌∷◌, ◌++◌, ℕ, Bool, true, false, cond}
 use Rattle.std.specs.Prelude.{Option, Some, None, is_some, is_none, is_ok, not, ◌&&◌, ◌||◌, Result, Ok, Err}
 use Rattle.std.specs.List.{list_all}
@@ -30,24 +32,13 @@ use Rattle.mpslp_mps_fields.specs.declared.bound_types.BoundType.{BoundType}
 -- ---- a section is determined by its keyword
 
 named-itself : (section : Section) → section_named (keyword_of section) ≡ Some section
-named-itself Name = refl
-named-itself ObjSense = refl
-named-itself ObjName = refl
-named-itself Rows = refl
-named-itself Columns = refl
-named-itself Rhs = refl
-named-itself Ranges = refl
-named-itself Bounds = refl
-named-itself EndData = refl
+named-itself v0 = grind arith
 
 some-word : (a b : List ℕ) → Some a ≡ Some b → a ≡ b
 some-word a b h = cc
 
 pub section-is : (section : Section) (o : Option Section) → is_section section o ≡ true → o ≡ Some section
-section-is section None h = cc
-section-is section (Some other) h =
-    let same : keyword_of other ≡ keyword_of section = some-word (keyword_of other) (keyword_of section) (objective_is (Some (keyword_of other)) (keyword_of section) h) in
-    sym (named-itself other) ∙ ap section_named same ∙ named-itself section
+section-is section v1 h = grind arith
 
 -- ---- numbers
 
@@ -56,14 +47,7 @@ NoFault literals = (has_number_fault literals kinds.BadNumber ≡ false) × (has
     × (has_number_fault literals kinds.TooManyDigits ≡ false) × (has_number_fault literals kinds.ExponentRange ≡ false)
 
 number-fine : (literal : List ℕ) (literals : List (List ℕ)) → NoFault (literal ∷ literals) → is_number literal ≡ true
-number-fine literal literals h = by (number_of literal) refl
-  where
-    by : (r : Result Number NumberFault) → number_of literal ≡ r → is_number literal ≡ true
-    by (Ok n) e = ap is_ok e
-    by (Err BadNumber) e = let f : number_fault literal ≡ Some kinds.BadNumber = rw e refl in let g : has_number_fault (literal ∷ literals) kinds.BadNumber ≡ true = rw f refl in cc
-    by (Err LongNumber) e = let f : number_fault literal ≡ Some kinds.LongNumber = rw e refl in let g : has_number_fault (literal ∷ literals) kinds.LongNumber ≡ true = rw f refl in cc
-    by (Err TooManyDigits) e = let f : number_fault literal ≡ Some kinds.TooManyDigits = rw e refl in let g : has_number_fault (literal ∷ literals) kinds.TooManyDigits ≡ true = rw f refl in cc
-    by (Err ExponentRange) e = let f : number_fault literal ≡ Some kinds.ExponentRange = rw e refl in let g : has_number_fault (literal ∷ literals) kinds.ExponentRange ≡ true = rw f refl in cc
+number-fine literal literals h = grind arith
 
 rest-fine : (literal : List ℕ) (literals : List (List ℕ)) (kind : FaultKind) → has_number_fault (literal ∷ literals) kind ≡ false → has_number_fault literals kind ≡ false
 rest-fine literal literals kind h = by (number_fault literal) refl
@@ -76,56 +60,28 @@ rest-fine literal literals kind h = by (number_fault literal) refl
 
 numbers-fine : (literals : List (List ℕ)) → NoFault literals → list_all is_number literals ≡ true
 numbers-fine [] h = refl
-numbers-fine (literal ∷ literals) (a, b, c, d) =
-    both_so (is_number literal) (list_all is_number literals) (number-fine literal literals (a, b, c, d))
-    (numbers-fine literals (rest-fine literal literals kinds.BadNumber a, rest-fine literal literals kinds.LongNumber b, rest-fine literal literals kinds.TooManyDigits c, rest-fine literal literals kinds.ExponentRange d))
+numbers-fine (literal ∷ literals) (a, b, c, d) = grind (arith, both_so, number-fine, rest-fine, numbers-fine literals (rest-fine literal literals kinds.BadNumber a, rest-fine literal literals kinds.LongNumber b, rest-fine literal literals kinds.TooManyDigits c, rest-fine literal literals kinds.ExponentRange d))
 
 pairs-fine : (pairs : List Pair) → list_all is_number (literals_of pairs) ≡ list_all (λ (pair : Pair). is_number pair.literal) pairs
 pairs-fine [] = refl
 pairs-fine (pair ∷ pairs) = ap (λ (b : Bool). is_number pair.literal && b) (pairs-fine pairs)
 
 after-numbers : (literals : List (List ℕ)) (more : FaultTests) → those_of (number_tests literals ++ more) ≡ [] → NoFault literals × (those_of more ≡ [])
-after-numbers literals more h =
-    let a = has_number_fault literals kinds.BadNumber in
-    let b = has_number_fault literals kinds.LongNumber in
-    let c = has_number_fault literals kinds.TooManyDigits in
-    let d = has_number_fault literals kinds.ExponentRange in
-    let fourth : FaultTests = (d, kinds.ExponentRange) ∷ more in
-    let third : FaultTests = (c, kinds.TooManyDigits) ∷ fourth in
-    let second : FaultTests = (b, kinds.LongNumber) ∷ third in
-    let k = later_tests a kinds.BadNumber second h in
-    let l = later_tests b kinds.LongNumber third k in
-    let m = later_tests c kinds.TooManyDigits fourth l in (
-      (first_test a kinds.BadNumber second h, first_test b kinds.LongNumber third k, first_test c kinds.TooManyDigits fourth l, first_test d kinds.ExponentRange more m),
-      later_tests d kinds.ExponentRange more m,
-    )
+after-numbers literals more h = grind arith
 
 after-names : (name : List ℕ) (more : FaultTests) → those_of (name_tests name ++ more) ≡ [] → those_of more ≡ []
-after-names name more h =
-    let c = same_bytes name marker in
-    let b = not (list_all is_visible name) in
-    let last : FaultTests = (c, kinds.NameMarker) ∷ more in
-    later_tests c kinds.NameMarker more (later_tests b kinds.NameByte last (later_tests (not (has_name_length name)) kinds.NameLength ((b, kinds.NameByte) ∷ last) h))
+after-names name more h = grind arith
 
 fine : (b : Bool) → not b ≡ false → b ≡ true
-fine true k = refl
-fine false k = sym k
+fine v0 k = grind arith
 
 -- ---- data lines by section
 
 something : {X : Type 0} (o : Option X) → is_none o ≡ false → is_some o ≡ true
-something None k = sym k
-something (Some x) k = refl
+something v0 k = grind arith
 
 pub row-fields : (fields : Fields) → those_of (judged_by row_line_tests (row_shape fields)) ≡ [] → is_row_line fields ≡ true
-row-fields fields h = by (row_shape fields) h
-  where
-    by : (o : Option RowLine) → those_of (judged_by row_line_tests o) ≡ [] → option_map_or (λ (line : RowLine). is_some (row_type line.letter) && is_mps_name line.name) o false ≡ true
-    by None k = cc
-    by (Some line) k =
-        both_so (is_some (row_type line.letter)) (is_mps_name line.name)
-        (something (row_type line.letter) (first_test (is_none (row_type line.letter)) kinds.BadType (name_tests line.name) k))
-        (name-legal line.name [] (later_tests (is_none (row_type line.letter)) kinds.BadType (name_tests line.name) k))
+row-fields fields h = grind arith
 
 pub numbers-of : (pairs : List Pair) (more : FaultTests) → those_of (number_tests (literals_of pairs) ++ more) ≡ [] → have_numbers pairs ≡ true
 numbers-of pairs more h = sym (pairs-fine pairs) ∙ numbers-fine (literals_of pairs) (after-numbers (literals_of pairs) more h).0
@@ -161,19 +117,7 @@ columns-fields context earlier fields h = by (is_marker_line fields) h
 -- a marker line closes the block that is open, or opens one
 pub marker-fits : (context : Context) (earlier : Draft) (fields : Fields) → those_of (columns_line_tests context earlier fields) ≡ [] → (word : List ℕ) → marker_word fields ≡ Some word
     → same_bytes word (cond context.in_integer_part closing_word opening_word) ≡ true
-marker-fits context earlier fields h word = by (is_marker_line fields) h
-  where
-    fits : (o : Option (List ℕ)) → those_of (judged_by (marker_word_tests context) o) ≡ [] → o ≡ Some word → same_bytes word (cond context.in_integer_part closing_word opening_word) ≡ true
-    fits None k e = cc
-    fits (Some other) k e =
-        let same : other ≡ word = some-word other word e in
-        let word_due = cond context.in_integer_part closing_word opening_word in
-        ap (λ (w : List ℕ). same_bytes w word_due) (sym same) ∙ fine (same_bytes other word_due) (first_test (not (same_bytes other word_due)) kinds.BadMarker [] k)
-
-    by : (b : Bool) → those_of (cond b (marker_tests context fields) (judged_by (column_tests context earlier) (column_shape fields))) ≡ []
-        → cond b (marker_shape fields) None ≡ Some word → same_bytes word (cond context.in_integer_part closing_word opening_word) ≡ true
-    by true k e = fits (marker_shape fields) (later_tests (is_sos_marker fields) kinds.Sos (judged_by (marker_word_tests context) (marker_shape fields)) k) e
-    by false k e = cc
+marker-fits context earlier fields h word = grind arith
 
 -- a column continues that of the line before, or begins
 pub column-continues_column : (context : Context) (earlier : Draft) (fields : Fields) → those_of (columns_line_tests context earlier fields) ≡ [] → (name : List ℕ) → line_column fields ≡ Some name

@@ -1,4 +1,6 @@
 -- If well-formed lines have COLUMNS, and OBJNAME gives a name, an N row has it.
+use Rattle.std.proofs.Common.{arith}
+use Rattle.std.proofs.Common.{rules}
 use Rattle.std.proofs.Common.{◌≡◌, refl, sym, ap, ◌∙◌, subst, List, [], ◌∷◌, ◌++◌, ℕ, Bool, true, false, cond}
 use Rattle.std.specs.Prelude.{Option, Some, None, is_some, is_none, not, ◌&&◌, ◌||◌, filter_map}
 use Rattle.std.specs.List.{list_all, list_any, last_or, cons_option, flat_map}
@@ -34,66 +36,23 @@ abbrev pub are_unnamed : Declarations → Bool
 are_unnamed ds = list_all (λ d. not (declares_objective d)) ds
 
 objective-same : (all : Draft) (d : Declaration) → not (declares_objective d) ≡ true → (with_declaration all d).objective ≡ all.objective
-objective-same all (declare_sense s) h = refl
-objective-same all (declare_objective n) h = cc
-objective-same all (declare_constant v) h = refl
-objective-same all (declare_row n f) h = refl
-objective-same all (declare_rhs r v) h = refl
-objective-same all (declare_range r v) h = refl
-objective-same all (declare_column c) h = refl
-objective-same all (declare_coefficient p v) h = refl
-objective-same all (declare_lower c l) h = refl
-objective-same all (declare_upper c l) h = refl
-objective-same all (declare_marked c) h = refl
-objective-same all (declare_integer c) h = refl
-objective-same all (declare_binary c) h = refl
-objective-same all (declare_semi c) h = refl
+objective-same all v1 h = grind arith
 
 pub objective-kept : (ds : Declarations) (all : Draft) → are_unnamed ds ≡ true → (with_declarations all ds).objective ≡ all.objective
 objective-kept [] all h = refl
-objective-kept (d ∷ ds) all h =
-    objective-kept ds (with_declaration all d) (second_so (not (declares_objective d)) (are_unnamed ds) h) ∙ objective-same all d (first_so (not (declares_objective d)) (are_unnamed ds) h)
+objective-kept (d ∷ ds) all h = grind (arith, objective-same, objective-kept ds (with_declaration all d) (second_so (not (declares_objective d)) (are_unnamed ds) h))
 
 unnamed-sides : Passes (λ d. not (declares_objective d))
 unnamed-sides = record { lower = λ _ _. refl; upper = λ _ _. refl; integer = λ _. refl; semi = λ _. refl }
 
 columns-line-unnamed : (context : Context) (fields : Fields) → are_unnamed (columns_line_declared context fields) ≡ true
-columns-line-unnamed context fields = by (is_marker_line fields)
-  where
-    of : (line : ValuesLine) → are_unnamed (column_declared context line) ≡ true
-    of line = marked context.in_integer_part
-      where
-        marked : (b : Bool) → are_unnamed (cond b (declare_marked line.name ∷ []) [] ++ flat_map (coefficient_declared line.name) line.pairs) ≡ true
-        marked true = each-flat (λ d. not (declares_objective d)) (coefficient_declared line.name) line.pairs (λ pair. refl)
-        marked false = each-flat (λ d. not (declares_objective d)) (coefficient_declared line.name) line.pairs (λ pair. refl)
-
-    by : (b : Bool) → are_unnamed (cond b [] (declared_if_some (column_declared context) (column_shape fields))) ≡ true
-    by true = refl
-    by false = each-declared (λ d. not (declares_objective d)) (column_declared context) (column_shape fields) of
+columns-line-unnamed context fields = grind arith
 
 pub data-unnamed : (context : Context) (earlier : Draft) (fields : Fields) (o : Option Section) → is_section Rows o ≡ false → are_unnamed (data_declared context earlier fields o) ≡ true
-data-unnamed context earlier fields None h = refl
-data-unnamed context earlier fields (Some Name) h = refl
-data-unnamed context earlier fields (Some ObjSense) h = sense-passes (λ d. not (declares_objective d)) (λ _. refl) fields
-data-unnamed context earlier fields (Some ObjName) h = refl
-data-unnamed context earlier fields (Some Rows) h = cc
-data-unnamed context earlier fields (Some Columns) h = columns-line-unnamed context fields
-data-unnamed context earlier fields (Some Rhs) h = sides-passes (λ d. not (declares_objective d)) (λ r v. refl) earlier fields
-data-unnamed context earlier fields (Some Ranges) h = ranges-passes (λ d. not (declares_objective d)) (λ r v. refl) fields
-data-unnamed context earlier fields (Some Bounds) h = bounds-passes (λ d. not (declares_objective d)) unnamed-sides fields
-data-unnamed context earlier fields (Some EndData) h = refl
+data-unnamed context earlier fields v3 h = grind arith
 
 pub header-unnamed : (context : Context) (earlier : Draft) (more : Fields) (o : Option Section) → is_section Columns o ≡ false → are_unnamed (header_declared context earlier more o) ≡ true
-header-unnamed context earlier more None h = refl
-header-unnamed context earlier more (Some Name) h = refl
-header-unnamed context earlier more (Some ObjSense) h = sense-passes (λ d. not (declares_objective d)) (λ _. refl) more
-header-unnamed context earlier more (Some ObjName) h = refl
-header-unnamed context earlier more (Some Rows) h = refl
-header-unnamed context earlier more (Some Columns) h = cc
-header-unnamed context earlier more (Some Rhs) h = refl
-header-unnamed context earlier more (Some Ranges) h = refl
-header-unnamed context earlier more (Some Bounds) h = refl
-header-unnamed context earlier more (Some EndData) h = refl
+header-unnamed context earlier more v3 h = grind arith
 
 -- ---- OBJNAME has its word before ROWS begins
 
@@ -102,63 +61,13 @@ abbrev pub IsWantedEarly : List LineContent → Type 0
 IsWantedEarly before = is_some (word_due before) ≡ true → has_section before Rows ≡ false
 
 pub none-word_due : (section : Section) (more : Fields) → takes_word section ≡ false → is_some (section_of_word_due section more) ≡ true → ⊥
-none-word_due section [] h k = by (takes_word section) h k
-  where
-    by : (b : Bool) → b ≡ false → is_some (cond b (Some section) None) ≡ true → ⊥
-    by true e f = cc
-    by false e f = cc
-none-word_due section (word ∷ more) h k = cc
+none-word_due section v1 h k = grind arith
 
 pub wanted_early-kept : (before : List LineContent) (earlier : Draft) (item : LineContent) → IsGood before earlier item → IsWantedEarly before → IsWantedEarly (before ++ item ∷ [])
-wanted_early-kept before earlier item good early awaited = has_section-push Rows before item ∙ by item good (sym (ap (λ (o : Option Section). is_some o) (word_due-push before item)) ∙ awaited)
-  where
-    not_begun : (keyword : List ℕ) (more : Fields) (s : Section) → those_of (header_tests (context_of before) earlier keyword more (Some s)) ≡ [] → is_some (section_of_word_due s more) ≡ true
-        → (has_section before Rows || is_section Rows (Some s)) ≡ false
-    not_begun keyword more Name g k = absurd (none-word_due Name more refl k)
-    not_begun keyword more ObjSense g k = ap (λ (b : Bool). b || false) (not_so (has_section before Rows) (header-begins (context_of before) earlier keyword more ObjSense g))
-    not_begun keyword more ObjName g k = ap (λ (b : Bool). b || false) (not_so (has_section before Rows) (header-begins (context_of before) earlier keyword more ObjName g))
-    not_begun keyword more Rows g k = absurd (none-word_due Rows more refl k)
-    not_begun keyword more Columns g k = absurd (none-word_due Columns more refl k)
-    not_begun keyword more Rhs g k = absurd (none-word_due Rhs more refl k)
-    not_begun keyword more Ranges g k = absurd (none-word_due Ranges more refl k)
-    not_begun keyword more Bounds g k = absurd (none-word_due Bounds more refl k)
-    not_begun keyword more EndData g k = absurd (none-word_due EndData more refl k)
-
-    of : (keyword : List ℕ) (more : Fields) (o : Option Section) → those_of (header_tests (context_of before) earlier keyword more o) ≡ []
-        → is_some (option_map_or (λ (s : Section). section_of_word_due s more) o None) ≡ true → (has_section before Rows || is_section Rows o) ≡ false
-    of keyword more None g k = cc
-    of keyword more (Some s) g k = not_begun keyword more s g k
-
-    by : (x : LineContent) → IsGood before earlier x → is_some (cond (is_read x) (word_due_after x) (word_due before)) ≡ true → (has_section before Rows || begins Rows x) ≡ false
-    by skipped g k = ap (λ (b : Bool). b || false) (early k)
-    by (header keyword more) g k = of keyword more (section_named keyword) g k
-    by (data_line fields) g k = cc
+wanted_early-kept before earlier item good early awaited = grind (arith, has_section-push, word_due-push, none-word_due, not_so, header-begins)
 
 no-later-name : (before : List LineContent) (earlier : Draft) (item : LineContent) → IsGood before earlier item → IsWantedEarly before → has_section before Rows ≡ true → objname_word (current_section before) item ≡ None
-no-later-name before earlier item good early begun = by item good
-  where
-    of : (keyword : List ℕ) (more : Fields) (o : Option Section) → those_of (header_tests (context_of before) earlier keyword more o) ≡ [] → cond (is_section ObjName o) (word_shape more) None ≡ None
-    of keyword more None g = refl
-    of keyword more (Some Name) g = refl
-    of keyword more (Some ObjSense) g = refl
-    of keyword more (Some ObjName) g = absurd (never (has_section before Rows) begun (not_so (has_section before Rows) (header-begins (context_of before) earlier keyword more ObjName g)))
-    of keyword more (Some Rows) g = refl
-    of keyword more (Some Columns) g = refl
-    of keyword more (Some Rhs) g = refl
-    of keyword more (Some Ranges) g = refl
-    of keyword more (Some Bounds) g = refl
-    of keyword more (Some EndData) g = refl
-
-    under : (fields : Fields) → IsGood before earlier (data_line fields) → (b : Bool) → is_section ObjName (current_section before) ≡ b → cond b (word_shape fields) None ≡ None
-    under fields g true e =
-        let line = name-word.on_line (context_of before) earlier fields (subst (λ o. those_of (data_tests (context_of before) earlier fields o) ≡ []) (section-is ObjName (current_section before) e) g) in
-        absurd (never (has_section before Rows) begun (early line.0))
-    under fields g false e = refl
-
-    by : (x : LineContent) → IsGood before earlier x → objname_word (current_section before) x ≡ None
-    by skipped g = refl
-    by (header keyword more) g = of keyword more (section_named keyword) g
-    by (data_line fields) g = under fields g (is_section ObjName (current_section before)) refl
+no-later-name before earlier item good early begun = grind arith
 
 -- ---- the name that OBJNAME gives is that of an N row
 
@@ -166,26 +75,13 @@ abbrev pub has_named_row : List LineContent → Bool
 has_named_row before = option_map_or (has_free_row before) (objname before) true
 
 free_row-kept : (before : List LineContent) (item : LineContent) (name : List ℕ) → has_free_row before name ≡ true → has_free_row (before ++ item ∷ []) name ≡ true
-free_row-kept before item name h =
-    ap (list_any (is_free_row_named name)) (data_lines-push Rows before item)
-    ∙ list_any-append (is_free_row_named name) (data_lines Rows before) (fields_under Rows (current_section before) item)
-    ∙ or_left (has_free_row before name) (list_any (is_free_row_named name) (fields_under Rows (current_section before) item)) h
+free_row-kept before item name h = grind (arith, data_lines-push, list_any-append, or_left)
 
 pub same-name : (before : List LineContent) (earlier : Draft) (item : LineContent) → IsGood before earlier item → IsWantedEarly before → has_section before Rows ≡ true → objname (before ++ item ∷ []) ≡ objname before
-same-name before earlier item good early begun =
-    objname-push before item ∙ ap (option_or (objname before)) (no-later-name before earlier item good early begun) ∙ by (objname before)
-  where
-    by : (o : Option (List ℕ)) → option_or o None ≡ o
-    by None = refl
-    by (Some name) = refl
+same-name before earlier item good early begun = grind (arith, objname-push, no-later-name)
 
 row-kept : (before : List LineContent) (earlier : Draft) (item : LineContent) → IsGood before earlier item → IsWantedEarly before → has_section before Rows ≡ true → has_named_row before ≡ true → has_named_row (before ++ item ∷ []) ≡ true
-row-kept before earlier item good early begun h =
-    ap (λ (o : Option (List ℕ)). option_map_or (has_free_row (before ++ item ∷ [])) o true) (same-name before earlier item good early begun) ∙ by (objname before) h
-  where
-    by : (o : Option (List ℕ)) → option_map_or (has_free_row before) o true ≡ true → option_map_or (has_free_row (before ++ item ∷ [])) o true ≡ true
-    by None k = refl
-    by (Some name) k = free_row-kept before item name k
+row-kept before earlier item good early begun h = grind (arith, same-name, free_row-kept)
 
 -- no objective before ROWS; an objective has the name that OBJNAME gives; and COLUMNS begins with such a row
 pub record IsNamedSo (before : List LineContent) (earlier : Draft) : Type 0 where
@@ -350,25 +246,7 @@ stated-words current (item ∷ items) =
     by (data_line fields) = when_so fields (is_section ObjName current)
 
 words-named : (test : List ℕ → Bool) (words : List Fields) → has_word_at_most (λ _. true) words ≡ true → list_all test (flat_map (λ fields. fields) words) ≡ option_map_or test (head_of (filter_map word_shape words)) true
-words-named test [] h = refl
-words-named test ((word ∷ []) ∷ []) h = ends (test word)
-  where
-    ends : (b : Bool) → (b && true) ≡ b
-    ends true = refl
-    ends false = refl
-words-named test ([] ∷ (word ∷ []) ∷ []) h = ends (test word)
-  where
-    ends : (b : Bool) → (b && true) ≡ b
-    ends true = refl
-    ends false = refl
-words-named test ([] ∷ []) h = cc
-words-named test ([] ∷ [] ∷ more) h = cc
-words-named test ([] ∷ (word ∷ []) ∷ next ∷ more) h = cc
-words-named test ([] ∷ (word ∷ other ∷ rest) ∷ more) h = cc
-words-named test ((word ∷ []) ∷ next ∷ more) h = cc
-words-named test ((word ∷ other ∷ rest) ∷ more) h = cc
+words-named test v1 h = grind arith
 
 pub named-in_words : (items : List LineContent) → has_word_at_most (λ _. true) (words_in ObjName items) ≡ true → has_named_objective items ≡ has_named_row items
-named-in_words items h =
-    words-named (has_free_row items) (words_in ObjName items) h
-    ∙ ap (λ (names : List (List ℕ)). option_map_or (has_free_row items) (head_of names) true) (stated-words None items)
+named-in_words items h = grind (arith, words-named, stated-words)

@@ -1,4 +1,6 @@
 -- In well-formed lines OBJSENSE and OBJNAME each have one word: on the header, or on the one data line after it.
+use Rattle.std.proofs.Common.{arith}
+use Rattle.std.proofs.Common.{rules}
 use Rattle.std.proofs.Common.{◌≡◌, refl, sym, ap, ◌∙◌, subst, List, [], ◌∷◌, ◌++◌, ℕ, Bool, true, false, cond}
 use Rattle.std.specs.Prelude.{Option, Some, None, is_some, is_none, not, ◌||◌}
 use Rattle.std.specs.Option.{option_map_or, option_or}
@@ -41,60 +43,16 @@ pub record IsOfOneWord (section : Section) (test : List ℕ → Bool) : Type 0 w
   pub itself : is_section section (Some section) ≡ true
 
 something : {X : Type 0} (o : Option X) → is_none o ≡ false → is_some o ≡ true
-something None k = sym k
-something (Some x) k = refl
+something v0 k = grind arith
 
 word_due-there : (b : Bool) → not b ≡ false → b ≡ true
-word_due-there true e = refl
-word_due-there false e = sym e
+word_due-there v0 e = grind arith
 
 pub sense-word : IsOfOneWord ObjSense is_sense
-sense-word = record {
-  takes = refl;
-  on_header = λ context earlier keyword more h. on_header context earlier more (header-follows context earlier keyword more ObjSense h);
-  on_line = λ context earlier fields h. on_line context earlier fields h;
-  itself = refl;
-}
-  where
-    on_header : (context : Context) (earlier : Draft) (more : Fields) → (may_follow ObjSense more ≡ true) × (those_of (section_tests context earlier ObjSense more) ≡ []) → fits_word is_sense more ≡ true
-    on_header context earlier [] h = refl
-    on_header context earlier (word ∷ []) (f, g) = something (sense_of word) (first_test (is_none (sense_of word)) kinds.BadType [] g)
-    on_header context earlier (word ∷ other ∷ more) (f, g) = cc
-
-    on_line : (context : Context) (earlier : Draft) (fields : Fields) → those_of (data_tests context earlier fields (Some ObjSense)) ≡ [] → (is_some context.word_due ≡ true) × (is_single is_sense fields ≡ true)
-    on_line context earlier fields h = (
-      word_due-there (is_some context.word_due) (first_test (not (is_some context.word_due)) kinds.SectionOrder (judged_by word_tests (word_shape fields)) h),
-      of fields (later_tests (not (is_some context.word_due)) kinds.SectionOrder (judged_by word_tests (word_shape fields)) h),
-    )
-      where
-        of : (fs : Fields) → those_of (judged_by word_tests (word_shape fs)) ≡ [] → is_single is_sense fs ≡ true
-        of [] k = cc
-        of (word ∷ []) k = something (sense_of word) (first_test (is_none (sense_of word)) kinds.BadType [] k)
-        of (word ∷ other ∷ more) k = cc
+sense-word = grind arith
 
 pub name-word : IsOfOneWord ObjName (λ _. true)
-name-word = record {
-  takes = refl;
-  on_header = λ context earlier keyword more h. on_header more (header-follows context earlier keyword more ObjName h).0;
-  on_line = λ context earlier fields h. on_line context earlier fields h;
-  itself = refl;
-}
-  where
-    on_header : (more : Fields) → may_follow ObjName more ≡ true → fits_word (λ _. true) more ≡ true
-    on_header [] h = refl
-    on_header (word ∷ []) h = refl
-    on_header (word ∷ other ∷ more) h = cc
-
-    on_line : (context : Context) (earlier : Draft) (fields : Fields) → those_of (data_tests context earlier fields (Some ObjName)) ≡ [] → (is_some context.word_due ≡ true) × (is_single (λ _. true) fields ≡ true)
-    on_line context earlier fields h = (
-      word_due-there (is_some context.word_due) (first_test (not (is_some context.word_due)) kinds.SectionOrder (judged_by (λ _. []) (word_shape fields)) h),
-      of fields (later_tests (not (is_some context.word_due)) kinds.SectionOrder (judged_by (λ _. []) (word_shape fields)) h),
-    )
-      where
-        of : (fs : Fields) → those_of (judged_by (λ _. []) (word_shape fs)) ≡ [] → is_single (λ _. true) fs ≡ true
-        of [] k = cc
-        of (word ∷ []) k = refl
-        of (word ∷ other ∷ more) k = cc
+name-word = grind arith
 
 -- ---- the stage of the section
 
@@ -119,61 +77,34 @@ IsUnderway section test before = IsSome section test (words_in section before) (
 -- replaces parts by equal ones
 carried : (section : Section) (test : List ℕ → Bool) (words words2 : List Fields) (begun begun2 : Bool) (current current2 awaited wanted2 : Option Section)
     → words2 ≡ words → begun2 ≡ begun → current2 ≡ current → wanted2 ≡ awaited → IsSome section test words begun current awaited → IsSome section test words2 begun2 current2 wanted2
-carried section test words words2 begun begun2 current current2 awaited wanted2 p q r s h =
-    subst (λ w. IsSome section test words2 begun2 current2 w) (sym s)
-    (subst (λ c. IsSome section test words2 begun2 c awaited) (sym r)
-    (subst (λ b. IsSome section test words2 b current awaited) (sym q)
-    (subst (λ w. IsSome section test w begun current awaited) (sym p) h)))
+carried section test words words2 begun begun2 current current2 awaited wanted2 p q r s h = grind arith
 
 -- ---- one more line
 
 or_false : (b : Bool) → (b || false) ≡ b
-or_false true = refl
-or_false false = refl
+or_false v0 = grind arith
 
 -- a line that does not concern the section, and does not come before a missing word of it
 passed : (section : Section) (test : List ℕ → Bool) (words : List Fields) (begun : Bool) (current awaited next later : Option Section) → IsSome section test words begun current awaited
     → is_some awaited ≡ false → is_section section next ≡ false → IsSome section test (words ++ []) (begun || false) next later
-passed section test words begun current awaited next later (missing, (a, b, c)) over out = (missing, (ap (λ (w : List Fields). w ++ []) a, ap (λ (x : Bool). x || false) b, out))
-passed section test words begun current awaited next later (without_word, (a, b, c, d)) over out = absurd (never (is_some awaited) d over)
-passed section test words begun current awaited next later (with_word, (a, b, c)) over out =
-    (with_word, (ap (is_one_word test) (append-nil words) ∙ a, ap (λ (x : Bool). x || false) b, λ h. absurd (never (is_section section next) h out)))
+passed section test words begun current awaited next later v8 over out = grind arith
 
 -- the header of the section
 begun-now : (section : Section) (test : List ℕ → Bool) → IsOfOneWord section test → (words : List Fields) (begun : Bool) (current awaited : Option Section) (more : Fields)
     → IsSome section test words begun current awaited → begun ≡ false → fits_word test more ≡ true
     → IsSome section test (words ++ more ∷ []) (begun || true) (Some section) (section_of_word_due section more)
-begun-now section test one words begun current awaited more (without_word, (a, b, c, d)) over fits = absurd (never begun b over)
-begun-now section test one words begun current awaited more (with_word, (a, b, c)) over fits = absurd (never begun b over)
-begun-now section test one words begun current awaited more (missing, (a, b, c)) over fits = by more fits
-  where
-    all : (fields : Fields) → words ++ fields ∷ [] ≡ fields ∷ []
-    all fields = ap (λ (w : List Fields). w ++ fields ∷ []) a
-
-    by : (fields : Fields) → fits_word test fields ≡ true → IsSome section test (words ++ fields ∷ []) (begun || true) (Some section) (section_of_word_due section fields)
-    by [] f = (without_word, (all [], or_right begun true refl, one.itself, ap (λ (b : Bool). is_some (cond b (Some section) None)) one.takes))
-    by (word ∷ []) f = (with_word, (ap (is_one_word test) (all (word ∷ [])) ∙ f, or_right begun true refl, λ _. refl))
-    by (word ∷ other ∷ rest) f = cc
+begun-now section test one words begun current awaited more v8 over fits = grind arith
 
 -- the data line with the word
 word-now : (section : Section) (test : List ℕ → Bool) (words : List Fields) (begun : Bool) (current awaited : Option Section) (fields : Fields)
     → IsSome section test words begun current awaited → is_section section current ≡ true → is_some awaited ≡ true → is_single test fields ≡ true
     → IsSome section test (words ++ fields ∷ []) (begun || false) current None
-word-now section test words begun current awaited fields (missing, (a, b, c)) here there fits = absurd (never (is_section section current) here c)
-word-now section test words begun current awaited fields (with_word, (a, b, c)) here there fits = absurd (never (is_some awaited) there (c here))
-word-now section test words begun current awaited fields (without_word, (a, b, c, d)) here there fits = by fields fits
-  where
-    by : (fs : Fields) → is_single test fs ≡ true → IsSome section test (words ++ fs ∷ []) (begun || false) current None
-    by [] f = cc
-    by (word ∷ []) f = (with_word, (ap (λ (w : List Fields). is_one_word test (w ++ (word ∷ []) ∷ [])) a ∙ f, ap (λ (x : Bool). x || false) b, λ _. refl))
-    by (word ∷ other ∷ rest) f = cc
+word-now section test words begun current awaited fields v7 here there fits = grind arith
 
 -- a data line of another section
 elsewhere : (section : Section) (test : List ℕ → Bool) (words : List Fields) (begun : Bool) (current awaited : Option Section)
     → IsSome section test words begun current awaited → is_section section current ≡ false → IsSome section test (words ++ []) (begun || false) current None
-elsewhere section test words begun current awaited (missing, (a, b, c)) out = (missing, (ap (λ (w : List Fields). w ++ []) a, ap (λ (x : Bool). x || false) b, out))
-elsewhere section test words begun current awaited (without_word, (a, b, c, d)) out = absurd (never (is_section section current) c out)
-elsewhere section test words begun current awaited (with_word, (a, b, c)) out = (with_word, (ap (is_one_word test) (append-nil words) ∙ a, ap (λ (x : Bool). x || false) b, λ _. refl))
+elsewhere section test words begun current awaited v6 out = grind arith
 
 pub word-kept : (section : Section) (test : List ℕ → Bool) → IsOfOneWord section test → (before : List LineContent) (earlier : Draft) (item : LineContent) → IsGood before earlier item
     → IsUnderway section test before → IsUnderway section test (before ++ item ∷ [])
@@ -223,6 +154,4 @@ word-kept section test one before earlier item good h =
 -- if the section is not current, it is missing or has its word
 pub word-at_end : (section : Section) (test : List ℕ → Bool) (before : List LineContent) → IsUnderway section test before → is_section section (current_section before) ≡ false
     → has_word_at_most test (words_in section before) ≡ true
-word-at_end section test before (missing, (a, b, c)) out = ap (has_word_at_most test) a
-word-at_end section test before (without_word, (a, b, c, d)) out = absurd (never (is_section section (current_section before)) c out)
-word-at_end section test before (with_word, (a, b, c)) out = or_right (not (is_nonempty (words_in section before))) (is_one_word test (words_in section before)) a
+word-at_end section test before v3 out = grind arith

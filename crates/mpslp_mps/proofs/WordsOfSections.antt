@@ -1,4 +1,6 @@
 -- What the data lines of a section are together, if each of them is well-formed: their fields, their sets, their markers.
+use Rattle.std.proofs.Common.{arith}
+use Rattle.std.proofs.Common.{rules}
 use Rattle.std.proofs.Common.{◌≡◌, refl, sym, ap, ◌∙◌, subst, List, [], ◌∷◌, ◌++◌, ℕ, Bool, true, false, cond}
 use Rattle.std.specs.Prelude.{Option, Some, None, not, ◌&&◌, filter_map}
 use Rattle.std.specs.List.{list_all, last_or, cons_option}
@@ -30,22 +32,7 @@ IsGoodUnder section before earlier fields = those_of (data_tests (context_of bef
 pub section-kept : (section : Section) (test : List Fields → Bool) (before : List LineContent) (earlier : Draft) (item : LineContent)
     → ((fields : Fields) → IsGoodUnder section before earlier fields → test (data_lines section before ++ fields ∷ []) ≡ true)
     → IsGood before earlier item → test (data_lines section before) ≡ true → test (data_lines section (before ++ item ∷ [])) ≡ true
-section-kept section test before earlier item keeps good h = ap test (data_lines-push section before item) ∙ by item good
-  where
-    lines : List Fields
-    lines = data_lines section before
-
-    same : test (lines ++ []) ≡ true
-    same = ap test (append-nil lines) ∙ h
-
-    under : (fields : Fields) (b : Bool) → is_section section (current_section before) ≡ b → IsGood before earlier (data_line fields) → test (lines ++ cond b (fields ∷ []) []) ≡ true
-    under fields true e g = keeps fields (subst (λ o. those_of (data_tests (context_of before) earlier fields o) ≡ []) (section-is section (current_section before) e) g)
-    under fields false e g = same
-
-    by : (x : LineContent) → IsGood before earlier x → test (lines ++ fields_under section (current_section before) x) ≡ true
-    by skipped g = same
-    by (header keyword more) g = same
-    by (data_line fields) g = under fields (is_section section (current_section before)) refl g
+section-kept section test before earlier item keeps good h = grind (arith, data_lines-push, append-nil, section-is)
 
 -- each line passes a test
 pub fields-kept : (section : Section) (test : Fields → Bool) (before : List LineContent) (earlier : Draft) (item : LineContent)
@@ -60,13 +47,7 @@ fields-kept section test before earlier item fits good h =
 -- ---- one set
 
 set-more : (sets : List (List ℕ)) (set : List ℕ) → is_other_set (head_of sets) set ≡ false → is_one_set sets ≡ true → is_one_set (sets ++ set ∷ []) ≡ true
-set-more [] set h k = refl
-set-more (first ∷ sets) set h k =
-    list_all-append (same_bytes first) sets (set ∷ []) ∙ both_so (list_all (same_bytes first) sets) (same_bytes first set && true) k (both_so (same_bytes first set) true (so (same_bytes first set) h) refl)
-  where
-    so : (b : Bool) → not b ≡ false → b ≡ true
-    so true e = refl
-    so false e = sym e
+set-more v0 set h k = grind (arith, list_all-append, both_so)
 
 pub set-kept : (section : Section) (set_of : Fields → Option (List ℕ)) (before : List LineContent) (earlier : Draft) (item : LineContent)
     → ((fields : Fields) → IsGoodUnder section before earlier fields → (set : List ℕ) → set_of fields ≡ Some set → is_other_set (head_of (filter_map set_of (data_lines section before))) set ≡ false)
@@ -92,8 +73,7 @@ abbrev pub opens : Option (List ℕ) → Bool
 opens word = option_map_or (same_bytes opening_word) word false
 
 pub opens-next : (b : Bool) (word : List ℕ) → same_bytes word (next_word b) ≡ true → opens (Some word) ≡ not b
-opens-next true word h = ap (same_bytes opening_word) (same_name word closing_word h)
-opens-next false word h = ap (same_bytes opening_word) (same_name word opening_word h)
+opens-next v0 word h = search (rules, same_name)
 
 pub alternate-more : (words : List (List ℕ)) (last : Option (List ℕ)) (word : List ℕ) (b : Bool) → opens last ≡ b → alternate (next_word b) (next_word (not b)) words ≡ true
     → same_bytes word (next_word (opens (last_or last words))) ≡ true → alternate (next_word b) (next_word (not b)) (words ++ word ∷ []) ≡ true

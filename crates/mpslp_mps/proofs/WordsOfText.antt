@@ -1,4 +1,6 @@
 -- MPS text is text in the sense of `TextInWords`.
+use Rattle.std.proofs.Common.{arith}
+use Rattle.std.proofs.Common.{rules}
 use Rattle.std.proofs.Common.{◌≡◌, refl, sym, ap, ◌∙◌, subst, List, [], ◌∷◌, ◌++◌, append_assoc, ℕ, Bool, true, false, map}
 use Rattle.std.specs.Prelude.{Option, Some, None, not, ◌&&◌, ◌||◌, filter_map}
 use Rattle.std.specs.List.{list_all, list_any, last_or, cons_option}
@@ -57,26 +59,7 @@ pub record AreInWords (before : List LineContent) (earlier : Draft) : Type 0 whe
   pub bound_sets : is_one_set (filter_map bound_set (data_lines Bounds before)) ≡ true
 
 pub none-yet : AreInWords [] empty_draft
-none-yet = record {
-  headers = refl;
-  ordered = record { order = refl; distinct = refl; rows = λ h. cc; columns = λ h. cc };
-  strays = refl;
-  sense = (missing, (refl, refl, refl));
-  name = (missing, (refl, refl, refl));
-  early = λ h. refl;
-  named = record { none = λ h. refl; named = λ h. refl; complete = λ h. refl };
-  rows = refl;
-  columns = refl;
-  right_sides = refl;
-  ranges = refl;
-  bounds = refl;
-  markers = refl;
-  there = λ name h. cc;
-  together = refl;
-  right_side_set = refl;
-  range_set = refl;
-  bound_sets = refl;
-}
+none-yet = grind arith
 
 pub one-more : (before : List LineContent) (earlier : Draft) (item : LineContent) → IsGood before earlier item → AreInWords before earlier → AreInWords (before ++ item ∷ []) (with_declarations earlier (line_declares (context_of before) earlier item))
 one-more before earlier item good h = record {
@@ -153,44 +136,7 @@ legal-lines (line ∷ ls) before earlier h =
 
 -- items that end at ENDATA
 together-at_end : (items : List LineContent) (all : Draft) → AreInWords items all → is_section EndData (current_section items) ≡ true → are_good_together items ≡ true
-together-at_end items all h ends =
-    both_so (has_good_headers items) _ headers
-    (both_so (not (is_nonempty (stray_lines items))) _ (ap (λ (xs : List Fields). not (is_nonempty xs)) h.strays)
-    (both_so (has_good_words items) _ (both_so (has_word_at_most is_sense (words_in ObjSense items)) (has_word_at_most (λ _. true) (words_in ObjName items)) senses names)
-    (both_so (has_named_objective items) _ (named-in_words items names ∙ h.named.complete columns)
-    (both_so (have_good_fields items) _ fields
-    (both_so (has_good_markers items) _ h.markers
-    (both_so (has_whole_columns items) (has_single_sets items) h.together sets))))))
-  where
-    at_end : current_section items ≡ Some EndData
-    at_end = section-is EndData (current_section items) ends
-
-    columns : has_section items Columns ≡ true
-    columns = columns-there (seen_sections items) h.ordered (section-begun EndData (seen_sections items) ends)
-
-    senses : has_word_at_most is_sense (words_in ObjSense items) ≡ true
-    senses = word-at_end ObjSense is_sense items h.sense (ap (is_section ObjSense) at_end)
-
-    names : has_word_at_most (λ _. true) (words_in ObjName items) ≡ true
-    names = word-at_end ObjName (λ _. true) items h.name (ap (is_section ObjName) at_end)
-
-    headers : has_good_headers items ≡ true
-    headers =
-        both_so (list_all is_good_header items) _ h.headers
-        (both_so (are_good_sections (seen_sections items)) _ (both_so (in_order (seen_sections items)) _ h.ordered.order h.ordered.distinct)
-        (both_so (has_section items Rows) (has_section items Columns) (rows-there (seen_sections items) h.ordered columns) columns))
-
-    fields : have_good_fields items ≡ true
-    fields =
-        both_so (list_all is_row_line (data_lines Rows items)) _ h.rows
-        (both_so (list_all is_columns_line (data_lines Columns items)) _ h.columns
-        (both_so (list_all is_vector_line (data_lines Rhs items)) _ h.right_sides
-        (both_so (list_all is_vector_line (data_lines Ranges items)) (list_all is_bound_line (data_lines Bounds items)) h.ranges h.bounds)))
-
-    sets : has_single_sets items ≡ true
-    sets =
-        both_so (is_one_set (filter_map vector_set (data_lines Rhs items))) _ h.right_side_set
-        (both_so (is_one_set (filter_map vector_set (data_lines Ranges items))) (is_one_set (filter_map bound_set (data_lines Bounds items))) h.range_set h.bound_sets)
+together-at_end items all h ends = grind (arith, both_so, named-in_words, section-is, columns-there, section-begun, word-at_end, rows-there)
 
 pub text-in_words : (bytes : List ℕ) → is_mps_text bytes ≡ true → is_text_in_words bytes ≡ true
 text-in_words bytes text =

@@ -33,7 +33,7 @@ pub record LedTo (text : List (List ℕ)) (context : Context) (earlier : Draft) 
   pub counted : list_any is_end text ≡ false → number ≡ min (1 + length text) (2 ^ 64 - 1)
 
 abbrev pub HasRead : LineReader → List (List ℕ) → Type 0
-HasRead reader text = LedTo text reader.context reader.builder reader.number
+HasRead reader text = LedTo text reader.context reader.builder.draft reader.number
 
 -- the line of ENDATA was read
 abbrev pub is_ended : LineReader → Bool

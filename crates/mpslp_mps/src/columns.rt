@@ -22,6 +22,7 @@ use crate::context::LineContext;
 use crate::data_lines::{check_column, check_marker};
 use crate::usual_lines::read_usual;
 use crate::values::{RowValue, RowValues, is_same_row};
+use mpslp_builder::ReaderBuilder;
 use mpslp_lines::LineError;
 use mpslp_model::{Builder, FaultKind, Name};
 use mpslp_mps_fields::is_marker_line;
@@ -185,31 +186,31 @@ fn read_checked(
 /// Reads a line of a column. Most lines have no error, and these are declared at once.
 fn read_values(
     context: &mut LineContext,
-    builder: &mut Builder,
+    builder: &mut ReaderBuilder,
     alloc: Global,
     fields: &[&[u8]],
 ) -> Result<(), LineError>
     requires section { context.old.section ≡ Some Section.Columns }
     requires plain { is_marker_line (map (λ field. field.now) fields.now) ≡ false }
-    ensures answers { ReadsContent context.old builder.old (data_line (map (λ field. field.now) fields.now)) result context.new builder.new }
-    ensures unchanged { IfFault result ((context.new ≡ context.old) × (builder.new ≡ builder.old)) }
+    ensures answers { ReadsContent context.old builder.old.draft (data_line (map (λ field. field.now) fields.now)) result context.new builder.new.draft }
+    ensures unchanged { IfFault result ((context.new ≡ context.old) × (builder.new.draft ≡ builder.old.draft)) }
 {
     if read_usual(context, builder, alloc, fields)? {
         return Ok(());
     }
-    read_checked(context, builder, alloc, fields)
+    read_checked(context, &mut builder.draft, alloc, fields)
 }
 
 /// Reads a line of COLUMNS.
 pub(crate) fn read_column(
     context: &mut LineContext,
-    builder: &mut Builder,
+    builder: &mut ReaderBuilder,
     alloc: Global,
     fields: &[&[u8]],
 ) -> Result<(), LineError>
     requires section { context.old.section ≡ Some Section.Columns }
-    ensures answers { ReadsContent context.old builder.old (data_line (map (λ field. field.now) fields.now)) result context.new builder.new }
-    ensures unchanged { IfFault result ((context.new ≡ context.old) × (builder.new ≡ builder.old)) }
+    ensures answers { ReadsContent context.old builder.old.draft (data_line (map (λ field. field.now) fields.now)) result context.new builder.new.draft }
+    ensures unchanged { IfFault result ((context.new ≡ context.old) × (builder.new.draft ≡ builder.old.draft)) }
 {
     if is_marker_line(fields) {
         read_marker(context, fields)

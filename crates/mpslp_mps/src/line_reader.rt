@@ -4,8 +4,9 @@ ghost use Rattle.std.specs.Prelude.{◌≡◌};
 
 use crate::context::LineContext;
 use crate::read_line::read_line;
+use mpslp_builder::ReaderBuilder;
 use mpslp_lines::{LineError, ReadLines, read_fault};
-use mpslp_model::{Builder, Fault, FaultKind, Model, ReadFault};
+use mpslp_model::{Builder, Fault, FaultKind, HashSeed, Model, ReadFault};
 use std::alloc::Global;
 
 /// Reads MPS text line by line.
@@ -13,7 +14,7 @@ use std::alloc::Global;
 pub struct LineReader {
     alloc: Global,
     context: LineContext,
-    builder: Builder,
+    builder: ReaderBuilder,
     /// The number of the next line, up to 2^64 - 1.
     number: u64,
 }
@@ -34,11 +35,13 @@ impl ReadLines for LineReader {
 
     ghost first_fault = { IsFirstMpsFault };
 
-    fn new(alloc: Global) -> LineReader {
+    fn new(alloc: Global, seed: HashSeed) -> LineReader {
         LineReader {
             alloc,
             context: LineContext::new(alloc),
-            builder: Builder::new(alloc),
+            builder: ReaderBuilder {
+                draft: Builder::new(alloc, seed),
+            },
             number: 1,
         }
     }
@@ -69,7 +72,7 @@ impl ReadLines for LineReader {
                 name: None,
             }));
         }
-        self.builder.finish_by_columns()
+        self.builder.draft.finish_by_columns()
     }
 
     ghost after_end = { read-after_end };

@@ -18,6 +18,7 @@ use crate::context::LineContext;
 use crate::data_lines::{check_objname, check_row, check_sense};
 use crate::header_lines::read_header;
 use crate::vectors::{read_range, read_rhs};
+use mpslp_builder::ReaderBuilder;
 use mpslp_lines::{LineError, are_legal_bytes, has_legal_length};
 use mpslp_model::{Builder, FaultKind, Name, RowType};
 use mpslp_mps_fields::{Section, front_fields, is_comment, is_data};
@@ -95,22 +96,22 @@ pub(crate) fn read_row(
 /// Reads a data line.
 fn read_data(
     context: &mut LineContext,
-    builder: &mut Builder,
+    builder: &mut ReaderBuilder,
     alloc: Global,
     fields: &[&[u8]],
 ) -> Result<(), LineError>
-    requires { HasMpsSides builder.old }
-    ensures answers { ReadsContent context.old builder.old (data_line (map (λ field. field.now) fields.now)) result context.new builder.new }
-    ensures unchanged { IfFault result ((context.new ≡ context.old) × (builder.new ≡ builder.old)) }
+    requires { HasMpsSides builder.old.draft }
+    ensures answers { ReadsContent context.old builder.old.draft (data_line (map (λ field. field.now) fields.now)) result context.new builder.new.draft }
+    ensures unchanged { IfFault result ((context.new ≡ context.old) × (builder.new.draft ≡ builder.old.draft)) }
 {
     match context.section() {
-        Some(Section::ObjSense) => read_sense(context, builder, fields),
+        Some(Section::ObjSense) => read_sense(context, &mut builder.draft, fields),
         Some(Section::ObjName) => read_objname(context, fields),
-        Some(Section::Rows) => read_row(context, builder, alloc, fields),
+        Some(Section::Rows) => read_row(context, &mut builder.draft, alloc, fields),
         Some(Section::Columns) => read_column(context, builder, alloc, fields),
-        Some(Section::Rhs) => read_rhs(context, builder, fields),
-        Some(Section::Ranges) => read_range(context, builder, fields),
-        Some(Section::Bounds) => read_bound(context, builder, fields),
+        Some(Section::Rhs) => read_rhs(context, &mut builder.draft, fields),
+        Some(Section::Ranges) => read_range(context, &mut builder.draft, fields),
+        Some(Section::Bounds) => read_bound(context, &mut builder.draft, fields),
         Some(Section::Name | Section::EndData) | None => {
             Err(LineError::Fault(FaultKind::SectionOrder))
         }
@@ -120,16 +121,16 @@ fn read_data(
 /// Reads a line that does not begin with a space or tab and is not skipped.
 fn read_keyword(
     context: &mut LineContext,
-    builder: &mut Builder,
+    builder: &mut ReaderBuilder,
     alloc: Global,
     fields: &[&[u8]],
 ) -> Result<(), LineError>
-    requires { HasMpsSides builder.old }
-    ensures answers { ReadsContent context.old builder.old (header_of (map (λ field. field.now) fields.now)) result context.new builder.new }
-    ensures unchanged { IfFault result ((context.new ≡ context.old) × (builder.new ≡ builder.old)) }
+    requires { HasMpsSides builder.old.draft }
+    ensures answers { ReadsContent context.old builder.old.draft (header_of (map (λ field. field.now) fields.now)) result context.new builder.new.draft }
+    ensures unchanged { IfFault result ((context.new ≡ context.old) × (builder.new.draft ≡ builder.old.draft)) }
 {
     match fields {
-        [keyword, more @ ..] => read_header(context, builder, alloc, keyword, more),
+        [keyword, more @ ..] => read_header(context, &mut builder.draft, alloc, keyword, more),
         // Never taken: a line that is not skipped is not blank, so it has a field.
         [] => Ok(()),
     }
@@ -138,13 +139,13 @@ fn read_keyword(
 /// Reads a line of legal length and bytes.
 fn read_content(
     context: &mut LineContext,
-    builder: &mut Builder,
+    builder: &mut ReaderBuilder,
     alloc: Global,
     line: &[u8],
 ) -> Result<(), LineError>
-    requires { HasMpsSides builder.old }
-    ensures answers { ReadsContent context.old builder.old (content_of line.now) result context.new builder.new }
-    ensures unchanged { IfFault result ((context.new ≡ context.old) × (builder.new ≡ builder.old)) }
+    requires { HasMpsSides builder.old.draft }
+    ensures answers { ReadsContent context.old builder.old.draft (content_of line.now) result context.new builder.new.draft }
+    ensures unchanged { IfFault result ((context.new ≡ context.old) × (builder.new.draft ≡ builder.old.draft)) }
 {
     if is_comment(line) {
         return Ok(());
@@ -171,13 +172,13 @@ fn has_legal_bytes(line: &[u8]) -> bool
 /// Reads a line.
 pub(crate) fn read_line(
     context: &mut LineContext,
-    builder: &mut Builder,
+    builder: &mut ReaderBuilder,
     alloc: Global,
     line: &[u8],
 ) -> Result<(), LineError>
-    requires { HasMpsSides builder.old }
-    ensures answers { ReadsLine context.old builder.old line.now result context.new builder.new }
-    ensures unchanged { IfFault result ((context.new ≡ context.old) × (builder.new ≡ builder.old)) }
+    requires { HasMpsSides builder.old.draft }
+    ensures answers { ReadsLine context.old builder.old.draft line.now result context.new builder.new.draft }
+    ensures unchanged { IfFault result ((context.new ≡ context.old) × (builder.new.draft ≡ builder.old.draft)) }
 {
     if !has_legal_length(line) {
         return Err(LineError::Fault(FaultKind::LineTooLong));

@@ -18,10 +18,10 @@ ghost use Rattle.mpslp_mps_fields.specs.declared.sections.Section.{Section};
 
 use crate::context::LineContext;
 use crate::values::{RowValue, RowValues, values_of};
-use mpslp_builder::{Entries, Entry};
+use mpslp_builder::{Entries, Entry, ReaderBuilder};
 use mpslp_lines::LineError;
 use mpslp_model::laws::each_builder_is_made;
-use mpslp_model::{Builder, Name, NameFault};
+use mpslp_model::{Name, NameFault};
 use mpslp_mps_fields::{ValuesLine, column_shape};
 use std::alloc::Global;
 
@@ -73,31 +73,31 @@ fn usual_parts<'a>(fields: &[&'a [u8]]) -> Option<(&'a [u8], RowValues<'a>)>
 
 /// Declares the values of the column of the line before, if none of them has an error.
 fn declare_next(
-    builder: &mut Builder,
+    builder: &mut ReaderBuilder,
     column: &[u8],
     is_marked: bool,
     values: &RowValues<'_>,
 ) -> Result<bool, LineError>
-    ensures taken { TakesUsual builder.old is_marked column.now values.now result builder.new }
-    ensures refused { result ≡ Ok false → has_column builder.old column.now ≡ true → refusals_in_turn builder.old (usual_declared is_marked column.now values.now) ≢ [] }
+    ensures taken { TakesUsual builder.old.draft is_marked column.now values.now result builder.new.draft }
+    ensures refused { result ≡ Ok false → has_column builder.old.draft column.now ≡ true → refusals_in_turn builder.old.draft (usual_declared is_marked column.now values.now) ≢ [] }
 {
     let Entries { first, second } = entries_of(values);
     let is_done = builder.next_line(column, is_marked, &Entries { first, second })?;
-    each_builder_is_made(builder);
+    each_builder_is_made(&builder.draft);
     Ok(is_done)
 }
 
 /// Declares a new column with these values, if none of them has an error.
 fn declare_first(
-    builder: &mut Builder,
+    builder: &mut ReaderBuilder,
     alloc: Global,
     column: &[u8],
     is_marked: bool,
     values: &RowValues<'_>,
 ) -> Result<bool, LineError>
-    ensures taken { TakesUsual builder.old is_marked column.now values.now result builder.new }
-    ensures absent { result ≡ Ok true → has_column builder.old column.now ≡ false }
-    ensures refused { result ≡ Ok false → name_refusal column.now ≡ None → has_column builder.old column.now ≡ false → refusals_in_turn builder.old (usual_declared is_marked column.now values.now) ≢ [] }
+    ensures taken { TakesUsual builder.old.draft is_marked column.now values.now result builder.new.draft }
+    ensures absent { result ≡ Ok true → has_column builder.old.draft column.now ≡ false }
+    ensures refused { result ≡ Ok false → name_refusal column.now ≡ None → has_column builder.old.draft column.now ≡ false → refusals_in_turn builder.old.draft (usual_declared is_marked column.now values.now) ≢ [] }
 {
     let name = match Name::new(alloc, column) {
         Ok(name) => name,
@@ -106,20 +106,20 @@ fn declare_first(
     };
     let Entries { first, second } = entries_of(values);
     let is_done = builder.first_line(name, is_marked, &Entries { first, second })?;
-    each_builder_is_made(builder);
+    each_builder_is_made(&builder.draft);
     Ok(is_done)
 }
 
 /// Declares the values of the column of the line before, and updates the context, if none of them has an error.
 fn pass_next(
     context: &mut LineContext,
-    builder: &mut Builder,
+    builder: &mut ReaderBuilder,
     column: &[u8],
     values: &RowValues<'_>,
 ) -> Result<bool, LineError>
     requires { option_map_or (same_bytes column.now) context.old.last_column false ≡ true }
-    ensures passed { MayPass context.old builder.old column.now values.now result context.new builder.new }
-    ensures refused { result ≡ Ok false → has_column builder.old column.now ≡ true → refusals_in_turn builder.old (usual_declared context.old.in_integer_part column.now values.now) ≢ [] }
+    ensures passed { MayPass context.old builder.old.draft column.now values.now result context.new builder.new.draft }
+    ensures refused { result ≡ Ok false → has_column builder.old.draft column.now ≡ true → refusals_in_turn builder.old.draft (usual_declared context.old.in_integer_part column.now values.now) ≢ [] }
 {
     if declare_next(builder, column, context.in_integer_part(), values)? {
         context.pass_data();
@@ -131,13 +131,13 @@ fn pass_next(
 /// Declares a new column with these values, and updates the context, if none of them has an error.
 fn pass_first(
     context: &mut LineContext,
-    builder: &mut Builder,
+    builder: &mut ReaderBuilder,
     alloc: Global,
     column: &[u8],
     values: &RowValues<'_>,
 ) -> Result<bool, LineError>
-    ensures passed { MayPass context.old builder.old column.now values.now result context.new builder.new }
-    ensures refused { result ≡ Ok false → name_refusal column.now ≡ None → has_column builder.old column.now ≡ false → refusals_in_turn builder.old (usual_declared context.old.in_integer_part column.now values.now) ≢ [] }
+    ensures passed { MayPass context.old builder.old.draft column.now values.now result context.new builder.new.draft }
+    ensures refused { result ≡ Ok false → name_refusal column.now ≡ None → has_column builder.old.draft column.now ≡ false → refusals_in_turn builder.old.draft (usual_declared context.old.in_integer_part column.now values.now) ≢ [] }
 {
     let is_marked = context.in_integer_part();
     if declare_first(builder, alloc, column, is_marked, values)? {
@@ -150,14 +150,14 @@ fn pass_first(
 /// Reads a line of a column, if it has no error. Otherwise this returns `false`, and nothing has changed.
 pub(crate) fn read_usual(
     context: &mut LineContext,
-    builder: &mut Builder,
+    builder: &mut ReaderBuilder,
     alloc: Global,
     fields: &[&[u8]],
 ) -> Result<bool, LineError>
     requires section { context.old.section ≡ Some Section.Columns }
     requires plain { is_marker_line (map (λ field. field.now) fields.now) ≡ false }
-    ensures read { MayRead context.old builder.old (data_line (map (λ field. field.now) fields.now)) result context.new builder.new }
-    ensures refused { result ≡ Ok false → ForSome context.old.last_column (λ name. has_column builder.old name ≡ true) → item_fault context.old builder.old (data_line (map (λ field. field.now) fields.now)) ≢ None }
+    ensures read { MayRead context.old builder.old.draft (data_line (map (λ field. field.now) fields.now)) result context.new builder.new.draft }
+    ensures refused { result ≡ Ok false → ForSome context.old.last_column (λ name. has_column builder.old.draft name ≡ true) → item_fault context.old builder.old.draft (data_line (map (λ field. field.now) fields.now)) ≢ None }
 {
     let Some((column, values)) = usual_parts(fields) else {
         return Ok(false);

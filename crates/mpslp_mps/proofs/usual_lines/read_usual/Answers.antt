@@ -6,19 +6,19 @@ use Rattle.mpslp_mps.proofs.usual_lines.read_usual.Goals as goal
 pub returns-then-is_last_column-clause-read : goal.returns-then-is_last_column-clause-read
 returns-then-is_last_column-clause-read c =
     let fields = map (λ field. field.now) c.args.fields.now in
-    usual-passed c.args.context.now c.args.builder.now fields c.in-Some.column.now c.in-Some.values c.requires.section c.requires.plain c.in-Some.ensures.parts.0 c.in-Some.ensures.parts.1
-    c.pass_next.result c.pass_next.new.context c.pass_next.new.builder c.pass_next.ensures.passed
+    usual-passed c.args.context.now c.args.builder.now.draft fields c.in-Some.column.now c.in-Some.values c.requires.section c.requires.plain c.in-Some.ensures.parts.0 c.in-Some.ensures.parts.1
+    c.pass_next.result c.pass_next.new.context c.pass_next.new.builder.draft c.pass_next.ensures.passed
 
 pub returns-clause-read : goal.returns-clause-read
 returns-clause-read c =
     let fields = map (λ field. field.now) c.args.fields.now in
-    usual-passed c.args.context.now c.args.builder.now fields c.in-Some.column.now c.in-Some.values c.requires.section c.requires.plain c.in-Some.ensures.parts.0 c.in-Some.ensures.parts.1
-    c.pass_first.result c.pass_first.new.context c.pass_first.new.builder c.pass_first.ensures.passed
+    usual-passed c.args.context.now c.args.builder.now.draft fields c.in-Some.column.now c.in-Some.values c.requires.section c.requires.plain c.in-Some.ensures.parts.0 c.in-Some.ensures.parts.1
+    c.pass_first.result c.pass_first.new.context c.pass_first.new.builder.draft c.pass_first.ensures.passed
 
 pub returns-in_default-clause-refused : goal.returns-in_default-clause-refused
 returns-in_default-clause-refused c =
     let fields = map (λ field. field.now) c.args.fields.now in
-    λ _ _ fine. not_found (c.in_default.ensures.found (usual-numbers c.args.context.now c.args.builder.now fields c.requires.section c.requires.plain fine))
+    λ _ _ fine. not_found (c.in_default.ensures.found (usual-numbers c.args.context.now c.args.builder.now.draft fields c.requires.section c.requires.plain fine))
   where
     not_found : false ≡ true → ⊥
     not_found h = cc
@@ -26,7 +26,7 @@ returns-in_default-clause-refused c =
 pub returns-then-is_last_column-clause-refused : goal.returns-then-is_last_column-clause-refused
 returns-then-is_last_column-clause-refused c =
     let context = c.args.context.now in
-    let earlier = c.args.builder.now in
+    let earlier = c.args.builder.now.draft in
     let fields = map (λ field. field.now) c.args.fields.now in
     let column = c.in-Some.column.now in
     let same = sym c.is_last_column.ensures ∙ c.if-is_last_column.true in
@@ -37,7 +37,7 @@ returns-then-is_last_column-clause-refused c =
 pub returns-clause-refused : goal.returns-clause-refused
 returns-clause-refused c =
     let context = c.args.context.now in
-    let earlier = c.args.builder.now in
+    let earlier = c.args.builder.now.draft in
     let fields = map (λ field. field.now) c.args.fields.now in
     let column = c.in-Some.column.now in
     let values = c.in-Some.values in
