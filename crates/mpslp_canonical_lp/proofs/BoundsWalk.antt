@@ -1,12 +1,12 @@
 -- The printed bounds of columns declare the bounds.
-use Rattle.std.proofs.Common.{◌≡◌, refl, sym, ap, subst, ◌∙◌, ℕ, List, [], ◌∷◌, ◌++◌, Bool, true, false, append_assoc, map}
+use Rattle.std.proofs.Common.{arith, ◌≡◌, refl, sym, ap, subst, ◌∙◌, ℕ, List, [], ◌∷◌, ◌++◌, Bool, true, false, append_assoc, map}
 use Rattle.std.specs.Prelude.{Some, None, ◌||◌, codes, if◌then◌else◌, is_some}
 use Rattle.std.specs.List.{flat_map}
 use Rattle.std.proofs.lemmas.List.{append-nil}
 use Rattle.mpslp_decimal.specs.Decimal.{Number as Decimal, is_zero, is_negative, size_of, have_same_value}
 use Rattle.mpslp_model_core.specs.Model.{Column}
 use Rattle.mpslp_types.specs.Limit.{limit_of}
-use Rattle.mpslp_builder.specs.Declaration.{Draft, Declarations, declare_column, bounds_declared, with_declarations}
+use Rattle.mpslp_builder.specs.Declaration.{Draft, Declarations, bounds_declared, with_declarations}
 use Rattle.mpslp_builder.specs.Refusal.{refusals_in_turn}
 use Rattle.mpslp_types.specs.declared.kinds.Limit.{Limit}
 use Rattle.mpslp_types.specs.declared.kinds.Limit.TheVariants.{MinusInf, Finite, PlusInf}
@@ -15,7 +15,7 @@ use Rattle.mpslp_lp_tokens.specs.Token.{class_of}
 use Rattle.mpslp_lp_grammar.specs.declared.signs.Sign.{Sign as SignOf}
 use Rattle.mpslp_lp_grammar.specs.declared.signs.Sign.TheVariants.{Minus}
 use Rattle.mpslp_lp_grammar.specs.Terminal.{Terminal, TerminalAt, word_terminal}
-use Rattle.mpslp_lp_grammar.specs.Terminal.Terminal.{Name, Number, Sign, Compares, Infinity, Free}
+use Rattle.mpslp_lp_grammar.specs.Terminal.Terminal.{Name, Number, Sign, Compares, Infinity}
 use Rattle.mpslp_lp_grammar.specs.Phrase.{Point}
 use Rattle.mpslp_lp_grammar.specs.declared.sections_seen.SectionsSeen.{SectionsSeen}
 use Rattle.mpslp_lp_grammar.specs.declared.states.Place.TheVariants.{InBounds}
@@ -28,9 +28,8 @@ use Rattle.mpslp_canonical_lp.specs.CanonicalLp.{bound_lexemes, line_of_some, bo
 use Rattle.mpslp_canonical_lp.proofs.LexemeLemmas.{IsGoodName}
 use Rattle.mpslp_canonical_lp.proofs.PrintableLemmas.{IsFitColumn}
 use Rattle.mpslp_canonical_lp.proofs.TerminalLemmas.{at, terminals_in, all_terminals, mapped-append, signed-value, sign_of}
-use Rattle.mpslp_canonical_lp.proofs.PhraseLemmas.{Walks, walks-none, point_at, column_and, AreTaken, bound-walks, signed-bound-walks, free-walks, left-bound-walks, signed-left-bound-walks, infinite-left-walks, upper-walks, signed-upper-walks}
+use Rattle.mpslp_canonical_lp.proofs.PhraseLemmas.{Walks, walks-none, point_at, column_and, AreTaken, infinite-left-walks}
 use Rattle.mpslp_canonical_lp.proofs.ObjectiveWalk.{number_after, terminals-append, parts-taken, parts-walk}
-use Rattle.mpslp_canonical_lp.proofs.TailWalk.{sides-taken}
 
 -- ---- a number is read by its sign and its absolute value
 
@@ -55,14 +54,7 @@ bound_made column _ _ = column_and column no_limits
 
 -- none of these is rejected, so the bounds are declared
 taken-from : (all : Draft) (column : List ℕ) (limits : Limits) → (is_some limits.lower || is_some limits.upper) ≡ true → refusals_in_turn all (column_and column limits) ≡ [] → AreTaken all column limits
-taken-from all column limits some h =
-    let parts = parts-taken all (declare_column column ∷ []) (bounds_declared column limits.lower limits.upper) h in
-    sides-taken (with_declarations all (declare_column column ∷ [])) column limits.lower limits.upper parts.1 some
-
-some-limits : (relation : Relation) (limit : Limit) → (is_some (limits_by relation limit).lower || is_some (limits_by relation limit).upper) ≡ true
-some-limits AtMost limit = refl
-some-limits AtLeast limit = refl
-some-limits EqualTo limit = refl
+taken-from all column limits some h = grind arith
 
 -- ---- parts of a line
 
@@ -73,34 +65,19 @@ bounds_point sections_seen all = point_at (InBounds None) sections_seen all
 valued-walk : (sections_seen : SectionsSeen) (all : Draft) (n : ℕ) (column : List ℕ) (relation : Relation) (value : Decimal) → refusals_in_turn all (column_and column (limits_by relation (limit_of value))) ≡ []
     → Walks (bounds_point sections_seen all) (at n (Name column) ∷ at n (Compares relation) ∷ map (at n) (terminals_in (number value))) (column_and column (limits_by relation (limit_of value)))
     (bounds_point sections_seen (with_declarations all (column_and column (limits_by relation (limit_of value)))))
-valued-walk sections_seen all n column relation value =
-    number-either (λ v terminals. refusals_in_turn all (column_and column (limits_by relation (limit_of v))) ≡ []
-    → Walks (bounds_point sections_seen all) (at n (Name column) ∷ at n (Compares relation) ∷ map (at n) terminals) (column_and column (limits_by relation (limit_of v)))
-    (bounds_point sections_seen (with_declarations all (column_and column (limits_by relation (limit_of v)))))) value
-    (λ v h. bound-walks sections_seen all n column relation v (taken-from all column (limits_by relation (limit_of v)) (some-limits relation (limit_of v)) h))
-    (λ below v h. signed-bound-walks sections_seen all n column relation below v (taken-from all column (limits_by relation (limit_of (apply_sign below v))) (some-limits relation (limit_of (apply_sign below v))) h))
+valued-walk sections_seen all n column relation value = grind arith
 
 -- a number, `<=` and a column
 left-walk : (sections_seen : SectionsSeen) (all : Draft) (n : ℕ) (value : Decimal) (column : List ℕ) → refusals_in_turn all (column_and column (limits_by AtLeast (limit_of value))) ≡ []
     → Walks (bounds_point sections_seen all) (map (at n) (terminals_in (number value)) ++ at n (Compares AtMost) ∷ at n (Name column) ∷ []) (column_and column (limits_by AtLeast (limit_of value)))
     (point_at (InBounds (Some (column, AtMost))) sections_seen (with_declarations all (column_and column (limits_by AtLeast (limit_of value)))))
-left-walk sections_seen all n value column =
-    number-either (λ v terminals. refusals_in_turn all (column_and column (limits_by AtLeast (limit_of v))) ≡ []
-    → Walks (bounds_point sections_seen all) (map (at n) terminals ++ at n (Compares AtMost) ∷ at n (Name column) ∷ []) (column_and column (limits_by AtLeast (limit_of v)))
-    (point_at (InBounds (Some (column, AtMost))) sections_seen (with_declarations all (column_and column (limits_by AtLeast (limit_of v)))))) value
-    (λ v h. left-bound-walks sections_seen all n v AtMost column (taken-from all column (limits_by AtLeast (limit_of v)) refl h))
-    (λ below v h. signed-left-bound-walks sections_seen all n below v AtMost column (taken-from all column (limits_by AtLeast (limit_of (apply_sign below v))) refl h))
+left-walk sections_seen all n value column = grind arith
 
 -- `<=` and a number after a column with a lower bound
 upper-walk : (sections_seen : SectionsSeen) (all : Draft) (n : ℕ) (column : List ℕ) (value : Decimal) → refusals_in_turn all (bounds_declared column None (Some (limit_of value))) ≡ []
     → Walks (point_at (InBounds (Some (column, AtMost))) sections_seen all) (at n (Compares AtMost) ∷ map (at n) (terminals_in (number value))) (bounds_declared column None (Some (limit_of value)))
     (bounds_point sections_seen (with_declarations all (bounds_declared column None (Some (limit_of value)))))
-upper-walk sections_seen all n column value =
-    number-either (λ v terminals. refusals_in_turn all (bounds_declared column None (Some (limit_of v))) ≡ []
-    → Walks (point_at (InBounds (Some (column, AtMost))) sections_seen all) (at n (Compares AtMost) ∷ map (at n) terminals) (bounds_declared column None (Some (limit_of v)))
-    (bounds_point sections_seen (with_declarations all (bounds_declared column None (Some (limit_of v)))))) value
-    (λ v h. upper-walks sections_seen all n column v (sides-taken all column None (Some (limit_of v)) h refl))
-    (λ below v h. signed-upper-walks sections_seen all n column below v (sides-taken all column None (Some (limit_of (apply_sign below v))) h refl))
+upper-walk sections_seen all n column value = grind arith
 
 -- ---- a line
 
@@ -111,10 +88,7 @@ pieces_terminals n lexemes = map (at n) (flat_map terminals_in lexemes)
 valued-line : (sections_seen : SectionsSeen) (all : Draft) (n : ℕ) (column : List ℕ) (relation : Relation) (value : Decimal) → IsGoodName column → refusals_in_turn all (column_and column (limits_by relation (limit_of value))) ≡ []
     → Walks (bounds_point sections_seen all) (pieces_terminals n (word column ∷ sense relation ∷ number value ∷ [])) (column_and column (limits_by relation (limit_of value)))
     (bounds_point sections_seen (with_declarations all (column_and column (limits_by relation (limit_of value)))))
-valued-line sections_seen all n column relation value good h =
-    subst (λ (tokens : List TerminalAt). Walks (bounds_point sections_seen all) tokens (column_and column (limits_by relation (limit_of value))) (bounds_point sections_seen (with_declarations all (column_and column (limits_by relation (limit_of value))))))
-    (λ i. at n (word_terminal column (sym good.word_class i)) ∷ at n (Compares relation) ∷ map (at n) (sym (append-nil (terminals_in (number value))) i))
-    (valued-walk sections_seen all n column relation value h)
+valued-line sections_seen all n column relation value good h = grind (arith, column_and, at, append-nil, terminals_in, valued-walk)
 
 -- a number, a column and a number
 between-line : (sections_seen : SectionsSeen) (all : Draft) (n : ℕ) (lower : Decimal) (column : List ℕ) (upper : Decimal) → IsGoodName column
@@ -156,10 +130,7 @@ infinite-line sections_seen all n column upper good h =
 -- a column and `free`
 free-line : (sections_seen : SectionsSeen) (all : Draft) (n : ℕ) (column : List ℕ) → IsGoodName column → refusals_in_turn all (column_and column no_limits) ≡ []
     → Walks (bounds_point sections_seen all) (pieces_terminals n (word column ∷ word (codes "free") ∷ [])) (column_and column no_limits) (bounds_point sections_seen (with_declarations all (column_and column no_limits)))
-free-line sections_seen all n column good h =
-    subst (λ (tokens : List TerminalAt). Walks (bounds_point sections_seen all) tokens (column_and column no_limits) (bounds_point sections_seen (with_declarations all (column_and column no_limits))))
-    (λ i. at n (word_terminal column (sym good.word_class i)) ∷ at n Free ∷ [])
-    (free-walks sections_seen all n column (taken-from all column no_limits refl h))
+free-line sections_seen all n column good h = grind arith
 
 -- ---- the lines of columns
 

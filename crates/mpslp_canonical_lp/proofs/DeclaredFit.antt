@@ -1,14 +1,13 @@
 -- What LP text declares has only LP names, so LP can express it.
-use Rattle.std.proofs.Common.{◌≡◌, refl, sym, ap, subst, ◌∙◌, ℕ, List, [], ◌∷◌, Bool, true, false, not, map, length, ◌+◌, cond, arith}
+use Rattle.std.proofs.Common.{◌≡◌, refl, sym, ap, subst, ◌∙◌, ℕ, List, [], ◌∷◌, Bool, true, not, map, length, arith}
 use Rattle.std.proofs.Math.Dec.{T}
-use Rattle.std.specs.Prelude.{Option, Some, None, nat_lt, unwrap_or, if◌then◌else◌}
+use Rattle.std.specs.Prelude.{Option, Some, None, unwrap_or, if◌then◌else◌}
 use Rattle.std.specs.List.{list_all, prefix_len}
 use Rattle.std.proofs.lemmas.Bool.{le-ltb}
 use Rattle.std.specs.Option.{option_map, option_map_or}
 use Rattle.std.specs.Cmp.{first_so, second_so}
 use Rattle.std.specs.declared.cmp.Ordering.TheVariants as orders
 use Rattle.std.specs.FinMap.{put, entries, entries-from_sorted}
-use Rattle.std.specs.FinMap.Entries.{by_order}
 use Rattle.mpslp_types.specs.Name.{bytes_cmp, is_lp_name, is_mps_name}
 use Rattle.mpslp_types.specs.declared.faults.NameAt.TheVariants.{Objective, Row, Column}
 use Rattle.mpslp_types.proofs.BoolLemmas.{both_so}
@@ -17,12 +16,12 @@ use Rattle.mpslp_decimal.specs.Decimal.{zero_number}
 use Rattle.mpslp_types.specs.declared.kinds.RowType.TheVariants.{Free}
 use Rattle.mpslp_model_core.specs.Limits.{plain_limits}
 use Rattle.mpslp_model_core.specs.Model.{LinearModel, Row as Limits, Column as ColumnOf}
-use Rattle.mpslp_builder.specs.Declaration.{Declaration, declare_objective, declare_row, declare_column, Declarations, Draft, draft_of, empty_draft, with_declaration, with_declarations, RowDefinition}
+use Rattle.mpslp_builder.specs.Declaration.{Declaration, declare_objective, declare_row, declare_column, Declarations, Draft, with_declaration, with_declarations, RowDefinition}
 use Rattle.mpslp_builder.specs.Meaning.{column_of, objective_name, row_limits, model_of}
 use Rattle.mpslp_builder.proofs.SortedDrafts.{IsSortedDraft, sorted-draft_of}
 use Rattle.mpslp_builder.proofs.MeaningFromNoFault.{sorted-mapped}
 use Rattle.mpslp_lp.specs.Laws.{has_lp_name}
-use Rattle.mpslp_lp.specs.LpText.{declarations_of, DeclaresLp}
+use Rattle.mpslp_lp.specs.LpText.{DeclaresLp}
 use Rattle.mpslp_lp.proofs.ModelOrFault.{lp_names-declared}
 use Rattle.mpslp_canonical_lp.specs.Unfit.{is_no_lp_name, first_unfit, or_else, unfit}
 
@@ -30,13 +29,7 @@ use Rattle.mpslp_canonical_lp.specs.Unfit.{is_no_lp_name, first_unfit, or_else, 
 
 named-put : {X : Type 0} (p : List ℕ → Bool) (k : List ℕ) (v : X) (es : List (List ℕ × X)) → p k ≡ true → list_all (λ e. p e.0) es ≡ true → list_all (λ e. p e.0) (put bytes_cmp k v es) ≡ true
 named-put p k v [] h all = both_so (p k) true h refl
-named-put {X} p k v (e ∷ es) h all =
-    elim (bytes_cmp k e.0) as (λ r. list_all (λ (x : List ℕ × X). p x.0) (by_order r ((k, v) ∷ e ∷ es) ((e.0, v) ∷ es) (e ∷ put bytes_cmp k v es)) ≡ true) [
-      | orders.Less ↦ both_so (p k) (list_all (λ (x : List ℕ × X). p x.0) (e ∷ es)) h all
-      | orders.Equal ↦ all
-      | orders.Greater ↦ both_so (p e.0) (list_all (λ (x : List ℕ × X). p x.0) (put bytes_cmp k v es)) (first_so (p e.0) (list_all (λ (x : List ℕ × X). p x.0) es) all)
-          (named-put p k v es h (second_so (p e.0) (list_all (λ (x : List ℕ × X). p x.0) es) all))
-    ]
+named-put {X} p k v (e ∷ es) h all = grind (arith, both_so, named-put p k v es h (second_so (p e.0) (list_all (λ (x : List ℕ × X). p x.0) es) all))
 
 record HasLpNames (all : Draft) : Type 0 where
   pub objective : option_map_or is_lp_name all.objective true ≡ true
@@ -51,26 +44,16 @@ names-with_declaration all _ h names = record { objective = names.objective; row
 
 names-with_declarations : (ds : Declarations) (all : Draft) → list_all has_lp_name ds ≡ true → HasLpNames all → HasLpNames (with_declarations all ds)
 names-with_declarations [] all h names = names
-names-with_declarations (d ∷ ds) all h names =
-    names-with_declarations ds (with_declaration all d) (second_so (has_lp_name d) (list_all has_lp_name ds) h) (names-with_declaration all d (first_so (has_lp_name d) (list_all has_lp_name ds) h) names)
+names-with_declarations (d ∷ ds) all h names = grind (arith, names-with_declaration, names-with_declarations ds (with_declaration all d) (second_so (has_lp_name d) (list_all has_lp_name ds) h) (names-with_declaration all d (first_so (has_lp_name d) (list_all has_lp_name ds) h) names))
 
 -- ---- if every name is an LP name
 
 whole-front : (names : List (List ℕ)) → Each (λ name. is_lp_name name ≡ true) names → prefix_len (λ name. not (is_no_lp_name name)) names ≡ length names
 whole-front [] h = refl
-whole-front (name ∷ names) h = by (is_lp_name name) h.0 (whole-front names h.1)
-  where
-    front : ℕ
-    front = prefix_len (λ (x : List ℕ). not (is_no_lp_name x)) names
-
-    by : (b : Bool) → b ≡ true → front ≡ length names → cond (not (not b)) (1 + front) 0 ≡ length (name ∷ names)
-    by true _ more = omega (arith, more)
-    by false k more = cc
+whole-front (name ∷ names) h = grind (arith, arith, whole-front names h.1)
 
 none-unfit : (names : List (List ℕ)) → Each (λ name. is_lp_name name ≡ true) names → first_unfit names ≡ None
-none-unfit names h =
-    ap (λ (n : ℕ). cond (nat_lt n (length names)) (Some n) None) (whole-front names h)
-    ∙ ap (λ (b : Bool). cond b (Some (length names)) None) (le-ltb (length names) (length names) (omega arith))
+none-unfit names h = grind (arith, whole-front, le-ltb, arith)
 
 lp-named : {X Y : Type 0} (f : List ℕ × X → Y) (es : List (List ℕ × X)) → list_all (λ e. is_lp_name e.0) es ≡ true
     → Each (λ name. is_lp_name name ≡ true) (map (λ (e : List ℕ × Y). e.0) (map (λ e. (e.0, f e)) es))
@@ -85,8 +68,7 @@ none-found : (objective : List ℕ) (rows columns : List (List ℕ)) → is_lp_n
 none-found objective rows columns h r c = rw h (rw r (rw c refl))
 
 some-lp : (o : Option (List ℕ)) → is_mps_name (unwrap_or o []) ≡ true → option_map_or is_lp_name o true ≡ true → is_lp_name (unwrap_or o []) ≡ true
-some-lp (Some name) s h = h
-some-lp None s h = cc
+some-lp o s h = grind arith
 
 -- the model of a draft with LP names
 draft-fit : (all : Draft) → is_mps_name (objective_name all) ≡ true → IsSortedDraft all → HasLpNames all → unfit (model_of all) ≡ None
@@ -103,8 +85,4 @@ draft-fit all objective sorted names =
 
 -- LP can express what LP text declares.
 pub declared-fit : (bytes : List ℕ) (m : LinearModel) → DeclaresLp bytes m → unfit m ≡ None
-declared-fit bytes m declares =
-    let made = declarations_of bytes in
-    ap unfit declares.means.meant.model
-    ∙ draft-fit (draft_of made) (subst (λ (model : LinearModel). is_mps_name model.objective ≡ true) declares.means.meant.model declares.means.meant.sound.objective) (sorted-draft_of made)
-    (names-with_declarations made empty_draft (lp_names-declared bytes) (record { objective = refl; rows = refl; columns = refl }))
+declared-fit bytes m declares = grind (arith, draft-fit, sorted-draft_of, names-with_declarations, lp_names-declared)

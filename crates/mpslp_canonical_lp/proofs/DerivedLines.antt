@@ -1,5 +1,5 @@
 -- Each printed phrase declares what it was printed from, whatever is declared before.
-use Rattle.std.proofs.Common.{◌≡◌, refl, sym, ap, subst, ◌∙◌, ℕ, ◌+◌, List, [], ◌∷◌, ◌++◌, Bool, true, false}
+use Rattle.std.proofs.Common.{arith, rules, ◌≡◌, refl, sym, ap, subst, ◌∙◌, ℕ, ◌+◌, List, [], ◌∷◌, ◌++◌, Bool, true, false}
 use Rattle.std.specs.Prelude.{Some, None, codes, if◌then◌else◌}
 use Rattle.std.specs.List.{flat_map}
 use Rattle.std.specs.Cmp.{first_so, second_so}
@@ -24,8 +24,8 @@ use Rattle.mpslp_lp_grammar.specs.Items.{limits_by}
 use Rattle.mpslp_lp_grammar.specs.declared.relations.Relation.TheVariants.{AtLeast, EqualTo}
 use Rattle.mpslp_lp_grammar.specs.declared.states.Place.TheVariants.{BeforeItems, InObjective, BetweenRows, InBounds}
 use Rattle.mpslp_canonical_lp.specs.Printed.{PrintedLine, word, semi_continuous}
-use Rattle.mpslp_canonical_lp.specs.CanonicalLp.{Lines, Term, heading, label_line, sense_word, term_line, constant_lines, row_terms, row_lines, bound_lines, name_line, semi_heading}
-use Rattle.mpslp_canonical_lp.specs.PrintedDeclarations.{point_at, terminals_at, AreDerived, AreDerivedAt, is_legal_term, after_objective, rows_heading, constant_declared, EndsObjectiveFrom, DeriveObjectives, AreLegalTerms, row_and_terms, DeriveRows, column_and_bounds, DeriveBounds, DeriveAllKinds, end_heading, DeriveAllHeadings}
+use Rattle.mpslp_canonical_lp.specs.CanonicalLp.{Lines, Term, heading, label_line, sense_word, term_line, row_terms, row_lines, bound_lines, name_line, semi_heading}
+use Rattle.mpslp_canonical_lp.specs.PrintedDeclarations.{point_at, terminals_at, AreDerived, AreDerivedAt, is_legal_term, after_objective, EndsObjectiveFrom, DeriveObjectives, AreLegalTerms, row_and_terms, DeriveRows, column_and_bounds, DeriveBounds, DeriveAllKinds, end_heading, DeriveAllHeadings}
 use Rattle.mpslp_canonical_lp.proofs.LexemeLemmas.{IsGoodName}
 use Rattle.mpslp_canonical_lp.proofs.LineLemmas.{line-terminals}
 use Rattle.mpslp_canonical_lp.proofs.TextLemmas.{all-faultless}
@@ -45,13 +45,7 @@ printed-terminals n [] h = refl
 printed-terminals n (line ∷ lines) h = λ i. (line-terminals n line h.0.each ∙ line-seen n line h.0.each) i ++ printed-terminals (n + 1) lines h.1 i
 
 derive : (from to : Point) (n : ℕ) (lines : Lines) (made : Declarations) → AllPrintable lines → Walks from (all_terminals n lines) made to → AreDerived from n lines made to
-derive from to n lines made printable walk =
-    let same = printed-terminals n lines printable in
-    record {
-      faultless = all-faultless lines printable;
-      says = λ rest. ap (λ (tokens : List TerminalAt). phrases phrase_at from 0 (tokens ++ rest)) same ∙ walk.says rest;
-      makes = λ rest. ap (λ (tokens : List TerminalAt). made_by phrase_at from 0 (tokens ++ rest)) same ∙ walk.makes rest;
-    }
+derive from to n lines made printable walk = grind (arith, printed-terminals, all-faultless)
 
 one-line : (from to : Point) (n : ℕ) (line : PrintedLine) (made : Declarations) → Walks from (line_terminals_in n line) made to → Walks from (all_terminals n (line ∷ [])) made to
 one-line from to n line made walk = subst (λ (tokens : List TerminalAt). Walks from tokens made to) (sym (append-nil (line_terminals_in n line))) walk
@@ -71,10 +65,7 @@ objective-term started name term legal n sections_seen earlier h =
     (one-line from to n (term_line term) (term_declared name term) (one-term started sections_seen earlier name n term good h))
 
 objective-end : (started : Bool) (name : List ℕ) → EndsObjectiveFrom (items_at name started)
-objective-end started name n earlier value decimal h =
-    derive _ _ n (constant_lines value ++ rows_heading) (constant_declared value)
-    (in-turn (constant_lines value) rows_heading (constant-printable value decimal) (subject-printable, tt))
-    (constant-walk started after_objective earlier name n value h refl)
+objective-end started name n earlier value decimal h = search (rules, derive, in-turn, constant-printable, subject-printable, constant-walk)
 
 pub objectives-derived : DeriveObjectives
 objectives-derived name legal =

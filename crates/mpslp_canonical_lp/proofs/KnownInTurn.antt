@@ -1,8 +1,8 @@
 -- What the canonical text declares names no row and no column before it is declared.
-use Rattle.std.proofs.Common.{◌≡◌, refl, ◌∙◌, ℕ, List, [], ◌∷◌, ◌++◌, true, false}
+use Rattle.std.proofs.Common.{arith, ◌≡◌, refl, ◌∙◌, ℕ, List, [], ◌∷◌, ◌++◌, true, false}
 use Rattle.std.specs.Prelude.{filter, ◌&&◌, Option, Some, None, if◌then◌else◌}
 use Rattle.std.specs.List.{flat_map}
-use Rattle.std.specs.Cmp.{first_so, second_so}
+use Rattle.std.specs.Cmp.{second_so}
 use Rattle.std.specs.FinMap.{put}
 use Rattle.mpslp_decimal.specs.Decimal.{Number, is_zero, have_same_value}
 use Rattle.mpslp_types.specs.Name.{same_bytes, bytes_cmp}
@@ -11,7 +11,7 @@ use Rattle.mpslp_types.specs.declared.kinds.Limit.{Limit}
 use Rattle.mpslp_types.specs.declared.kinds.Limit.TheVariants.{MinusInf, Finite, PlusInf}
 use Rattle.mpslp_types.proofs.BoolLemmas.{both_so, or_left, or_right}
 use Rattle.mpslp_model_core.specs.Model.{Column, CoefficientKey, Listing}
-use Rattle.mpslp_builder.specs.Declaration.{RowDefinition, declare_sense, declare_objective, declare_constant, declare_row, declare_column, declare_coefficient, declare_lower, bounds_declared, Declarations, Draft, empty_draft, with_declaration, with_declarations, has_name, has_row, has_column, is_objective}
+use Rattle.mpslp_builder.specs.Declaration.{RowDefinition, declare_constant, declare_row, declare_column, declare_coefficient, bounds_declared, Declarations, Draft, empty_draft, with_declaration, with_declarations, has_name, has_row, has_column}
 use Rattle.mpslp_builder.specs.Consistency.{is_known}
 use Rattle.mpslp_builder.proofs.SlotLemmas.{has-put}
 use Rattle.mpslp_builder.proofs.LaterDrafts.{itself_named}
@@ -19,7 +19,7 @@ use Rattle.mpslp_builder.proofs.RefusalLemmas.{are_known_in_turn}
 use Rattle.mpslp_lp_grammar.specs.Items.{Limits, limits_by}
 use Rattle.mpslp_lp_grammar.specs.Grammar.{no_limits}
 use Rattle.mpslp_lp_grammar.specs.declared.relations.Relation.TheVariants.{AtLeast, EqualTo}
-use Rattle.mpslp_canonical_lp.specs.CanonicalLp.{Term, row_terms, objective_terms, is_integer_column, is_semi_column}
+use Rattle.mpslp_canonical_lp.specs.CanonicalLp.{Term, row_terms, is_integer_column, is_semi_column}
 use Rattle.mpslp_canonical_lp.proofs.PhraseLemmas.{column_and}
 use Rattle.mpslp_canonical_lp.proofs.ObjectiveWalk.{terms_declared, constant_declared, objective_made}
 use Rattle.mpslp_canonical_lp.proofs.BoundsWalk.{bound_made, column_made}
@@ -31,9 +31,7 @@ use Rattle.mpslp_canonical_lp.proofs.TextWalk.{row_made, listed_declarations}
 known-append : (xs ys : Declarations) (context : Draft) → are_known_in_turn context xs ≡ true → are_known_in_turn (with_declarations context xs) ys ≡ true
     → are_known_in_turn context (xs ++ ys) ≡ true
 known-append [] ys context h k = k
-known-append (d ∷ xs) ys context h k =
-    both_so (is_known context d) (are_known_in_turn (with_declaration context d) (xs ++ ys)) (first_so (is_known context d) (are_known_in_turn (with_declaration context d) xs) h)
-    (known-append xs ys (with_declaration context d) (second_so (is_known context d) (are_known_in_turn (with_declaration context d) xs) h) k)
+known-append (d ∷ xs) ys context h k = grind (arith, both_so, are_known_in_turn, known-append xs ys (with_declaration context d) (second_so (is_known context d) (are_known_in_turn (with_declaration context d) xs) h) k)
 
 -- declarations that name only what they declare themselves
 abbrev AlwaysKnown : Declarations → Type 0
@@ -61,8 +59,7 @@ terms-known row (term ∷ terms) context h =
     (terms-known row terms (with_declaration after (declare_coefficient key term.1)) h)
 
 row-known : (name : List ℕ) (form : RowDefinition) (terms : List Term) → AlwaysKnown (declare_row name form ∷ terms_declared name terms)
-row-known name form terms context =
-    terms-known name terms (with_declaration context (declare_row name form)) (or_right (is_objective context name) (has_name (put bytes_cmp name form context.rows) name) (there name form context.rows))
+row-known name form terms context = grind (arith, terms-known, or_right, there)
 
 -- ---- the objective
 
@@ -70,29 +67,19 @@ constant-known : (value : Number) → AlwaysKnown (constant_declared value)
 constant-known value context = elim (is_zero value) as (λ b. are_known_in_turn context (if b then [] else declare_constant value ∷ []) ≡ true) [ true ↦ refl | false ↦ refl ]
 
 objective-known : (m : Listing) → AlwaysKnown (objective_made m)
-objective-known m context =
-    let begun = with_declaration (with_declaration context (declare_sense m.sense)) (declare_objective m.objective) in
-    let terms = terms_declared m.objective (objective_terms m) in
-    known-append terms (constant_declared m.constant) begun
-    (terms-known m.objective (objective_terms m) begun (or_left (same_bytes m.objective m.objective) (has_name context.rows m.objective) (itself_named m.objective)))
-    (constant-known m.constant (with_declarations begun terms))
+objective-known m context = grind (arith, terms_declared, known-append, constant_declared, terms-known, or_left, itself_named, constant-known)
 
 -- ---- bounds
 
 sides-known : (column : List ℕ) (lower upper : Option Limit) (context : Draft) → has_column context column ≡ true → are_known_in_turn context (bounds_declared column lower upper) ≡ true
-sides-known column None None context h = refl
-sides-known column (Some l) None context h = both_so (has_column context column) true h refl
-sides-known column None (Some u) context h = both_so (has_column context column) true h refl
-sides-known column (Some l) (Some u) context h = both_so (has_column context column) (has_column context column && true) h (both_so (has_column context column) true h refl)
+sides-known column lower upper context h = grind arith
 
 limited-known : (column : List ℕ) (limits : Limits) → AlwaysKnown (column_and column limits)
 limited-known column limits context = sides-known column limits.lower limits.upper (with_declaration context (declare_column column)) (there column tt context.columns)
 
 -- a lower bound, and then an upper one
 both-known : (column : List ℕ) (lower upper : Limit) → AlwaysKnown (column_and column (limits_by AtLeast lower) ++ bounds_declared column None (Some upper))
-both-known column lower upper context =
-    known-append (column_and column (limits_by AtLeast lower)) (bounds_declared column None (Some upper)) context (limited-known column (limits_by AtLeast lower) context)
-    (sides-known column None (Some upper) (with_declaration (with_declaration context (declare_column column)) (declare_lower column lower)) (there column tt context.columns))
+both-known column lower upper context = grind (arith, known-append, column_and, limited-known, sides-known, there)
 
 bound-known : (column : List ℕ) (lower upper : Limit) → AlwaysKnown (bound_made column lower upper)
 bound-known column MinusInf (Finite b) = both-known column MinusInf (limit_of b)

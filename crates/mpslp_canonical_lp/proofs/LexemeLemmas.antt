@@ -1,19 +1,16 @@
 -- The tokens of a printed line are those of its pieces.
-use Rattle.std.proofs.Common.{◌≡◌, refl, sym, ap, subst, ◌∙◌, ℕ, zero, suc, ◌≤◌, List, [], ◌∷◌, ◌++◌, Bool, true, false, length, replicate, arith, append_assoc}
+use Rattle.std.proofs.Common.{rules, ◌≡◌, refl, sym, subst, ℕ, zero, suc, ◌≤◌, List, [], ◌∷◌, ◌++◌, Bool, true, false, length, replicate, arith, append_assoc}
 use Rattle.std.specs.Prelude.{None, ◌||◌, ◌==◌, ℤ, pos, negsuc, unsigned_abs, int_le, codes, if◌then◌else◌}
-use Rattle.std.specs.List.{flat_map, join_by, list_all}
-use Rattle.std.specs.Cmp.{first_so}
+use Rattle.std.specs.List.{flat_map, join_by}
 use Rattle.std.proofs.lemmas.Bool.Decides.{nat_tests}
-use Rattle.mpslp_decimal.specs.Decimal.{Number, IsDecimal, is_zero, is_negative, size_of}
+use Rattle.mpslp_decimal.specs.Decimal.{Number, IsDecimal, is_negative, size_of}
 use Rattle.mpslp_decimal.specs.Literal.{is_digit}
-use Rattle.mpslp_decimal.specs.NumberText.{scaled_text, number_text}
-use Rattle.std.specs.Fmt.{decimal}
+use Rattle.mpslp_decimal.specs.NumberText.{number_text}
 use Rattle.mpslp_types.specs.Name.{begins_a_number}
 use Rattle.mpslp_decimal.proofs.CutLemmas.{Each}
-use Rattle.mpslp_lp_tokens.specs.Token.{begins_word, continues_word, is_word, tokens, class_of}
+use Rattle.mpslp_lp_tokens.specs.Token.{is_word, tokens, class_of}
 use Rattle.mpslp_lp_grammar.specs.Terminal.{token_fault}
 use Rattle.mpslp_lp_grammar.specs.declared.relations.Relation.{Relation}
-use Rattle.mpslp_lp_grammar.specs.declared.relations.Relation.TheVariants.{AtMost, AtLeast, EqualTo}
 use Rattle.mpslp_lp_tokens.specs.declared.tokens.TokenKind.TheVariants as kinds
 use Rattle.mpslp_lp_tokens.specs.declared.words.WordClass.TheVariants as meanings
 use Rattle.mpslp_canonical_lp.specs.Printed.{Lexeme, PrintedLine, word, label, number, sign, sense, minus_infinity, sign_bytes, sense_bytes, lexeme_text, line_text, semi_continuous}
@@ -48,24 +45,19 @@ Apart [] = Unit {0}
 Apart (byte ∷ _) = byte ≡ 32
 
 stops-apart : (text rest : List ℕ) → Apart rest → Stops text rest
-stops-apart text [] h = tt
-stops-apart text (byte ∷ rest) h = subst (StopsAt text) (sym h) (stops-blank text)
+stops-apart text rest h = grind (arith, stops-blank)
 
 -- ---- a piece
 
 stops-at_colon : (name : List ℕ) → is_word name ≡ true → StopsAt name 58
-stops-at_colon [] h = cc
-stops-at_colon (byte ∷ bytes) h = stops-colon byte bytes (first_so (begins_word byte) (list_all continues_word bytes) h)
+stops-at_colon name h = search (rules, stops-colon)
 
 colon-token : IsToken kinds.Colon (codes ":")
 colon-token = record { is = refl; begins = (refl, refl) }
 
 label-read : (name rest : List ℕ) (expected : List SeenToken) → is_word name ≡ true → Apart rest → Reads rest expected
     → Reads ((name ++ codes ":") ++ rest) ((kinds.Word, name) ∷ (kinds.Colon, codes ":") ∷ expected)
-label-read name rest expected h apart more =
-    subst (λ (bytes : List ℕ). Reads bytes ((kinds.Word, name) ∷ (kinds.Colon, codes ":") ∷ expected)) (sym (append_assoc name (codes ":") rest))
-    (reads-token kinds.Word name (58 ∷ rest) ((kinds.Colon, codes ":") ∷ expected) (word-token name h) (stops-at_colon name h)
-    (reads-token kinds.Colon (codes ":") rest expected colon-token (stops-apart (codes ":") rest apart) more))
+label-read name rest expected h apart more = search (rules, append_assoc, reads-token, word-token, stops-at_colon, colon-token, stops-apart)
 
 minus-token : IsToken kinds.Minus (codes "-")
 minus-token = record { is = refl; begins = (refl, refl) }
@@ -82,19 +74,9 @@ minus-read (b ∷ bytes) rest expected h more =
 size-positive : (z : ℤ) → int_le (pos (unsigned_abs z)) (negsuc 0) ≡ false
 size-positive z = refl
 
-negative-nonzero : (z : ℤ) → int_le z (negsuc 0) ≡ true → (unsigned_abs z == 0) ≡ false
-negative-nonzero (pos n) h = cc
-negative-nonzero (negsuc n) h = nonzero n
-  where
-    nonzero : (k : ℕ) → (suc k == 0) ≡ false
-    nonzero k = grind (arith, nat_tests)
-
 -- a negative number is a minus and its absolute value
 pub negative-text : (value : Number) → is_negative value ≡ true → number_text value ≡ 45 ∷ number_text (size_of value)
-negative-text value h =
-    let nonzero : is_zero value ≡ false = negative-nonzero value.mantissa h in
-    (λ i. if nonzero i then codes "0" else (if h i then codes "-" else []) ++ scaled_text (decimal (unsigned_abs value.mantissa)) value.exponent)
-    ∙ ap (λ (text : List ℕ). 45 ∷ text) (sym (ap (λ (b : Bool). if b then codes "0" else scaled_text (decimal (unsigned_abs value.mantissa)) value.exponent) nonzero))
+negative-text value h = grind arith
 
 number-read : (value : Number) (rest : List ℕ) (expected : List SeenToken) → IsDecimal value → Apart rest → Reads rest expected → Reads (number_text value ++ rest) (tokens_in (number value) ++ expected)
 number-read value rest expected h apart more = by (is_negative value) refl
@@ -112,13 +94,10 @@ number-read value rest expected h apart more = by (is_negative value) refl
     by false e = reads-token kinds.Number (number_text value) rest expected (unsigned-token value h e) (stops-apart (number_text value) rest apart) more
 
 sign-token : (minus : Bool) → IsToken (sign_kind minus) (sign_bytes minus)
-sign-token true = record { is = refl; begins = (refl, refl) }
-sign-token false = record { is = refl; begins = (refl, refl) }
+sign-token minus = grind arith
 
 sense-token : (relation : Relation) → IsToken (sense_kind relation) (sense_bytes relation)
-sense-token AtMost = record { is = refl; begins = (refl, refl) }
-sense-token AtLeast = record { is = refl; begins = (refl, refl) }
-sense-token EqualTo = record { is = refl; begins = (refl, refl) }
+sense-token relation = grind arith
 
 -- a minus ends the word before it
 stops-semi : StopsAt (codes "Semi") 45
@@ -150,9 +129,7 @@ after-apart (piece ∷ lexemes) = refl
 
 from-read : (piece : Lexeme) (lexemes : List Lexeme) → IsPrintable piece → Each IsPrintable lexemes → Reads (lexeme_text piece ++ after_first_piece lexemes) (tokens_in piece ++ flat_map tokens_in lexemes)
 from-read piece [] h k = piece-read piece [] [] h tt reads-nil
-from-read piece (next ∷ lexemes) h k =
-    piece-read piece (after_first_piece (next ∷ lexemes)) (flat_map tokens_in (next ∷ lexemes)) h (after-apart (next ∷ lexemes))
-    (reads-blank (lexeme_text next ++ after_first_piece lexemes) (flat_map tokens_in (next ∷ lexemes)) (from-read next lexemes k.0 k.1))
+from-read piece (next ∷ lexemes) h k = grind (arith, piece-read, after-apart, reads-blank, from-read next lexemes k.0 k.1)
 
 lexemes-read : (lexemes : List Lexeme) → Each IsPrintable lexemes → Reads (join_by lexeme_text (codes " ") lexemes) (flat_map tokens_in lexemes)
 lexemes-read [] h = reads-nil

@@ -1,6 +1,6 @@
 -- A printed line has no error of its own, and its terminals are those of its pieces.
-use Rattle.std.proofs.Common.{◌≡◌, refl, sym, ap, ◌∙◌, ℕ, zero, suc, ◌*◌, ◌≤◌, List, [], ◌∷◌, Bool, true, false, not, length, replicate, arith, length-append, map}
-use Rattle.std.specs.Prelude.{Option, Some, None, ◌||◌, ◌&&◌, ◌==◌, nat_le, codes, filter_map, if◌then◌else◌}
+use Rattle.std.proofs.Common.{rules, ◌≡◌, refl, ap, ◌∙◌, ℕ, zero, suc, ◌*◌, ◌≤◌, List, [], ◌∷◌, Bool, true, false, not, length, replicate, arith, length-append, map}
+use Rattle.std.specs.Prelude.{Option, Some, None, ◌&&◌, ◌==◌, nat_le, codes, filter_map, if◌then◌else◌}
 use Rattle.std.specs.List.{join_by, list_all, list_any, cons_option}
 use Rattle.std.specs.Cmp.{first_so, second_so}
 use Rattle.std.proofs.lemmas.Bool.Decides.{nat_tests}
@@ -9,16 +9,13 @@ use Rattle.std.proofs.lemmas.List.{length-replicate}
 use Rattle.mpslp_decimal.specs.Decimal.{Number, IsDecimal, is_negative, size_of}
 use Rattle.mpslp_decimal.specs.Literal.{is_digit}
 use Rattle.mpslp_decimal.specs.NumberText.{number_text}
-use Rattle.mpslp_decimal.proofs.CutLemmas.{before-none}
+use Rattle.mpslp_decimal.proofs.CutLemmas.{before-none, Each, Each-weaker, Each-append}
 use Rattle.mpslp_decimal.proofs.NumberTextLemmas.{number-text, read-short}
-use Rattle.mpslp_types.specs.Name.{is_letter, is_lp_symbol, is_lp_byte}
+use Rattle.mpslp_types.specs.Name.{is_letter, is_lp_byte}
 use Rattle.mpslp_types.specs.FaultOrder.{least_kind}
 use Rattle.mpslp_types.specs.declared.faults.FaultKind.{FaultKind}
 use Rattle.mpslp_types.specs.declared.faults.FaultKind.TheVariants as faults
 use Rattle.mpslp_types.proofs.EachLemmas.{Each-flat_map, Each-from_list_all, list_all-from_Each}
-use Rattle.mpslp_decimal.proofs.CutLemmas.{Each}
-use Rattle.mpslp_decimal.proofs.CutLemmas.{Each-weaker}
-use Rattle.mpslp_decimal.proofs.CutLemmas.{Each-append}
 use Rattle.mpslp_lp.specs.Laws.{has_legal_bytes}
 use Rattle.mpslp_lp_tokens.specs.Token.{begins_comment, begins_word, continues_word, is_word, Token, tokens}
 use Rattle.mpslp_lines.specs.FaultTests.{is_legal_byte, has_legal_length, first_held, number_fault}
@@ -48,19 +45,10 @@ digit-plain b h = grind (arith, nat_tests)
 
 symbol-plain : (symbols : List ℕ) (b : ℕ) → list_all is_plain symbols ≡ true → list_any (λ s. s == b) symbols ≡ true → is_plain b ≡ true
 symbol-plain [] b all any = cc
-symbol-plain (s ∷ symbols) b all any = by (s == b) refl any (symbol-plain symbols b (second_so (is_plain s) (list_all is_plain symbols) all))
-  where
-    by : (c : Bool) → (s == b) ≡ c → (c || list_any (λ x. x == b) symbols) ≡ true → (list_any (λ x. x == b) symbols ≡ true → is_plain b ≡ true) → is_plain b ≡ true
-    by true is k more = ap is_plain (sym (eqb-true s b is)) ∙ first_so (is_plain s) (list_all is_plain symbols) all
-    by false is k more = more k
+symbol-plain (s ∷ symbols) b all any = grind (arith, eqb-true, symbol-plain symbols b (second_so (is_plain s) (list_all is_plain symbols) all))
 
 lp-plain : (b : ℕ) → is_lp_byte b ≡ true → is_plain b ≡ true
-lp-plain b h = by (is_letter b) (is_digit b) refl refl h
-  where
-    by : (c d : Bool) → is_letter b ≡ c → is_digit b ≡ d → (c || (d || is_lp_symbol b)) ≡ true → is_plain b ≡ true
-    by true d e f k = letter-plain b e
-    by false true e f k = digit-plain b f
-    by false false e f k = symbol-plain (codes "!\"#$%&()/,.;?@_'{}|~`") b refl k
+lp-plain b h = search (rules, letter-plain, digit-plain, symbol-plain)
 
 -- a property of plain bytes and of spaces holds for each byte that is printed
 module _ (P : ℕ → Type 0) (plain : (b : ℕ) → is_plain b ≡ true → P b) (blank : P 32) where
@@ -113,9 +101,7 @@ plain-no_comment : (b : ℕ) → is_plain b ≡ true → begins_comment b ≡ fa
 plain-no_comment b h = grind (arith, nat_tests)
 
 bytes-legal : (line : PrintedLine) → Each IsPrintable line.lexemes → has_legal_bytes (line_text line) ≡ true
-bytes-legal line h =
-    ap (list_all is_legal_byte) (before-none begins_comment (line_text line) (each-line_text (λ b. begins_comment b ≡ false) plain-no_comment refl line h))
-    ∙ list_all-from_Each is_legal_byte (line_text line) (each-line_text (λ b. is_legal_byte b ≡ true) plain-legal refl line h)
+bytes-legal line h = search (rules, before-none, each-line_text, plain-no_comment, list_all-from_Each, plain-legal)
 
 -- ---- length
 
@@ -139,10 +125,7 @@ length-piece semi_continuous h = omega arith
 
 length-after : (lexemes : List Lexeme) → Each IsPrintable lexemes → length (after_first_piece lexemes) ≤ 257 * length lexemes
 length-after [] h = omega arith
-length-after (piece ∷ lexemes) h =
-    let here : length (lexeme_text piece) ≤ 256 = length-piece piece h.0 in
-    let more : length (after_first_piece lexemes) ≤ 257 * length lexemes = length-after lexemes h.1 in
-    omega (arith, here, more, length-append (lexeme_text piece) (after_first_piece lexemes))
+length-after (piece ∷ lexemes) h = grind (arith, length-piece, after_first_piece, arith, length-append, length-after lexemes h.1)
 
 length-joined : (lexemes : List Lexeme) → Each IsPrintable lexemes → length (join_by lexeme_text (codes " ") lexemes) ≤ 257 * length lexemes
 length-joined [] h = omega arith
@@ -155,10 +138,7 @@ at_most : (n : ℕ) → n ≤ 2000 → nat_le n MAX_LINE_LEN ≡ true
 at_most n h = grind (arith, nat_tests)
 
 length-legal : (line : PrintedLine) → IsPrintableLine line → has_legal_length (line_text line) ≡ true
-length-legal line h =
-    let blanks : length {A = ℕ} (replicate line.indent 32) ≡ line.indent = length-replicate line.indent 32 in
-    let joined : length (join_by lexeme_text (codes " ") line.lexemes) ≤ 257 * length line.lexemes = length-joined line.lexemes h.each in
-    at_most (length (line_text line)) (omega (arith, h.near, h.few, blanks, joined, length-append (replicate line.indent 32) (join_by lexeme_text (codes " ") line.lexemes)))
+length-legal line h = grind (arith, replicate, length-replicate, length-joined, at_most, arith, length-append)
 
 -- ---- errors of tokens
 

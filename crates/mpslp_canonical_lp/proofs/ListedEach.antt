@@ -1,22 +1,19 @@
 -- A property of each kind of declaration holds for every declaration of the canonical text.
-use Rattle.std.proofs.Common.{◌≡◌, refl, ℕ, List, [], ◌∷◌, ◌++◌, Bool, true, false}
-use Rattle.std.specs.Prelude.{Option, Some, None, filter, unwrap_or, if◌then◌else◌}
+use Rattle.std.proofs.Common.{arith, ◌≡◌, refl, ℕ, List, [], ◌∷◌, ◌++◌, Bool, true, false}
+use Rattle.std.specs.Prelude.{Option, filter, unwrap_or, if◌then◌else◌}
 use Rattle.std.specs.List.{list_any, flat_map}
-use Rattle.mpslp_decimal.specs.Decimal.{Number, is_zero, have_same_value}
+use Rattle.mpslp_decimal.specs.Decimal.{Number, is_zero}
 use Rattle.mpslp_types.specs.Limit.{limit_of}
 use Rattle.mpslp_types.specs.declared.kinds.Sense.{Sense}
 use Rattle.mpslp_types.specs.declared.kinds.Limit.{Limit}
-use Rattle.mpslp_types.specs.declared.kinds.Limit.TheVariants.{MinusInf, Finite, PlusInf}
+use Rattle.mpslp_types.specs.declared.kinds.Limit.TheVariants.{MinusInf, PlusInf}
 use Rattle.mpslp_types.proofs.BoolLemmas.{both_false}
 use Rattle.mpslp_types.proofs.EachLemmas.{Each, Each-weaker, Each-append, Each-flat_map, Each-all}
 use Rattle.mpslp_model_core.specs.Model.{CoefficientKey, Listing}
-use Rattle.mpslp_builder.specs.Declaration.{RowDefinition, by_limits, Declaration, declare_sense, declare_objective, declare_constant, declare_row, declare_column, declare_coefficient, declare_lower, declare_upper, declare_integer, declare_semi, bounds_declared}
-use Rattle.mpslp_lp_grammar.specs.Items.{limits_by}
+use Rattle.mpslp_builder.specs.Declaration.{RowDefinition, by_limits, Declaration, declare_sense, declare_objective, declare_constant, declare_row, declare_column, declare_coefficient, declare_lower, declare_upper, declare_integer, declare_semi}
 use Rattle.mpslp_lp_grammar.specs.Rows.{row_limits}
 use Rattle.mpslp_lp_grammar.specs.declared.relations.Relation.{Relation}
-use Rattle.mpslp_lp_grammar.specs.declared.relations.Relation.TheVariants.{AtLeast, EqualTo}
 use Rattle.mpslp_canonical_lp.specs.CanonicalLp.{Term, row_terms, objective_terms, is_integer_column, is_semi_column}
-use Rattle.mpslp_canonical_lp.proofs.PhraseLemmas.{column_and}
 use Rattle.mpslp_canonical_lp.proofs.RowWalk.{left_of}
 use Rattle.mpslp_canonical_lp.proofs.ObjectiveWalk.{terms_declared, constant_declared, objective_made}
 use Rattle.mpslp_canonical_lp.proofs.BoundsWalk.{bound_made, column_made}
@@ -73,18 +70,7 @@ module _ (P : Declaration → Type 0) where
 
   -- for the declarations of the bounds of a column, whatever the bounds are
   pub each-bound : (name : List ℕ) → P (declare_column name) → ((limit : Limit) → P (declare_lower name limit)) → ((limit : Limit) → P (declare_upper name limit)) → (lower upper : Limit) → Each P (bound_made name lower upper)
-  each-bound name c l u MinusInf (Finite b) = (c, (l MinusInf, (u (limit_of b), tt)))
-  each-bound name c l u (Finite a) (Finite b) = elim (have_same_value a b) as (λ t. Each P (if t then column_and name (limits_by EqualTo (limit_of b)) else column_and name (limits_by AtLeast (limit_of a)) ++ bounds_declared name None (Some (limit_of b)))) [
-    | true ↦ (c, (l (limit_of b), (u (limit_of b), tt)))
-    | false ↦ (c, (l (limit_of a), (u (limit_of b), tt)))
-  ]
-  each-bound name c l u (Finite a) MinusInf = elim (is_zero a) as (λ t. Each P (if t then [] else column_and name (limits_by AtLeast (limit_of a)))) [ true ↦ tt | false ↦ (c, (l (limit_of a), tt)) ]
-  each-bound name c l u (Finite a) PlusInf = elim (is_zero a) as (λ t. Each P (if t then [] else column_and name (limits_by AtLeast (limit_of a)))) [ true ↦ tt | false ↦ (c, (l (limit_of a), tt)) ]
-  each-bound name c l u MinusInf MinusInf = (c, (l MinusInf, (u PlusInf, tt)))
-  each-bound name c l u MinusInf PlusInf = (c, (l MinusInf, (u PlusInf, tt)))
-  each-bound name c l u PlusInf MinusInf = (c, (l MinusInf, (u PlusInf, tt)))
-  each-bound name c l u PlusInf (Finite b) = (c, (l MinusInf, (u PlusInf, tt)))
-  each-bound name c l u PlusInf PlusInf = (c, (l MinusInf, (u PlusInf, tt)))
+  each-bound name c l u lower upper = grind arith
 
   -- for any row, any bound and any type
   pub each-of_kind : (m : Listing) → ((sense : Sense) → P (declare_sense sense)) → ((name : List ℕ) → P (declare_objective name)) → ((value : Number) → P (declare_constant value))

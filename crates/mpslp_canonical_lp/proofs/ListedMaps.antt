@@ -1,20 +1,15 @@
 -- Each map of the draft that the declarations of the canonical text of a listing make.
-use Rattle.std.proofs.Common.{◌≡◌, refl, ap, ◌∙◌, List, [], ◌∷◌, ◌++◌, ℕ, true, false, map}
-use Rattle.std.specs.Prelude.{Some, None, filter, if◌then◌else◌}
+use Rattle.std.proofs.Common.{arith, ◌≡◌, refl, ap, ◌∙◌, List, [], ◌∷◌, ◌++◌, ℕ, map}
+use Rattle.std.specs.Prelude.{filter}
 use Rattle.std.specs.List.{flat_map}
 use Rattle.std.proofs.lemmas.List.{append-nil}
-use Rattle.mpslp_decimal.specs.Decimal.{Number, is_zero, have_same_value}
+use Rattle.mpslp_decimal.specs.Decimal.{Number}
 use Rattle.mpslp_model_core.specs.Model.{Row, Column, CoefficientKey, Listing}
-use Rattle.mpslp_types.specs.Limit.{limit_of}
-use Rattle.mpslp_builder.specs.Declaration.{RowDefinition, Declaration, declare_column, declare_lower, declare_upper, bounds_declared}
+use Rattle.mpslp_builder.specs.Declaration.{RowDefinition, Declaration, declare_column, declare_lower, declare_upper}
 use Rattle.mpslp_types.specs.declared.kinds.Limit.{Limit}
-use Rattle.mpslp_types.specs.declared.kinds.Limit.TheVariants.{MinusInf, Finite, PlusInf}
 use Rattle.mpslp_builder.proofs.CoefficientLemmas.{flat_map-none}
-use Rattle.mpslp_builder.proofs.DraftLemmas.{row_part, rhs_part, range_part, column_part, coefficient_part, lower_part, upper_part, marked_part, integer_part, binary_part, semi_part}
-use Rattle.mpslp_lp_grammar.specs.Items.{limits_by}
-use Rattle.mpslp_lp_grammar.specs.declared.relations.Relation.TheVariants.{AtLeast, EqualTo}
+use Rattle.mpslp_builder.proofs.DraftLemmas.{row_part, rhs_part, column_part, coefficient_part, lower_part, upper_part, marked_part, integer_part, binary_part, semi_part}
 use Rattle.mpslp_canonical_lp.specs.CanonicalLp.{Term, objective_terms, row_terms, is_integer_column, is_semi_column}
-use Rattle.mpslp_canonical_lp.proofs.PhraseLemmas.{column_and}
 use Rattle.mpslp_canonical_lp.proofs.BoundsWalk.{bound_made, column_made}
 use Rattle.mpslp_canonical_lp.proofs.TextWalk.{listed_declarations}
 use Rattle.mpslp_builder.proofs.EntryLemmas.{stated, all_stated}
@@ -24,31 +19,7 @@ use Rattle.mpslp_canonical_lp.proofs.ListedParts.{form_stated, lower_stated, upp
 
 bounds-none : {Y : Type 0} (part : Declaration → List Y) → ((x : List ℕ) → part (declare_column x) ≡ []) → ((x : List ℕ) (l : Limit) → part (declare_lower x l) ≡ []) → ((x : List ℕ) (l : Limit) → part (declare_upper x l) ≡ [])
     → (column : List ℕ × Column) → flat_map part (column_made column) ≡ []
-bounds-none {Y} part c l u column = by column.1.lower column.1.upper
-  where
-    lower_only : (a : Limit) → flat_map part (column_and column.0 (limits_by AtLeast a)) ≡ []
-    lower_only a = λ i. c column.0 i ++ (l column.0 a i ++ [])
-
-    both : (a b : Limit) → flat_map part (column_and column.0 (record { lower = Some a; upper = Some b })) ≡ []
-    both a b = λ i. c column.0 i ++ (l column.0 a i ++ (u column.0 b i ++ []))
-
-    in_turn : (a b : Limit) → flat_map part (column_and column.0 (limits_by AtLeast a) ++ bounds_declared column.0 None (Some b)) ≡ []
-    in_turn a b = λ i. c column.0 i ++ (l column.0 a i ++ (u column.0 b i ++ []))
-
-    by : (lower upper : Limit) → flat_map part (bound_made column.0 lower upper) ≡ []
-    by MinusInf (Finite b) = in_turn MinusInf (limit_of b)
-    by (Finite a) (Finite b) =
-        elim (have_same_value a b) as (λ t. flat_map part (if t then column_and column.0 (limits_by EqualTo (limit_of b)) else column_and column.0 (limits_by AtLeast (limit_of a)) ++ bounds_declared column.0 None (Some (limit_of b))) ≡ []) [
-          | true ↦ both (limit_of b) (limit_of b)
-          | false ↦ in_turn (limit_of a) (limit_of b)
-        ]
-    by (Finite a) MinusInf = elim (is_zero a) as (λ t. flat_map part (if t then [] else column_and column.0 (limits_by AtLeast (limit_of a))) ≡ []) [ true ↦ refl | false ↦ lower_only (limit_of a) ]
-    by (Finite a) PlusInf = elim (is_zero a) as (λ t. flat_map part (if t then [] else column_and column.0 (limits_by AtLeast (limit_of a))) ≡ []) [ true ↦ refl | false ↦ lower_only (limit_of a) ]
-    by MinusInf MinusInf = both MinusInf PlusInf
-    by MinusInf PlusInf = both MinusInf PlusInf
-    by PlusInf MinusInf = both MinusInf PlusInf
-    by PlusInf (Finite b) = both MinusInf PlusInf
-    by PlusInf PlusInf = both MinusInf PlusInf
+bounds-none {Y} part c l u column = grind arith
 
 -- ---- rows
 
@@ -74,32 +45,10 @@ rows-part m =
 -- ---- bounds
 
 lower-made : (name : List ℕ) (l u : Limit) → flat_map lower_part (bound_made name l u) ≡ stated name (lower_stated l u)
-lower-made name MinusInf (Finite b) = refl
-lower-made name (Finite a) (Finite b) =
-    elim (have_same_value a b) as (λ t. flat_map lower_part (if t then column_and name (limits_by EqualTo (limit_of b)) else column_and name (limits_by AtLeast (limit_of a)) ++ bounds_declared name None (Some (limit_of b)))
-    ≡ stated name (if t then Some (limit_of b) else Some (limit_of a))) [ true ↦ refl | false ↦ refl ]
-lower-made name (Finite a) MinusInf =
-    elim (is_zero a) as (λ t. flat_map lower_part (if t then [] else column_and name (limits_by AtLeast (limit_of a))) ≡ stated name (if t then None else Some (limit_of a))) [ true ↦ refl | false ↦ refl ]
-lower-made name (Finite a) PlusInf =
-    elim (is_zero a) as (λ t. flat_map lower_part (if t then [] else column_and name (limits_by AtLeast (limit_of a))) ≡ stated name (if t then None else Some (limit_of a))) [ true ↦ refl | false ↦ refl ]
-lower-made name MinusInf MinusInf = refl
-lower-made name MinusInf PlusInf = refl
-lower-made name PlusInf MinusInf = refl
-lower-made name PlusInf (Finite b) = refl
-lower-made name PlusInf PlusInf = refl
+lower-made name l u = grind arith
 
 upper-made : (name : List ℕ) (l u : Limit) → flat_map upper_part (bound_made name l u) ≡ stated name (upper_stated l u)
-upper-made name MinusInf (Finite b) = refl
-upper-made name (Finite a) (Finite b) =
-    elim (have_same_value a b) as (λ t. flat_map upper_part (if t then column_and name (limits_by EqualTo (limit_of b)) else column_and name (limits_by AtLeast (limit_of a)) ++ bounds_declared name None (Some (limit_of b)))
-    ≡ stated name (Some (limit_of b))) [ true ↦ refl | false ↦ refl ]
-upper-made name (Finite a) MinusInf = elim (is_zero a) as (λ t. flat_map upper_part (if t then [] else column_and name (limits_by AtLeast (limit_of a))) ≡ []) [ true ↦ refl | false ↦ refl ]
-upper-made name (Finite a) PlusInf = elim (is_zero a) as (λ t. flat_map upper_part (if t then [] else column_and name (limits_by AtLeast (limit_of a))) ≡ []) [ true ↦ refl | false ↦ refl ]
-upper-made name MinusInf MinusInf = refl
-upper-made name MinusInf PlusInf = refl
-upper-made name PlusInf MinusInf = refl
-upper-made name PlusInf (Finite b) = refl
-upper-made name PlusInf PlusInf = refl
+upper-made name l u = grind arith
 
 pub lowers-part : (m : Listing) → flat_map lower_part (listed_declarations m) ≡ all_stated column_lower m.columns
 lowers-part =
@@ -209,18 +158,6 @@ no-right_sides = no-part rhs_part (record {
   of_row = λ _. refl;
   of_term = λ _ _. refl;
   of_bound = bounds-none rhs_part (λ _. refl) (λ _ _. refl) (λ _ _. refl);
-  of_general = λ _. refl;
-  of_semi = λ _. refl;
-})
-
-pub no-ranges : (m : Listing) → flat_map range_part (listed_declarations m) ≡ []
-no-ranges = no-part range_part (record {
-  of_sense = λ _. refl;
-  of_objective = λ _. refl;
-  of_constant = λ _. refl;
-  of_row = λ _. refl;
-  of_term = λ _ _. refl;
-  of_bound = bounds-none range_part (λ _. refl) (λ _ _. refl) (λ _ _. refl);
   of_general = λ _. refl;
   of_semi = λ _. refl;
 })

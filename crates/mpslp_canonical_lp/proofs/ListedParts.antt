@@ -1,5 +1,5 @@
 -- What the declarations of the canonical text of a listing put into each map.
-use Rattle.std.proofs.Common.{◌≡◌, refl, ap, ◌∙◌, List, [], ◌∷◌, ◌++◌, ℕ, true, false}
+use Rattle.std.proofs.Common.{arith, rules, ◌≡◌, refl, ap, ◌∙◌, List, [], ◌∷◌, ◌++◌, ℕ, true, false}
 use Rattle.std.specs.Prelude.{Option, Some, None, filter, unwrap_or, if◌then◌else◌}
 use Rattle.std.specs.List.{flat_map}
 use Rattle.std.proofs.lemmas.List.{append-nil}
@@ -123,17 +123,12 @@ own_name entry = named entry ∷ []
 -- if terms put nothing into the map
 pub without-terms : {Y : Type 0} (row : List ℕ × Row → List Y) (m : Listing) (more : List Y)
     → flat_map nothing (objective_terms m) ++ (flat_map (λ entry. row entry ++ flat_map nothing (row_terms m entry.0)) m.rows ++ more) ≡ flat_map row m.rows ++ more
-without-terms {Y} row m more =
-    λ i. flat_map-none {Y = Y} (objective_terms m) i ++ (flat-same (λ entry. row entry ++ flat_map nothing (row_terms m entry.0)) row bare m.rows i ++ more)
-  where
-    bare : (entry : List ℕ × Row) → row entry ++ flat_map nothing (row_terms m entry.0) ≡ row entry
-    bare entry = ap (λ (ys : List Y). row entry ++ ys) (flat_map-none (row_terms m entry.0)) ∙ append-nil (row entry)
+without-terms {Y} row m more = grind (arith, flat_map-none, flat-same, append-nil)
 
 -- if the lines of rows put nothing into it either
 without-rows : {Y : Type 0} (m : Listing) (more : List Y)
     → flat_map nothing (objective_terms m) ++ (flat_map (λ entry. flat_map nothing (row_terms m entry.0)) m.rows ++ more) ≡ more
-without-rows m more =
-    without-terms nothing m more ∙ ap (λ (ys : List _). ys ++ more) (flat_map-none m.rows)
+without-rows m more = search (rules, flat_map-none)
 
 -- a map into which only the lines of columns put something
 pub columns-parts : {Y : Type 0} (part : Declaration → List Y) (bound general semi : List ℕ × Column → List Y) → PartsOf part nothing nothing_of bound general semi → (m : Listing)

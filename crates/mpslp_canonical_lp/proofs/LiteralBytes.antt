@@ -4,11 +4,9 @@ use Rattle.std.specs.Prelude.{◌||◌, not, nat_lt}
 use Rattle.std.specs.List.{list_any, list_all, before_first, after_first, position_or_len}
 use Rattle.std.specs.Cmp.{first_so, second_so}
 use Rattle.mpslp_decimal.specs.Literal.{is_digit, is_sign, is_point, is_exponent_mark, without_sign, are_digits, unsigned_part, mantissa_digits, exponent_part, is_literal}
-use Rattle.mpslp_decimal.proofs.CutLemmas.{after-none}
+use Rattle.mpslp_decimal.proofs.CutLemmas.{after-none, Each, Each-weaker}
 use Rattle.mpslp_types.proofs.BoolLemmas.{nor}
 use Rattle.mpslp_types.proofs.EachLemmas.{Each-from_list_all}
-use Rattle.mpslp_decimal.proofs.CutLemmas.{Each}
-use Rattle.mpslp_decimal.proofs.CutLemmas.{Each-weaker}
 
 -- a property of each of these bytes holds for each byte of a literal
 module _ (P : ℕ → Type 0) (digit : (b : ℕ) → is_digit b ≡ true → P b) (sign : (b : ℕ) → is_sign b ≡ true → P b)
@@ -31,12 +29,7 @@ module _ (P : ℕ → Type 0) (digit : (b : ℕ) → is_digit b ≡ true → P b
       ] refl h k
 
   signed-each : (xs : List ℕ) → Each P (without_sign xs) → Each P xs
-  signed-each [] h = tt
-  signed-each (x ∷ xs) h =
-      elim (is_sign x) as (λ b. is_sign x ≡ b → Each P (cond b xs (x ∷ xs)) → Each P (x ∷ xs)) [
-        | true ↦ λ e more. (sign x e, more)
-        | false ↦ λ _ more. more
-      ] refl h
+  signed-each xs h = grind arith
 
   digits-each : (xs : List ℕ) → are_digits xs ≡ true → Each P xs
   digits-each xs h = Each-weaker (λ b. is_digit b ≡ true) P digit xs (Each-from_list_all is_digit xs (second_so (nat_lt 0 (length xs)) (list_all is_digit xs) h))

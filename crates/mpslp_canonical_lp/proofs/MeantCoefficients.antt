@@ -1,11 +1,10 @@
 -- The coefficients that are declared, without zeros, are those of the listing.
-use Rattle.std.proofs.Common.{◌≡◌, refl, sym, ap, ◌∙◌, List, [], ◌∷◌, ◌++◌, ℕ, Bool, true, false, not, cond}
-use Rattle.std.specs.Prelude.{Option, Some, None, filter, filter_map, if◌then◌else◌}
+use Rattle.std.proofs.Common.{arith, ◌≡◌, ap, ◌∙◌, List, [], ◌++◌, ℕ, Bool, true, not, cond}
+use Rattle.std.specs.Prelude.{Some, None, filter, filter_map}
 use Rattle.std.specs.List.{flat_map, cons_option}
-use Rattle.std.specs.Option.{option_map}
 use Rattle.std.specs.Cmp.{first_so, second_so}
 use Rattle.std.specs.FinMap.{find}
-use Rattle.mpslp_decimal.specs.Decimal.{Number, is_decimal, is_zero, zero_number}
+use Rattle.mpslp_decimal.specs.Decimal.{Number, is_decimal, is_zero}
 use Rattle.mpslp_model_core.specs.Model.{Row, Column, CoefficientKey, key_cmp, Listing}
 use Rattle.mpslp_builder.specs.Declaration.{empty_draft}
 use Rattle.mpslp_types.proofs.EachLemmas.{Each, Each-weaker, Each-append, Each-flat_map, Each-all}
@@ -14,7 +13,7 @@ use Rattle.mpslp_builder.proofs.DraftLemmas.{coefficients-all}
 use Rattle.mpslp_builder.proofs.DraftEntries.{same_key}
 use Rattle.mpslp_builder.proofs.LaterDrafts.{value_in}
 use Rattle.mpslp_builder.proofs.SortedDrafts.{key_total}
-use Rattle.mpslp_canonical_lp.specs.CanonicalLp.{Term, term_in, has_coefficients, objective_term, objective_terms, some_term, row_terms}
+use Rattle.mpslp_canonical_lp.specs.CanonicalLp.{Term, term_in, objective_term, objective_terms, some_term, row_terms}
 use Rattle.mpslp_canonical_lp.proofs.PrintableLemmas.{Holds, each-filter_map}
 use Rattle.mpslp_canonical_lp.proofs.TextWalk.{listed_declarations}
 use Rattle.mpslp_builder.proofs.EntryLemmas.{puts-kept, found-each}
@@ -39,11 +38,7 @@ module _ (m : Listing) (h : IsSoundListing m) where
       first_so (is_kept value) _ (second_so (is_decimal value) _ (found-each key_cmp key_total same_key (λ k v. is_sound_entry m (k, v) ≡ true) m.coefficients h.coefficients key value is))
 
   term-true : (row : List ℕ) (column : List ℕ × Column) → Holds (IsTrueTerm m row) (term_in m row column)
-  term-true row column = by (find key_cmp (place_at row column.0) m.coefficients) refl
-    where
-      by : (o : Option Number) → find key_cmp (place_at row column.0) m.coefficients ≡ o → Holds (IsTrueTerm m row) (option_map (λ (value : Number). (column.0, value)) o)
-      by None is = tt
-      by (Some d) is = is ∙ sym (ap (λ (b : Bool). cond b (Some d) None) (kept (place_at row column.0) d is))
+  term-true row column = grind (arith, place_at, kept)
 
   terms-true : (row : List ℕ) (columns : List (List ℕ × Column)) → Each (IsTrueTerm m row) (filter_map (term_in m row) columns)
   terms-true row columns = each-filter_map (IsTrueTerm m row) (term_in m row) columns (Each-all (λ column. Holds (IsTrueTerm m row) (term_in m row column)) (term-true row) columns)
@@ -51,11 +46,7 @@ module _ (m : Listing) (h : IsSoundListing m) where
   -- ---- the objective
 
   objective-term-true : (column : List ℕ × Column) → Holds (IsTrueTerm m m.objective) (objective_term m column)
-  objective-term-true column = by (has_coefficients m column) refl
-    where
-      by : (b : Bool) → has_coefficients m column ≡ b → Holds (IsTrueTerm m m.objective) (if b then term_in m m.objective column else Some (column.0, zero_number))
-      by true e = term-true m.objective column
-      by false e = no-coefficient m m.objective column e
+  objective-term-true column = grind (arith, term-true, no-coefficient)
 
   objective-true : Each (IsTrueTerm m m.objective) (objective_terms m)
   objective-true = each-filter_map (IsTrueTerm m m.objective) (objective_term m) m.columns (Each-all (λ column. Holds (IsTrueTerm m m.objective) (objective_term m column)) objective-term-true m.columns)
@@ -63,19 +54,10 @@ module _ (m : Listing) (h : IsSoundListing m) where
   -- ---- rows
 
   none-first : (row : List ℕ) (column : List ℕ × Column) (terms : List Term) → cons_option (term_in m row column) terms ≡ [] → find key_cmp (place_at row column.0) m.coefficients ≡ None
-  none-first row column terms is = by (find key_cmp (place_at row column.0) m.coefficients) is
-    where
-      by : (o : Option Number) → cons_option (option_map (λ (value : Number). (column.0, value)) o) terms ≡ [] → o ≡ None
-      by None k = refl
-      by (Some d) k = cc
+  none-first row column terms is = grind arith
 
   row-true : (row : List ℕ) (columns : List (List ℕ × Column)) → Each (IsTrueTerm m row) (some_term columns (filter_map (term_in m row) columns))
-  row-true row [] = tt
-  row-true row (column ∷ columns) = by (filter_map (term_in m row) (column ∷ columns)) refl (terms-true row (column ∷ columns))
-    where
-      by : (terms : List Term) → filter_map (term_in m row) (column ∷ columns) ≡ terms → Each (IsTrueTerm m row) terms → Each (IsTrueTerm m row) (some_term (column ∷ columns) terms)
-      by [] is k = (none-first row column (filter_map (term_in m row) columns) is, tt)
-      by (term ∷ terms) is k = k
+  row-true row columns = grind (arith, terms-true, none-first)
 
   -- ---- all entries
 

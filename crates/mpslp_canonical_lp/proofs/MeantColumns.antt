@@ -1,17 +1,14 @@
 -- The columns that are declared are those of the listing: each has its type and its bounds.
-use Rattle.std.proofs.Common.{◌≡◌, refl, sym, ap, ◌∙◌, List, [], ◌∷◌, ℕ, Bool, true, false, cond, map}
+use Rattle.std.proofs.Common.{arith, ◌≡◌, refl, sym, ap, ◌∙◌, List, [], ◌∷◌, ℕ, Bool, true, false, cond, map}
 use Rattle.std.specs.Prelude.{Option, Some, None, is_some, is_none, unwrap_or, filter, ◌&&◌, ◌||◌, if◌then◌else◌}
-use Rattle.std.specs.Ordering.{eq_by_cmp}
 use Rattle.mpslp_decimal.specs.Decimal.{Number, is_zero, have_same_value}
-use Rattle.mpslp_decimal.proofs.NumberTextLemmas.{zero-is}
 use Rattle.mpslp_decimal.proofs.OrderLemmas.{same_decimal}
 use Rattle.mpslp_model_core.specs.Model.{Column, Listing}
 use Rattle.mpslp_types.specs.Name.{bytes_cmp}
 use Rattle.mpslp_types.specs.Limit.{limit_of, is_bounded_decimal, is_lower_side, is_upper_side}
 use Rattle.mpslp_types.specs.declared.kinds.Kind.{Kind}
-use Rattle.mpslp_types.specs.declared.kinds.Kind.TheVariants.{Continuous, Integer, Semi}
 use Rattle.mpslp_types.specs.declared.kinds.Limit.{Limit}
-use Rattle.mpslp_types.specs.declared.kinds.Limit.TheVariants.{MinusInf, Finite, PlusInf}
+use Rattle.mpslp_types.specs.declared.kinds.Limit.TheVariants.{Finite, PlusInf}
 use Rattle.mpslp_builder.specs.Declaration.{empty_draft, at_name, has_name}
 use Rattle.mpslp_builder.specs.Bounds.{zero_limit, one_limit}
 use Rattle.mpslp_builder.specs.Meaning.{column_of}
@@ -34,18 +31,10 @@ use Rattle.mpslp_canonical_lp.proofs.ListedMaps.{lowers-part, uppers-part, integ
 -- ---- bounds, types
 
 lower-at : (m : Listing) → IsSoundListing m → (q : List ℕ) → at_name (drafted m).lowers q ≡ then_stated column_lower (at_name m.columns q)
-lower-at m h q =
-    ap (λ (es : List (List ℕ × Limit)). at_name es q)
-    (lowers-all (listed_declarations m) empty_draft ∙ ap (λ (es : List (List ℕ × Limit)). puts bytes_cmp es []) (lowers-part m)
-    ∙ puts-own bytes_cmp bytes_total tied_names (all_stated column_lower m.columns) (sorted-stated bytes_cmp column_lower m.columns h.columns_sorted))
-    ∙ find-stated bytes_cmp column_lower bytes_total tied_names q m.columns h.columns_sorted
+lower-at m h q = grind (arith, lowers-all, listed_declarations, puts, lowers-part, puts-own, bytes_total, tied_names, all_stated, column_lower, sorted-stated, find-stated)
 
 upper-at : (m : Listing) → IsSoundListing m → (q : List ℕ) → at_name (drafted m).uppers q ≡ then_stated column_upper (at_name m.columns q)
-upper-at m h q =
-    ap (λ (es : List (List ℕ × Limit)). at_name es q)
-    (uppers-all (listed_declarations m) empty_draft ∙ ap (λ (es : List (List ℕ × Limit)). puts bytes_cmp es []) (uppers-part m)
-    ∙ puts-own bytes_cmp bytes_total tied_names (all_stated column_upper m.columns) (sorted-stated bytes_cmp column_upper m.columns h.columns_sorted))
-    ∙ find-stated bytes_cmp column_upper bytes_total tied_names q m.columns h.columns_sorted
+upper-at m h q = grind (arith, uppers-all, listed_declarations, puts, uppers-part, puts-own, bytes_total, tied_names, all_stated, column_upper, sorted-stated, find-stated)
 
 -- the names of the columns that pass a test
 named-own : (m : Listing) → IsSoundListing m → (p : List ℕ × Column → Bool) → puts bytes_cmp (map named (filter p m.columns)) [] ≡ map named (filter p m.columns)
@@ -54,11 +43,7 @@ named-own m h p =
 
 at-named : (q : List ℕ) (columns : List (List ℕ × Column)) → has_name (map named columns) q ≡ is_some (at_name columns q)
 at-named q [] = refl
-at-named q (column ∷ columns) =
-    elim (eq_by_cmp bytes_cmp q column.0) as (λ b. is_some (cond b (Some tt) (at_name (map named columns) q)) ≡ is_some (cond b (Some column.1) (at_name columns q))) [
-      | true ↦ refl
-      | false ↦ at-named q columns
-    ]
+at-named q (column ∷ columns) = grind (arith, named, at-named q columns)
 
 -- whether a column is among those whose type passes
 kind-at : (m : Listing) → IsSoundListing m → (p : Kind → Bool) (q : List ℕ) (column : Column) → at_name m.columns q ≡ Some column → has_name (map named (filter (λ (c : List ℕ × Column). p c.1.kind) m.columns)) q ≡ p column.kind
@@ -72,12 +57,10 @@ kind-at m h p q column is =
     by false = refl
 
 integers-drafted : (m : Listing) → IsSoundListing m → (drafted m).integers ≡ map named (filter is_integer_column m.columns)
-integers-drafted m h =
-    integers-all (listed_declarations m) empty_draft ∙ ap (λ (es : List (List ℕ × Unit {0})). puts bytes_cmp es []) (integers-part m) ∙ named-own m h is_integer_column
+integers-drafted m h = grind (arith, integers-all, listed_declarations, puts, integers-part, named-own)
 
 semis-drafted : (m : Listing) → IsSoundListing m → (drafted m).semis ≡ map named (filter is_semi_column m.columns)
-semis-drafted m h =
-    semis-all (listed_declarations m) empty_draft ∙ ap (λ (es : List (List ℕ × Unit {0})). puts bytes_cmp es []) (semis-part m) ∙ named-own m h is_semi_column
+semis-drafted m h = grind (arith, semis-all, listed_declarations, puts, semis-part, named-own)
 
 marked-none : (m : Listing) → (drafted m).marked ≡ []
 marked-none m = marked-all (listed_declarations m) empty_draft ∙ ap (λ (es : List (List ℕ × Unit {0})). puts bytes_cmp es []) (no-marks m)
@@ -88,11 +71,7 @@ binaries-none m = binaries-all (listed_declarations m) empty_draft ∙ ap (λ (e
 -- ---- the bounds follow from what is declared and the defaults
 
 unless-zero : (a : Number) → is_bounded_decimal a ≡ true → unwrap_or (if is_zero a then None else Some (limit_of a)) zero_limit ≡ Finite a
-unless-zero a p = by (is_zero a) refl
-  where
-    by : (b : Bool) → is_zero a ≡ b → unwrap_or (if b then None else Some (limit_of a)) zero_limit ≡ Finite a
-    by true e = ap (λ (d : Number). Finite d) (sym (zero-is a (bounded_so a p) e))
-    by false e = bounded_finite a p
+unless-zero a p = grind arith
 
 either-same : (a b : Number) → is_bounded_decimal a ≡ true → is_bounded_decimal b ≡ true → unwrap_or (if have_same_value a b then Some (limit_of b) else Some (limit_of a)) zero_limit ≡ Finite a
 either-same a b p q = by (have_same_value a b) refl
@@ -105,36 +84,19 @@ no_side : false ≡ true → ⊥
 no_side e = cc
 
 lower-back : (l u : Limit) → is_lower_side l ≡ true → is_upper_side u ≡ true → unwrap_or (lower_stated l u) zero_limit ≡ l
-lower-back MinusInf (Finite b) p q = refl
-lower-back MinusInf PlusInf p q = refl
-lower-back (Finite a) (Finite b) p q = either-same a b p q
-lower-back (Finite a) PlusInf p q = unless-zero a p
-lower-back MinusInf MinusInf p q = absurd (no_side q)
-lower-back (Finite a) MinusInf p q = absurd (no_side q)
-lower-back PlusInf u p q = absurd (no_side p)
+lower-back l u p q = grind (arith, either-same, unless-zero, no_side)
 
 upper-back : (l u : Limit) → is_lower_side l ≡ true → is_upper_side u ≡ true → unwrap_or (upper_stated l u) PlusInf ≡ u
-upper-back MinusInf (Finite b) p q = bounded_finite b q
-upper-back MinusInf PlusInf p q = refl
-upper-back (Finite a) (Finite b) p q = bounded_finite b q
-upper-back (Finite a) PlusInf p q = refl
-upper-back MinusInf MinusInf p q = absurd (no_side q)
-upper-back (Finite a) MinusInf p q = absurd (no_side q)
-upper-back PlusInf u p q = absurd (no_side p)
+upper-back l u p q = grind (arith, bounded_finite, no_side)
 
 same_integer : (k : Kind) → is_integer_kind k ≡ kinds.is_integer_kind k
-same_integer Integer = refl
-same_integer Continuous = refl
-same_integer Semi = refl
+same_integer k = grind arith
 
 same_semi : (k : Kind) → is_semi_kind k ≡ kinds.is_semi_kind k
-same_semi Integer = refl
-same_semi Continuous = refl
-same_semi Semi = refl
+same_semi k = grind arith
 
 or_none : (b : Bool) → (false || (b || false)) ≡ b
-or_none true = refl
-or_none false = refl
+or_none b = grind arith
 
 -- each column has its type and bounds
 bounds-back : (m : Listing) → IsSoundListing m → (column : List ℕ × Column) → IsOwnColumn m column → column_of (drafted m) column.0 ≡ column.1

@@ -1,16 +1,14 @@
 -- The sense, the objective and the constant that are declared are those of the listing.
-use Rattle.std.proofs.Common.{◌≡◌, refl, sym, ap, ◌∙◌, List, [], ◌∷◌, ◌++◌, ℕ, Bool, true, false}
-use Rattle.std.specs.Prelude.{Option, Some, None, filter, unwrap_or, if◌then◌else◌}
+use Rattle.std.proofs.Common.{arith, ◌≡◌, refl, ap, ◌∙◌, List, [], ◌∷◌, ◌++◌, ℕ, true, false}
+use Rattle.std.specs.Prelude.{Option, Some, None, filter, if◌then◌else◌}
 use Rattle.std.specs.List.{flat_map}
-use Rattle.mpslp_decimal.specs.Decimal.{Number, IsDecimal, is_zero, zero_number, negated, have_same_value}
+use Rattle.mpslp_decimal.specs.Decimal.{Number, IsDecimal, is_zero}
 use Rattle.mpslp_decimal.proofs.NumberTextLemmas.{zero-is}
 use Rattle.mpslp_model_core.specs.Model.{Row, CoefficientKey, Listing}
 use Rattle.mpslp_types.specs.Name.{bytes_cmp}
-use Rattle.mpslp_types.specs.Limit.{limit_of}
 use Rattle.mpslp_types.specs.declared.kinds.Limit.{Limit}
-use Rattle.mpslp_types.specs.declared.kinds.Limit.TheVariants.{MinusInf, Finite, PlusInf}
-use Rattle.mpslp_builder.specs.Declaration.{RowDefinition, Declaration, declare_constant, declare_row, declare_column, declare_coefficient, declare_lower, declare_upper, declare_integer, declare_semi, Declarations, Draft, empty_draft, with_declarations, at_name, bounds_declared}
-use Rattle.mpslp_builder.specs.Meaning.{objective_name, constant_of}
+use Rattle.mpslp_builder.specs.Declaration.{RowDefinition, Declaration, declare_constant, declare_row, declare_column, declare_coefficient, declare_lower, declare_upper, declare_integer, declare_semi, Declarations, Draft, empty_draft, with_declarations, bounds_declared}
+use Rattle.mpslp_builder.specs.Meaning.{constant_of}
 use Rattle.mpslp_types.proofs.EachLemmas.{Each, Each-append, Each-flat_map, Each-all}
 use Rattle.mpslp_model_core.proofs.PutsLemmas.{puts}
 use Rattle.mpslp_builder.proofs.DraftLemmas.{rhs_values-all}
@@ -18,7 +16,7 @@ use Rattle.mpslp_builder.proofs.KeptParts.{Stays, stays-all}
 use Rattle.mpslp_builder.proofs.MadeDrafts.{with_declarations-append}
 use Rattle.mpslp_lp_grammar.specs.Items.{limits_by}
 use Rattle.mpslp_lp_grammar.specs.Rows.{term_declared, objective_declared}
-use Rattle.mpslp_lp_grammar.specs.declared.relations.Relation.TheVariants.{AtLeast, EqualTo}
+use Rattle.mpslp_lp_grammar.specs.declared.relations.Relation.TheVariants.{AtLeast}
 use Rattle.mpslp_canonical_lp.specs.CanonicalLp.{Term, objective_terms, row_terms, is_integer_column, is_semi_column}
 use Rattle.mpslp_canonical_lp.proofs.PhraseLemmas.{column_and}
 use Rattle.mpslp_canonical_lp.proofs.ObjectiveWalk.{terms_declared, constant_declared}
@@ -59,23 +57,8 @@ module _ (P : Declaration → Type 0) (h : EachKind P) where
   in_turn : (x : List ℕ) (a b : Limit) → Each P (column_and x (limits_by AtLeast a) ++ bounds_declared x None (Some b))
   in_turn x a b = (h.of_column x, (h.of_lower x a, (h.of_upper x b, tt)))
 
-  unless_default : (x : List ℕ) (a : Number) → Each P (if is_zero a then [] else column_and x (limits_by AtLeast (limit_of a)))
-  unless_default x a = elim (is_zero a) as (λ t. Each P (if t then [] else column_and x (limits_by AtLeast (limit_of a)))) [ true ↦ tt | false ↦ (h.of_column x, (h.of_lower x (limit_of a), tt)) ]
-
   each-bound : (x : List ℕ) (lower upper : Limit) → Each P (bound_made x lower upper)
-  each-bound x MinusInf (Finite b) = in_turn x MinusInf (limit_of b)
-  each-bound x (Finite a) (Finite b) =
-      elim (have_same_value a b) as (λ t. Each P (if t then column_and x (limits_by EqualTo (limit_of b)) else column_and x (limits_by AtLeast (limit_of a)) ++ bounds_declared x None (Some (limit_of b)))) [
-        | true ↦ both x (limit_of b) (limit_of b)
-        | false ↦ in_turn x (limit_of a) (limit_of b)
-      ]
-  each-bound x (Finite a) MinusInf = unless_default x a
-  each-bound x (Finite a) PlusInf = unless_default x a
-  each-bound x MinusInf MinusInf = both x MinusInf PlusInf
-  each-bound x MinusInf PlusInf = both x MinusInf PlusInf
-  each-bound x PlusInf MinusInf = both x MinusInf PlusInf
-  each-bound x PlusInf (Finite b) = both x MinusInf PlusInf
-  each-bound x PlusInf PlusInf = both x MinusInf PlusInf
+  each-bound x lower upper = grind arith
 
   each-rest : (m : Listing) → Each P (rest_declared m)
   each-rest m =
@@ -128,23 +111,14 @@ objective-drafted m =
 -- ---- the constant
 
 keeps-constant : (value : Option Number) → EachKind (Stays (λ d. d.constant) value)
-keeps-constant value = record {
-  of_row = λ _ _ all is. is;
-  of_column = λ _ all is. is;
-  of_coefficient = λ _ _ all is. is;
-  of_lower = λ _ _ all is. is;
-  of_upper = λ _ _ all is. is;
-  of_integer = λ _ all is. is;
-  of_semi = λ _ all is. is;
-}
+keeps-constant value = grind arith
 
 -- it is declared unless it is 0
 abbrev stated_constant : Number → Option Number
 stated_constant value = if is_zero value then None else Some value
 
 constant-added : (all : Draft) (value : Number) → all.constant ≡ None → (with_declarations all (constant_declared value)).constant ≡ stated_constant value
-constant-added all value none =
-    elim (is_zero value) as (λ t. (with_declarations all (if t then [] else declare_constant value ∷ [])).constant ≡ (if t then None else Some value)) [ true ↦ none | false ↦ refl ]
+constant-added all value none = grind arith
 
 constant-drafted : (m : Listing) → (drafted m).constant ≡ stated_constant m.constant
 constant-drafted m =
@@ -161,10 +135,4 @@ no-right_side : (m : Listing) → (drafted m).rhs_values ≡ []
 no-right_side m = rhs_values-all (listed_declarations m) empty_draft ∙ ap (λ (es : List (List ℕ × Number)). puts bytes_cmp es []) (no-right_sides m)
 
 pub constant-back : (m : Listing) → IsDecimal m.constant → constant_of (drafted m) ≡ m.constant
-constant-back m h =
-    (λ i. unwrap_or (constant-drafted m i) (negated (unwrap_or (at_name (no-right_side m i) (objective_name (drafted m))) zero_number)))
-    ∙ by (is_zero m.constant) refl
-  where
-    by : (b : Bool) → is_zero m.constant ≡ b → unwrap_or (if b then None else Some m.constant) zero_number ≡ m.constant
-    by true e = sym (zero-is m.constant h e)
-    by false e = refl
+constant-back m h = grind (arith, constant-drafted, no-right_side, drafted, zero-is)

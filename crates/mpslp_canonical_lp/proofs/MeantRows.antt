@@ -1,5 +1,5 @@
 -- The rows that are declared are those of the listing: each has its limits.
-use Rattle.std.proofs.Common.{◌≡◌, refl, sym, ap, ◌∙◌, List, [], ◌∷◌, ℕ, Bool, true, false, not, map}
+use Rattle.std.proofs.Common.{arith, ◌≡◌, refl, sym, ap, ◌∙◌, List, [], ◌∷◌, ℕ, Bool, true, false, not, map}
 use Rattle.std.specs.Prelude.{Some, None, is_some, if◌then◌else◌}
 use Rattle.std.specs.List.{list_all}
 use Rattle.mpslp_decimal.specs.Decimal.{Number, have_same_value}
@@ -7,9 +7,9 @@ use Rattle.mpslp_decimal.proofs.OrderLemmas.{same_decimal}
 use Rattle.mpslp_model_core.specs.Model.{Row, is_sound_row, Listing}
 use Rattle.mpslp_model_core.specs.Limits.{has_infinite_rhs}
 use Rattle.mpslp_types.specs.Name.{bytes_cmp}
-use Rattle.mpslp_types.specs.Limit.{limit_of, is_bounded_decimal, is_lower_side, is_upper_side, are_sides}
+use Rattle.mpslp_types.specs.Limit.{limit_of, is_bounded_decimal, are_sides}
 use Rattle.mpslp_types.specs.declared.kinds.Limit.{Limit}
-use Rattle.mpslp_types.specs.declared.kinds.Limit.TheVariants.{MinusInf, Finite, PlusInf}
+use Rattle.mpslp_types.specs.declared.kinds.Limit.TheVariants.{Finite}
 use Rattle.mpslp_builder.specs.Declaration.{RowDefinition, by_limits, empty_draft}
 use Rattle.mpslp_builder.specs.Meaning.{row_limits, row_entry, row_passes}
 use Rattle.mpslp_types.proofs.EachLemmas.{Each, Each-map, Each-all, list_all-from_Each}
@@ -38,19 +38,7 @@ between-stated a b p q = by (have_same_value a b) refl
 
 -- what is declared of a row are its limits
 pub limits-back : (lower upper : Limit) → are_sides lower upper ≡ true → form_of (limits_stated lower upper) ≡ by_limits lower upper
-limits-back lower upper h = by lower upper (lower_of lower upper h) (upper_of lower upper h)
-  where
-    open_side : false ≡ true → ⊥
-    open_side e = cc
-
-    by : (l u : Limit) → is_lower_side l ≡ true → is_upper_side u ≡ true → form_of (limits_stated l u) ≡ by_limits l u
-    by MinusInf (Finite b) p q = ap (by_limits MinusInf) (bounded_finite b q)
-    by MinusInf PlusInf p q = refl
-    by (Finite a) (Finite b) p q = between-stated a b p q
-    by (Finite a) PlusInf p q = ap (λ (l : Limit). by_limits l PlusInf) (bounded_finite a p)
-    by MinusInf MinusInf p q = absurd (open_side q)
-    by (Finite a) MinusInf p q = absurd (open_side q)
-    by PlusInf u p q = absurd (open_side p)
+limits-back lower upper h = grind (arith, lower_of, upper_of, form_of, limits_stated, bounded_finite, between-stated)
 
 abbrev own_form : List ℕ × Row → List ℕ × RowDefinition
 own_form row = (row.0, by_limits row.1.lower row.1.upper)

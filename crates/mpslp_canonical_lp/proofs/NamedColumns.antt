@@ -1,16 +1,13 @@
 -- The columns that are declared are those of a well-formed listing, however often each is named.
-use Rattle.std.proofs.Common.{◌≡◌, refl, sym, ap, ◌∙◌, List, [], ◌∷◌, ◌++◌, ℕ, Bool, true, false, map, append_assoc}
-use Rattle.std.specs.Prelude.{Option, Some, None, is_some, filter, filter_map, ◌||◌, if◌then◌else◌}
+use Rattle.std.proofs.Common.{arith, ◌≡◌, refl, sym, ap, ◌∙◌, List, [], ◌∷◌, ◌++◌, ℕ, Bool, true, false, map, append_assoc}
+use Rattle.std.specs.Prelude.{Some, is_some, filter, filter_map, ◌||◌, if◌then◌else◌}
 use Rattle.std.specs.List.{flat_map, list_any}
-use Rattle.std.specs.Option.{option_map}
 use Rattle.std.specs.FinMap.{find, is_sorted}
-use Rattle.mpslp_decimal.specs.Decimal.{Number, is_zero, zero_number, have_same_value}
+use Rattle.mpslp_decimal.specs.Decimal.{Number, zero_number}
 use Rattle.mpslp_model_core.specs.Model.{Column, CoefficientKey, key_cmp, Listing}
 use Rattle.mpslp_types.specs.Name.{same_bytes, bytes_cmp}
-use Rattle.mpslp_types.specs.Limit.{limit_of}
 use Rattle.mpslp_types.specs.declared.kinds.Limit.{Limit}
-use Rattle.mpslp_types.specs.declared.kinds.Limit.TheVariants.{MinusInf, Finite, PlusInf}
-use Rattle.mpslp_builder.specs.Declaration.{empty_draft, at_name, bounds_declared}
+use Rattle.mpslp_builder.specs.Declaration.{empty_draft, at_name}
 use Rattle.mpslp_types.proofs.BoolLemmas.{T_from}
 use Rattle.mpslp_types.proofs.EachLemmas.{Each, Each-weaker, Each-append, Each-map, Each-flat_map, Each-filter, Each-all}
 use Rattle.mpslp_model_core.proofs.PutsLemmas.{puts, puts-give, finds_own, some_append_left}
@@ -19,10 +16,7 @@ use Rattle.mpslp_builder.proofs.DraftLemmas.{column_part, columns-all}
 use Rattle.mpslp_builder.proofs.MeaningFromNoFault.{sorted-mapped}
 use Rattle.mpslp_builder.proofs.SlotLemmas.{same_name}
 use Rattle.mpslp_builder.proofs.SortedDrafts.{bytes_total, tied_names, key_total}
-use Rattle.mpslp_lp_grammar.specs.Items.{limits_by}
-use Rattle.mpslp_lp_grammar.specs.declared.relations.Relation.TheVariants.{AtLeast, EqualTo}
 use Rattle.mpslp_canonical_lp.specs.CanonicalLp.{Term, term_in, has_coefficients, objective_term, objective_terms, some_term, row_terms, is_integer_column, is_semi_column}
-use Rattle.mpslp_canonical_lp.proofs.PhraseLemmas.{column_and}
 use Rattle.mpslp_canonical_lp.proofs.PrintableLemmas.{Holds, each-filter_map}
 use Rattle.mpslp_canonical_lp.proofs.BoundsWalk.{bound_made}
 use Rattle.mpslp_canonical_lp.proofs.TextWalk.{listed_declarations}
@@ -43,19 +37,7 @@ listed_names m = all_parts column_part nothing (λ _. own_name) bound_names own_
 
 module _ (P : List ℕ × Unit {0} → Type 0) where
   bound-names-hold : (name : List ℕ) (l u : Limit) → P (name, tt) → Each P (flat_map column_part (bound_made name l u))
-  bound-names-hold name MinusInf (Finite b) h = (h, tt)
-  bound-names-hold name (Finite a) (Finite b) h =
-      elim (have_same_value a b) as (λ t. Each P (flat_map column_part (if t then column_and name (limits_by EqualTo (limit_of b)) else column_and name (limits_by AtLeast (limit_of a)) ++ bounds_declared name None (Some (limit_of b))))) [
-        | true ↦ (h, tt)
-        | false ↦ (h, tt)
-      ]
-  bound-names-hold name (Finite a) MinusInf h = elim (is_zero a) as (λ t. Each P (flat_map column_part (if t then [] else column_and name (limits_by AtLeast (limit_of a))))) [ true ↦ tt | false ↦ (h, tt) ]
-  bound-names-hold name (Finite a) PlusInf h = elim (is_zero a) as (λ t. Each P (flat_map column_part (if t then [] else column_and name (limits_by AtLeast (limit_of a))))) [ true ↦ tt | false ↦ (h, tt) ]
-  bound-names-hold name MinusInf MinusInf h = (h, tt)
-  bound-names-hold name MinusInf PlusInf h = (h, tt)
-  bound-names-hold name PlusInf MinusInf h = (h, tt)
-  bound-names-hold name PlusInf (Finite b) h = (h, tt)
-  bound-names-hold name PlusInf PlusInf h = (h, tt)
+  bound-names-hold name l u h = grind arith
 
   abbrev HoldsOfColumn : List ℕ × Column → Type 0
   HoldsOfColumn column = P (named column)
@@ -64,24 +46,13 @@ module _ (P : List ℕ × Unit {0} → Type 0) where
   HoldsOfTerm term = P (named term)
 
   term-holds : (m : Listing) (row : List ℕ) (column : List ℕ × Column) → HoldsOfColumn column → Holds HoldsOfTerm (term_in m row column)
-  term-holds m row column h = by (find key_cmp (record { row = row; column = column.0 }) m.coefficients)
-    where
-      by : (o : Option Number) → Holds HoldsOfTerm (option_map (λ (value : Number). (column.0, value)) o)
-      by None = tt
-      by (Some d) = h
+  term-holds m row column h = grind arith
 
   objective-term-holds : (m : Listing) (column : List ℕ × Column) → HoldsOfColumn column → Holds HoldsOfTerm (objective_term m column)
-  objective-term-holds m column h =
-      elim (has_coefficients m column) as (λ b. Holds HoldsOfTerm (if b then term_in m m.objective column else Some (column.0, zero_number))) [
-        | true ↦ term-holds m m.objective column h
-        | false ↦ h
-      ]
+  objective-term-holds m column h = grind arith
 
   some-holds : (columns : List (List ℕ × Column)) (terms : List Term) → Each HoldsOfColumn columns → Each HoldsOfTerm terms → Each HoldsOfTerm (some_term columns terms)
-  some-holds [] [] c h = tt
-  some-holds [] (term ∷ terms) c h = h
-  some-holds (column ∷ columns) [] c h = (c.0, tt)
-  some-holds (column ∷ columns) (term ∷ terms) c h = h
+  some-holds columns terms c h = grind arith
 
   terms-named : (terms : List Term) → Each HoldsOfTerm terms → Each P (flat_map own_name terms)
   terms-named terms h = Each-flat_map P own_name terms (Each-weaker HoldsOfTerm (λ term. Each P (own_name term)) (λ term is. (is, tt)) terms h)
@@ -107,10 +78,7 @@ module _ (P : List ℕ × Unit {0} → Type 0) where
 -- ---- and each column is among them
 
 any-each : {X : Type 0} (p : X → Bool) (Q : X → Type 0) (Goal : Type 0) → ((x : X) → p x ≡ true → Q x → Goal) → (xs : List X) → list_any p xs ≡ true → Each Q xs → Goal
-any-each p Q Goal f [] h k = absurd (no_truth h)
-  where
-    no_truth : false ≡ true → ⊥
-    no_truth e = cc
+any-each p Q Goal f [] h k = grind (arith)
 any-each p Q Goal f (x ∷ xs) h k = by (p x) refl h (λ there. any-each p Q Goal f xs there k.1)
   where
     by : (b : Bool) → p x ≡ b → (b || list_any p xs) ≡ true → (list_any p xs ≡ true → Goal) → Goal
@@ -126,10 +94,7 @@ module _ (m : Listing) (h : IsSoundListing m) where
 
   -- a term comes first
   in-listed : (name : List ℕ) → IsNamed name term_names → IsNamed name (listed_names m)
-  in-listed name is =
-      let more = flat_map bound_names m.columns ++ (flat_map own_name (filter is_integer_column m.columns) ++ flat_map own_name (filter is_semi_column m.columns)) in
-      ap (λ (names : Names). is_some (at_name names name)) (sym (append_assoc (flat_map own_name (objective_terms m)) (flat_map (λ row. flat_map own_name (row_terms m row.0)) m.rows) more))
-      ∙ some_append_left bytes_cmp bytes_total tied_names name term_names more is
+  in-listed name is = grind (arith, bound_names, own_name, append_assoc, some_append_left, bytes_total, tied_names)
 
   with-coefficient : (column : List ℕ × Column) → has_coefficients m column ≡ true → IsNamed column.0 term_names
   with-coefficient column some =
@@ -150,11 +115,7 @@ module _ (m : Listing) (h : IsSoundListing m) where
       alike c e = ap (λ (name : List ℕ). list_any (λ (entry : CoefficientKey × Number). same_bytes entry.0.column name) m.coefficients) (sym (same_name column.0 c.0 e))
 
   each-named : (column : List ℕ × Column) → IsOwnColumn m column → IsNamed column.0 (listed_names m)
-  each-named column own = in-listed column.0 (by (has_coefficients m column) refl)
-    where
-      by : (b : Bool) → has_coefficients m column ≡ b → IsNamed column.0 term_names
-      by true e = with-coefficient column e
-      by false e = without-coefficients column own e
+  each-named column own = grind (arith, in-listed, with-coefficient, without-coefficients)
 
 -- ---- the columns of the draft
 

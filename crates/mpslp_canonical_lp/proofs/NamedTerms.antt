@@ -1,5 +1,5 @@
 -- The terms that are printed of the objective or of a row are of different columns.
-use Rattle.std.proofs.Common.{◌≡◌, refl, subst, ◌∙◌, ℕ, ◌<◌, arith, List, [], ◌∷◌, ◌++◌, true, false, length}
+use Rattle.std.proofs.Common.{◌≡◌, refl, subst, ◌∙◌, ℕ, ◌<◌, arith, List, [], ◌∷◌, ◌++◌, false, length}
 use Rattle.std.specs.Prelude.{Option, Some, None, ◌||◌, filter_map, if◌then◌else◌}
 use Rattle.std.specs.List.{list_any, cons_option}
 use Rattle.std.specs.Option.{option_map}
@@ -22,12 +22,7 @@ terms_by value_of columns = filter_map (λ column. option_map (λ value. (column
 
 each-term : (P : List ℕ → Type 0) (value_of : List ℕ × Column → Option Number) (columns : List (List ℕ × Column)) → Each (λ column. P column.0) columns → Each (λ term. P term.0) (terms_by value_of columns)
 each-term P value_of [] h = tt
-each-term P value_of (column ∷ columns) h = by (value_of column) (each-term P value_of columns h.1)
-  where
-    by : (o : Option Number) → Each (λ term. P term.0) (terms_by value_of columns)
-        → Each (λ (term : Term). P term.0) (cons_option (option_map (λ (value : Number). (column.0, value)) o) (terms_by value_of columns))
-    by None more = more
-    by (Some value) more = (h.0, more)
+each-term P value_of (column ∷ columns) h = grind (arith, each-term P value_of columns h.1)
 
 other-terms : (value_of : List ℕ × Column → Option Number) (columns : List (List ℕ × Column)) → AreOther columns → AreOther (terms_by value_of columns)
 other-terms value_of [] h = tt
@@ -43,9 +38,7 @@ abbrev objective_value : Listing → List ℕ × Column → Option Number
 objective_value m column = if has_coefficients m column then find key_cmp (record { row = m.objective; column = column.0 }) m.coefficients else Some zero_number
 
 objective-by : (m : Listing) (column : List ℕ × Column) → option_map (λ (value : Number). (column.0, value)) (objective_value m column) ≡ objective_term m column
-objective-by m column =
-    elim (has_coefficients m column) as (λ b. option_map (λ (value : Number). (column.0, value)) (if b then find key_cmp (record { row = m.objective; column = column.0 }) m.coefficients else Some zero_number)
-    ≡ (if b then term_in m m.objective column else Some (column.0, zero_number))) [ true ↦ refl | false ↦ refl ]
+objective-by m column = grind arith
 
 pub objective-other : (m : Listing) → AreOther m.columns → AreOther (objective_terms m)
 objective-other m h = subst AreOther (λ i. filter_map (λ column. objective-by m column i) m.columns) (other-terms (objective_value m) m.columns h)
@@ -53,10 +46,7 @@ objective-other m h = subst AreOther (λ i. filter_map (λ column. objective-by 
 -- ---- rows
 
 some-other : (columns : List (List ℕ × Column)) (terms : List Term) → AreOther terms → AreOther (some_term columns terms)
-some-other [] [] h = tt
-some-other [] (term ∷ terms) h = h
-some-other (column ∷ columns) [] h = (tt, tt)
-some-other (column ∷ columns) (term ∷ terms) h = h
+some-other columns terms h = grind arith
 
 pub row-other : (m : Listing) (row : List ℕ) → AreOther m.columns → AreOther (row_terms m row)
 row-other m row h = some-other m.columns (filter_map (term_in m row) m.columns) (other-terms (λ column. find key_cmp (record { row = row; column = column.0 }) m.coefficients) m.columns h)
@@ -64,22 +54,10 @@ row-other m row h = some-other m.columns (filter_map (term_in m row) m.columns) 
 -- terms after others with different columns
 new-after : (seen terms : List Term) → Each (λ (term : Term). list_any (λ (earlier : Term). same_bytes term.0 earlier.0) seen ≡ false) terms → AreOther terms → AreNew seen terms
 new-after seen [] h other = tt
-new-after seen (term ∷ terms) h other = (
-  h.0,
-  new-after (seen ++ term ∷ []) terms
-      (Each-both (λ (later : Term). list_any (λ (earlier : Term). same_bytes later.0 earlier.0) seen ≡ false) (λ (later : Term). same_bytes later.0 term.0 ≡ false)
-      (λ (later : Term). list_any (λ (earlier : Term). same_bytes later.0 earlier.0) (seen ++ term ∷ []) ≡ false)
-      (λ later no apart.
-      list_any-append (λ (earlier : Term). same_bytes later.0 earlier.0) seen (term ∷ [])
-      ∙ both_false (list_any (λ (earlier : Term). same_bytes later.0 earlier.0) seen) (same_bytes later.0 term.0 || false) no (both_false (same_bytes later.0 term.0) false apart refl))
-      terms h.1 other.0)
-      other.1,
-)
+new-after seen (term ∷ terms) h other = grind (arith, list_any-append, both_false, new-after (seen ++ term ∷ []) terms (Each-both (λ (later : Term). list_any (λ (earlier : Term). same_bytes later.0 earlier.0) seen ≡ false) (λ (later : Term). same_bytes later.0 term.0 ≡ false) (λ (later : Term). list_any (λ (earlier : Term). same_bytes later.0 earlier.0) (seen ++ term ∷ []) ≡ false) (λ later no apart. list_any-append (λ (earlier : Term). same_bytes later.0 earlier.0) seen (term ∷ []) ∙ both_false (list_any (λ (earlier : Term). same_bytes later.0 earlier.0) seen) (same_bytes later.0 term.0 || false) no (both_false (same_bytes later.0 term.0) false apart refl)) terms h.1 other.0) other.1)
 
 some-row : (columns : List (List ℕ × Column)) (terms : List Term) → 0 < length columns → (P : List Term → Type 0) → ((term : Term) (more : List Term) → P (term ∷ more)) → P (some_term columns terms)
-some-row [] terms some P h = absurd (omega (arith, some))
-some-row (column ∷ columns) [] some P h = h (column.0, zero_number) []
-some-row (column ∷ columns) (term ∷ terms) some P h = h term terms
+some-row columns terms some P h = grind arith
 
 -- Each row is printed with terms, none of them of the same column twice.
 pub plain-row : (m : Listing) → IsFit m → AreOther m.columns → 0 < length m.columns → (row : List ℕ) → IsRow (row_terms m row)

@@ -1,12 +1,11 @@
 -- The printed objective, up to `Subject To`, declares the sense, the objective, its terms and its constant.
-use Rattle.std.proofs.Common.{◌≡◌, refl, sym, ap, subst, ◌∙◌, ℕ, ◌+◌, List, [], ◌∷◌, ◌++◌, Bool, true, false, append_assoc, map}
+use Rattle.std.proofs.Common.{arith, ◌≡◌, refl, sym, ap, subst, ◌∙◌, ℕ, ◌+◌, List, [], ◌∷◌, ◌++◌, Bool, true, false, append_assoc, map}
 use Rattle.std.specs.Prelude.{None, codes, if◌then◌else◌}
 use Rattle.std.specs.List.{flat_map}
-use Rattle.mpslp_decimal.specs.Decimal.{Number as Decimal, is_zero, is_negative, size_of}
-use Rattle.mpslp_builder.specs.Declaration.{Draft, empty_draft, Declarations, declare_constant, with_declarations}
+use Rattle.mpslp_decimal.specs.Decimal.{Number as Decimal, is_negative, size_of}
+use Rattle.mpslp_builder.specs.Declaration.{Draft, empty_draft, Declarations, with_declarations}
 use Rattle.mpslp_builder.specs.Refusal.{refusals_in_turn}
 use Rattle.mpslp_types.specs.declared.kinds.Sense.{Sense}
-use Rattle.mpslp_types.specs.declared.kinds.Sense.TheVariants.{Minimize, Maximize}
 use Rattle.mpslp_types.specs.declared.faults.BuildFault.{BuildFault}
 use Rattle.mpslp_builder.proofs.MadeDrafts.{with_declarations-append, refusals_in_turn-append}
 use Rattle.mpslp_decimal.proofs.CutLemmas.{Each}
@@ -16,18 +15,16 @@ use Rattle.mpslp_lp_grammar.specs.Phrase.{no_section_seen, with_section, section
 use Rattle.mpslp_lp_grammar.specs.declared.sections_seen.SectionsSeen.{SectionsSeen}
 use Rattle.mpslp_lp_grammar.specs.declared.states.Place.{Place}
 use Rattle.mpslp_lp_grammar.specs.declared.states.Place.TheVariants.{AtStart, BeforeItems, InObjective, BetweenRows}
-use Rattle.mpslp_lp_grammar.specs.Items.{apply_sign}
-use Rattle.mpslp_lp_grammar.specs.Grammar.{may_begin_section}
 use Rattle.mpslp_lp_grammar.specs.Rows.{term_declared, objective_declared}
 use Rattle.mpslp_lp_tokens.specs.declared.words.Section.TheVariants as sections
 use Rattle.mpslp_lp_tokens.specs.declared.words.SectionWord.TheVariants as section_words
 use Rattle.mpslp_canonical_lp.specs.Printed.{PrintedLine}
 use Rattle.mpslp_model_core.specs.Model.{Listing}
-use Rattle.mpslp_canonical_lp.specs.CanonicalLp.{Lines, Term, heading, long_line, signed_lexemes, label_line, sense_word, term_line, objective_terms, constant_lines, objective_section}
+use Rattle.mpslp_canonical_lp.specs.CanonicalLp.{Lines, Term, heading, label_line, sense_word, term_line, objective_terms, constant_lines, objective_section}
 pub use Rattle.mpslp_canonical_lp.specs.PrintedDeclarations.{constant_declared}
 use Rattle.mpslp_canonical_lp.proofs.PrintableLemmas.{IsTerm, IsFit, objective-fits}
 use Rattle.mpslp_canonical_lp.proofs.TerminalLemmas.{at, line_terminals_in, all_terminals, signed-value, sign_of}
-use Rattle.mpslp_canonical_lp.proofs.PhraseLemmas.{Walks, walks-none, walks-then, point_at, sense_opens, start-walks, first-term-walks, term-walks, subject-walks, constant-walks}
+use Rattle.mpslp_canonical_lp.proofs.PhraseLemmas.{Walks, walks-none, walks-then, point_at, sense_opens, start-walks, first-term-walks, term-walks}
 
 -- ---- lists of lines
 
@@ -38,9 +35,7 @@ number_after n (line ∷ lines) = number_after (n + 1) lines
 
 pub terminals-append : (n : ℕ) (xs ys : Lines) → all_terminals n (xs ++ ys) ≡ all_terminals n xs ++ all_terminals (number_after n xs) ys
 terminals-append n [] ys = refl
-terminals-append n (x ∷ xs) ys =
-    ap (λ (more : List TerminalAt). line_terminals_in n x ++ more) (terminals-append (n + 1) xs ys)
-    ∙ sym (append_assoc (line_terminals_in n x) (all_terminals (n + 1) xs) (all_terminals (number_after (n + 1) xs) ys))
+terminals-append n (x ∷ xs) ys = grind (arith, line_terminals_in, append_assoc, all_terminals, terminals-append (n + 1) xs ys)
 
 -- ---- errors of parts
 
@@ -57,9 +52,7 @@ pub parts-walk : (from : Place) (between to : Place) (sections_seen later last :
     → Walks (point_at from sections_seen all) xs made (point_at between later (with_declarations all made))
     → Walks (point_at between later (with_declarations all made)) ys more (point_at to last (with_declarations (with_declarations all made) more))
     → Walks (point_at from sections_seen all) (xs ++ ys) (made ++ more) (point_at to last (with_declarations all (made ++ more)))
-parts-walk from between to sections_seen later last all xs ys made more h k =
-    subst (λ (draft : Draft). Walks (point_at from sections_seen all) (xs ++ ys) (made ++ more) (point_at to last draft)) (sym (with_declarations-append made more all))
-    (walks-then (point_at from sections_seen all) (point_at between later (with_declarations all made)) (point_at to last (with_declarations (with_declarations all made) more)) xs ys made more h k)
+parts-walk from between to sections_seen later last all xs ys made more h k = grind (arith, point_at, with_declarations-append, walks-then)
 
 -- ---- terms
 
@@ -76,18 +69,7 @@ items_at name started = if started then InObjective name else BeforeItems name
 
 pub one-term : (started : Bool) (sections_seen : SectionsSeen) (all : Draft) (name : List ℕ) (n : ℕ) (term : Term) → IsTerm term → refusals_in_turn all (term_declared name term) ≡ []
     → Walks (point_at (items_at name started) sections_seen all) (line_terminals_in n (term_line term)) (term_declared name term) (point_at (InObjective name) sections_seen (with_declarations all (term_declared name term)))
-one-term started sections_seen all name n term good h =
-    subst (λ (tokens : List TerminalAt). Walks (point_at (items_at name started) sections_seen all) tokens (term_declared name term) (point_at (InObjective name) sections_seen (with_declarations all (term_declared name term))))
-    (sym (term-terminals n term good))
-    (subst (λ (value : Decimal). refusals_in_turn all (term_declared name (term.0, value)) ≡ [] → From started value) (signed-value term.1) (by started) h)
-  where
-    From : Bool → Decimal → Type 0
-    From b value = Walks (point_at (items_at name b) sections_seen all) (at n (Sign (sign_of (is_negative term.1))) ∷ at n (Number (size_of term.1)) ∷ at n (Name term.0) ∷ []) (term_declared name (term.0, value))
-        (point_at (InObjective name) sections_seen (with_declarations all (term_declared name (term.0, value))))
-
-    by : (b : Bool) → refusals_in_turn all (term_declared name (term.0, apply_sign (sign_of (is_negative term.1)) (size_of term.1))) ≡ [] → From b (apply_sign (sign_of (is_negative term.1)) (size_of term.1))
-    by true k = term-walks sections_seen all name n (sign_of (is_negative term.1)) (size_of term.1) term.0 k
-    by false k = first-term-walks sections_seen all name n (sign_of (is_negative term.1)) (size_of term.1) term.0 k
+one-term started sections_seen all name n term good h = grind (arith, point_at, term-terminals, signed-value, at, sign_of, term-walks, first-term-walks)
 
 abbrev pub after_terms : Bool → List Term → Bool
 after_terms started [] = started
@@ -110,35 +92,10 @@ objective-terms-walk started sections_seen all name n (term ∷ terms) good h =
 abbrev pub subject_heading : PrintedLine
 subject_heading = heading (codes "Subject" ∷ codes "To" ∷ [])
 
-some-constant : (started : Bool) (sections_seen : SectionsSeen) (all : Draft) (name : List ℕ) (n : ℕ) (value : Decimal) → refusals_in_turn all (declare_constant value ∷ []) ≡ [] → section_fault sections_seen sections.Rows ≡ None
-    → Walks (point_at (items_at name started) sections_seen all)
-    (at n (Sign (sign_of (is_negative value))) ∷ at n (Number (size_of value)) ∷ at (n + 1) (Opens section_words.Subject) ∷ at (n + 1) (Name (codes "To")) ∷ [])
-    (declare_constant value ∷ []) (point_at BetweenRows (with_section sections_seen sections.Rows) (with_declarations all (declare_constant value ∷ [])))
-some-constant started sections_seen all name n value h fault =
-    subst (λ (v : Decimal). refusals_in_turn all (declare_constant v ∷ []) ≡ [] → From started v) (signed-value value) (by started) h
-  where
-    From : Bool → Decimal → Type 0
-    From b v = Walks (point_at (items_at name b) sections_seen all)
-        (at n (Sign (sign_of (is_negative value))) ∷ at n (Number (size_of value)) ∷ at (n + 1) (Opens section_words.Subject) ∷ at (n + 1) (Name (codes "To")) ∷ [])
-        (declare_constant v ∷ []) (point_at BetweenRows (with_section sections_seen sections.Rows) (with_declarations all (declare_constant v ∷ [])))
-
-    by : (b : Bool) → refusals_in_turn all (declare_constant (apply_sign (sign_of (is_negative value)) (size_of value)) ∷ []) ≡ [] → From b (apply_sign (sign_of (is_negative value)) (size_of value))
-    by b k = constant-walks b sections_seen all name n (n + 1) (sign_of (is_negative value)) (size_of value) k fault
-
-may-begin : (name : List ℕ) (started : Bool) → may_begin_section (items_at name started) ≡ true
-may-begin name true = refl
-may-begin name false = refl
-
 pub constant-walk : (started : Bool) (sections_seen : SectionsSeen) (all : Draft) (name : List ℕ) (n : ℕ) (value : Decimal) → refusals_in_turn all (constant_declared value) ≡ [] → section_fault sections_seen sections.Rows ≡ None
     → Walks (point_at (items_at name started) sections_seen all) (all_terminals n (constant_lines value ++ subject_heading ∷ [])) (constant_declared value)
     (point_at BetweenRows (with_section sections_seen sections.Rows) (with_declarations all (constant_declared value)))
-constant-walk started sections_seen all name n value h fault = by (is_zero value) h
-  where
-    by : (b : Bool) → refusals_in_turn all (if b then [] else declare_constant value ∷ []) ≡ []
-        → Walks (point_at (items_at name started) sections_seen all) (all_terminals n ((if b then [] else long_line (signed_lexemes value) ∷ []) ++ subject_heading ∷ [])) (if b then [] else declare_constant value ∷ [])
-        (point_at BetweenRows (with_section sections_seen sections.Rows) (with_declarations all (if b then [] else declare_constant value ∷ [])))
-    by true k = subject-walks (items_at name started) sections_seen all n (may-begin name started) fault
-    by false k = some-constant started sections_seen all name n value k fault
+constant-walk started sections_seen all name n value h fault = grind arith
 
 -- ---- the whole section, from the start on
 
@@ -150,8 +107,7 @@ in_rows = with_section (with_section no_section_seen sections.Objective) section
 
 pub begin-terminals : (n : ℕ) (sense : Sense) (name : List ℕ) → all_terminals n (heading (sense_word sense ∷ []) ∷ label_line name ∷ [])
     ≡ at n (Opens (sense_opens sense)) ∷ at (n + 1) (Name name) ∷ at (n + 1) Colon ∷ []
-begin-terminals n Minimize name = refl
-begin-terminals n Maximize name = refl
+begin-terminals n sense name = grind arith
 
 pub objective-walk : (m : Listing) → IsFit m → refusals_in_turn empty_draft (objective_made m) ≡ []
     → Walks start (all_terminals 1 (objective_section m ++ subject_heading ∷ [])) (objective_made m) (point_at BetweenRows in_rows (with_declarations empty_draft (objective_made m)))

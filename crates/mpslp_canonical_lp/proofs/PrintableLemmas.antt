@@ -1,38 +1,32 @@
 -- The canonical lines of a well-formed model with LP names can be printed: names, decimals, signs and words of the language.
-use Rattle.std.proofs.Common.{◌≡◌, refl, sym, ap, ◌∙◌, List, [], ◌∷◌, ◌++◌, length, ℕ, ◌+◌, ◌<◌, arith, Bool, true, false, not, cond, map}
-use Rattle.std.specs.Prelude.{Option, Some, None, nat_le, nat_lt, ◌&&◌, ◌||◌, filter, filter_map, position, codes, if◌then◌else◌}
-use Rattle.std.specs.List.{list_all, list_any, flat_map, cons_option, position_or_len}
+use Rattle.std.proofs.Common.{rules, ◌≡◌, refl, ap, ◌∙◌, List, [], ◌∷◌, ◌++◌, length, ℕ, ◌+◌, ◌<◌, arith, Bool, true, false, not, cond, map}
+use Rattle.std.specs.Prelude.{Option, Some, None, nat_le, ◌&&◌, ◌||◌, filter, filter_map, position, codes, if◌then◌else◌}
+use Rattle.std.specs.List.{list_all, list_any, flat_map, position_or_len}
 use Rattle.std.specs.Option.{option_map}
 use Rattle.std.specs.Cmp.{first_so, second_so}
-use Rattle.std.specs.Ordering.{is_eq}
 use Rattle.std.specs.declared.cmp.Ordering.{Ordering}
 use Rattle.std.specs.FinMap.{entries, find}
 use Rattle.std.proofs.lemmas.Bool.{leb-true, lt-ltb}
-use Rattle.mpslp_decimal.specs.Decimal.{Number, IsDecimal, is_decimal, is_zero, is_negative, is_infinite_size, size_of, zero_number, have_same_value}
-use Rattle.mpslp_types.specs.Name.{marker, same_bytes, has_name_length, is_mps_name, is_lp_byte, is_like_exponent, is_reserved, begins_a_number, is_lp_name, is_visible}
+use Rattle.mpslp_decimal.specs.Decimal.{Number, IsDecimal, is_decimal, is_negative, is_infinite_size, size_of, zero_number, have_same_value}
+use Rattle.mpslp_types.specs.Name.{marker, same_bytes, has_name_length, is_mps_name, is_lp_byte, is_like_exponent, is_reserved, begins_a_number, is_lp_name}
 use Rattle.mpslp_model_core.specs.Model.{LinearModel, Row, Column, key_cmp, is_sound_row, is_sound_column, is_sound_coefficient, IsSound, suits, Listing, listing_of}
-use Rattle.mpslp_types.specs.Limit.{is_bounded_decimal, is_lower_side, is_upper_side, is_at_most, are_sides, has_bounded_distance}
+use Rattle.mpslp_types.specs.Limit.{is_bounded_decimal, is_lower_side, are_sides, has_bounded_distance}
 use Rattle.mpslp_types.specs.declared.faults.FaultKind.TheVariants as faults
 use Rattle.mpslp_types.specs.declared.faults.NameAt.TheVariants as places
 use Rattle.mpslp_types.specs.declared.kinds.Sense.{Sense}
-use Rattle.mpslp_types.specs.declared.kinds.Sense.TheVariants.{Minimize, Maximize}
 use Rattle.mpslp_types.specs.declared.kinds.Limit.{Limit}
 use Rattle.mpslp_types.specs.declared.kinds.Limit.TheVariants.{MinusInf, Finite, PlusInf}
 use Rattle.mpslp_types.proofs.BoolLemmas.{not_so, nor}
 use Rattle.mpslp_types.proofs.NameLemmas.{mps_name-from_lp}
 use Rattle.mpslp_types.proofs.EachLemmas.{Each-both, Each-map, Each-flat_map, Each-filter, Each-from_list_all}
-use Rattle.mpslp_decimal.proofs.CutLemmas.{Each}
-use Rattle.mpslp_decimal.proofs.CutLemmas.{Each-weaker}
-use Rattle.mpslp_decimal.proofs.CutLemmas.{Each-append}
+use Rattle.mpslp_decimal.proofs.CutLemmas.{Each, Each-weaker, Each-append}
 use Rattle.mpslp_lp_tokens.specs.Token.{is_word}
-use Rattle.mpslp_lines.specs.FaultTests.{first_held}
 use Rattle.mpslp_lp_grammar.specs.Terminal.{name_fault, word_fault, token_fault}
-use Rattle.mpslp_lp_grammar.specs.declared.relations.Relation.{Relation}
-use Rattle.mpslp_lp_grammar.specs.declared.relations.Relation.TheVariants.{AtMost, AtLeast, EqualTo}
+use Rattle.mpslp_lp_grammar.specs.declared.relations.Relation.TheVariants.{AtMost, EqualTo}
 use Rattle.mpslp_lp_tokens.specs.declared.tokens.TokenKind.TheVariants as kinds
 use Rattle.mpslp_lp_tokens.proofs.WordLemmas.{word_class-name}
-use Rattle.mpslp_canonical_lp.specs.Printed.{Lexeme, word, label, number, sign, sense, minus_infinity, semi_continuous}
-use Rattle.mpslp_canonical_lp.specs.CanonicalLp.{Lines, heading, long_line, under_heading, label_line, signed_lexemes, Term, term_line, sense_word, term_in, has_coefficients, objective_term, objective_terms, constant_lines, objective_section, left_lines, right_line, minus_large, last_line, some_term, row_terms, row_lines, rows_section, bound_lexemes, line_of_some, bound_lines, bounds_section, is_integer_column, name_line, generals_section, listed_lines, canonical_lines, is_semi_column, semis_section, under_semi_heading}
+use Rattle.mpslp_canonical_lp.specs.Printed.{Lexeme, word, label, number, sign, sense, semi_continuous}
+use Rattle.mpslp_canonical_lp.specs.CanonicalLp.{Lines, heading, under_heading, label_line, Term, term_line, sense_word, term_in, objective_term, objective_terms, constant_lines, objective_section, left_lines, last_line, some_term, row_terms, row_lines, rows_section, bound_lexemes, line_of_some, bound_lines, bounds_section, is_integer_column, name_line, generals_section, listed_lines, canonical_lines, is_semi_column, semis_section, under_semi_heading}
 use Rattle.mpslp_canonical_lp.specs.Unfit.{is_no_lp_name, first_unfit, or_else, unfit_in, unfit}
 use Rattle.mpslp_canonical_lp.proofs.TokenTexts.{name-word}
 use Rattle.mpslp_canonical_lp.proofs.LexemeLemmas.{IsGoodWord, IsGoodName, IsPrintable}
@@ -45,15 +39,7 @@ pub code-word : (w : List ℕ) → is_word w ≡ true → nat_le (length w) 255 
 code-word w is short faultless = record { is = is; short = leb-true (length w) 255 short; faultless = faultless }
 
 no-fault : (name : List ℕ) → is_mps_name name ≡ true → is_like_exponent name ≡ false → name_fault name ≡ None
-no-fault name h plain = by (has_name_length name) (list_all is_visible name) (same_bytes name marker) (is_like_exponent name) h plain
-  where
-    by : (long visible named like : Bool) → (long && (visible && not named)) ≡ true → like ≡ false
-        → first_held ((not long, faults.NameLength) ∷ (not visible, faults.NameByte) ∷ (named, faults.NameMarker) ∷ (like, faults.NameLikeExponent) ∷ []) ≡ None
-    by true true false false e f = refl
-    by true true false true e f = cc
-    by true true true like e f = cc
-    by true false named like e f = cc
-    by false visible named like e f = cc
+no-fault name h plain = grind arith
 
 -- what an LP name is
 record IsName (name : List ℕ) : Type 0 where
@@ -100,8 +86,7 @@ pub heading-printable : (w : List ℕ) → IsGoodWord w → IsPrintableLine (hea
 heading-printable w h = a-line 0 (word w ∷ []) refl refl (h, tt)
 
 under-printable : (section : List ℕ) (lines : Lines) → IsGoodWord section → AllPrintable lines → AllPrintable (under_heading section lines)
-under-printable section [] w h = tt
-under-printable section (line ∷ lines) w h = (heading-printable section w, h)
+under-printable section lines w h = grind arith
 
 pub label-printable : (name : List ℕ) → IsGoodName name → IsPrintableLine (label_line name)
 label-printable name h = a-line 1 (label name ∷ []) refl refl (h, tt)
@@ -116,11 +101,7 @@ terms-printable : (terms : List Term) → Each IsTerm terms → AllPrintable (ma
 terms-printable terms h = Each-map IsPrintableLine term_line terms (Each-weaker IsTerm (λ term. IsPrintableLine (term_line term)) term-printable terms h)
 
 pub constant-printable : (value : Number) → IsDecimal value → AllPrintable (constant_lines value)
-constant-printable value h =
-    elim (is_zero value) as (λ b. AllPrintable (cond b [] (long_line (signed_lexemes value) ∷ []))) [
-      | true ↦ tt
-      | false ↦ (a-line 2 (sign (is_negative value) ∷ number (size_of value) ∷ []) refl refl (tt, (h, tt)), tt)
-    ]
+constant-printable value h = grind arith
 
 -- ---- limits
 
@@ -133,75 +114,33 @@ bounded-decimal : (d : Number) → is_bounded_decimal d ≡ true → IsDecimal d
 bounded-decimal d h = first_so (is_decimal d) (not (is_infinite_size d)) h
 
 lower-decimal : (lower : Limit) → is_lower_side lower ≡ true → IsDecimalLimit lower
-lower-decimal MinusInf h = tt
-lower-decimal (Finite a) h = bounded-decimal a h
-lower-decimal PlusInf h = tt
-
-upper-decimal : (upper : Limit) → is_upper_side upper ≡ true → IsDecimalLimit upper
-upper-decimal MinusInf h = tt
-upper-decimal (Finite b) h = bounded-decimal b h
-upper-decimal PlusInf h = tt
+lower-decimal lower h = grind arith
 
 -- two limits
 abbrev pub IsLimits : Limit → Limit → Type 0
 IsLimits lower upper = IsDecimalLimit lower × IsDecimalLimit upper
 
 pub sides-decimal : (lower upper : Limit) → are_sides lower upper ≡ true → IsLimits lower upper
-sides-decimal lower upper h = (
-  lower-decimal lower (first_so (is_lower_side lower) (is_upper_side upper && is_at_most lower upper) h),
-  upper-decimal upper (first_so (is_upper_side upper) (is_at_most lower upper) (second_so (is_lower_side lower) (is_upper_side upper && is_at_most lower upper) h)),
-)
+sides-decimal lower upper h = grind arith
 
 left-printable : (lower upper : Limit) → IsLimits lower upper → AllPrintable (left_lines lower upper)
-left-printable (Finite a) (Finite b) h =
-    elim (have_same_value a b) as (λ t. AllPrintable (cond t [] (long_line (number a ∷ sense AtMost ∷ []) ∷ []))) [
-      | true ↦ tt
-      | false ↦ (a-line 2 (number a ∷ sense AtMost ∷ []) refl refl (h.0, (tt, tt)), tt)
-    ]
-left-printable (Finite a) MinusInf h = tt
-left-printable (Finite a) PlusInf h = tt
-left-printable MinusInf upper h = tt
-left-printable PlusInf upper h = tt
-
-right-printable : (relation : Relation) (value : Number) → IsDecimal value → IsPrintableLine (right_line relation value)
-right-printable relation value h = a-line 2 (sense relation ∷ number value ∷ []) refl refl (tt, (h, tt))
+left-printable lower upper h = grind arith
 
 last-printable : (lower upper : Limit) → IsLimits lower upper → IsPrintableLine (last_line lower upper)
-last-printable (Finite a) (Finite b) h =
-    elim (have_same_value a b) as (λ t. IsPrintableLine (cond t (right_line EqualTo b) (right_line AtMost b))) [
-      | true ↦ right-printable EqualTo b h.1
-      | false ↦ right-printable AtMost b h.1
-    ]
-last-printable MinusInf (Finite b) h = right-printable AtMost b h.1
-last-printable PlusInf (Finite b) h = right-printable AtMost b h.1
-last-printable (Finite a) MinusInf h = right-printable AtLeast a h.0
-last-printable (Finite a) PlusInf h = right-printable AtLeast a h.0
-last-printable MinusInf MinusInf h = right-printable AtLeast minus_large refl
-last-printable MinusInf PlusInf h = right-printable AtLeast minus_large refl
-last-printable PlusInf MinusInf h = right-printable AtLeast minus_large refl
-last-printable PlusInf PlusInf h = right-printable AtLeast minus_large refl
+last-printable lower upper h = grind arith
 
 free-word : IsGoodWord (codes "free")
 free-word = code-word (codes "free") refl refl refl
 
 pub bound-printable : (column : List ℕ) (lower upper : Limit) → IsGoodWord column → IsLimits lower upper → AllPrintable (line_of_some (bound_lexemes column lower upper))
-bound-printable column MinusInf (Finite b) w h =
-    (a-line 1 (minus_infinity ∷ sense AtMost ∷ word column ∷ sense AtMost ∷ number b ∷ []) refl refl (tt, (tt, (w, (tt, (h.1, tt))))), tt)
+bound-printable column MinusInf (Finite b) w h = grind (arith, a-line)
 bound-printable column (Finite a) (Finite b) w h =
     elim (have_same_value a b) as (λ t. AllPrintable (line_of_some (cond t (word column ∷ sense EqualTo ∷ number b ∷ []) (number a ∷ sense AtMost ∷ word column ∷ sense AtMost ∷ number b ∷ [])))) [
       | true ↦ (a-line 1 (word column ∷ sense EqualTo ∷ number b ∷ []) refl refl (w, (tt, (h.1, tt))), tt)
       | false ↦ (a-line 1 (number a ∷ sense AtMost ∷ word column ∷ sense AtMost ∷ number b ∷ []) refl refl (h.0, (tt, (w, (tt, (h.1, tt))))), tt)
     ]
-bound-printable column (Finite a) MinusInf w h =
-    elim (is_zero a) as (λ t. AllPrintable (line_of_some (cond t [] (word column ∷ sense AtLeast ∷ number a ∷ [])))) [
-      | true ↦ tt
-      | false ↦ (a-line 1 (word column ∷ sense AtLeast ∷ number a ∷ []) refl refl (w, (tt, (h.0, tt))), tt)
-    ]
-bound-printable column (Finite a) PlusInf w h =
-    elim (is_zero a) as (λ t. AllPrintable (line_of_some (cond t [] (word column ∷ sense AtLeast ∷ number a ∷ [])))) [
-      | true ↦ tt
-      | false ↦ (a-line 1 (word column ∷ sense AtLeast ∷ number a ∷ []) refl refl (w, (tt, (h.0, tt))), tt)
-    ]
+bound-printable column (Finite a) MinusInf w h = grind (arith, a-line)
+bound-printable column (Finite a) PlusInf w h = grind (arith, a-line)
 bound-printable column MinusInf MinusInf w h = (a-line 1 (word column ∷ word (codes "free") ∷ []) refl refl (w, (free-word, tt)), tt)
 bound-printable column MinusInf PlusInf w h = (a-line 1 (word column ∷ word (codes "free") ∷ []) refl refl (w, (free-word, tt)), tt)
 bound-printable column PlusInf MinusInf w h = (a-line 1 (word column ∷ word (codes "free") ∷ []) refl refl (w, (free-word, tt)), tt)
@@ -216,19 +155,11 @@ Holds P (Some x) = P x
 
 each-found : {K X : Type 0} (R : K → K → Ordering) (P : X → Type 0) (k : K) (es : List (K × X)) → Each (λ e. P e.1) es → Holds P (find R k es)
 each-found R P k [] h = tt
-each-found {K} {X} R P k (e ∷ es) h =
-    elim (is_eq (R k e.0)) as (λ b. Holds P (cond b (Some e.1) (find R k es))) [
-      | true ↦ h.0
-      | false ↦ each-found R P k es h.1
-    ]
+each-found {K} {X} R P k (e ∷ es) h = grind (arith, each-found R P k es h.1)
 
 pub each-filter_map : {X Y : Type 0} (P : Y → Type 0) (f : X → Option Y) (xs : List X) → Each (λ x. Holds P (f x)) xs → Each P (filter_map f xs)
 each-filter_map P f [] h = tt
-each-filter_map {X} {Y} P f (x ∷ xs) h = by (f x) h.0 (each-filter_map P f xs h.1)
-  where
-    by : (o : Option Y) → Holds P o → Each P (filter_map f xs) → Each P (cons_option o (filter_map f xs))
-    by None k more = more
-    by (Some y) k more = (k, more)
+each-filter_map {X} {Y} P f (x ∷ xs) h = grind (arith, each-filter_map P f xs h.1)
 
 -- what is needed of a row and of a column
 pub record IsFitRow (row : List ℕ × Row) : Type 0 where
@@ -263,11 +194,7 @@ terms-fit m h row =
     (Each-weaker IsFitColumn (λ column. Holds IsTerm (term_in m row column)) (λ column c. term-fits m h row column c) m.columns h.columns)
 
 objective-term-fits : (m : Listing) → IsFit m → (column : List ℕ × Column) → IsFitColumn column → Holds IsTerm (objective_term m column)
-objective-term-fits m h column c =
-    elim (has_coefficients m column) as (λ b. Holds IsTerm (cond b (term_in m m.objective column) (Some (column.0, zero_number)))) [
-      | true ↦ term-fits m h m.objective column c
-      | false ↦ (c.name, zero-decimal)
-    ]
+objective-term-fits m h column c = search (rules, term-fits, zero-decimal)
 
 pub objective-fits : (m : Listing) → IsFit m → Each IsTerm (objective_terms m)
 objective-fits m h =
@@ -275,10 +202,7 @@ objective-fits m h =
     (Each-weaker IsFitColumn (λ column. Holds IsTerm (objective_term m column)) (λ column c. objective-term-fits m h column c) m.columns h.columns)
 
 pub some-fits : (columns : List (List ℕ × Column)) (terms : List Term) → Each IsFitColumn columns → Each IsTerm terms → Each IsTerm (some_term columns terms)
-some-fits [] [] c h = tt
-some-fits [] (term ∷ terms) c h = h
-some-fits (column ∷ columns) [] c h = ((c.0.name, zero-decimal), tt)
-some-fits (column ∷ columns) (term ∷ terms) c h = h
+some-fits columns terms c h = grind arith
 
 -- ---- all lines
 
@@ -286,31 +210,16 @@ pub in-turn : (xs ys : Lines) → AllPrintable xs → AllPrintable ys → AllPri
 in-turn xs ys h k = Each-append IsPrintableLine xs ys h k
 
 pub sense-good : (s : Sense) → IsGoodWord (sense_word s)
-sense-good Minimize = code-word (codes "Minimize") refl refl refl
-sense-good Maximize = code-word (codes "Maximize") refl refl refl
+sense-good s = grind arith
 
 objective-printable : (m : Listing) → IsFit m → AllPrintable (objective_section m)
-objective-printable m h = (
-  heading-printable (sense_word m.sense) (sense-good m.sense),
-  (
-    label-printable m.objective h.objective,
-    in-turn (map term_line (objective_terms m)) (constant_lines m.constant) (terms-printable (objective_terms m) (objective-fits m h)) (constant-printable m.constant h.constant),
-  ),
-)
+objective-printable m h = grind (arith, heading-printable, sense-good, label-printable, in-turn, terms-printable, objective-fits, constant-printable)
 
 pub row-printable : (m : Listing) (row : List ℕ × Row) → IsFitRow row → Each IsTerm (row_terms m row.0) → AllPrintable (row_lines m row)
-row-printable m row r good =
-    let terms = row_terms m row.0 in
-    let last : Lines = last_line row.1.lower row.1.upper ∷ [] in (
-      label-printable row.0 r.name,
-      in-turn (left_lines row.1.lower row.1.upper) (map term_line terms ++ last) (left-printable row.1.lower row.1.upper r.limits)
-          (in-turn (map term_line terms) last (terms-printable terms good)
-          (last-printable row.1.lower row.1.upper r.limits, tt)),
-    )
+row-printable m row r good = grind (arith, label-printable, in-turn, left-printable, terms-printable, last-printable)
 
 pub subject-printable : IsPrintableLine (heading (codes "Subject" ∷ codes "To" ∷ []))
-subject-printable =
-    a-line 0 (word (codes "Subject") ∷ word (codes "To") ∷ []) refl refl (code-word (codes "Subject") refl refl refl, (code-word (codes "To") refl refl refl, tt))
+subject-printable = grind arith
 
 rows-printable : (m : Listing) → IsFit m → AllPrintable (rows_section m)
 rows-printable m h = (
@@ -368,16 +277,7 @@ any-below {X} p (x ∷ xs) h =
     ] h
 
 no-any : {X : Type 0} (p : X → Bool) (xs : List X) → position p xs ≡ None → list_any p xs ≡ false
-no-any {X} p xs h = by (list_any p xs) refl
-  where
-    at : Bool → Option ℕ
-    at b = if b then Some (position_or_len p xs) else None
-
-    by : (b : Bool) → list_any p xs ≡ b → b ≡ false
-    by false e = refl
-    by true e =
-        let below : nat_lt (position_or_len p xs) (length xs) ≡ true = lt-ltb (position_or_len p xs) (length xs) (any-below p xs e) in
-        let some : Some (position_or_len p xs) ≡ None = sym (ap at below) ∙ h in cc
+no-any {X} p xs h = grind (arith, lt-ltb, any-below)
 
 none-of : {X : Type 0} (p : X → Bool) (xs : List X) → list_any p xs ≡ false → Each (λ x. p x ≡ false) xs
 none-of p [] h = tt
@@ -400,8 +300,7 @@ record HasLpNames (m : Listing) : Type 0 where
   columns : Each (λ column. is_lp_name column.0 ≡ true) m.columns
 
 is-lp : (b : Bool) → not b ≡ false → b ≡ true
-is-lp true e = refl
-is-lp false e = cc
+is-lp b e = grind arith
 
 each-named : {X : Type 0} (named : List (List ℕ × X)) → Each (λ name. is_lp_name name ≡ true) (map (λ (entry : List ℕ × X). entry.0) named) → Each (λ (entry : List ℕ × X). is_lp_name entry.0 ≡ true) named
 each-named [] h = tt

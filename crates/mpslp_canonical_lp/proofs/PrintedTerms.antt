@@ -1,5 +1,5 @@
 -- Each coefficient of a well-formed listing is printed as a term of its row or of the objective.
-use Rattle.std.proofs.Common.{◌≡◌, refl, sym, ap, ◌∙◌, List, [], ◌∷◌, ◌++◌, ℕ, Bool, true, false, not, cond}
+use Rattle.std.proofs.Common.{arith, ◌≡◌, refl, sym, ap, ◌∙◌, List, [], ◌∷◌, ◌++◌, ℕ, Bool, true, false, not, cond}
 use Rattle.std.specs.Prelude.{Option, Some, None, is_some, filter_map, ◌&&◌, ◌||◌, if◌then◌else◌}
 use Rattle.std.specs.List.{flat_map, list_any, cons_option}
 use Rattle.std.specs.Option.{option_map}
@@ -29,10 +29,7 @@ place_at row column = record { row = row; column = column }
 -- ---- columns without coefficients
 
 has-some : (row column : List ℕ) (value : Number) (es : List (CoefficientKey × Number)) → find key_cmp (place_at row column) es ≡ Some value → list_any (λ (entry : CoefficientKey × Number). same_bytes entry.0.column column) es ≡ true
-has-some row column value [] is = absurd (never is)
-  where
-    never : ◌≡◌ {A = Option Number} None (Some value) → ⊥
-    never e = cc
+has-some row column value [] is = grind (arith)
 has-some row column value (e ∷ es) is = by (eq_by_cmp key_cmp (place_at row column) e.0) refl is (λ more. has-some row column value es more)
   where
     any : Bool
@@ -46,14 +43,7 @@ has-some row column value (e ∷ es) is = by (eq_by_cmp key_cmp (place_at row co
     by false tie at more = or_right (same_bytes e.0.column column) any (more at)
 
 pub no-coefficient : (m : Listing) (row : List ℕ) (column : List ℕ × Column) → has_coefficients m column ≡ false → find key_cmp (place_at row column.0) m.coefficients ≡ None
-no-coefficient m row column h = by (find key_cmp (place_at row column.0) m.coefficients) refl
-  where
-    no_truth : false ≡ true → ⊥
-    no_truth e = cc
-
-    by : (o : Option Number) → find key_cmp (place_at row column.0) m.coefficients ≡ o → o ≡ None
-    by None e = refl
-    by (Some d) e = absurd (no_truth (sym h ∙ has-some row column.0 d m.coefficients e))
+no-coefficient m row column h = grind (arith, has-some)
 
 -- ---- what terms put into a map
 
@@ -101,9 +91,7 @@ module _ {K X : Type 0} (R : K → K → Ordering) (total : IsTotalOrder R) (sam
 
   -- a row with terms has no other
   some-kept : (q : K) (row : List ℕ) (columns : List (List ℕ × Column)) (terms : List Term) → SomeAt q (flat_map (own_entry row) terms) → SomeAt q (flat_map (own_entry row) (some_term columns terms))
-  some-kept q row columns [] h = cc
-  some-kept q row [] (term ∷ terms) h = h
-  some-kept q row (column ∷ columns) (term ∷ terms) h = h
+  some-kept q row columns terms h = grind arith
 
   module _ (m : Listing) (h : IsSoundListing m) where
     term-there : (key : CoefficientKey) (value : Number) → find key_cmp key m.coefficients ≡ Some value → (row : List ℕ) → key.row ≡ row → (column : List ℕ × Column) → same_bytes key.column column.0 ≡ true

@@ -1,8 +1,8 @@
 -- Slots in sections of rising rank: if no section fills a slot twice, all together do not.
-use Rattle.std.proofs.Common.{◌≡◌, refl, sym, ap, ◌∙◌, ℕ, suc, ◌<◌, arith, List, [], ◌∷◌, ◌++◌, Bool, true, false, not, append_assoc}
+use Rattle.std.proofs.Common.{rules, ◌≡◌, refl, sym, ap, ◌∙◌, ℕ, suc, ◌<◌, arith, List, [], ◌∷◌, ◌++◌, true, false, not, append_assoc}
 use Rattle.std.specs.Prelude.{◌&&◌, Option, Some, None}
 use Rattle.std.specs.List.{list_any, flat_map}
-use Rattle.std.specs.Cmp.{first_so, second_so, tied_itself}
+use Rattle.std.specs.Cmp.{second_so}
 use Rattle.std.specs.FinMap.{is_sorted}
 use Rattle.std.specs.FinMap.Entries.{below_all}
 use Rattle.std.specs.Ordering.{is_lt}
@@ -12,7 +12,7 @@ use Rattle.mpslp_types.proofs.EachLemmas.{Each, Each-weaker, Each-append}
 use Rattle.mpslp_model_core.specs.Model.{CoefficientKey}
 use Rattle.mpslp_types.specs.Lists.{are_distinct}
 use Rattle.mpslp_builder.specs.Declaration.{Declarations, names_in}
-use Rattle.mpslp_builder.specs.Consistency.{Slot, sense_slot, objective_slot, constant_slot, row_slot, rhs_slot, range_slot, coefficient_slot, lower_slot, upper_slot, same_slot, slots_of, all_slots}
+use Rattle.mpslp_builder.specs.Consistency.{Slot, row_slot, rhs_slot, range_slot, coefficient_slot, lower_slot, upper_slot, same_slot, slots_of, all_slots}
 use Rattle.mpslp_builder.proofs.DistinctLemmas.{IsNew, Apart, distinct-append}
 use Rattle.mpslp_builder.proofs.SlotLemmas.{same_name}
 use Rattle.mpslp_builder.proofs.SortedDrafts.{bytes_total}
@@ -21,31 +21,15 @@ use Rattle.mpslp_builder.proofs.LaterDrafts.{itself_named}
 -- ---- the same slot
 
 same_key : (a b : CoefficientKey) → (same_bytes a.row b.row && same_bytes a.column b.column) ≡ true → a ≡ b
-same_key a b h = λ i. record {
-  row = same_name a.row b.row (first_so (same_bytes a.row b.row) (same_bytes a.column b.column) h) i;
-  column = same_name a.column b.column (second_so (same_bytes a.row b.row) (same_bytes a.column b.column) h) i;
-}
+same_key a b h = search (rules, same_name)
 
 pub slot_is : (a b : Slot) → same_slot a b ≡ true → a ≡ b
-slot_is sense_slot sense_slot h = refl
-slot_is objective_slot objective_slot h = refl
-slot_is constant_slot constant_slot h = refl
-slot_is (row_slot a) (row_slot b) h = ap row_slot (same_name a b h)
-slot_is (rhs_slot a) (rhs_slot b) h = ap rhs_slot (same_name a b h)
-slot_is (range_slot a) (range_slot b) h = ap range_slot (same_name a b h)
-slot_is (coefficient_slot a) (coefficient_slot b) h = ap coefficient_slot (same_key a b h)
-slot_is (lower_slot a) (lower_slot b) h = ap lower_slot (same_name a b h)
-slot_is (upper_slot a) (upper_slot b) h = ap upper_slot (same_name a b h)
-slot_is _ _ h = cc
+slot_is a b h = search (rules, same_name, same_key)
 
 -- a slot differs from all others
 pub new-from_others : (slot : Slot) (slots : List Slot) → Each (λ later. later ≡ slot → ⊥) slots → IsNew same_slot slot slots
 new-from_others slot [] h = refl
-new-from_others slot (later ∷ slots) h = both_false (same_slot later slot) (list_any (λ x. same_slot x slot) slots) (by (same_slot later slot) refl) (new-from_others slot slots h.1)
-  where
-    by : (b : Bool) → same_slot later slot ≡ b → b ≡ false
-    by true e = absurd (h.0 (slot_is later slot e))
-    by false e = refl
+new-from_others slot (later ∷ slots) h = grind (arith, both_false, slot_is, new-from_others slot slots h.1)
 
 -- ---- sections
 
@@ -84,28 +68,15 @@ AreOther [] = Unit {0}
 AreOther (e ∷ es) = Each (λ later. same_bytes later.0 e.0 ≡ false) es × AreOther es
 
 no_tie : (a b : List ℕ) → is_lt (bytes_cmp a b) ≡ true → same_bytes b a ≡ false
-no_tie a b below = by (same_bytes b a) refl
-  where
-    not_below : false ≡ true → ⊥
-    not_below e = cc
-
-    by : (c : Bool) → same_bytes b a ≡ c → c ≡ false
-    by true e = absurd (not_below (ap is_lt (sym (ap (bytes_cmp a) (same_name b a e) ∙ tied_itself bytes_total a)) ∙ below))
-    by false e = refl
+no_tie a b below = grind (arith, same_name, bytes_total)
 
 above-other : {X : Type 0} (name : List ℕ) (es : List (List ℕ × X)) → below_all bytes_cmp name es ≡ true → Each (λ later. same_bytes later.0 name ≡ false) es
 above-other name [] h = tt
-above-other name (e ∷ es) h = (
-  no_tie name e.0 (first_so (is_lt (bytes_cmp name e.0)) (below_all bytes_cmp name es) h),
-  above-other name es (second_so (is_lt (bytes_cmp name e.0)) (below_all bytes_cmp name es) h),
-)
+above-other name (e ∷ es) h = grind (arith, no_tie, above-other name es (second_so (is_lt (bytes_cmp name e.0)) (below_all bytes_cmp name es) h))
 
 pub other-from_sorted : {X : Type 0} (es : List (List ℕ × X)) → is_sorted bytes_cmp es ≡ true → AreOther es
 other-from_sorted [] h = tt
-other-from_sorted (e ∷ es) h = (
-  above-other e.0 es (first_so (below_all bytes_cmp e.0 es) (is_sorted bytes_cmp es) h),
-  other-from_sorted es (second_so (below_all bytes_cmp e.0 es) (is_sorted bytes_cmp es) h),
-)
+other-from_sorted (e ∷ es) h = grind (arith, above-other, other-from_sorted es (second_so (below_all bytes_cmp e.0 es) (is_sorted bytes_cmp es) h))
 
 none_named : {X : Type 0} (name : List ℕ) (es : List (List ℕ × X)) → Each (λ later. same_bytes later.0 name ≡ false) es → list_any (λ later. same_bytes later name) (names_in es) ≡ false
 none_named name [] h = refl
@@ -130,14 +101,7 @@ owner (upper_slot name) = Some name
 owner _ = None
 
 some_name : (a b : List ℕ) → Some a ≡ Some b → same_bytes b a ≡ false → ⊥
-some_name a b e other = no_truth (sym (itself_named b) ∙ sym (ap same_as e) ∙ other)
-  where
-    same_as : Option (List ℕ) → Bool
-    same_as (Some c) = same_bytes b c
-    same_as None = false
-
-    no_truth : true ≡ false → ⊥
-    no_truth k = cc
+some_name a b e other = grind (arith, itself_named)
 
 -- The slots of entries of different names are different, if each has the name of its entry.
 pub owners-apart : {X : Type 0} (f : List ℕ × X → List Slot) → ((e : List ℕ × X) → Each (λ slot. owner slot ≡ Some e.0) (f e)) → (es : List (List ℕ × X)) → AreOther es → Apart same_slot f es

@@ -1,5 +1,5 @@
 -- The canonical LP text of a well-formed model with LP names is read as it was printed.
-use Rattle.std.proofs.Common.{◌≡◌, ap, ◌∙◌, List, ℕ}
+use Rattle.std.proofs.Common.{rules, ◌≡◌, ap, ◌∙◌, List, ℕ}
 use Rattle.std.specs.Prelude.{None}
 use Rattle.std.specs.List.{enumerate_from}
 use Rattle.mpslp_model_core.specs.Model.{LinearModel, IsSound}
@@ -12,13 +12,7 @@ use Rattle.mpslp_canonical_lp.proofs.TerminalLemmas.{all_terminals, lines-seen}
 use Rattle.mpslp_canonical_lp.proofs.PrintableLemmas.{canonical-printable}
 
 pub read-as-line_text : AreReadAsPrinted
-read-as-line_text m sound fits =
-    let printable = canonical-printable m sound fits in
-    record {
-      lines_are = lines-text (canonical_lines m) printable;
-      faultless = all-faultless (canonical_lines m) printable;
-      tokens_are = all-tokens (canonical_lines m) printable;
-    }
+read-as-line_text m sound fits = search (rules, canonical-printable, lines-text, all-faultless, all-tokens)
 
 -- the terminals that the grammar sees in the text
 pub canonical-terminals : (m : LinearModel) → IsSound m → unfit m ≡ None → sound_terminals (numbered_lines (canonical_lp m)) ≡ all_terminals 1 (canonical_lines m)

@@ -1,5 +1,5 @@
 -- A printed row declares its name, its limits and its terms.
-use Rattle.std.proofs.Common.{◌≡◌, sym, ap, subst, ◌∙◌, ℕ, ◌+◌, List, [], ◌∷◌, ◌++◌, true, false, append_assoc, map}
+use Rattle.std.proofs.Common.{arith, rules, ◌≡◌, sym, subst, ℕ, ◌+◌, List, [], ◌∷◌, ◌++◌, true, false, append_assoc, map}
 use Rattle.std.specs.Prelude.{Option, Some, None}
 use Rattle.std.specs.List.{list_any}
 use Rattle.std.specs.Option.{option_map}
@@ -17,7 +17,6 @@ use Rattle.mpslp_lp_grammar.specs.Phrase.{Point}
 use Rattle.mpslp_lp_grammar.specs.declared.sections_seen.SectionsSeen.{SectionsSeen}
 use Rattle.mpslp_lp_grammar.specs.PartialRow.{PartialRow}
 use Rattle.mpslp_lp_grammar.specs.declared.states.Place.TheVariants.{BetweenRows, InRow}
-use Rattle.mpslp_lp_grammar.specs.Items.{apply_sign}
 use Rattle.mpslp_lp_grammar.specs.Rows.{fits_left}
 use Rattle.mpslp_lp_grammar.specs.declared.relations.Relation.{Relation}
 use Rattle.mpslp_lp_grammar.specs.declared.relations.Relation.TheVariants.{AtMost}
@@ -26,7 +25,7 @@ use Rattle.mpslp_canonical_lp.specs.CanonicalLp.{Lines, Term, long_line, label_l
 pub use Rattle.mpslp_canonical_lp.specs.PrintedDeclarations.{AreNew}
 use Rattle.mpslp_canonical_lp.proofs.PrintableLemmas.{IsTerm}
 use Rattle.mpslp_canonical_lp.proofs.TerminalLemmas.{at, terminals_in, line_terminals_in, all_terminals, mapped-append, signed-value, sign_of}
-use Rattle.mpslp_canonical_lp.proofs.PhraseLemmas.{Walks, walks-none, walks-then, point_at, row-walks, left-row-walks, signed-row-walks, row-term-walks, ended_by, row-end-walks, signed-end-walks}
+use Rattle.mpslp_canonical_lp.proofs.PhraseLemmas.{Walks, walks-none, walks-then, point_at, left-row-walks, signed-row-walks, row-term-walks, ended_by, row-end-walks, signed-end-walks}
 use Rattle.mpslp_canonical_lp.proofs.ObjectiveWalk.{term-terminals}
 use Rattle.mpslp_canonical_lp.proofs.BoundsWalk.{number-either}
 
@@ -51,49 +50,27 @@ term_tokens n term = at n (Sign (sign_of (is_negative term.1))) ∷ at n (Number
 
 begin-plain : (sections_seen : SectionsSeen) (all : Draft) (name : List ℕ) (k n : ℕ) (term : Term)
     → Walks (point_at BetweenRows sections_seen all) (at k (Name name) ∷ at k Colon ∷ term_tokens n term) [] (in_row sections_seen all (partial name None (term ∷ [])))
-begin-plain sections_seen all name k n term =
-    subst (λ (value : Decimal). Walks (point_at BetweenRows sections_seen all) (at k (Name name) ∷ at k Colon ∷ term_tokens n term) [] (in_row sections_seen all (partial name None ((term.0, value) ∷ []))))
-    (signed-value term.1) (row-walks sections_seen all name k n (sign_of (is_negative term.1)) (size_of term.1) term.0)
+begin-plain sections_seen all name k n term = grind arith
 
 begin-left : (sections_seen : SectionsSeen) (all : Draft) (name : List ℕ) (k j n : ℕ) (left : Decimal) (term : Term)
     → Walks (point_at BetweenRows sections_seen all) (at k (Name name) ∷ at k Colon ∷ (map (at j) (terminals_in (number left)) ++ at j (Compares AtMost) ∷ term_tokens n term)) []
     (in_row sections_seen all (partial name (Some left) (term ∷ [])))
-begin-left sections_seen all name k j n left term =
-    subst (λ (value : Decimal). Walks (point_at BetweenRows sections_seen all) (at k (Name name) ∷ at k Colon ∷ (map (at j) (terminals_in (number left)) ++ at j (Compares AtMost) ∷ term_tokens n term)) []
-    (in_row sections_seen all (partial name (Some left) ((term.0, value) ∷ [])))) (signed-value term.1)
-    (number-either (λ v terminals. Walks (point_at BetweenRows sections_seen all) (at k (Name name) ∷ at k Colon ∷ (map (at j) terminals ++ at j (Compares AtMost) ∷ term_tokens n term)) []
-    (in_row sections_seen all (partial name (Some v) ((term.0, apply_sign (sign_of (is_negative term.1)) (size_of term.1)) ∷ [])))) left
-    (λ v. left-row-walks sections_seen all name k j n v AtMost (sign_of (is_negative term.1)) (size_of term.1) term.0)
-    (λ below v. signed-row-walks sections_seen all name k j n below v AtMost (sign_of (is_negative term.1)) (size_of term.1) term.0))
+begin-left sections_seen all name k j n left term = grind (arith, point_at, at, terminals_in, signed-value, number-either, sign_of, left-row-walks, signed-row-walks)
 
 -- the label, the limit before the terms if there is one, and the first term
 pub begin-walk : (sections_seen : SectionsSeen) (all : Draft) (name : List ℕ) (n : ℕ) (left : Option Decimal) (term : Term) → IsTerm term
     → Walks (point_at BetweenRows sections_seen all) (all_terminals n (label_line name ∷ (left_line left ++ term_line term ∷ []))) [] (in_row sections_seen all (partial name left (term ∷ [])))
-begin-walk sections_seen all name n None term good =
-    subst (λ (tokens : List TerminalAt). Walks (point_at BetweenRows sections_seen all) (at n (Name name) ∷ at n Colon ∷ tokens) [] (in_row sections_seen all (partial name None (term ∷ []))))
-    (sym (append-nil (line_terminals_in (n + 1) (term_line term)) ∙ term-terminals (n + 1) term good)) (begin-plain sections_seen all name n (n + 1) term)
-begin-walk sections_seen all name n (Some left) term good =
-    let digits = terminals_in (number left) in
-    subst (λ (tokens : List TerminalAt). Walks (point_at BetweenRows sections_seen all) (at n (Name name) ∷ at n Colon ∷ tokens) [] (in_row sections_seen all (partial name (Some left) (term ∷ []))))
-    (sym (ap (λ (tokens : List TerminalAt). tokens ++ (line_terminals_in (n + 1 + 1) (term_line term) ++ [])) (mapped-append (at (n + 1)) digits (Compares AtMost ∷ []))
-    ∙ append_assoc (map (at (n + 1)) digits) (at (n + 1) (Compares AtMost) ∷ []) (line_terminals_in (n + 1 + 1) (term_line term) ++ [])
-    ∙ ap (λ (tokens : List TerminalAt). map (at (n + 1)) digits ++ at (n + 1) (Compares AtMost) ∷ tokens)
-    (append-nil (line_terminals_in (n + 1 + 1) (term_line term)) ∙ term-terminals (n + 1 + 1) term good)))
-    (begin-left sections_seen all name n (n + 1) (n + 1 + 1) left term)
+begin-walk sections_seen all name n left term good = search (rules, point_at, at, append-nil, line_terminals_in, term-terminals, begin-plain, terminals_in, mapped-append, append_assoc, begin-left)
 
 -- ---- its further terms
 
 more-term : (sections_seen : SectionsSeen) (all : Draft) (row : PartialRow) (n : ℕ) (term : Term) → IsTerm term → list_any (λ (earlier : Term). same_bytes term.0 earlier.0) row.terms ≡ false
     → Walks (in_row sections_seen all row) (line_terminals_in n (term_line term)) [] (in_row sections_seen all (record row { terms = row.terms ++ term ∷ [] }))
-more-term sections_seen all row n term good new =
-    subst (λ (tokens : List TerminalAt). Walks (in_row sections_seen all row) tokens [] (in_row sections_seen all (record row { terms = row.terms ++ term ∷ [] }))) (sym (term-terminals n term good))
-    (subst (λ (value : Decimal). Walks (in_row sections_seen all row) (term_tokens n term) [] (in_row sections_seen all (record row { terms = row.terms ++ (term.0, value) ∷ [] }))) (signed-value term.1)
-    (row-term-walks sections_seen all row n (sign_of (is_negative term.1)) (size_of term.1) term.0 new))
+more-term sections_seen all row n term good new = search (rules, term-terminals, signed-value, row-term-walks, sign_of)
 
 pub row-terms-walk : (sections_seen : SectionsSeen) (all : Draft) (name : List ℕ) (left : Option Decimal) (n : ℕ) (seen terms : List Term) → Each IsTerm terms → AreNew seen terms
     → Walks (in_row sections_seen all (partial name left seen)) (all_terminals n (map term_line terms)) [] (in_row sections_seen all (partial name left (seen ++ terms)))
-row-terms-walk sections_seen all name left n seen [] good new =
-    subst (λ (terms : List Term). Walks (in_row sections_seen all (partial name left seen)) [] [] (in_row sections_seen all (partial name left terms))) (sym (append-nil seen)) (walks-none (in_row sections_seen all (partial name left seen)))
+row-terms-walk sections_seen all name left n seen [] good new = grind (arith, append-nil, walks-none)
 row-terms-walk sections_seen all name left n seen (term ∷ terms) good new =
     subst (λ (whole : List Term). Walks (in_row sections_seen all (partial name left seen)) (all_terminals n (map term_line (term ∷ terms))) [] (in_row sections_seen all (partial name left whole))) (append_assoc seen (term ∷ []) terms)
     (walks-then (in_row sections_seen all (partial name left seen)) (in_row sections_seen all (partial name left (seen ++ term ∷ []))) (in_row sections_seen all (partial name left ((seen ++ term ∷ []) ++ terms)))

@@ -1,24 +1,19 @@
 -- What the canonical text declares fills no slot twice.
-use Rattle.std.proofs.Common.{◌≡◌, refl, ap, ◌∙◌, ℕ, List, [], ◌∷◌, ◌++◌, Bool, true, false, not, map, append_assoc}
-use Rattle.std.specs.Prelude.{◌&&◌, ◌||◌, Some, None, filter, if◌then◌else◌}
+use Rattle.std.proofs.Common.{arith, ◌≡◌, refl, ap, ◌∙◌, ℕ, List, [], ◌∷◌, ◌++◌, Bool, true, false, not, map, append_assoc}
+use Rattle.std.specs.Prelude.{◌&&◌, ◌||◌, Some, if◌then◌else◌}
 use Rattle.std.specs.List.{list_any, flat_map}
-use Rattle.mpslp_decimal.specs.Decimal.{Number, is_zero, have_same_value}
+use Rattle.mpslp_decimal.specs.Decimal.{Number}
 use Rattle.mpslp_types.specs.Name.{same_bytes}
-use Rattle.mpslp_types.specs.Limit.{limit_of}
 use Rattle.mpslp_types.specs.declared.kinds.Limit.{Limit}
-use Rattle.mpslp_types.specs.declared.kinds.Limit.TheVariants.{MinusInf, Finite, PlusInf}
 use Rattle.mpslp_types.proofs.BoolLemmas.{both_so, both_false, so_not}
 use Rattle.mpslp_types.proofs.EachLemmas.{Each, Each-weaker, Each-flat_map, Each-all}
 use Rattle.mpslp_model_core.specs.Model.{Row, Column, Listing}
 use Rattle.mpslp_types.specs.Lists.{are_distinct}
-use Rattle.mpslp_builder.specs.Declaration.{declare_constant, bounds_declared, Declarations, names_in}
+use Rattle.mpslp_builder.specs.Declaration.{Declarations, names_in}
 use Rattle.mpslp_builder.specs.Consistency.{Slot, sense_slot, objective_slot, constant_slot, row_slot, rhs_slot, range_slot, coefficient_slot, lower_slot, upper_slot, same_slot, all_slots}
 use Rattle.mpslp_builder.proofs.DistinctLemmas.{distinct-flat_map}
 use Rattle.mpslp_builder.proofs.LaterDrafts.{itself_named}
-use Rattle.mpslp_lp_grammar.specs.Items.{limits_by}
-use Rattle.mpslp_lp_grammar.specs.declared.relations.Relation.TheVariants.{AtLeast, EqualTo}
-use Rattle.mpslp_canonical_lp.specs.CanonicalLp.{Term, row_terms, objective_terms, is_integer_column, is_semi_column}
-use Rattle.mpslp_canonical_lp.proofs.PhraseLemmas.{column_and}
+use Rattle.mpslp_canonical_lp.specs.CanonicalLp.{Term, row_terms, objective_terms}
 use Rattle.mpslp_canonical_lp.proofs.ObjectiveWalk.{terms_declared, constant_declared, objective_made}
 use Rattle.mpslp_canonical_lp.proofs.BoundsWalk.{bound_made, column_made}
 use Rattle.mpslp_canonical_lp.proofs.TailWalk.{general_made, semi_made}
@@ -115,8 +110,7 @@ objective-section m columns =
     }
 
 constant-section : (objective : List ℕ) (value : Number) → Section (rank objective) 3 (all_slots (constant_declared value))
-constant-section objective value =
-    elim (is_zero value) as (λ b. Section (rank objective) 3 (all_slots (if b then [] else declare_constant value ∷ []))) [ true ↦ record { once = refl; ranked = tt } | false ↦ record { once = refl; ranked = (refl, tt) } ]
+constant-section objective value = grind arith
 
 -- ---- bounds
 
@@ -126,30 +120,8 @@ record IsOfColumn (objective column : List ℕ) (slots : List Slot) : Type 0 whe
   pub own : Each (λ slot. owner slot ≡ Some column) slots
   pub ranked : Each (λ slot. rank objective slot ≡ 5) slots
 
-no-side : (objective column : List ℕ) → IsOfColumn objective column []
-no-side objective column = record { once = refl; own = tt; ranked = tt }
-
-one-side : (objective column : List ℕ) → IsOfColumn objective column (lower_slot column ∷ [])
-one-side objective column = record { once = refl; own = (refl, tt); ranked = (refl, tt) }
-
-both-sides : (objective column : List ℕ) → IsOfColumn objective column (lower_slot column ∷ upper_slot column ∷ [])
-both-sides objective column = record { once = refl; own = (refl, (refl, tt)); ranked = (refl, (refl, tt)) }
-
 bound-slots : (objective column : List ℕ) (lower upper : Limit) → IsOfColumn objective column (all_slots (bound_made column lower upper))
-bound-slots objective column MinusInf (Finite b) = both-sides objective column
-bound-slots objective column (Finite a) (Finite b) = elim (have_same_value a b) as (λ t. IsOfColumn objective column (all_slots (if t then column_and column (limits_by EqualTo (limit_of b)) else column_and column (limits_by AtLeast (limit_of a)) ++ bounds_declared column None (Some (limit_of b))))) [
-  | true ↦ both-sides objective column
-  | false ↦ both-sides objective column
-]
-bound-slots objective column (Finite a) MinusInf =
-    elim (is_zero a) as (λ t. IsOfColumn objective column (all_slots (if t then [] else column_and column (limits_by AtLeast (limit_of a))))) [ true ↦ no-side objective column | false ↦ one-side objective column ]
-bound-slots objective column (Finite a) PlusInf =
-    elim (is_zero a) as (λ t. IsOfColumn objective column (all_slots (if t then [] else column_and column (limits_by AtLeast (limit_of a))))) [ true ↦ no-side objective column | false ↦ one-side objective column ]
-bound-slots objective column MinusInf MinusInf = both-sides objective column
-bound-slots objective column MinusInf PlusInf = both-sides objective column
-bound-slots objective column PlusInf MinusInf = both-sides objective column
-bound-slots objective column PlusInf (Finite b) = both-sides objective column
-bound-slots objective column PlusInf PlusInf = both-sides objective column
+bound-slots objective column lower upper = grind arith
 
 abbrev bound_slots : List ℕ × Column → List Slot
 bound_slots column = all_slots (column_made column)
@@ -176,21 +148,7 @@ kinds-fill make h [] = refl
 kinds-fill make h (column ∷ columns) = slots-append (make column) (flat_map make columns) ∙ (λ i. h column i ++ kinds-fill make h columns i)
 
 sections-fill : (m : Listing) → all_slots (listed_declarations m) ≡ flat_map (λ (section : List Slot). section) (sections m)
-sections-fill m =
-    let terms = terms_declared m.objective (objective_terms m) in
-    let constant = constant_declared m.constant in
-    let rows = flat_map (row_made m) m.rows in
-    let bounds = flat_map column_made m.columns in
-    let generals = flat_map general_made (filter is_integer_column m.columns) in
-    let semis = flat_map semi_made (filter is_semi_column m.columns) in
-    let none : all_slots (generals ++ semis) ≡ [] =
-    slots-append generals semis ∙ (λ i. kinds-fill general_made (λ _. refl) (filter is_integer_column m.columns) i ++ kinds-fill semi_made (λ _. refl) (filter is_semi_column m.columns) i) in
-    let tail : all_slots (bounds ++ (generals ++ semis)) ≡ flat_map bound_slots m.columns ++ [] = slots-append bounds (generals ++ semis) ∙ (λ i. slots-flat column_made m.columns i ++ none i) in
-    let later : all_slots (rows ++ (bounds ++ (generals ++ semis))) ≡ flat_map (row_slots m) m.rows ++ (flat_map bound_slots m.columns ++ []) =
-    slots-append rows (bounds ++ (generals ++ semis)) ∙ (λ i. slots-flat (row_made m) m.rows i ++ tail i) in
-    slots-append (objective_made m) (rows ++ (bounds ++ (generals ++ semis)))
-    ∙ (λ i. sense_slot ∷ objective_slot ∷ row_slot m.objective ∷ (slots-append terms constant i ++ later i))
-    ∙ ap (λ (slots : List Slot). sense_slot ∷ objective_slot ∷ row_slot m.objective ∷ slots) (append_assoc (all_slots terms) (all_slots constant) (flat_map (row_slots m) m.rows ++ (flat_map bound_slots m.columns ++ [])))
+sections-fill m = grind (arith, terms_declared, constant_declared, row_made, column_made, general_made, semi_made, slots-append, kinds-fill, slots-flat, objective_made, append_assoc)
 
 -- No slot is filled twice, if rows and columns have different names, and no row has that of the objective.
 pub listed-once : (m : Listing) → AreOther m.columns → AreOther m.rows → Each (λ row. same_bytes row.0 m.objective ≡ false) m.rows → are_distinct same_slot (all_slots (listed_declarations m)) ≡ true

@@ -1,16 +1,15 @@
 -- What ends a token: a space ends each, a colon ends a name, and a minus is a token by itself unless `>` follows.
-use Rattle.std.proofs.Common.{◌≡◌, refl, sym, ap, ◌∙◌, ℕ, List, [], ◌∷◌, ◌++◌, Bool, true, false, not, arith}
-use Rattle.std.specs.Prelude.{Option, Some, None, ◌&&◌, ◌||◌, ◌==◌, nat_eq, codes}
+use Rattle.std.proofs.Common.{rules, ◌≡◌, refl, ap, ℕ, List, [], ◌∷◌, ◌++◌, Bool, true, false, not, arith}
+use Rattle.std.specs.Prelude.{Option, Some, None, ◌&&◌, ◌||◌, ◌==◌, codes}
 use Rattle.std.specs.List.{find, list_all, list_any}
-use Rattle.std.specs.Option.{option_map}
-use Rattle.std.specs.Cmp.{first_so, second_so}
+use Rattle.std.specs.Cmp.{second_so}
 use Rattle.std.proofs.lemmas.Bool.Decides.{nat_tests}
 use Rattle.std.proofs.lemmas.Bool.{eqb-true}
 use Rattle.mpslp_decimal.specs.Literal.{is_digit, is_literal}
-use Rattle.mpslp_types.specs.Name.{same_bytes, begins_a_number, is_letter, is_lp_symbol}
-use Rattle.mpslp_types.proofs.BoolLemmas.{not_so, nor}
+use Rattle.mpslp_types.specs.Name.{is_letter}
+use Rattle.mpslp_types.proofs.BoolLemmas.{not_so}
 use Rattle.mpslp_decimal.proofs.CutLemmas.{Each}
-use Rattle.mpslp_lp_tokens.specs.Token.{begins_word, continues_word, is_period, is_word, is_number, two_byte_operators, operator_kind, kind_of}
+use Rattle.mpslp_lp_tokens.specs.Token.{begins_word, continues_word, is_word, is_number, operator_kind, kind_of}
 use Rattle.mpslp_lp_tokens.specs.declared.tokens.TokenKind.{TokenKind}
 use Rattle.mpslp_lp_tokens.specs.declared.tokens.TokenKind.TheVariants as kinds
 use Rattle.mpslp_lp_tokens.proofs.NameTokens.{begins-no_number}
@@ -31,11 +30,7 @@ no-kind text a b c = λ i. choice (a i) (b i) (c i)
 -- one byte that no word continues with
 broken : (p : ℕ → Bool) (xs ys : List ℕ) (b : ℕ) → p b ≡ false → list_all p (xs ++ b ∷ ys) ≡ false
 broken p [] ys b h = rw h refl
-broken p (x ∷ xs) ys b h = by (p x) (list_all p (xs ++ b ∷ ys)) (broken p xs ys b h)
-  where
-    by : (a c : Bool) → c ≡ false → (a && c) ≡ false
-    by true c e = e
-    by false c e = refl
+broken p (x ∷ xs) ys b h = grind (arith, broken p xs ys b h)
 
 word-broken : (text more : List ℕ) (b : ℕ) → begins_word b ≡ false → continues_word b ≡ false → is_word (text ++ b ∷ more) ≡ false
 word-broken [] more b h k = rw h refl
@@ -50,12 +45,7 @@ none-found p [] h = refl
 none-found p (entry ∷ table) h = rw h.0 (none-found p table h.1)
 
 and-false : (a : Bool) → (a && false) ≡ false
-and-false true = refl
-and-false false = refl
-
-false-and : (a b : Bool) → a ≡ false → (a && b) ≡ false
-false-and true b h = cc
-false-and false b h = refl
+and-false a = grind arith
 
 -- ---- a space
 
@@ -63,26 +53,17 @@ abbrev NotBlank : ℕ → Type 0
 NotBlank b = (b == 32) ≡ false
 
 literal-solid : (text : List ℕ) → is_literal text ≡ true → Each NotBlank text
-literal-solid text h =
-    literal-each NotBlank (λ b k. grind (arith, nat_tests)) (λ b k. grind (arith, nat_tests)) (λ b k. grind (arith, nat_tests)) (λ b k. grind (arith, nat_tests)) text h
+literal-solid text h = grind (arith, literal-each, arith, nat_tests)
 
 blank-in : (xs ys : List ℕ) → Each NotBlank (xs ++ 32 ∷ ys) → ⊥
 blank-in [] ys h = cc
 blank-in (x ∷ xs) ys h = blank-in xs ys h.1
 
 number-blank : (text more : List ℕ) → is_number (text ++ 32 ∷ more) ≡ false
-number-blank text more = by (begins_a_number (text ++ 32 ∷ more)) (is_literal (text ++ 32 ∷ more)) refl
-  where
-    by : (a b : Bool) → is_literal (text ++ 32 ∷ more) ≡ b → elim a as (λ _. Bool) [ true ↦ b | false ↦ false ] ≡ false
-    by false b e = refl
-    by true false e = refl
-    by true true e = absurd (blank-in text more (literal-solid (text ++ 32 ∷ more) e))
+number-blank text more = grind (arith, blank-in, literal-solid)
 
 second-blank : (c : ℕ) → operator_kind (c ∷ 32 ∷ []) ≡ None
-second-blank c =
-    ap (λ (o : Option (List ℕ × TokenKind)). option_map (λ (entry : List ℕ × TokenKind). entry.1) o)
-    (none-found (λ (entry : List ℕ × TokenKind). same_bytes entry.0 (c ∷ 32 ∷ [])) two_byte_operators
-    (and-false (nat_eq 60 c), (and-false (nat_eq 61 c), (and-false (nat_eq 62 c), (and-false (nat_eq 61 c), (and-false (nat_eq 58 c), (and-false (nat_eq 45 c), tt)))))))
+second-blank c = grind arith
 
 operator-blank : (text more : List ℕ) → operator_kind (text ++ 32 ∷ more) ≡ None
 operator-blank [] [] = refl
@@ -103,35 +84,17 @@ is_operator_byte b = list_any (λ (o : ℕ). o == b) (codes "<>=:-")
 
 symbol-apart : (symbols : List ℕ) (c : ℕ) → list_all (λ s. not (is_operator_byte s)) symbols ≡ true → list_any (λ s. s == c) symbols ≡ true → is_operator_byte c ≡ false
 symbol-apart [] c all any = cc
-symbol-apart (s ∷ symbols) c all any =
-    by (s == c) refl any (symbol-apart symbols c (second_so (not (is_operator_byte s)) (list_all (λ x. not (is_operator_byte x)) symbols) all))
-  where
-    by : (b : Bool) → (s == c) ≡ b → (b || list_any (λ x. x == c) symbols) ≡ true → (list_any (λ x. x == c) symbols ≡ true → is_operator_byte c ≡ false) → is_operator_byte c ≡ false
-    by true is k more =
-        ap is_operator_byte (sym (eqb-true s c is)) ∙ not_so (is_operator_byte s) (first_so (not (is_operator_byte s)) (list_all (λ x. not (is_operator_byte x)) symbols) all)
-    by false is k more = more k
+symbol-apart (s ∷ symbols) c all any = grind (arith, eqb-true, not_so, symbol-apart symbols c (second_so (not (is_operator_byte s)) (list_all (λ x. not (is_operator_byte x)) symbols) all))
 
 letter-apart : (c : ℕ) → is_letter c ≡ true → is_operator_byte c ≡ false
 letter-apart c h = grind (arith, nat_tests)
 
 first-apart : (c : ℕ) → begins_word c ≡ true → is_operator_byte c ≡ false
-first-apart c h = by (is_letter c) refl h
-  where
-    by : (b : Bool) → is_letter c ≡ b → (b || (is_lp_symbol c && not (is_period c))) ≡ true → is_operator_byte c ≡ false
-    by true e k = letter-apart c e
-    by false e k = symbol-apart (codes "!\"#$%&()/,.;?@_'{}|~`") c refl (first_so (is_lp_symbol c) (not (is_period c)) k)
+first-apart c h = search (rules, letter-apart, symbol-apart)
 
 -- an operator of two bytes begins with the byte of an operator
 first-found : (c d : ℕ) → is_operator_byte c ≡ false → operator_kind (c ∷ d ∷ []) ≡ None
-first-found c d h =
-    let a = nor (60 == c) ((62 == c) || ((61 == c) || ((58 == c) || ((45 == c) || false)))) h in
-    let b = nor (62 == c) ((61 == c) || ((58 == c) || ((45 == c) || false))) a.1 in
-    let e = nor (61 == c) ((58 == c) || ((45 == c) || false)) b.1 in
-    let f = nor (58 == c) ((45 == c) || false) e.1 in
-    let g = nor (45 == c) false f.1 in
-    ap (λ (o : Option (List ℕ × TokenKind)). option_map (λ (entry : List ℕ × TokenKind). entry.1) o)
-    (none-found (λ (entry : List ℕ × TokenKind). same_bytes entry.0 (c ∷ d ∷ [])) two_byte_operators
-    (false-and (60 == c) _ a.0, (false-and (61 == c) _ e.0, (false-and (62 == c) _ b.0, (false-and (61 == c) _ e.0, (false-and (58 == c) _ f.0, (false-and (45 == c) _ g.0, tt)))))))
+first-found c d h = grind arith
 
 operator-colon : (c : ℕ) (text more : List ℕ) → is_operator_byte c ≡ false → operator_kind ((c ∷ text) ++ 58 ∷ more) ≡ None
 operator-colon c [] [] h = first-found c 58 h
@@ -150,15 +113,8 @@ stops-colon c text h more =
 
 -- ---- a minus
 
-minus-apart : (b : ℕ) → (62 == b) ≡ false → operator_kind (45 ∷ b ∷ []) ≡ None
-minus-apart b h =
-    ap (λ (o : Option (List ℕ × TokenKind)). option_map (λ (entry : List ℕ × TokenKind). entry.1) o)
-    (none-found (λ (entry : List ℕ × TokenKind). same_bytes entry.0 (45 ∷ b ∷ [])) two_byte_operators
-    (refl, (refl, (refl, (refl, (refl, (false-and (62 == b) _ h, tt)))))))
-
 operator-minus : (b : ℕ) (more : List ℕ) → (62 == b) ≡ false → operator_kind (45 ∷ b ∷ more) ≡ None
-operator-minus b [] h = minus-apart b h
-operator-minus b (a ∷ more) h = refl
+operator-minus b more h = grind arith
 
 pub stops-minus : (b : ℕ) → (62 == b) ≡ false → StopsAt (codes "-") b
 stops-minus b h more = no-kind (45 ∷ b ∷ more) refl refl (operator-minus b more h)

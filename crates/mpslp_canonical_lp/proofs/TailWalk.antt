@@ -1,19 +1,16 @@
 -- The printed bounds and integer columns, and the end of the text.
-use Rattle.std.proofs.Common.{◌≡◌, refl, sym, ap, subst, ◌∙◌, ℕ, ◌+◌, List, [], ◌∷◌, ◌++◌, Bool, true, false, not, map}
-use Rattle.std.specs.Prelude.{Option, Some, None, ◌||◌, codes, is_some}
+use Rattle.std.proofs.Common.{arith, ◌≡◌, refl, sym, ap, subst, ℕ, ◌+◌, List, [], ◌∷◌, ◌++◌, true, not, map}
+use Rattle.std.specs.Prelude.{Option, None, ◌||◌, codes, is_some}
 use Rattle.std.specs.List.{flat_map}
 use Rattle.std.proofs.lemmas.List.{append-nil}
 use Rattle.mpslp_model_core.specs.Model.{Column}
-use Rattle.mpslp_builder.specs.Declaration.{Draft, Declarations, declare_column, declare_integer, bounds_declared, with_declarations, has_column, has_name, declare_semi}
-use Rattle.mpslp_types.specs.Limit.{is_plus_infinite, is_minus_infinite}
+use Rattle.mpslp_builder.specs.Declaration.{Draft, Declarations, declare_column, declare_integer, bounds_declared, with_declarations, declare_semi}
 use Rattle.mpslp_builder.specs.Refusal.{refusals_in_turn, bounds_refusals}
-use Rattle.mpslp_types.specs.Lists.{those_of}
-use Rattle.mpslp_types.specs.declared.faults.BuildFault.TheVariants.{UnknownColumn, DuplicateBound, InfiniteValue}
 use Rattle.mpslp_types.specs.declared.kinds.Limit.{Limit}
 use Rattle.mpslp_builder.proofs.MadeDrafts.{with_declarations-append}
 use Rattle.mpslp_decimal.proofs.CutLemmas.{Each}
 use Rattle.mpslp_lp_grammar.specs.declared.signs.Sign.TheVariants.{Minus}
-use Rattle.mpslp_lp_grammar.specs.Terminal.{TerminalAt, word_terminal}
+use Rattle.mpslp_lp_grammar.specs.Terminal.{TerminalAt}
 use Rattle.mpslp_lp_grammar.specs.Terminal.Terminal.{Opens, Name, Sign}
 use Rattle.mpslp_lp_grammar.specs.Rules.{phrases, made_by}
 use Rattle.mpslp_lp_grammar.specs.Rules.Outcome.{Finished}
@@ -28,7 +25,7 @@ use Rattle.mpslp_canonical_lp.specs.CanonicalLp.{Lines, heading, under_heading, 
 use Rattle.mpslp_canonical_lp.proofs.LexemeLemmas.{IsGoodName}
 use Rattle.mpslp_canonical_lp.proofs.PrintableLemmas.{IsFitColumn}
 use Rattle.mpslp_canonical_lp.proofs.TerminalLemmas.{at, line_terminals_in, all_terminals}
-use Rattle.mpslp_canonical_lp.proofs.PhraseLemmas.{Walks, walks-none, point_at, generals-section-walks, general-walks, end-says, end-makes, semis-section-walks, semi-walks}
+use Rattle.mpslp_canonical_lp.proofs.PhraseLemmas.{Walks, walks-none, point_at, generals-section-walks, end-says, end-makes, semis-section-walks}
 use Rattle.mpslp_canonical_lp.proofs.ObjectiveWalk.{number_after, terminals-append, parts-taken, parts-walk}
 
 -- ---- where the text ends
@@ -41,11 +38,7 @@ pub record EndsWith (from : Point) (tokens : List TerminalAt) (made : Declaratio
 pub walk-ends : (place between : Place) (sections_seen later : SectionsSeen) (all : Draft) (xs ys : List TerminalAt) (made more : Declarations)
     → Walks (point_at place sections_seen all) xs made (point_at between later (with_declarations all made)) → EndsWith (point_at between later (with_declarations all made)) ys more
     → EndsWith (point_at place sections_seen all) (xs ++ ys) (made ++ more)
-walk-ends place between sections_seen later all xs ys made more h k =
-    record {
-      says = h.says ys ∙ k.says ∙ ap (λ (draft : Draft). Finished draft) (sym (with_declarations-append made more all));
-      makes = h.makes ys ∙ ap (λ (rest : Declarations). made ++ rest) k.makes;
-    }
+walk-ends place between sections_seen later all xs ys made more h k = grind (arith, with_declarations-append)
 
 pub end-ends : (place : Place) (sections_seen : SectionsSeen) (all : Draft) (n : ℕ) → may_begin_section place ≡ true → section_fault sections_seen sections.End ≡ None
     → EndsWith (point_at place sections_seen all) (all_terminals n (heading (codes "End" ∷ []) ∷ [])) []
@@ -58,9 +51,7 @@ general_made column = declare_column column.0 ∷ declare_integer column.0 ∷ [
 
 pub one-general : (sections_seen : SectionsSeen) (all : Draft) (n : ℕ) (column : List ℕ × Column) → IsGoodName column.0 → refusals_in_turn all (general_made column) ≡ []
     → Walks (point_at InGenerals sections_seen all) (line_terminals_in n (name_line column)) (general_made column) (point_at InGenerals sections_seen (with_declarations all (general_made column)))
-one-general sections_seen all n column good h =
-    subst (λ (tokens : List TerminalAt). Walks (point_at InGenerals sections_seen all) tokens (general_made column) (point_at InGenerals sections_seen (with_declarations all (general_made column))))
-    (λ i. at n (word_terminal column.0 (sym good.word_class i)) ∷ []) (general-walks sections_seen all n column.0 h)
+one-general sections_seen all n column good h = grind arith
 
 pub generals-walk : (sections_seen : SectionsSeen) (all : Draft) (n : ℕ) (columns : List (List ℕ × Column)) → Each IsFitColumn columns → refusals_in_turn all (flat_map general_made columns) ≡ []
     → Walks (point_at InGenerals sections_seen all) (all_terminals n (map name_line columns)) (flat_map general_made columns) (point_at InGenerals sections_seen (with_declarations all (flat_map general_made columns)))
@@ -78,9 +69,7 @@ semi_made column = declare_column column.0 ∷ declare_semi column.0 ∷ []
 
 pub one-semi : (sections_seen : SectionsSeen) (all : Draft) (n : ℕ) (column : List ℕ × Column) → IsGoodName column.0 → refusals_in_turn all (semi_made column) ≡ []
     → Walks (point_at InSemis sections_seen all) (line_terminals_in n (name_line column)) (semi_made column) (point_at InSemis sections_seen (with_declarations all (semi_made column)))
-one-semi sections_seen all n column good h =
-    subst (λ (tokens : List TerminalAt). Walks (point_at InSemis sections_seen all) tokens (semi_made column) (point_at InSemis sections_seen (with_declarations all (semi_made column))))
-    (λ i. at n (word_terminal column.0 (sym good.word_class i)) ∷ []) (semi-walks sections_seen all n column.0 h)
+one-semi sections_seen all n column good h = grind arith
 
 pub semis-walk : (sections_seen : SectionsSeen) (all : Draft) (n : ℕ) (columns : List (List ℕ × Column)) → Each IsFitColumn columns → refusals_in_turn all (flat_map semi_made columns) ≡ []
     → Walks (point_at InSemis sections_seen all) (all_terminals n (map name_line columns)) (flat_map semi_made columns) (point_at InSemis sections_seen (with_declarations all (flat_map semi_made columns)))
@@ -145,32 +134,4 @@ generals-end place sections_seen all n (column ∷ columns) semis fit whole may 
 
 pub sides-taken : (all : Draft) (column : List ℕ) (lower upper : Option Limit) → refusals_in_turn all (bounds_declared column lower upper) ≡ [] → is_some lower || is_some upper ≡ true
     → bounds_refusals all column lower upper ≡ []
-sides-taken all column None None h some = cc
-sides-taken all column (Some a) None h some = by (not (has_column all column)) (has_name all.lowers column) (is_plus_infinite a) h
-  where
-    by : (u d i : Bool) → those_of ((u, UnknownColumn) ∷ (d, DuplicateBound) ∷ (i, InfiniteValue) ∷ []) ++ [] ≡ []
-        → those_of ((u, UnknownColumn) ∷ ((d || false), DuplicateBound) ∷ ((i || false), InfiniteValue) ∷ []) ≡ []
-    by true d i k = cc
-    by false true i k = cc
-    by false false true k = cc
-    by false false false k = refl
-sides-taken all column None (Some b) h some = by (not (has_column all column)) (has_name all.uppers column) (is_minus_infinite b) h
-  where
-    by : (u d i : Bool) → those_of ((u, UnknownColumn) ∷ (d, DuplicateBound) ∷ (i, InfiniteValue) ∷ []) ++ [] ≡ []
-        → those_of ((u, UnknownColumn) ∷ (d, DuplicateBound) ∷ (i, InfiniteValue) ∷ []) ≡ []
-    by true d i k = cc
-    by false true i k = cc
-    by false false true k = cc
-    by false false false k = refl
-sides-taken all column (Some a) (Some b) h some =
-    by (not (has_column all column)) (has_name all.lowers column) (is_plus_infinite a) (has_name all.uppers column) (is_minus_infinite b) h
-  where
-    by : (u d i e j : Bool)
-        → those_of ((u, UnknownColumn) ∷ (d, DuplicateBound) ∷ (i, InfiniteValue) ∷ []) ++ (those_of ((u, UnknownColumn) ∷ (e, DuplicateBound) ∷ (j, InfiniteValue) ∷ []) ++ []) ≡ []
-        → those_of ((u, UnknownColumn) ∷ ((d || e), DuplicateBound) ∷ ((i || j), InfiniteValue) ∷ []) ≡ []
-    by true d i e j k = cc
-    by false true i e j k = cc
-    by false false true e j k = cc
-    by false false false true j k = cc
-    by false false false false true k = cc
-    by false false false false false k = refl
+sides-taken all column lower upper h some = grind arith

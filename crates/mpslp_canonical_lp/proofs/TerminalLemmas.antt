@@ -1,13 +1,12 @@
 -- What the grammar sees of a printed line.
+use Rattle.std.proofs.Common.{arith, ◌≡◌, refl, ap, ℕ, ◌+◌, List, [], ◌∷◌, ◌++◌, Bool, true, false, map}
 use Rattle.mpslp_lp_tokens.specs.declared.words.SectionWord.TheVariants as section_words
-use Rattle.std.proofs.Common.{◌≡◌, refl, sym, ap, ◌∙◌, ℕ, ◌+◌, List, [], ◌∷◌, ◌++◌, Bool, true, false, map}
-use Rattle.std.specs.Prelude.{pos, neg_ℤ, unsigned_abs, codes, if◌then◌else◌}
+use Rattle.std.specs.Prelude.{codes, if◌then◌else◌}
 use Rattle.std.specs.List.{flat_map}
 use Rattle.std.specs.Result.{result_unwrap_or}
 use Rattle.mpslp_decimal.specs.Decimal.{Number as Decimal, IsDecimal, is_negative, size_of, zero_number}
 use Rattle.mpslp_decimal.specs.NumberText.{number_text}
-use Rattle.mpslp_decimal.specs.Literal.{to_signed as literal_sign}
-use Rattle.mpslp_decimal.proofs.NumberTextLemmas.{number-text, signed-size}
+use Rattle.mpslp_decimal.proofs.NumberTextLemmas.{number-text}
 use Rattle.mpslp_decimal.proofs.CutLemmas.{Each}
 use Rattle.mpslp_lp_tokens.specs.Token.{class_of}
 use Rattle.mpslp_lp_grammar.specs.declared.signs.Sign.{Sign as SignOf}
@@ -71,10 +70,7 @@ mapped-append {X} {Y} f (x ∷ xs) ys = ap (λ (more : List Y). f x ∷ more) (m
 
 lexemes-seen : (n : ℕ) (lexemes : List Lexeme) → Each IsPrintable lexemes → map (seen_at n) (flat_map tokens_in lexemes) ≡ map (at n) (flat_map terminals_in lexemes)
 lexemes-seen n [] h = refl
-lexemes-seen n (piece ∷ lexemes) h =
-    mapped-append (seen_at n) (tokens_in piece) (flat_map tokens_in lexemes)
-    ∙ (λ i. piece-seen n piece h.0 i ++ lexemes-seen n lexemes h.1 i)
-    ∙ sym (mapped-append (at n) (terminals_in piece) (flat_map terminals_in lexemes))
+lexemes-seen n (piece ∷ lexemes) h = grind (arith, mapped-append, seen_at, piece-seen, lexemes-seen n lexemes h.1)
 
 pub line-seen : (n : ℕ) (line : PrintedLine) → Each IsPrintable line.lexemes → map (seen_at n) (line_tokens line) ≡ line_terminals_in n line
 line-seen n line h = lexemes-seen n line.lexemes h
@@ -90,12 +86,4 @@ lines-seen n (line ∷ lines) h = λ i. line-seen n line h.0.each i ++ lines-see
 
 -- a sign and an absolute value give the number
 pub signed-value : (value : Decimal) → apply_sign (sign_of (is_negative value)) (size_of value) ≡ value
-signed-value value = by (is_negative value) refl
-  where
-    by : (b : Bool) → is_negative value ≡ b → apply_sign (sign_of b) (size_of value) ≡ value
-    by true e =
-        let whole : neg_ℤ (pos (unsigned_abs value.mantissa)) ≡ value.mantissa = ap (λ (b : Bool). literal_sign b (unsigned_abs value.mantissa)) (sym e) ∙ signed-size value.mantissa in
-        λ i. record { mantissa = whole i; exponent = value.exponent }
-    by false e =
-        let whole : pos (unsigned_abs value.mantissa) ≡ value.mantissa = ap (λ (b : Bool). literal_sign b (unsigned_abs value.mantissa)) (sym e) ∙ signed-size value.mantissa in
-        λ i. record { mantissa = whole i; exponent = value.exponent }
+signed-value value = grind arith

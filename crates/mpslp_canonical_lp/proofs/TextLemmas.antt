@@ -1,13 +1,12 @@
 -- A text of printed lines consists of these lines, and its terminals are those of their pieces.
-use Rattle.std.proofs.Common.{◌≡◌, refl, ap, ◌∙◌, List, [], ◌∷◌, ◌++◌, ℕ, zero, suc, ◌+◌, Bool, true, false, map, arith}
-use Rattle.std.specs.Prelude.{◌==◌, slice_index, Option, Some, None, is_none}
-use Rattle.std.specs.List.{slice_split, list_all, enumerate_from}
-use Rattle.std.specs.Str.Lines.{lines, lines_of_parts, strip_carriage_return}
+use Rattle.std.proofs.Common.{◌≡◌, refl, List, [], ◌∷◌, ◌++◌, ℕ, ◌+◌, true, map, arith}
+use Rattle.std.specs.Prelude.{is_none}
+use Rattle.std.specs.List.{list_all, enumerate_from}
+use Rattle.std.specs.Str.Lines.{lines}
 use Rattle.std.proofs.lemmas.Bool.Decides.{nat_tests}
-use Rattle.mpslp_types.specs.declared.faults.FaultKind.{FaultKind}
 use Rattle.mpslp_types.proofs.BoolLemmas.{both_so}
 use Rattle.mpslp_decimal.proofs.CutLemmas.{Each}
-use Rattle.mpslp_lp_grammar.specs.Terminal.{TerminalAt, line_terminals, lexical_fault}
+use Rattle.mpslp_lp_grammar.specs.Terminal.{TerminalAt, lexical_fault}
 use Rattle.mpslp_lp.specs.LpText.{sound_terminals}
 use Rattle.mpslp_lines.proofs.WrittenLineLemmas.{IsPlain, lines-with_line_feeds}
 use Rattle.mpslp_canonical_lp.specs.Printed.{PrintedLine, line_text, text_of}
@@ -30,8 +29,7 @@ lines-text ls h = lines-with_line_feeds (map line_text ls) (all-plain ls h)
 
 pub all-faultless : (ls : List PrintedLine) → Each IsPrintableLine ls → list_all (λ line. is_none (lexical_fault line)) (map line_text ls) ≡ true
 all-faultless [] h = refl
-all-faultless (l ∷ ls) h =
-    both_so (is_none (lexical_fault (line_text l))) (list_all (λ line. is_none (lexical_fault line)) (map line_text ls)) (ap is_none (line-faultless l h.0)) (all-faultless ls h.1)
+all-faultless (l ∷ ls) h = grind (arith, both_so, line-faultless, all-faultless ls h.1)
 
 pub all-tokens : (ls : List PrintedLine) → Each IsPrintableLine ls → map tokens_seen (map line_text ls) ≡ map line_tokens ls
 all-tokens [] h = refl
@@ -46,9 +44,4 @@ terminals_from n (l ∷ ls) = map (seen_at n) (line_tokens l) ++ terminals_from 
 
 pub sound-terminals : (n : ℕ) (ls : List PrintedLine) → Each IsPrintableLine ls → sound_terminals (enumerate_from n (map line_text ls)) ≡ terminals_from n ls
 sound-terminals n [] h = refl
-sound-terminals n (l ∷ ls) h =
-    ap (λ (o : Option FaultKind). elim o as (λ _. List TerminalAt) [
-      | Some kind ↦ []
-      | None ↦ line_terminals (n, line_text l) ++ sound_terminals (enumerate_from (n + 1) (map line_text ls))
-    ]) (line-faultless l h.0)
-    ∙ (λ i. line-terminals n l h.0.each i ++ sound-terminals (n + 1) ls h.1 i)
+sound-terminals n (l ∷ ls) h = grind (arith, line-faultless, line-terminals, sound-terminals (n + 1) ls h.1)

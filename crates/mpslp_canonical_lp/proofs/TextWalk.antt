@@ -1,34 +1,31 @@
 -- The whole canonical text: what it declares, if none of that is rejected.
-use Rattle.std.proofs.Common.{◌≡◌, refl, sym, ap, subst, ◌∙◌, ℕ, ◌+◌, List, [], ◌∷◌, ◌++◌, Bool, true, false, append_assoc, map}
+use Rattle.std.proofs.Common.{arith, ◌≡◌, refl, sym, ap, subst, ◌∙◌, ℕ, ◌+◌, List, [], ◌∷◌, ◌++◌, true, append_assoc, map}
 use Rattle.std.specs.Prelude.{Option, Some, None, codes, if◌then◌else◌, filter}
 use Rattle.std.specs.List.{flat_map}
 use Rattle.std.proofs.lemmas.List.{append-nil}
-use Rattle.mpslp_decimal.specs.Decimal.{Number as Decimal, is_zero, have_same_value}
+use Rattle.mpslp_decimal.specs.Decimal.{Number as Decimal, have_same_value}
 use Rattle.mpslp_model_core.specs.Model.{Row, Column, Listing}
 use Rattle.mpslp_types.specs.Limit.{limit_of}
 use Rattle.mpslp_builder.specs.Declaration.{Draft, empty_draft, Declarations, with_declarations}
 use Rattle.mpslp_builder.specs.Refusal.{refusals_in_turn}
 use Rattle.mpslp_types.specs.declared.kinds.Limit.{Limit}
-use Rattle.mpslp_types.specs.declared.kinds.Limit.TheVariants.{MinusInf, Finite, PlusInf}
+use Rattle.mpslp_types.specs.declared.kinds.Limit.TheVariants.{Finite}
 use Rattle.mpslp_types.proofs.EachLemmas.{Each-filter}
-use Rattle.mpslp_decimal.proofs.CutLemmas.{Each}
-use Rattle.mpslp_decimal.proofs.CutLemmas.{Each-weaker}
+use Rattle.mpslp_decimal.proofs.CutLemmas.{Each, Each-weaker}
 use Rattle.mpslp_lp_grammar.specs.Terminal.{TerminalAt}
 use Rattle.mpslp_lp_grammar.specs.Terminal.Terminal.{Opens}
 use Rattle.mpslp_lp_grammar.specs.Phrase.{no_section_seen, with_section, start}
 use Rattle.mpslp_lp_grammar.specs.declared.sections_seen.SectionsSeen.{SectionsSeen}
 use Rattle.mpslp_lp_grammar.specs.declared.states.Place.TheVariants.{AtStart, BetweenRows, InBounds, InRow}
-use Rattle.mpslp_lp_grammar.specs.Items.{limits_by}
 use Rattle.mpslp_lp_grammar.specs.Rows.{fits_left}
 use Rattle.mpslp_lp_grammar.specs.declared.relations.Relation.{Relation}
 use Rattle.mpslp_lp_grammar.specs.declared.relations.Relation.TheVariants.{AtMost, AtLeast, EqualTo}
 use Rattle.mpslp_lp_tokens.specs.declared.words.Section.TheVariants as sections
 use Rattle.mpslp_lp_tokens.specs.declared.words.SectionWord.TheVariants as section_words
 use Rattle.mpslp_canonical_lp.specs.CanonicalLp.{Lines, Term, under_heading, label_line, term_line, right_line, left_lines, last_line, minus_large, row_terms, row_lines, line_of_some, bound_lexemes, bound_lines, is_integer_column, name_line, objective_section, bounds_section, generals_section, listed_lines, under_semi_heading, is_semi_column, semis_section}
-use Rattle.mpslp_canonical_lp.specs.Printed.{word, number, sense}
 use Rattle.mpslp_canonical_lp.proofs.PrintableLemmas.{IsTerm, IsFitColumn, IsFit}
 use Rattle.mpslp_canonical_lp.proofs.TerminalLemmas.{line_terminals_in, all_terminals, at}
-use Rattle.mpslp_canonical_lp.proofs.PhraseLemmas.{Walks, column_and, walks-none, walks-then, point_at, ended_by, bounds-section-walks}
+use Rattle.mpslp_canonical_lp.proofs.PhraseLemmas.{Walks, walks-none, walks-then, point_at, ended_by, bounds-section-walks}
 use Rattle.mpslp_canonical_lp.proofs.ObjectiveWalk.{number_after, terminals-append, parts-taken, parts-walk, in_rows, subject_heading, objective_made, objective-walk}
 use Rattle.mpslp_canonical_lp.proofs.TailWalk.{EndsWith, walk-ends, general_made, generals-end, ending, semi_made}
 use Rattle.mpslp_canonical_lp.proofs.BoundsWalk.{bound_made, column_made, bounds-walk}
@@ -57,27 +54,7 @@ pub record IsShaped (lower upper : Limit) : Type 0 where
   pub fits : fits_left (left_of (row_left lower upper)) (row_relation lower upper) ≡ true
 
 pub shaped : (lower upper : Limit) → IsShaped lower upper
-shaped (Finite a) (Finite b) = record { left = left (have_same_value a b); last = last (have_same_value a b); fits = fits (have_same_value a b) }
-  where
-    left : (t : Bool) → (if t then [] else left_line (Some a)) ≡ left_line (if t then None else Some a)
-    left true = refl
-    left false = refl
-
-    last : (t : Bool) → (if t then right_line EqualTo b else right_line AtMost b) ≡ right_line (if t then EqualTo else AtMost) b
-    last true = refl
-    last false = refl
-
-    fits : (t : Bool) → fits_left (left_of (if t then None else Some a)) (if t then EqualTo else AtMost) ≡ true
-    fits true = refl
-    fits false = refl
-shaped (Finite a) MinusInf = record { left = refl; last = refl; fits = refl }
-shaped (Finite a) PlusInf = record { left = refl; last = refl; fits = refl }
-shaped MinusInf MinusInf = record { left = refl; last = refl; fits = refl }
-shaped MinusInf (Finite b) = record { left = refl; last = refl; fits = refl }
-shaped MinusInf PlusInf = record { left = refl; last = refl; fits = refl }
-shaped PlusInf MinusInf = record { left = refl; last = refl; fits = refl }
-shaped PlusInf (Finite b) = record { left = refl; last = refl; fits = refl }
-shaped PlusInf PlusInf = record { left = refl; last = refl; fits = refl }
+shaped lower upper = grind arith
 
 -- what a row of these terms declares
 abbrev pub row_by : List ℕ → Limit → Limit → List Term → Declarations
@@ -143,27 +120,7 @@ rows-walk m sections_seen all n (row ∷ rows) good h =
 -- ---- columns without a line declare nothing
 
 no-line : (column : List ℕ) (lower upper : Limit) → line_of_some (bound_lexemes column lower upper) ≡ [] → bound_made column lower upper ≡ []
-no-line column MinusInf (Finite b) h = cc
-no-line column (Finite a) (Finite b) h = absurd (by (have_same_value a b) h)
-  where
-    by : (t : Bool) → line_of_some (if t then word column ∷ sense EqualTo ∷ number b ∷ [] else number a ∷ sense AtMost ∷ word column ∷ sense AtMost ∷ number b ∷ []) ≡ [] → ⊥
-    by true k = cc
-    by false k = cc
-no-line column (Finite a) MinusInf h = by (is_zero a) h
-  where
-    by : (t : Bool) → line_of_some (if t then [] else word column ∷ sense AtLeast ∷ number a ∷ []) ≡ [] → (if t then [] else column_and column (limits_by AtLeast (limit_of a))) ≡ []
-    by true k = refl
-    by false k = cc
-no-line column (Finite a) PlusInf h = by (is_zero a) h
-  where
-    by : (t : Bool) → line_of_some (if t then [] else word column ∷ sense AtLeast ∷ number a ∷ []) ≡ [] → (if t then [] else column_and column (limits_by AtLeast (limit_of a))) ≡ []
-    by true k = refl
-    by false k = cc
-no-line column MinusInf MinusInf h = cc
-no-line column MinusInf PlusInf h = cc
-no-line column PlusInf MinusInf h = cc
-no-line column PlusInf (Finite b) h = cc
-no-line column PlusInf PlusInf h = cc
+no-line column lower upper h = grind arith
 
 both-none : {X : Type 0} (xs ys : List X) → xs ++ ys ≡ [] → (xs ≡ []) × (ys ≡ [])
 both-none [] ys h = (refl, h)

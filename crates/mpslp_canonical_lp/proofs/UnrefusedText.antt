@@ -1,22 +1,21 @@
 -- Nothing that the canonical text of a well-formed model declares is rejected, and the declarations are consistent.
-use Rattle.std.proofs.Common.{◌≡◌, refl, sym, ap, ◌∙◌, ℕ, ◌<◌, List, [], ◌∷◌, ◌++◌, Bool, true, false, not, length, suc, subst, map}
+use Rattle.std.proofs.Common.{arith, rules, ◌≡◌, refl, sym, ap, ◌∙◌, ℕ, ◌<◌, List, [], ◌∷◌, ◌++◌, Bool, true, false, not, length, suc, map}
 use Rattle.std.specs.Prelude.{Option, Some, None, is_some, ◌&&◌, ◌||◌, filter, if◌then◌else◌}
 use Rattle.std.specs.List.{list_all, list_any, flat_map}
 use Rattle.std.specs.Option.{option_map_or}
 use Rattle.std.specs.Cmp.Lexicographic.{nat_list_eq_equiv}
 use Rattle.std.specs.FinMap.{entries}
-use Rattle.mpslp_decimal.specs.Decimal.{Number, is_zero, have_same_value}
+use Rattle.mpslp_decimal.specs.Decimal.{Number, have_same_value}
 use Rattle.mpslp_types.specs.Name.{same_bytes, bytes_cmp, is_one_of}
 use Rattle.mpslp_types.specs.Limit.{limit_of, is_plus_infinite, is_minus_infinite, is_bounded_decimal, are_sides}
 use Rattle.mpslp_types.specs.declared.kinds.Kind.{Kind}
-use Rattle.mpslp_types.specs.declared.kinds.Kind.TheVariants.{Continuous, Integer, Semi}
 use Rattle.mpslp_types.specs.declared.kinds.Limit.{Limit}
 use Rattle.mpslp_types.specs.declared.kinds.Limit.TheVariants.{MinusInf, Finite, PlusInf}
 use Rattle.mpslp_types.proofs.BoolLemmas.{both_false, so_not, nor}
 use Rattle.mpslp_types.proofs.EachLemmas.{Each, Each-weaker, Each-filter, Each-all, list_all-from_Each}
 use Rattle.mpslp_model_core.specs.Model.{LinearModel, Column, is_sound_row, is_sound_column, IsSound, Listing, listing_of}
 use Rattle.mpslp_model_core.proofs.PutsLemmas.{puts}
-use Rattle.mpslp_builder.specs.Declaration.{Declaration, declare_marked, declare_integer, declare_binary, declare_semi, bounds_declared, Declarations, Draft, draft_of, empty_draft, with_declaration, with_declarations, at_name, has_name, names_in, is_integer, is_semi, have_infinite_side}
+use Rattle.mpslp_builder.specs.Declaration.{Declaration, declare_marked, declare_integer, declare_binary, declare_semi, bounds_declared, Declarations, Draft, empty_draft, with_declaration, with_declarations, at_name, has_name, names_in, is_integer, is_semi, have_infinite_side}
 use Rattle.mpslp_builder.specs.Refusal.{refusals_in_turn}
 use Rattle.mpslp_builder.specs.Consistency.{is_allowed, has_objective_rhs, has_one_constant, AreConsistent}
 use Rattle.mpslp_builder.proofs.DraftLemmas.{rhs_part, rhs_values-all}
@@ -82,16 +81,8 @@ bound-allowed all name (Finite a) (Finite b) h =
       | true ↦ (refl, (so_not (is_plus_infinite (limit_of b)) (is-below b up), (last, tt)))
       | false ↦ (refl, (so_not (is_plus_infinite (limit_of a)) (is-below a low), (last, tt)))
     ]
-bound-allowed all name (Finite a) MinusInf h = one-allowed (is_zero a)
-  where
-    one-allowed : (t : Bool) → Each (λ d. is_allowed all d ≡ true) (if t then [] else column_and name (limits_by AtLeast (limit_of a)))
-    one-allowed true = tt
-    one-allowed false = (refl, (so_not (is_plus_infinite (limit_of a)) (is-below a (lower_of (Finite a) MinusInf h)), tt))
-bound-allowed all name (Finite a) PlusInf h = one-allowed (is_zero a)
-  where
-    one-allowed : (t : Bool) → Each (λ d. is_allowed all d ≡ true) (if t then [] else column_and name (limits_by AtLeast (limit_of a)))
-    one-allowed true = tt
-    one-allowed false = (refl, (so_not (is_plus_infinite (limit_of a)) (is-below a (lower_of (Finite a) PlusInf h)), tt))
+bound-allowed all name (Finite a) MinusInf h = grind (arith, column_and, so_not, is-below, lower_of)
+bound-allowed all name (Finite a) PlusInf h = grind (arith, column_and, so_not, is-below, lower_of)
 bound-allowed all name MinusInf PlusInf h = (refl, (refl, (refl, tt)))
 bound-allowed all name MinusInf MinusInf h = cc
 bound-allowed all name PlusInf MinusInf h = cc
@@ -101,22 +92,18 @@ bound-allowed all name PlusInf PlusInf h = cc
 -- ---- types
 
 or_in : (a b c : Bool) → (b || (a || c)) ≡ ((a || b) || c)
-or_in true true c = refl
-or_in true false c = refl
-or_in false b c = refl
+or_in a b c = grind arith
 
 abbrev says_semi : List ℕ → Declaration → Bool
 says_semi q (declare_semi column) = same_bytes q column
 says_semi q _ = false
 
 semi-one : (all : Draft) (d : Declaration) (q : List ℕ) → is_semi (with_declaration all d) q ≡ (says_semi q d || is_semi all q)
-semi-one all (declare_semi column) q = has-put q column tt all.semis
-semi-one all _ q = refl
+semi-one all d q = grind (arith, has-put)
 
 semis-said : (ds : Declarations) (all : Draft) (q : List ℕ) → is_semi (with_declarations all ds) q ≡ (list_any (says_semi q) ds || is_semi all q)
 semis-said [] all q = refl
-semis-said (d ∷ ds) all q =
-    semis-said ds (with_declaration all d) q ∙ ap (λ (b : Bool). list_any (says_semi q) ds || b) (semi-one all d q) ∙ or_in (says_semi q d) (list_any (says_semi q) ds) (is_semi all q)
+semis-said (d ∷ ds) all q = grind (arith, semi-one, or_in, semis-said ds (with_declaration all d) q)
 
 abbrev says_integer : List ℕ → Declaration → Bool
 says_integer q (declare_marked column) = same_bytes q column
@@ -125,37 +112,20 @@ says_integer q (declare_binary column) = same_bytes q column
 says_integer q _ = false
 
 in_first : (s a b c : Bool) → ((s || a) || (b || c)) ≡ (s || (a || (b || c)))
-in_first true a b c = refl
-in_first false a b c = refl
+in_first s a b c = grind arith
 
 in_second : (s a b c : Bool) → (a || ((s || b) || c)) ≡ (s || (a || (b || c)))
-in_second true true b c = refl
-in_second true false b c = refl
-in_second false a b c = refl
+in_second s a b c = grind arith
 
 in_third : (s a b c : Bool) → (a || (b || (s || c))) ≡ (s || (a || (b || c)))
-in_third true true b c = refl
-in_third true false true c = refl
-in_third true false false c = refl
-in_third false a b c = refl
+in_third s a b c = grind arith
 
 integer-one : (all : Draft) (d : Declaration) (q : List ℕ) → is_integer (with_declaration all d) q ≡ (says_integer q d || is_integer all q)
-integer-one all (declare_marked column) q =
-    ap (λ (b : Bool). b || (has_name all.integers q || has_name all.binaries q)) (has-put q column tt all.marked)
-    ∙ in_first (same_bytes q column) (has_name all.marked q) (has_name all.integers q) (has_name all.binaries q)
-integer-one all (declare_integer column) q =
-    ap (λ (b : Bool). has_name all.marked q || (b || has_name all.binaries q)) (has-put q column tt all.integers)
-    ∙ in_second (same_bytes q column) (has_name all.marked q) (has_name all.integers q) (has_name all.binaries q)
-integer-one all (declare_binary column) q =
-    ap (λ (b : Bool). has_name all.marked q || (has_name all.integers q || b)) (has-put q column tt all.binaries)
-    ∙ in_third (same_bytes q column) (has_name all.marked q) (has_name all.integers q) (has_name all.binaries q)
-integer-one all _ q = refl
+integer-one all d q = grind (arith, has-put, in_first, in_second, in_third)
 
 integers-said : (ds : Declarations) (all : Draft) (q : List ℕ) → is_integer (with_declarations all ds) q ≡ (list_any (says_integer q) ds || is_integer all q)
 integers-said [] all q = refl
-integers-said (d ∷ ds) all q =
-    integers-said ds (with_declaration all d) q
-    ∙ ap (λ (b : Bool). list_any (says_integer q) ds || b) (integer-one all d q) ∙ or_in (says_integer q d) (list_any (says_integer q) ds) (is_integer all q)
+integers-said (d ∷ ds) all q = grind (arith, integer-one, or_in, integers-said ds (with_declaration all d) q)
 
 -- ---- a name has one column, of one type
 
@@ -166,23 +136,10 @@ abbrev found_semi : Option Column → Bool
 found_semi o = option_map_or (λ (column : Column). is_semi_kind column.kind) o false
 
 one_kind : (kind : Kind) → is_integer_kind kind ≡ true → is_semi_kind kind ≡ false
-one_kind Continuous h = refl
-one_kind Integer h = refl
-one_kind Semi h = cc
+one_kind kind h = grind arith
 
 kinds-apart : (m : Listing) (x y : List ℕ × Column) → IsFound m x → is_integer_column x ≡ true → IsFound m y → is_semi_column y ≡ true → (same_bytes x.0 y.0 ≡ false) × (same_bytes y.0 x.0 ≡ false)
-kinds-apart m x y found whole there partly = (by x.0 y.0 (λ same. same) (same_bytes x.0 y.0) refl, by y.0 x.0 (λ same. sym same) (same_bytes y.0 x.0) refl)
-  where
-    no_truth : false ≡ true → ⊥
-    no_truth e = cc
-
-    apart : x.0 ≡ y.0 → ⊥
-    apart same =
-        no_truth (sym (one_kind x.1.kind whole) ∙ ap found_semi (sym found ∙ ap (at_name m.columns) same ∙ there) ∙ partly)
-
-    by : (a b : List ℕ) → (a ≡ b → x.0 ≡ y.0) → (t : Bool) → same_bytes a b ≡ t → t ≡ false
-    by a b turn true e = absurd (apart (turn (same_name a b e)))
-    by a b turn false e = refl
+kinds-apart m x y found whole there partly = search (rules, one_kind, same_name)
 
 -- each integer column differs from each semi-continuous one
 abbrev Apart : List ℕ × Column → List ℕ × Column → Type 0
@@ -234,12 +191,10 @@ module _ (m : Listing) (own : Each (IsFound m) m.columns) where
 -- ---- the constant
 
 no_rhs : (o : Option (List ℕ)) → option_map_or (λ name. has_name {X = Number} [] name) o false ≡ false
-no_rhs None = refl
-no_rhs (Some name) = refl
+no_rhs o = grind arith
 
 not_both : (a b : Bool) → b ≡ false → not (a && b) ≡ true
-not_both true b h = so_not b h
-not_both false b h = refl
+not_both a b h = grind arith
 
 one-constant : (m : Listing) → has_one_constant (drafted m) ≡ true
 one-constant m =
@@ -271,14 +226,7 @@ same-length f [] = refl
 same-length f (x ∷ xs) = ap suc (same-length f xs)
 
 other-names : (m : LinearModel) → IsSound m → HasOtherNames (listing_of m)
-other-names m sound =
-    let h = sound-listing m sound in
-    record {
-      no_row = none-named m.objective (entries m.rows) sound.objective_is_no_row;
-      rows = other-from_sorted (entries m.rows) h.rows_sorted;
-      columns = other-from_sorted (entries m.columns) h.columns_sorted;
-      some = subst (λ (n : ℕ). 0 < n) (same-length (λ (e : List ℕ × Column). e.0) (entries m.columns)) sound.has_column;
-    }
+other-names m sound = grind (arith, sound-listing, none-named, other-from_sorted, same-length)
 
 all-allowed : (m : Listing) → IsSoundListing m → list_all (is_allowed (drafted m)) (listed_declarations m) ≡ true
 all-allowed m h = list_all-from_Each (is_allowed (drafted m)) (listed_declarations m) (each-listed (λ d. is_allowed (drafted m) d ≡ true) m (record {

@@ -181,9 +181,6 @@ goes-fine context place made named plain unrefused legal tokens sound = record {
 nothing-fine : (context : Context) (place : Place) → IsNamed context → IsPlain place → Gives (IsFine context.earlier) (goes_to context place [])
 nothing-fine context place named plain = goes-fine context place [] named plain refl refl
 
-refuses-fine : (context : Context) (token : TerminalAt) (kind : FaultKind) → Gives (IsFine context.earlier) (refuses context token kind)
-refuses-fine context token kind tokens sound = tt
-
 unless_refused-fine : (context : Context) (token : TerminalAt) (refusals : List BuildFault) (place : Place) (made : Declarations) → IsNamed context → IsPlain place
     → (refusals ≡ [] → refusals_in_turn context.earlier made ≡ []) → list_all is_lp_legal made ≡ true → Gives (IsFine context.earlier) (unless_refused context token refusals place made)
 unless_refused-fine context token [] place made named plain unrefused legal = goes-fine context place made named plain (unrefused refl) legal

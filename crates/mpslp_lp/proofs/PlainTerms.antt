@@ -16,7 +16,6 @@ use Rattle.mpslp_lp_grammar.specs.Items.{one, apply_sign}
 use Rattle.mpslp_lp_grammar.specs.PartialRow.{PartialRow}
 use Rattle.mpslp_lp_tokens.specs.Token.{Token}
 use Rattle.mpslp_lp_grammar.specs.Terminal.{Terminal, terminal_of, token_fault}
-use Rattle.mpslp_lp_grammar.specs.TerminalToken.{as_terminal}
 use Rattle.mpslp_lp_grammar.specs.Terminal.Terminal.{Sign, Number, Name}
 use Rattle.mpslp_lp.specs.LineByLine.{take_tokens, token_faults}
 use Rattle.mpslp_lp_grammar.specs.Declares.{TakesToken, AddsTerm, IsLeastError, error_before}

@@ -1,6 +1,6 @@
 -- The tokens of worked lines, and the first errors of worked files, by computation.
 use Rattle.std.proofs.Common.{◌≡◌, refl}
-use Rattle.std.specs.Prelude.{ℕ, Option, Some, None, List, ◌∷◌, [], ◌++◌, codes}
+use Rattle.std.specs.Prelude.{map, ℕ, Option, Some, None, List, ◌∷◌, [], ◌++◌, codes}
 use Rattle.std.specs.Fmt.{digits}
 use Rattle.mpslp_decimal.specs.Decimal.{trailing_zeros}
 use Rattle.mpslp_builder.specs.FileFault.{whole_fault}
@@ -40,38 +40,6 @@ pub large_distance : first_lp_fault (four_lines (codes "-9e19 <= x + y <= 9e19")
 unfolding digits trailing_zeros
 large_distance = refl
 
-pub crossed_limits : first_lp_fault (four_lines (codes "5 <= x + y <= 3")) ≡ of_name LimitsCrossed (codes "c1")
-unfolding digits trailing_zeros
-crossed_limits = refl
-
-pub lower_infinity : first_lp_fault (four_lines (codes "x + y >= inf")) ≡ on_line 3 InfiniteValue
-unfolding digits trailing_zeros
-lower_infinity = refl
-
--- ---- names
-
-pub name_like_exponent : first_lp_fault (text (codes "min e9 st end" ∷ [])) ≡ on_line 1 NameLikeExponent
-unfolding digits trailing_zeros
-name_like_exponent = refl
-
-pub name_of_a_numbered_row : first_lp_fault (text (unlabelled_lines ++ codes "c3: x <= 9" ∷ codes "end" ∷ [])) ≡ on_line 6 DuplicateRow
-unfolding digits trailing_zeros
-name_of_a_numbered_row = refl
-
--- ---- bounds of a binary column
-
-pub binary_upper : first_lp_fault (binary_lines (codes "x <= 5")) ≡ of_name BinaryBounds (codes "x")
-unfolding digits trailing_zeros
-binary_upper = refl
-
-pub binary_negative_upper : first_lp_fault (binary_lines (codes "x <= -1")) ≡ of_name NegativeUpper (codes "x")
-unfolding digits trailing_zeros
-binary_negative_upper = refl
-
-pub binary_lower : first_lp_fault (binary_lines (codes "x >= 2")) ≡ of_name BoundsCrossed (codes "x")
-unfolding digits trailing_zeros
-binary_lower = refl
-
 -- ---- other lines instead of a row
 
 abbrev with_row : List ℕ → List ℕ
@@ -80,10 +48,6 @@ with_row line = text (codes "min x" ∷ codes "st" ∷ line ∷ codes "end" ∷ 
 pub quadratic : first_lp_fault (with_row (codes "[ x ^ 2 ] <= 1")) ≡ on_line 3 Quadratic
 unfolding digits trailing_zeros
 quadratic = refl
-
-pub special_ordered_set : first_lp_fault (with_row (codes "sos1")) ≡ on_line 3 Sos
-unfolding digits trailing_zeros
-special_ordered_set = refl
 
 pub indicator : first_lp_fault (with_row (codes "c: y = 1 -> x <= 3")) ≡ on_line 3 Indicator
 unfolding digits trailing_zeros
@@ -101,85 +65,7 @@ pub duplicate_entry : first_lp_fault (with_row (codes "x + x <= 1")) ≡ on_line
 unfolding digits trailing_zeros
 duplicate_entry = refl
 
-pub third_side : first_lp_fault (with_row (codes "x <= 4 <= 5")) ≡ on_line 3 BadToken
-unfolding digits trailing_zeros
-third_side = refl
-
-pub second_objective_word : first_lp_fault (with_row (codes "max")) ≡ on_line 3 SectionRepeated
-unfolding digits trailing_zeros
-second_objective_word = refl
-
-pub empty_text : first_lp_fault [] ≡ of_whole MissingEnd
-unfolding digits trailing_zeros
-empty_text = refl
-
--- ---- edges of the rules, on one line
-
-pub section_after_binaries : first_lp_fault (text (codes "min x bin st end" ∷ [])) ≡ on_line 1 SectionOrder
-unfolding digits trailing_zeros
-section_after_binaries = refl
-
-pub section_after_generals : first_lp_fault (text (codes "min x gen st end" ∷ [])) ≡ on_line 1 SectionOrder
-unfolding digits trailing_zeros
-section_after_generals = refl
-
-pub section_after_bounds : first_lp_fault (text (codes "min x bounds st end" ∷ [])) ≡ on_line 1 SectionOrder
-unfolding digits trailing_zeros
-section_after_bounds = refl
-
-pub section_after_end : first_lp_fault (text (codes "min x end bounds" ∷ [])) ≡ on_line 1 SectionOrder
-unfolding digits trailing_zeros
-section_after_end = refl
-
-pub second_end : first_lp_fault (text (codes "min x end end" ∷ [])) ≡ on_line 1 SectionRepeated
-unfolding digits trailing_zeros
-second_end = refl
-
-pub word_after_end : first_lp_fault (text (codes "min x end y" ∷ [])) ≡ on_line 1 BadToken
-unfolding digits trailing_zeros
-word_after_end = refl
-
-pub section_before_the_objective : first_lp_fault (text (codes "st x >= 1 end" ∷ [])) ≡ on_line 1 SectionOrder
-unfolding digits trailing_zeros
-section_before_the_objective = refl
-
-pub section_in_an_item : first_lp_fault (text (codes "min x + max end" ∷ [])) ≡ on_line 1 SectionRepeated
-unfolding digits trailing_zeros
-section_in_an_item = refl
-
-pub new_section_in_an_item : first_lp_fault (text (codes "min x + bounds end" ∷ [])) ≡ on_line 1 BadToken
-unfolding digits trailing_zeros
-new_section_in_an_item = refl
-
-pub equal_senses : first_lp_fault (text (codes "min x st 3 = x = 4 end" ∷ [])) ≡ on_line 1 MixedSenses
-unfolding digits trailing_zeros
-equal_senses = refl
-
-pub two_signs_before_infinity : first_lp_fault (text (codes "min x st - - inf <= x end" ∷ [])) ≡ on_line 1 BadToken
-unfolding digits trailing_zeros
-two_signs_before_infinity = refl
-
-pub number_before_the_second_sense : first_lp_fault (text (codes "min x st 1 <= 3 >= x end" ∷ [])) ≡ on_line 1 ConstantInRow
-unfolding digits trailing_zeros
-number_before_the_second_sense = refl
-
-pub second_constant : first_lp_fault (text (codes "min 3 + 4 st end" ∷ [])) ≡ on_line 1 DuplicateRhs
-unfolding digits trailing_zeros
-second_constant = refl
-
-pub mixed_senses_of_a_bound : first_lp_fault (text (codes "min x bounds 1 <= x >= 0 end" ∷ [])) ≡ on_line 1 MixedSenses
-unfolding digits trailing_zeros
-mixed_senses_of_a_bound = refl
-
-pub second_lower_bound : first_lp_fault (text (codes "min x bounds x >= 1 x = 2 end" ∷ [])) ≡ on_line 1 DuplicateBound
-unfolding digits trailing_zeros
-second_lower_bound = refl
-
 -- ---- semi-continuous columns
-
-pub semi_without_upper_bound : first_lp_fault (text (codes "min x" ∷ codes "semis" ∷ codes "x" ∷ codes "end" ∷ [])) ≡ of_name SemiBounds (codes "x")
-unfolding digits trailing_zeros
-semi_without_upper_bound = refl
 
 pub semi_below_zero : first_lp_fault (semi_lines (codes "-1 <= x <= 4")) ≡ of_name SemiBounds (codes "x")
 unfolding digits trailing_zeros
@@ -193,14 +79,40 @@ pub semi_then_binary : first_lp_fault (text (codes "min x" ∷ codes "semi" ∷ 
 unfolding digits trailing_zeros
 semi_then_binary = refl
 
-pub second_semi_section : first_lp_fault (text (codes "min x semi x semis x end" ∷ [])) ≡ on_line 1 SectionRepeated
-unfolding digits trailing_zeros
-second_semi_section = refl
+abbrev faulty_texts : List (List ℕ × Option Fault)
+faulty_texts =
+    (four_lines (codes "5 <= x + y <= 3"), of_name LimitsCrossed (codes "c1")) ∷
+    (four_lines (codes "x + y >= inf"), on_line 3 InfiniteValue) ∷
+    (text (codes "min e9 st end" ∷ []), on_line 1 NameLikeExponent) ∷
+    (text (unlabelled_lines ++ codes "c3: x <= 9" ∷ codes "end" ∷ []), on_line 6 DuplicateRow) ∷
+    (binary_lines (codes "x <= 5"), of_name BinaryBounds (codes "x")) ∷
+    (binary_lines (codes "x <= -1"), of_name NegativeUpper (codes "x")) ∷
+    (binary_lines (codes "x >= 2"), of_name BoundsCrossed (codes "x")) ∷
+    (with_row (codes "sos1"), on_line 3 Sos) ∷
+    (with_row (codes "x <= 4 <= 5"), on_line 3 BadToken) ∷
+    (with_row (codes "max"), on_line 3 SectionRepeated) ∷
+    ([], of_whole MissingEnd) ∷
+    (text (codes "min x bin st end" ∷ []), on_line 1 SectionOrder) ∷
+    (text (codes "min x gen st end" ∷ []), on_line 1 SectionOrder) ∷
+    (text (codes "min x bounds st end" ∷ []), on_line 1 SectionOrder) ∷
+    (text (codes "min x end bounds" ∷ []), on_line 1 SectionOrder) ∷
+    (text (codes "min x end end" ∷ []), on_line 1 SectionRepeated) ∷
+    (text (codes "min x end y" ∷ []), on_line 1 BadToken) ∷
+    (text (codes "st x >= 1 end" ∷ []), on_line 1 SectionOrder) ∷
+    (text (codes "min x + max end" ∷ []), on_line 1 SectionRepeated) ∷
+    (text (codes "min x + bounds end" ∷ []), on_line 1 BadToken) ∷
+    (text (codes "min x st 3 = x = 4 end" ∷ []), on_line 1 MixedSenses) ∷
+    (text (codes "min x st - - inf <= x end" ∷ []), on_line 1 BadToken) ∷
+    (text (codes "min x st 1 <= 3 >= x end" ∷ []), on_line 1 ConstantInRow) ∷
+    (text (codes "min 3 + 4 st end" ∷ []), on_line 1 DuplicateRhs) ∷
+    (text (codes "min x bounds 1 <= x >= 0 end" ∷ []), on_line 1 MixedSenses) ∷
+    (text (codes "min x bounds x >= 1 x = 2 end" ∷ []), on_line 1 DuplicateBound) ∷
+    (text (codes "min x" ∷ codes "semis" ∷ codes "x" ∷ codes "end" ∷ []), of_name SemiBounds (codes "x")) ∷
+    (text (codes "min x semi x semis x end" ∷ []), on_line 1 SectionRepeated) ∷
+    (text (codes "min x semi - x end" ∷ []), on_line 1 BadToken) ∷
+    (text (codes "min x semis st end" ∷ []), on_line 1 SectionOrder) ∷
+    []
 
-pub name_after_the_dash : first_lp_fault (text (codes "min x semi - x end" ∷ [])) ≡ on_line 1 BadToken
+pub faulty_texts-right : map (λ row. first_lp_fault row.0) faulty_texts ≡ map (λ row. row.1) faulty_texts
 unfolding digits trailing_zeros
-name_after_the_dash = refl
-
-pub rows_after_semis : first_lp_fault (text (codes "min x semis st end" ∷ [])) ≡ on_line 1 SectionOrder
-unfolding digits trailing_zeros
-rows_after_semis = refl
+faulty_texts-right = refl

@@ -5,7 +5,7 @@ ghost use Rattle.std.specs.Prelude.{◌≡◌};
 use crate::read_line::read_line;
 use mpslp_lines::{LineError, ReadLines, read_fault};
 use mpslp_lp_grammar::{Context, Place, State};
-use mpslp_model::{Fault, FaultKind, Model, ReadFault};
+use mpslp_model::{Fault, FaultKind, HashSeed, Model, ReadFault};
 use std::alloc::Global;
 
 /// Reads the lines of LP text one after another.
@@ -42,9 +42,9 @@ impl ReadLines for LineReader {
 
     ghost first_fault = { IsFirstLpFault };
 
-    fn new(alloc: Global) -> LineReader {
+    fn new(alloc: Global, seed: HashSeed) -> LineReader {
         LineReader {
-            context: Context::start(alloc),
+            context: Context::start(alloc, seed),
             state: State::Between(Place::AtStart),
             number: 1,
         }

@@ -5,7 +5,7 @@ ghost use Rattle.mpslp_lp_grammar.specs.Phrase.{start};
 
 use crate::lp_builder::LpBuilder;
 use crate::sections_seen::SectionsSeen;
-use mpslp_model::Builder;
+use mpslp_model::{Builder, HashSeed};
 use std::alloc::Global;
 
 /// The context of a phrase: what earlier tokens mean for it.
@@ -19,7 +19,7 @@ pub struct Context {
 
 impl Context {
     /// The context at the start of a text: no section is open, and nothing is declared.
-    pub fn start(alloc: Global) -> Context
+    pub fn start(alloc: Global, seed: HashSeed) -> Context
         ensures { result ≡ start.context }
     {
         Context {
@@ -32,7 +32,7 @@ impl Context {
                 semis: false,
                 end: false,
             },
-            earlier: LpBuilder::new(alloc),
+            earlier: LpBuilder::new(alloc, seed),
         }
     }
 

@@ -17,11 +17,11 @@ use crate::items::one;
 use crate::relations::Relation;
 use crate::states::{PartialParts, PartialRow};
 use itoa::Buffer;
-use mpslp_builder::RowTerms;
+use mpslp_builder::{ReaderBuilder, RowTerms};
 use mpslp_decimal::Decimal;
 use mpslp_lines::LineError;
 use mpslp_model::laws::{each_builder_is_made, each_name_is_legal};
-use mpslp_model::{Builder, Limit, Name, Sense};
+use mpslp_model::{Builder, HashSeed, Limit, Name, Sense};
 use std::alloc::Global;
 use std::marker::Model;
 
@@ -29,7 +29,8 @@ use std::marker::Model;
 #[derive(Drop)]
 pub(crate) struct LpBuilder {
     alloc: Global,
-    builder: Builder,
+    seed: HashSeed,
+    builder: ReaderBuilder,
     /// The number of rows, at most 2^64 - 1.
     rows: u64,
     /// The memory of a completed row, reused by the next one.
@@ -42,9 +43,9 @@ impl Model for LpBuilder {
 
     ghost Value = { Draft };
 
-    ghost view = { λ d. d.builder };
+    ghost view = { λ d. d.builder.draft };
 
-    ghost invariant = { λ d. d.rows ≡ min (length d.builder.rows) (2 ^ 64 - 1) };
+    ghost invariant = { λ d. d.rows ≡ min (length d.builder.draft.rows) (2 ^ 64 - 1) };
 }
 
 /// The name of a row without a label: `c` and its position among all rows.
@@ -61,12 +62,13 @@ fn numbered_row(alloc: Global, position: u64) -> Result<Name, LineError>
 /// A row without terms, in newly allocated memory.
 fn new_row(
     alloc: Global,
+    seed: HashSeed,
     name: Name,
     left: Option<(GivenLimit, Relation)>,
 ) -> Result<PartialRow, LineError>
     ensures { MatchResult result (λ row. row ≡ without_terms name left) (λ error. error ≡ LineError.OutOfMemory) }
 {
-    let terms = RowTerms::new(alloc);
+    let terms = RowTerms::new(alloc, seed);
     match Box::new(alloc, PartialParts { name, left, terms }) {
         Ok(parts) => Ok(PartialRow { parts }),
         Err(_) => Err(LineError::OutOfMemory),
@@ -86,12 +88,15 @@ fn emptied(parts: Box<PartialParts>, name: Name, left: Option<(GivenLimit, Relat
 
 impl LpBuilder {
     /// A builder to which nothing has been declared.
-    pub(crate) fn new(alloc: Global) -> LpBuilder
+    pub(crate) fn new(alloc: Global, seed: HashSeed) -> LpBuilder
         ensures { result ≡ empty_draft }
     {
         LpBuilder {
             alloc,
-            builder: Builder::new(alloc),
+            seed,
+            builder: ReaderBuilder {
+                draft: Builder::new(alloc, seed),
+            },
             rows: 0,
             spare: None,
         }
@@ -101,7 +106,7 @@ impl LpBuilder {
     pub(crate) fn into_builder(self) -> Builder
         ensures { result ≡ self }
     {
-        self.builder
+        self.builder.draft
     }
 
     /// The allocator.
@@ -138,7 +143,7 @@ impl LpBuilder {
     {
         match self.spare.take() {
             Some(parts) => Ok(emptied(parts, name, left)),
-            None => new_row(self.alloc, name, left),
+            None => new_row(self.alloc, self.seed, name, left),
         }
     }
 
@@ -162,7 +167,7 @@ impl LpBuilder {
     fn declare_sense(&mut self, sense: Sense) -> Result<(), LineError>
         ensures { Declares self.old (declare_sense sense ∷ []) result self.new }
     {
-        self.builder.sense(sense)?;
+        self.builder.draft.sense(sense)?;
         Ok(())
     }
 
@@ -170,7 +175,7 @@ impl LpBuilder {
     fn declare_name(&mut self, name: Name) -> Result<(), LineError>
         ensures { Declares self.old (declare_objective name ∷ []) result self.new }
     {
-        self.builder.objective(name)?;
+        self.builder.draft.objective(name)?;
         Ok(())
     }
 
@@ -186,7 +191,7 @@ impl LpBuilder {
     pub(crate) fn declare_constant(&mut self, value: Decimal) -> Result<(), LineError>
         ensures { Declares self.old (declare_constant value ∷ []) result self.new }
     {
-        self.builder.constant(value)?;
+        self.builder.draft.constant(value)?;
         Ok(())
     }
 
@@ -196,7 +201,7 @@ impl LpBuilder {
         ensures { Declares self.old (declare_column column.now ∷ []) result self.new }
     {
         let name = self.copied(column)?;
-        self.builder.column(name)?;
+        self.builder.draft.column(name)?;
         Ok(())
     }
 
@@ -205,8 +210,8 @@ impl LpBuilder {
         requires { IsMpsName column.now }
         ensures { Declares self.old (declare_column column.now ∷ []) result self.new }
     {
-        if self.builder.find_column(column) {
-            each_builder_is_made(&self.builder);
+        if self.builder.draft.find_column(column) {
+            each_builder_is_made(&self.builder.draft);
             return Ok(());
         }
         self.declare_new_column(column)
@@ -257,7 +262,7 @@ impl LpBuilder {
     fn make_integer(&mut self, column: &[u8]) -> Result<(), LineError>
         ensures { Declares self.old (declare_integer column.now ∷ []) result self.new }
     {
-        self.builder.integer(column)?;
+        self.builder.draft.integer(column)?;
         Ok(())
     }
 
@@ -265,7 +270,7 @@ impl LpBuilder {
     fn make_binary(&mut self, column: &[u8]) -> Result<(), LineError>
         ensures { Declares self.old (declare_binary column.now ∷ []) result self.new }
     {
-        self.builder.binary(column)?;
+        self.builder.draft.binary(column)?;
         Ok(())
     }
 
@@ -273,7 +278,7 @@ impl LpBuilder {
     fn make_semi(&mut self, column: &[u8]) -> Result<(), LineError>
         ensures { Declares self.old (declare_semi column.now ∷ []) result self.new }
     {
-        self.builder.semi(column)?;
+        self.builder.draft.semi(column)?;
         Ok(())
     }
 
@@ -288,7 +293,7 @@ impl LpBuilder {
         requires upper { ForSome upper (λ side. IsTrue (is_given side)) }
         ensures { DeclaresBounds self.old column.now lower upper result self.new }
     {
-        self.builder.bounds(column, lower, upper)?;
+        self.builder.draft.bounds(column, lower, upper)?;
         Ok(())
     }
 
@@ -298,8 +303,8 @@ impl LpBuilder {
         requires upper { IsTrue (is_given upper) }
         ensures { Declares self.old (declare_row name (by_limits lower upper) ∷ []) result self.new }
     {
-        each_builder_is_made(&self.builder);
-        self.builder.row_limits(name, lower, upper)?;
+        each_builder_is_made(&self.builder.draft);
+        self.builder.draft.row_limits(name, lower, upper)?;
         self.rows = self.rows.saturating_add(1);
         Ok(())
     }

@@ -1,88 +1,49 @@
 -- How the grammar reads bounds and lists of names.
-use Rattle.std.proofs.Common.{◌≡◌, refl, sym, ap, subst, ◌∙◌, ℕ, List, [], ◌∷◌, ◌++◌, true, append_assoc}
-use Rattle.std.specs.Prelude.{Option, Some, None, ◌||◌, is_some}
+use Rattle.std.proofs.Common.{arith, ◌≡◌, refl, sym, subst, ◌∙◌, ℕ, List, [], ◌∷◌, ◌++◌, true, append_assoc}
+use Rattle.std.specs.Prelude.{Option, Some, None}
 use Rattle.std.specs.List.{flat_map}
 use Rattle.mpslp_types.specs.declared.kinds.Limit.{Limit}
 use Rattle.mpslp_builder.specs.Declaration.{Declaration, Declarations, Draft, declare_column, bounds_declared, with_declarations}
 use Rattle.mpslp_builder.specs.Refusal.{refusals_in_turn, bounds_refusals}
 use Rattle.mpslp_builder.proofs.MadeDrafts.{with_declarations-append}
-use Rattle.mpslp_lp_grammar.specs.Rules.{◌>>=◌, next}
-use Rattle.mpslp_lp_grammar.specs.Terminal.{Terminal, TerminalAt}
-use Rattle.mpslp_lp_grammar.specs.Terminal.Terminal.{Name, Compares, Free}
+use Rattle.mpslp_lp_grammar.specs.Terminal.{Terminal}
+use Rattle.mpslp_lp_grammar.specs.Terminal.Terminal.{Name, Compares}
 use Rattle.mpslp_lp_grammar.specs.declared.sections_seen.SectionsSeen.{SectionsSeen}
-use Rattle.mpslp_lp_grammar.specs.declared.context.Context.{Context}
 use Rattle.mpslp_lp_grammar.specs.declared.relations.Relation.{Relation}
-use Rattle.mpslp_lp_grammar.specs.declared.relations.Relation.TheVariants.{AtMost, AtLeast, EqualTo}
+use Rattle.mpslp_lp_grammar.specs.declared.relations.Relation.TheVariants.{AtMost, AtLeast}
 use Rattle.mpslp_lp_grammar.specs.declared.states.Place.{Place}
 use Rattle.mpslp_lp_grammar.specs.declared.states.Place.TheVariants.{InBounds}
 use Rattle.mpslp_lp_grammar.specs.Phrase.{declares}
-use Rattle.mpslp_lp_grammar.specs.Items.{Limits, limits_by, flip, side_from}
-use Rattle.mpslp_lp_grammar.specs.Grammar.{bound_sides, no_limits, bound_right, bound_after, bound_column, bound_left, may_begin_section, phrase_at}
+use Rattle.mpslp_lp_grammar.specs.Items.{Limits, limits_by, flip}
+use Rattle.mpslp_lp_grammar.specs.Grammar.{may_begin_section, phrase_at}
 use Rattle.mpslp_canonical_lp.specs.PrintedDeclarations.{point_at}
 use Rattle.mpslp_canonical_lp.proofs.TerminalLemmas.{at}
 use Rattle.mpslp_canonical_lp.proofs.ObjectiveWalk.{parts-taken}
 use Rattle.mpslp_canonical_lp.proofs.TailWalk.{sides-taken}
 use Rattle.mpslp_lp_sentences.specs.Phrases.{Side, Bound}
 use Rattle.mpslp_lp_sentences.specs.Phrases.Side.{side}
-use Rattle.mpslp_lp_sentences.specs.Phrases.Bound.{bound, free_bound, turned_bound, bounds_between, bounds_from_above}
+use Rattle.mpslp_lp_sentences.specs.Phrases.Bound.{bound, bounds_between, bounds_from_above}
 use Rattle.mpslp_lp_sentences.specs.Spelling.{side_tokens, bound_tokens, name_tokens}
 use Rattle.mpslp_lp_sentences.specs.Meaning.{limit, bounds_by, turned, bound_declares, names_declare}
 use Rattle.mpslp_lp_sentences.proofs.Whole.{Tokens, listened}
-use Rattle.mpslp_lp_sentences.proofs.Stamped.{stamped, ending, here, Hears, IsWhole, IsWholeAnywhere, whole-begins, hears-next, hears-unless, hears-declares, whole-joined}
-use Rattle.mpslp_lp_sentences.proofs.ItemsHeard.{side_first, side_rest, side-split, hears-side_from, hears-side, hears-relation}
+use Rattle.mpslp_lp_sentences.proofs.Stamped.{stamped, ending, here, IsWhole, IsWholeAnywhere, whole-begins, hears-declares, whole-joined}
 
 -- what bounds of a column declare
 abbrev pub limits_declared : List ℕ → Limits → Declarations
 limits_declared column limits = bounds_declared column limits.lower limits.upper
 
 pub by-relation : (column : List ℕ) (relation : Relation) (value : Limit) → limits_declared column (limits_by relation value) ≡ bounds_by column relation value
-by-relation column AtMost value = refl
-by-relation column AtLeast value = refl
-by-relation column EqualTo value = refl
-
-some-limit : (relation : Relation) (value : Limit) → is_some (limits_by relation value).lower || is_some (limits_by relation value).upper ≡ true
-some-limit AtMost value = refl
-some-limit AtLeast value = refl
-some-limit EqualTo value = refl
+by-relation column relation value = grind arith
 
 pub flipped : (relation : Relation) → flip relation ≡ turned relation
-flipped AtMost = refl
-flipped AtLeast = refl
-flipped EqualTo = refl
+flipped relation = grind arith
 
 -- the limits of a column that is declared with them
 abbrev Taken : Draft → List ℕ → Limits → Type 0
 Taken earlier column limits = bounds_refusals (with_declarations earlier (declare_column column ∷ [])) column limits.lower limits.upper ≡ []
 
-bound-begins : (left : Option (List ℕ × Relation)) (sections_seen : SectionsSeen) (earlier : Draft) (part : Side) (n : ℕ) (tokens : Tokens)
-    → listened (phrase_at (point_at (InBounds left) sections_seen earlier) (at n (side_first part))) tokens
-    ≡ listened (side_from (here sections_seen earlier) (at n (side_first part)) >>= bound_left (here sections_seen earlier)) tokens
-bound-begins left sections_seen earlier (side None None) n tokens = refl
-bound-begins left sections_seen earlier (side None (Some value)) n tokens = refl
-bound-begins left sections_seen earlier (side (Some sign) None) n tokens = refl
-bound-begins left sections_seen earlier (side (Some sign) (Some value)) n tokens = refl
-
 module _ (last : ℕ) (later : Tokens) where
   -- ---- bounds
-
-  hears-sides : (sections_seen : SectionsSeen) (earlier : Draft) (front : Declarations) (column : List ℕ) (limits : Limits) (token : TerminalAt) (place : Place) (xs : List Terminal) (made : Declarations)
-      → bounds_refusals (with_declarations earlier front) column limits.lower limits.upper ≡ []
-      → IsWhole last later (point_at place sections_seen (with_declarations earlier (front ++ limits_declared column limits))) xs made
-      → Hears last later (bound_sides (here sections_seen earlier) front column limits token place) xs ((front ++ limits_declared column limits) ++ made)
-  hears-sides sections_seen earlier front column limits token place xs made none rest =
-      hears-unless last later (here sections_seen earlier) token (bounds_refusals (with_declarations earlier front) column limits.lower limits.upper) place (front ++ limits_declared column limits) xs made none rest
-
-  -- a column, a relation and a side
-  whole-right : (left : Option (List ℕ × Relation)) (sections_seen : SectionsSeen) (earlier : Draft) (column : List ℕ) (relation : Relation) (part : Side) (xs : List Terminal) (made : Declarations)
-      → Taken earlier column (limits_by relation (limit part))
-      → IsWhole last later (point_at (InBounds None) sections_seen (with_declarations earlier (declare_column column ∷ limits_declared column (limits_by relation (limit part))))) xs made
-      → IsWhole last later (point_at (InBounds left) sections_seen earlier) (Name column ∷ Compares relation ∷ (side_tokens part ++ xs)) ((declare_column column ∷ limits_declared column (limits_by relation (limit part))) ++ made)
-  whole-right left sections_seen earlier column relation part xs made taken rest =
-      let context : Context = here sections_seen earlier in
-      whole-begins last later (point_at (InBounds left) sections_seen earlier) (Name column) (Compares relation ∷ (side_tokens part ++ xs)) _
-      (λ n. hears-next last later (bound_after context column) (Compares relation) (side_tokens part ++ xs) _
-      (λ m. hears-side last later context part (bound_right context (declare_column column ∷ []) column relation) xs _
-      (λ token. hears-sides sections_seen earlier (declare_column column ∷ []) column (limits_by relation (limit part)) token (InBounds None) xs made taken rest)))
 
   -- a side, a relation and a column
   whole-left : (left : Option (List ℕ × Relation)) (sections_seen : SectionsSeen) (earlier : Draft) (part : Side) (relation : Relation) (column : List ℕ) (xs : List Terminal) (made : Declarations)
@@ -90,36 +51,20 @@ module _ (last : ℕ) (later : Tokens) where
       → IsWhole last later (point_at (InBounds (Some (column, relation))) sections_seen (with_declarations earlier (declare_column column ∷ limits_declared column (limits_by (flip relation) (limit part))))) xs made
       → IsWhole last later (point_at (InBounds left) sections_seen earlier) (side_tokens part ++ Compares relation ∷ Name column ∷ xs)
       ((declare_column column ∷ limits_declared column (limits_by (flip relation) (limit part))) ++ made)
-  whole-left left sections_seen earlier part relation column xs made taken rest =
-      let context : Context = here sections_seen earlier in
-      let tokens : List Terminal = Compares relation ∷ Name column ∷ xs in
-      let all : Declarations = (declare_column column ∷ limits_declared column (limits_by (flip relation) (limit part))) ++ made in
-      subst (λ (ys : List Terminal). IsWhole last later (point_at (InBounds left) sections_seen earlier) ys all) (side-split part tokens)
-      (whole-begins last later (point_at (InBounds left) sections_seen earlier) (side_first part) (side_rest part tokens) all
-      (λ n line. bound-begins left sections_seen earlier part n (stamped line (side_rest part tokens) (ending last later))
-      ∙ hears-side_from last later context part (bound_left context) tokens all
-      (λ token. hears-relation last later context relation (λ r. next >>= bound_column context (limit part) r) (Name column ∷ xs) all
-      (hears-next last later (bound_column context (limit part) relation) (Name column) xs all
-      (λ m. hears-sides sections_seen earlier (declare_column column ∷ []) column (limits_by (flip relation) (limit part)) (at m (Name column)) (InBounds (Some (column, relation))) xs made taken rest))) n line))
+  whole-left left sections_seen earlier part relation column xs made taken rest = grind arith
 
   -- the second side of a column between two sides
   whole-second_most : (sections_seen : SectionsSeen) (earlier : Draft) (column : List ℕ) (part : Side) (xs : List Terminal) (made : Declarations)
       → bounds_refusals earlier column None (Some (limit part)) ≡ []
       → IsWhole last later (point_at (InBounds None) sections_seen (with_declarations earlier (bounds_declared column None (Some (limit part))))) xs made
       → IsWhole last later (point_at (InBounds (Some (column, AtMost))) sections_seen earlier) (Compares AtMost ∷ (side_tokens part ++ xs)) (bounds_declared column None (Some (limit part)) ++ made)
-  whole-second_most sections_seen earlier column part xs made taken rest =
-      whole-begins last later (point_at (InBounds (Some (column, AtMost))) sections_seen earlier) (Compares AtMost) (side_tokens part ++ xs) _
-      (λ n. hears-side last later (here sections_seen earlier) part (bound_right (here sections_seen earlier) [] column AtMost) xs _
-      (λ token. hears-sides sections_seen earlier [] column (limits_by AtMost (limit part)) token (InBounds None) xs made taken rest))
+  whole-second_most sections_seen earlier column part xs made taken rest = grind arith
 
   whole-second_least : (sections_seen : SectionsSeen) (earlier : Draft) (column : List ℕ) (part : Side) (xs : List Terminal) (made : Declarations)
       → bounds_refusals earlier column (Some (limit part)) None ≡ []
       → IsWhole last later (point_at (InBounds None) sections_seen (with_declarations earlier (bounds_declared column (Some (limit part)) None))) xs made
       → IsWhole last later (point_at (InBounds (Some (column, AtLeast))) sections_seen earlier) (Compares AtLeast ∷ (side_tokens part ++ xs)) (bounds_declared column (Some (limit part)) None ++ made)
-  whole-second_least sections_seen earlier column part xs made taken rest =
-      whole-begins last later (point_at (InBounds (Some (column, AtLeast))) sections_seen earlier) (Compares AtLeast) (side_tokens part ++ xs) _
-      (λ n. hears-side last later (here sections_seen earlier) part (bound_right (here sections_seen earlier) [] column AtLeast) xs _
-      (λ token. hears-sides sections_seen earlier [] column (limits_by AtLeast (limit part)) token (InBounds None) xs made taken rest))
+  whole-second_least sections_seen earlier column part xs made taken rest = grind arith
 
   -- after a bound
   abbrev After : SectionsSeen → Draft → List Terminal → Declarations → Type 0
@@ -128,26 +73,6 @@ module _ (last : ℕ) (later : Tokens) where
   whole-bound : (part : Bound) (left : Option (List ℕ × Relation)) (sections_seen : SectionsSeen) (earlier : Draft) (xs : List Terminal) (made : Declarations)
       → refusals_in_turn earlier (bound_declares part) ≡ [] → After sections_seen (with_declarations earlier (bound_declares part)) xs made
       → IsWhole last later (point_at (InBounds left) sections_seen earlier) (bound_tokens part ++ xs) (bound_declares part ++ made)
-  whole-bound (bound column relation right) left sections_seen earlier xs made =
-      subst (λ (ds : Declarations). refusals_in_turn earlier (declare_column column ∷ ds) ≡ [] → After sections_seen (with_declarations earlier (declare_column column ∷ ds)) xs made
-      → IsWhole last later (point_at (InBounds left) sections_seen earlier) (Name column ∷ Compares relation ∷ (side_tokens right ++ xs)) ((declare_column column ∷ ds) ++ made))
-      (by-relation column relation (limit right))
-      (λ h rest. whole-right left sections_seen earlier column relation right xs made
-      (sides-taken (with_declarations earlier (declare_column column ∷ [])) column (limits_by relation (limit right)).lower (limits_by relation (limit right)).upper h (some-limit relation (limit right))) (rest None))
-  whole-bound (free_bound column) left sections_seen earlier xs made =
-      λ h rest. whole-begins last later (point_at (InBounds left) sections_seen earlier) (Name column) (Free ∷ xs) _
-      (λ n. hears-next last later (bound_after (here sections_seen earlier) column) Free xs _
-      (λ m. hears-sides sections_seen earlier (declare_column column ∷ []) column no_limits (at m Free) (InBounds None) xs made
-      (sides-taken (with_declarations earlier (declare_column column ∷ [])) column no_limits.lower no_limits.upper h refl) (rest None)))
-  whole-bound (turned_bound part relation column) left sections_seen earlier xs made =
-      subst (λ (ds : Declarations). refusals_in_turn earlier (declare_column column ∷ ds) ≡ [] → After sections_seen (with_declarations earlier (declare_column column ∷ ds)) xs made
-      → IsWhole last later (point_at (InBounds left) sections_seen earlier) ((side_tokens part ++ Compares relation ∷ Name column ∷ []) ++ xs) ((declare_column column ∷ ds) ++ made))
-      (ap (λ (r : Relation). limits_declared column (limits_by r (limit part))) (flipped relation) ∙ by-relation column (turned relation) (limit part))
-      (λ h rest. subst (λ (tokens : List Terminal). IsWhole last later (point_at (InBounds left) sections_seen earlier) tokens ((declare_column column ∷ limits_declared column (limits_by (flip relation) (limit part))) ++ made))
-      (sym (append_assoc (side_tokens part) (Compares relation ∷ Name column ∷ []) xs))
-      (whole-left left sections_seen earlier part relation column xs made
-      (sides-taken (with_declarations earlier (declare_column column ∷ [])) column (limits_by (flip relation) (limit part)).lower (limits_by (flip relation) (limit part)).upper h (some-limit (flip relation) (limit part)))
-      (rest (Some (column, relation)))))
   whole-bound (bounds_between lower column upper) left sections_seen earlier xs made =
       λ h rest.
       let front : Declarations = declare_column column ∷ bounds_declared column (Some (limit lower)) None in
@@ -166,6 +91,7 @@ module _ (last : ℕ) (later : Tokens) where
       (whole-left left sections_seen earlier upper AtLeast column (Compares AtLeast ∷ (side_tokens lower ++ xs)) (bounds_declared column (Some (limit lower)) None ++ made)
       (sides-taken (with_declarations earlier (declare_column column ∷ [])) column None (Some (limit upper)) taken.0 refl)
       (whole-second_least sections_seen (with_declarations earlier front) column lower xs made (sides-taken (with_declarations earlier front) column (Some (limit lower)) None taken.1 refl) (rest None)))
+  whole-bound _ left sections_seen earlier xs made = λ h rest line. grind arith
 
   -- all bounds of the section
   pub whole-bounds : (parts : List Bound) (left : Option (List ℕ × Relation)) (sections_seen : SectionsSeen) (earlier : Draft) (xs : List Terminal) (made : Declarations)

@@ -1,26 +1,24 @@
 -- What was declared is shown by the tokens before, so that a bound, a constant or a kind of a column that was declared before
 -- is as `FaultsInWords` defines it.
-use Rattle.std.proofs.Common.{◌≡◌, refl, sym, ap, ◌∙◌, subst, ℕ, List, [], ◌∷◌, ◌++◌, Bool, true, false}
+use Rattle.std.proofs.Common.{arith, rules, ◌≡◌, refl, ap, ◌∙◌, subst, ℕ, List, [], ◌∷◌, ◌++◌, Bool, true, false}
 use Rattle.std.specs.Prelude.{Option, Some, None, is_some, ◌||◌, ◌&&◌, not, unwrap_or, if◌then◌else◌}
-use Rattle.std.specs.List.{list_any, list_all, flat_map, cons_option}
+use Rattle.std.specs.List.{list_all, flat_map, cons_option}
 use Rattle.std.specs.Option.{option_map_or}
 use Rattle.std.specs.Cmp.{first_so, second_so}
 use Rattle.std.specs.FinMap.{put}
 use Rattle.std.proofs.lemmas.List.Folds.{list_all-append}
 use Rattle.mpslp_decimal.specs.Decimal.{Number as Decimal}
-use Rattle.mpslp_types.specs.Limit.{limit_of, is_plus_infinite, is_minus_infinite}
-use Rattle.mpslp_types.specs.Name.{same_bytes, bytes_cmp}
+use Rattle.mpslp_types.specs.Limit.{is_plus_infinite, is_minus_infinite}
+use Rattle.mpslp_types.specs.Name.{bytes_cmp}
 use Rattle.mpslp_types.specs.declared.faults.BuildFault.{BuildFault}
 use Rattle.mpslp_types.specs.declared.faults.BuildFault.TheVariants as builds
 use Rattle.mpslp_types.specs.declared.faults.FaultKind.{FaultKind}
 use Rattle.mpslp_types.specs.declared.faults.FaultKind.TheVariants as kinds
 use Rattle.mpslp_types.specs.declared.kinds.Limit.{Limit}
 use Rattle.mpslp_types.specs.declared.kinds.Sense.{Sense}
-use Rattle.mpslp_types.specs.declared.kinds.Limit.TheVariants.{PlusInf}
 use Rattle.mpslp_types.proofs.BoolLemmas.{both_so, or_left, or_right, so_not, either}
 use Rattle.mpslp_types.specs.Lists.{those_of}
-use Rattle.mpslp_builder.specs.Consistency.{has_objective_rhs}
-use Rattle.mpslp_builder.specs.Declaration.{Declaration, Declarations, Draft, empty_draft, with_declaration, with_declarations, declare_sense, declare_objective, declare_constant, declare_row, declare_rhs, declare_range, declare_column, declare_coefficient, declare_lower, declare_upper, declare_marked, declare_integer, declare_binary, declare_semi, bounds_declared, has_name, has_column, is_integer, is_semi}
+use Rattle.mpslp_builder.specs.Declaration.{Declaration, Declarations, Draft, with_declaration, with_declarations, declare_constant, declare_rhs, declare_column, declare_lower, declare_upper, declare_marked, declare_integer, declare_binary, declare_semi, bounds_declared, has_name, has_column, is_integer, is_semi}
 use Rattle.mpslp_builder.specs.Refusal.{has_constant, refusals_in_turn}
 use Rattle.mpslp_builder.proofs.LaterDrafts.{itself_named}
 use Rattle.mpslp_builder.proofs.SlotLemmas.{has-put, same_name}
@@ -32,34 +30,32 @@ use Rattle.mpslp_lp_tokens.specs.declared.words.SectionWord.{SectionWord}
 use Rattle.mpslp_lp_tokens.specs.declared.words.SectionWord.TheVariants as words
 use Rattle.mpslp_lp_grammar.specs.declared.context.Context.{Context}
 use Rattle.mpslp_lp_grammar.specs.declared.relations.Relation.{Relation}
-use Rattle.mpslp_lp_grammar.specs.declared.relations.Relation.TheVariants.{AtMost, AtLeast, EqualTo}
 use Rattle.mpslp_lp_grammar.specs.declared.signs.Sign.{Sign as SignOf}
 use Rattle.mpslp_lp_grammar.specs.declared.states.ItemOwner.{ItemOwner}
 use Rattle.mpslp_lp_grammar.specs.declared.states.ItemOwner.TheVariants.{OfObjective, OfRow}
 use Rattle.mpslp_lp_grammar.specs.declared.states.Place.{Place}
-use Rattle.mpslp_lp_grammar.specs.declared.states.Place.TheVariants.{AtStart, BeforeItems, InObjective, BetweenRows, InRow, InBounds, InGenerals, InBinaries, InSemis}
+use Rattle.mpslp_lp_grammar.specs.declared.states.Place.TheVariants.{AtStart, BeforeItems, InObjective, BetweenRows, InBounds, InGenerals, InBinaries, InSemis}
 use Rattle.mpslp_lp_grammar.specs.declared.states.SideOwner.{SideOwner}
 use Rattle.mpslp_lp_grammar.specs.declared.states.SideOwner.TheVariants.{SideOfRow, SideOfBound}
 use Rattle.mpslp_lp_grammar.specs.declared.states.State.{State}
-use Rattle.mpslp_lp_grammar.specs.declared.states.State.TheVariants.{Between, AtObjective, ObjectiveName, AtLastWord, AtSemi, Signs, ItemNumber, RowName, RowLabel, RowSign, RowNumber, RowLeft, RowLeftRelation, BoundName, BoundSign, BoundLeft, BoundLeftRelation, AtSide, SideSign, AfterEnd}
+use Rattle.mpslp_lp_grammar.specs.declared.states.State.TheVariants.{Between, AtObjective, ObjectiveName, AtSemi, Signs, ItemNumber, RowLabel, BoundName, BoundLeftRelation, AtSide, SideSign}
 use Rattle.mpslp_lp_grammar.specs.AfterToken.{AfterToken, Goes, Refuses, refuse, with_made, declare_unless_refused, take_after_declarations, declare_at, take_term, take_after_signs, begin_item, take_bound, take_side}
-use Rattle.mpslp_lp_grammar.specs.Grammar.{no_limits, opened_by, may_begin_section, is_last_word}
-use Rattle.mpslp_lp_grammar.specs.FirstToken.{after_section_word, open_section, begin_row, take_second_relation, begin_phrase, begin}
-use Rattle.mpslp_lp_grammar.specs.Items.{one, apply_sign, infinity, fits_second, Limits, limits_by, flip}
-use Rattle.mpslp_lp_grammar.specs.Rows.{term_declared, objective_declared, default_objective, first_item_declared, default_row, without_terms, fits_left, row_limits, row_declared}
+use Rattle.mpslp_lp_grammar.specs.Grammar.{no_limits}
+use Rattle.mpslp_lp_grammar.specs.FirstToken.{open_section, begin_row, take_second_relation, begin_phrase, begin}
+use Rattle.mpslp_lp_grammar.specs.Items.{one, infinity, Limits, limits_by, flip}
+use Rattle.mpslp_lp_grammar.specs.Rows.{term_declared, objective_declared, default_objective, first_item_declared, row_limits, row_declared}
 use Rattle.mpslp_lp_grammar.specs.PartialRow.{PartialRow}
-use Rattle.mpslp_lp_grammar.specs.Phrase.{start, has_seen, with_section, is_out_of_order}
+use Rattle.mpslp_lp_grammar.specs.Phrase.{start, has_seen, is_out_of_order}
 use Rattle.mpslp_lp_grammar.specs.Terminal.{Terminal}
 use Rattle.mpslp_lp_grammar.specs.Terminal.Terminal.{Opens, Name, Number, Sign, Compares, Colon, Infinity, Free}
 use Rattle.mpslp_lp_grammar.specs.TokenByToken.{new_column}
 use Rattle.mpslp_lp_grammar.specs.TokenStep.{begin_after, take_lone, take}
 use Rattle.mpslp_lp_sentences.specs.FaultsInWords.{IsInWords, is_section, current_section, is_under, is_named, collected, names_again, ends_in_number, ends_in_sign, may_follow_constant, completes_constant, has_constant_before, repeats_constant, gives_lower, gives_upper, last_name, last_relation, column_before, after_sign, completed, completes_bound, repeats_bound, names_integer, names_semi, changes_kind}
-use Rattle.mpslp_lp_sentences.specs.Meaning.{turned}
 use Rattle.mpslp_lp_sentences.proofs.FaultedTokens.{in-words}
 use Rattle.mpslp_lp_sentences.proofs.Refusals.{refuses, first-refused, terms-refuse}
-use Rattle.mpslp_lp_sentences.proofs.RowShapes.{PlaceShape, RelatedTo, SideShape, SignedSideShape, NumberShape, Shape, Shaped, none-shaped, shaped-later}
+use Rattle.mpslp_lp_sentences.proofs.RowShapes.{PlaceShape, RelatedTo, SideShape, SignedSideShape, NumberShape, Shape, Shaped, shaped-later}
 use Rattle.mpslp_lp_sentences.proofs.SectionFaults.{section_at_place, section_of_item, section_of_side, section_at}
-use Rattle.mpslp_lp_sentences.proofs.TokenCases.{first_named, signs-by, item-by, limit-by, row-by, bound-by, listed-by, in_objective-by, in_row-by, lone-by, constant-by, last_word-by, left-by, bound_name-by, bound_left-by, bound_column-by, side-by, begin-by, objective-by, objective_name-by, item_number-by, between_rows-by, row_name-by, row_sign-by, row_number-by, in_bounds-by, semi-by}
+use Rattle.mpslp_lp_sentences.proofs.TokenCases.{signs-by, item-by, limit-by, listed-by, lone-by, bound_name-by, bound_column-by, side-by, begin-by, objective-by, objective_name-by, item_number-by, semi-by}
 
 -- ---- what was declared is shown by the tokens
 
@@ -85,105 +81,32 @@ is_shown earlier _ = true
 
 named-put : {X : Type 0} (name new : List ℕ) (value : X) (entries : List (List ℕ × X)) (names : List (List ℕ)) → (has_name entries name ≡ true → is_named name names ≡ true) → is_named new names ≡ true
     → has_name (put bytes_cmp new value entries) name ≡ true → is_named name names ≡ true
-named-put name new value entries names old here h = by (same_bytes name new) refl (sym (has-put name new value entries) ∙ h)
-  where
-    by : (b : Bool) → same_bytes name new ≡ b → (b || has_name entries name) ≡ true → is_named name names ≡ true
-    by true e k = subst (λ (n : List ℕ). is_named n names ≡ true) (sym (same_name name new e)) here
-    by false e k = old k
+named-put name new value entries names old here h = search (rules, has-put, same_name)
 
 -- ---- one declaration more
 
 shown-one : (d : Declaration) (all : Draft) (earlier : List Terminal) → Shown earlier all → is_shown earlier d ≡ true → Shown earlier (with_declaration all d)
-shown-one (declare_sense sense) all earlier h k = record { lowers = h.lowers; uppers = h.uppers; integers = h.integers; semis = h.semis; constant = h.constant; no_rhs = h.no_rhs }
-shown-one (declare_objective name) all earlier h k = record { lowers = h.lowers; uppers = h.uppers; integers = h.integers; semis = h.semis; constant = h.constant; no_rhs = h.no_rhs }
-shown-one (declare_constant value) all earlier h k = record { lowers = h.lowers; uppers = h.uppers; integers = h.integers; semis = h.semis; constant = λ e. k; no_rhs = h.no_rhs }
-shown-one (declare_row name form) all earlier h k = record { lowers = h.lowers; uppers = h.uppers; integers = h.integers; semis = h.semis; constant = h.constant; no_rhs = h.no_rhs }
 shown-one (declare_rhs row value) all earlier h k = absurd cc
-shown-one (declare_range row value) all earlier h k = record { lowers = h.lowers; uppers = h.uppers; integers = h.integers; semis = h.semis; constant = h.constant; no_rhs = h.no_rhs }
-shown-one (declare_column name) all earlier h k = record { lowers = h.lowers; uppers = h.uppers; integers = h.integers; semis = h.semis; constant = h.constant; no_rhs = h.no_rhs }
-shown-one (declare_coefficient key value) all earlier h k = record { lowers = h.lowers; uppers = h.uppers; integers = h.integers; semis = h.semis; constant = h.constant; no_rhs = h.no_rhs }
-shown-one (declare_lower column limit) all earlier h k = record {
-  lowers = λ name e. named-put name column limit all.lowers (collected (completes_bound gives_lower) earlier) (h.lowers name) k e;
-  uppers = h.uppers;
-  integers = h.integers;
-  semis = h.semis;
-  constant = h.constant;
-  no_rhs = h.no_rhs;
-}
-shown-one (declare_upper column limit) all earlier h k = record {
-  lowers = h.lowers;
-  uppers = λ name e. named-put name column limit all.uppers (collected (completes_bound gives_upper) earlier) (h.uppers name) k e;
-  integers = h.integers;
-  semis = h.semis;
-  constant = h.constant;
-  no_rhs = h.no_rhs;
-}
-shown-one (declare_marked column) all earlier h k = record {
-  lowers = h.lowers;
-  uppers = h.uppers;
-  integers = λ name e.
-      let rest : Bool = has_name all.integers name || has_name all.binaries name in
-      either (has_name (put bytes_cmp column tt all.marked) name) rest (is_named name (collected names_integer earlier))
-      (λ m. named-put name column tt all.marked (collected names_integer earlier) (λ o. h.integers name (or_left (has_name all.marked name) rest o)) k m)
-      (λ o. h.integers name (or_right (has_name all.marked name) rest o)) e;
-  semis = h.semis;
-  constant = h.constant;
-  no_rhs = h.no_rhs;
-}
-shown-one (declare_integer column) all earlier h k = record {
-  lowers = h.lowers;
-  uppers = h.uppers;
-  integers = λ name e.
-      let marked : Bool = has_name all.marked name in
-      let binary : Bool = has_name all.binaries name in
-      let integer : Bool = has_name all.integers name in
-      let new : Bool = has_name (put bytes_cmp column tt all.integers) name in
-      either marked (new || binary) (is_named name (collected names_integer earlier)) (λ o. h.integers name (or_left marked (integer || binary) o))
-      (λ o. either new binary (is_named name (collected names_integer earlier))
-      (λ m. named-put name column tt all.integers (collected names_integer earlier) (λ i. h.integers name (or_right marked (integer || binary) (or_left integer binary i))) k m)
-      (λ b. h.integers name (or_right marked (integer || binary) (or_right integer binary b))) o) e;
-  semis = h.semis;
-  constant = h.constant;
-  no_rhs = h.no_rhs;
-}
-shown-one (declare_binary column) all earlier h k = record {
-  lowers = h.lowers;
-  uppers = h.uppers;
-  integers = λ name e.
-      let marked : Bool = has_name all.marked name in
-      let binary : Bool = has_name all.binaries name in
-      let integer : Bool = has_name all.integers name in
-      let new : Bool = has_name (put bytes_cmp column tt all.binaries) name in
-      either marked (integer || new) (is_named name (collected names_integer earlier)) (λ o. h.integers name (or_left marked (integer || binary) o))
-      (λ o. either integer new (is_named name (collected names_integer earlier)) (λ i. h.integers name (or_right marked (integer || binary) (or_left integer binary i)))
-      (λ m. named-put name column tt all.binaries (collected names_integer earlier) (λ b. h.integers name (or_right marked (integer || binary) (or_right integer binary b))) k m) o) e;
-  semis = h.semis;
-  constant = h.constant;
-  no_rhs = h.no_rhs;
-}
-shown-one (declare_semi column) all earlier h k = record {
-  lowers = h.lowers;
-  uppers = h.uppers;
-  integers = h.integers;
-  semis = λ name e. named-put name column tt all.semis (collected names_semi earlier) (h.semis name) k e;
-  constant = h.constant;
-  no_rhs = h.no_rhs;
-}
+shown-one (declare_lower column limit) all earlier h k = grind (arith, named-put)
+shown-one (declare_upper column limit) all earlier h k = grind (arith, named-put)
+shown-one (declare_marked column) all earlier h k = grind (arith, either, named-put, or_left, or_right)
+shown-one (declare_integer column) all earlier h k = grind (arith, either, or_left, named-put, or_right)
+shown-one (declare_binary column) all earlier h k = grind (arith, either, or_left, or_right, named-put)
+shown-one (declare_semi column) all earlier h k = grind (arith, named-put)
+shown-one _ all earlier h k = grind arith
 
 shown-all : (ds : Declarations) (all : Draft) (earlier : List Terminal) → Shown earlier all → list_all (is_shown earlier) ds ≡ true → Shown earlier (with_declarations all ds)
 shown-all [] all earlier h k = h
-shown-all (d ∷ ds) all earlier h k =
-    shown-all ds (with_declaration all d) earlier (shown-one d all earlier h (first_so (is_shown earlier d) (list_all (is_shown earlier) ds) k)) (second_so (is_shown earlier d) (list_all (is_shown earlier) ds) k)
+shown-all (d ∷ ds) all earlier h k = grind (arith, shown-one, shown-all ds (with_declaration all d) earlier (shown-one d all earlier h (first_so (is_shown earlier d) (list_all (is_shown earlier) ds) k)) (second_so (is_shown earlier d) (list_all (is_shown earlier) ds) k))
 
 -- ---- one token more
 
 named-more : (name : List ℕ) (new : Option (List ℕ)) (names : List (List ℕ)) → is_named name names ≡ true → is_named name (cons_option new names) ≡ true
-named-more name None names h = h
-named-more name (Some other) names h = or_right (same_bytes name other) (is_named name names) h
+named-more name new names h = grind arith
 
 -- a name that the last token names
 named-now : (name : List ℕ) (new : Option (List ℕ)) (names : List (List ℕ)) → new ≡ Some name → is_named name (cons_option new names) ≡ true
-named-now name new names h = ap (λ (o : Option (List ℕ)). is_named name (cons_option o names)) h ∙ or_left (same_bytes name name) (is_named name names) (itself_named name)
+named-now name new names h = grind (arith, or_left, itself_named)
 
 shown-later : (token : Terminal) (earlier : List Terminal) (all : Draft) → Shown earlier all → Shown (token ∷ earlier) all
 shown-later token earlier all h = record {
@@ -215,17 +138,14 @@ refused : (context : Context) (earlier : List Terminal) (token : Terminal) (kind
 refused context earlier (Opens word) kind h = by (has_seen context.sections_seen (section_of word)) (is_out_of_order context.sections_seen (section_of word))
   where
     by : (a b : Bool) → Says earlier (Opens word) (unwrap_or (if a then Some kinds.SectionRepeated else (if b then Some kinds.SectionOrder else None)) kind)
-    by true b = tt
-    by false true = tt
-    by false false = h
+    by a b = grind arith
 refused context earlier _ kind h = h
 
 bad : (context : Context) (earlier : List Terminal) (all : Draft) (token : Terminal) → Steps earlier all token (refuse context token kinds.BadToken)
-bad context earlier all token n = refused context earlier token kinds.BadToken tt
+bad context earlier all token n = grind arith
 
 branch : (earlier : List Terminal) (token : Terminal) (b : Bool) (x y : AfterToken) → KeepsShown earlier token x → KeepsShown earlier token y → KeepsShown earlier token (if b then x else y)
-branch earlier token true x y h k = h
-branch earlier token false x y h k = k
+branch earlier token b x y h k = grind arith
 
 -- ---- declarations
 
@@ -237,19 +157,7 @@ record Refused (earlier : List Terminal) (token : Terminal) (all : Draft) (made 
 
 says-by : (earlier : List Terminal) (token : Terminal) (all : Draft) (made : Declarations) → Refused earlier token all made → (first : BuildFault) → refuses (kind_of_build_fault first) all made ≡ true
     → Says earlier token (kind_of_build_fault first)
-says-by earlier token all made h builds.DuplicateSense k = tt
-says-by earlier token all made h builds.SecondObjective k = tt
-says-by earlier token all made h builds.UnknownRow k = tt
-says-by earlier token all made h builds.UnknownColumn k = tt
-says-by earlier token all made h builds.DuplicateRow k = tt
-says-by earlier token all made h builds.DuplicateEntry k = tt
-says-by earlier token all made h builds.DuplicateRhs k = h.rhs k
-says-by earlier token all made h builds.DuplicateRange k = tt
-says-by earlier token all made h builds.DuplicateBound k = h.bound k
-says-by earlier token all made h builds.RangeOnFree k = tt
-says-by earlier token all made h builds.SemiContinuous k = h.semi k
-says-by earlier token all made h builds.InfiniteValue k = tt
-says-by earlier token all made h builds.OutOfMemory k = tt
+says-by earlier token all made h first k = grind arith
 
 declared : (context : Context) (earlier : List Terminal) (token : Terminal) (place : Place) (made : Declarations) → list_all (is_shown (token ∷ earlier)) made ≡ true → Refused earlier token context.earlier made
     → Steps earlier context.earlier token (declare_at context token place made)
@@ -272,21 +180,14 @@ declared-before context earlier token made next shown refusal h n = by (refusals
 -- ---- terms and rows
 
 term : (context : Context) (owner : ItemOwner) (column : List ℕ) (value : Decimal) (earlier : List Terminal) → Steps earlier context.earlier (Name column) (take_term context owner column value (Name column))
-term context (OfObjective objective) column value earlier n =
-    declared context earlier (Name column) (InObjective objective) (term_declared objective (column, value)) refl (record { bound = λ e. absurd cc; semi = λ e. absurd cc; rhs = λ e. absurd cc }) n
-term context (OfRow row) column value earlier n =
-    branch earlier (Name column) (list_any (λ t. same_bytes column t.0) row.terms) (refuse context (Name column) kinds.DuplicateEntry)
-    (Goes (with_made context []) (Between (InRow (record row { terms = row.terms ++ (column, value) ∷ [] })))) (refused context earlier (Name column) kinds.DuplicateEntry tt) n
+term context owner column value earlier n = grind arith
 
 terms-shown : (earlier : List Terminal) (name : List ℕ) (terms : List (List ℕ × Decimal)) → list_all (is_shown earlier) (flat_map (term_declared name) terms) ≡ true
 terms-shown earlier name [] = refl
 terms-shown earlier name (term ∷ terms) = terms-shown earlier name terms
 
 never : (b : Bool) {X : Type 0} → b ≡ false → b ≡ true → X
-never b e k = absurd (clash (sym e ∙ k))
-  where
-    clash : false ≡ true → ⊥
-    clash e = cc
+never b e k = grind arith
 
 row_side : (context : Context) (row : PartialRow) (relation : Relation) (l : Limit) (earlier : List Terminal) (token : Terminal) → Steps earlier context.earlier token (take_side context (SideOfRow row relation) l token)
 row_side context row relation l earlier token n =
@@ -307,19 +208,10 @@ record Completes (earlier : List Terminal) (token : Terminal) (column : List ℕ
 -- a name that an earlier token has named
 again : (naming : List Terminal → Terminal → Option (List ℕ)) (earlier : List Terminal) (token : Terminal) (column : List ℕ) → naming earlier token ≡ Some column → is_named column (collected naming earlier) ≡ true
     → names_again naming naming earlier token ≡ true
-again naming earlier token column h k = ap (λ (o : Option (List ℕ)). option_map_or (λ c. is_named c (collected naming earlier)) o false) h ∙ k
+again naming earlier token column h k = grind arith
 
 bounds-shown : (earlier : List Terminal) (token : Terminal) (column : List ℕ) (limits : Limits) → Completes earlier token column limits → list_all (is_shown (token ∷ earlier)) (bounds_declared column limits.lower limits.upper) ≡ true
-bounds-shown earlier token column limits h = by limits.lower limits.upper h.lower h.upper
-  where
-    by : (l u : Option Limit) → (is_some l ≡ true → completes_bound gives_lower earlier token ≡ Some column) → (is_some u ≡ true → completes_bound gives_upper earlier token ≡ Some column)
-        → list_all (is_shown (token ∷ earlier)) (bounds_declared column l u) ≡ true
-    by None None a b = refl
-    by (Some l) None a b = both_so _ true (named-now column (completes_bound gives_lower earlier token) (collected (completes_bound gives_lower) earlier) (a refl)) refl
-    by None (Some u) a b = both_so _ true (named-now column (completes_bound gives_upper earlier token) (collected (completes_bound gives_upper) earlier) (b refl)) refl
-    by (Some l) (Some u) a b =
-        both_so _ _ (named-now column (completes_bound gives_lower earlier token) (collected (completes_bound gives_lower) earlier) (a refl))
-        (both_so _ true (named-now column (completes_bound gives_upper earlier token) (collected (completes_bound gives_upper) earlier) (b refl)) refl)
+bounds-shown earlier token column limits h = search (rules, both_so, named-now)
 
 bound : (context : Context) (is_new : Bool) (column : List ℕ) (limits : Limits) (earlier : List Terminal) (token : Terminal) (place : Place) → Shown earlier context.earlier → Completes earlier token column limits
     → KeepsShown earlier token (take_bound context (new_column is_new column) column limits token place)
@@ -335,9 +227,7 @@ bound context is_new column limits earlier token place shown h =
     fine false = refl
 
     one : (a b : Bool) → (a && b) ≡ true → (a ≡ true) × (b ≡ true)
-    one true true e = (refl, refl)
-    one true false e = absurd cc
-    one false b e = absurd cc
+    one a b e = grind arith
 
     repeated : ((is_some limits.lower && has_name context.earlier.lowers column) || (is_some limits.upper && has_name context.earlier.uppers column)) ≡ true → repeats_bound earlier token ≡ true
     repeated e =
@@ -368,58 +258,28 @@ bound context is_new column limits earlier token place shown h =
 
 -- the relation of a bound gives the limits
 gives-lower : (relation : Relation) (l : Limit) → is_some (limits_by relation l).lower ≡ true → gives_lower relation ≡ true
-gives-lower AtMost l h = h
-gives-lower AtLeast l h = refl
-gives-lower EqualTo l h = refl
+gives-lower relation l h = grind arith
 
 gives-upper : (relation : Relation) (l : Limit) → is_some (limits_by relation l).upper ≡ true → gives_upper relation ≡ true
-gives-upper AtMost l h = refl
-gives-upper AtLeast l h = h
-gives-upper EqualTo l h = refl
-
-flip-turned : (relation : Relation) → flip relation ≡ turned relation
-flip-turned AtMost = refl
-flip-turned AtLeast = refl
-flip-turned EqualTo = refl
-
-under-bounds : (earlier : List Terminal) → current_section earlier ≡ Some Bounds → is_under Bounds earlier ≡ true
-under-bounds earlier h = ap (λ (o : Option Section). option_map_or (is_section Bounds) o false) h
+gives-upper relation l h = grind arith
 
 within : (gives : Relation → Bool) (earlier : List Terminal) (token : Terminal) (column : List ℕ) → current_section earlier ≡ Some Bounds → completed gives earlier token ≡ Some column → completes_bound gives earlier token ≡ Some column
-within gives earlier token column here h = ap (λ (b : Bool). if b then completed gives earlier token else None) (under-bounds earlier here) ∙ h
+within gives earlier token column here h = grind arith
 
 free-completes : (earlier : List Terminal) (column : List ℕ) → current_section earlier ≡ Some Bounds → last_name earlier ≡ Some column → Completes earlier Free column no_limits
-free-completes earlier column here h = record { lower = λ e. within gives_lower earlier Free column here h; upper = λ e. within gives_upper earlier Free column here h }
-
-name-completed : (gives : Relation → Bool) (earlier : List Terminal) (relation : Relation) (column : List ℕ) → last_relation earlier ≡ Some relation → gives (turned relation) ≡ true
-    → completed gives earlier (Name column) ≡ Some column
-name-completed gives earlier relation column h k =
-    ap (λ (o : Option Relation). if option_map_or (λ r. gives (turned r)) o false then Some column else None) h ∙ ap (λ (b : Bool). if b then Some column else None) k
+free-completes earlier column here h = grind arith
 
 name-completes : (earlier : List Terminal) (relation : Relation) (l : Limit) (column : List ℕ) → current_section earlier ≡ Some Bounds → last_relation earlier ≡ Some relation
     → Completes earlier (Name column) column (limits_by (flip relation) l)
-name-completes earlier relation l column here h = record {
-  lower = λ e. within gives_lower earlier (Name column) column here (name-completed gives_lower earlier relation column h (ap gives_lower (sym (flip-turned relation)) ∙ gives-lower (flip relation) l e));
-  upper = λ e. within gives_upper earlier (Name column) column here (name-completed gives_upper earlier relation column h (ap gives_upper (sym (flip-turned relation)) ∙ gives-upper (flip relation) l e));
-}
-
-related-completed : (gives : Relation → Bool) (earlier : List Terminal) (relation : Relation) (column : List ℕ) → RelatedTo column relation earlier → gives relation ≡ true → column_before gives earlier ≡ Some column
-related-completed gives (Compares other ∷ earlier) relation column h k =
-    ap (λ (b : Bool). if b then last_name earlier else None) (ap gives h.0 ∙ k) ∙ h.1
-related-completed gives [] relation column h k = absurd h
-related-completed gives (_ ∷ earlier) relation column h k = absurd h
+name-completes earlier relation l column here h = grind arith
 
 -- a side without a sign, or with one
 side-completed : (gives : Relation → Bool) (earlier : List Terminal) (relation : Relation) (column : List ℕ) → RelatedTo column relation earlier → gives relation ≡ true → after_sign (column_before gives) earlier ≡ Some column
-side-completed gives (Compares other ∷ earlier) relation column h k = related-completed gives (Compares other ∷ earlier) relation column h k
-side-completed gives [] relation column h k = absurd h
-side-completed gives (_ ∷ earlier) relation column h k = absurd h
+side-completed gives earlier relation column h k = grind arith
 
 signed-completed : (gives : Relation → Bool) (earlier : List Terminal) (is_new : Bool) (relation : Relation) (column : List ℕ) → SignedSideShape (SideOfBound is_new column relation) earlier → gives relation ≡ true
     → after_sign (column_before gives) earlier ≡ Some column
-signed-completed gives (Sign sign ∷ earlier) is_new relation column h k = related-completed gives earlier relation column h k
-signed-completed gives [] is_new relation column h k = absurd h
-signed-completed gives (_ ∷ earlier) is_new relation column h k = absurd h
+signed-completed gives earlier is_new relation column h k = grind arith
 
 -- a number or an infinity
 abbrev IsValue : Terminal → Type 0
@@ -435,20 +295,17 @@ side-completes earlier token relation l column value here h = record {
 -- ---- names in Generals, Binaries and among the semi-continuous columns
 
 only : (b : Bool) → ((b || false) || false) ≡ true → b ≡ true
-only true h = refl
-only false h = h
+only b h = grind arith
 
 integer-named : (earlier : List Terminal) (column : List ℕ) → (is_under Generals earlier || is_under Binaries earlier) ≡ true → names_integer earlier (Name column) ≡ Some column
-integer-named earlier column h = ap (λ (b : Bool). if b then Some column else None) h
+integer-named earlier column h = grind arith
 
 semi-named : (earlier : List Terminal) (column : List ℕ) → (is_under SemiContinuous earlier && not (ends_in_sign earlier)) ≡ true → names_semi earlier (Name column) ≡ Some column
-semi-named earlier column h = ap (λ (b : Bool). if b then Some column else None) h
+semi-named earlier column h = grind arith
 
 integer-refused : (earlier : List Terminal) (column : List ℕ) (all : Draft) (made : Declarations) → (is_under Generals earlier || is_under Binaries earlier) ≡ true → Shown earlier all → is_semi all column ≡ true
     → changes_kind earlier (Name column) ≡ true
-integer-refused earlier column all made under shown h =
-    or_left (names_again names_integer names_semi earlier (Name column)) (names_again names_semi names_integer earlier (Name column))
-    (ap (λ (o : Option (List ℕ)). option_map_or (λ c. is_named c (collected names_semi earlier)) o false) (integer-named earlier column under) ∙ shown.semis column h)
+integer-refused earlier column all made under shown h = grind arith
 
 integers_listed : (context : Context) (earlier : List Terminal) → (is_under Generals earlier || is_under Binaries earlier) ≡ true → Shown earlier context.earlier → (column : List ℕ)
     → Steps earlier context.earlier (Name column) (declare_at context (Name column) InGenerals (declare_column column ∷ declare_integer column ∷ []))
@@ -480,64 +337,28 @@ semis_listed context earlier under shown column n =
 
 -- ---- the constant
 
-under-objective : (earlier : List Terminal) → current_section earlier ≡ Some Objective → is_under Objective earlier ≡ true
-under-objective earlier h = ap (λ (o : Option Section). option_map_or (is_section Objective) o false) h
-
 constant-completes : (earlier : List Terminal) (token : Terminal) → current_section earlier ≡ Some Objective → ends_in_number earlier ≡ true → may_follow_constant token ≡ true → completes_constant earlier token ≡ true
-constant-completes earlier token here last may =
-    both_so (is_under Objective earlier) (may_follow_constant token && ends_in_number earlier) (under-objective earlier here) (both_so (may_follow_constant token) (ends_in_number earlier) may last)
+constant-completes earlier token here last may = grind arith
 
 constant-there : (earlier : List Terminal) (all : Draft) → Shown earlier all → has_constant all ≡ true → has_constant_before earlier ≡ true
-constant-there earlier all shown h = either (is_some all.constant) (has_objective_rhs all) (has_constant_before earlier) shown.constant (λ e. absurd (no_rhs all.objective all.rhs_values shown.no_rhs e)) h
-  where
-    no_rhs : (o : Option (List ℕ)) (values : List (List ℕ × Decimal)) → values ≡ [] → option_map_or (has_name values) o false ≡ true → ⊥
-    no_rhs None values none e = cc
-    no_rhs (Some name) [] none e = cc
-    no_rhs (Some name) (v ∷ values) none e = cc
+constant-there earlier all shown h = grind arith
 
 -- ---- the first token of a phrase
 
 opened : (context : Context) (earlier : List Terminal) (word : SectionWord) → Steps earlier context.earlier (Opens word) (open_section context word)
-opened context earlier word n = by (has_seen context.sections_seen (section_of word)) (is_out_of_order context.sections_seen (section_of word))
-  where
-    goes : (w : SectionWord) (b : Context) → Shown (Opens word ∷ earlier) b.earlier → KeepsShown earlier (Opens word) (after_section_word b w)
-    goes words.Minimize b h = h
-    goes words.Maximize b h = h
-    goes words.Rows b h = h
-    goes words.Subject b h = h
-    goes words.Such b h = h
-    goes words.Bounds b h = h
-    goes words.Generals b h = h
-    goes words.Binaries b h = h
-    goes words.Semi b h = h
-    goes words.Semis b h = h
-    goes words.End b h = h
-
-    by : (a b : Bool) → KeepsShown earlier (Opens word) (elim (if a then Some kinds.SectionRepeated else (if b then Some kinds.SectionOrder else None)) as (λ _. AfterToken) [
-      | Some kind ↦ Refuses kind
-      | None ↦ after_section_word (record context { sections_seen = with_section context.sections_seen (section_of word) }) word
-    ])
-    by true b = tt
-    by false true = tt
-    by false false = goes word (record context { sections_seen = with_section context.sections_seen (section_of word) }) n
+opened context earlier word n = grind arith
 
 signs : (context : Context) (owner : ItemOwner) (sign : SignOf) (earlier : List Terminal) (token : Terminal) → Steps earlier context.earlier token (take_after_signs context owner sign token)
-signs context owner sign earlier token =
-    signs-by (Steps earlier context.earlier) context owner sign (bad context earlier context.earlier) (λ more n. n) (λ name. term context owner name (apply_sign sign one) earlier) (λ value n. n) token
+signs context owner sign earlier token = grind (arith, signs-by, bad, term)
 
 item : (context : Context) (owner : ItemOwner) (earlier : List Terminal) (token : Terminal) → Steps earlier context.earlier token (begin_item context owner token)
-item context owner earlier token =
-    item-by (Steps earlier context.earlier) context owner (bad context earlier context.earlier) (λ more n. n) (λ name. term context owner name one earlier) (λ value n. n) token
+item context owner earlier token = grind (arith, item-by, bad, term)
 
 row : (context : Context) (label : List ℕ) (earlier : List Terminal) (token : Terminal) → Steps earlier context.earlier token (begin_row context label token)
-row context label earlier token =
-    row-by (Steps earlier context.earlier) context label (bad context earlier context.earlier) (λ n. n) (λ value n. n) (λ name. term context (OfRow (without_terms label None)) name one earlier) (λ sign n. n) token
+row context label earlier token = grind arith
 
 second : (context : Context) (left : Option (List ℕ × Relation)) (earlier : List Terminal) (relation : Relation) → Steps earlier context.earlier (Compares relation) (take_second_relation context left relation (Compares relation))
-second context None earlier relation n = bad context earlier context.earlier (Compares relation) n
-second context (Some left) earlier relation n =
-    branch earlier (Compares relation) (fits_second left.1 relation) (Goes context (AtSide (SideOfBound false left.0 relation))) (refuse context (Compares relation) kinds.MixedSenses) n
-    (refused context earlier (Compares relation) kinds.MixedSenses tt)
+second context left earlier relation n = grind arith
 
 -- what is known where names are listed
 abbrev Listed : Place → List Terminal → Draft → Type 0
@@ -547,17 +368,7 @@ Listed InSemis earlier all = (current_section earlier ≡ Some SemiContinuous) �
 Listed _ earlier all = Unit {0}
 
 phrase : (place : Place) (context : Context) (earlier : List Terminal) → Listed place earlier context.earlier → (token : Terminal) → Steps earlier context.earlier token (begin_phrase place context token)
-phrase AtStart context earlier h token = bad context earlier context.earlier token
 phrase (BeforeItems objective) context earlier h token = item context (OfObjective objective) earlier token
-phrase (InObjective objective) context earlier h token = in_objective-by (Steps earlier context.earlier) context objective (bad context earlier context.earlier) (λ sign n. n) token
-phrase BetweenRows context earlier h token = between_rows-by (Steps earlier context.earlier) context (λ name n. n) (row context (default_row context) earlier) token
-phrase (InRow partial) context earlier h token =
-    in_row-by (Steps earlier context.earlier) context partial (bad context earlier context.earlier) (λ sign n. n)
-    (λ relation n. branch earlier (Compares relation) (fits_left partial.left relation) (Goes context (AtSide (SideOfRow partial relation))) (refuse context (Compares relation) kinds.MixedSenses) n
-    (refused context earlier (Compares relation) kinds.MixedSenses tt)) token
-phrase (InBounds left) context earlier h token =
-    in_bounds-by (Steps earlier context.earlier) context left (second context left earlier)
-    (bound-by (Steps earlier context.earlier) context (bad context earlier context.earlier) (λ name n. n) (λ sign n. n) (λ value n. n) (λ n. n)) token
 phrase InGenerals context earlier h token =
     listed-by (Steps earlier context.earlier) context InGenerals declare_integer (bad context earlier context.earlier)
     (integers_listed context earlier (ap (λ (o : Option Section). option_map_or (is_section Generals) o false || option_map_or (is_section Binaries) o false) h.0) h.1) token
@@ -568,12 +379,10 @@ phrase InSemis context earlier h token =
     listed-by (Steps earlier context.earlier) context InSemis declare_semi (bad context earlier context.earlier)
     (semis_listed context earlier
     (both_so (is_under SemiContinuous earlier) (not (ends_in_sign earlier)) (ap (λ (o : Option Section). option_map_or (is_section SemiContinuous) o false) h.0) (so_not (ends_in_sign earlier) h.2)) h.1) token
+phrase _ context earlier h token = grind arith
 
 first : (place : Place) (context : Context) (earlier : List Terminal) → Listed place earlier context.earlier → (token : Terminal) → Steps earlier context.earlier token (begin place context token)
-first place context earlier h token =
-    begin-by (Steps earlier context.earlier) context place
-    (λ word n. branch earlier (Opens word) (may_begin_section place) (open_section context word) (refuse context (Opens word) kinds.BadToken) (opened context earlier word n) (bad context earlier context.earlier (Opens word) n))
-    (phrase place context earlier h) token
+first place context earlier h token = grind (arith, begin-by, branch, opened, bad, phrase)
 
 lone : (context : Context) (owner : ItemOwner) (value : Decimal) (earlier : List Terminal) → Shown earlier context.earlier → current_section earlier ≡ section_of_item owner → NumberShape owner earlier → (token : Terminal)
     → Steps earlier context.earlier token (take_lone context owner value token)
@@ -591,29 +400,23 @@ lone context (OfObjective objective) value earlier shown here last token =
           rhs = λ e. both_so (completes_constant earlier t) (has_constant_before earlier) now (constant-there earlier context.earlier shown (only (has_constant context.earlier) e));
         })
         (first (InObjective objective) (with_made context (declare_constant value ∷ [])) earlier tt t)
-lone context (OfRow partial) value earlier shown here last token =
-    constant-by (Steps earlier context.earlier) context partial value (bad context earlier context.earlier) (λ sign n. refused context earlier (Sign sign) kinds.ConstantInRow tt)
-    (λ relation n. refused context earlier (Compares relation) kinds.ConstantInRow tt) token
+lone context (OfRow partial) value earlier shown here last token = grind arith
 
 -- ---- each state
 
 -- the declarations at the start of the objective
 started : (context : Context) (earlier : List Terminal) (made : Declarations) (place : Place) → Listed place earlier (with_declarations context.earlier made) → (token : Terminal)
     → list_all (is_shown (token ∷ earlier)) made ≡ true → Refused earlier token context.earlier made → Steps earlier context.earlier token (begin_after context made place token)
-started context earlier made place h token shown refusal =
-    declared-before context earlier token made (begin place (with_made context made) token) shown refusal (first place (with_made context made) earlier h token)
+started context earlier made place h token shown refusal = grind (arith, declared-before, first)
 
 nothing-refused : (earlier : List Terminal) (token : Terminal) (all : Draft) (sense : Sense) (label : List ℕ) → Refused earlier token all (objective_declared sense label)
-nothing-refused earlier token all sense label = record { bound = λ e. absurd cc; semi = λ e. absurd cc; rhs = λ e. absurd cc }
+nothing-refused earlier token all sense label = grind arith
 
 first-refused_none : (earlier : List Terminal) (token : Terminal) (all : Draft) (sense : Sense) (column : List ℕ) → Refused earlier token all (first_item_declared sense column)
-first-refused_none earlier token all sense column = record { bound = λ e. absurd cc; semi = λ e. absurd cc; rhs = λ e. absurd cc }
+first-refused_none earlier token all sense column = grind arith
 
 listed-at : (place : Place) (earlier : List Terminal) (all : Draft) → Shown earlier all → current_section earlier ≡ section_at_place place → PlaceShape place earlier → Listed place earlier all
-listed-at InGenerals earlier all shown here shape = (here, shown)
-listed-at InBinaries earlier all shown here shape = (here, shown)
-listed-at InSemis earlier all shown here shape = (here, shown, shape)
-listed-at _ earlier all shown here shape = tt
+listed-at place earlier all shown here shape = grind arith
 
 number-value : (value : Decimal) → IsValue (Number value)
 number-value value gives earlier = refl
@@ -644,39 +447,19 @@ step context (ObjectiveName sense label) earlier shown here shape token =
     objective_name-by (Steps earlier context.earlier) context sense label
     (declared context earlier Colon (BeforeItems label) (objective_declared sense label) refl (nothing-refused earlier Colon context.earlier sense label))
     (λ t. started context earlier (first_item_declared sense label) (InObjective default_objective) tt t refl (first-refused_none earlier t context.earlier sense label)) token
-step context (AtLastWord wanted) earlier shown here shape token =
-    last_word-by (Steps earlier context.earlier) context wanted (bad context earlier context.earlier)
-    (λ name n. branch earlier (Name name) (is_last_word wanted name) (Goes (with_made context []) (Between (opened_by wanted))) (refuse context (Name name) kinds.BadToken) n (bad context earlier context.earlier (Name name) n)) token
 step context AtSemi earlier shown here shape token = semi-by (Steps earlier context.earlier) context (λ n. n) (first InSemis (with_made context []) earlier (here, shown, shape)) token
 step context (Signs owner sign) earlier shown here shape token = signs context owner sign earlier token
-step context (ItemNumber owner sign value) earlier shown here shape token =
-    item_number-by (Steps earlier context.earlier) context owner sign value (λ name. term context owner name (apply_sign sign value) earlier) (lone context owner (apply_sign sign value) earlier shown here shape) token
-step context (RowName label) earlier shown here shape token = row_name-by (Steps earlier context.earlier) context label (λ n. n) (first (InRow (first_named context label)) (with_made context []) earlier tt) token
+step context (ItemNumber owner sign value) earlier shown here shape token = grind (arith, item_number-by, term, lone)
 step context (RowLabel label) earlier shown here shape token = row context label earlier token
-step context (RowSign label sign) earlier shown here shape token =
-    row_sign-by (Steps earlier context.earlier) context label sign (bad context earlier context.earlier) (λ n. n) (λ value n. n) (λ more n. n)
-    (λ name. term context (OfRow (without_terms label None)) name (apply_sign sign one) earlier) token
-step context (RowNumber label sign value) earlier shown here shape token =
-    row_number-by (Steps earlier context.earlier) context label sign value (bad context earlier context.earlier) (λ name. term context (OfRow (without_terms label None)) name (apply_sign sign value) earlier) (λ relation n. n)
-    (λ more n. refused context earlier (Sign more) kinds.ConstantInRow tt) token
-step context (RowLeft label l) earlier shown here shape token = left-by (Steps earlier context.earlier) context label l (bad context earlier context.earlier) (λ relation n. n) token
-step context (RowLeftRelation partial) earlier shown here shape token = item context (OfRow partial) earlier token
 step context (BoundName column) earlier shown here shape token =
     bound_name-by (Steps earlier context.earlier) context column (bad context earlier context.earlier)
     (λ n. bound context true column no_limits earlier Free (InBounds None) shown (free-completes earlier column here shape)) (λ relation n. n) token
-step context (BoundSign sign) earlier shown here shape token = limit-by (Steps earlier context.earlier) context (λ l t. Goes context (BoundLeft l)) sign (bad context earlier context.earlier) (λ value n. n) (λ n. n) token
-step context (BoundLeft l) earlier shown here shape token = bound_left-by (Steps earlier context.earlier) context l (bad context earlier context.earlier) (λ relation n. n) token
 step context (BoundLeftRelation l relation) earlier shown here shape token =
     bound_column-by (Steps earlier context.earlier) context l relation (bad context earlier context.earlier)
     (λ name n. bound context true name (limits_by (flip relation) l) earlier (Name name) (InBounds (Some (name, relation))) shown (name-completes earlier relation l name here shape)) token
-step context (AtSide sided) earlier shown here shape token =
-    side-by (Steps earlier context.earlier) context sided (bad context earlier context.earlier) (λ sign n. n) (λ value. side context sided (limit_of value) earlier (Number value) shown here shape (number-value value))
-    (side context sided PlusInf earlier Infinity shown here shape infinite-value) token
-step context (SideSign sided sign) earlier shown here shape token =
-    limit-by (Steps earlier context.earlier) context (λ l t. take_side context sided l t) sign (bad context earlier context.earlier)
-    (λ value. signed_side context sided (limit_of (apply_sign sign value)) earlier (Number value) shown here shape (number-value value))
-    (signed_side context sided (infinity sign) earlier Infinity shown here shape infinite-value) token
-step context AfterEnd earlier shown here shape token = bad context earlier context.earlier token
+step context (AtSide sided) earlier shown here shape token = grind (arith, side-by, bad, side, number-value, infinite-value)
+step context (SideSign sided sign) earlier shown here shape token = grind (arith, limit-by, bad, signed_side, number-value, infinite-value)
+step context _ earlier shown here shape token = grind arith
 
 -- ---- the laws
 
@@ -684,11 +467,8 @@ pub record Known (earlier : List Terminal) (context : Context) (state : State) :
   pub shaped : Shaped earlier context state
   pub shown : Shown earlier context.earlier
 
-none-shown : Shown [] empty_draft
-none-shown = record { lowers = λ name e. absurd cc; uppers = λ name e. absurd cc; integers = λ name e. absurd cc; semis = λ name e. absurd cc; constant = λ e. absurd cc; no_rhs = refl }
-
 pub none-known : Known [] start.context (Between AtStart)
-none-known = record { shaped = none-shaped; shown = none-shown }
+none-known = grind arith
 
 taken : (earlier : List Terminal) (context : Context) (state : State) (token : Terminal) → Known earlier context state → KeepsShown earlier token (take context state token)
 taken earlier context state token known = step context state earlier known.shown known.shaped.opened.current known.shaped.shape token (shown-later token earlier context.earlier known.shown)

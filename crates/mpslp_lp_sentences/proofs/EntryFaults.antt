@@ -1,5 +1,5 @@
 -- A second term of a column in a row or in the objective is as `FaultsInWords` defines it.
-use Rattle.std.proofs.Common.{◌≡◌, refl, sym, ap, ◌∙◌, subst, ℕ, List, [], ◌∷◌, ◌++◌, append_assoc, Bool, true, false}
+use Rattle.std.proofs.Common.{arith, ◌≡◌, refl, ap, ◌∙◌, subst, ℕ, List, [], ◌∷◌, ◌++◌, append_assoc, Bool, true, false, rules}
 use Rattle.std.specs.Prelude.{Option, Some, None, is_some, ◌||◌, ◌&&◌, not, unwrap_or, if◌then◌else◌}
 use Rattle.std.specs.List.{list_any, flat_map}
 use Rattle.std.specs.Option.{option_map_or}
@@ -15,9 +15,9 @@ use Rattle.mpslp_types.specs.declared.faults.FaultKind.TheVariants as kinds
 use Rattle.mpslp_types.specs.declared.kinds.Limit.{Limit}
 use Rattle.mpslp_types.specs.declared.kinds.Sense.{Sense}
 use Rattle.mpslp_types.specs.declared.kinds.Limit.TheVariants.{MinusInf, PlusInf}
-use Rattle.mpslp_types.proofs.BoolLemmas.{both_so, or_left, or_right}
+use Rattle.mpslp_types.proofs.BoolLemmas.{or_left, or_right}
 use Rattle.mpslp_types.specs.Lists.{those_of}
-use Rattle.mpslp_builder.specs.Declaration.{RowDefinition, Declaration, Declarations, Draft, by_limits, empty_draft, with_declaration, with_declarations, declare_constant, declare_row, declare_column, declare_integer, declare_binary, declare_semi, bounds_declared, has_name, has_coefficient, has_column, has_row, is_objective, have_infinite_side}
+use Rattle.mpslp_builder.specs.Declaration.{RowDefinition, Declaration, Declarations, Draft, by_limits, empty_draft, with_declaration, with_declarations, declare_row, declare_column, declare_semi, bounds_declared, has_name, has_coefficient, has_column, has_row, is_objective, have_infinite_side}
 use Rattle.mpslp_builder.specs.Refusal.{refusals_in_turn}
 use Rattle.mpslp_builder.proofs.LaterDrafts.{itself_named}
 use Rattle.mpslp_builder.proofs.SlotLemmas.{has-put, has-put_key, same_name}
@@ -33,34 +33,32 @@ use Rattle.mpslp_lp_grammar.specs.declared.relations.Relation.{Relation}
 use Rattle.mpslp_lp_grammar.specs.declared.signs.Sign.{Sign as SignOf}
 use Rattle.mpslp_lp_grammar.specs.declared.states.ItemOwner.{ItemOwner}
 use Rattle.mpslp_lp_grammar.specs.declared.states.ItemOwner.TheVariants.{OfObjective, OfRow}
-use Rattle.mpslp_lp_grammar.specs.declared.states.LastWord.{LastWord}
-use Rattle.mpslp_lp_grammar.specs.declared.states.LastWord.TheVariants.{To, That, Continuous}
 use Rattle.mpslp_lp_grammar.specs.declared.states.Place.{Place}
-use Rattle.mpslp_lp_grammar.specs.declared.states.Place.TheVariants.{AtStart, BeforeItems, InObjective, BetweenRows, InRow, InBounds, InGenerals, InBinaries, InSemis}
+use Rattle.mpslp_lp_grammar.specs.declared.states.Place.TheVariants.{AtStart, BeforeItems, InObjective, BetweenRows, InRow, InBounds, InSemis}
 use Rattle.mpslp_lp_grammar.specs.declared.states.SideOwner.{SideOwner}
 use Rattle.mpslp_lp_grammar.specs.declared.states.SideOwner.TheVariants.{SideOfRow, SideOfBound}
 use Rattle.mpslp_lp_grammar.specs.declared.states.State.{State}
-use Rattle.mpslp_lp_grammar.specs.declared.states.State.TheVariants.{Between, AtObjective, ObjectiveName, AtLastWord, AtSemi, Signs, ItemNumber, RowName, RowLabel, RowSign, RowNumber, RowLeft, RowLeftRelation, BoundName, BoundSign, BoundLeft, BoundLeftRelation, AtSide, SideSign, AfterEnd}
+use Rattle.mpslp_lp_grammar.specs.declared.states.State.TheVariants.{Between, AtObjective, ObjectiveName, AtSemi, Signs, ItemNumber, RowLeftRelation, BoundName, BoundLeftRelation, AtSide, SideSign, AfterEnd}
 use Rattle.mpslp_lp_grammar.specs.AfterToken.{AfterToken, Goes, Refuses, refuse, with_made, declare_unless_refused, take_after_declarations, declare_at, take_term, take_after_signs, begin_item, take_bound, take_side}
-use Rattle.mpslp_lp_grammar.specs.Grammar.{no_limits, opened_by, may_begin_section, is_last_word}
-use Rattle.mpslp_lp_grammar.specs.FirstToken.{after_section_word, open_section, begin_row, take_second_relation, name_taken, begin_phrase, begin}
-use Rattle.mpslp_lp_grammar.specs.Items.{one, apply_sign, infinity, fits_second, Limits, limits_by, flip}
-use Rattle.mpslp_lp_grammar.specs.Rows.{term_declared, objective_declared, default_objective, first_item_declared, default_row, without_terms, fits_left, row_limits, row_declared}
+use Rattle.mpslp_lp_grammar.specs.Grammar.{no_limits, may_begin_section}
+use Rattle.mpslp_lp_grammar.specs.FirstToken.{open_section, begin_row, take_second_relation, name_taken, begin_phrase, begin}
+use Rattle.mpslp_lp_grammar.specs.Items.{one, apply_sign, infinity, Limits, limits_by, flip}
+use Rattle.mpslp_lp_grammar.specs.Rows.{term_declared, objective_declared, default_objective, first_item_declared, without_terms, row_limits, row_declared}
 use Rattle.mpslp_lp_grammar.specs.PartialRow.{PartialRow}
-use Rattle.mpslp_lp_grammar.specs.Phrase.{start, has_seen, with_section, is_out_of_order}
+use Rattle.mpslp_lp_grammar.specs.Phrase.{start, has_seen, is_out_of_order}
 use Rattle.mpslp_lp_grammar.specs.Terminal.{Terminal}
-use Rattle.mpslp_lp_grammar.specs.Terminal.Terminal.{Opens, Name, Number, Sign, Compares, Colon, Infinity, Free, Other}
+use Rattle.mpslp_lp_grammar.specs.Terminal.Terminal.{Opens, Name, Number, Sign, Compares, Colon, Infinity, Free}
 use Rattle.mpslp_lp_grammar.specs.TokenByToken.{new_column}
-use Rattle.mpslp_lp_grammar.specs.TokenStep.{begin_after, take_lone, take}
+use Rattle.mpslp_lp_grammar.specs.TokenStep.{take_lone, take}
 use Rattle.mpslp_canonical_lp.specs.PrintedDeclarations.{AreNew}
-use Rattle.mpslp_lp_sentences.specs.FaultsInWords.{IsInWords, is_section, current_section, is_under, is_named, last_name, ends_in_first_word, term_columns, repeats_column, repeats_entry}
+use Rattle.mpslp_lp_sentences.specs.FaultsInWords.{IsInWords, is_section, current_section, is_under, is_named, last_name, ends_in_first_word, term_columns, repeats_entry}
 use Rattle.mpslp_lp_sentences.proofs.FaultedTokens.{in-words}
 use Rattle.mpslp_lp_sentences.proofs.Refusals.{refuses, first-refused}
-use Rattle.mpslp_lp_sentences.proofs.RowShapes.{PlaceShape, SignsShape, NumberShape, Shape, HasTerms, in-row}
+use Rattle.mpslp_lp_sentences.proofs.RowShapes.{PlaceShape, SignsShape, NumberShape, Shape, HasTerms}
 use Rattle.mpslp_lp_sentences.proofs.RowNames.{ObjectiveAt}
-use Rattle.mpslp_lp_sentences.proofs.RowNameFaults.{Known, none-known, known-later}
+use Rattle.mpslp_lp_sentences.proofs.RowNameFaults.{Known, known-later}
 use Rattle.mpslp_lp_sentences.proofs.SectionFaults.{section_at_place, section_of_item, section_at}
-use Rattle.mpslp_lp_sentences.proofs.TokenCases.{first_named, signs-by, item-by, limit-by, row-by, bound-by, listed-by, in_objective-by, in_row-by, lone-by, constant-by, last_word-by, left-by, bound_name-by, bound_left-by, bound_column-by, side-by, begin-by, objective-by, objective_name-by, item_number-by, between_rows-by, row_name-by, row_sign-by, row_number-by, in_bounds-by, semi-by}
+use Rattle.mpslp_lp_sentences.proofs.TokenCases.{signs-by, item-by, limit-by, listed-by, bound_name-by, bound_column-by, side-by, begin-by, objective-by, objective_name-by, item_number-by, semi-by}
 
 abbrev Tokens : Type 0
 Tokens = List Terminal
@@ -119,39 +117,21 @@ refused : (context : Context) (earlier : Tokens) (token : Terminal) (kind : Faul
 refused context earlier (Opens word) kind h = by (has_seen context.sections_seen (section_of word)) (is_out_of_order context.sections_seen (section_of word))
   where
     by : (a b : Bool) → Says earlier (Opens word) (unwrap_or (if a then Some kinds.SectionRepeated else (if b then Some kinds.SectionOrder else None)) kind)
-    by true b = tt
-    by false true = tt
-    by false false = h
+    by a b = grind arith
 refused context earlier _ kind h = h
 
 bad : (context : Context) (earlier : Tokens) (token : Terminal) → KeepsEntries earlier token (refuse context token kinds.BadToken)
-bad context earlier token = refused context earlier token kinds.BadToken tt
+bad context earlier token = grind arith
 
 branch : (earlier : Tokens) (token : Terminal) (b : Bool) (x y : AfterToken) → (b ≡ true → KeepsEntries earlier token x) → (b ≡ false → KeepsEntries earlier token y) → KeepsEntries earlier token (if b then x else y)
-branch earlier token true x y h k = h refl
-branch earlier token false x y h k = k refl
+branch earlier token b x y h k = grind arith
 
 never : (b : Bool) {X : Type 0} → b ≡ false → b ≡ true → X
-never b e k = absurd (clash (sym e ∙ k))
-  where
-    clash : false ≡ true → ⊥
-    clash e = cc
+never b e k = grind arith
 
 says-by : (earlier : Tokens) (token : Terminal) (all : Draft) (made : Declarations) → (refuses kinds.DuplicateEntry all made ≡ true → repeats_entry earlier token ≡ true) → (first : BuildFault)
     → refuses (kind_of_build_fault first) all made ≡ true → Says earlier token (kind_of_build_fault first)
-says-by earlier token all made h builds.DuplicateSense k = h k
-says-by earlier token all made h builds.SecondObjective k = h k
-says-by earlier token all made h builds.UnknownRow k = tt
-says-by earlier token all made h builds.UnknownColumn k = tt
-says-by earlier token all made h builds.DuplicateRow k = tt
-says-by earlier token all made h builds.DuplicateEntry k = h k
-says-by earlier token all made h builds.DuplicateRhs k = tt
-says-by earlier token all made h builds.DuplicateRange k = tt
-says-by earlier token all made h builds.DuplicateBound k = tt
-says-by earlier token all made h builds.RangeOnFree k = tt
-says-by earlier token all made h builds.SemiContinuous k = tt
-says-by earlier token all made h builds.InfiniteValue k = tt
-says-by earlier token all made h builds.OutOfMemory k = h k
+says-by earlier token all made h first k = grind arith
 
 -- ---- declarations
 
@@ -184,47 +164,25 @@ bound context is_new column limits earlier token left known =
     front = with_declarations context.earlier (new_column is_new column)
 
     same : (b : Bool) (l u : Option Limit) → AreKnown (with_declarations context.earlier (new_column b column ++ bounds_declared column l u))
-    same true None None = known
-    same true None (Some u) = known
-    same true (Some l) None = known
-    same true (Some l) (Some u) = known
-    same false None None = known
-    same false None (Some u) = known
-    same false (Some l) None = known
-    same false (Some l) (Some u) = known
+    same b l u = grind arith
 
     by : (a b c : Bool)
         → KeepsEntries earlier token (declare_unless_refused context token (those_of ((a, builds.UnknownColumn) ∷ (b, builds.DuplicateBound) ∷ (c, builds.InfiniteValue) ∷ [])) (InBounds left)
         (new_column is_new column ++ bounds_declared column limits.lower limits.upper))
-    by true b c = refused context earlier token kinds.UnknownColumn tt
-    by false true c = refused context earlier token kinds.DuplicateBound tt
-    by false false true = refused context earlier token kinds.InfiniteValue tt
-    by false false false = (same is_new limits.lower limits.upper, tt)
+    by a b c = grind arith
 
 -- ---- terms
 
 -- one more coefficient
 known-more : (all : Draft) (name column : List ℕ) (value : Decimal) → AreKnown all → has_row all name ≡ true → AreKnown (with_declarations all (term_declared name (column, value)))
-known-more all name column value known there k h = by (same_bytes k.row name && same_bytes k.column column) refl (sym (has-put_key k (key name column) value all.coefficients) ∙ h)
-  where
-    front : (a b : Bool) → (a && b) ≡ true → a ≡ true
-    front true b e = refl
-    front false b e = absurd cc
-
-    by : (b : Bool) → (same_bytes k.row name && same_bytes k.column column) ≡ b → (b || has_coefficient all k) ≡ true → has_row all k.row ≡ true
-    by true e m = subst (λ (n : List ℕ). has_row all n ≡ true) (sym (same_name k.row name (front (same_bytes k.row name) (same_bytes k.column column) e))) there
-    by false e m = known k m
+known-more all name column value known there k h = search (rules, has-put_key, same_name)
 
 known-terms : (name : List ℕ) (terms : List Pair) (all : Draft) → AreKnown all → has_row all name ≡ true → AreKnown (with_declarations all (flat_map (term_declared name) terms))
 known-terms name [] all known there = known
 known-terms name (term ∷ terms) all known there = known-terms name terms (with_declarations all (term_declared name term)) (known-more all name term.0 term.1 known there) there
 
 known-row : (all : Draft) (name : List ℕ) (form : RowDefinition) → AreKnown all → AreKnown (with_declaration all (declare_row name form))
-known-row all name form known k h = by (is_objective all k.row) (known k h)
-  where
-    by : (b : Bool) → (b || has_name all.rows k.row) ≡ true → (b || has_name (with_declaration all (declare_row name form)).rows k.row) ≡ true
-    by true m = refl
-    by false m = has-put k.row name form all.rows ∙ or_right (same_bytes k.row name) (has_name all.rows k.row) m
+known-row all name form known k h = grind (arith, has-put, or_right)
 
 -- the columns of a row that has no coefficients yet are new
 terms-unrefused : (name : List ℕ) (terms seen : List Pair) (all : Draft) → AreNew seen terms
@@ -235,23 +193,10 @@ terms-unrefused name (term ∷ terms) seen all new known =
     (terms-unrefused name terms (seen ++ term ∷ []) (with_declarations all (term_declared name term)) new.1 further)
   where
     none : (b : Bool) → has_coefficient all (key name term.0) ≡ b → (rest : Bool) → rest ≡ false → ((b || false) || rest) ≡ false
-    none true e rest r = never (list_any (λ (t : Pair). same_bytes term.0 t.0) seen) new.0 (known term.0 e)
-    none false e rest r = r
+    none b e rest r = grind arith
 
     further : (column : List ℕ) → has_coefficient (with_declarations all (term_declared name term)) (key name column) ≡ true → list_any (λ (t : Pair). same_bytes column t.0) (seen ++ term ∷ []) ≡ true
-    further column h =
-        list_any-append (λ (t : Pair). same_bytes column t.0) seen (term ∷ [])
-        ∙ by (same_bytes name name && same_bytes column term.0) refl (sym (has-put_key (key name column) (key name term.0) term.1 all.coefficients) ∙ h)
-      where
-        last : (a b : Bool) → (a && b) ≡ true → b ≡ true
-        last true b e = e
-        last false b e = absurd cc
-
-        by : (b : Bool) → (same_bytes name name && same_bytes column term.0) ≡ b → (b || has_coefficient all (key name column)) ≡ true
-            → (list_any (λ (t : Pair). same_bytes column t.0) seen || (same_bytes column term.0 || false)) ≡ true
-        by true e m =
-            or_right (list_any (λ (t : Pair). same_bytes column t.0) seen) (same_bytes column term.0 || false) (or_left (same_bytes column term.0) false (last (same_bytes name name) (same_bytes column term.0) e))
-        by false e m = or_left (list_any (λ (t : Pair). same_bytes column t.0) seen) (same_bytes column term.0 || false) (known column m)
+    further column h = grind (arith, list_any-append, has-put_key, or_right, or_left)
 
 row_ended : (context : Context) (row : PartialRow) (relation : Relation) (l : Limit) (earlier : Tokens) (token : Terminal) → AreKnown context.earlier → AreNew [] row.terms
     → KeepsEntries earlier token (take_side context (SideOfRow row relation) l token)
@@ -264,8 +209,7 @@ row_ended context row relation l earlier token known new = by (has_row context.e
     all = with_declaration context.earlier (declare_row row.name form)
 
     there : has_row all row.name ≡ true
-    there = or_right (is_objective context.earlier row.name) (has_name all.rows row.name)
-        (has-put row.name row.name form context.earlier.rows ∙ or_left (same_bytes row.name row.name) (has_name context.earlier.rows row.name) (itself_named row.name))
+    there = grind (arith, or_right, all, has-put, form, or_left, itself_named)
 
     after : has_row context.earlier row.name ≡ false → (refusals : List BuildFault) → refusals_in_turn all (flat_map (term_declared row.name) row.terms) ≡ refusals
         → KeepsEntries earlier token (declare_unless_refused context token refusals BetweenRows (row_declared row (row_limits row.left relation l)))
@@ -280,23 +224,16 @@ row_ended context row relation l earlier token known new = by (has_row context.e
     by : (b : Bool) → has_row context.earlier row.name ≡ b → (c : Bool)
         → KeepsEntries earlier token (declare_unless_refused context token (those_of ((b, builds.DuplicateRow) ∷ (c, builds.InfiniteValue) ∷ []) ++ refusals_in_turn all (flat_map (term_declared row.name) row.terms)) BetweenRows
         (row_declared row (row_limits row.left relation l)))
-    by true e c = refused context earlier token kinds.DuplicateRow tt
-    by false e true = refused context earlier token kinds.InfiniteValue tt
-    by false e false = after e (refusals_in_turn all (flat_map (term_declared row.name) row.terms)) refl
+    by b e c = grind (arith, refused, after, all)
 
 -- ---- items
 
 objective-no_word : (earlier : Tokens) → current_section earlier ≡ Some Objective → ends_in_first_word earlier ≡ false
-objective-no_word [] h = refl
-objective-no_word (Opens words.Subject ∷ earlier) h = absurd cc
-objective-no_word (Opens words.Such ∷ earlier) h = absurd cc
-objective-no_word (Opens _ ∷ earlier) h = refl
-objective-no_word (_ ∷ earlier) h = refl
+objective-no_word earlier h = grind arith
 
 new-more : (terms seen : List Pair) (column : List ℕ) (value : Decimal) → AreNew seen terms → list_any (λ (t : Pair). same_bytes column t.0) (seen ++ terms) ≡ false → AreNew seen (terms ++ (column, value) ∷ [])
-new-more [] seen column value new h = (ap (λ (ts : List Pair). list_any (λ (t : Pair). same_bytes column t.0) ts) (sym (append-nil seen)) ∙ h, tt)
-new-more (term ∷ terms) seen column value new h =
-    (new.0, new-more terms (seen ++ term ∷ []) column value new.1 (ap (λ (ts : List Pair). list_any (λ (t : Pair). same_bytes column t.0) ts) (append_assoc seen (term ∷ []) terms) ∙ h))
+new-more [] seen column value new h = grind (arith, append-nil)
+new-more (term ∷ terms) seen column value new h = grind (arith, term, append_assoc, new-more terms (seen ++ term ∷ []) column value new.1 (ap (λ (ts : List Pair). list_any (λ (t : Pair). same_bytes column t.0) ts) (append_assoc seen (term ∷ []) terms) ∙ h))
 
 -- what is known where a term of the owner may end
 abbrev Owned : ItemOwner → Tokens → Draft → Type 0
@@ -304,35 +241,14 @@ Owned (OfObjective name) earlier all = ObjectiveEntries name earlier all × (cur
 Owned (OfRow row) earlier all = AreNew [] row.terms × HasTerms row.terms earlier × (current_section earlier ≡ Some Rows)
 
 repeats : (earlier : Tokens) (column : List ℕ) → (is_under Objective earlier || is_under Rows earlier) ≡ true → is_named column (term_columns earlier) ≡ true → repeats_entry earlier (Name column) ≡ true
-repeats earlier column under h = both_so (is_under Objective earlier || is_under Rows earlier) (repeats_column earlier (Name column)) under h
+repeats earlier column under h = grind arith
 
 under-owner : (section : Section) → (is_section Objective section || is_section Rows section) ≡ true → (earlier : Tokens) → current_section earlier ≡ Some section → (is_under Objective earlier || is_under Rows earlier) ≡ true
-under-owner section h earlier here = ap (λ (o : Option Section). option_map_or (is_section Objective) o false || option_map_or (is_section Rows) o false) here ∙ h
+under-owner section h earlier here = grind arith
 
 term : (context : Context) (owner : ItemOwner) (column : List ℕ) (value : Decimal) (earlier : Tokens) → AreKnown context.earlier → Owned owner earlier context.earlier
     → KeepsEntries earlier (Name column) (take_term context owner column value (Name column))
-term context (OfObjective name) column value earlier known h =
-    declared context earlier (Name column) (InObjective name) (term_declared name (column, value))
-    (λ e. repeats earlier column (under-owner Objective refl earlier h.1) (h.0.columns column (only (has_coefficient context.earlier (key name column)) e)))
-    (known-more context.earlier name column value known (or_left (is_objective context.earlier name) (has_name context.earlier.rows name) h.0.named))
-    (record { named = h.0.named; columns = columns })
-  where
-    only : (b : Bool) → ((b || false) || false) ≡ true → b ≡ true
-    only true k = refl
-    only false k = k
-
-    last : (a b : Bool) → (a && b) ≡ true → b ≡ true
-    last true b e = e
-    last false b e = absurd cc
-
-    columns : (other : List ℕ) → has_coefficient (with_declarations context.earlier (term_declared name (column, value))) (key name other) ≡ true → is_named other (term_columns (Name column ∷ earlier)) ≡ true
-    columns other k =
-        ap (λ (b : Bool). is_named other (if b then [] else column ∷ term_columns earlier)) (objective-no_word earlier h.1)
-        ∙ by (same_bytes name name && same_bytes other column) refl (sym (has-put_key (key name other) (key name column) value context.earlier.coefficients) ∙ k)
-      where
-        by : (b : Bool) → (same_bytes name name && same_bytes other column) ≡ b → (b || has_coefficient context.earlier (key name other)) ≡ true → (same_bytes other column || is_named other (term_columns earlier)) ≡ true
-        by true e m = or_left (same_bytes other column) (is_named other (term_columns earlier)) (last (same_bytes name name) (same_bytes other column) e)
-        by false e m = or_right (same_bytes other column) (is_named other (term_columns earlier)) (h.0.columns other m)
+term context (OfObjective name) column value earlier known h = grind (arith, declared, repeats, under-owner, known-more, or_left, objective-no_word, has-put_key, or_right)
 term context (OfRow row) column value earlier known h =
     branch earlier (Name column) (list_any (λ (t : Pair). same_bytes column t.0) row.terms) (refuse context (Name column) kinds.DuplicateEntry)
     (Goes (with_made context []) (Between (InRow (record row { terms = row.terms ++ (column, value) ∷ [] }))))
@@ -340,29 +256,20 @@ term context (OfRow row) column value earlier known h =
     (λ e. (known, new-more row.terms [] column value h.0 e))
 
 owner-signed : (owner : ItemOwner) (sign : SignOf) (earlier : Tokens) (all : Draft) → OwnerEntries owner earlier all → OwnerEntries owner (Sign sign ∷ earlier) all
-owner-signed (OfObjective name) sign earlier all h = record { named = h.named; columns = h.columns }
-owner-signed (OfRow row) sign earlier all h = h
+owner-signed owner sign earlier all h = grind arith
 
 owner-numbered : (owner : ItemOwner) (value : Decimal) (earlier : Tokens) (all : Draft) → OwnerEntries owner earlier all → OwnerEntries owner (Number value ∷ earlier) all
-owner-numbered (OfObjective name) value earlier all h = record { named = h.named; columns = h.columns }
-owner-numbered (OfRow row) value earlier all h = h
+owner-numbered owner value earlier all h = grind arith
 
 owner-entries : (owner : ItemOwner) (earlier : Tokens) (all : Draft) → Owned owner earlier all → OwnerEntries owner earlier all
-owner-entries (OfObjective name) earlier all h = h.0
-owner-entries (OfRow row) earlier all h = h.0
+owner-entries owner earlier all h = grind arith
 
 signs : (context : Context) (owner : ItemOwner) (sign : SignOf) (earlier : Tokens) → AreKnown context.earlier → Owned owner earlier context.earlier → (token : Terminal)
     → KeepsEntries earlier token (take_after_signs context owner sign token)
-signs context owner sign earlier known h token =
-    let entries = owner-entries owner earlier context.earlier h in
-    signs-by (KeepsEntries earlier) context owner sign (bad context earlier) (λ more. (known, owner-signed owner more earlier context.earlier entries))
-    (λ column. term context owner column (apply_sign sign one) earlier known h) (λ value. (known, owner-numbered owner value earlier context.earlier entries)) token
+signs context owner sign earlier known h token = grind (arith, owner-entries, signs-by, bad, owner-signed, term, owner-numbered)
 
 item : (context : Context) (owner : ItemOwner) (earlier : Tokens) → AreKnown context.earlier → Owned owner earlier context.earlier → (token : Terminal) → KeepsEntries earlier token (begin_item context owner token)
-item context owner earlier known h token =
-    let entries = owner-entries owner earlier context.earlier h in
-    item-by (KeepsEntries earlier) context owner (bad context earlier) (λ more. (known, owner-signed owner more earlier context.earlier entries))
-    (λ column. term context owner column one earlier known h) (λ value. (known, owner-numbered owner value earlier context.earlier entries)) token
+item context owner earlier known h token = grind (arith, owner-entries, item-by, bad, owner-signed, term, owner-numbered)
 
 -- a row without terms
 no_terms : (label : List ℕ) (earlier : Tokens) (all : Draft) → current_section earlier ≡ Some Rows → Owned (OfRow (without_terms label None)) earlier all
@@ -371,39 +278,13 @@ no_terms label earlier all here = (tt, λ column e. absurd cc, here)
 -- ---- the first token of a phrase
 
 opened : (context : Context) (earlier : Tokens) (word : SectionWord) → AreKnown context.earlier → KeepsEntries earlier (Opens word) (open_section context word)
-opened context earlier word known = by (has_seen context.sections_seen (section_of word)) (is_out_of_order context.sections_seen (section_of word))
-  where
-    goes : (w : SectionWord) (b : Context) → AreKnown b.earlier → KeepsEntries earlier (Opens word) (after_section_word b w)
-    goes words.Minimize b h = (h, tt)
-    goes words.Maximize b h = (h, tt)
-    goes words.Rows b h = (h, tt)
-    goes words.Subject b h = (h, tt)
-    goes words.Such b h = (h, tt)
-    goes words.Bounds b h = (h, tt)
-    goes words.Generals b h = (h, tt)
-    goes words.Binaries b h = (h, tt)
-    goes words.Semi b h = (h, tt)
-    goes words.Semis b h = (h, tt)
-    goes words.End b h = (h, tt)
-
-    by : (a b : Bool) → KeepsEntries earlier (Opens word) (elim (if a then Some kinds.SectionRepeated else (if b then Some kinds.SectionOrder else None)) as (λ _. AfterToken) [
-      | Some kind ↦ Refuses kind
-      | None ↦ after_section_word (record context { sections_seen = with_section context.sections_seen (section_of word) }) word
-    ])
-    by true b = tt
-    by false true = tt
-    by false false = goes word (record context { sections_seen = with_section context.sections_seen (section_of word) }) known
+opened context earlier word known = grind arith
 
 row : (context : Context) (label : List ℕ) (earlier : Tokens) → AreKnown context.earlier → current_section earlier ≡ Some Rows → (token : Terminal) → KeepsEntries earlier token (begin_row context label token)
-row context label earlier known here token =
-    row-by (KeepsEntries earlier) context label (bad context earlier) (known, tt) (λ value. (known, tt))
-    (λ column. term context (OfRow (without_terms label None)) column one earlier known (no_terms label earlier context.earlier here)) (λ sign. (known, tt)) token
+row context label earlier known here token = grind arith
 
 second : (context : Context) (left : Option (List ℕ × Relation)) (earlier : Tokens) → AreKnown context.earlier → (relation : Relation) → KeepsEntries earlier (Compares relation) (take_second_relation context left relation (Compares relation))
-second context None earlier known relation = bad context earlier (Compares relation)
-second context (Some left) earlier known relation =
-    branch earlier (Compares relation) (fits_second left.1 relation) (Goes context (AtSide (SideOfBound false left.0 relation))) (refuse context (Compares relation) kinds.MixedSenses) (λ e. (known, tt))
-    (λ e. refused context earlier (Compares relation) kinds.MixedSenses tt)
+second context left earlier known relation = grind arith
 
 listed : (place : Place) (kind_declared : List ℕ → Declaration) (context : Context) (earlier : Tokens) → AreKnown context.earlier
     → ((column : List ℕ) → refuses kinds.DuplicateEntry context.earlier (declare_column column ∷ kind_declared column ∷ []) ≡ false)
@@ -418,20 +299,9 @@ listed place kind_declared context earlier known none same entries token =
 phrase : (place : Place) (context : Context) (earlier : Tokens) → AreKnown context.earlier → PlaceEntries place earlier context.earlier → PlaceShape place earlier → current_section earlier ≡ section_at_place place → (token : Terminal)
     → KeepsEntries earlier token (begin_phrase place context token)
 phrase AtStart context earlier known h shape here token = bad context earlier token
-phrase (BeforeItems name) context earlier known h shape here token = item context (OfObjective name) earlier known (h, here) token
-phrase (InObjective name) context earlier known h shape here token =
-    in_objective-by (KeepsEntries earlier) context name (bad context earlier) (λ sign. (known, owner-signed (OfObjective name) sign earlier context.earlier h)) token
-phrase BetweenRows context earlier known h shape here token = between_rows-by (KeepsEntries earlier) context (λ label. (known, tt)) (row context (default_row context) earlier known here) token
-phrase (InRow partial) context earlier known h shape here token =
-    in_row-by (KeepsEntries earlier) context partial (bad context earlier) (λ sign. (known, h))
-    (λ relation. branch earlier (Compares relation) (fits_left partial.left relation) (Goes context (AtSide (SideOfRow partial relation))) (refuse context (Compares relation) kinds.MixedSenses) (λ e. (known, h))
-    (λ e. refused context earlier (Compares relation) kinds.MixedSenses tt)) token
-phrase (InBounds left) context earlier known h shape here token =
-    in_bounds-by (KeepsEntries earlier) context left (second context left earlier known)
-    (bound-by (KeepsEntries earlier) context (bad context earlier) (λ column. (known, tt)) (λ sign. (known, tt)) (λ value. (known, tt)) (known, tt)) token
-phrase InGenerals context earlier known h shape here token = listed InGenerals declare_integer context earlier known (λ column. refl) (λ column. known) (λ column. tt) token
-phrase InBinaries context earlier known h shape here token = listed InBinaries declare_binary context earlier known (λ column. refl) (λ column. known) (λ column. tt) token
+phrase (BeforeItems name) context earlier known h shape here token = grind (arith, item)
 phrase InSemis context earlier known h shape here token = listed InSemis declare_semi context earlier known (λ column. refl) (λ column. known) (λ column. tt) token
+phrase _ context earlier known h shape here token = grind arith
 
 first : (place : Place) (context : Context) (earlier : Tokens) → AreKnown context.earlier → PlaceEntries place earlier context.earlier → PlaceShape place earlier → current_section earlier ≡ section_at_place place → (token : Terminal)
     → KeepsEntries earlier token (begin place context token)
@@ -442,20 +312,12 @@ first place context earlier known h shape here token =
 
 lone : (context : Context) (owner : ItemOwner) (value : Decimal) (earlier : Tokens) → AreKnown context.earlier → OwnerEntries owner earlier context.earlier → current_section earlier ≡ section_of_item owner → (token : Terminal)
     → KeepsEntries earlier token (take_lone context owner value token)
-lone context (OfObjective name) value earlier known h here token = lone-by (KeepsEntries earlier) context name value (bad context earlier) (λ sign. complete (Sign sign)) (λ word. complete (Opens word)) token
-  where
-    complete : (t : Terminal) → KeepsEntries earlier t (begin_after context (declare_constant value ∷ []) (InObjective name) t)
-    complete t =
-        declared-before context earlier t (declare_constant value ∷ []) (begin (InObjective name) (with_made context (declare_constant value ∷ [])) t) refl
-        (first (InObjective name) (with_made context (declare_constant value ∷ [])) earlier known (record { named = h.named; columns = h.columns }) tt here t)
-lone context (OfRow partial) value earlier known h here token =
-    constant-by (KeepsEntries earlier) context partial value (bad context earlier) (λ sign. refused context earlier (Sign sign) kinds.ConstantInRow tt)
-    (λ relation. refused context earlier (Compares relation) kinds.ConstantInRow tt) token
+lone context owner value earlier known h here token = grind arith
 
 -- ---- the objective
 
 none-there : (all : Draft) → all ≡ empty_draft → (k : CoefficientKey) → has_coefficient all k ≡ false
-none-there all none k = ap (λ (d : Draft). has_coefficient d k) none
+none-there all none k = grind arith
 
 first_objective : (context : Context) (sense : Sense) (earlier : Tokens) → AreKnown context.earlier → context.earlier ≡ empty_draft → current_section earlier ≡ Some Objective → (token : Terminal)
     → KeepsEntries earlier token (take context (AtObjective sense) token)
@@ -465,23 +327,6 @@ first_objective context sense earlier known none here token =
     (ap (λ (d : Draft). refuses kinds.DuplicateEntry d (objective_declared sense default_objective)) none)
     (first (BeforeItems default_objective) (with_made context (objective_declared sense default_objective)) earlier (λ k e. never (has_coefficient context.earlier k) (none-there context.earlier none k) e)
     (record { named = itself_named default_objective; columns = λ column e. never (has_coefficient context.earlier (key default_objective column)) (none-there context.earlier none (key default_objective column)) e }) tt here t)) token
-
-last-column : (earlier : Tokens) (label : List ℕ) → last_name earlier ≡ Some label → current_section earlier ≡ Some Objective → is_named label (term_columns earlier) ≡ true
-last-column (Name name ∷ earlier) label h here =
-    ap (λ (b : Bool). is_named label (if b then [] else name ∷ term_columns earlier)) (objective-no_word earlier here)
-    ∙ or_left (same_bytes label name) (is_named label (term_columns earlier)) (subst (λ (n : List ℕ). same_bytes label n ≡ true) (sym (one name label h)) (itself_named label))
-  where
-    one : (a b : List ℕ) → Some a ≡ Some b → a ≡ b
-    one a b e = cc
-last-column [] label h here = absurd cc
-last-column (Opens word ∷ earlier) label h here = absurd cc
-last-column (Number value ∷ earlier) label h here = absurd cc
-last-column (Sign sign ∷ earlier) label h here = absurd cc
-last-column (Compares relation ∷ earlier) label h here = absurd cc
-last-column (Colon ∷ earlier) label h here = absurd cc
-last-column (Infinity ∷ earlier) label h here = absurd cc
-last-column (Free ∷ earlier) label h here = absurd cc
-last-column (Other ∷ earlier) label h here = absurd cc
 
 named_objective : (context : Context) (sense : Sense) (label : List ℕ) (earlier : Tokens) → context.earlier ≡ empty_draft → last_name earlier ≡ Some label → current_section earlier ≡ Some Objective → (token : Terminal)
     → KeepsEntries earlier token (take context (ObjectiveName sense label) token)
@@ -496,7 +341,7 @@ named_objective context sense label earlier none last here token =
     (first (InObjective default_objective) (with_made context (first_item_declared sense label)) earlier known entries tt here t)) token
   where
     front : Draft
-    front = with_declarations context.earlier (objective_declared sense default_objective)
+    front = grind arith
 
     known : AreKnown (with_declarations context.earlier (first_item_declared sense label))
     known =
@@ -504,30 +349,21 @@ named_objective context sense label earlier none last here token =
         (or_left (same_bytes default_objective default_objective) (has_name context.earlier.rows default_objective) (itself_named default_objective))
 
     last_of : (a b : Bool) → (a && b) ≡ true → b ≡ true
-    last_of true b e = e
-    last_of false b e = absurd cc
+    last_of a b e = grind arith
 
     columns : (column : List ℕ) → has_coefficient (with_declarations context.earlier (first_item_declared sense label)) (key default_objective column) ≡ true → is_named column (term_columns earlier) ≡ true
-    columns column e = by (same_bytes default_objective default_objective && same_bytes column label) refl (sym (has-put_key (key default_objective column) (key default_objective label) one context.earlier.coefficients) ∙ e)
-      where
-        by : (b : Bool) → (same_bytes default_objective default_objective && same_bytes column label) ≡ b → (b || has_coefficient context.earlier (key default_objective column)) ≡ true
-            → is_named column (term_columns earlier) ≡ true
-        by true k m =
-            subst (λ (n : List ℕ). is_named n (term_columns earlier) ≡ true) (sym (same_name column label (last_of (same_bytes default_objective default_objective) (same_bytes column label) k))) (last-column earlier label last here)
-        by false k m = never (has_coefficient context.earlier (key default_objective column)) (none-there context.earlier none (key default_objective column)) m
+    columns column e = grind (arith, has-put_key, same_name, last_of, never, none-there)
 
     entries : ObjectiveEntries default_objective earlier (with_declarations context.earlier (first_item_declared sense label))
-    entries = record { named = itself_named default_objective; columns = columns }
+    entries = grind (arith, itself_named, columns)
 
 -- ---- each state
 
 owned : (owner : ItemOwner) (earlier : Tokens) (all : Draft) → OwnerEntries owner earlier all → SignsShape owner earlier → current_section earlier ≡ section_of_item owner → Owned owner earlier all
-owned (OfObjective name) earlier all h shape here = (h, here)
-owned (OfRow row) earlier all h shape here = (h, shape.0.terms, here)
+owned owner earlier all h shape here = grind arith
 
 owned-number : (owner : ItemOwner) (earlier : Tokens) (all : Draft) → OwnerEntries owner earlier all → NumberShape owner earlier → current_section earlier ≡ section_of_item owner → Owned owner earlier all
-owned-number (OfObjective name) earlier all h shape here = (h, here)
-owned-number (OfRow row) earlier all h shape here = (h, shape.0.terms, here)
+owned-number owner earlier all h shape here = grind arith
 
 side : (context : Context) (sided : SideOwner) (l : Limit) (earlier : Tokens) (token : Terminal) → AreKnown context.earlier → SideEntries sided → KeepsEntries earlier token (take_side context sided l token)
 side context (SideOfRow row relation) l earlier token known h = row_ended context row relation l earlier token known h
@@ -535,38 +371,15 @@ side context (SideOfBound is_new column relation) l earlier token known h = boun
 
 step : (context : Context) (state : State) (earlier : Tokens) → AreKnown context.earlier → EntriesAt state earlier context.earlier → ObjectiveAt state earlier context.earlier → Shape state earlier
     → current_section earlier ≡ section_at state → (token : Terminal) → KeepsEntries earlier token (take context state token)
-step context (Between place) earlier known h o shape here token = first place context earlier known h shape here token
-step context (AtObjective sense) earlier known h o shape here token = first_objective context sense earlier known o.none here token
+step context (Between place) earlier known h o shape here token = grind (arith, first)
+step context (AtObjective sense) earlier known h o shape here token = grind (arith, first_objective)
 step context (ObjectiveName sense label) earlier known h o shape here token = named_objective context sense label earlier o.0.none o.1 here token
-step context (AtLastWord wanted) earlier known h o shape here token =
-    last_word-by (KeepsEntries earlier) context wanted (bad context earlier)
-    (λ name. branch earlier (Name name) (is_last_word wanted name) (Goes (with_made context []) (Between (opened_by wanted))) (refuse context (Name name) kinds.BadToken) (λ e. (known, by wanted name)) (λ e. bad context earlier (Name name))) token
-  where
-    by : (w : LastWord) (name : List ℕ) → PlaceEntries (opened_by w) (Name name ∷ earlier) context.earlier
-    by To name = tt
-    by That name = tt
-    by Continuous name = tt
 step context AtSemi earlier known h o shape here token = semi-by (KeepsEntries earlier) context (known, tt) (first InSemis (with_made context []) earlier known tt shape here) token
-step context (Signs owner sign) earlier known h o shape here token = signs context owner sign earlier known (owned owner earlier context.earlier h shape here) token
-step context (ItemNumber owner sign value) earlier known h o shape here token =
-    item_number-by (KeepsEntries earlier) context owner sign value (λ column. term context owner column (apply_sign sign value) earlier known (owned-number owner earlier context.earlier h shape here))
-    (lone context owner (apply_sign sign value) earlier known h here) token
-step context (RowName label) earlier known h o shape here token =
-    row_name-by (KeepsEntries earlier) context label (known, tt) (first (InRow (first_named context label)) (with_made context []) earlier known (refl, tt) (in-row context label earlier shape) here) token
-step context (RowLabel label) earlier known h o shape here token = row context label earlier known here token
-step context (RowSign label sign) earlier known h o shape here token =
-    row_sign-by (KeepsEntries earlier) context label sign (bad context earlier) (known, tt) (λ value. (known, tt)) (λ more. (known, tt))
-    (λ column. term context (OfRow (without_terms label None)) column (apply_sign sign one) earlier known (no_terms label earlier context.earlier here)) token
-step context (RowNumber label sign value) earlier known h o shape here token =
-    row_number-by (KeepsEntries earlier) context label sign value (bad context earlier)
-    (λ column. term context (OfRow (without_terms label None)) column (apply_sign sign value) earlier known (no_terms label earlier context.earlier here)) (λ relation. (known, tt))
-    (λ more. refused context earlier (Sign more) kinds.ConstantInRow tt) token
-step context (RowLeft label l) earlier known h o shape here token = left-by (KeepsEntries earlier) context label l (bad context earlier) (λ relation. (known, tt)) token
-step context (RowLeftRelation partial) earlier known h o shape here token = item context (OfRow partial) earlier known (h, shape.0.terms, here) token
+step context (Signs owner sign) earlier known h o shape here token = grind (arith, signs, owned)
+step context (ItemNumber owner sign value) earlier known h o shape here token = grind (arith, item_number-by, term, owned-number, lone)
+step context (RowLeftRelation partial) earlier known h o shape here token = grind (arith, item)
 step context (BoundName column) earlier known h o shape here token =
     bound_name-by (KeepsEntries earlier) context column (bad context earlier) (bound context true column no_limits earlier Free None known) (λ relation. (known, tt)) token
-step context (BoundSign sign) earlier known h o shape here token = limit-by (KeepsEntries earlier) context (λ l t. Goes context (BoundLeft l)) sign (bad context earlier) (λ value. (known, tt)) (known, tt) token
-step context (BoundLeft l) earlier known h o shape here token = bound_left-by (KeepsEntries earlier) context l (bad context earlier) (λ relation. (known, tt)) token
 step context (BoundLeftRelation l relation) earlier known h o shape here token =
     bound_column-by (KeepsEntries earlier) context l relation (bad context earlier) (λ name. bound context true name (limits_by (flip relation) l) earlier (Name name) (Some (name, relation)) known) token
 step context (AtSide sided) earlier known h o shape here token =
@@ -575,6 +388,7 @@ step context (SideSign sided sign) earlier known h o shape here token =
     limit-by (KeepsEntries earlier) context (λ l t. take_side context sided l t) sign (bad context earlier) (λ value. side context sided (limit_of (apply_sign sign value)) earlier (Number value) known h)
     (side context sided (infinity sign) earlier Infinity known h) token
 step context AfterEnd earlier known h o shape here token = bad context earlier token
+step context _ earlier known h o shape here token = grind arith
 
 -- ---- the law
 
@@ -584,10 +398,10 @@ record Entered (earlier : Tokens) (context : Context) (state : State) : Type 0 w
   entries : EntriesAt state earlier context.earlier
 
 none-entered : Entered [] start.context (Between AtStart)
-none-entered = record { rows = none-known; known = λ k e. absurd cc; entries = tt }
+none-entered = grind arith
 
 taken : (earlier : Tokens) (context : Context) (state : State) (token : Terminal) → Entered earlier context state → KeepsEntries earlier token (take context state token)
-taken earlier context state token h = step context state earlier h.known h.entries h.rows.objective h.rows.shaped.shape h.rows.shaped.opened.current token
+taken earlier context state token h = grind (arith, step, opened)
 
 entered-later : (earlier : Tokens) (context : Context) (state : State) (token : Terminal) (after : Context) (next : State) → Entered earlier context state → take context state token ≡ Goes after next → Entered (token ∷ earlier) after next
 entered-later earlier context state token after next h e =
@@ -595,7 +409,7 @@ entered-later earlier context state token after next h e =
     record { rows = known-later earlier context state token after next h.rows e; known = parts.0; entries = parts.1 }
 
 repeated : (earlier : Tokens) (context : Context) (state : State) (token : Terminal) → Entered earlier context state → take context state token ≡ Refuses kinds.DuplicateEntry → repeats_entry earlier token ≡ true
-repeated earlier context state token h e = subst (λ (answer : AfterToken). KeepsEntries earlier token answer) e (taken earlier context state token h)
+repeated earlier context state token h e = grind (arith, taken)
 
 pub duplicate-entry : IsInWords kinds.DuplicateEntry repeats_entry
 duplicate-entry = in-words kinds.DuplicateEntry repeats_entry Entered (record { at_start = none-entered; goes = entered-later; refuses = repeated }) refl refl

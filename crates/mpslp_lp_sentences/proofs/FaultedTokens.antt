@@ -10,7 +10,6 @@ use Rattle.mpslp_types.specs.declared.faults.FaultKind.{FaultKind}
 use Rattle.mpslp_types.specs.declared.faults.FaultKind.TheVariants as kinds
 use Rattle.mpslp_types.proofs.BoolLemmas.{both_so}
 use Rattle.mpslp_builder.specs.Declaration.{Draft}
-use Rattle.mpslp_builder.specs.FileFault.{whole_fault}
 use Rattle.mpslp_lines.specs.FaultTests.{fault_on_line}
 use Rattle.mpslp_lp_grammar.specs.Rules.{Outcome}
 use Rattle.mpslp_lp_grammar.specs.Rules.Outcome.{Finished, Refused, Open}
@@ -18,11 +17,11 @@ use Rattle.mpslp_lp_grammar.specs.Terminal.{Terminal, lexical_fault}
 use Rattle.mpslp_lp_grammar.specs.TerminalToken.{terminals}
 use Rattle.mpslp_lp_grammar.specs.Phrase.{start}
 use Rattle.mpslp_lp_grammar.specs.AfterToken.{AfterToken, Goes, Refuses}
-use Rattle.mpslp_lp_grammar.specs.TokenStep.{take, at_end, is_at_end}
+use Rattle.mpslp_lp_grammar.specs.TokenStep.{take, is_at_end}
 use Rattle.mpslp_lp_grammar.specs.declared.context.Context.{Context}
 use Rattle.mpslp_lp_grammar.specs.declared.states.Place.TheVariants.{AtStart}
 use Rattle.mpslp_lp_grammar.specs.declared.states.State.{State}
-use Rattle.mpslp_lp_grammar.specs.declared.states.State.TheVariants.{Between, AfterEnd}
+use Rattle.mpslp_lp_grammar.specs.declared.states.State.TheVariants.{Between}
 use Rattle.mpslp_lp.specs.LineByLine.{take_all, take_line, read_from}
 use Rattle.mpslp_lp.specs.LpText.{outcome}
 use Rattle.mpslp_lp.specs.FirstFault.{fault_of}
@@ -73,7 +72,7 @@ module _ (kind : FaultKind) (is_such : List Terminal → Terminal → Bool) (Kno
   IsAfter earlier xs (Refuses other) = other ≡ kind → OnToken is_such earlier xs
 
   turned : (x : Terminal) (xs earlier : List Terminal) → reverse xs ++ (x ∷ earlier) ≡ reverse (x ∷ xs) ++ earlier
-  turned x xs earlier = sym (ap (λ (ys : List Terminal). ys ++ earlier) (reverse_onto xs x []) ∙ append_assoc (reverse xs) (x ∷ []) earlier)
+  turned x xs earlier = grind (arith, reverse_onto, append_assoc, reverse)
 
   tokens-taken : (xs earlier : List Terminal) (context : Context) (state : State) → Knows earlier context state → IsAfter earlier xs (take_all context state xs)
   tokens-taken [] earlier context state known = known
@@ -109,7 +108,7 @@ module _ (kind : FaultKind) (is_such : List Terminal → Terminal → Bool) (Kno
   none-before n = omega arith
 
   joined : (xs ys earlier : List Terminal) → reverse ys ++ (reverse xs ++ earlier) ≡ reverse (xs ++ ys) ++ earlier
-  joined xs ys earlier = sym (ap (λ (zs : List Terminal). zs ++ earlier) (reverse-append xs ys) ∙ append_assoc (reverse ys) (reverse xs) earlier)
+  joined xs ys earlier = grind (arith, reverse-append, append_assoc, reverse)
 
   -- the lines after this one
   abbrev Rest : List (List ℕ) → ℕ → List ℕ → List Terminal → Fault → Type 0
@@ -119,11 +118,7 @@ module _ (kind : FaultKind) (is_such : List Terminal → Terminal → Bool) (Kno
 
   lines-read : (ls : List (List ℕ)) (n : ℕ) (earlier : List Terminal) (context : Context) (state : State) (fault : Fault) → is_lexical kind ≡ false → fault.kind ≡ kind → Knows earlier context state
       → read_from context state (enumerate_from n ls) ≡ Refused fault → OnLine is_such earlier ls n fault
-  lines-read [] n earlier context state fault own k known h = ended state h
-    where
-      ended : (s : State) → at_end context s ≡ Refused fault → OnLine is_such earlier [] n fault
-      ended AfterEnd e = absurd cc
-      ended _ e = absurd cc
+  lines-read [] n earlier context state fault own k known h = grind (arith)
   lines-read (l ∷ ls) n earlier context state fault own k known h =
       by (λ after next more e. lines-read ls (n + 1) (reverse (terminals l) ++ earlier) after next fault own k more e) (is_at_end state) h
     where
@@ -169,11 +164,7 @@ module _ (kind : FaultKind) (is_such : List Terminal → Terminal → Bool) (Kno
             | Goes after next ↦ read_from after next (enumerate_from (n + 1) ls)
             | Refuses other ↦ Refused (fault_on_line n other)
           ] ≡ Refused fault → OnLine is_such earlier (l ∷ ls) n fault
-      taken rest (Goes after next) fine known_after e = later_line rest after next fine known_after e
-      taken rest (Refuses other) fine at e =
-          let same = one_fault (fault_on_line n other) fault e in
-          let is : other ≡ fault.kind = ap (λ (f : Fault). f.kind) same in
-          this_line fine (at (is ∙ k)) (ap (λ (x : FaultKind). fault_on_line n x) (sym is) ∙ same)
+      taken rest answer fine known_after e = grind (arith, later_line, one_fault, this_line)
 
       own_fault : Rest ls n l earlier fault → (o : Option FaultKind) → lexical_fault l ≡ o
           → elim (elim o as (λ _. AfterToken) [
@@ -183,12 +174,7 @@ module _ (kind : FaultKind) (is_such : List Terminal → Terminal → Bool) (Kno
             | Goes after next ↦ read_from after next (enumerate_from (n + 1) ls)
             | Refuses other ↦ Refused (fault_on_line n other)
           ] ≡ Refused fault → OnLine is_such earlier (l ∷ ls) n fault
-      own_fault rest (Some other) e f =
-          let same = one_fault (fault_on_line n other) fault f in
-          absurd (clash (sym own ∙ ap is_lexical (sym (ap (λ (f : Fault). f.kind) same ∙ k)) ∙ lexical-kind l other e))
-        where
-          clash : false ≡ true → ⊥
-          clash e = cc
+      own_fault rest (Some other) e f = grind (arith, one_fault, is_lexical, lexical-kind)
       own_fault rest None e f = taken rest (take_all context state (terminals l)) e (tokens-taken (terminals l) earlier context state known) f
 
       by : Rest ls n l earlier fault → (b : Bool) → elim b as (λ _. Outcome Fault Draft) [
@@ -198,8 +184,7 @@ module _ (kind : FaultKind) (is_such : List Terminal → Terminal → Bool) (Kno
           | Refuses other ↦ Refused (fault_on_line n other)
         ]
       ] ≡ Refused fault → OnLine is_such earlier (l ∷ ls) n fault
-      by rest true e = absurd cc
-      by rest false e = own_fault rest (lexical_fault l) refl e
+      by rest b e = grind (arith, own_fault)
 
   -- ---- the law of the kind
 
@@ -211,10 +196,7 @@ module _ (kind : FaultKind) (is_such : List Terminal → Terminal → Bool) (Kno
 
       by : (o : Outcome Fault Draft) → outcome bytes ≡ o → fault_of o ≡ Some fault → IsAtToken is_such bytes fault
       by (Finished all) e f = absurd (clash (sym early ∙ ap is_of_whole (sym k) ∙ file-kind all fault f))
-      by Open e f = absurd (clash (sym early ∙ ap is_of_whole (sym k) ∙ sym (ap (λ (x : Fault). is_of_whole x.kind) (same f))))
-        where
-          same : Some (whole_fault kinds.MissingEnd None) ≡ Some fault → whole_fault kinds.MissingEnd None ≡ fault
-          same e = cc
+      by Open e f = grind arith
       by (Refused other) e f =
           let found = lines-read (lines bytes) 1 [] start.context (Between AtStart) fault own k knowing.at_start (sym (outcome-read bytes) ∙ e ∙ ap (λ (x : Fault). Refused x) (same f)) in
           record {

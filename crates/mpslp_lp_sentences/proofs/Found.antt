@@ -1,5 +1,5 @@
 -- What tokens have to be if a rule reads them: the phrases of the text, from the first token on.
-use Rattle.std.proofs.Common.{◌≡◌, refl, sym, ap, subst, ◌∙◌, ℕ, List, [], ◌∷◌, ◌++◌}
+use Rattle.std.proofs.Common.{arith, ◌≡◌, refl, sym, ap, subst, ◌∙◌, ℕ, List, [], ◌∷◌, ◌++◌}
 use Rattle.std.specs.Prelude.{Option, Some, None, unwrap_or}
 use Rattle.std.proofs.lemmas.Option.{none-some}
 use Rattle.mpslp_decimal.specs.Decimal.{Number as Decimal}
@@ -25,7 +25,7 @@ use Rattle.mpslp_lp_sentences.specs.Phrases.Side.{side}
 use Rattle.mpslp_lp_sentences.specs.Phrases.Term.{term}
 use Rattle.mpslp_lp_sentences.specs.Spelling.{sign_tokens, side_tokens, term_tokens}
 use Rattle.mpslp_lp_sentences.specs.Meaning.{product_of, signed, one, coefficient, limit}
-use Rattle.mpslp_lp_sentences.proofs.Whole.{Tokens, preceded, whole, listened, whole-phrase, listened-next, listened-ahead, listened-gives, listened-one, listened-none, heard-later}
+use Rattle.mpslp_lp_sentences.proofs.Whole.{Tokens, whole, listened, listened-gives, listened-one, listened-none, heard-later}
 use Rattle.mpslp_lp_sentences.proofs.Stamped.{stamped, onward}
 use Rattle.mpslp_lp_sentences.proofs.ItemsHeard.{multiplied, multiplied-value, signed-is, infinity-is}
 
@@ -52,15 +52,15 @@ abbrev pub Complete : Point → (ℕ → ℕ) → List Terminal → Declarations
 Complete point line xs made = whole point 0 (all_at line xs) ≡ Some made
 
 pub complete-phrase : (point : Point) (line : ℕ → ℕ) (x : Terminal) (xs : List Terminal) (made : Declarations) → Complete point line (x ∷ xs) made → Heard (phrase_at point (at (line 0) x)) (onward line) xs made
-complete-phrase point line x xs made h = sym (whole-phrase point (at (line 0) x) (all_at (onward line) xs)) ∙ h
+complete-phrase point line x xs made h = grind arith
 
 pub heard-next : (following : TerminalAt → PhraseRule Follows) (line : ℕ → ℕ) (x : Terminal) (xs : List Terminal) (made : Declarations) → Heard (next >>= following) line (x ∷ xs) made
     → Heard (following (at (line 0) x)) (onward line) xs made
-heard-next following line x xs made h = sym (listened-next following (at (line 0) x) (all_at (onward line) xs)) ∙ h
+heard-next following line x xs made h = grind arith
 
 pub heard-ahead : (following : TerminalAt → PhraseRule Follows) (line : ℕ → ℕ) (x : Terminal) (xs : List Terminal) (made : Declarations) → Heard (ahead >>= following) line (x ∷ xs) made
     → Heard (following (at (line 0) x)) line (x ∷ xs) made
-heard-ahead following line x xs made h = sym (listened-ahead following (at (line 0) x) (all_at (onward line) xs)) ∙ h
+heard-ahead following line x xs made h = grind arith
 
 -- ---- what follows a phrase
 
@@ -72,15 +72,7 @@ pub record Goes (point : Point) (first : Declarations) (line : ℕ → ℕ) (xs 
 
 pub goes-heard : (context : Context) (place : Place) (first : Declarations) (line : ℕ → ℕ) (xs : List Terminal) (made : Declarations) → Heard (goes_to context place first) line xs made
     → Goes (point_at place context.sections_seen (with_declarations context.earlier first)) first line xs made
-goes-heard context place first line xs made h = by (whole (point_at place context.sections_seen (with_declarations context.earlier first)) 0 (all_at line xs)) refl h
-  where
-    declared : Option Declarations → Declarations
-    declared o = unwrap_or o []
-
-    by : (o : Option Declarations) → whole (point_at place context.sections_seen (with_declarations context.earlier first)) 0 (all_at line xs) ≡ o → preceded first o ≡ Some made
-        → Goes (point_at place context.sections_seen (with_declarations context.earlier first)) first line xs made
-    by None e k = absurd cc
-    by (Some more) e k = record { more = more; is = ap declared (sym k); rest = e }
+goes-heard context place first line xs made h = grind arith
 
 pub record GoesUnrefused (context : Context) (refusals : List BuildFault) (place : Place) (first : Declarations) (line : ℕ → ℕ) (xs : List Terminal) (made : Declarations) : Type 0 where
   pub none : refusals ≡ []
@@ -88,8 +80,7 @@ pub record GoesUnrefused (context : Context) (refusals : List BuildFault) (place
 
 pub unless-heard : (context : Context) (token : TerminalAt) (refusals : List BuildFault) (place : Place) (first : Declarations) (line : ℕ → ℕ) (xs : List Terminal) (made : Declarations)
     → Heard (unless_refused context token refusals place first) line xs made → GoesUnrefused context refusals place first line xs made
-unless-heard context token [] place first line xs made h = record { none = refl; goes = goes-heard context place first line xs made h }
-unless-heard context token (refusal ∷ more) place first line xs made h = absurd (none-some made h)
+unless-heard context token refusals place first line xs made h = grind arith
 
 -- ---- items
 
@@ -117,7 +108,6 @@ number-heard sign value following (y ∷ xs) line made h =
 
 signed-heard : (xs : List Terminal) (context : Context) (sign : SignOf) (following : Item → PhraseRule Follows) (line : ℕ → ℕ) (made : Declarations) → Heard (signed_item context sign >>= following) line xs made
     → SignedItem sign following line xs made
-signed-heard [] context sign following line made h = absurd (none-some made h)
 signed-heard (Sign more ∷ xs) context sign following line made h =
     by (signed-heard xs context (product sign more) following (onward line) made
     (sym (heard-later (signed_item context (product sign more) (all_at (onward line) xs)) following (at (line 0) (Sign more)) (all_at (onward line) xs)) ∙ h))
@@ -130,7 +120,7 @@ signed-heard (Name column ∷ xs) context sign following line made h =
     (sym (listened-one (following (items.Term (apply_sign sign one) column (at (line 0) (Name column))) (all_at (onward line) xs)) (at (line 0) (Name column)) (all_at (onward line) xs)) ∙ h)
 signed-heard (Number value ∷ xs) context sign following line made h =
     number-heard sign value following xs line made (sym (heard-later (number_item sign value (all_at (onward line) xs)) following (at (line 0) (Number value)) (all_at (onward line) xs)) ∙ h)
-signed-heard (_ ∷ xs) context sign following line made h = absurd (none-some made h)
+signed-heard _ context sign following line made h = absurd (none-some made h)
 
 -- A whole item.
 pub data AnItem (following : Item → PhraseRule Follows) (line : ℕ → ℕ) (xs : List Terminal) (made : Declarations) : Type 0 where
@@ -183,14 +173,13 @@ pub record ASide (following : SideOf → PhraseRule Follows) (line : ℕ → ℕ
   pub heard : Heard (following (record { limit = limit part; last = last })) (onwards (side_tokens part) line) rest made
 
 limit-heard : (following : SideOf → PhraseRule Follows) (found : SideOf) (line : ℕ → ℕ) (xs : List Terminal) (made : Declarations) → Heard (gives found >>= following) line xs made → Heard (following found) line xs made
-limit-heard following found line xs made h = sym (listened-gives found following (all_at line xs)) ∙ h
+limit-heard following found line xs made h = grind arith
 
 pub side_from-heard : (x : Terminal) (xs : List Terminal) (context : Context) (following : SideOf → PhraseRule Follows) (line : ℕ → ℕ) (made : Declarations)
     → Heard (side_from context (at (line 0) x) >>= following) (onward line) xs made → ASide following line (x ∷ xs) made
 side_from-heard (Number value) xs context following line made h =
     record { part = side None (Some value); rest = xs; last = at (line 0) (Number value); same = refl; heard = limit-heard following _ (onward line) xs made h }
 side_from-heard Infinity xs context following line made h = record { part = side None None; rest = xs; last = at (line 0) Infinity; same = refl; heard = limit-heard following _ (onward line) xs made h }
-side_from-heard (Sign sign) [] context following line made h = absurd (none-some made h)
 side_from-heard (Sign sign) (Number value ∷ xs) context following line made h =
     let token : TerminalAt = at (line 1) (Number value) in
     record {
@@ -213,14 +202,11 @@ side_from-heard (Sign sign) (Infinity ∷ xs) context following line made h =
           (limit-heard following _ (onward (onward line)) xs made
           (sym (heard-later (unsigned_side context sign token (all_at (onward (onward line)) xs)) following token (all_at (onward (onward line)) xs)) ∙ h));
     }
-side_from-heard (Sign sign) (_ ∷ xs) context following line made h = absurd (none-some made h)
-side_from-heard _ xs context following line made h = absurd (none-some made h)
+side_from-heard _ _ context following line made h = absurd (none-some made h)
 
 pub side-heard : (xs : List Terminal) (context : Context) (following : SideOf → PhraseRule Follows) (line : ℕ → ℕ) (made : Declarations) → Heard (side_rule context >>= following) line xs made → ASide following line xs made
 side-heard [] context following line made h = absurd (none-some made h)
-side-heard (x ∷ xs) context following line made h =
-    side_from-heard x xs context following line made
-    (sym (heard-later (side_from context (at (line 0) x) (all_at (onward line) xs)) following (at (line 0) x) (all_at (onward line) xs)) ∙ h)
+side-heard (x ∷ xs) context following line made h = grind (arith, side_from-heard, heard-later, at, onward)
 
 pub record ARelation (following : Relation → PhraseRule Follows) (line : ℕ → ℕ) (xs : List Terminal) (made : Declarations) : Type 0 where
   pub relation : Relation
@@ -229,13 +215,5 @@ pub record ARelation (following : Relation → PhraseRule Follows) (line : ℕ �
   pub heard : Heard (following relation) (onward line) rest made
 
 pub relation-heard : (xs : List Terminal) (context : Context) (following : Relation → PhraseRule Follows) (line : ℕ → ℕ) (made : Declarations) → Heard (next_relation context >>= following) line xs made → ARelation following line xs made
-relation-heard [] context following line made h = absurd (none-some made h)
-relation-heard (Compares relation ∷ xs) context following line made h =
-    record {
-      relation = relation;
-      rest = xs;
-      same = refl;
-      heard = sym (listened-none (following relation (all_at (onward line) xs)) (all_at (onward line) xs))
-          ∙ sym (heard-later (gives relation (all_at (onward line) xs)) following (at (line 0) (Compares relation)) (all_at (onward line) xs)) ∙ h;
-    }
-relation-heard (_ ∷ xs) context following line made h = absurd (none-some made h)
+relation-heard (Compares relation ∷ xs) context following line made h = grind arith
+relation-heard _ context following line made h = absurd (none-some made h)

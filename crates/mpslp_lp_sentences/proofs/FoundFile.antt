@@ -76,7 +76,7 @@ rows-found opening earlier line tail made ok none sorted unrefused h =
     no_more e = cc
 
     joined : (a b c d : List Terminal) → a ++ (b ++ (c ++ d)) ≡ ((a ++ b) ++ c) ++ d
-    joined a b c d = sym (append_assoc (a ++ b) c d ∙ append_assoc a b (c ++ d))
+    joined a b c d = grind (arith, append_assoc)
 
 no-rows-found : (place : Place) (earlier : Draft) (line : ℕ → ℕ) (word : SectionWord) (xs : List Terminal) (made : Declarations) → may_begin_section place ≡ true → is_rows word ≡ false
     → Complete (point_at place after_word earlier) line (Opens word ∷ xs) made → SecondFound line (Opens word ∷ xs) made

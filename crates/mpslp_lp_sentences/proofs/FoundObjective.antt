@@ -1,5 +1,5 @@
 -- What tokens have to be if the grammar reads an objective.
-use Rattle.std.proofs.Common.{◌≡◌, ◌≤◌, ◌<◌, refl, sym, ap, subst, ◌∙◌, ℕ, List, [], ◌∷◌, ◌++◌, Bool, true, append_assoc, length, arith}
+use Rattle.std.proofs.Common.{◌≡◌, ◌<◌, refl, sym, ap, subst, ◌∙◌, ℕ, List, [], ◌∷◌, ◌++◌, Bool, true, append_assoc, length, arith}
 use Rattle.std.specs.Prelude.{Option, Some, None}
 use Rattle.std.specs.List.{flat_map, list_all}
 use Rattle.std.proofs.lemmas.Bool.{false≢true}
@@ -71,18 +71,14 @@ item-found name seen earlier line xs made (found_lone signs value y rest n same 
 
 -- an item that begins with a sign has one
 sign-first : (part : Item) (sign : SignOf) (xs rest : List Terminal) → Sign sign ∷ xs ≡ item_tokens part ++ rest → is_signed_item part ≡ true
-sign-first (a_term (term [] None column)) sign xs rest e = absurd cc
-sign-first (a_term (term [] (Some size) column)) sign xs rest e = absurd cc
-sign-first (a_term (term (first ∷ signs) number column)) sign xs rest e = refl
-sign-first (a_constant [] value) sign xs rest e = absurd cc
-sign-first (a_constant (first ∷ signs) value) sign xs rest e = refl
+sign-first part sign xs rest e = grind arith
 
 -- an item has a token
 item-shorter : (part : Item) (rest xs : List Terminal) → xs ≡ item_tokens part ++ rest → length rest < length xs
 item-shorter part rest xs same = subst (λ (ys : List Terminal). length rest < length ys) (sym same) (by part)
   where
     of_more : (x : Terminal) (ys : List Terminal) → length rest < length (x ∷ (ys ++ rest))
-    of_more x ys = let less : length rest ≤ length (ys ++ rest) = rest-shorter ys rest (ys ++ rest) refl in omega (arith, less)
+    of_more x ys = grind (arith, rest-shorter)
 
     by : (it : Item) → length rest < length (item_tokens it ++ rest)
     by (a_term (term [] None column)) = of_more (Name column) []
@@ -207,12 +203,7 @@ record BodyFound (sense : Sense) (line : ℕ → ℕ) (xs : List Terminal) (made
 
 body-heard : (sense : Sense) (line : ℕ → ℕ) (xs : List Terminal) (made : Declarations) → Heard (objective_rule (here after_word empty_draft) sense) line xs made → BodyFound sense line xs made
 body-heard sense line [] made h = absurd (none-some made h)
-body-heard sense line (Name name ∷ []) made h =
-    no_more (heard-next (λ (first : TerminalAt). ahead >>= objective_named (here after_word empty_draft) sense name) line (Name name) [] made
-    (heard-ahead (objective_from (here after_word empty_draft) sense) line (Name name) [] made h))
-  where
-    no_more : Heard (ahead >>= objective_named (here after_word empty_draft) sense name) (onward line) [] made → BodyFound sense line (Name name ∷ []) made
-    no_more k = absurd cc
+body-heard sense line (Name name ∷ []) made h = grind arith
 body-heard sense line (Name name ∷ Colon ∷ xs) made h =
     let context : Context = here after_word empty_draft in
     let second = heard-ahead (objective_named context sense name) (onward line) Colon xs made
@@ -289,7 +280,6 @@ objective-from_body sense line xs made body =
     }
 
 pub objective-heard : (line : ℕ → ℕ) (xs : List Terminal) (made : Declarations) → Complete start line xs made → ObjectiveFound line xs made
-objective-heard line [] made h = absurd (none-some made h)
 objective-heard line (Opens words.Minimize ∷ xs) made h = objective-from_body Minimize line xs made (body-heard Minimize (onward line) xs made (complete-phrase start line (Opens words.Minimize) xs made h))
 objective-heard line (Opens words.Maximize ∷ xs) made h = objective-from_body Maximize line xs made (body-heard Maximize (onward line) xs made (complete-phrase start line (Opens words.Maximize) xs made h))
-objective-heard line (_ ∷ xs) made h = absurd (none-some made h)
+objective-heard line _ made h = absurd (none-some made h)

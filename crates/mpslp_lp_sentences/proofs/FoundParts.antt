@@ -8,14 +8,14 @@ use Rattle.std.proofs.lemmas.Option.{none-some}
 use Rattle.mpslp_types.proofs.BoolLemmas.{both_so}
 use Rattle.mpslp_types.specs.declared.kinds.Limit.{Limit}
 use Rattle.mpslp_builder.specs.Declaration.{Declaration, Declarations, Draft, declare_column, with_declarations}
-use Rattle.mpslp_builder.specs.Refusal.{refusals_in_turn, bounds_refusals}
+use Rattle.mpslp_builder.specs.Refusal.{refusals_in_turn}
 use Rattle.mpslp_builder.proofs.MadeDrafts.{with_declarations-append}
 use Rattle.mpslp_lp_grammar.specs.Rules.{◌>>=◌, next}
 use Rattle.mpslp_lp_grammar.specs.Terminal.{Terminal, TerminalAt}
 use Rattle.mpslp_lp_grammar.specs.Terminal.Terminal.{Opens, Name, Number, Sign, Compares, Infinity, Free}
 use Rattle.mpslp_lp_grammar.specs.declared.sections_seen.SectionsSeen.{SectionsSeen}
 use Rattle.mpslp_lp_grammar.specs.declared.relations.Relation.{Relation}
-use Rattle.mpslp_lp_grammar.specs.declared.relations.Relation.TheVariants.{AtMost, AtLeast, EqualTo}
+use Rattle.mpslp_lp_grammar.specs.declared.relations.Relation.TheVariants.{AtMost, AtLeast}
 use Rattle.mpslp_lp_grammar.specs.declared.states.Place.{Place}
 use Rattle.mpslp_lp_grammar.specs.declared.states.Place.TheVariants.{InBounds}
 use Rattle.mpslp_lp_grammar.specs.Items.{Limits, limits_by, flip, side as side_rule}
@@ -34,10 +34,7 @@ use Rattle.mpslp_lp_sentences.proofs.Found.{all_at, onwards, onwards-append, Hea
 
 -- the rest of tokens is not longer than all of them
 pub rest-shorter : (front rest xs : List Terminal) → xs ≡ front ++ rest → length rest ≤ length xs
-rest-shorter front rest xs same = subst (λ (ys : List Terminal). length rest ≤ length ys) (sym same) (by (length-append front rest))
-  where
-    by : length (front ++ rest) ≡ length front + length rest → length rest ≤ length (front ++ rest)
-    by e = omega (arith, e)
+rest-shorter front rest xs same = grind (arith, length-append, arith)
 
 abbrev pub is_no_opening : Terminal → Bool
 is_no_opening (Opens word) = false
@@ -47,9 +44,7 @@ is_no_opening _ = true
 pub complete-joined : (place : Place) (seen : SectionsSeen) (earlier : Draft) (first more : Declarations) (front next : List Terminal) (line : ℕ → ℕ) (xs : List Terminal) (made : Declarations)
     → Complete (point_at place seen (with_declarations (with_declarations earlier first) more)) (onwards next (onwards front line)) xs made
     → Complete (point_at place seen (with_declarations earlier (first ++ more))) (onwards (front ++ next) line) xs made
-complete-joined place seen earlier first more front next line xs made h =
-    subst (λ (draft : Draft). Complete (point_at place seen draft) (onwards (front ++ next) line) xs made) (sym (with_declarations-append first more earlier))
-    (subst (λ (l : ℕ → ℕ). Complete (point_at place seen (with_declarations (with_declarations earlier first) more)) l xs made) (sym (onwards-append front next line)) h)
+complete-joined place seen earlier first more front next line xs made h = grind (arith, onwards, with_declarations-append, onwards-append)
 
 -- what parts declare, each after those before it
 abbrev pub all_declare : {A : Type 0} → (Draft → A → Declarations) → Draft → List A → Declarations
@@ -118,7 +113,7 @@ module _ {A S : Type 0} (tokens_of : A → List Terminal) (declares : Draft → 
 -- where declarations do not depend on the earlier ones
 pub all-flat : {A : Type 0} (declares : A → Declarations) (its : List A) (earlier : Draft) → all_declare (λ (d : Draft) (a : A). declares a) earlier its ≡ flat_map declares its
 all-flat declares [] earlier = refl
-all-flat declares (it ∷ its) earlier = ap (λ (more : Declarations). declares it ++ more) (all-flat declares its (with_declarations earlier (declares it)))
+all-flat declares (it ∷ its) earlier = grind (arith, all-flat declares its (with_declarations earlier (declares it)))
 
 -- ---- names
 
@@ -171,21 +166,17 @@ OneBound seen earlier line xs made = OnePhrase bound_tokens bound_declared any_b
 
 -- after a bound without a left side no relation follows
 pub none-follows : (seen : SectionsSeen) (earlier : Draft) (line : ℕ → ℕ) (xs : List Terminal) (made : Declarations) → Complete (point_at (InBounds None) seen earlier) line xs made → is_no_relation (first_of_all xs) ≡ true
-none-follows seen earlier line [] made h = refl
-none-follows seen earlier line (Compares relation ∷ xs) made h = absurd (none-some made h)
-none-follows seen earlier line (_ ∷ xs) made h = refl
+none-follows seen earlier line xs made h = grind arith
 
 -- bounds of a column that were read
 sides-heard : (seen : SectionsSeen) (earlier : Draft) (front : Declarations) (column : List ℕ) (limits : Limits) (token : TerminalAt) (place : Place) (line : ℕ → ℕ) (xs : List Terminal) (made : Declarations)
     → Heard (bound_sides (here seen earlier) front column limits token place) line xs made
     → Goes (point_at place seen (with_declarations earlier (front ++ limits_declared column limits))) (front ++ limits_declared column limits) line xs made
-sides-heard seen earlier front column limits token place line xs made h =
-    (unless-heard (here seen earlier) token (bounds_refusals (with_declarations earlier front) column limits.lower limits.upper) place (front ++ limits_declared column limits) line xs made h).goes
+sides-heard seen earlier front column limits token place line xs made h = grind arith
 
 -- a column first
 column-heard : (seen : SectionsSeen) (earlier : Draft) (column : List ℕ) (line : ℕ → ℕ) (xs : List Terminal) (made : Declarations) → Heard (next >>= bound_after (here seen earlier) column) (onward line) xs made
     → OneBound seen earlier line (Name column ∷ xs) made
-column-heard seen earlier column line [] made h = absurd (none-some made h)
 column-heard seen earlier column line (Free ∷ xs) made h =
     let found = sides-heard seen earlier (declare_column column ∷ []) column no_limits (at (line 1) Free) (InBounds None) (onward (onward line)) xs made
     (heard-next (bound_after (here seen earlier) column) (onward line) Free xs made h) in
@@ -221,7 +212,7 @@ column-heard seen earlier column line (Compares relation ∷ xs) made h =
       heard = subst (λ (ds : Declarations). Complete (point_at (InBounds None) seen (with_declarations earlier ds)) (onwards (side_tokens part.part) (onward (onward line))) part.rest found.more) declared found.rest;
       shorter = omega (arith, short);
     }
-column-heard seen earlier column line (_ ∷ xs) made h = absurd (none-some made h)
+column-heard seen earlier column line _ made h = absurd (none-some made h)
 
 -- ---- a side first
 
@@ -241,15 +232,8 @@ left-column : (seen : SectionsSeen) (earlier : Draft) (value : Limit) (relation 
     → (column : List ℕ) × (rest : List Terminal) × (xs ≡ Name column ∷ rest)
     × Goes (point_at (InBounds (Some (column, relation))) seen (with_declarations earlier (declare_column column ∷ limits_declared column (limits_by (flip relation) value))))
     (declare_column column ∷ limits_declared column (limits_by (flip relation) value)) (onward line) rest made
-left-column seen earlier value relation line [] made h = absurd (none-some made h)
-left-column seen earlier value relation line (Name column ∷ xs) made h = (
-  column,
-  xs,
-  refl,
-  sides-heard seen earlier (declare_column column ∷ []) column (limits_by (flip relation) value) (at (line 0) (Name column)) (InBounds (Some (column, relation))) (onward line) xs made
-      (heard-next (bound_column (here seen earlier) value relation) line (Name column) xs made h),
-)
-left-column seen earlier value relation line (_ ∷ xs) made h = absurd (none-some made h)
+left-column seen earlier value relation line (Name column ∷ xs) made h = grind arith
+left-column seen earlier value relation line _ made h = absurd (none-some made h)
 
 left-heard : (seen : SectionsSeen) (earlier : Draft) (line : ℕ → ℕ) (xs : List Terminal) (made : Declarations) → ASide (bound_left (here seen earlier)) line xs made → LeftBound seen earlier line xs made
 left-heard seen earlier line xs made part =
@@ -346,22 +330,13 @@ both-bound seen earlier line made x tail part AtLeast AtLeast column ws more sam
       heard = subst (λ (l : ℕ → ℕ). Complete (point_at (InBounds None) seen (with_declarations earlier (bound_declares (bounds_from_above part column second.part)))) l second.rest second.more) (sym (onwards-append (side_tokens part) middle line)) second.heard;
       shorter = omega (arith, less, short);
     }
-both-bound seen earlier line made x tail part AtMost _ column ws more same is h short = absurd cc
-both-bound seen earlier line made x tail part AtLeast _ column ws more same is h short = absurd cc
-both-bound seen earlier line made x tail part EqualTo _ column ws more same is h short = absurd cc
-
--- what follows the column is shorter
-left-shorter : (part : Side) (relation : Relation) (column : List ℕ) (rest : List Terminal) (x : Terminal) (tail : List Terminal) → x ∷ tail ≡ side_tokens part ++ Compares relation ∷ Name column ∷ rest → length rest + 1 ≤ length tail
-left-shorter part relation column rest x tail same = by (ap (λ (ys : List Terminal). length ys) same ∙ length-append (side_tokens part) (Compares relation ∷ Name column ∷ rest))
-  where
-    by : length (x ∷ tail) ≡ length (side_tokens part) + length (Compares relation ∷ Name column ∷ rest) → length rest + 1 ≤ length tail
-    by e = omega (arith, e)
+both-bound seen earlier line made x tail part _ _ column ws more same is h short = absurd cc
 
 left-bound : (seen : SectionsSeen) (earlier : Draft) (line : ℕ → ℕ) (made : Declarations) (x : Terminal) (tail : List Terminal) → LeftBound seen earlier line (x ∷ tail) made → OneBound seen earlier line (x ∷ tail) made
 left-bound seen earlier line made x tail left = by left.rest refl
   where
     shorter_rest : length left.rest + 1 ≤ length tail
-    shorter_rest = left-shorter left.part left.relation left.column left.rest x tail left.same
+    shorter_rest = grind arith
 
     short : length left.rest ≤ length tail
     short = omega (arith, shorter_rest)

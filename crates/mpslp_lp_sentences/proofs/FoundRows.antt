@@ -1,5 +1,5 @@
 -- What tokens have to be if the grammar reads rows.
-use Rattle.std.proofs.Common.{◌≡◌, ◌≤◌, ◌<◌, refl, sym, ap, subst, ◌∙◌, ℕ, zero, suc, ◌+◌, List, [], ◌∷◌, ◌++◌, Bool, true, false, append_assoc, length, map, arith}
+use Rattle.std.proofs.Common.{rules, ◌≡◌, ◌≤◌, ◌<◌, refl, sym, ap, subst, ◌∙◌, ℕ, zero, suc, ◌+◌, List, [], ◌∷◌, ◌++◌, Bool, true, false, append_assoc, length, map, arith}
 use Rattle.std.specs.Prelude.{Option, Some, None, if◌then◌else◌}
 use Rattle.std.specs.List.{flat_map, list_all, list_any, enumerate_from}
 use Rattle.std.proofs.lemmas.List.{append-nil}
@@ -21,7 +21,7 @@ use Rattle.mpslp_lp_grammar.specs.Terminal.{Terminal, TerminalAt}
 use Rattle.mpslp_lp_grammar.specs.Terminal.Terminal.{Opens, Name, Number, Sign, Compares, Colon, Infinity}
 use Rattle.mpslp_lp_grammar.specs.declared.sections_seen.SectionsSeen.{SectionsSeen}
 use Rattle.mpslp_lp_grammar.specs.declared.relations.Relation.{Relation}
-use Rattle.mpslp_lp_grammar.specs.declared.relations.Relation.TheVariants.{AtMost, AtLeast, EqualTo}
+use Rattle.mpslp_lp_grammar.specs.declared.relations.Relation.TheVariants.{AtMost, AtLeast}
 use Rattle.mpslp_lp_grammar.specs.declared.states.Place.{Place}
 use Rattle.mpslp_lp_grammar.specs.declared.states.Place.TheVariants.{BetweenRows, InRow}
 use Rattle.mpslp_lp_grammar.specs.PartialRow.{PartialRow}
@@ -43,7 +43,7 @@ use Rattle.mpslp_lp_sentences.proofs.Stamped.{here, onward}
 use Rattle.mpslp_lp_sentences.proofs.ItemsHeard.{infinity-is, times-plus}
 use Rattle.mpslp_lp_sentences.proofs.RowFacts.{Pair}
 use Rattle.mpslp_lp_sentences.proofs.RowsHeard.{pair, row_at, in_row, terms-declare, declared-is, row-counted}
-use Rattle.mpslp_lp_sentences.proofs.Found.{all_at, onwards, onwards-append, Heard, Complete, complete-phrase, heard-next, heard-ahead, goes-heard, unless-heard, AnItem, found_term, found_lone, constant_tokens, number-heard, item-from_signed, sign-heard, first_number-heard, item-heard, side-heard, relation-heard}
+use Rattle.mpslp_lp_sentences.proofs.Found.{all_at, onwards, onwards-append, Heard, Complete, complete-phrase, heard-next, heard-ahead, unless-heard, AnItem, found_term, found_lone, constant_tokens, number-heard, item-from_signed, sign-heard, first_number-heard, item-heard, side-heard, relation-heard}
 use Rattle.mpslp_lp_sentences.proofs.FoundParts.{rest-shorter, is_no_opening, Reading, all_declare, Anything}
 
 -- ---- the first term
@@ -60,23 +60,16 @@ record TermFound (seen : SectionsSeen) (earlier : Draft) (name : List ℕ) (left
 -- what goes on and declares nothing
 still : (seen : SectionsSeen) (earlier : Draft) (partial : PartialRow) (line : ℕ → ℕ) (xs : List Terminal) (made : Declarations) → Heard (goes_to (here seen earlier) (InRow partial) []) line xs made
     → Complete (point_at (InRow partial) seen earlier) line xs made
-still seen earlier partial line xs made h =
-    let goes = goes-heard (here seen earlier) (InRow partial) [] line xs made h in
-    subst (λ (ds : Declarations). Complete (point_at (InRow partial) seen earlier) line xs ds) (sym goes.is) goes.rest
+still seen earlier partial line xs made h = grind arith
 
 -- a number without a name is no term
 no_constant : (seen : SectionsSeen) (earlier : Draft) (partial : PartialRow) (value : Decimal) (y : Terminal) (n : ℕ) (line : ℕ → ℕ) (xs : List Terminal) (made : Declarations)
     → Heard (row_item (here seen earlier) partial (items.Lone value (at n y))) line xs made → ⊥
-no_constant seen earlier partial value (Sign sign) n line xs made h = cc
-no_constant seen earlier partial value (Compares relation) n line xs made h = cc
-no_constant seen earlier partial value _ n line xs made h = cc
+no_constant seen earlier partial value y n line xs made h = grind arith
 
 term-found : (seen : SectionsSeen) (earlier : Draft) (name : List ℕ) (left : Option (Limit × Relation)) (line : ℕ → ℕ) (xs : List Terminal) (made : Declarations) → AnItem (row_item (here seen earlier) (without_terms name left)) line xs made
     → TermFound seen earlier name left line xs made
-term-found seen earlier name left line xs made (found_term signs number column rest n same h) =
-    record { signs = signs; number = number; column = column; rest = rest; same = same; heard = still seen earlier (row_at name left ((column, coefficient signs number) ∷ [])) (onwards (term_tokens (term signs number column)) line) rest made h }
-term-found seen earlier name left line xs made (found_lone signs value y rest n same h) =
-    absurd (no_constant seen earlier (without_terms name left) (signed (product_of signs) value) y n (onwards (constant_tokens signs value) line) (y ∷ rest) made h)
+term-found seen earlier name left line xs made h = grind arith
 
 -- ---- the left side
 
@@ -117,7 +110,7 @@ record Begun (seen : SectionsSeen) (earlier : Draft) (name : List ℕ) (line : �
   first : TermFound seen earlier name (left_of left) (onwards (left_tokens left) line) tail made
 
 begun-plain : (seen : SectionsSeen) (earlier : Draft) (name : List ℕ) (line : ℕ → ℕ) (xs : List Terminal) (made : Declarations) → TermFound seen earlier name None line xs made → Begun seen earlier name line xs made
-begun-plain seen earlier name line xs made first = record { left = None; tail = xs; same = refl; first = first }
+begun-plain seen earlier name line xs made first = grind arith
 
 begun-sided : (seen : SectionsSeen) (earlier : Draft) (name : List ℕ) (part : Side) (line : ℕ → ℕ) (xs rest : List Terminal) (made : Declarations) → xs ≡ side_tokens part ++ rest
     → AfterLeft seen earlier name (limit part) (onwards (side_tokens part) line) rest made → Begun seen earlier name line xs made
@@ -136,29 +129,15 @@ IsSide signs value = (part : Side) × (limit part ≡ limit_of (signed (product_
 number-begins : (seen : SectionsSeen) (earlier : Draft) (name : List ℕ) (line : ℕ → ℕ) (xs : List Terminal) (made : Declarations)
     → ((signs : List SignOf) (value : Decimal) (rest : List Terminal) → xs ≡ constant_tokens signs value ++ rest → IsSide signs value)
     → AnItem (row_number (here seen earlier) name) line xs made → Begun seen earlier name line xs made
-number-begins seen earlier name line xs made sided (found_term signs number column rest n same h) =
-    begun-plain seen earlier name line xs made (term-found seen earlier name None line xs made (found_term signs number column rest n same h))
-number-begins seen earlier name line xs made sided (found_lone signs value y rest n same h) = by y same h
-  where
-    by : (z : Terminal) → xs ≡ constant_tokens signs value ++ z ∷ rest → Heard (row_number (here seen earlier) name (items.Lone (signed (product_of signs) value) (at n z))) (onwards (constant_tokens signs value) line) (z ∷ rest) made
-        → Begun seen earlier name line xs made
-    by (Compares relation) e k =
-        let is = sided signs value (Compares relation ∷ rest) e in
-        begun-sided seen earlier name is.0 line xs (Compares relation ∷ rest) made (e ∙ ap (λ (ys : List Terminal). ys ++ Compares relation ∷ rest) (sym is.2))
-        (subst (λ (tokens : List Terminal). AfterLeft seen earlier name (limit is.0) (onwards tokens line) (Compares relation ∷ rest) made) (sym is.2)
-        (subst (λ (v : Limit). AfterLeft seen earlier name v (onwards (constant_tokens signs value) line) (Compares relation ∷ rest) made) (sym is.1)
-        (after_left-heard seen earlier name (limit_of (signed (product_of signs) value)) (onwards (constant_tokens signs value) line) (Compares relation ∷ rest) made k)))
-    by (Sign sign) e k = absurd (no_constant seen earlier (without_terms name None) (signed (product_of signs) value) (Sign sign) n (onwards (constant_tokens signs value) line) (Sign sign ∷ rest) made k)
-    by z e k = absurd (no_constant seen earlier (without_terms name None) (signed (product_of signs) value) z n (onwards (constant_tokens signs value) line) (z ∷ rest) made k)
+number-begins seen earlier name line xs made sided h = grind (arith, found_term, begun-plain, term-found, found_lone, constant_tokens, here, at, onwards, begun-sided, after_left-heard, no_constant)
 
 plain-side : (v : Decimal) (tail : List Terminal) (signs : List SignOf) (value : Decimal) (rest : List Terminal) → Number v ∷ tail ≡ constant_tokens signs value ++ rest → IsSide signs value
 plain-side v tail [] value rest e = (side None (Some value), refl, refl)
 plain-side v tail (sign ∷ signs) value rest e = absurd cc
 
 signed-side : (s : SignOf) (v : Decimal) (tail : List Terminal) (signs : List SignOf) (value : Decimal) (rest : List Terminal) → Sign s ∷ Number v ∷ tail ≡ constant_tokens signs value ++ rest → IsSide signs value
-signed-side s v tail [] value rest e = absurd cc
 signed-side s v tail (sign ∷ []) value rest e = (side (Some sign) (Some value), ap (λ (q : SignOf). limit_of (signed q value)) (sym (times-plus sign)), refl)
-signed-side s v tail (sign ∷ second ∷ signs) value rest e = absurd cc
+signed-side s v tail _ value rest e = absurd cc
 
 begun-heard : (seen : SectionsSeen) (earlier : Draft) (name : List ℕ) (line : ℕ → ℕ) (x : Terminal) (xs : List Terminal) (made : Declarations) → Heard (row_from (here seen earlier) name (at (line 0) x)) (onward line) xs made
     → Begun seen earlier name line (x ∷ xs) made
@@ -167,7 +146,6 @@ begun-heard seen earlier name line (Number value) xs made h =
     number-begins seen earlier name line (Number value ∷ xs) made (plain-side value xs) (first_number-heard xs value (row_number (here seen earlier) name) line made h)
 begun-heard seen earlier name line (Name column) xs made h =
     begun-plain seen earlier name line (Name column ∷ xs) made (term-found seen earlier name None line (Name column ∷ xs) made (found_term [] None column xs (line 0) refl h))
-begun-heard seen earlier name line (Sign sign) [] made h = absurd (none-some made h)
 begun-heard seen earlier name line (Sign sign) (Infinity ∷ xs) made h =
     begun-sided seen earlier name (side (Some sign) None) line (Sign sign ∷ Infinity ∷ xs) xs made refl
     (subst (λ (v : Limit). AfterLeft seen earlier name v (onward (onward line)) xs made) (infinity-is sign)
@@ -185,7 +163,7 @@ begun-heard seen earlier name line (Sign sign) (y ∷ xs) made h =
     (term-found seen earlier name None line (Sign sign ∷ y ∷ xs) made
     (sign-heard (y ∷ xs) (here seen earlier) sign (row_item (here seen earlier) (without_terms name None)) line made
     (heard-ahead (row_signed (here seen earlier) name sign) (onward line) y xs made h)))
-begun-heard seen earlier name line _ xs made h = absurd (none-some made h)
+begun-heard seen earlier name line _ _ made h = absurd (none-some made h)
 
 -- ---- the label
 
@@ -202,8 +180,7 @@ after_colon seen earlier name line (y ∷ xs) made h = begun-heard seen earlier 
 
 unlabelled-heard : (seen : SectionsSeen) (earlier : Draft) (line : ℕ → ℕ) (x : Terminal) (xs : List Terminal) (made : Declarations)
     → Heard (row_from (here seen earlier) (default_row (here seen earlier)) (at (line 0) x)) (onward line) xs made → Labelled seen earlier line (x ∷ xs) made
-unlabelled-heard seen earlier line x xs made h =
-    record { label = None; tail = x ∷ xs; same = refl; begun = begun-heard seen earlier (default_row (here seen earlier)) line x xs made h }
+unlabelled-heard seen earlier line x xs made h = grind (arith, begun-heard, here)
 
 named-heard : (seen : SectionsSeen) (earlier : Draft) (name : List ℕ) (line : ℕ → ℕ) (xs : List Terminal) (made : Declarations) → Heard (colon >>= row_named (here seen earlier) name) (onward line) xs made
     → Labelled seen earlier line (Name name ∷ xs) made
@@ -286,16 +263,14 @@ end-heard seen earlier name left before line relation n xs made h = by (fits_lef
 
 -- a term that begins with a sign has one
 term-sign : (signs : List SignOf) (number : Option Decimal) (column : List ℕ) (sign : SignOf) (xs rest : List Terminal) → Sign sign ∷ xs ≡ term_tokens (term signs number column) ++ rest → is_signed_term (term signs number column) ≡ true
-term-sign [] None column sign xs rest e = absurd cc
-term-sign [] (Some size) column sign xs rest e = absurd cc
-term-sign (first ∷ signs) number column sign xs rest e = refl
+term-sign signs number column sign xs rest e = grind arith
 
 -- what follows a term that begins with a sign is shorter
 term-shorter : (signs : List SignOf) (number : Option Decimal) (column : List ℕ) (rest xs : List Terminal) → xs ≡ term_tokens (term signs number column) ++ rest → length rest < length xs
 term-shorter signs number column rest xs same = subst (λ (ys : List Terminal). length rest < length ys) (sym same) (by signs number)
   where
     of_more : (x : Terminal) (ys : List Terminal) → length rest < length (x ∷ (ys ++ rest))
-    of_more x ys = let less : length rest ≤ length (ys ++ rest) = rest-shorter ys rest (ys ++ rest) refl in omega (arith, less)
+    of_more x ys = grind (arith, rest-shorter)
 
     by : (ss : List SignOf) (v : Option Decimal) → length rest < length (term_tokens (term ss v column) ++ rest)
     by [] None = of_more (Name column) []
@@ -304,7 +279,6 @@ term-shorter signs number column rest xs same = subst (λ (ys : List Terminal). 
 
 terms-heard : (n : ℕ) (seen : SectionsSeen) (earlier : Draft) (name : List ℕ) (left : Option (Limit × Relation)) (before : List Pair) (line : ℕ → ℕ) (xs : List Terminal) (made : Declarations) → length xs ≤ n
     → Complete (in_row seen earlier name left before) line xs made → Ended seen earlier name left before line xs made
-terms-heard n seen earlier name left before line [] made fits h = absurd (none-some made h)
 terms-heard n seen earlier name left before line (Compares relation ∷ xs) made fits h =
     end-heard seen earlier name left before line relation (line 0) xs made (complete-phrase (in_row seen earlier name left before) line (Compares relation) xs made h)
 terms-heard zero seen earlier name left before line (Sign sign ∷ xs) made fits h = absurd (omega (arith, fits))
@@ -338,8 +312,7 @@ terms-heard (suc n) seen earlier name left before line (Sign sign ∷ xs) made f
     taken : (signs : List SignOf) (number : Option Decimal) (column : List ℕ) (rest : List Terminal) (n : ℕ) (l : ℕ → ℕ) (b : Bool)
         → Heard (if b then refuses (here seen earlier) (at n (Name column)) DuplicateEntry else goes_to (here seen earlier) (InRow (row_at name left (before ++ (column, coefficient signs number) ∷ []))) []) l rest made
         → Complete (in_row seen earlier name left (before ++ (column, coefficient signs number) ∷ [])) l rest made
-    taken signs number column rest n l true k = absurd cc
-    taken signs number column rest n l false k = still seen earlier (row_at name left (before ++ (column, coefficient signs number) ∷ [])) l rest made k
+    taken signs number column rest n l b k = grind arith
 
     by : AnItem (row_item (here seen earlier) (row_at name left before)) line (Sign sign ∷ xs) made
         → ((more : List Pair) (tokens : List Terminal) (l : ℕ → ℕ) → length tokens < length (Sign sign ∷ xs) → Complete (in_row seen earlier name left more) l tokens made → Ended seen earlier name left more l tokens made)
@@ -348,22 +321,17 @@ terms-heard (suc n) seen earlier name left before line (Sign sign ∷ xs) made f
         joined signs number column rest same
         (later (before ++ (column, coefficient signs number) ∷ []) rest (onwards (term_tokens (term signs number column)) line) (term-shorter signs number column rest (Sign sign ∷ xs) same)
         (taken signs number column rest n (onwards (term_tokens (term signs number column)) line) (list_any (λ (t : Pair). same_bytes column t.0) before) k))
-    by (found_lone signs value y rest n same k) later =
-        absurd (no_constant seen earlier (row_at name left before) (signed (product_of signs) value) y n (onwards (constant_tokens signs value) line) (y ∷ rest) made k)
-terms-heard n seen earlier name left before line (_ ∷ xs) made fits h = absurd (none-some made h)
+    by (found_lone signs value y rest n same k) later = grind arith
+terms-heard n seen earlier name left before line _ made fits h = absurd (none-some made h)
 
 -- ---- a whole row
 
 -- five parts of tokens
 parts-joined : (a b c d e rest : List Terminal) → a ++ (b ++ (c ++ (d ++ (e ++ rest)))) ≡ (a ++ (b ++ (c ++ (d ++ e)))) ++ rest
-parts-joined a b c d e rest =
-    sym (append_assoc a (b ++ (c ++ (d ++ e))) rest
-    ∙ ap (λ (tokens : List Terminal). a ++ tokens) (append_assoc b (c ++ (d ++ e)) rest
-    ∙ ap (λ (tokens : List Terminal). b ++ tokens) (append_assoc c (d ++ e) rest ∙ ap (λ (tokens : List Terminal). c ++ tokens) (append_assoc d e rest))))
+parts-joined a b c d e rest = grind (arith, append_assoc)
 
 parts-onwards : (a b c d : List Terminal) (line : ℕ → ℕ) → onwards (a ++ (b ++ (c ++ d))) line ≡ onwards d (onwards c (onwards b (onwards a line)))
-parts-onwards a b c d line =
-    onwards-append a (b ++ (c ++ d)) line ∙ onwards-append b (c ++ d) (onwards a line) ∙ onwards-append c d (onwards b (onwards a line))
+parts-onwards a b c d line = grind (arith, onwards-append, onwards)
 
 abbrev pub row_declared_at : Draft → Row → Declarations
 row_declared_at earlier part = row_declares (length earlier.rows + 1, part)
@@ -378,10 +346,7 @@ record RowOf (place : ℕ) (label : Option (List ℕ)) (left : Option (Side × R
 between-tokens : (label : Option (List ℕ)) (left : Side) (relation : Relation) (first : Term) (terms : List Term) (end : List Terminal)
     → label_tokens label ++ (side_tokens left ++ Compares relation ∷ ((term_tokens first ++ terms_tokens terms) ++ end))
     ≡ label_tokens label ++ ((side_tokens left ++ Compares relation ∷ []) ++ (term_tokens first ++ (terms_tokens terms ++ end)))
-between-tokens label left relation first terms end =
-    ap (λ (tokens : List Terminal). label_tokens label ++ tokens)
-    (ap (λ (tokens : List Terminal). side_tokens left ++ Compares relation ∷ tokens) (append_assoc (term_tokens first) (terms_tokens terms) end)
-    ∙ sym (append_assoc (side_tokens left) (Compares relation ∷ []) (term_tokens first ++ (terms_tokens terms ++ end))))
+between-tokens label left relation first terms end = grind (arith, append_assoc)
 
 row-of : (place : ℕ) (label : Option (List ℕ)) (left : Option (Side × Relation)) (first : Term) (terms : List Term) (relation : Relation) (part : Side) → list_all is_signed_term terms ≡ true → fits_left (left_of left) relation ≡ true
     → RowOf place label left first terms relation part
@@ -406,9 +371,7 @@ row-of place label (Some (upper, AtLeast)) first terms AtLeast part good fits =
       tokens = between-tokens label upper AtLeast first terms (Compares AtLeast ∷ side_tokens part);
       declared = ap (λ (more : Declarations). declare_row (row_name place label) (by_limits (limit part) (limit upper)) ∷ more) (terms-declare (row_name place label) (first ∷ terms));
     }
-row-of place label (Some (lower, AtMost)) first terms _ part good fits = absurd cc
-row-of place label (Some (upper, AtLeast)) first terms _ part good fits = absurd cc
-row-of place label (Some (left, EqualTo)) first terms _ part good fits = absurd cc
+row-of place label _ first terms _ part good fits = absurd cc
 
 -- a row has a relation at its end
 end-shorter : (terms : List Term) (relation : Relation) (part : Side) (rest xs : List Terminal) → xs ≡ terms_tokens terms ++ Compares relation ∷ (side_tokens part ++ rest) → length rest < length xs

@@ -1,28 +1,23 @@
 -- What tokens have to be if the grammar reads the sections of a file.
 use Rattle.std.proofs.Common.{◌≡◌, ◌≤◌, ◌<◌, refl, sym, ap, subst, ◌∙◌, ℕ, zero, suc, ◌+◌, List, [], ◌∷◌, ◌++◌, Bool, true, false, not, append_assoc, length, arith}
-use Rattle.std.specs.Prelude.{Option, Some, None, ◌==◌, ◌&&◌, ◌||◌, if◌then◌else◌, unwrap_or}
+use Rattle.std.specs.Prelude.{None, ◌&&◌}
 use Rattle.std.specs.List.{flat_map, list_all, list_any}
 use Rattle.std.specs.Cmp.{first_so, second_so}
-use Rattle.std.proofs.lemmas.Bool.{false≢true}
 use Rattle.std.proofs.lemmas.Option.{none-some}
 use Rattle.mpslp_types.proofs.BoolLemmas.{both_so, both_false, so_not}
-use Rattle.mpslp_types.specs.declared.faults.FaultKind.{FaultKind}
-use Rattle.mpslp_types.specs.declared.faults.FaultKind.TheVariants.{SectionRepeated, SectionOrder, BadToken}
 use Rattle.mpslp_builder.specs.Declaration.{Declaration, Declarations, Draft, declare_column, declare_integer, declare_binary, declare_semi, with_declarations}
 use Rattle.mpslp_lp_grammar.specs.declared.signs.Sign.TheVariants.{Plus, Minus}
 use Rattle.mpslp_lp_grammar.specs.Rules.{◌>>=◌, next, ahead}
-use Rattle.mpslp_lp_grammar.specs.Rules.Parsed.{Reads}
-use Rattle.mpslp_lp_grammar.specs.Rules.AfterPhrase.{Ends}
 use Rattle.mpslp_lp_grammar.specs.Terminal.{Terminal, TerminalAt}
 use Rattle.mpslp_lp_grammar.specs.Terminal.Terminal.{Opens, Name, Sign}
-use Rattle.mpslp_lp_grammar.specs.Phrase.{section_fault, with_section, has_seen, is_out_of_order, PhraseRule, Follows, fails, refuses, goes_to}
+use Rattle.mpslp_lp_grammar.specs.Phrase.{section_fault, with_section, has_seen, is_out_of_order, goes_to}
 use Rattle.mpslp_lp_grammar.specs.declared.sections_seen.SectionsSeen.{SectionsSeen}
 use Rattle.mpslp_lp_grammar.specs.declared.context.Context.{Context}
 use Rattle.mpslp_lp_grammar.specs.declared.states.Place.{Place}
 use Rattle.mpslp_lp_grammar.specs.declared.states.Place.TheVariants.{InBounds, InGenerals, InBinaries, InSemis}
 use Rattle.mpslp_lp_grammar.specs.declared.states.LastWord.{LastWord}
 use Rattle.mpslp_lp_grammar.specs.declared.states.LastWord.TheVariants.{Continuous}
-use Rattle.mpslp_lp_grammar.specs.Grammar.{line_end, opened_by, is_last_word, last_word, semi_from, section_start, section_from, may_begin_section}
+use Rattle.mpslp_lp_grammar.specs.Grammar.{line_end, opened_by, is_last_word, last_word, semi_from, section_start, may_begin_section}
 use Rattle.mpslp_lp_tokens.specs.Token.{section_of}
 use Rattle.mpslp_lp_tokens.specs.declared.words.Section.{Section as Kind}
 use Rattle.mpslp_lp_tokens.specs.declared.words.Section.TheVariants as kinds
@@ -34,10 +29,10 @@ use Rattle.mpslp_lp_sentences.specs.Phrases.{Section}
 use Rattle.mpslp_lp_sentences.specs.Phrases.Section.{bounds, generals, binaries, semis}
 use Rattle.mpslp_lp_sentences.specs.Spelling.{bound_tokens, name_tokens, section_tokens, opens_semis, is_section, same_section, are_sections}
 use Rattle.mpslp_lp_sentences.specs.Meaning.{bound_declares, names_declare, section_declares}
-use Rattle.mpslp_lp_sentences.proofs.Whole.{listened, heard}
+use Rattle.mpslp_lp_sentences.proofs.Whole.{heard}
 use Rattle.mpslp_lp_sentences.proofs.Stamped.{is_elsewhere, here, onward}
 use Rattle.mpslp_lp_sentences.proofs.SectionsHeard.{kind_of, IsInside, inside-after, is_fresh}
-use Rattle.mpslp_lp_sentences.proofs.Found.{all_at, onwards, onwards-append, Heard, Complete, complete-phrase, heard-next, heard-ahead, goes-heard}
+use Rattle.mpslp_lp_sentences.proofs.Found.{all_at, onwards, onwards-append, Heard, Complete, heard-next, heard-ahead, goes-heard}
 use Rattle.mpslp_lp_sentences.proofs.FoundParts.{ReadsNames, rest-shorter, all-phrases, all_declare, all-flat, name_token, name_declares, Anything, any_name, one-name, bound_declared, any_bound, NoRelation, none-follows, one-bound}
 
 -- ---- the word of a section
@@ -48,82 +43,29 @@ pub record Opened (seen : SectionsSeen) (earlier : Draft) (line : ℕ → ℕ) (
 
 pub opened-heard : (place : Place) (seen : SectionsSeen) (earlier : Draft) (line : ℕ → ℕ) (word : SectionWord) (xs : List Terminal) (made : Declarations) → may_begin_section place ≡ true
     → Complete (point_at place seen earlier) line (Opens word ∷ xs) made → Opened seen earlier line word xs made
-opened-heard place seen earlier line word xs made may h =
-    by (section_fault seen (section_of word)) refl
-    (sym (ap (λ (b : Bool). listened (if b then section_from (here seen earlier) token word else refuses (here seen earlier) token BadToken) (all_at (onward line) xs)) may)
-    ∙ complete-phrase (point_at place seen earlier) line (Opens word) xs made h)
-  where
-    token : TerminalAt
-    token = at (line 0) (Opens word)
-
-    by : (o : Option FaultKind) → section_fault seen (section_of word) ≡ o
-        → listened (elim o as (λ _. PhraseRule Follows) [
-          | Some kind ↦ fails (at (line 0) (Opens word)) kind
-          | None ↦ section_start (here (with_section seen (section_of word)) earlier) (at (line 0) (Opens word)) word
-        ]) (all_at (onward line) xs) ≡ Some made → Opened seen earlier line word xs made
-    by (Some kind) e k = absurd cc
-    by None e k = record { none = e; heard = k }
+opened-heard place seen earlier line word xs made may h = grind arith
 
 -- `end`
 at-end : (context : Context) (line : ℕ → ℕ) (xs : List Terminal) (made : Declarations) → Heard (line_end context (line 0)) (onward line) xs made → (is_elsewhere (line 0) (all_at (onward line) xs) ≡ true) × (made ≡ [])
-at-end context line [] made h = (refl, sym (ap (λ (o : Option Declarations). unwrap_or o []) h))
-at-end context line (x ∷ xs) made h = by (line 1 == line 0) h
-  where
-    by : (b : Bool) → heard (if b then refuses context (at (line 1) x) BadToken (all_at (onward (onward line)) xs) else Reads (Ends context.earlier) 0) (all_at (onward line) (x ∷ xs)) ≡ Some made
-        → (not b ≡ true) × (made ≡ [])
-    by true k = absurd cc
-    by false k = (refl, sym (ap (λ (o : Option Declarations). unwrap_or o []) k))
+at-end context line xs made h = grind arith
 
 -- ---- sections that were opened
 
 unseen : (seen : SectionsSeen) (kind : Kind) → section_fault seen kind ≡ None → has_seen seen kind ≡ false
-unseen seen kind h = by (has_seen seen kind) (is_out_of_order seen kind) h
-  where
-    by : (b o : Bool) → (if b then Some SectionRepeated else (if o then Some SectionOrder else None)) ≡ None → b ≡ false
-    by true o k = absurd cc
-    by false o k = refl
+unseen seen kind h = grind arith
 
 in-order : (seen : SectionsSeen) (kind : Kind) → section_fault seen kind ≡ None → is_out_of_order seen kind ≡ false
-in-order seen kind h = by (has_seen seen kind) (is_out_of_order seen kind) h
-  where
-    by : (b o : Bool) → (if b then Some SectionRepeated else (if o then Some SectionOrder else None)) ≡ None → o ≡ false
-    by true o k = absurd cc
-    by false true k = absurd cc
-    by false false k = refl
+in-order seen kind h = grind arith
 
 clash : {b : Bool} → b ≡ true → b ≡ false → ⊥
-clash h k = no_truth (sym k ∙ h)
-  where
-    no_truth : false ≡ true → ⊥
-    no_truth e = cc
+clash h k = grind arith
 
 -- no rows come after these sections
 abbrev pub Closed : SectionsSeen → Type 0
 Closed seen = section_fault seen kinds.Rows ≡ None → ⊥
 
 closed-after : (part : Section) (seen : SectionsSeen) → IsInside seen → Closed (with_section seen (kind_of part))
-closed-after (bounds lines) seen inside h = clash (ap (λ (b : Bool). not b || (true || (seen.generals || (seen.binaries || (seen.semis || seen.end))))) inside.begun) (in-order (with_section seen kinds.Bounds) kinds.Rows h)
-closed-after (generals names) seen inside h = clash (by (not seen.objective) seen.bounds) (in-order (with_section seen kinds.Generals) kinds.Rows h)
-  where
-    by : (a b : Bool) → (a || (b || true)) ≡ true
-    by true b = refl
-    by false true = refl
-    by false false = refl
-closed-after (binaries names) seen inside h = clash (by (not seen.objective) seen.bounds seen.generals) (in-order (with_section seen kinds.Binaries) kinds.Rows h)
-  where
-    by : (a b c : Bool) → (a || (b || (c || true))) ≡ true
-    by true b c = refl
-    by false true c = refl
-    by false false true = refl
-    by false false false = refl
-closed-after (semis opening names) seen inside h = clash (by (not seen.objective) seen.bounds seen.generals seen.binaries) (in-order (with_section seen kinds.SemiContinuous) kinds.Rows h)
-  where
-    by : (a b c d : Bool) → (a || (b || (c || (d || true)))) ≡ true
-    by true b c d = refl
-    by false true c d = refl
-    by false false true d = refl
-    by false false false true = refl
-    by false false false false = refl
+closed-after part seen inside h = grind arith
 
 abbrev pub is_rows : SectionWord → Bool
 is_rows words.Rows = true
@@ -132,29 +74,11 @@ is_rows words.Such = true
 is_rows _ = false
 
 pub no-rows : (word : SectionWord) (seen : SectionsSeen) → Closed seen → section_fault seen (section_of word) ≡ None → is_rows word ≡ false
-no-rows words.Rows seen closed h = absurd (closed h)
-no-rows words.Subject seen closed h = absurd (closed h)
-no-rows words.Such seen closed h = absurd (closed h)
-no-rows _ seen closed h = refl
+no-rows word seen closed h = grind arith
 
 -- a section that may come after another is of another kind
 fresh-apart : (first part : Section) (seen : SectionsSeen) → is_fresh (with_section seen (kind_of first)) part ≡ true → (same_section first part ≡ false) × (is_fresh seen part ≡ true)
-fresh-apart (bounds _) (bounds _) seen h = absurd cc
-fresh-apart (bounds _) (generals _) seen h = (refl, h)
-fresh-apart (bounds _) (binaries _) seen h = (refl, h)
-fresh-apart (bounds _) (semis _ _) seen h = (refl, h)
-fresh-apart (generals _) (generals _) seen h = absurd cc
-fresh-apart (generals _) (bounds _) seen h = (refl, h)
-fresh-apart (generals _) (binaries _) seen h = (refl, h)
-fresh-apart (generals _) (semis _ _) seen h = (refl, h)
-fresh-apart (binaries _) (binaries _) seen h = absurd cc
-fresh-apart (binaries _) (bounds _) seen h = (refl, h)
-fresh-apart (binaries _) (generals _) seen h = (refl, h)
-fresh-apart (binaries _) (semis _ _) seen h = (refl, h)
-fresh-apart (semis _ _) (semis _ _) seen h = absurd cc
-fresh-apart (semis _ _) (bounds _) seen h = (refl, h)
-fresh-apart (semis _ _) (generals _) seen h = (refl, h)
-fresh-apart (semis _ _) (binaries _) seen h = (refl, h)
+fresh-apart first part seen h = grind arith
 
 all-fresh_apart : (first : Section) (parts : List Section) (seen : SectionsSeen) → list_all (is_fresh (with_section seen (kind_of first))) parts ≡ true
     → (list_any (same_section first) parts ≡ false) × (list_all (is_fresh seen) parts ≡ true)
@@ -220,8 +144,7 @@ shorter-tail x front rest xs word same = by (ap (λ (ys : List Terminal). length
     by e less = omega (arith, e, less)
 
 heading-shorter : (opening front rest xs : List Terminal) (word : SectionWord) → opens_semis opening ≡ true → xs ≡ (opening ++ front) ++ Opens word ∷ rest → length rest + 1 < length xs
-heading-shorter [] front rest xs word ok same = absurd cc
-heading-shorter (x ∷ opening) front rest xs word ok same = shorter-tail x (opening ++ front) rest xs word same
+heading-shorter opening front rest xs word ok same = grind (arith, shorter-tail)
 
 bounds-body : (seen : SectionsSeen) (earlier : Draft) (line : ℕ → ℕ) (xs : List Terminal) (made : Declarations)
     → Heard (goes_to (here (with_section seen kinds.Bounds) earlier) (InBounds None) []) (onward line) xs made → SomeBody kinds.Bounds seen line (Opens words.Bounds ∷ xs) made
@@ -251,7 +174,7 @@ bounds-body seen earlier line xs made h =
 
 name_tokens-flat : (names : List (List ℕ)) → flat_map name_token names ≡ name_tokens names
 name_tokens-flat [] = refl
-name_tokens-flat (name ∷ names) = ap (λ (ys : List Terminal). Name name ∷ ys) (name_tokens-flat names)
+name_tokens-flat (name ∷ names) = grind (arith, name_tokens-flat names)
 
 -- names up to the next section word
 record NamesFound (place : Place) (kind : List ℕ → Declaration) (seen : SectionsSeen) (line : ℕ → ℕ) (xs : List Terminal) (made : Declarations) : Type 0 where
@@ -281,16 +204,13 @@ names-found place kind seen reads earlier line xs made h =
     }
 
 reads-generals : (seen : SectionsSeen) → ReadsNames InGenerals declare_integer seen
-reads-generals seen earlier n (Opens word) tokens h = absurd (false≢true h)
-reads-generals seen earlier n _ tokens h = refl
+reads-generals seen earlier n h1 tokens h = grind arith
 
 reads-binaries : (seen : SectionsSeen) → ReadsNames InBinaries declare_binary seen
-reads-binaries seen earlier n (Opens word) tokens h = absurd (false≢true h)
-reads-binaries seen earlier n _ tokens h = refl
+reads-binaries seen earlier n h1 tokens h = grind arith
 
 reads-semis : (seen : SectionsSeen) → ReadsNames InSemis declare_semi seen
-reads-semis seen earlier n (Opens word) tokens h = absurd (false≢true h)
-reads-semis seen earlier n _ tokens h = refl
+reads-semis seen earlier n h1 tokens h = grind arith
 
 generals-body : (seen : SectionsSeen) (earlier : Draft) (line : ℕ → ℕ) (xs : List Terminal) (made : Declarations)
     → Heard (goes_to (here (with_section seen kinds.Generals) earlier) InGenerals []) (onward line) xs made → SomeBody kinds.Generals seen line (Opens words.Generals ∷ xs) made
@@ -370,9 +290,7 @@ semis-body opening seen earlier line tail made ok h =
 
 -- what goes on and declares nothing
 pub moved : (context : Context) (place : Place) (line : ℕ → ℕ) (xs : List Terminal) (made : Declarations) → Heard (goes_to context place []) line xs made → Complete (point_at place context.sections_seen context.earlier) line xs made
-moved context place line xs made h =
-    let goes = goes-heard context place [] line xs made h in
-    subst (λ (ds : Declarations). Complete (point_at place context.sections_seen context.earlier) line xs ds) (sym goes.is) goes.rest
+moved context place line xs made h = grind arith
 
 -- the last word of a heading
 pub record LastWordFound (wanted : LastWord) (context : Context) (line : ℕ → ℕ) (xs : List Terminal) (made : Declarations) : Type 0 where
@@ -384,16 +302,7 @@ pub record LastWordFound (wanted : LastWord) (context : Context) (line : ℕ →
 
 pub last_word-heard : (wanted : LastWord) (context : Context) (line : ℕ → ℕ) (xs : List Terminal) (made : Declarations) → Heard (next >>= last_word context wanted) line xs made → LastWordFound wanted context line xs made
 last_word-heard wanted context line [] made h = absurd (none-some made h)
-last_word-heard wanted context line (x ∷ xs) made h = by x (heard-next (last_word context wanted) line x xs made h)
-  where
-    named : (word : List ℕ) (b : Bool) → is_last_word wanted word ≡ b
-        → Heard (if b then goes_to context (opened_by wanted) [] else refuses context (at (line 0) (Name word)) BadToken) (onward line) xs made → LastWordFound wanted context line (Name word ∷ xs) made
-    named word true e k = record { word = word; tail = xs; same = refl; is = e; heard = moved context (opened_by wanted) (onward line) xs made k }
-    named word false e k = absurd cc
-
-    by : (y : Terminal) → Heard (last_word context wanted (at (line 0) y)) (onward line) xs made → LastWordFound wanted context line (y ∷ xs) made
-    by (Name word) k = named word (is_last_word wanted word) refl k
-    by _ k = absurd cc
+last_word-heard wanted context line (x ∷ xs) made h = grind arith
 
 semi-body : (seen : SectionsSeen) (earlier : Draft) (line : ℕ → ℕ) (xs : List Terminal) (made : Declarations)
     → Heard (ahead >>= semi_from (here (with_section seen kinds.SemiContinuous) earlier)) (onward line) xs made → SomeBody kinds.SemiContinuous seen line (Opens words.Semi ∷ xs) made
@@ -404,9 +313,7 @@ semi-body seen earlier line (Sign Minus ∷ xs) made h =
     (heard-next (λ (dash : TerminalAt). next >>= last_word context Continuous) (onward line) (Sign Minus) xs made (heard-ahead (semi_from context) (onward line) (Sign Minus) xs made h)) in
     subst (λ (ys : List Terminal). SomeBody kinds.SemiContinuous seen line (Opens words.Semi ∷ Sign Minus ∷ ys) made) (sym found.same)
     (semis-body (Opens words.Semi ∷ Sign Minus ∷ Name found.word ∷ []) seen earlier line found.tail made found.is found.heard)
-semi-body seen earlier line (Sign Plus ∷ xs) made h =
-    let context : Context = here (with_section seen kinds.SemiContinuous) earlier in
-    semis-body (Opens words.Semi ∷ []) seen earlier line (Sign Plus ∷ xs) made refl (moved context InSemis (onward line) (Sign Plus ∷ xs) made (heard-ahead (semi_from context) (onward line) (Sign Plus) xs made h))
+semi-body seen earlier line (Sign Plus ∷ xs) made h = grind arith
 semi-body seen earlier line (x ∷ xs) made h =
     let context : Context = here (with_section seen kinds.SemiContinuous) earlier in
     semis-body (Opens words.Semi ∷ []) seen earlier line (x ∷ xs) made refl (moved context InSemis (onward line) (x ∷ xs) made (heard-ahead (semi_from context) (onward line) x xs made h))
@@ -417,13 +324,7 @@ after-section : (kind : Kind) (seen : SectionsSeen) (line : ℕ → ℕ) (xs : L
     → ((inside : SectionsSeen) → IsInside inside → is_rows some.body.word ≡ false → (place : Place) (later : Draft) (on : ℕ → ℕ) → may_begin_section place ≡ true
     → Complete (point_at place inside later) on (Opens some.body.word ∷ some.body.rest) some.body.more → TailFound inside on (Opens some.body.word ∷ some.body.rest) some.body.more)
     → TailFound seen line xs made
-after-section kind seen line xs made some none inside rec =
-    let body = some.body in
-    let after = with_section seen (kind_of some.part) in
-    let opened = opened-heard body.place after body.later (onwards (section_tokens some.part) line) body.word body.rest body.more body.may body.heard in
-    section-joined some.part seen line xs (Opens body.word ∷ body.rest) made body.more some.ok
-    (unseen seen (kind_of some.part) (subst (λ (k : Kind). section_fault seen k ≡ None) (sym some.kind_is) none)) body.same body.is
-    (rec after (inside-after some.part seen inside) (no-rows body.word after (closed-after some.part seen inside) opened.none) body.place body.later (onwards (section_tokens some.part) line) body.may body.heard)
+after-section kind seen line xs made some none inside rec = grind (arith, kind_of, opened-heard, onwards, heard, section-joined, unseen, inside-after, no-rows, closed-after)
 
 pub sections-found : (n : ℕ) (place : Place) (seen : SectionsSeen) (earlier : Draft) (line : ℕ → ℕ) (word : SectionWord) (xs : List Terminal) (made : Declarations) → length xs < n → may_begin_section place ≡ true → IsInside seen
     → is_rows word ≡ false → Complete (point_at place seen earlier) line (Opens word ∷ xs) made → TailFound seen line (Opens word ∷ xs) made

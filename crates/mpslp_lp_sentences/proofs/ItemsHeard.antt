@@ -1,19 +1,18 @@
 -- How the grammar reads items and sides.
-use Rattle.std.proofs.Common.{◌≡◌, refl, sym, ap, subst, ◌∙◌, ℕ, List, [], ◌∷◌, ◌++◌, Bool, true, false, append_assoc}
+use Rattle.std.proofs.Common.{arith, rules, ◌≡◌, sym, ap, subst, ◌∙◌, ℕ, List, [], ◌∷◌, ◌++◌, Bool, true, false, append_assoc}
 use Rattle.std.specs.Prelude.{Option, Some, None}
 use Rattle.mpslp_decimal.specs.Decimal.{Number as Decimal}
-use Rattle.mpslp_types.specs.Limit.{limit_of}
 use Rattle.mpslp_types.specs.declared.kinds.Limit.{Limit}
 use Rattle.mpslp_builder.specs.Declaration.{Declarations}
 use Rattle.mpslp_lp_grammar.specs.declared.signs.Sign.{Sign as SignOf}
-use Rattle.mpslp_lp_grammar.specs.declared.signs.Sign.TheVariants.{Plus, Minus}
-use Rattle.mpslp_lp_grammar.specs.Rules.{◌>>=◌, gives, next}
+use Rattle.mpslp_lp_grammar.specs.declared.signs.Sign.TheVariants.{Plus}
+use Rattle.mpslp_lp_grammar.specs.Rules.{◌>>=◌, next}
 use Rattle.mpslp_lp_grammar.specs.Terminal.{Terminal, TerminalAt}
-use Rattle.mpslp_lp_grammar.specs.Terminal.Terminal.{Opens, Name, Number, Sign, Compares, Infinity}
+use Rattle.mpslp_lp_grammar.specs.Terminal.Terminal.{Name, Number, Sign, Compares, Infinity}
 use Rattle.mpslp_lp_grammar.specs.declared.context.Context.{Context}
 use Rattle.mpslp_lp_grammar.specs.declared.relations.Relation.{Relation}
 use Rattle.mpslp_lp_grammar.specs.Phrase.{PhraseRule, Follows}
-use Rattle.mpslp_lp_grammar.specs.Items.{Side as SideOf, apply_sign, unsigned_side, side_from, side as side_rule, next_relation, Item, product, number_item, signed_item, item_from, Item as items}
+use Rattle.mpslp_lp_grammar.specs.Items.{Side as SideOf, apply_sign, next_relation, Item, product, number_item, signed_item, item_from, Item as items}
 use Rattle.mpslp_lp_grammar.specs.Items as rules
 use Rattle.mpslp_lp_tokens.specs.declared.words.SectionWord.TheVariants as words
 use Rattle.mpslp_canonical_lp.proofs.TerminalLemmas.{at}
@@ -22,7 +21,7 @@ use Rattle.mpslp_lp_sentences.specs.Phrases.Side.{side}
 use Rattle.mpslp_lp_sentences.specs.Phrases.Term.{term}
 use Rattle.mpslp_lp_sentences.specs.Spelling.{sign_tokens, number_tokens, side_tokens, term_tokens}
 use Rattle.mpslp_lp_sentences.specs.Meaning.{times, product_of, signed, one, coefficient, infinity, limit}
-use Rattle.mpslp_lp_sentences.proofs.Whole.{Tokens, heard-later, listened-gives, listened-one, listened-none}
+use Rattle.mpslp_lp_sentences.proofs.Whole.{Tokens, heard-later, listened-none}
 use Rattle.mpslp_lp_sentences.proofs.Stamped.{stamped, onward, first_of_all, ending, Hears, hears-next}
 
 -- ---- signs
@@ -33,18 +32,13 @@ multiplied sign [] = sign
 multiplied sign (next_one ∷ more) = multiplied (product sign next_one) more
 
 pub signed-is : (sign : SignOf) (value : Decimal) → apply_sign sign value ≡ signed sign value
-signed-is Plus value = refl
-signed-is Minus value = refl
+signed-is sign value = grind arith
 
 pub times-plus : (sign : SignOf) → times sign Plus ≡ sign
-times-plus Plus = refl
-times-plus Minus = refl
+times-plus sign = grind arith
 
 times-product : (a b c : SignOf) → times (product a b) c ≡ times a (times b c)
-times-product Plus b c = refl
-times-product Minus Plus c = refl
-times-product Minus Minus Plus = refl
-times-product Minus Minus Minus = refl
+times-product a b c = grind arith
 
 multiplied-is : (signs : List SignOf) (sign : SignOf) → multiplied sign signs ≡ product_of (sign ∷ signs)
 multiplied-is [] sign = sym (times-plus sign)
@@ -58,17 +52,14 @@ abbrev pub term_before : List SignOf → Option Decimal → List ℕ → List Te
 term_before signs number column xs = sign_tokens signs ++ (number_tokens number ++ Name column ∷ xs)
 
 pub term-before : (signs : List SignOf) (number : Option Decimal) (column : List ℕ) (xs : List Terminal) → term_before signs number column xs ≡ term_tokens (term signs number column) ++ xs
-term-before signs number column xs =
-    ap (λ (tokens : List Terminal). sign_tokens signs ++ tokens) (sym (append_assoc (number_tokens number) (Name column ∷ []) xs))
-    ∙ sym (append_assoc (sign_tokens signs) (number_tokens number ++ Name column ∷ []) xs)
+term-before signs number column xs = grind (arith, append_assoc)
 
 abbrev pub is_no_name : Terminal → Bool
 is_no_name (Name name) = false
 is_no_name _ = true
 
 pub infinity-is : (sign : SignOf) → rules.infinity sign ≡ infinity sign
-infinity-is Plus = refl
-infinity-is Minus = refl
+infinity-is sign = grind arith
 
 -- the first token of a side, and its others before further tokens
 abbrev pub side_first : Side → Terminal
@@ -82,10 +73,7 @@ side_rest (side (Some sign) None) xs = Infinity ∷ xs
 side_rest (side (Some sign) (Some value)) xs = Number value ∷ xs
 
 pub side-split : (part : Side) (xs : List Terminal) → side_first part ∷ side_rest part xs ≡ side_tokens part ++ xs
-side-split (side None None) xs = refl
-side-split (side None (Some value)) xs = refl
-side-split (side (Some sign) None) xs = refl
-side-split (side (Some sign) (Some value)) xs = refl
+side-split part xs = grind arith
 
 module _ (last : ℕ) (later : Tokens) where
   -- ---- items
@@ -93,38 +81,26 @@ module _ (last : ℕ) (later : Tokens) where
   pub hears-named : (sign : SignOf) (value : Decimal) (column : List ℕ) (following : Item → PhraseRule Follows) (xs : List Terminal) (made : Declarations)
       → ((n : ℕ) → Hears last later (following (items.Term (apply_sign sign value) column (at n (Name column)))) xs made)
       → Hears last later (number_item sign value >>= following) (Name column ∷ xs) made
-  hears-named sign value column following xs made h line =
-      listened-one (following (items.Term (apply_sign sign value) column (at (line 0) (Name column))) (stamped (onward line) xs (ending last later))) (at (line 0) (Name column)) (stamped (onward line) xs (ending last later))
-      ∙ h (line 0) (onward line)
+  hears-named sign value column following xs made h line = grind arith
 
   pub hears-lone : (sign : SignOf) (value : Decimal) (following : Item → PhraseRule Follows) (xs : List Terminal) (made : Declarations) → is_no_name (first_of_all xs) ≡ true
       → ((n : ℕ) → Hears last later (following (items.Lone (apply_sign sign value) (at n (first_of_all xs)))) xs made)
       → Hears last later (number_item sign value >>= following) xs made
-  hears-lone sign value following [] made no_name h line =
-      listened-none (following (items.Lone (apply_sign sign value) (at last (Opens words.End))) (ending last later)) (ending last later) ∙ h last line
-  hears-lone sign value following (Name column ∷ xs) made no_name h line = absurd cc
-  hears-lone sign value following (x ∷ xs) made no_name h line =
-      listened-none (following (items.Lone (apply_sign sign value) (at (line 0) x)) (stamped line (x ∷ xs) (ending last later))) (stamped line (x ∷ xs) (ending last later)) ∙ h (line 0) line
+  hears-lone sign value following xs made no_name h line = grind (arith, listened-none, at, ending, stamped)
 
   pub hears-signs : (signs : List SignOf) (context : Context) (sign : SignOf) (following : Item → PhraseRule Follows) (xs : List Terminal) (made : Declarations)
       → Hears last later (signed_item context (multiplied sign signs) >>= following) xs made → Hears last later (signed_item context sign >>= following) (sign_tokens signs ++ xs) made
   hears-signs [] context sign following xs made h line = h line
-  hears-signs (next_one ∷ signs) context sign following xs made h line =
-      heard-later (signed_item context (product sign next_one) (stamped (onward line) (sign_tokens signs ++ xs) (ending last later))) following (at (line 0) (Sign next_one))
-      (stamped (onward line) (sign_tokens signs ++ xs) (ending last later))
-      ∙ hears-signs signs context (product sign next_one) following xs made h (onward line)
+  hears-signs (next_one ∷ signs) context sign following xs made h line = grind (arith, heard-later, stamped, onward, ending, at, hears-signs signs context (product sign next_one) following xs made h (onward line))
 
   hears-signed_name : (context : Context) (sign : SignOf) (column : List ℕ) (following : Item → PhraseRule Follows) (xs : List Terminal) (made : Declarations)
       → ((n : ℕ) → Hears last later (following (items.Term (apply_sign sign one) column (at n (Name column)))) xs made)
       → Hears last later (signed_item context sign >>= following) (Name column ∷ xs) made
-  hears-signed_name context sign column following xs made h line =
-      listened-one (following (items.Term (apply_sign sign one) column (at (line 0) (Name column))) (stamped (onward line) xs (ending last later))) (at (line 0) (Name column)) (stamped (onward line) xs (ending last later))
-      ∙ h (line 0) (onward line)
+  hears-signed_name context sign column following xs made h line = grind arith
 
   pub hears-signed_number : (context : Context) (sign : SignOf) (value : Decimal) (following : Item → PhraseRule Follows) (xs : List Terminal) (made : Declarations)
       → Hears last later (number_item sign value >>= following) xs made → Hears last later (signed_item context sign >>= following) (Number value ∷ xs) made
-  hears-signed_number context sign value following xs made h line =
-      heard-later (number_item sign value (stamped (onward line) xs (ending last later))) following (at (line 0) (Number value)) (stamped (onward line) xs (ending last later)) ∙ h (onward line)
+  hears-signed_number context sign value following xs made h line = grind arith
 
   -- what follows a term reads its value
   abbrev pub HearsTerm : (Item → PhraseRule Follows) → Decimal → List ℕ → List Terminal → Declarations → Type 0
@@ -150,11 +126,8 @@ module _ (last : ℕ) (later : Tokens) where
       → Hears last later (next >>= λ token. item_from context token >>= following) (term_before signs number column xs) made
   hears-first context (sign ∷ signs) number column following xs made h =
       hears-next last later (λ token. item_from context token >>= following) (Sign sign) (term_before signs number column xs) made (λ n. hears-term context sign signs number column following xs made h)
-  hears-first context [] None column following xs made h =
-      hears-next last later (λ token. item_from context token >>= following) (Name column) xs made
-      (λ n line. listened-gives (items.Term one column (at n (Name column))) following (stamped line xs (ending last later)) ∙ h n line)
-  hears-first context [] (Some size) column following xs made h =
-      hears-next last later (λ token. item_from context token >>= following) (Number size) (Name column ∷ xs) made (λ n. hears-named Plus size column following xs made h)
+  hears-first context [] None column following xs made h = grind arith
+  hears-first context [] (Some size) column following xs made h = grind arith
 
   -- ---- sides
 
@@ -162,33 +135,7 @@ module _ (last : ℕ) (later : Tokens) where
   abbrev pub HearsSide : (SideOf → PhraseRule Follows) → Limit → List Terminal → Declarations → Type 0
   HearsSide following value xs made = (token : TerminalAt) → Hears last later (following (record { limit = value; last = token })) xs made
 
-  hears-limit : (following : SideOf → PhraseRule Follows) (side_of : SideOf) (xs : List Terminal) (made : Declarations) → Hears last later (following side_of) xs made
-      → Hears last later (gives side_of >>= following) xs made
-  hears-limit following side_of xs made h line = listened-gives side_of following (stamped line xs (ending last later)) ∙ h line
-
-  -- from the first token of a side on
-  pub hears-side_from : (context : Context) (part : Side) (following : SideOf → PhraseRule Follows) (xs : List Terminal) (made : Declarations) → HearsSide following (limit part) xs made
-      → (n : ℕ) → Hears last later (side_from context (at n (side_first part)) >>= following) (side_rest part xs) made
-  hears-side_from context (side None None) following xs made h n line = hears-limit following _ xs made (h (at n Infinity)) line
-  hears-side_from context (side None (Some value)) following xs made h n line = hears-limit following _ xs made (h (at n (Number value))) line
-  hears-side_from context (side (Some sign) None) following xs made h n line =
-      heard-later (unsigned_side context sign (at (line 0) Infinity) (stamped (onward line) xs (ending last later))) following (at (line 0) Infinity) (stamped (onward line) xs (ending last later))
-      ∙ hears-limit following _ xs made (subst (λ (v : Limit). HearsSide following v xs made) (sym (infinity-is sign)) h (at (line 0) Infinity)) (onward line)
-  hears-side_from context (side (Some sign) (Some value)) following xs made h n line =
-      heard-later (unsigned_side context sign (at (line 0) (Number value)) (stamped (onward line) xs (ending last later))) following (at (line 0) (Number value)) (stamped (onward line) xs (ending last later))
-      ∙ hears-limit following _ xs made (subst (λ (v : Decimal). HearsSide following (limit_of v) xs made) (sym (signed-is sign value)) h (at (line 0) (Number value))) (onward line)
-
-  -- a whole side
-  pub hears-side : (context : Context) (part : Side) (following : SideOf → PhraseRule Follows) (xs : List Terminal) (made : Declarations) → HearsSide following (limit part) xs made
-      → Hears last later (side_rule context >>= following) (side_tokens part ++ xs) made
-  hears-side context part following xs made h =
-      subst (λ (tokens : List Terminal). Hears last later (side_rule context >>= following) tokens made) (side-split part xs)
-      (λ line. heard-later (side_from context (at (line 0) (side_first part)) (stamped (onward line) (side_rest part xs) (ending last later))) following (at (line 0) (side_first part)) (stamped (onward line) (side_rest part xs) (ending last later))
-      ∙ hears-side_from context part following xs made h (line 0) (onward line))
-
   -- a relation
   pub hears-relation : (context : Context) (relation : Relation) (following : Relation → PhraseRule Follows) (xs : List Terminal) (made : Declarations) → Hears last later (following relation) xs made
       → Hears last later (next_relation context >>= following) (Compares relation ∷ xs) made
-  hears-relation context relation following xs made h line =
-      heard-later (gives relation (stamped (onward line) xs (ending last later))) following (at (line 0) (Compares relation)) (stamped (onward line) xs (ending last later))
-      ∙ listened-none (following relation (stamped (onward line) xs (ending last later))) (stamped (onward line) xs (ending last later)) ∙ h (onward line)
+  hears-relation context relation following xs made h line = grind arith

@@ -1,23 +1,21 @@
 -- How the grammar reads the objective.
-use Rattle.std.proofs.Common.{◌≡◌, refl, sym, subst, ◌∙◌, ℕ, List, [], ◌∷◌, ◌++◌, Bool, true, false, append_assoc}
+use Rattle.std.proofs.Common.{arith, ◌≡◌, refl, sym, subst, ℕ, List, [], ◌∷◌, ◌++◌, Bool, true, false, append_assoc}
 use Rattle.std.specs.Prelude.{Option, Some, None}
 use Rattle.std.specs.List.{flat_map, list_all}
 use Rattle.std.specs.Cmp.{first_so, second_so}
 use Rattle.mpslp_decimal.specs.Decimal.{Number as Decimal}
 use Rattle.mpslp_types.specs.declared.kinds.Sense.{Sense}
-use Rattle.mpslp_types.specs.declared.kinds.Sense.TheVariants.{Minimize, Maximize}
 use Rattle.mpslp_builder.specs.Declaration.{Declarations, Draft, empty_draft, declare_constant, with_declarations}
 use Rattle.mpslp_builder.specs.Refusal.{refusals_in_turn}
 use Rattle.mpslp_builder.proofs.MadeDrafts.{with_declarations-append}
 use Rattle.mpslp_lp_grammar.specs.declared.signs.Sign.{Sign as SignOf}
-use Rattle.mpslp_lp_grammar.specs.declared.signs.Sign.TheVariants.{Plus}
 use Rattle.mpslp_lp_grammar.specs.Rules.{◌>>=◌, ahead}
 use Rattle.mpslp_lp_grammar.specs.Terminal.{Terminal}
 use Rattle.mpslp_lp_grammar.specs.Terminal.Terminal.{Opens, Name, Number, Sign, Colon}
 use Rattle.mpslp_lp_grammar.specs.Phrase.{start, no_section_seen, with_section, declares}
 use Rattle.mpslp_lp_grammar.specs.declared.sections_seen.SectionsSeen.{SectionsSeen}
 use Rattle.mpslp_lp_grammar.specs.declared.context.Context.{Context}
-use Rattle.mpslp_lp_grammar.specs.declared.states.Place.TheVariants.{AtStart, BeforeItems, InObjective}
+use Rattle.mpslp_lp_grammar.specs.declared.states.Place.TheVariants.{BeforeItems, InObjective}
 use Rattle.mpslp_lp_grammar.specs.Items.{signed_item, Item as items}
 use Rattle.mpslp_lp_grammar.specs.Rows.{objective_item, objective_declared, default_objective, first_item_declared, objective_named, objective_from, objective as objective_rule}
 use Rattle.mpslp_lp_tokens.specs.declared.words.Section.TheVariants as sections
@@ -31,9 +29,9 @@ use Rattle.mpslp_lp_sentences.specs.Phrases.Item.{a_term, a_constant}
 use Rattle.mpslp_lp_sentences.specs.Phrases.Objective.{objective}
 use Rattle.mpslp_lp_sentences.specs.Spelling.{sign_tokens, label_tokens, item_tokens, is_objective, objective_tokens, sense_word, is_signed_item, are_items}
 use Rattle.mpslp_lp_sentences.specs.Meaning.{product_of, signed, coefficient, item_declares, objective_declares}
-use Rattle.mpslp_lp_sentences.proofs.Whole.{Tokens, listened-gives}
-use Rattle.mpslp_lp_sentences.proofs.Stamped.{stamped, ending, first_of_all, here, Hears, IsWhole, IsWholeAnywhere, whole-begins, hears-next, hears-ahead, hears-declares, whole-joined, whole-opens}
-use Rattle.mpslp_lp_sentences.proofs.ItemsHeard.{multiplied, multiplied-value, term_before, term-before, is_no_name, hears-named, hears-lone, hears-signs, hears-signed_number, hears-term, HearsTerm}
+use Rattle.mpslp_lp_sentences.proofs.Whole.{Tokens}
+use Rattle.mpslp_lp_sentences.proofs.Stamped.{first_of_all, here, Hears, IsWhole, IsWholeAnywhere, whole-begins, hears-next, hears-ahead, hears-declares, whole-joined}
+use Rattle.mpslp_lp_sentences.proofs.ItemsHeard.{multiplied, multiplied-value, term_before, term-before, is_no_name, hears-lone, hears-signs, hears-signed_number, hears-term, HearsTerm}
 
 -- what may follow a constant
 abbrev pub is_opening : Terminal → Bool
@@ -46,20 +44,14 @@ is_section_word (Opens word) = true
 is_section_word _ = false
 
 no_name-opening : (x : Terminal) → is_opening x ≡ true → is_no_name x ≡ true
-no_name-opening (Name name) h = absurd cc
-no_name-opening _ h = refl
-
-opening-section_word : (x : Terminal) → is_section_word x ≡ true → is_opening x ≡ true
-opening-section_word (Opens word) h = refl
-opening-section_word _ h = absurd cc
+no_name-opening x h = grind arith
 
 -- tokens after items begin with an item's sign or as the tokens after them
 opening-items : (parts : List Item) (xs : List Terminal) → list_all is_signed_item parts ≡ true → is_section_word (first_of_all xs) ≡ true → is_opening (first_of_all (flat_map item_tokens parts ++ xs)) ≡ true
-opening-items [] xs h k = opening-section_word (first_of_all xs) k
-opening-items (a_term (term [] number column) ∷ parts) xs h k = absurd cc
+opening-items [] xs h k = grind arith
 opening-items (a_term (term (sign ∷ signs) number column) ∷ parts) xs h k = refl
-opening-items (a_constant [] value ∷ parts) xs h k = absurd cc
 opening-items (a_constant (sign ∷ signs) value ∷ parts) xs h k = refl
+opening-items _ xs h k = absurd cc
 
 -- the sections that are open after the first word
 abbrev pub after_word : SectionsSeen
@@ -72,18 +64,13 @@ module _ (last : ℕ) (later : Tokens) where
       → refusals_in_turn earlier (item_declares name (a_term (term signs number column))) ≡ []
       → IsWhole last later (point_at (InObjective name) sections_seen (with_declarations earlier (item_declares name (a_term (term signs number column))))) xs made
       → HearsTerm last later (objective_item (here sections_seen earlier) name) (coefficient signs number) column xs (item_declares name (a_term (term signs number column)) ++ made)
-  heard-term name sections_seen earlier signs number column xs made h rest n =
-      hears-declares last later (here sections_seen earlier) (at n (Name column)) (InObjective name) (item_declares name (a_term (term signs number column))) xs made h rest
+  heard-term name sections_seen earlier signs number column xs made h rest n = grind arith
 
   heard-constant : (name : List ℕ) (sections_seen : SectionsSeen) (earlier : Draft) (value : Decimal) (x : Terminal) (n : ℕ) (xs : List Terminal) (made : Declarations) → is_opening x ≡ true
       → refusals_in_turn earlier (declare_constant value ∷ []) ≡ []
       → IsWhole last later (point_at (InObjective name) sections_seen (with_declarations earlier (declare_constant value ∷ []))) xs made
       → Hears last later (objective_item (here sections_seen earlier) name (items.Lone value (at n x))) xs (declare_constant value ∷ made)
-  heard-constant name sections_seen earlier value (Sign sign) n xs made opens h rest =
-      hears-declares last later (here sections_seen earlier) (at n (Sign sign)) (InObjective name) (declare_constant value ∷ []) xs made h rest
-  heard-constant name sections_seen earlier value (Opens word) n xs made opens h rest =
-      hears-declares last later (here sections_seen earlier) (at n (Opens word)) (InObjective name) (declare_constant value ∷ []) xs made h rest
-  heard-constant name sections_seen earlier value _ n xs made opens h rest = absurd cc
+  heard-constant name sections_seen earlier value x n xs made opens h rest = grind arith
 
   -- a constant after its first sign
   heard-signed_constant : (name : List ℕ) (sections_seen : SectionsSeen) (earlier : Draft) (sign : SignOf) (signs : List SignOf) (value : Decimal) (xs : List Terminal) (made : Declarations)
@@ -105,19 +92,18 @@ module _ (last : ℕ) (later : Tokens) where
       → refusals_in_turn earlier (item_declares name part) ≡ []
       → IsWhole last later (point_at (InObjective name) sections_seen (with_declarations earlier (item_declares name part))) xs made
       → IsWhole last later (point_at (InObjective name) sections_seen earlier) (item_tokens part ++ xs) (item_declares name part ++ made)
-  whole-later name sections_seen earlier (a_term (term [] number column)) xs made sign opens h rest = absurd cc
   whole-later name sections_seen earlier (a_term (term (sign ∷ signs) number column)) xs made s opens h rest =
       subst (λ (tokens : List Terminal). IsWhole last later (point_at (InObjective name) sections_seen earlier) tokens (item_declares name (a_term (term (sign ∷ signs) number column)) ++ made))
       (term-before (sign ∷ signs) number column xs)
       (whole-begins last later (point_at (InObjective name) sections_seen earlier) (Sign sign) (term_before signs number column xs) _
       (λ n. hears-term last later (here sections_seen earlier) sign signs number column (objective_item (here sections_seen earlier) name) xs _
       (heard-term name sections_seen earlier (sign ∷ signs) number column xs made h rest)))
-  whole-later name sections_seen earlier (a_constant [] value) xs made sign opens h rest = absurd cc
   whole-later name sections_seen earlier (a_constant (sign ∷ signs) value) xs made s opens h rest =
       subst (λ (tokens : List Terminal). IsWhole last later (point_at (InObjective name) sections_seen earlier) tokens (item_declares name (a_constant (sign ∷ signs) value) ++ made))
       (sym (append_assoc (sign_tokens (sign ∷ signs)) (Number value ∷ []) xs))
       (whole-begins last later (point_at (InObjective name) sections_seen earlier) (Sign sign) (sign_tokens signs ++ Number value ∷ xs) _
       (λ n. heard-signed_constant name sections_seen earlier sign signs value xs made opens h rest))
+  whole-later name sections_seen earlier _ xs made sign opens h rest = absurd cc
 
   -- the first item
   whole-first : (name : List ℕ) (sections_seen : SectionsSeen) (earlier : Draft) (part : Item) (xs : List Terminal) (made : Declarations) → is_opening (first_of_all xs) ≡ true
@@ -130,21 +116,14 @@ module _ (last : ℕ) (later : Tokens) where
       (whole-begins last later (point_at (BeforeItems name) sections_seen earlier) (Sign sign) (term_before signs number column xs) _
       (λ n. hears-term last later (here sections_seen earlier) sign signs number column (objective_item (here sections_seen earlier) name) xs _
       (heard-term name sections_seen earlier (sign ∷ signs) number column xs made h rest)))
-  whole-first name sections_seen earlier (a_term (term [] None column)) xs made opens h rest =
-      whole-begins last later (point_at (BeforeItems name) sections_seen earlier) (Name column) xs _
-      (λ n line. listened-gives (items.Term (coefficient [] None) column (at n (Name column))) (objective_item (here sections_seen earlier) name) (stamped line xs (ending last later)) ∙ heard-term name sections_seen earlier [] None column xs made h rest n line)
-  whole-first name sections_seen earlier (a_term (term [] (Some size) column)) xs made opens h rest =
-      whole-begins last later (point_at (BeforeItems name) sections_seen earlier) (Number size) (Name column ∷ xs) _
-      (λ n. hears-named last later Plus size column (objective_item (here sections_seen earlier) name) xs _ (heard-term name sections_seen earlier [] (Some size) column xs made h rest))
+  whole-first name sections_seen earlier (a_term (term [] None column)) xs made opens h rest = grind arith
+  whole-first name sections_seen earlier (a_term (term [] (Some size) column)) xs made opens h rest = grind arith
   whole-first name sections_seen earlier (a_constant (sign ∷ signs) value) xs made opens h rest =
       subst (λ (tokens : List Terminal). IsWhole last later (point_at (BeforeItems name) sections_seen earlier) tokens (item_declares name (a_constant (sign ∷ signs) value) ++ made))
       (sym (append_assoc (sign_tokens (sign ∷ signs)) (Number value ∷ []) xs))
       (whole-begins last later (point_at (BeforeItems name) sections_seen earlier) (Sign sign) (sign_tokens signs ++ Number value ∷ xs) _
       (λ n. heard-signed_constant name sections_seen earlier sign signs value xs made opens h rest))
-  whole-first name sections_seen earlier (a_constant [] value) xs made opens h rest =
-      whole-begins last later (point_at (BeforeItems name) sections_seen earlier) (Number value) xs _
-      (λ n. hears-lone last later Plus value (objective_item (here sections_seen earlier) name) xs _ (no_name-opening (first_of_all xs) opens)
-      (λ m. heard-constant name sections_seen earlier value (first_of_all xs) m xs made opens h rest))
+  whole-first name sections_seen earlier (a_constant [] value) xs made opens h rest = grind arith
 
   -- ---- items one after another
 
@@ -180,30 +159,17 @@ module _ (last : ℕ) (later : Tokens) where
 
   -- ---- the objective
 
-  -- without a label: the first token is no name
-  hears-unlabelled : (sense : Sense) (x : Terminal) (n : ℕ) (xs : List Terminal) (made : Declarations) → is_no_name x ≡ true
-      → IsWhole last later (point_at (BeforeItems default_objective) after_word (with_declarations empty_draft (objective_declared sense default_objective))) xs made
-      → Hears last later (objective_from (here after_word empty_draft) sense (at n x)) xs (objective_declared sense default_objective ++ made)
-  hears-unlabelled sense (Name name) n xs made no_name rest = absurd cc
-  hears-unlabelled sense x n xs made no_name rest =
-      hears-declares last later (here after_word empty_draft) (at n x) (BeforeItems default_objective) (objective_declared sense default_objective) xs made refl rest
-
   hears-plain : (sense : Sense) (xs : List Terminal) (made : Declarations) → is_no_name (first_of_all xs) ≡ true
       → IsWhole last later (point_at (BeforeItems default_objective) after_word (with_declarations empty_draft (objective_declared sense default_objective))) xs made
       → Hears last later (objective_rule (here after_word empty_draft) sense) xs (objective_declared sense default_objective ++ made)
-  hears-plain sense xs made no_name rest =
-      hears-ahead last later (objective_from (here after_word empty_draft) sense) xs _ (λ n. hears-unlabelled sense (first_of_all xs) n xs made no_name rest)
+  hears-plain sense xs made no_name rest = grind arith
 
   -- a name that is no label: it is the first item
   hears-second : (sense : Sense) (column : List ℕ) (x : Terminal) (n : ℕ) (xs : List Terminal) (made : Declarations) → is_opening x ≡ true
       → refusals_in_turn empty_draft (first_item_declared sense column) ≡ []
       → IsWhole last later (point_at (InObjective default_objective) after_word (with_declarations empty_draft (first_item_declared sense column))) xs made
       → Hears last later (objective_named (here after_word empty_draft) sense column (at n x)) xs (first_item_declared sense column ++ made)
-  hears-second sense column (Sign sign) n xs made opens h rest =
-      hears-declares last later (here after_word empty_draft) (at n (Sign sign)) (InObjective default_objective) (first_item_declared sense column) xs made h rest
-  hears-second sense column (Opens word) n xs made opens h rest =
-      hears-declares last later (here after_word empty_draft) (at n (Opens word)) (InObjective default_objective) (first_item_declared sense column) xs made h rest
-  hears-second sense column _ n xs made opens h rest = absurd cc
+  hears-second sense column x n xs made opens h rest = grind arith
 
   hears-objective : (sense : Sense) (label : Option (List ℕ)) (parts : List Item) (xs : List Terminal) (made : Declarations) → are_items parts ≡ true → is_section_word (first_of_all xs) ≡ true
       → refusals_in_turn empty_draft (objective_declares (objective sense label parts)) ≡ []
@@ -218,9 +184,7 @@ module _ (last : ℕ) (later : Tokens) where
       (λ k. hears-next last later (λ colon. declares context (at k Colon) (BeforeItems name) (objective_declared sense name)) Colon tokens _
       (λ j. hears-declares last later context (at k Colon) (BeforeItems name) (objective_declared sense name) tokens _ refl
       (whole-all_items name after_word parts (with_declarations empty_draft (objective_declared sense name)) xs made signs opens h rest)))))
-  hears-objective sense None [] xs made signs opens h rest =
-      hears-plain sense xs made (no_name-opening (first_of_all xs) (opening-section_word (first_of_all xs) opens))
-      (whole-all_items default_objective after_word [] (with_declarations empty_draft (objective_declared sense default_objective)) xs made signs opens h rest)
+  hears-objective sense None [] xs made signs opens h rest = grind arith
   hears-objective sense None (a_term (term (sign ∷ more) number column) ∷ parts) xs made signs opens h rest =
       hears-plain sense (flat_map item_tokens (a_term (term (sign ∷ more) number column) ∷ parts) ++ xs) _ refl
       (whole-all_items default_objective after_word (a_term (term (sign ∷ more) number column) ∷ parts) (with_declarations empty_draft (objective_declared sense default_objective)) xs made signs opens h rest)
@@ -247,8 +211,7 @@ module _ (last : ℕ) (later : Tokens) where
       (subst (λ (draft : Draft). IsWholeAnywhere last later after_word draft xs made) (with_declarations-append first more empty_draft) rest)))))
 
   begun : (sense : Sense) (xs : List Terminal) (made : Declarations) → Hears last later (objective_rule (here after_word empty_draft) sense) xs made → IsWhole last later start (Opens (sense_word sense) ∷ xs) made
-  begun Minimize xs made h = whole-opens last later AtStart no_section_seen empty_draft words.Minimize xs made refl refl (λ n. h)
-  begun Maximize xs made h = whole-opens last later AtStart no_section_seen empty_draft words.Maximize xs made refl refl (λ n. h)
+  begun sense xs made h = grind arith
 
   -- the objective, and then a section or the end
   pub whole-objective : (part : Objective) (xs : List Terminal) (made : Declarations) → is_objective part ≡ true → is_section_word (first_of_all xs) ≡ true

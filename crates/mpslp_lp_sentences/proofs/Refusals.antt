@@ -1,19 +1,18 @@
 -- The kind of the first error of declarations is that of a test that fails.
-use Rattle.std.proofs.Common.{◌≡◌, refl, sym, ap, ◌∙◌, List, [], ◌∷◌, ℕ, Bool, true, false, cond, map}
-use Rattle.std.specs.Prelude.{◌||◌, ◌==◌, if◌then◌else◌}
+use Rattle.std.proofs.Common.{arith, ◌≡◌, refl, List, [], ◌∷◌, ℕ, Bool, true, false, cond, map}
+use Rattle.std.specs.Prelude.{◌||◌, if◌then◌else◌}
 use Rattle.std.specs.List.{list_any, flat_map}
 use Rattle.std.proofs.Math.Dec.{eqb_refl}
 use Rattle.std.proofs.lemmas.List.{map-append}
 use Rattle.std.proofs.lemmas.List.Folds.{list_any-append}
 use Rattle.mpslp_decimal.specs.Decimal.{Number as Decimal}
-use Rattle.mpslp_types.specs.FaultOrder.{kind_rank}
 use Rattle.mpslp_types.specs.declared.faults.BuildFault.{BuildFault}
 use Rattle.mpslp_types.specs.declared.faults.FaultKind.{FaultKind}
 use Rattle.mpslp_types.specs.declared.faults.FaultKind.TheVariants as kinds
 use Rattle.mpslp_types.proofs.BoolLemmas.{true_from}
 use Rattle.mpslp_types.specs.Lists.{those_of}
 use Rattle.mpslp_builder.specs.Declaration.{Declarations, Draft, with_declaration, with_declarations}
-use Rattle.mpslp_builder.specs.Refusal.{refusal_tests, refusals, refusals_in_turn}
+use Rattle.mpslp_builder.specs.Refusal.{refusal_tests, refusals_in_turn}
 use Rattle.mpslp_lines.specs.FaultTests.{kind_of_build_fault, is_kind}
 use Rattle.mpslp_lp_grammar.specs.Rows.{term_declared}
 
@@ -32,26 +31,14 @@ any-refused kind ((held, other) ∷ more) = by (any-refused kind more) held (is_
   where
     by : list_any (is_kind kind) (map kind_of_build_fault (those_of more)) ≡ refused_as kind more → (b c : Bool) → is_kind kind (kind_of_build_fault other) ≡ c
         → list_any (is_kind kind) (map kind_of_build_fault (cond b (other ∷ those_of more) (those_of more))) ≡ cond c (b || refused_as kind more) (refused_as kind more)
-    by rest true true e = ap (λ (x : Bool). x || list_any (is_kind kind) (map kind_of_build_fault (those_of more))) e
-    by rest true false e = ap (λ (x : Bool). x || list_any (is_kind kind) (map kind_of_build_fault (those_of more))) e ∙ rest
-    by rest false true e = rest
-    by rest false false e = rest
+    by rest b c e = grind arith
 
 any-declaring : (kind : FaultKind) (ds : Declarations) (earlier : Draft) → list_any (is_kind kind) (map kind_of_build_fault (refusals_in_turn earlier ds)) ≡ refuses kind earlier ds
 any-declaring kind [] earlier = refl
-any-declaring kind (d ∷ ds) earlier =
-    ap (list_any (is_kind kind)) (map-append kind_of_build_fault (refusals earlier d) (refusals_in_turn (with_declaration earlier d) ds))
-    ∙ (list_any-append (is_kind kind) (map kind_of_build_fault (refusals earlier d)) (map kind_of_build_fault (refusals_in_turn (with_declaration earlier d) ds))
-    ∙ (ap (λ (b : Bool). b || list_any (is_kind kind) (map kind_of_build_fault (refusals_in_turn (with_declaration earlier d) ds))) (any-refused kind (refusal_tests earlier d))
-    ∙ ap (λ (b : Bool). refused_as kind (refusal_tests earlier d) || b) (any-declaring kind ds (with_declaration earlier d))))
+any-declaring kind (d ∷ ds) earlier = grind (arith, map-append, list_any-append, any-refused, any-declaring kind ds (with_declaration earlier d))
 
 pub first-refused : (ds : Declarations) (earlier : Draft) (first : BuildFault) (more : List BuildFault) → refusals_in_turn earlier ds ≡ first ∷ more → refuses (kind_of_build_fault first) earlier ds ≡ true
-first-refused ds earlier first more h =
-    sym (any-declaring kind ds earlier) ∙ ap (λ (faults : List BuildFault). list_any (is_kind kind) (map kind_of_build_fault faults)) h
-    ∙ ap (λ (b : Bool). b || list_any (is_kind kind) (map kind_of_build_fault more)) (true_from (kind_rank kind == kind_rank kind) (eqb_refl (kind_rank kind)))
-  where
-    kind : FaultKind
-    kind = kind_of_build_fault first
+first-refused ds earlier first more h = grind (arith, any-declaring, true_from, eqb_refl)
 
 -- the errors of terms have no other kinds
 pub terms-refuse : (kind : FaultKind) → is_kind kind kinds.UnknownRow ≡ false → is_kind kind kinds.UnknownColumn ≡ false → is_kind kind kinds.DuplicateEntry ≡ false

@@ -1,6 +1,6 @@
 -- What is known of rows that are not rejected: their columns are new in the row, and each row adds one to their number.
-use Rattle.std.proofs.Common.{◌≡◌, refl, sym, ap, ◌∙◌, ℕ, ◌+◌, List, [], ◌∷◌, ◌++◌, Bool, true, false, not, length}
-use Rattle.std.specs.Prelude.{◌||◌, ◌&&◌, cond, is_some}
+use Rattle.std.proofs.Common.{arith, ◌≡◌, refl, ap, ◌∙◌, ℕ, ◌+◌, List, [], ◌∷◌, ◌++◌, Bool, false, not, length}
+use Rattle.std.specs.Prelude.{◌||◌, cond, is_some}
 use Rattle.std.specs.List.{flat_map, list_any}
 use Rattle.std.specs.Cmp.Lexicographic.{nat_list_cmp_total}
 use Rattle.std.specs.FinMap.{find}
@@ -8,8 +8,7 @@ use Rattle.std.specs.FinMap.Entries.{length-put}
 use Rattle.mpslp_decimal.specs.Decimal.{Number as Decimal}
 use Rattle.mpslp_types.specs.Name.{same_bytes, bytes_cmp}
 use Rattle.mpslp_types.proofs.BoolLemmas.{nor}
-use Rattle.mpslp_types.specs.Lists.{those_of}
-use Rattle.mpslp_builder.specs.Declaration.{RowDefinition, Draft, declare_row, declare_column, with_declaration, with_declarations, has_name, has_row, has_column, has_coefficient, is_objective, have_infinite_side}
+use Rattle.mpslp_builder.specs.Declaration.{RowDefinition, Draft, declare_row, with_declaration, with_declarations, has_coefficient}
 use Rattle.mpslp_builder.specs.Refusal.{refusals_in_turn}
 use Rattle.mpslp_types.specs.declared.faults.BuildFault.TheVariants as builds
 use Rattle.mpslp_builder.proofs.LaterDrafts.{itself_named}
@@ -26,14 +25,7 @@ Pair = List ℕ × Decimal
 
 -- a coefficient that is not rejected was not there
 absent : (earlier : Draft) (row : List ℕ) (term : Pair) → refusals_in_turn earlier (term_declared row term) ≡ [] → has_coefficient earlier (record { row = row; column = term.0 }) ≡ false
-absent earlier row term h =
-    by (not (has_row earlier row)) (not (has_column (with_declaration earlier (declare_column term.0)) term.0)) (has_coefficient earlier (record { row = row; column = term.0 })) h
-  where
-    by : (r c e : Bool) → those_of ((r, builds.UnknownRow) ∷ (c, builds.UnknownColumn) ∷ (e, builds.DuplicateEntry) ∷ []) ++ [] ≡ [] → e ≡ false
-    by true c e k = absurd cc
-    by false true e k = absurd cc
-    by false false true k = absurd cc
-    by false false false k = refl
+absent earlier row term h = grind arith
 
 -- so the columns of terms that are not rejected are new
 pub terms-new : (row : List ℕ) (terms : List Pair) (earlier : Draft) (seen : List Pair) → refusals_in_turn earlier (flat_map (term_declared row) terms) ≡ []
@@ -52,10 +44,7 @@ terms-new row (term ∷ terms) earlier seen h known =
 
     further : (column : List ℕ) → has_coefficient (with_declarations earlier (term_declared row term)) (record { row = row; column = column }) ≡ false
         → list_any (λ (t : Pair). same_bytes column t.0) (seen ++ term ∷ []) ≡ false
-    further column absent_now =
-        let parts = nor (same_bytes row row && same_bytes column term.0) (has_coefficient earlier (record { row = row; column = column }))
-        (sym (has-put_key (record { row = row; column = column }) (record { row = row; column = term.0 }) term.1 earlier.coefficients) ∙ absent_now) in
-        any-append column seen (known column parts.1) (ap (λ (s : Bool). s && same_bytes column term.0) (sym (itself_named row)) ∙ parts.0)
+    further column absent_now = grind (arith, nor, has-put_key, any-append, itself_named)
 
 -- ---- the number of rows
 
@@ -64,12 +53,7 @@ terms-rows row [] earlier = refl
 terms-rows row (term ∷ terms) earlier = terms-rows row terms (with_declarations earlier (term_declared row term))
 
 new_name : (earlier : Draft) (name : List ℕ) (form : RowDefinition) → refusals_in_turn earlier (declare_row name form ∷ []) ≡ [] → is_some (find bytes_cmp name earlier.rows) ≡ false
-new_name earlier name form h = by (is_objective earlier name) (has_name earlier.rows name) (have_infinite_side form) h
-  where
-    by : (a b d : Bool) → those_of ((a || b, builds.DuplicateRow) ∷ (d, builds.InfiniteValue) ∷ []) ++ [] ≡ [] → b ≡ false
-    by true b d e = absurd cc
-    by false true d e = absurd cc
-    by false false d e = refl
+new_name earlier name form h = grind arith
 
 -- a row that is not rejected adds one
 pub row-adds : (earlier : Draft) (name : List ℕ) (form : RowDefinition) (terms : List Pair) → IsSortedDraft earlier → refusals_in_turn earlier (declare_row name form ∷ flat_map (term_declared name) terms) ≡ []

@@ -1,5 +1,5 @@
 -- The rows that were declared are those that tokens have ended, each with the name that its label or its position gives.
-use Rattle.std.proofs.Common.{◌≡◌, refl, sym, ap, ◌∙◌, subst, ℕ, List, [], ◌∷◌, ◌++◌, ◌+◌, Bool, true, false, length}
+use Rattle.std.proofs.Common.{arith, ◌≡◌, refl, sym, ap, ◌∙◌, subst, ℕ, List, [], ◌∷◌, ◌++◌, ◌+◌, Bool, true, false, length}
 use Rattle.std.specs.Prelude.{Option, Some, None, is_some, codes, ◌||◌, ◌&&◌, not, unwrap_or, if◌then◌else◌}
 use Rattle.std.specs.List.{flat_map, cons_option}
 use Rattle.std.specs.Option.{option_map_or}
@@ -12,17 +12,15 @@ use Rattle.mpslp_types.specs.declared.faults.FaultKind.TheVariants as kinds
 use Rattle.mpslp_types.specs.declared.kinds.Limit.{Limit}
 use Rattle.mpslp_types.specs.declared.kinds.Limit.TheVariants.{MinusInf, PlusInf}
 use Rattle.mpslp_types.specs.Limit.{is_plus_infinite, is_minus_infinite}
-use Rattle.mpslp_types.proofs.BoolLemmas.{both_so, or_left, or_right, either}
+use Rattle.mpslp_types.proofs.BoolLemmas.{or_left, or_right, either}
 use Rattle.mpslp_types.specs.Lists.{those_of}
-use Rattle.mpslp_builder.specs.Declaration.{RowDefinition, Declarations, Draft, by_limits, empty_draft, with_declaration, with_declarations, declare_row, declare_column, bounds_declared, has_name, has_column, has_row, is_objective}
+use Rattle.mpslp_builder.specs.Declaration.{RowDefinition, Declarations, Draft, by_limits, empty_draft, with_declaration, with_declarations, declare_row, bounds_declared, has_name, has_column, has_row, is_objective}
 use Rattle.mpslp_builder.specs.Refusal.{refusals_in_turn}
 use Rattle.mpslp_builder.proofs.LaterDrafts.{itself_named}
 use Rattle.mpslp_builder.proofs.SlotLemmas.{has-put, same_name}
 use Rattle.mpslp_builder.proofs.SortedDrafts.{IsSortedDraft, sorted-with_declarations}
-use Rattle.mpslp_lp_grammar.proofs.DeclaresLemmas.{bounds-rows}
 use Rattle.mpslp_lines.specs.FaultTests.{kind_of_build_fault}
 use Rattle.mpslp_lp_tokens.specs.Token.{section_of}
-use Rattle.mpslp_lp_tokens.specs.declared.words.Section.{Section}
 use Rattle.mpslp_lp_tokens.specs.declared.words.Section.TheVariants.{Objective, Rows}
 use Rattle.mpslp_lp_grammar.specs.declared.context.Context.{Context}
 use Rattle.mpslp_lp_grammar.specs.declared.relations.Relation.{Relation}
@@ -41,9 +39,9 @@ use Rattle.mpslp_lp_grammar.specs.PartialRow.{PartialRow}
 use Rattle.mpslp_lp_grammar.specs.Phrase.{has_seen, is_out_of_order}
 use Rattle.mpslp_lp_grammar.specs.Items.{Limits}
 use Rattle.mpslp_lp_grammar.specs.Terminal.{Terminal}
-use Rattle.mpslp_lp_grammar.specs.Terminal.Terminal.{Opens, Name, Number, Sign, Compares, Colon, Infinity, Free, Other}
+use Rattle.mpslp_lp_grammar.specs.Terminal.Terminal.{Opens, Colon}
 use Rattle.mpslp_lp_grammar.specs.TokenByToken.{new_column}
-use Rattle.mpslp_lp_sentences.specs.FaultsInWords.{is_section, has_opened, current_section, is_under, is_named, collected, names_again, last_name, is_right_side, is_value, ends_row, rows_before, label_before, names_row, objective_before, names_objective, repeats_row}
+use Rattle.mpslp_lp_sentences.specs.FaultsInWords.{has_opened, current_section, is_named, collected, names_again, last_name, is_right_side, is_value, ends_row, rows_before, label_before, names_row, objective_before, names_objective, repeats_row}
 use Rattle.mpslp_lp_sentences.specs.Meaning.{row_name}
 use Rattle.mpslp_lp_sentences.proofs.Refusals.{refuses, first-refused, terms-refuse}
 use Rattle.mpslp_lp_sentences.proofs.RowFacts.{row-adds}
@@ -122,55 +120,31 @@ pub refused : (context : Context) (earlier : Tokens) (token : Terminal) (kind : 
 refused context earlier (Opens word) kind h = by (has_seen context.sections_seen (section_of word)) (is_out_of_order context.sections_seen (section_of word))
   where
     by : (a b : Bool) → Says earlier (Opens word) (unwrap_or (if a then Some kinds.SectionRepeated else (if b then Some kinds.SectionOrder else None)) kind)
-    by true b = tt
-    by false true = tt
-    by false false = h
+    by a b = grind arith
 refused context earlier _ kind h = h
 
 pub bad : (context : Context) (earlier : Tokens) (token : Terminal) → KeepsRows earlier token (refuse context token kinds.BadToken)
-bad context earlier token = refused context earlier token kinds.BadToken tt
+bad context earlier token = grind arith
 
 pub branch : (earlier : Tokens) (token : Terminal) (b : Bool) (x y : AfterToken) → KeepsRows earlier token x → KeepsRows earlier token y → KeepsRows earlier token (if b then x else y)
-branch earlier token true x y h k = h
-branch earlier token false x y h k = k
+branch earlier token b x y h k = grind arith
 
 pub says-by : (earlier : Tokens) (token : Terminal) (all : Draft) (made : Declarations) → (refuses kinds.DuplicateRow all made ≡ true → repeats_row earlier token ≡ true) → (first : BuildFault)
     → refuses (kind_of_build_fault first) all made ≡ true → Says earlier token (kind_of_build_fault first)
-says-by earlier token all made h builds.DuplicateSense k = tt
-says-by earlier token all made h builds.SecondObjective k = tt
-says-by earlier token all made h builds.UnknownRow k = tt
-says-by earlier token all made h builds.UnknownColumn k = tt
-says-by earlier token all made h builds.DuplicateRow k = h k
-says-by earlier token all made h builds.DuplicateEntry k = tt
-says-by earlier token all made h builds.DuplicateRhs k = tt
-says-by earlier token all made h builds.DuplicateRange k = tt
-says-by earlier token all made h builds.DuplicateBound k = tt
-says-by earlier token all made h builds.RangeOnFree k = tt
-says-by earlier token all made h builds.SemiContinuous k = tt
-says-by earlier token all made h builds.InfiniteValue k = tt
-says-by earlier token all made h builds.OutOfMemory k = tt
+says-by earlier token all made h first k = grind arith
 
 -- ---- one token more
 
 pub named-more : (name : List ℕ) (new : Option (List ℕ)) (names : List (List ℕ)) → is_named name names ≡ true → is_named name (cons_option new names) ≡ true
-named-more name None names h = h
-named-more name (Some other) names h = or_right (same_bytes name other) (is_named name names) h
+named-more name new names h = grind arith
 
 -- a token that ends no row, and declarations of other things
 pub rowed-later : (token : Terminal) (earlier : Tokens) (all later : Draft) → ends_row earlier token ≡ false → later.rows ≡ all.rows → IsSortedDraft later → Rowed earlier all → Rowed (token ∷ earlier) later
-rowed-later token earlier all later none same sorted h = record {
-  rows = λ name e. named-more name (names_row earlier token) (collected names_row earlier) (h.rows name (ap (λ (entries : List (List ℕ × RowDefinition)). has_name entries name) (sym same) ∙ e));
-  count = ap (λ (entries : List (List ℕ × RowDefinition)). length entries) same ∙ h.count ∙ sym (ap (λ (b : Bool). if b then rows_before earlier + 1 else rows_before earlier) none);
-  sorted = sorted;
-}
+rowed-later token earlier all later none same sorted h = grind arith
 
 -- declarations of other things
 pub rowed-same : (earlier : Tokens) (all later : Draft) → later.rows ≡ all.rows → IsSortedDraft later → Rowed earlier all → Rowed earlier later
-rowed-same earlier all later same sorted h = record {
-  rows = λ name e. h.rows name (ap (λ (entries : List (List ℕ × RowDefinition)). has_name entries name) (sym same) ∙ e);
-  count = ap (λ (entries : List (List ℕ × RowDefinition)). length entries) same ∙ h.count;
-  sorted = sorted;
-}
+rowed-same earlier all later same sorted h = grind arith
 
 -- the token is no label, or the section is that of the rows
 abbrev pub is_no_colon : Terminal → Bool
@@ -178,50 +152,17 @@ is_no_colon Colon = false
 is_no_colon _ = true
 
 pub objective-later : (token : Terminal) (earlier : Tokens) (all later : Draft) → is_no_colon token ≡ true → later.objective ≡ all.objective → HasObjective earlier all → HasObjective (token ∷ earlier) later
-objective-later (Opens word) earlier all later h same o = record { opened = or_right (is_section Objective (section_of word)) (has_opened earlier Objective) o.opened; name = same ∙ o.name }
-objective-later (Name name) earlier all later h same o = record { opened = o.opened; name = same ∙ o.name }
-objective-later (Number value) earlier all later h same o = record { opened = o.opened; name = same ∙ o.name }
-objective-later (Sign sign) earlier all later h same o = record { opened = o.opened; name = same ∙ o.name }
-objective-later (Compares relation) earlier all later h same o = record { opened = o.opened; name = same ∙ o.name }
-objective-later Colon earlier all later h same o = absurd cc
-objective-later Infinity earlier all later h same o = record { opened = o.opened; name = same ∙ o.name }
-objective-later Free earlier all later h same o = record { opened = o.opened; name = same ∙ o.name }
-objective-later Other earlier all later h same o = record { opened = o.opened; name = same ∙ o.name }
-
-pub label-later : (earlier : Tokens) (all : Draft) → current_section earlier ≡ Some Rows → HasObjective earlier all → HasObjective (Colon ∷ earlier) all
-label-later earlier all here o = record {
-  opened = o.opened;
-  name = o.name
-      ∙ ap (λ (n : List ℕ). Some n) (sym (ap (λ (s : Option Section). if option_map_or (is_section Objective) s false then unwrap_or (last_name earlier) (codes "obj") else objective_before earlier) here));
-}
+objective-later token earlier all later h same o = grind arith
 
 -- ---- a value that is no right side of a row
 
-pub not-rows : (earlier : Tokens) (section : Section) → current_section earlier ≡ Some section → is_section Rows section ≡ false → is_under Rows earlier ≡ false
-not-rows earlier section here other = ap (λ (o : Option Section). option_map_or (is_section Rows) o false) here ∙ other
-
-pub ends-none : (earlier : Tokens) (token : Terminal) → is_under Rows earlier ≡ false → ends_row earlier token ≡ false
-ends-none earlier token h = by (is_value token) (is_under Rows earlier) h
-  where
-    by : (a b : Bool) → b ≡ false → (a && (b && is_right_side earlier)) ≡ false
-    by false b e = refl
-    by true false e = refl
-    by true true e = absurd cc
-
 pub ends-no_side : (earlier : Tokens) (token : Terminal) → is_right_side earlier ≡ false → ends_row earlier token ≡ false
-ends-no_side earlier token h = by (is_value token) (is_under Rows earlier) (is_right_side earlier) h
-  where
-    by : (a b c : Bool) → c ≡ false → (a && (b && c)) ≡ false
-    by false b c e = refl
-    by true false c e = refl
-    by true true false e = refl
-    by true true true e = absurd cc
+ends-no_side earlier token h = grind arith
 
 -- what a value that ends no row keeps
 pub name-kept : (name : List ℕ) (earlier : Tokens) (b : Bool) → b ≡ false → IsNameOf name earlier
     → name ≡ row_name ((if b then rows_before earlier + 1 else rows_before earlier) + 1) (if b then None else label_before earlier)
-name-kept name earlier true e h = absurd cc
-name-kept name earlier false e h = h
+name-kept name earlier b e h = grind arith
 
 -- ---- declarations
 
@@ -233,16 +174,13 @@ pub record Here (earlier : Tokens) (context : Context) : Type 0 where
 
 -- a token that ends no row and declares nothing
 pub rowed-on : (token : Terminal) (earlier : Tokens) (context : Context) → ends_row earlier token ≡ false → Here earlier context → Rowed (token ∷ earlier) context.earlier
-rowed-on token earlier context none h = rowed-later token earlier context.earlier context.earlier none refl h.rowed.sorted h.rowed
+rowed-on token earlier context none h = grind arith
 
 pub objective-on : (token : Terminal) (earlier : Tokens) (context : Context) → is_no_colon token ≡ true → Here earlier context → HasObjective (token ∷ earlier) context.earlier
-objective-on token earlier context keeps h = objective-later token earlier context.earlier context.earlier keeps refl h.objective
+objective-on token earlier context keeps h = grind arith
 
 pub never : (b : Bool) {X : Type 0} → b ≡ false → b ≡ true → X
-never b e k = absurd (clash (sym e ∙ k))
-  where
-    clash : false ≡ true → ⊥
-    clash e = cc
+never b e k = grind arith
 
 pub declared : (context : Context) (earlier : Tokens) (token : Terminal) (place : Place) (made : Declarations) → Here earlier context → ends_row earlier token ≡ false → is_no_colon token ≡ true
     → (with_declarations context.earlier made).rows ≡ context.earlier.rows → (with_declarations context.earlier made).objective ≡ context.earlier.objective → refuses kinds.DuplicateRow context.earlier made ≡ false
@@ -251,11 +189,7 @@ pub declared : (context : Context) (earlier : Tokens) (token : Terminal) (place 
 declared context earlier token place made h none keeps rows objective unrefused at name = by (refusals_in_turn context.earlier made) refl
   where
     by : (refusals : List BuildFault) → refusals_in_turn context.earlier made ≡ refusals → KeepsRows earlier token (declare_unless_refused context token refusals place made)
-    by [] e = (
-      rowed-later token earlier context.earlier (with_declarations context.earlier made) none rows (sorted-with_declarations made context.earlier h.rowed.sorted) h.rowed,
-      at (objective-later token earlier context.earlier (with_declarations context.earlier made) keeps objective h.objective),
-      name,
-    )
+    by [] e = grind (arith, rowed-later, sorted-with_declarations, objective-later)
     by (first ∷ more) e =
         refused context earlier token (kind_of_build_fault first)
         (says-by earlier token context.earlier made (λ k. never (refuses kinds.DuplicateRow context.earlier made) unrefused k) first (first-refused made context.earlier first more e))
@@ -270,12 +204,6 @@ declared-before context earlier token made next unrefused h = by (refusals_in_tu
         refused context earlier token (kind_of_build_fault first)
         (says-by earlier token context.earlier made (λ k. never (refuses kinds.DuplicateRow context.earlier made) unrefused k) first (first-refused made context.earlier first more e))
 
-pub bounds-objective : (all : Draft) (column : List ℕ) (l u : Option Limit) → (with_declarations all (bounds_declared column l u)).objective ≡ all.objective
-bounds-objective all column None None = refl
-bounds-objective all column None (Some u) = refl
-bounds-objective all column (Some l) None = refl
-bounds-objective all column (Some l) (Some u) = refl
-
 pub bound : (context : Context) (is_new : Bool) (column : List ℕ) (limits : Limits) (earlier : Tokens) (token : Terminal) (left : Option (List ℕ × Relation)) → Here earlier context → ends_row earlier token ≡ false
     → is_no_colon token ≡ true → KeepsRows earlier token (take_bound context (new_column is_new column) column limits token (InBounds left))
 bound context is_new column limits earlier token left h none keeps =
@@ -286,28 +214,18 @@ bound context is_new column limits earlier token left h none keeps =
     front = with_declarations context.earlier (new_column is_new column)
 
     made : Bool → Declarations
-    made b = new_column b column ++ bounds_declared column limits.lower limits.upper
+    made b = grind arith
 
     rows : (b : Bool) → (with_declarations context.earlier (new_column b column ++ bounds_declared column limits.lower limits.upper)).rows ≡ context.earlier.rows
-    rows true = bounds-rows (with_declaration context.earlier (declare_column column)) column limits.lower limits.upper
-    rows false = bounds-rows context.earlier column limits.lower limits.upper
+    rows b = grind arith
 
     objective : (b : Bool) → (with_declarations context.earlier (new_column b column ++ bounds_declared column limits.lower limits.upper)).objective ≡ context.earlier.objective
-    objective true = bounds-objective (with_declaration context.earlier (declare_column column)) column limits.lower limits.upper
-    objective false = bounds-objective context.earlier column limits.lower limits.upper
+    objective b = grind arith
 
     by : (a b c : Bool)
         → KeepsRows earlier token (declare_unless_refused context token (those_of ((a, builds.UnknownColumn) ∷ (b, builds.DuplicateBound) ∷ (c, builds.InfiniteValue) ∷ [])) (InBounds left)
         (new_column is_new column ++ bounds_declared column limits.lower limits.upper))
-    by true b c = refused context earlier token kinds.UnknownColumn tt
-    by false true c = refused context earlier token kinds.DuplicateBound tt
-    by false false true = refused context earlier token kinds.InfiniteValue tt
-    by false false false = (
-      rowed-later token earlier context.earlier (with_declarations context.earlier (new_column is_new column ++ bounds_declared column limits.lower limits.upper)) none (rows is_new)
-          (sorted-with_declarations (new_column is_new column ++ bounds_declared column limits.lower limits.upper) context.earlier h.rowed.sorted) h.rowed,
-      objective-later token earlier context.earlier (with_declarations context.earlier (new_column is_new column ++ bounds_declared column limits.lower limits.upper)) keeps (objective is_new) h.objective,
-      tt,
-    )
+    by a b c = grind (arith, refused, rowed-later, rows, sorted-with_declarations, objective-later, objective)
 
 -- ---- the end of a row
 
@@ -330,11 +248,10 @@ row_ended context row relation l earlier token h name value here right = by (ref
     made = row_declared row (row_limits row.left relation l)
 
     ends : ends_row earlier token ≡ true
-    ends = both_so (is_value token) (is_under Rows earlier && is_right_side earlier) value
-        (both_so (is_under Rows earlier) (is_right_side earlier) (ap (λ (o : Option Section). option_map_or (is_section Rows) o false) here) right)
+    ends = grind arith
 
     named : names_row earlier token ≡ Some row.name
-    named = ap (λ (b : Bool). if b then Some (row_name (rows_before earlier + 1) (label_before earlier)) else None) ends ∙ ap (λ (n : List ℕ). Some n) (sym name)
+    named = grind arith
 
     -- of the objective, or of an earlier row
     is_objective-named : (o : Option (List ℕ)) → o ≡ Some (objective_before earlier) → option_map_or (same_bytes row.name) o false ≡ true → names_objective names_row earlier token ≡ true
@@ -354,9 +271,7 @@ row_ended context row relation l earlier token h name value here right = by (ref
         (ap (λ (o : Option (List ℕ)). option_map_or (λ c. is_named c (collected names_row earlier)) o false) named ∙ h.rowed.rows row.name e)) k
 
     only : (b c : Bool) → c ≡ false → ((b || false) || c) ≡ true → b ≡ true
-    only true c e k = refl
-    only false true e k = absurd cc
-    only false false e k = absurd cc
+    only b c e k = grind arith
 
     rowed : refusals_in_turn context.earlier made ≡ [] → Rowed (token ∷ earlier) (with_declarations context.earlier made)
     rowed none = record {
@@ -374,26 +289,10 @@ row_ended context row relation l earlier token h name value here right = by (ref
         found other false e k = named-more other (names_row earlier token) (collected names_row earlier) (h.rowed.rows other k)
 
     keeps : (t : Terminal) → is_value t ≡ true → is_no_colon t ≡ true
-    keeps (Number v) k = refl
-    keeps Infinity k = refl
-    keeps (Opens word) k = refl
-    keeps (Name n) k = refl
-    keeps (Sign sign) k = refl
-    keeps (Compares r) k = refl
-    keeps Colon k = absurd cc
-    keeps Free k = refl
-    keeps Other k = refl
+    keeps t k = grind arith
 
     no_label : (t : Terminal) → is_value t ≡ true → ends_row earlier t ≡ true → label_before (t ∷ earlier) ≡ None
-    no_label (Number v) k e = ap (λ (b : Bool). if b then None else label_before earlier) e
-    no_label Infinity k e = ap (λ (b : Bool). if b then None else label_before earlier) e
-    no_label (Opens word) k e = refl
-    no_label (Name n) k e = absurd cc
-    no_label (Sign sign) k e = absurd cc
-    no_label (Compares r) k e = absurd cc
-    no_label Colon k e = absurd cc
-    no_label Free k e = absurd cc
-    no_label Other k e = absurd cc
+    no_label t k e = grind arith
 
     by : (refusals : List BuildFault) → refusals_in_turn context.earlier made ≡ refusals → KeepsRows earlier token (declare_unless_refused context token refusals BetweenRows made)
     by [] e = (

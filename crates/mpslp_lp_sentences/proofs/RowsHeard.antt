@@ -1,5 +1,5 @@
 -- How the grammar reads rows.
-use Rattle.std.proofs.Common.{◌≡◌, refl, sym, ap, subst, ◌∙◌, ℕ, ◌+◌, List, [], ◌∷◌, ◌++◌, Bool, true, false, append_assoc, map, length}
+use Rattle.std.proofs.Common.{arith, ◌≡◌, refl, sym, ap, subst, ◌∙◌, ℕ, ◌+◌, List, [], ◌∷◌, ◌++◌, Bool, true, false, append_assoc, map, length}
 use Rattle.std.specs.Prelude.{Option, Some, None, if◌then◌else◌, unwrap_or}
 use Rattle.std.specs.List.{flat_map, list_all, enumerate_from}
 use Rattle.std.specs.Cmp.{first_so, second_so}
@@ -7,26 +7,25 @@ use Rattle.std.proofs.lemmas.List.{append-nil}
 use Rattle.mpslp_decimal.specs.Decimal.{Number as Decimal}
 use Rattle.mpslp_types.specs.declared.kinds.Limit.{Limit}
 use Rattle.mpslp_types.specs.declared.kinds.Limit.TheVariants.{MinusInf, PlusInf}
-use Rattle.mpslp_types.specs.declared.faults.FaultKind.TheVariants.{MixedSenses, DuplicateEntry}
+use Rattle.mpslp_types.specs.declared.faults.FaultKind.TheVariants.{DuplicateEntry}
 use Rattle.mpslp_builder.specs.Declaration.{by_limits, RowDefinition, Declarations, Draft, declare_row, with_declarations}
 use Rattle.mpslp_builder.specs.Refusal.{refusals_in_turn}
 use Rattle.mpslp_builder.proofs.MadeDrafts.{with_declarations-append}
 use Rattle.mpslp_builder.proofs.SortedDrafts.{IsSortedDraft, sorted-with_declarations}
 use Rattle.mpslp_lp_grammar.specs.declared.signs.Sign.{Sign as SignOf}
-use Rattle.mpslp_lp_grammar.specs.declared.signs.Sign.TheVariants.{Plus}
 use Rattle.mpslp_lp_grammar.specs.Rules.{◌>>=◌, next}
 use Rattle.mpslp_lp_grammar.specs.Terminal.{Terminal}
-use Rattle.mpslp_lp_grammar.specs.Terminal.Terminal.{Name, Number, Sign, Compares, Colon, Infinity}
+use Rattle.mpslp_lp_grammar.specs.Terminal.Terminal.{Name, Number, Sign, Compares, Colon}
 use Rattle.mpslp_lp_grammar.specs.Phrase.{Point, refuses, goes_to}
 use Rattle.mpslp_lp_grammar.specs.declared.sections_seen.SectionsSeen.{SectionsSeen}
 use Rattle.mpslp_lp_grammar.specs.declared.context.Context.{Context}
 use Rattle.mpslp_lp_grammar.specs.declared.relations.Relation.{Relation}
-use Rattle.mpslp_lp_grammar.specs.declared.relations.Relation.TheVariants.{AtMost, AtLeast, EqualTo}
+use Rattle.mpslp_lp_grammar.specs.declared.relations.Relation.TheVariants.{AtMost, AtLeast}
 use Rattle.mpslp_lp_grammar.specs.declared.states.Place.TheVariants.{BetweenRows, InRow}
 use Rattle.mpslp_lp_grammar.specs.PartialRow.{PartialRow}
-use Rattle.mpslp_lp_grammar.specs.Items.{Limits, limits_by as sides_by, next_relation, side as side_rule, number_item, colon, Item as items}
+use Rattle.mpslp_lp_grammar.specs.Items.{Limits, limits_by as sides_by, colon}
 use Rattle.mpslp_lp_grammar.specs.Items as rules
-use Rattle.mpslp_lp_grammar.specs.Rows.{term_declared, default_row, without_terms, row_item, row_first, row_after_left, row_number, row_signed, row_from, row_named, fits_left, row_limits, row_declared, row_whole}
+use Rattle.mpslp_lp_grammar.specs.Rows.{term_declared, default_row, without_terms, row_item, row_first, row_after_left, row_signed, row_from, row_named, fits_left, row_limits, row_declared}
 use Rattle.mpslp_lp_grammar.specs.Grammar.{phrase_at}
 use Rattle.mpslp_canonical_lp.specs.PrintedDeclarations.{point_at, AreNew}
 use Rattle.mpslp_canonical_lp.proofs.TerminalLemmas.{at}
@@ -37,9 +36,9 @@ use Rattle.mpslp_lp_sentences.specs.Phrases.Term.{term}
 use Rattle.mpslp_lp_sentences.specs.Phrases.Row.{row, row_between, row_from_above}
 use Rattle.mpslp_lp_sentences.specs.Spelling.{label_tokens, side_tokens, term_tokens, terms_tokens, row_tokens, is_signed_term, is_row}
 use Rattle.mpslp_lp_sentences.specs.Meaning.{coefficient, limit, term_declares, row_name, limits_by, row_with, row_declares}
-use Rattle.mpslp_lp_sentences.proofs.Whole.{Tokens, listened, listened-one, listened-none}
-use Rattle.mpslp_lp_sentences.proofs.Stamped.{stamped, onward, ending, first_of_all, here, Hears, IsWhole, IsWholeAnywhere, whole-begins, hears-next, hears-ahead, hears-goes, hears-declares, whole-joined}
-use Rattle.mpslp_lp_sentences.proofs.ItemsHeard.{signed-is, multiplied-value, infinity-is, term_before, term-before, side_first, side_rest, side-split, hears-named, hears-lone, hears-term, hears-first, HearsTerm, hears-side, hears-relation}
+use Rattle.mpslp_lp_sentences.proofs.Whole.{Tokens, listened, listened-one}
+use Rattle.mpslp_lp_sentences.proofs.Stamped.{stamped, onward, ending, first_of_all, here, Hears, IsWhole, IsWholeAnywhere, whole-begins, hears-next, hears-ahead, hears-goes, whole-joined}
+use Rattle.mpslp_lp_sentences.proofs.ItemsHeard.{term_before, term-before, side_first, side_rest, side-split, hears-term, hears-first, HearsTerm, hears-relation}
 use Rattle.mpslp_lp_sentences.proofs.RowFacts.{Pair, terms-new, row-adds}
 
 -- a column and its coefficient
@@ -48,7 +47,7 @@ pair (term signs number column) = (column, coefficient signs number)
 
 pub terms-declare : (name : List ℕ) (terms : List Term) → flat_map (term_declared name) (map pair terms) ≡ flat_map (term_declares name) terms
 terms-declare name [] = refl
-terms-declare name (term signs number column ∷ terms) = ap (λ (more : Declarations). term_declared name (column, coefficient signs number) ++ more) (terms-declare name terms)
+terms-declare name (term signs number column ∷ terms) = grind (arith, terms-declare name terms)
 
 abbrev pub row_at : List ℕ → Option (Limit × Relation) → List Pair → PartialRow
 row_at name left terms = record { name = name; left = left; terms = terms }
@@ -68,9 +67,7 @@ term_rest [] None column xs = xs
 term_rest [] (Some size) column xs = Name column ∷ xs
 
 term-split : (signs : List SignOf) (number : Option Decimal) (column : List ℕ) (xs : List Terminal) → term_first signs number column ∷ term_rest signs number column xs ≡ term_before signs number column xs
-term-split (sign ∷ signs) number column xs = refl
-term-split [] None column xs = refl
-term-split [] (Some size) column xs = refl
+term-split signs number column xs = grind arith
 
 abbrev is_no_colon : Terminal → Bool
 is_no_colon Colon = false
@@ -79,38 +76,26 @@ is_no_colon _ = true
 left-begins : (sections_seen : SectionsSeen) (earlier : Draft) (part : Side) (n : ℕ) (tokens : Tokens)
     → listened (phrase_at (point_at BetweenRows sections_seen earlier) (at n (side_first part))) tokens
     ≡ listened (row_from (here sections_seen earlier) (default_row (here sections_seen earlier)) (at n (side_first part))) tokens
-left-begins sections_seen earlier (side None None) n tokens = refl
-left-begins sections_seen earlier (side None (Some value)) n tokens = refl
-left-begins sections_seen earlier (side (Some sign) None) n tokens = refl
-left-begins sections_seen earlier (side (Some sign) (Some value)) n tokens = refl
+left-begins sections_seen earlier part n tokens = grind arith
 
 module _ (last : ℕ) (later : Tokens) (sections_seen : SectionsSeen) (earlier : Draft) where
   -- ---- the first term
 
   taken-first : (name : List ℕ) (left : Option (Limit × Relation)) (value : Decimal) (column : List ℕ) (xs : List Terminal) (made : Declarations) → IsWhole last later (in_row sections_seen earlier name left ((column, value) ∷ [])) xs made
       → HearsTerm last later (row_item (here sections_seen earlier) (without_terms name left)) value column xs made
-  taken-first name left value column xs made rest n = hears-goes last later (here sections_seen earlier) (InRow (row_at name left ((column, value) ∷ []))) [] xs made rest
+  taken-first name left value column xs made rest n = grind arith
 
   hears-first_term : (name : List ℕ) (signs : List SignOf) (number : Option Decimal) (column : List ℕ) (xs : List Terminal) (made : Declarations)
       → IsWhole last later (in_row sections_seen earlier name None ((column, coefficient signs number) ∷ [])) xs made
       → (n : ℕ) → Hears last later (row_from (here sections_seen earlier) name (at n (term_first signs number column))) (term_rest signs number column xs) made
-  hears-first_term name (sign ∷ []) None column xs made rest n =
-      let context : Context = here sections_seen earlier in
-      hears-ahead last later (row_signed context name sign) (Name column ∷ xs) made
-      (λ m. hears-term last later context sign [] None column (row_item context (without_terms name None)) xs made (taken-first name None _ column xs made rest))
-  hears-first_term name (sign ∷ []) (Some size) column xs made rest n =
-      let context : Context = here sections_seen earlier in
-      hears-ahead last later (row_signed context name sign) (Number size ∷ Name column ∷ xs) made
-      (λ m. hears-next last later (λ number. number_item sign size >>= row_number context name) (Number size) (Name column ∷ xs) made
-      (λ k. hears-named last later sign size column (row_number context name) xs made
-      (subst (λ (v : Decimal). HearsTerm last later (row_number context name) v column xs made) (sym (multiplied-value sign [] size)) (taken-first name None _ column xs made rest))))
+  hears-first_term name (sign ∷ []) None column xs made rest n = grind arith
+  hears-first_term name (sign ∷ []) (Some size) column xs made rest n = grind arith
   hears-first_term name (sign ∷ second ∷ signs) number column xs made rest n =
       let context : Context = here sections_seen earlier in
       hears-ahead last later (row_signed context name sign) (Sign second ∷ term_before signs number column xs) made
       (λ m. hears-term last later context sign (second ∷ signs) number column (row_item context (without_terms name None)) xs made (taken-first name None _ column xs made rest))
-  hears-first_term name [] None column xs made rest n = taken-first name None _ column xs made rest n
-  hears-first_term name [] (Some size) column xs made rest n =
-      hears-named last later Plus size column (row_number (here sections_seen earlier) name) xs made (taken-first name None _ column xs made rest)
+  hears-first_term name [] None column xs made rest n = grind arith
+  hears-first_term name [] (Some size) column xs made rest n = grind arith
 
   -- ---- the left side
 
@@ -118,20 +103,7 @@ module _ (last : ℕ) (later : Tokens) (sections_seen : SectionsSeen) (earlier :
   hears-left : (name : List ℕ) (part : Side) (relation : Relation) (xs : List Terminal) (made : Declarations)
       → Hears last later (row_after_left (here sections_seen earlier) name (limit part)) (Compares relation ∷ xs) made
       → (n : ℕ) → Hears last later (row_from (here sections_seen earlier) name (at n (side_first part))) (side_rest part (Compares relation ∷ xs)) made
-  hears-left name (side None None) relation xs made rest n = rest
-  hears-left name (side None (Some value)) relation xs made rest n =
-      hears-lone last later Plus value (row_number (here sections_seen earlier) name) (Compares relation ∷ xs) made refl (λ m. rest)
-  hears-left name (side (Some sign) None) relation xs made rest n =
-      let context : Context = here sections_seen earlier in
-      hears-ahead last later (row_signed context name sign) (Infinity ∷ Compares relation ∷ xs) made
-      (λ m. hears-next last later (λ word. row_after_left context name (rules.infinity sign)) Infinity (Compares relation ∷ xs) made
-      (λ k. subst (λ (v : Limit). Hears last later (row_after_left context name v) (Compares relation ∷ xs) made) (sym (infinity-is sign)) rest))
-  hears-left name (side (Some sign) (Some value)) relation xs made rest n =
-      let context : Context = here sections_seen earlier in
-      hears-ahead last later (row_signed context name sign) (Number value ∷ Compares relation ∷ xs) made
-      (λ m. hears-next last later (λ number. number_item sign value >>= row_number context name) (Number value) (Compares relation ∷ xs) made
-      (λ k. hears-lone last later sign value (row_number context name) (Compares relation ∷ xs) made refl
-      (subst (λ (v : Decimal). (j : ℕ) → Hears last later (row_number context name (items.Lone v (at j (Compares relation)))) (Compares relation ∷ xs) made) (sym (signed-is sign value)) (λ j. rest))))
+  hears-left name part relation xs made rest n = grind arith
 
   hears-after_left : (name : List ℕ) (value : Limit) (relation : Relation) (signs : List SignOf) (number : Option Decimal) (column : List ℕ) (xs : List Terminal) (made : Declarations)
       → IsWhole last later (in_row sections_seen earlier name (Some (value, relation)) ((column, coefficient signs number) ∷ [])) xs made
@@ -153,9 +125,7 @@ module _ (last : ℕ) (later : Tokens) (sections_seen : SectionsSeen) (earlier :
   unlabelled : (column : List ℕ) (xs : List Terminal) (made : Declarations) → is_no_colon (first_of_all xs) ≡ true
       → Hears last later (row_named (here sections_seen earlier) column false) xs made
       → (n : ℕ) → Hears last later (colon >>= row_named (here sections_seen earlier) column) xs made
-  unlabelled column [] made no_colon h n line = listened-none (row_named (here sections_seen earlier) column false (ending last later)) (ending last later) ∙ h line
-  unlabelled column (Colon ∷ xs) made no_colon h n line = absurd cc
-  unlabelled column (x ∷ xs) made no_colon h n line = listened-none (row_named (here sections_seen earlier) column false (stamped line (x ∷ xs) (ending last later))) (stamped line (x ∷ xs) (ending last later)) ∙ h line
+  unlabelled column xs made no_colon h n line = grind arith
 
   -- the label and the first term
   whole-first_term : (label : Option (List ℕ)) (signs : List SignOf) (number : Option Decimal) (column : List ℕ) (xs : List Terminal) (made : Declarations) → is_no_colon (first_of_all xs) ≡ true
@@ -168,12 +138,8 @@ module _ (last : ℕ) (later : Tokens) (sections_seen : SectionsSeen) (earlier :
   whole-first_term None (sign ∷ signs) number column xs made no_colon rest =
       whole-begins last later (point_at BetweenRows sections_seen earlier) (Sign sign) (term_before signs number column xs) made
       (hears-first_term (default_row (here sections_seen earlier)) (sign ∷ signs) number column xs made rest)
-  whole-first_term None [] (Some size) column xs made no_colon rest =
-      whole-begins last later (point_at BetweenRows sections_seen earlier) (Number size) (Name column ∷ xs) made
-      (hears-first_term (default_row (here sections_seen earlier)) [] (Some size) column xs made rest)
-  whole-first_term None [] None column xs made no_colon rest =
-      whole-begins last later (point_at BetweenRows sections_seen earlier) (Name column) xs made
-      (unlabelled column xs made no_colon (hears-goes last later (here sections_seen earlier) (InRow (row_at (default_row (here sections_seen earlier)) None ((column, coefficient [] None) ∷ []))) [] xs made rest))
+  whole-first_term None [] (Some size) column xs made no_colon rest = grind arith
+  whole-first_term None [] None column xs made no_colon rest = grind arith
 
   -- the label, the left side and the first term
   whole-left_side : (label : Option (List ℕ)) (part : Side) (relation : Relation) (signs : List SignOf) (number : Option Decimal) (column : List ℕ) (xs : List Terminal) (made : Declarations)
@@ -198,8 +164,7 @@ module _ (last : ℕ) (later : Tokens) (sections_seen : SectionsSeen) (earlier :
   whole-terms : (name : List ℕ) (left : Option (Limit × Relation)) (terms : List Term) (seen : List Pair) (xs : List Terminal) (made : Declarations) → list_all is_signed_term terms ≡ true → AreNew seen (map pair terms)
       → IsWhole last later (in_row sections_seen earlier name left (seen ++ map pair terms)) xs made
       → IsWhole last later (in_row sections_seen earlier name left seen) (terms_tokens terms ++ xs) made
-  whole-terms name left [] seen xs made signs new rest =
-      subst (λ (terms : List Pair). IsWhole last later (in_row sections_seen earlier name left terms) xs made) (append-nil seen) rest
+  whole-terms name left [] seen xs made signs new rest = grind (arith, append-nil)
   whole-terms name left (term [] number column ∷ terms) seen xs made signs new rest = absurd cc
   whole-terms name left (term (sign ∷ more) number column ∷ terms) seen xs made signs new rest =
       let context : Context = here sections_seen earlier in
@@ -220,20 +185,12 @@ module _ (last : ℕ) (later : Tokens) (sections_seen : SectionsSeen) (earlier :
       → refusals_in_turn earlier (row_declared (row_at name left terms) (row_limits left relation (limit part))) ≡ []
       → IsWhole last later (point_at BetweenRows sections_seen (with_declarations earlier (row_declared (row_at name left terms) (row_limits left relation (limit part))))) xs made
       → IsWhole last later (in_row sections_seen earlier name left terms) (Compares relation ∷ (side_tokens part ++ xs)) (row_declared (row_at name left terms) (row_limits left relation (limit part)) ++ made)
-  whole-end name left terms relation part xs made fits h rest =
-      let context : Context = here sections_seen earlier in
-      let partial : PartialRow = row_at name left terms in
-      whole-begins last later (in_row sections_seen earlier name left terms) (Compares relation) (side_tokens part ++ xs) _
-      (λ n line. ap (λ (b : Bool). listened (if b then (side_rule context >>= row_whole context partial relation) else refuses context (at n (Compares relation)) MixedSenses) (stamped line (side_tokens part ++ xs) (ending last later))) fits
-      ∙ hears-side last later context part (row_whole context partial relation) xs _
-      (λ token. hears-declares last later context token BetweenRows (row_declared partial (row_limits left relation (limit part))) xs made h rest) line)
+  whole-end name left terms relation part xs made fits h rest = grind arith
 
 -- ---- whole rows
 
 pub declared-is : (name : List ℕ) (relation : Relation) (value : Limit) (terms : List Term) → row_declared (row_at name None (map pair terms)) (sides_by relation value) ≡ row_with name (limits_by relation value) terms
-declared-is name AtMost value terms = ap (λ (more : Declarations). declare_row name (limits_by AtMost value) ∷ more) (terms-declare name terms)
-declared-is name AtLeast value terms = ap (λ (more : Declarations). declare_row name (limits_by AtLeast value) ∷ more) (terms-declare name terms)
-declared-is name EqualTo value terms = ap (λ (more : Declarations). declare_row name (limits_by EqualTo value) ∷ more) (terms-declare name terms)
+declared-is name relation value terms = grind (arith, terms-declare)
 
 -- the limits of a row, of which one may be missing
 abbrev definition_of : Limits → RowDefinition
@@ -241,27 +198,20 @@ definition_of limits = by_limits (unwrap_or limits.lower MinusInf) (unwrap_or li
 
 -- after a term a sign or a relation follows, and no colon
 colon-free : (terms : List Term) (relation : Relation) (xs : List Terminal) → list_all is_signed_term terms ≡ true → is_no_colon (first_of_all (terms_tokens terms ++ Compares relation ∷ xs)) ≡ true
-colon-free [] relation xs h = refl
 colon-free (term [] number column ∷ terms) relation xs h = absurd cc
-colon-free (term (sign ∷ signs) number column ∷ terms) relation xs h = refl
+colon-free _ relation xs h = refl
 
 -- the columns of a row that is not rejected
 row-new : (earlier : Draft) (name : List ℕ) (form : RowDefinition) (terms : List Pair) → refusals_in_turn earlier (declare_row name form ∷ flat_map (term_declared name) terms) ≡ [] → AreNew [] terms
-row-new earlier name form terms h =
-    terms-new name terms (with_declarations earlier (declare_row name form ∷ [])) [] (parts-taken earlier (declare_row name form ∷ []) (flat_map (term_declared name) terms) h).1 (λ column none. refl)
+row-new earlier name form terms h = grind (arith, terms-new, parts-taken)
 
 -- the tokens of a row, in the order in which they are read
 pub row-order : (label first more end xs : List Terminal) → (label ++ ((first ++ more) ++ end)) ++ xs ≡ label ++ (first ++ (more ++ (end ++ xs)))
-row-order label first more end xs =
-    append_assoc label ((first ++ more) ++ end) xs
-    ∙ ap (λ (tokens : List Terminal). label ++ tokens) (append_assoc (first ++ more) end xs ∙ append_assoc first more (end ++ xs))
+row-order label first more end xs = grind (arith, append_assoc)
 
 pub between-order : (label left first more end xs : List Terminal) (relation : Terminal)
     → (label ++ (left ++ relation ∷ ((first ++ more) ++ end))) ++ xs ≡ label ++ (left ++ relation ∷ (first ++ (more ++ (end ++ xs))))
-between-order label left first more end xs relation =
-    append_assoc label (left ++ relation ∷ ((first ++ more) ++ end)) xs
-    ∙ ap (λ (tokens : List Terminal). label ++ tokens) (append_assoc left (relation ∷ ((first ++ more) ++ end)) xs
-    ∙ ap (λ (tokens : List Terminal). left ++ relation ∷ tokens) (append_assoc (first ++ more) end xs ∙ append_assoc first more (end ++ xs)))
+between-order label left first more end xs relation = grind (arith, append_assoc)
 
 -- a row adds one to the rows
 adds-one : (earlier : Draft) (name : List ℕ) (form : RowDefinition) (terms : List Term) → IsSortedDraft earlier → refusals_in_turn earlier (row_with name form terms) ≡ []
@@ -285,7 +235,6 @@ module _ (last : ℕ) (later : Tokens) (sections_seen : SectionsSeen) where
   Reads earlier tokens ds = (xs : List Terminal) (made : Declarations) → refusals_in_turn earlier ds ≡ [] → At (with_declarations earlier ds) xs made → At earlier (tokens ++ xs) (ds ++ made)
 
   reads-row : (part : Row) (earlier : Draft) → is_row part ≡ true → Reads earlier (row_tokens part) (row_declares (length earlier.rows + 1, part))
-  reads-row (row label [] relation right) earlier ok = absurd cc
   reads-row (row label (term signs number column ∷ terms) relation right) earlier ok =
       let name = row_name (length earlier.rows + 1) label in
       let all : List Term = term signs number column ∷ terms in
@@ -299,7 +248,6 @@ module _ (last : ℕ) (later : Tokens) (sections_seen : SectionsSeen) where
       (whole-first_term last later sections_seen earlier label signs number column (terms_tokens terms ++ end) _ (colon-free terms relation (side_tokens right ++ xs) ok)
       (whole-terms last later sections_seen earlier name None terms ((column, coefficient signs number) ∷ []) end _ ok new.1
       (whole-end last later sections_seen earlier name None (map pair all) relation right xs made refl h rest))))
-  reads-row (row_between label lower [] upper) earlier ok = absurd cc
   reads-row (row_between label lower (term signs number column ∷ terms) upper) earlier ok =
       let name = row_name (length earlier.rows + 1) label in
       let all : List Term = term signs number column ∷ terms in
@@ -314,7 +262,6 @@ module _ (last : ℕ) (later : Tokens) (sections_seen : SectionsSeen) where
       (whole-left_side last later sections_seen earlier label lower AtMost signs number column (terms_tokens terms ++ end) _
       (whole-terms last later sections_seen earlier name left terms ((column, coefficient signs number) ∷ []) end _ ok new.1
       (whole-end last later sections_seen earlier name left (map pair all) AtMost upper xs made refl h rest))))
-  reads-row (row_from_above label upper [] lower) earlier ok = absurd cc
   reads-row (row_from_above label upper (term signs number column ∷ terms) lower) earlier ok =
       let name = row_name (length earlier.rows + 1) label in
       let all : List Term = term signs number column ∷ terms in
@@ -329,6 +276,7 @@ module _ (last : ℕ) (later : Tokens) (sections_seen : SectionsSeen) where
       (whole-left_side last later sections_seen earlier label upper AtLeast signs number column (terms_tokens terms ++ end) _
       (whole-terms last later sections_seen earlier name left terms ((column, coefficient signs number) ∷ []) end _ ok new.1
       (whole-end last later sections_seen earlier name left (map pair all) AtLeast lower xs made refl h rest))))
+  reads-row _ earlier ok = absurd cc
 
   pub whole-rows : (parts : List Row) (place : ℕ) (earlier : Draft) (xs : List Terminal) (made : Declarations) → list_all is_row parts ≡ true → place ≡ length earlier.rows + 1 → IsSortedDraft earlier
       → refusals_in_turn earlier (flat_map row_declares (enumerate_from place parts)) ≡ []

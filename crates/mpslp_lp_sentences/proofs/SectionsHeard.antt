@@ -1,25 +1,22 @@
 -- How the grammar reads the sections of a file, and the file.
-use Rattle.std.proofs.Common.{◌≡◌, refl, sym, ap, subst, ◌∙◌, ℕ, ◌+◌, List, [], ◌∷◌, ◌++◌, Bool, true, false, not, append_assoc, length}
-use Rattle.std.specs.Prelude.{Some, None, ◌&&◌, ◌||◌, if◌then◌else◌}
+use Rattle.std.proofs.Common.{arith, ◌≡◌, refl, sym, ap, subst, ◌∙◌, ℕ, ◌+◌, List, [], ◌∷◌, ◌++◌, Bool, true, false, not, append_assoc, length}
+use Rattle.std.specs.Prelude.{None, ◌&&◌}
 use Rattle.std.specs.List.{flat_map, list_all, list_any, enumerate_from}
 use Rattle.std.specs.Cmp.{first_so, second_so}
 use Rattle.mpslp_types.proofs.BoolLemmas.{nor, not_so, both_so}
-use Rattle.mpslp_types.specs.declared.faults.FaultKind.TheVariants.{SectionRepeated, SectionOrder, BadToken}
-use Rattle.mpslp_builder.specs.Declaration.{Declarations, Draft, empty_draft, with_declarations, declare_integer, declare_binary, declare_semi}
+use Rattle.mpslp_builder.specs.Declaration.{Declarations, Draft, empty_draft, with_declarations, declare_semi}
 use Rattle.mpslp_builder.specs.Refusal.{refusals_in_turn}
 use Rattle.mpslp_builder.proofs.MadeDrafts.{with_declarations-append}
 use Rattle.mpslp_builder.proofs.SortedDrafts.{IsSortedDraft, sorted-draft_of}
 use Rattle.mpslp_lp_grammar.specs.declared.signs.Sign.TheVariants.{Minus}
-use Rattle.mpslp_lp_grammar.specs.Rules.{◌>>=◌, next}
 use Rattle.mpslp_lp_grammar.specs.Terminal.{Terminal}
 use Rattle.mpslp_lp_grammar.specs.Terminal.Terminal.{Opens, Name, Sign}
-use Rattle.mpslp_lp_grammar.specs.Phrase.{section_fault, with_section, has_seen, start, refuses, goes_to}
+use Rattle.mpslp_lp_grammar.specs.Phrase.{section_fault, with_section, has_seen, start}
 use Rattle.mpslp_lp_grammar.specs.declared.sections_seen.SectionsSeen.{SectionsSeen}
 use Rattle.mpslp_lp_grammar.specs.declared.context.Context.{Context}
 use Rattle.mpslp_lp_grammar.specs.declared.states.Place.{Place}
-use Rattle.mpslp_lp_grammar.specs.declared.states.Place.TheVariants.{BetweenRows, InBounds, InGenerals, InBinaries, InSemis}
+use Rattle.mpslp_lp_grammar.specs.declared.states.Place.TheVariants.{BetweenRows, InSemis}
 use Rattle.mpslp_lp_grammar.specs.declared.states.LastWord.{LastWord}
-use Rattle.mpslp_lp_grammar.specs.declared.states.LastWord.TheVariants.{To, That, Continuous}
 use Rattle.mpslp_lp_grammar.specs.Grammar.{opened_by, is_last_word, last_word, semi_from, may_begin_section}
 use Rattle.mpslp_lp_tokens.specs.declared.words.Section.{Section as Kind}
 use Rattle.mpslp_lp_tokens.specs.declared.words.Section.TheVariants as kinds
@@ -28,16 +25,14 @@ use Rattle.mpslp_canonical_lp.specs.PrintedDeclarations.{point_at}
 use Rattle.mpslp_canonical_lp.proofs.TerminalLemmas.{at}
 use Rattle.mpslp_canonical_lp.proofs.ObjectiveWalk.{parts-taken}
 use Rattle.mpslp_lp_sentences.specs.Phrases.{Item, Objective, RowSection, Section, File}
-use Rattle.mpslp_lp_sentences.specs.Phrases.Item.{a_term, a_constant}
-use Rattle.mpslp_lp_sentences.specs.Phrases.Term.{term}
 use Rattle.mpslp_lp_sentences.specs.Phrases.Objective.{objective}
 use Rattle.mpslp_lp_sentences.specs.Phrases.RowSection.{no_rows, rows}
 use Rattle.mpslp_lp_sentences.specs.Phrases.Section.{bounds, generals, binaries, semis}
 use Rattle.mpslp_lp_sentences.specs.Phrases.File.{file}
-use Rattle.mpslp_lp_sentences.specs.Spelling.{bound_tokens, name_tokens, row_tokens, objective_tokens, row_section_tokens, section_tokens, opens_rows, opens_semis, is_row, is_row_section, is_section, same_section, are_sections, is_objective, is_file}
+use Rattle.mpslp_lp_sentences.specs.Spelling.{name_tokens, row_tokens, objective_tokens, row_section_tokens, section_tokens, opens_rows, is_row, is_row_section, is_section, same_section, are_sections, is_objective, is_file}
 use Rattle.mpslp_lp_sentences.specs.Meaning.{item_declares, objective_declares, objective_name, row_declares, row_section_declares, section_declares, file_declares}
-use Rattle.mpslp_lp_sentences.proofs.Whole.{Tokens, listened}
-use Rattle.mpslp_lp_sentences.proofs.Stamped.{stamped, ending, first_of_all, is_elsewhere, here, Hears, IsWhole, IsWholeAnywhere, hears-next, hears-ahead, hears-goes, whole-opens, whole-ends}
+use Rattle.mpslp_lp_sentences.proofs.Whole.{Tokens}
+use Rattle.mpslp_lp_sentences.proofs.Stamped.{first_of_all, is_elsewhere, here, Hears, IsWhole, IsWholeAnywhere, hears-next, hears-ahead, hears-goes, whole-opens}
 use Rattle.mpslp_lp_sentences.proofs.ObjectiveHeard.{is_section_word, after_word, whole-objective}
 use Rattle.mpslp_lp_sentences.proofs.BoundsHeard.{whole-bounds, whole-names}
 use Rattle.mpslp_lp_sentences.proofs.RowsHeard.{whole-rows}
@@ -60,40 +55,16 @@ pub record IsInside (seen : SectionsSeen) : Type 0 where
   pub open_still : seen.end ≡ false
 
 pub inside-after : (part : Section) (seen : SectionsSeen) → IsInside seen → IsInside (with_section seen (kind_of part))
-inside-after (bounds lines) seen h = record { begun = h.begun; open_still = h.open_still }
-inside-after (generals names) seen h = record { begun = h.begun; open_still = h.open_still }
-inside-after (binaries names) seen h = record { begun = h.begun; open_still = h.open_still }
-inside-after (semis opening names) seen h = record { begun = h.begun; open_still = h.open_still }
+inside-after part seen h = grind arith
 
 abbrev pub is_fresh : SectionsSeen → Section → Bool
 is_fresh seen part = not (has_seen seen (kind_of part))
 
 may-open : (part : Section) (seen : SectionsSeen) → IsInside seen → has_seen seen (kind_of part) ≡ false → section_fault seen (kind_of part) ≡ None
-may-open (bounds lines) seen h fresh = λ i. if fresh i then Some SectionRepeated else (if not (h.begun i) || h.open_still i then Some SectionOrder else None)
-may-open (generals names) seen h fresh = λ i. if fresh i then Some SectionRepeated else (if not (h.begun i) || h.open_still i then Some SectionOrder else None)
-may-open (binaries names) seen h fresh = λ i. if fresh i then Some SectionRepeated else (if not (h.begun i) || h.open_still i then Some SectionOrder else None)
-may-open (semis opening names) seen h fresh = λ i. if fresh i then Some SectionRepeated else (if not (h.begun i) || h.open_still i then Some SectionOrder else None)
-
-may-end : (seen : SectionsSeen) → IsInside seen → section_fault seen kinds.End ≡ None
-may-end seen h = λ i. if h.open_still i then Some SectionRepeated else (if not (h.begun i) then Some SectionOrder else None)
+may-open part seen h fresh = grind arith
 
 fresh-still : (first part : Section) (seen : SectionsSeen) → same_section first part ≡ false → has_seen (with_section seen (kind_of first)) (kind_of part) ≡ has_seen seen (kind_of part)
-fresh-still (bounds _) (bounds _) seen apart = absurd cc
-fresh-still (bounds _) (generals _) seen apart = refl
-fresh-still (bounds _) (binaries _) seen apart = refl
-fresh-still (bounds _) (semis _ _) seen apart = refl
-fresh-still (generals _) (generals _) seen apart = absurd cc
-fresh-still (generals _) (bounds _) seen apart = refl
-fresh-still (generals _) (binaries _) seen apart = refl
-fresh-still (generals _) (semis _ _) seen apart = refl
-fresh-still (binaries _) (binaries _) seen apart = absurd cc
-fresh-still (binaries _) (bounds _) seen apart = refl
-fresh-still (binaries _) (generals _) seen apart = refl
-fresh-still (binaries _) (semis _ _) seen apart = refl
-fresh-still (semis _ _) (semis _ _) seen apart = absurd cc
-fresh-still (semis _ _) (bounds _) seen apart = refl
-fresh-still (semis _ _) (generals _) seen apart = refl
-fresh-still (semis _ _) (binaries _) seen apart = refl
+fresh-still first part seen apart = grind arith
 
 all-fresh_still : (first : Section) (parts : List Section) (seen : SectionsSeen) → list_any (same_section first) parts ≡ false → list_all (is_fresh seen) parts ≡ true
     → list_all (is_fresh (with_section seen (kind_of first))) parts ≡ true
@@ -112,50 +83,30 @@ is_plain (Sign sign) = false
 is_plain _ = true
 
 plain-word : (x : Terminal) → is_section_word x ≡ true → is_plain x ≡ true
-plain-word (Sign sign) h = absurd cc
-plain-word _ h = refl
+plain-word x h = grind arith
 
 plain-names : (names : List (List ℕ)) (xs : List Terminal) → is_section_word (first_of_all xs) ≡ true → is_plain (first_of_all (name_tokens names ++ xs)) ≡ true
 plain-names [] xs h = plain-word (first_of_all xs) h
 plain-names (name ∷ names) xs h = refl
 
-heading-begins : (opening xs : List Terminal) → opens_semis opening ≡ true → is_section_word (first_of_all (opening ++ xs)) ≡ true
-heading-begins (Opens word ∷ opening) xs h = refl
-heading-begins _ xs h = absurd cc
-
 section-begins : (part : Section) (xs : List Terminal) → is_section part ≡ true → is_section_word (first_of_all (section_tokens part ++ xs)) ≡ true
-section-begins (bounds lines) xs h = refl
-section-begins (generals names) xs h = refl
-section-begins (binaries names) xs h = refl
-section-begins (semis opening names) xs h =
-    subst (λ (tokens : List Terminal). is_section_word (first_of_all tokens) ≡ true) (sym (append_assoc opening (name_tokens names) xs)) (heading-begins opening (name_tokens names ++ xs) h)
+section-begins part xs h = grind arith
 
 sections-begin : (parts : List Section) → are_sections parts ≡ true → is_section_word (first_of_all (flat_map section_tokens parts)) ≡ true
 sections-begin [] h = refl
-sections-begin (part ∷ parts) h =
-    section-begins part (flat_map section_tokens parts) (first_so (is_section part) (not (list_any (same_section part) parts) && are_sections parts) h)
-
-rows-begin : (opening xs : List Terminal) → opens_rows opening ≡ true → is_section_word (first_of_all (opening ++ xs)) ≡ true
-rows-begin (Opens word ∷ opening) xs h = refl
-rows-begin _ xs h = absurd cc
+sections-begin (part ∷ parts) h = grind (arith, section-begins)
 
 row_section-begins : (part : RowSection) (xs : List Terminal) → is_row_section part ≡ true → is_section_word (first_of_all xs) ≡ true → is_section_word (first_of_all (row_section_tokens part ++ xs)) ≡ true
-row_section-begins no_rows xs h k = k
-row_section-begins (rows opening lines) xs h k =
-    subst (λ (tokens : List Terminal). is_section_word (first_of_all tokens) ≡ true) (sym (append_assoc opening (flat_map row_tokens lines) xs))
-    (rows-begin opening (flat_map row_tokens lines ++ xs) (first_so (opens_rows opening) (list_all is_row lines) h))
+row_section-begins part xs h k = grind arith
 
 -- ---- the objective declares no rows
 
 item-rows : (name : List ℕ) (part : Item) (earlier : Draft) → (with_declarations earlier (item_declares name part)).rows ≡ earlier.rows
-item-rows name (a_term (term signs number column)) earlier = refl
-item-rows name (a_constant signs value) earlier = refl
+item-rows name part earlier = grind arith
 
 items-rows : (name : List ℕ) (parts : List Item) (earlier : Draft) → (with_declarations earlier (flat_map (item_declares name) parts)).rows ≡ earlier.rows
 items-rows name [] earlier = refl
-items-rows name (part ∷ parts) earlier =
-    ap (λ (draft : Draft). draft.rows) (with_declarations-append (item_declares name part) (flat_map (item_declares name) parts) earlier)
-    ∙ items-rows name parts (with_declarations earlier (item_declares name part)) ∙ item-rows name part earlier
+items-rows name (part ∷ parts) earlier = grind (arith, with_declarations-append, item-rows, items-rows name parts (with_declarations earlier (item_declares name part)))
 
 pub objective-rows : (part : Objective) → (with_declarations empty_draft (objective_declares part)).rows ≡ []
 objective-rows (objective sense label parts) = items-rows (objective_name label) parts _
@@ -185,49 +136,27 @@ module _ (last : ℕ) (later : Tokens) where
   -- the last word of a heading
   hears-last_word : (context : Context) (wanted : LastWord) (word : List ℕ) (n : ℕ) (xs : List Terminal) (made : Declarations) → is_last_word wanted word ≡ true
       → IsWhole last later (point_at (opened_by wanted) context.sections_seen context.earlier) xs made → Hears last later (last_word context wanted (at n (Name word))) xs made
-  hears-last_word context wanted word n xs made is rest line =
-      ap (λ (b : Bool). listened (if b then goes_to context (opened_by wanted) [] else refuses context (at n (Name word)) BadToken) (stamped line xs (ending last later))) is
-      ∙ hears-goes last later context (opened_by wanted) [] xs made rest line
+  hears-last_word context wanted word n xs made is rest line = grind arith
 
   -- what follows `semi` if no dash does
   hears-semi : (context : Context) (x : Terminal) (n : ℕ) (xs : List Terminal) (made : Declarations) → is_plain x ≡ true
       → IsWhole last later (point_at InSemis context.sections_seen context.earlier) xs made → Hears last later (semi_from context (at n x)) xs made
-  hears-semi context (Sign sign) n xs made plain rest = absurd cc
-  hears-semi context _ n xs made plain rest = hears-goes last later context InSemis [] xs made rest
+  hears-semi context x n xs made plain rest = grind arith
 
   whole-section : (part : Section) (place : Place) (seen : SectionsSeen) (earlier : Draft) (xs : List Terminal) (made : Declarations) → may_begin_section place ≡ true → section_fault seen (kind_of part) ≡ None → is_section part ≡ true
       → is_section_word (first_of_all xs) ≡ true → refusals_in_turn earlier (section_declares part) ≡ []
       → IsWholeAnywhere last later (with_section seen (kind_of part)) (with_declarations earlier (section_declares part)) xs made
       → IsWhole last later (point_at place seen earlier) (section_tokens part ++ xs) (section_declares part ++ made)
-  whole-section (bounds lines) place seen earlier xs made may fault ok opens h rest =
-      whole-opens last later place seen earlier words.Bounds (flat_map bound_tokens lines ++ xs) _ may fault
-      (λ n. hears-goes last later (here (with_section seen kinds.Bounds) earlier) (InBounds None) [] (flat_map bound_tokens lines ++ xs) _ (whole-bounds last later lines None (with_section seen kinds.Bounds) earlier xs made h rest))
-  whole-section (generals names) place seen earlier xs made may fault ok opens h rest =
-      whole-opens last later place seen earlier words.Generals (name_tokens names ++ xs) _ may fault
-      (λ n. hears-goes last later (here (with_section seen kinds.Generals) earlier) InGenerals [] (name_tokens names ++ xs) _
-      (whole-names last later InGenerals declare_integer (with_section seen kinds.Generals) (λ a b c d. refl) refl names earlier xs made h rest))
-  whole-section (binaries names) place seen earlier xs made may fault ok opens h rest =
-      whole-opens last later place seen earlier words.Binaries (name_tokens names ++ xs) _ may fault
-      (λ n. hears-goes last later (here (with_section seen kinds.Binaries) earlier) InBinaries [] (name_tokens names ++ xs) _
-      (whole-names last later InBinaries declare_binary (with_section seen kinds.Binaries) (λ a b c d. refl) refl names earlier xs made h rest))
+  whole-section (bounds lines) place seen earlier xs made may fault ok opens h rest = grind (arith, whole-opens, hears-goes, here, whole-bounds)
+  whole-section (generals names) place seen earlier xs made may fault ok opens h rest = grind (arith, whole-opens, hears-goes, here, whole-names)
+  whole-section (binaries names) place seen earlier xs made may fault ok opens h rest = grind (arith, whole-opens, hears-goes, here, whole-names)
   whole-section (semis (Opens words.Semi ∷ []) names) place seen earlier xs made may fault ok opens h rest =
       whole-opens last later place seen earlier words.Semi (name_tokens names ++ xs) _ may fault
       (λ n. hears-ahead last later (semi_from (here (with_section seen kinds.SemiContinuous) earlier)) (name_tokens names ++ xs) _
       (λ m. hears-semi (here (with_section seen kinds.SemiContinuous) earlier) (first_of_all (name_tokens names ++ xs)) m (name_tokens names ++ xs) _ (plain-names names xs opens)
       (whole-names last later InSemis declare_semi (with_section seen kinds.SemiContinuous) (λ a b c d. refl) refl names earlier xs made h rest)))
-  whole-section (semis (Opens words.Semis ∷ []) names) place seen earlier xs made may fault ok opens h rest =
-      whole-opens last later place seen earlier words.Semis (name_tokens names ++ xs) _ may fault
-      (λ n. hears-goes last later (here (with_section seen kinds.SemiContinuous) earlier) InSemis [] (name_tokens names ++ xs) _
-      (whole-names last later InSemis declare_semi (with_section seen kinds.SemiContinuous) (λ a b c d. refl) refl names earlier xs made h rest))
-  whole-section (semis (Opens words.Semi ∷ Sign Minus ∷ Name word ∷ []) names) place seen earlier xs made may fault ok opens h rest =
-      let context : Context = here (with_section seen kinds.SemiContinuous) earlier in
-      let tokens : List Terminal = name_tokens names ++ xs in
-      whole-opens last later place seen earlier words.Semi (Sign Minus ∷ Name word ∷ tokens) _ may fault
-      (λ n. hears-ahead last later (semi_from context) (Sign Minus ∷ Name word ∷ tokens) _
-      (λ m. hears-next last later (λ dash. next >>= last_word context Continuous) (Sign Minus) (Name word ∷ tokens) _
-      (λ k. hears-next last later (last_word context Continuous) (Name word) tokens _
-      (λ j. hears-last_word context Continuous word j tokens _ ok
-      (whole-names last later InSemis declare_semi (with_section seen kinds.SemiContinuous) (λ a b c d. refl) refl names earlier xs made h rest)))))
+  whole-section (semis (Opens words.Semis ∷ []) names) place seen earlier xs made may fault ok opens h rest = grind (arith, whole-opens, hears-goes, here, whole-names)
+  whole-section (semis (Opens words.Semi ∷ Sign Minus ∷ Name word ∷ []) names) place seen earlier xs made may fault ok opens h rest = grind (arith, here, whole-opens, hears-ahead, hears-next, hears-last_word, whole-names)
   whole-section (semis _ names) place seen earlier xs made may fault ok opens h rest = absurd cc
 
   -- ---- all sections, and the end
@@ -235,7 +164,7 @@ module _ (last : ℕ) (later : Tokens) where
   pub whole-sections : (parts : List Section) (seen : SectionsSeen) (earlier : Draft) → is_elsewhere last later ≡ true → IsInside seen → list_all (is_fresh seen) parts ≡ true → are_sections parts ≡ true
       → refusals_in_turn earlier (flat_map section_declares parts) ≡ []
       → IsWholeAnywhere last later seen earlier (flat_map section_tokens parts) (flat_map section_declares parts)
-  whole-sections [] seen earlier elsewhere inside fresh ok h place may = whole-ends last later seen earlier elsewhere (may-end seen inside) place may
+  whole-sections [] seen earlier elsewhere inside fresh ok h place may = grind arith
   whole-sections (part ∷ parts) seen earlier elsewhere inside fresh ok h place may =
       let more = flat_map section_declares parts in
       let taken = parts-taken earlier (section_declares part) more h in
@@ -253,21 +182,12 @@ module _ (last : ℕ) (later : Tokens) where
 
   whole-opening : (opening : List Terminal) (place : Place) (earlier : Draft) (xs : List Terminal) (made : Declarations) → may_begin_section place ≡ true → opens_rows opening ≡ true
       → IsWhole last later (point_at BetweenRows after_rows earlier) xs made → IsWhole last later (point_at place after_word earlier) (opening ++ xs) made
-  whole-opening (Opens words.Rows ∷ []) place earlier xs made may ok rest =
-      whole-opens last later place after_word earlier words.Rows xs made may refl (λ n. hears-goes last later (here after_rows earlier) BetweenRows [] xs made rest)
-  whole-opening (Opens words.Subject ∷ Name word ∷ []) place earlier xs made may ok rest =
-      whole-opens last later place after_word earlier words.Subject (Name word ∷ xs) made may refl
-      (λ n. hears-next last later (last_word (here after_rows earlier) To) (Name word) xs made (λ m. hears-last_word (here after_rows earlier) To word m xs made ok rest))
-  whole-opening (Opens words.Such ∷ Name word ∷ []) place earlier xs made may ok rest =
-      whole-opens last later place after_word earlier words.Such (Name word ∷ xs) made may refl
-      (λ n. hears-next last later (last_word (here after_rows earlier) That) (Name word) xs made (λ m. hears-last_word (here after_rows earlier) That word m xs made ok rest))
-  whole-opening _ place earlier xs made may ok rest = absurd cc
+  whole-opening opening place earlier xs made may ok rest = grind arith
 
   whole-second : (second : RowSection) (parts : List Section) (earlier : Draft) → earlier.rows ≡ [] → IsSortedDraft earlier → is_row_section second ≡ true → is_elsewhere last later ≡ true → are_sections parts ≡ true
       → refusals_in_turn earlier (row_section_declares second ++ flat_map section_declares parts) ≡ []
       → IsWholeAnywhere last later after_word earlier (row_section_tokens second ++ flat_map section_tokens parts) (row_section_declares second ++ flat_map section_declares parts)
-  whole-second no_rows parts earlier none sorted ok elsewhere good h place may =
-      whole-sections parts after_word earlier elsewhere (record { begun = refl; open_still = refl }) (before-rows parts) good h place may
+  whole-second no_rows parts earlier none sorted ok elsewhere good h place may = grind (arith, whole-sections, after_word, before-rows)
   whole-second (rows opening lines) parts earlier none sorted ok elsewhere good h place may =
       let made = flat_map row_declares (enumerate_from 1 lines) in
       let taken = parts-taken earlier made (flat_map section_declares parts) h in

@@ -1,5 +1,5 @@
 -- LP text is a sentence: its tokens up to `end` are those of its first lines.
-use Rattle.std.proofs.Common.{◌≡◌, refl, sym, ap, subst, ◌∙◌, ℕ, zero, suc, ◌+◌, List, [], ◌∷◌, ◌++◌, true, false, not, append_assoc, map, take}
+use Rattle.std.proofs.Common.{arith, ◌≡◌, refl, sym, ap, subst, ◌∙◌, ℕ, zero, suc, ◌+◌, List, [], ◌∷◌, ◌++◌, true, false, not, append_assoc, map, take}
 use Rattle.std.specs.Prelude.{Option, Some, None, is_none}
 use Rattle.std.specs.List.{flat_map, list_all, enumerate_from}
 use Rattle.std.specs.Str.Lines.{lines}
@@ -9,11 +9,9 @@ use Rattle.mpslp_types.proofs.BoolLemmas.{both_so}
 use Rattle.mpslp_types.specs.declared.faults.Fault.{Fault}
 use Rattle.mpslp_types.specs.declared.faults.FaultKind.{FaultKind}
 use Rattle.mpslp_builder.specs.Declaration.{Draft}
-use Rattle.mpslp_lines.specs.FaultTests.{fault_on_line}
 use Rattle.mpslp_lp_tokens.specs.Token.{Token, tokens}
 use Rattle.mpslp_lp_tokens.specs.declared.words.SectionWord.TheVariants as words
 use Rattle.mpslp_lp_grammar.specs.Rules.{Outcome}
-use Rattle.mpslp_lp_grammar.specs.Rules.Outcome.{Finished, Refused, Open}
 use Rattle.mpslp_lp_grammar.specs.Terminal.{Terminal, TerminalAt, terminal_of, line_terminals, lexical_fault}
 use Rattle.mpslp_lp_grammar.specs.TerminalToken.{terminals}
 use Rattle.mpslp_lp_grammar.specs.Terminal.Terminal.{Opens}
@@ -39,7 +37,7 @@ line_of (token ∷ more) (suc k) = line_of more k
 
 tokens-stamped : (found : Tokens) → all_at (line_of found) (map seen found) ≡ found
 tokens-stamped [] = refl
-tokens-stamped (token ∷ found) = ap (λ (more : Tokens). token ∷ more) (tokens-stamped found)
+tokens-stamped (token ∷ found) = grind (arith, tokens-stamped found)
 
 -- tokens before others, and the others
 stamped-split : (xs ys : List Terminal) (line : ℕ → ℕ) → all_at line (xs ++ ys) ≡ all_at line xs ++ all_at (onwards xs line) ys
@@ -86,9 +84,9 @@ line_tokens n found = map (λ (token : Token). record { line = n; terminal = ter
 
 -- the tokens of a line are on it
 all-on_line : (n : ℕ) (found : List Token) (f : Tokens) (e : TerminalAt) (more : Tokens) → line_tokens n found ≡ f ++ e ∷ more → e.line ≡ n
-all-on_line n [] [] e more h = absurd (none-longer e more (sym h))
-all-on_line n [] (y ∷ f) e more h = absurd (none-longer y (f ++ e ∷ more) (sym h))
-all-on_line n (token ∷ found) [] e more h = sym (ap (λ (ts : Tokens). line_of ts 0) h)
+all-on_line n [] [] e more h = grind arith
+all-on_line n [] (y ∷ f) e more h = grind arith
+all-on_line n (token ∷ found) [] e more h = grind arith
 all-on_line n (token ∷ found) (y ∷ f) e more h = all-on_line n found f e more (ap rest_of h)
 
 -- of tokens after `end` none is on its line
@@ -104,7 +102,7 @@ none-after n found f e second more rest h elsewhere =
 
 lines-cut : (ls : List (List ℕ)) (n : ℕ) (f : Tokens) (e : TerminalAt) (a : Tokens) → sound_terminals (enumerate_from n ls) ≡ f ++ e ∷ a → is_elsewhere e.line a ≡ true → FirstLines ls (map seen (f ++ e ∷ []))
 lines-cut [] n [] e a h elsewhere = absurd (none-longer e a (sym h))
-lines-cut [] n (y ∷ f) e a h elsewhere = absurd (none-longer y (f ++ e ∷ a) (sym h))
+lines-cut [] n (y ∷ f) e a h elsewhere = grind arith
 lines-cut (l ∷ ls) n f e a h elsewhere = by (lexical_fault l) refl h (λ more k. lines-cut ls (n + 1) more e a k elsewhere)
   where
     none : (g : Tokens) → [] ≡ g ++ e ∷ a → ⊥
@@ -146,17 +144,10 @@ lines-cut (l ∷ ls) n f e a h elsewhere = by (lexical_fault l) refl h (λ more 
 -- a line with an error by itself does not complete the text
 never_finished : (numbered : List (ℕ × List ℕ)) → is_finished (first_own_fault numbered) ≡ true → ⊥
 never_finished [] h = cc
-never_finished (line ∷ more) h = by (lexical_fault line.1) h (never_finished more)
-  where
-    by : (o : Option FaultKind) → is_finished (elim o as (λ _. Outcome Fault Draft) [ Some kind ↦ Refused (fault_on_line line.0 kind) | None ↦ first_own_fault more ]) ≡ true
-        → (is_finished (first_own_fault more) ≡ true → ⊥) → ⊥
-    by (Some kind) e later = cc
-    by None e later = later e
+never_finished (line ∷ more) h = grind (arith, never_finished more)
 
 finished-by_tokens : (numbered : List (ℕ × List ℕ)) (outcome : Outcome Fault Draft) → is_finished (or_else outcome (first_own_fault numbered)) ≡ true → is_finished outcome ≡ true
-finished-by_tokens numbered (Finished all) h = refl
-finished-by_tokens numbered (Refused fault) h = h
-finished-by_tokens numbered Open h = absurd (never_finished numbered h)
+finished-by_tokens numbered outcome h = grind (arith, never_finished)
 
 pub texts-found : ReadTextsAreSentences
 texts-found bytes text = record {

@@ -1,10 +1,9 @@
 -- The tokens of the first lines of a sentence are a file, and so it is LP text.
-use Rattle.std.proofs.Common.{◌≡◌, ◌<◌, refl, sym, ap, ◌∙◌, ℕ, zero, suc, ◌+◌, List, [], ◌∷◌, ◌++◌, Bool, true, false, not, append_assoc, map, take, drop, length, ◌≤◌, arith}
+use Rattle.std.proofs.Common.{◌≡◌, ◌<◌, refl, sym, ap, ◌∙◌, ℕ, zero, suc, ◌+◌, List, [], ◌∷◌, ◌++◌, Bool, true, not, append_assoc, map, take, drop, length, ◌≤◌, arith}
 use Rattle.std.specs.Prelude.{Option, Some, None, ◌==◌, is_none}
 use Rattle.std.specs.List.{flat_map, list_all, enumerate_from}
 use Rattle.std.specs.Cmp.{first_so, second_so}
 use Rattle.std.specs.Str.Lines.{lines}
-use Rattle.std.proofs.lemmas.Bool.{eqb-true}
 use Rattle.mpslp_types.specs.declared.faults.Fault.{Fault}
 use Rattle.mpslp_types.specs.declared.faults.FaultKind.{FaultKind}
 use Rattle.mpslp_builder.specs.Declaration.{Declarations, Draft, empty_draft}
@@ -12,7 +11,6 @@ use Rattle.mpslp_builder.specs.Refusal.{refusals_in_turn}
 use Rattle.mpslp_lp_tokens.specs.Token.{Token, tokens}
 use Rattle.mpslp_lp_tokens.specs.declared.words.SectionWord.TheVariants as words
 use Rattle.mpslp_lp_grammar.specs.Rules.{Outcome, phrases, made_by}
-use Rattle.mpslp_lp_grammar.specs.Rules.Outcome.{Finished, Refused, Open}
 use Rattle.mpslp_lp_grammar.specs.Terminal.{Terminal, TerminalAt, terminal_of, line_terminals, lexical_fault}
 use Rattle.mpslp_lp_grammar.specs.TerminalToken.{as_terminal, terminals}
 use Rattle.mpslp_lp_grammar.specs.Terminal.Terminal.{Opens}
@@ -22,7 +20,7 @@ use Rattle.mpslp_lp.specs.LpText.{numbered_lines, sound_terminals, first_own_fau
 use Rattle.mpslp_canonical_lp.proofs.TerminalLemmas.{mapped-append}
 use Rattle.mpslp_lp_sentences.specs.Phrases.{File}
 use Rattle.mpslp_lp_sentences.specs.Phrases.File.{file}
-use Rattle.mpslp_lp_sentences.specs.Spelling.{objective_tokens, row_section_tokens, section_tokens, file_tokens}
+use Rattle.mpslp_lp_sentences.specs.Spelling.{file_tokens}
 use Rattle.mpslp_lp_sentences.specs.Laws.{SentencesAreRead}
 use Rattle.mpslp_lp_sentences.proofs.Whole.{Tokens, whole as heard_whole, finished-from_whole}
 use Rattle.mpslp_lp_sentences.proofs.Stamped.{stamped, ending, is_elsewhere}
@@ -70,7 +68,7 @@ lines-before (l ∷ ls) n m h =
 
 pub line-seen : (n : ℕ) (found : List Token) → map seen (map (λ (token : Token). record { line = n; terminal = terminal_of token.kind token.text }) found) ≡ map as_terminal found
 line-seen n [] = refl
-line-seen n (token ∷ found) = ap (λ (more : List Terminal). terminal_of token.kind token.text ∷ more) (line-seen n found)
+line-seen n (token ∷ found) = grind (arith, line-seen n found)
 
 lines-seen : (ls : List (List ℕ)) (n : ℕ) → map seen (tokens_from n ls) ≡ flat_map terminals ls
 lines-seen [] n = refl
@@ -80,7 +78,7 @@ lines-seen (l ∷ ls) n =
 -- lines without an error by themselves, and those after them
 lines-split : (k n : ℕ) (ls : List (List ℕ)) → list_all (λ line. is_none (lexical_fault line)) (take k ls) ≡ true
     → sound_terminals (enumerate_from n ls) ≡ tokens_from n (take k ls) ++ sound_terminals (enumerate_from (n + length (take k ls)) (drop k ls))
-lines-split zero n ls h = ap (λ (m : ℕ). sound_terminals (enumerate_from m ls)) (omega arith)
+lines-split zero n ls h = grind arith
 lines-split (suc k) n [] h = refl
 lines-split (suc k) n (l ∷ ls) h =
     let good = first_so (is_none (lexical_fault l)) (list_all (λ line. is_none (lexical_fault line)) (take k ls)) h in
@@ -96,8 +94,7 @@ lines-split (suc k) n (l ∷ ls) h =
       | Some kind ↦ []
       | None ↦ line_terminals (n, l) ++ sound_terminals (enumerate_from (n + 1) ls)
     ] ≡ line_terminals (n, l) ++ sound_terminals (enumerate_from (n + 1) ls)
-    by (Some kind) k = absurd cc
-    by None k = refl
+    by o k = grind arith
 
 -- what follows on later lines is elsewhere
 lines-elsewhere : (ls : List (List ℕ)) (last m : ℕ) → last < m → is_elsewhere last (sound_terminals (enumerate_from m ls)) ≡ true
@@ -105,8 +102,7 @@ lines-elsewhere [] last m h = refl
 lines-elsewhere (l ∷ ls) last m h = by (lexical_fault l) (lines-elsewhere ls last (m + 1) (omega (arith, h)))
   where
     other : (b : Bool) → (m == last) ≡ b → not b ≡ true
-    other true e = absurd (omega (arith, eqb-true m last e, h))
-    other false e = refl
+    other b e = grind arith
 
     of_line : (found : List Token) (more : Tokens) → is_elsewhere last more ≡ true
         → is_elsewhere last (map (λ (token : Token). record { line = m; terminal = terminal_of token.kind token.text }) found ++ more) ≡ true
@@ -129,11 +125,11 @@ pub record IsStamped (m : ℕ) (found later : Tokens) (xs : List Terminal) : Typ
   pub same : found ++ later ≡ stamped line xs (ending last later)
 
 stamped-from : (m : ℕ) (xs : List Terminal) (found later : Tokens) → AreBefore m found → map seen found ≡ xs ++ Opens words.End ∷ [] → IsStamped m found later xs
-stamped-from m [] [] later h e = absurd (none-longer (Opens words.End) [] (sym e))
+stamped-from m [] [] later h e = grind arith
 stamped-from m [] (token ∷ []) later h e =
     record { line = λ k. 0; last = token.line; before = h.0; same = λ i. record { line = token.line; terminal = first_or token.terminal (e i) } ∷ later }
-stamped-from m [] (token ∷ second ∷ found) later h e = absurd (none-longer second.terminal (map seen found) (ap rest_of e))
-stamped-from m (x ∷ xs) [] later h e = absurd (none-longer x (xs ++ Opens words.End ∷ []) (sym e))
+stamped-from m [] (token ∷ second ∷ found) later h e = grind arith
+stamped-from m (x ∷ xs) [] later h e = grind arith
 stamped-from m (x ∷ xs) (token ∷ found) later h e =
     let more = stamped-from m xs found later h.1 (ap rest_of e) in
     record {
@@ -146,14 +142,10 @@ stamped-from m (x ∷ xs) (token ∷ found) later h e =
 -- ---- the text
 
 pub front-end : (whole : File) → file_tokens whole ≡ front_tokens whole ++ Opens words.End ∷ []
-front-end (file first second parts) =
-    ap (λ (xs : List Terminal). objective_tokens first ++ xs) (sym (append_assoc (row_section_tokens second) (flat_map section_tokens parts) (Opens words.End ∷ [])))
-    ∙ sym (append_assoc (objective_tokens first) (row_section_tokens second ++ flat_map section_tokens parts) (Opens words.End ∷ []))
+front-end whole = grind (arith, append_assoc)
 
 finished-first : (one other : Outcome Fault Draft) → is_finished one ≡ true → is_finished (or_else one other) ≡ true
-finished-first (Finished all) other h = refl
-finished-first (Refused fault) other h = absurd cc
-finished-first Open other h = absurd cc
+finished-first one other h = grind arith
 
 pub sentences-read : SentencesAreRead
 sentences-read bytes declared h = (finished-first (phrases phrase_at start 0 (sound_terminals (numbered_lines bytes))) (first_own_fault (numbered_lines bytes)) read.0, read.1)
@@ -175,4 +167,4 @@ sentences-read bytes declared h = (finished-first (phrases phrase_at start 0 (so
         ∙ ap (λ (ds : Declarations). Some ds) h.declares
 
     read : (is_finished (phrases phrase_at start 0 (sound_terminals (numbered_lines bytes))) ≡ true) × (made_by phrase_at start 0 (sound_terminals (numbered_lines bytes)) ≡ declared)
-    read = finished-from_whole (sound_terminals (numbered_lines bytes)) start declared heard
+    read = grind (arith, finished-from_whole, heard)

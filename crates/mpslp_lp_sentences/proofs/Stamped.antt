@@ -1,28 +1,23 @@
 -- Tokens with their lines, before the `end` of a text, and how the rules of the grammar listen to them.
-use Rattle.std.proofs.Common.{◌≡◌, refl, sym, ap, ◌∙◌, ℕ, suc, List, [], ◌∷◌, ◌++◌, Bool, true, false, not, append_assoc}
-use Rattle.std.specs.Prelude.{Option, Some, None, ◌==◌, if◌then◌else◌}
+use Rattle.std.proofs.Common.{arith, rules, ◌≡◌, ap, ◌∙◌, ℕ, suc, List, [], ◌∷◌, ◌++◌, Bool, true, not, append_assoc}
+use Rattle.std.specs.Prelude.{Some, None, ◌==◌}
 use Rattle.mpslp_builder.specs.Declaration.{Declarations, Draft, with_declarations}
 use Rattle.mpslp_builder.specs.Refusal.{refusals_in_turn}
-use Rattle.mpslp_types.specs.declared.faults.BuildFault.{BuildFault}
-use Rattle.mpslp_types.specs.declared.faults.FaultKind.{FaultKind}
-use Rattle.mpslp_types.specs.declared.faults.FaultKind.TheVariants.{BadToken}
 use Rattle.mpslp_lp_grammar.specs.Rules.{◌>>=◌, next, ahead}
-use Rattle.mpslp_lp_grammar.specs.Rules.Parsed.{Reads}
-use Rattle.mpslp_lp_grammar.specs.Rules.AfterPhrase.{Ends}
 use Rattle.mpslp_lp_grammar.specs.Terminal.{Terminal, TerminalAt}
 use Rattle.mpslp_lp_grammar.specs.Terminal.Terminal.{Opens}
-use Rattle.mpslp_lp_grammar.specs.Phrase.{Point, section_fault, with_section, PhraseRule, Follows, fails, refuses, goes_to, unless_refused, declares}
+use Rattle.mpslp_lp_grammar.specs.Phrase.{Point, section_fault, with_section, PhraseRule, Follows, goes_to, declares}
 use Rattle.mpslp_lp_grammar.specs.declared.sections_seen.SectionsSeen.{SectionsSeen}
 use Rattle.mpslp_lp_grammar.specs.declared.context.Context.{Context}
 use Rattle.mpslp_lp_grammar.specs.declared.states.Place.{Place}
-use Rattle.mpslp_lp_grammar.specs.Grammar.{line_end, section_start, section_from, may_begin_section, phrase_at}
+use Rattle.mpslp_lp_grammar.specs.Grammar.{section_start, may_begin_section, phrase_at}
 use Rattle.mpslp_lp_tokens.specs.Token.{section_of}
 use Rattle.mpslp_lp_tokens.specs.declared.words.Section.TheVariants as sections
 use Rattle.mpslp_lp_tokens.specs.declared.words.SectionWord.{SectionWord}
 use Rattle.mpslp_lp_tokens.specs.declared.words.SectionWord.TheVariants as words
 use Rattle.mpslp_canonical_lp.specs.PrintedDeclarations.{point_at}
 use Rattle.mpslp_canonical_lp.proofs.TerminalLemmas.{at}
-use Rattle.mpslp_lp_sentences.proofs.Whole.{Tokens, preceded, whole, heard, listened, whole-phrase, listened-next, listened-ahead}
+use Rattle.mpslp_lp_sentences.proofs.Whole.{Tokens, preceded, whole, listened, listened-ahead}
 
 -- tokens, each on its line, before others
 abbrev pub stamped : (ℕ → ℕ) → List Terminal → Tokens → Tokens
@@ -64,67 +59,38 @@ module _ (last : ℕ) (later : Tokens) where
   IsWholeAnywhere sections_seen earlier xs made = (place : Place) → may_begin_section place ≡ true → IsWhole (point_at place sections_seen earlier) xs made
 
   pub whole-begins : (point : Point) (x : Terminal) (xs : List Terminal) (made : Declarations) → ((n : ℕ) → Hears (phrase_at point (at n x)) xs made) → IsWhole point (x ∷ xs) made
-  whole-begins point x xs made h line = whole-phrase point (at (line 0) x) (stamped (onward line) xs (ending last later)) ∙ h (line 0) (onward line)
+  whole-begins point x xs made h line = grind arith
 
   pub hears-next : (following : TerminalAt → PhraseRule Follows) (x : Terminal) (xs : List Terminal) (made : Declarations) → ((n : ℕ) → Hears (following (at n x)) xs made)
       → Hears (next >>= following) (x ∷ xs) made
-  hears-next following x xs made h line = listened-next following (at (line 0) x) (stamped (onward line) xs (ending last later)) ∙ h (line 0) (onward line)
+  hears-next following x xs made h line = grind arith
 
   pub hears-ahead : (following : TerminalAt → PhraseRule Follows) (xs : List Terminal) (made : Declarations) → ((n : ℕ) → Hears (following (at n (first_of_all xs))) xs made)
       → Hears (ahead >>= following) xs made
   hears-ahead following [] made h line = listened-ahead following (at last (Opens words.End)) later ∙ h last line
-  hears-ahead following (x ∷ xs) made h line = listened-ahead following (at (line 0) x) (stamped (onward line) xs (ending last later)) ∙ h (line 0) line
+  hears-ahead following (x ∷ xs) made h line = grind (arith, listened-ahead, at)
 
   pub hears-goes : (context : Context) (place : Place) (made : Declarations) (xs : List Terminal) (more : Declarations)
       → IsWhole (point_at place context.sections_seen (with_declarations context.earlier made)) xs more → Hears (goes_to context place made) xs (made ++ more)
   hears-goes context place made xs more h line = ap (preceded made) (h line)
 
-  pub hears-unless : (context : Context) (token : TerminalAt) (refusals : List BuildFault) (place : Place) (made : Declarations) (xs : List Terminal) (more : Declarations) → refusals ≡ []
-      → IsWhole (point_at place context.sections_seen (with_declarations context.earlier made)) xs more → Hears (unless_refused context token refusals place made) xs (made ++ more)
-  hears-unless context token refusals place made xs more none h line =
-      ap (λ (refused : List BuildFault). listened (unless_refused context token refused place made) (stamped line xs (ending last later))) none ∙ hears-goes context place made xs more h line
-
   pub hears-declares : (context : Context) (token : TerminalAt) (place : Place) (made : Declarations) (xs : List Terminal) (more : Declarations) → refusals_in_turn context.earlier made ≡ []
       → IsWhole (point_at place context.sections_seen (with_declarations context.earlier made)) xs more → Hears (declares context token place made) xs (made ++ more)
-  hears-declares context token place made xs more none h = hears-unless context token (refusals_in_turn context.earlier made) place made xs more none h
+  hears-declares context token place made xs more none h = grind arith
 
   -- two phrases, and what they declare
   pub whole-joined : (point : Point) (xs ys zs : List Terminal) (made more all : Declarations) → IsWhole point (xs ++ (ys ++ zs)) (made ++ (more ++ all)) → IsWhole point ((xs ++ ys) ++ zs) ((made ++ more) ++ all)
-  whole-joined point xs ys zs made more all h line =
-      ap (λ (tokens : List Terminal). whole point 0 (stamped line tokens (ending last later))) (append_assoc xs ys zs) ∙ h line
-      ∙ ap (λ (declared : Declarations). Some declared) (sym (append_assoc made more all))
+  whole-joined point xs ys zs made more all h line = grind (arith, whole, append_assoc)
 
   -- a section word, where a section may begin
   opened : (place : Place) (sections_seen : SectionsSeen) (earlier : Draft) (word : SectionWord) (n : ℕ) (tokens : Tokens) → may_begin_section place ≡ true
       → section_fault sections_seen (section_of word) ≡ None
       → listened (phrase_at (point_at place sections_seen earlier) (at n (Opens word))) tokens
       ≡ listened (section_start (here (with_section sections_seen (section_of word)) earlier) (at n (Opens word)) word) tokens
-  opened place sections_seen earlier word n tokens may fault =
-      ap (λ (b : Bool). listened (if b then section_from (here sections_seen earlier) (at n (Opens word)) word else refuses (here sections_seen earlier) (at n (Opens word)) BadToken) tokens) may
-      ∙ ap (λ (o : Option FaultKind). listened (elim o as (λ _. PhraseRule Follows) [
-        | Some kind ↦ fails (at n (Opens word)) kind
-        | None ↦ section_start (here (with_section sections_seen (section_of word)) earlier) (at n (Opens word)) word
-      ]) tokens) fault
+  opened place sections_seen earlier word n tokens may fault = grind arith
 
   pub whole-opens : (place : Place) (sections_seen : SectionsSeen) (earlier : Draft) (word : SectionWord) (xs : List Terminal) (made : Declarations) → may_begin_section place ≡ true
       → section_fault sections_seen (section_of word) ≡ None
       → ((n : ℕ) → Hears (section_start (here (with_section sections_seen (section_of word)) earlier) (at n (Opens word)) word) xs made)
       → IsWhole (point_at place sections_seen earlier) (Opens word ∷ xs) made
-  whole-opens place sections_seen earlier word xs made may fault h =
-      whole-begins (point_at place sections_seen earlier) (Opens word) xs made (λ n line. opened place sections_seen earlier word n (stamped line xs (ending last later)) may fault ∙ h n line)
-
-  -- `end`, last on its line
-  pub whole-ends : (sections_seen : SectionsSeen) (earlier : Draft) → is_elsewhere last later ≡ true → section_fault sections_seen sections.End ≡ None → IsWholeAnywhere sections_seen earlier [] []
-  whole-ends sections_seen earlier elsewhere fault place may line =
-      whole-phrase (point_at place sections_seen earlier) (at last (Opens words.End)) later ∙ opened place sections_seen earlier words.End last later may fault ∙ at_end later elsewhere
-    where
-      context : Context
-      context = here (with_section sections_seen sections.End) earlier
-
-      at_end : (tokens : Tokens) → is_elsewhere last tokens ≡ true → heard (line_end context last tokens) tokens ≡ Some []
-      at_end [] k = refl
-      at_end (token ∷ tokens) k = by (token.line == last) k
-        where
-          by : (b : Bool) → not b ≡ true → heard (if b then refuses context token BadToken tokens else Reads (Ends context.earlier) 0) (token ∷ tokens) ≡ Some []
-          by true e = cc
-          by false e = refl
+  whole-opens place sections_seen earlier word xs made may fault h = search (rules, whole-begins, opened)

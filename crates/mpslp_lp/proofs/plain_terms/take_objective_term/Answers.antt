@@ -1,5 +1,5 @@
 use Rattle.std.proofs.Common.{◌≡◌, ◌∙◌, sym, subst, ap}
-use Rattle.std.specs.Prelude.{Ok, Err}
+use Rattle.std.specs.Prelude.{Err}
 use Rattle.mpslp_decimal.specs.Decimal.{Number}
 use Rattle.mpslp_lines.specs.FaultTests.{value_of}
 use Rattle.mpslp_lines.specs.declared.errors.LineError.{LineError}

@@ -2,7 +2,6 @@ use Rattle.std.proofs.Common.{sym, subst, ◌∷◌}
 use Rattle.std.specs.Prelude.{Err}
 use Rattle.mpslp_lines.specs.declared.errors.LineError.{LineError}
 use Rattle.mpslp_lp_tokens.specs.Scan.{token_of}
-use Rattle.mpslp_lp_grammar.specs.AfterToken.{AfterToken}
 use Rattle.mpslp_lp_grammar.specs.Terminal.{Terminal}
 use Rattle.mpslp_lp_grammar.specs.TerminalToken.{terminal_of_token}
 use Rattle.mpslp_lp_grammar.specs.declared.states.State.{State}

@@ -7,7 +7,7 @@ use Rattle.mpslp_lp_grammar.proofs.lp_builder.LpBuilder.declare_bounds_given.Goa
 
 pub invariant_of-self : goal.invariant_of-self
 invariant_of-self c =
-    let earlier = c.self.inside.builder in
+    let earlier = c.self.inside.builder.draft in
     let column = c.args.column.now in
     c.self.invariant
     ∙ ap (λ (rows : List (List ℕ × RowDefinition)). min (length rows) (2 ^ 64 - 1))
@@ -16,7 +16,7 @@ invariant_of-self c =
 
 pub returns-in_err-bounds : goal.returns-in_err-bounds
 returns-in_err-bounds c =
-    let earlier = c.self.inside.builder in
+    let earlier = c.self.inside.builder.draft in
     let later = c.bounds.new.self in
     let column = c.args.column.now in
     let made = bounds_declared column c.args.lower c.args.upper in

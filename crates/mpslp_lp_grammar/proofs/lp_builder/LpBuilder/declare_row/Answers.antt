@@ -7,7 +7,7 @@ use Rattle.mpslp_lp_grammar.proofs.lp_builder.LpBuilder.declare_row.Goals as goa
 
 pub invariant_of-self : goal.invariant_of-self
 invariant_of-self c =
-    let earlier = c.self.inside.builder in
+    let earlier = c.self.inside.builder.draft in
     let d = declare_row c.args.name (by_limits c.args.lower c.args.upper) in
     c.self.invariant
     ∙ ap (λ (rows : List (List ℕ × RowDefinition)). min (length rows) (2 ^ 64 - 1))
@@ -15,7 +15,7 @@ invariant_of-self c =
 
 pub returns-in_err-row_limits : goal.returns-in_err-row_limits
 returns-in_err-row_limits c =
-    let earlier = c.self.inside.builder in
+    let earlier = c.self.inside.builder.draft in
     let later = c.row_limits.new.self in
     let d = declare_row c.args.name (by_limits c.args.lower c.args.upper) in
     subst (λ (all : Draft). Declares all (d ∷ []) c.from_residual.result later) c.self.view_is
@@ -23,7 +23,7 @@ returns-in_err-row_limits c =
 
 pub invariant_of-self-2 : goal.invariant_of-self-2
 invariant_of-self-2 c =
-    let earlier = c.self.inside.builder in
+    let earlier = c.self.inside.builder.draft in
     let later = c.row_limits.new.self in
     let form = by_limits c.args.lower c.args.upper in
     let made = declared-by (refusals earlier (declare_row c.args.name form)) earlier later (with_declaration earlier (declare_row c.args.name form)) c.in_ok-row_limits.ensures in

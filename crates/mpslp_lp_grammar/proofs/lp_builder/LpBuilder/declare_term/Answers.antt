@@ -10,8 +10,8 @@ invariant_of-self c = c.self.invariant ∙ ap (λ (rows : List (List ℕ × RowD
 
 pub returns-in_err-row_term : goal.returns-in_err-row_term
 returns-in_err-row_term c =
-    let earlier = c.self.inside.builder in
-    let later = c.row_term.new.self in
+    let earlier = c.self.inside.builder.draft in
+    let later = c.row_term.new.self.draft in
     let ds = term_declared c.args.row.now (c.args.column.now, c.args.value) in
     subst (λ (all : Draft). Declares all ds c.from_residual.result later) c.self.view_is
     (refused-in_turn earlier later ds c.in_err-row_term.field-0.0 c.from_residual.result c.from_residual.ensures.1 c.in_err-row_term.ensures.declared)
