@@ -1,7 +1,8 @@
 //! Tests of legal and illegal names.
 
-use mpslp_types::{Name, NameFault};
+use mpslp_types::{FIXED_SEED, HashSeed, Name, NameBytes, NameFault};
 use std::alloc::Global;
+use std::hash::BuildHasher;
 use std::test::Fail;
 
 /// Whether a text becomes a name of the same bytes.
@@ -46,4 +47,24 @@ fn refuses_what_is_no_name(rt: HostRuntime) {
         [Some(NameFault::NameByte), Some(NameFault::NameMarker)]
     );
     assert_eq!(rt; checked, [Ok(()), Err(NameFault::NameByte)]);
+}
+
+#[test]
+fn makes_a_seed_of_both_halves(rt: HostRuntime) {
+    let seed = HashSeed::new(3 << 64 | 5);
+    assert_eq!(rt; [seed.state, seed.factor], [5, 3]);
+}
+
+/// The hash of a name of these bytes with a seed.
+fn hash_of(seed: HashSeed, bytes: &[u8]) -> u64 {
+    seed.hash_one(NameBytes { bytes })
+}
+
+#[test]
+fn hashes_names_by_the_seed(rt: HostRuntime) {
+    let (fixed, other) = (FIXED_SEED, HashSeed::new(1));
+    let short = [hash_of(fixed, b"LIM1") == hash_of(other, b"LIM1")];
+    let long = [hash_of(fixed, &[b'a'; 48]) == hash_of(other, &[b'a'; 48])];
+    let lengths = [hash_of(other, b"a") == hash_of(other, b"aa")];
+    assert_eq!(rt; [short, long, lengths], [[false]; 3]);
 }

@@ -9,7 +9,7 @@ ghost use Rattle.mpslp_conversions.specs.Conversions.{IsReadingOfFirst, IsText, 
 use crate::collecting_sink::Collected;
 use crate::comparing_sink::Comparison;
 use crate::faults::ConvertFault;
-use mpslp_model::{Format, Model, ReadFault, WriteFault};
+use mpslp_model::{Format, HashSeed, Model, ReadFault, WriteFault};
 use std::alloc::Global;
 
 /// Returns the model that the bytes declare in A.
@@ -18,10 +18,14 @@ use std::alloc::Global;
 ///
 /// [`First`](ConvertFault::First) with the first error of bytes that declare no model;
 /// [`OutOfMemory`](ConvertFault::OutOfMemory). The others are never returned.
-pub fn model_of<A: Format>(alloc: Global, bytes: &[u8]) -> Result<Model, ConvertFault>
+pub fn model_of<A: Format>(
+    alloc: Global,
+    seed: HashSeed,
+    bytes: &[u8],
+) -> Result<Model, ConvertFault>
     ensures { IsReadingOfFirst A.declares A.first_fault bytes.now result }
 {
-    match A::read(alloc, bytes) {
+    match A::read(alloc, seed, bytes) {
         Ok(model) => Ok(model),
         Err(ReadFault::File(fault)) => Err(ConvertFault::First(fault)),
         Err(ReadFault::Failed) => unreachable!(),
@@ -53,7 +57,11 @@ pub fn text_of<B: Format>(alloc: Global, model: &Model) -> Result<Vec<u8>, Conve
 /// [`First`](ConvertFault::First) with the first error of bytes that declare no model; otherwise
 /// [`NotLp`](ConvertFault::NotLp) with the first name of the model that is not legal in B;
 /// [`OutOfMemory`](ConvertFault::OutOfMemory) if an allocation fails. [`Second`](ConvertFault::Second) is never returned.
-pub fn canonical<A: Format, B: Format>(alloc: Global, bytes: &[u8]) -> Result<Vec<u8>, ConvertFault>
+pub fn canonical<A: Format, B: Format>(
+    alloc: Global,
+    seed: HashSeed,
+    bytes: &[u8],
+) -> Result<Vec<u8>, ConvertFault>
     ensures answer { IsConversion A.declares A.first_fault B.unfit B.text bytes.now result }
     ensures accepts { (m : LinearModel) → A.declares bytes.now m → B.unfit m ≡ None
         → IsOkUnless result ConvertFault.OutOfMemory }
@@ -63,15 +71,20 @@ pub fn canonical<A: Format, B: Format>(alloc: Global, bytes: &[u8]) -> Result<Ve
         → IsErrUnless result (ConvertFault.NotLp name_at) ConvertFault.OutOfMemory }
     ensures keeps { (m : LinearModel) → A.declares bytes.now m → IfOk result (λ out. B.declares out.items m) }
 {
-    let model = model_of::<A>(alloc, bytes)?;
+    let model = model_of::<A>(alloc, seed, bytes)?;
     text_of::<B>(alloc, &model)
 }
 
 /// Returns whether a second text declares this model in B.
-fn is_model_of<B: Format>(alloc: Global, model: &Model, bytes: &[u8]) -> Result<bool, ConvertFault>
+fn is_model_of<B: Format>(
+    alloc: Global,
+    seed: HashSeed,
+    model: &Model,
+    bytes: &[u8],
+) -> Result<bool, ConvertFault>
     ensures { IsTestOfModel B.declares B.first_fault model.now bytes.now result }
 {
-    match B::read(alloc, bytes) {
+    match B::read(alloc, seed, bytes) {
         Ok(other) => Ok(model.same(&other)),
         Err(ReadFault::File(fault)) => Err(ConvertFault::Second(fault)),
         Err(ReadFault::Failed) => unreachable!(),
@@ -88,6 +101,7 @@ fn is_model_of<B: Format>(alloc: Global, model: &Model, bytes: &[u8]) -> Result<
 /// allocation fails. [`NotLp`](ConvertFault::NotLp) is never returned.
 pub fn same_model<A: Format, B: Format>(
     alloc: Global,
+    seed: HashSeed,
     first: &[u8],
     second: &[u8],
 ) -> Result<bool, ConvertFault>
@@ -99,8 +113,8 @@ pub fn same_model<A: Format, B: Format>(
     ensures refuses_second { (m : LinearModel) (fault : Fault) → A.declares first.now m → B.first_fault second.now fault
         → IsErrUnless result (ConvertFault.Second fault) ConvertFault.OutOfMemory }
 {
-    let one = model_of::<A>(alloc, first)?;
-    is_model_of::<B>(alloc, &one, second)
+    let one = model_of::<A>(alloc, seed, first)?;
+    is_model_of::<B>(alloc, seed, &one, second)
 }
 
 /// Returns whether the bytes are the canonical text in A of the model that they declare in A. The text is compared while it
@@ -110,13 +124,17 @@ pub fn same_model<A: Format, B: Format>(
 ///
 /// [`First`](ConvertFault::First) with the first error of bytes that declare no model;
 /// [`OutOfMemory`](ConvertFault::OutOfMemory) if an allocation fails. The others are never returned.
-pub fn is_canonical<A: Format>(alloc: Global, bytes: &[u8]) -> Result<bool, ConvertFault>
+pub fn is_canonical<A: Format>(
+    alloc: Global,
+    seed: HashSeed,
+    bytes: &[u8],
+) -> Result<bool, ConvertFault>
     ensures answer { IsTestOfText A.declares A.first_fault A.text bytes.now result }
     ensures accepts { (m : LinearModel) → A.declares bytes.now m → IsOkUnless result ConvertFault.OutOfMemory }
     ensures refuses { (fault : Fault) → A.first_fault bytes.now fault
         → IsErrUnless result (ConvertFault.First fault) ConvertFault.OutOfMemory }
 {
-    let model = model_of::<A>(alloc, bytes)?;
+    let model = model_of::<A>(alloc, seed, bytes)?;
     let mut comparison = Comparison::with(bytes);
     let Ok(()) = A::write(&model, &mut comparison) else {
         unreachable!()

@@ -6,7 +6,7 @@ ghost use Rattle.mpslp_conversions.specs.Runs.{ReadsWithin, TakesAtMost};
 
 use crate::faults::RunFault;
 use crate::source_to_sink::{PIECE, bytes_to_ask};
-use mpslp_model::{Fault, Format, Model, ModelReader, ReadFault, Source};
+use mpslp_model::{Fault, Format, HashSeed, Model, ModelReader, ReadFault, Source};
 use std::alloc::{AllocError, Global};
 
 /// The largest number of bytes of a text that memory can hold.
@@ -52,6 +52,7 @@ fn finish_fed<P: ModelReader>(reader: P, fault: Option<Fault>) -> Result<Model, 
 /// keep the bytes. An error in them is reported only after the source has ended.
 pub(crate) fn read_model<A: Format, R: Source>(
     alloc: Global,
+    seed: HashSeed,
     max_bytes: u64,
     source: &mut R,
 ) -> Result<Model, RunFault>
@@ -60,7 +61,7 @@ pub(crate) fn read_model<A: Format, R: Source>(
     ensures calls { R.count source.new ≤ R.count source.old + max_bytes + 1 }
     ensures stays { R.failed source.old ≡ true → R.failed source.new ≡ true }
 {
-    let mut reader = A::Reader::new(alloc);
+    let mut reader = A::Reader::new(alloc, seed);
     let mut fault = None;
     let mut room = max_bytes;
     let mut buffer = [0u8; PIECE];
@@ -92,6 +93,7 @@ pub(crate) fn read_model<A: Format, R: Source>(
 /// never returned: an error of the file is the result.
 pub fn read_text<A: Format, R: Source>(
     alloc: Global,
+    seed: HashSeed,
     max_bytes: u64,
     source: &mut R,
 ) -> Result<Result<Model, Fault>, RunFault>
@@ -99,7 +101,7 @@ pub fn read_text<A: Format, R: Source>(
     ensures source { ReadsWithin R.left R.failed R.count max_bytes source.old source.new }
 {
     let limit = max_bytes.min(LONGEST);
-    match read_model::<A, R>(alloc, limit, source) {
+    match read_model::<A, R>(alloc, seed, limit, source) {
         Ok(model) => Ok(Ok(model)),
         Err(RunFault::File(fault)) => Ok(Err(fault)),
         Err(RunFault::TooLong) if limit < max_bytes => Err(RunFault::OutOfMemory),

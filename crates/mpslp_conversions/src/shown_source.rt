@@ -11,7 +11,7 @@ use crate::counting_sink::Counter;
 use crate::faults::RunFault;
 use crate::fed_model::read_model;
 use crate::shown_text::write_shown;
-use mpslp_model::{Format, Model, Sink, Source, WriteFault};
+use mpslp_model::{Format, HashSeed, Model, Sink, Source, WriteFault};
 use std::alloc::Global;
 
 /// The length of the text that shows a model, saturated at 2^64 - 1.
@@ -67,6 +67,7 @@ fn show_model<W: Sink>(model: &Model, sink: &mut W) -> Result<(), RunFault>
 /// unchanged and was not called.
 pub fn show<A: Format, R: Source, W: Sink>(
     alloc: Global,
+    seed: HashSeed,
     max_bytes: u64,
     source: &mut R,
     sink: &mut W,
@@ -84,6 +85,6 @@ pub fn show<A: Format, R: Source, W: Sink>(
     ensures source_stays { R.failed source.old ≡ true → R.failed source.new ≡ true }
     ensures sink_stays { W.failed sink.old ≡ true → W.failed sink.new ≡ true }
 {
-    let model = read_model::<A, R>(alloc, max_bytes, source)?;
+    let model = read_model::<A, R>(alloc, seed, max_bytes, source)?;
     show_model(&model, sink)
 }

@@ -13,7 +13,7 @@ ghost use Rattle.mpslp_conversions.specs.Runs.{SourceHeld, SourceHeldMore, IsLoa
 use crate::counting_sink::Counter;
 use crate::faults::RunFault;
 use crate::fed_model::read_model;
-use mpslp_model::{Format, Model, Sink, Source, WriteFault};
+use mpslp_model::{Format, HashSeed, Model, Sink, Source, WriteFault};
 use std::alloc::Global;
 
 /// The maximum number of bytes that one read requests.
@@ -105,6 +105,7 @@ fn put_model<B: Format, W: Sink>(model: &Model, sink: &mut W) -> Result<(), RunF
 /// Reads the model that the bytes of a source declare in A, and prepares it to be written in B.
 fn read_prepared<A: Format, B: Format, R: Source>(
     alloc: Global,
+    seed: HashSeed,
     max_bytes: u64,
     source: &mut R,
 ) -> Result<Model, RunFault>
@@ -113,7 +114,7 @@ fn read_prepared<A: Format, B: Format, R: Source>(
     ensures calls { R.count source.new ≤ R.count source.old + max_bytes + 1 }
     ensures stays { R.failed source.old ≡ true → R.failed source.new ≡ true }
 {
-    let model = read_model::<A, R>(alloc, max_bytes, source)?;
+    let model = read_model::<A, R>(alloc, seed, max_bytes, source)?;
     match B::prepare(alloc, model) {
         Ok(model) => Ok(model),
         Err(_) => Err(RunFault::OutOfMemory),
@@ -145,6 +146,7 @@ fn read_prepared<A: Format, B: Format, R: Source>(
 /// if only the flush failed. After any other error the sink is unchanged and was not called.
 pub fn run<A: Format, B: Format, R: Source, W: Sink>(
     alloc: Global,
+    seed: HashSeed,
     max_bytes: u64,
     source: &mut R,
     sink: &mut W,
@@ -164,6 +166,6 @@ pub fn run<A: Format, B: Format, R: Source, W: Sink>(
     ensures source_stays { R.failed source.old ≡ true → R.failed source.new ≡ true }
     ensures sink_stays { W.failed sink.old ≡ true → W.failed sink.new ≡ true }
 {
-    let model = read_prepared::<A, B, R>(alloc, max_bytes, source)?;
+    let model = read_prepared::<A, B, R>(alloc, seed, max_bytes, source)?;
     put_model::<B, W>(&model, sink)
 }

@@ -10,13 +10,14 @@ ghost use Rattle.mpslp_convert.specs.Performed.{source_change, sink_change, decl
 use crate::job_end::{Failure, Input, ended_by, print, refuse, status_of_end};
 use mpslp_conversions::{ConvertFault, read_text, run, show};
 use mpslp_jobs::{Form, Job, JobFault};
-use mpslp_model::{Fault, Format, Model, Sink, Source};
+use mpslp_model::{Fault, Format, HashSeed, Model, Sink, Source};
 use mpslp_write::{Lp, Mps};
 use std::alloc::Global;
 
 /// Writes the canonical text of the model that a source declares.
 fn canon<R: Source, W: Sink>(
     alloc: Global,
+    seed: HashSeed,
     max_bytes: u64,
     from: Form,
     to: Form,
@@ -29,16 +30,29 @@ fn canon<R: Source, W: Sink>(
     ensures out_stays { W.failed out.old ≡ true → W.failed out.new ≡ true }
 {
     match (from, to) {
-        (Form::Mps, Form::Mps) => ended_by(0, run::<Mps, Mps, R, W>(alloc, max_bytes, source, out)),
-        (Form::Mps, Form::Lp) => ended_by(0, run::<Mps, Lp, R, W>(alloc, max_bytes, source, out)),
-        (Form::Lp, Form::Mps) => ended_by(0, run::<Lp, Mps, R, W>(alloc, max_bytes, source, out)),
-        (Form::Lp, Form::Lp) => ended_by(0, run::<Lp, Lp, R, W>(alloc, max_bytes, source, out)),
+        (Form::Mps, Form::Mps) => ended_by(
+            0,
+            run::<Mps, Mps, R, W>(alloc, seed, max_bytes, source, out),
+        ),
+        (Form::Mps, Form::Lp) => ended_by(
+            0,
+            run::<Mps, Lp, R, W>(alloc, seed, max_bytes, source, out),
+        ),
+        (Form::Lp, Form::Mps) => ended_by(
+            0,
+            run::<Lp, Mps, R, W>(alloc, seed, max_bytes, source, out),
+        ),
+        (Form::Lp, Form::Lp) => ended_by(
+            0,
+            run::<Lp, Lp, R, W>(alloc, seed, max_bytes, source, out),
+        ),
     }
 }
 
 /// Writes the text that shows the model that a source declares.
 fn show_in<R: Source, W: Sink>(
     alloc: Global,
+    seed: HashSeed,
     max_bytes: u64,
     from: Form,
     source: &mut R,
@@ -50,8 +64,8 @@ fn show_in<R: Source, W: Sink>(
     ensures out_stays { W.failed out.old ≡ true → W.failed out.new ≡ true }
 {
     match from {
-        Form::Mps => ended_by(0, show::<Mps, R, W>(alloc, max_bytes, source, out)),
-        Form::Lp => ended_by(0, show::<Lp, R, W>(alloc, max_bytes, source, out)),
+        Form::Mps => ended_by(0, show::<Mps, R, W>(alloc, seed, max_bytes, source, out)),
+        Form::Lp => ended_by(0, show::<Lp, R, W>(alloc, seed, max_bytes, source, out)),
     }
 }
 
@@ -87,6 +101,7 @@ fn say<W: Sink>(same: Result<bool, ConvertFault>, out: &mut W) -> Result<u8, Fai
 /// Prints whether two sources declare the same model. Both are read to their ends before an error in a text is reported.
 fn compare<A: Format, B: Format, R: Source, S: Source, W: Sink>(
     alloc: Global,
+    seed: HashSeed,
     max_bytes: u64,
     first: &mut R,
     second: &mut S,
@@ -98,11 +113,11 @@ fn compare<A: Format, B: Format, R: Source, S: Source, W: Sink>(
     ensures second { ReadsWithin S.left S.failed S.count max_bytes second.old second.new }
     ensures out_stays { W.failed out.old ≡ true → W.failed out.new ≡ true }
 {
-    let one = match read_text::<A, R>(alloc, max_bytes, first) {
+    let one = match read_text::<A, R>(alloc, seed, max_bytes, first) {
         Ok(one) => one,
         Err(fault) => return Err(Failure::new(Input::First, fault)),
     };
-    let other = match read_text::<B, S>(alloc, max_bytes, second) {
+    let other = match read_text::<B, S>(alloc, seed, max_bytes, second) {
         Ok(other) => other,
         Err(fault) => return Err(Failure::new(Input::Second, fault)),
     };
@@ -112,6 +127,7 @@ fn compare<A: Format, B: Format, R: Source, S: Source, W: Sink>(
 /// Prints whether two sources, each in its own format, declare the same model.
 fn same<R: Source, S: Source, W: Sink>(
     alloc: Global,
+    seed: HashSeed,
     max_bytes: u64,
     first_form: Form,
     second_form: Form,
@@ -127,17 +143,24 @@ fn same<R: Source, S: Source, W: Sink>(
 {
     match (first_form, second_form) {
         (Form::Mps, Form::Mps) => compare::<Mps, Mps, R, S, W>(
-            alloc, max_bytes, first, second, out,
+            alloc, seed, max_bytes, first, second, out,
         ),
-        (Form::Mps, Form::Lp) => compare::<Mps, Lp, R, S, W>(alloc, max_bytes, first, second, out),
-        (Form::Lp, Form::Mps) => compare::<Lp, Mps, R, S, W>(alloc, max_bytes, first, second, out),
-        (Form::Lp, Form::Lp) => compare::<Lp, Lp, R, S, W>(alloc, max_bytes, first, second, out),
+        (Form::Mps, Form::Lp) => compare::<Mps, Lp, R, S, W>(
+            alloc, seed, max_bytes, first, second, out,
+        ),
+        (Form::Lp, Form::Mps) => compare::<Lp, Mps, R, S, W>(
+            alloc, seed, max_bytes, first, second, out,
+        ),
+        (Form::Lp, Form::Lp) => compare::<Lp, Lp, R, S, W>(
+            alloc, seed, max_bytes, first, second, out,
+        ),
     }
 }
 
 /// Does a job.
 fn do_job<R: Source, S: Source, W: Sink>(
     alloc: Global,
+    seed: HashSeed,
     max_bytes: u64,
     job: &Job,
     first: &mut R,
@@ -151,7 +174,7 @@ fn do_job<R: Source, S: Source, W: Sink>(
     ensures out_stays { W.failed out.old ≡ true → W.failed out.new ≡ true }
 {
     match job {
-        Job::Canon { from, to, path: _ } => canon(alloc, max_bytes, *from, *to, first, out),
+        Job::Canon { from, to, path: _ } => canon(alloc, seed, max_bytes, *from, *to, first, out),
         Job::Same {
             first_form,
             first: _,
@@ -159,6 +182,7 @@ fn do_job<R: Source, S: Source, W: Sink>(
             second: _,
         } => same(
             alloc,
+            seed,
             max_bytes,
             *first_form,
             *second_form,
@@ -166,7 +190,7 @@ fn do_job<R: Source, S: Source, W: Sink>(
             second,
             out,
         ),
-        Job::Show { from, path: _ } => show_in(alloc, max_bytes, *from, first, out),
+        Job::Show { from, path: _ } => show_in(alloc, seed, max_bytes, *from, first, out),
     }
 }
 
@@ -195,8 +219,11 @@ fn do_job<R: Source, S: Source, W: Sink>(
 /// From each source at most `max_bytes + 1` bytes are requested, in at most as many calls. `out` is called at most once for
 /// each byte of its text, and once to flush it; `err` at most once for each byte of its line. A device that has failed stays
 /// failed.
+///
+/// Only the time of the call depends on the seed.
 pub fn perform<R: Source, S: Source, W: Sink, E: Sink>(
     alloc: Global,
+    seed: HashSeed,
     max_bytes: u64,
     job: &Result<Job, JobFault>,
     first: &mut R,
@@ -214,7 +241,7 @@ pub fn perform<R: Source, S: Source, W: Sink, E: Sink>(
 {
     match job {
         Ok(job) => {
-            let end = do_job(alloc, max_bytes, job, first, second, out);
+            let end = do_job(alloc, seed, max_bytes, job, first, second, out);
             status_of_end(&end, err)
         }
         Err(fault) => refuse(fault, out, err),

@@ -1,4 +1,5 @@
 -- A literal is its mantissa, read from the start, and an exponent part.
+use Rattle.std.proofs.Common.{rules}
 use Rattle.std.proofs.Common.{◌≡◌, refl, sym, ap, subst, ◌∙◌, List, [], ◌∷◌, ◌++◌, length, take, drop, ℕ, suc, Bool, true, false, cond, arith, ◌<◌, ◌≤◌, ◌+◌, append_assoc}
 use Rattle.std.specs.Prelude.{ℤ, pos, Option, Some, None, ◌&&◌, ◌||◌, not, nat_lt}
 use Rattle.std.specs.List.{list_all, list_any, prefix_len, position_or_len, before_first, after_first}
@@ -16,30 +17,18 @@ one_more : (n : ℕ) → 1 + n ≡ suc n
 one_more n = omega arith
 
 position-more : (p : ℕ → Bool) (front rest : List ℕ) → Each (λ b. p b ≡ false) front → position_or_len p (front ++ rest) ≡ length front + position_or_len p rest
-position-more p [] rest h = zero_plus (position_or_len p rest)
-  where
-    zero_plus : (n : ℕ) → n ≡ 0 + n
-    zero_plus n = omega arith
-position-more p (b ∷ bs) rest h = rw (h.0, position-more p bs rest h.1) (more (length bs) (position_or_len p rest))
-  where
-    more : (n k : ℕ) → 1 + (n + k) ≡ suc n + k
-    more n k = omega arith
+position-more p [] rest h = grind (arith, arith)
+position-more p (b ∷ bs) rest h = grind (arith, arith, position-more p bs rest h.1)
 
 take-more : (front rest : List ℕ) (k : ℕ) → take (length front + k) (front ++ rest) ≡ front ++ take k rest
-take-more [] rest k = ap (λ (n : ℕ). take n rest) (zero_plus k)
-  where
-    zero_plus : (n : ℕ) → 0 + n ≡ n
-    zero_plus n = omega arith
+take-more [] rest k = grind (arith, arith)
 take-more (b ∷ bs) rest k = ap (λ (n : ℕ). take n (b ∷ bs ++ rest)) (suc_plus (length bs) k) ∙ ap (λ (x : List ℕ). b ∷ x) (take-more bs rest k)
   where
     suc_plus : (n k : ℕ) → suc n + k ≡ suc (n + k)
     suc_plus n k = omega arith
 
 drop-more : (front rest : List ℕ) (k : ℕ) → drop (length front + k) (front ++ rest) ≡ drop k rest
-drop-more [] rest k = ap (λ (n : ℕ). drop n rest) (zero_plus k)
-  where
-    zero_plus : (n : ℕ) → 0 + n ≡ n
-    zero_plus n = omega arith
+drop-more [] rest k = grind (arith, arith)
 drop-more (b ∷ bs) rest k = ap (λ (n : ℕ). drop n (b ∷ bs ++ rest)) (suc_plus (length bs) k) ∙ drop-more bs rest k
   where
     suc_plus : (n k : ℕ) → suc n + k ≡ suc (n + k)
@@ -49,13 +38,7 @@ pub before-more : (p : ℕ → Bool) (front rest : List ℕ) → Each (λ b. p b
 before-more p front rest h = ap (λ (n : ℕ). take n (front ++ rest)) (position-more p front rest h) ∙ take-more front rest (position_or_len p rest)
 
 pub after-more : (p : ℕ → Bool) (front rest : List ℕ) → Each (λ b. p b ≡ false) front → after_first p (front ++ rest) ≡ after_first p rest
-after-more p front rest h =
-    ap (λ (n : ℕ). drop (n + 1) (front ++ rest)) (position-more p front rest h)
-    ∙ ap (λ (n : ℕ). drop n (front ++ rest)) (shift (length front) (position_or_len p rest))
-    ∙ drop-more front rest (position_or_len p rest + 1)
-  where
-    shift : (n k : ℕ) → n + k + 1 ≡ n + (k + 1)
-    shift n k = omega arith
+after-more p front rest h = grind (arith, position-more, drop-more, arith)
 
 pub any-more : (p : ℕ → Bool) (front rest : List ℕ) → Each (λ b. p b ≡ false) front → list_any p (front ++ rest) ≡ list_any p rest
 any-more p [] rest h = refl
@@ -64,8 +47,7 @@ any-more p (b ∷ bs) rest h = rw (h.0, any-more p bs rest h.1) refl
 -- ---- a cut at the first byte
 
 drop_none : (xs : List ℕ) → drop 0 xs ≡ xs
-drop_none [] = refl
-drop_none (x ∷ xs) = refl
+drop_none v0 = grind arith
 
 pub before-here : (p : ℕ → Bool) (x : ℕ) (xs : List ℕ) → p x ≡ true → before_first p (x ∷ xs) ≡ []
 before-here p x xs h = rw h refl
@@ -139,35 +121,13 @@ sign-none : (b : ℕ) (xs : List ℕ) → is_sign b ≡ false → without_sign (
 sign-none b xs h = rw h refl
 
 unsigned-is : (text : List ℕ) → unsigned_part text ≡ before_first is_exponent_mark (without_sign text)
-unsigned-is [] = refl
-unsigned-is (b ∷ bs) = by (is_sign b) (is_exponent_mark b) refl refl
-  where
-    by : (s m : Bool) → is_sign b ≡ s → is_exponent_mark b ≡ m → unsigned_part (b ∷ bs) ≡ before_first is_exponent_mark (without_sign (b ∷ bs))
-    by true m e k =
-        ap without_sign (before-past is_exponent_mark b bs (sign-no_mark b e)) ∙ sign-off b (before_first is_exponent_mark bs) e
-        ∙ ap (before_first is_exponent_mark) (sym (sign-off b bs e))
-    by false true e k =
-        let none = before-here is_exponent_mark b bs k in
-        ap without_sign none ∙ sym none ∙ ap (before_first is_exponent_mark) (sym (sign-none b bs e))
-    by false false e k =
-        let past = before-past is_exponent_mark b bs k in
-        ap without_sign past ∙ sign-none b (before_first is_exponent_mark bs) e ∙ sym past ∙ ap (before_first is_exponent_mark) (sym (sign-none b bs e))
+unsigned-is v0 = grind arith
 
 exponent-is : (text : List ℕ) → exponent_part text ≡ after_first is_exponent_mark (without_sign text)
-exponent-is [] = refl
-exponent-is (b ∷ bs) = by (is_sign b) refl
-  where
-    by : (s : Bool) → is_sign b ≡ s → exponent_part (b ∷ bs) ≡ after_first is_exponent_mark (without_sign (b ∷ bs))
-    by true e = after-past is_exponent_mark b bs (sign-no_mark b e) ∙ ap (after_first is_exponent_mark) (sym (sign-off b bs e))
-    by false e = ap (after_first is_exponent_mark) (sym (sign-none b bs e))
+exponent-is v0 = grind arith
 
 marked-is : (text : List ℕ) → list_any is_exponent_mark text ≡ list_any is_exponent_mark (without_sign text)
-marked-is [] = refl
-marked-is (b ∷ bs) = by (is_sign b) refl
-  where
-    by : (s : Bool) → is_sign b ≡ s → list_any is_exponent_mark (b ∷ bs) ≡ list_any is_exponent_mark (without_sign (b ∷ bs))
-    by true e = any-past is_exponent_mark b bs (sign-no_mark b e) ∙ ap (list_any is_exponent_mark) (sym (sign-off b bs e))
-    by false e = ap (list_any is_exponent_mark) (sym (sign-none b bs e))
+marked-is v0 = grind arith
 
 -- ---- the parts of a text without its sign
 
@@ -200,12 +160,10 @@ no_points : (digits : List ℕ) → AreDigits digits → Each (λ b. is_point b 
 no_points digits h = Each-weaker (λ b. is_digit b ≡ true) (λ b. is_point b ≡ false) digit-no_point digits h
 
 whole-after : (digits rest : List ℕ) → AreDigits digits → whole_part (digits ++ rest) ≡ digits ++ whole_part rest
-whole-after digits rest h =
-    ap (before_first is_point) (before-more is_exponent_mark digits rest (no_marks digits h)) ∙ before-more is_point digits (before_exponent rest) (no_points digits h)
+whole-after digits rest h = grind (arith, before-more, no_marks, no_points)
 
 fraction-after : (digits rest : List ℕ) → AreDigits digits → fraction_part (digits ++ rest) ≡ fraction_part rest
-fraction-after digits rest h =
-    ap (after_first is_point) (before-more is_exponent_mark digits rest (no_marks digits h)) ∙ after-more is_point digits (before_exponent rest) (no_points digits h)
+fraction-after digits rest h = grind (arith, before-more, no_marks, after-more, no_points)
 
 -- what the parts of a text are
 record Parts (text whole fraction exponent : List ℕ) (marked : Bool) : Type 0 where
@@ -215,33 +173,17 @@ record Parts (text whole fraction exponent : List ℕ) (marked : Bool) : Type 0 
   marked_is : is_marked text ≡ marked
 
 parts-after : (digits rest whole fraction exponent : List ℕ) (marked : Bool) → AreDigits digits → Parts rest whole fraction exponent marked → Parts (digits ++ rest) (digits ++ whole) fraction exponent marked
-parts-after digits rest whole fraction exponent marked h p = record {
-  whole_is = whole-after digits rest h ∙ ap (λ (x : List ℕ). digits ++ x) p.whole_is;
-  fraction_is = fraction-after digits rest h ∙ p.fraction_is;
-  exponent_is = after-more is_exponent_mark digits rest (no_marks digits h) ∙ p.exponent_is;
-  marked_is = any-more is_exponent_mark digits rest (no_marks digits h) ∙ p.marked_is;
-}
+parts-after digits rest whole fraction exponent marked h p = grind (arith, whole-after, fraction-after, after-more, no_marks, any-more)
 
 parts-empty : Parts [] [] [] [] false
 parts-empty = record { whole_is = refl; fraction_is = refl; exponent_is = refl; marked_is = refl }
 
 parts-marked : (x : ℕ) (xs : List ℕ) → is_exponent_mark x ≡ true → Parts (x ∷ xs) [] [] xs true
-parts-marked x xs h = record {
-  whole_is = ap (before_first is_point) (before-here is_exponent_mark x xs h);
-  fraction_is = ap (after_first is_point) (before-here is_exponent_mark x xs h);
-  exponent_is = after-here is_exponent_mark x xs h;
-  marked_is = any-here is_exponent_mark x xs h;
-}
+parts-marked x xs h = grind arith
 
 -- a point, and what follows it before the exponent part
 parts-pointed : (x : ℕ) (xs exponent : List ℕ) (marked : Bool) → is_point x ≡ true → after_mark xs ≡ exponent → is_marked xs ≡ marked → Parts (x ∷ xs) [] (before_exponent xs) exponent marked
-parts-pointed x xs exponent marked h e m =
-    let past = before-past is_exponent_mark x xs (point-no_mark x h) in record {
-      whole_is = ap (before_first is_point) past ∙ before-here is_point x (before_exponent xs) h;
-      fraction_is = ap (after_first is_point) past ∙ after-here is_point x (before_exponent xs) h;
-      exponent_is = after-past is_exponent_mark x xs (point-no_mark x h) ∙ e;
-      marked_is = any-past is_exponent_mark x xs (point-no_mark x h) ∙ m;
-    }
+parts-pointed x xs exponent marked h e m = grind arith
 
 -- any other byte stays in the mantissa
 whole-other : (x : ℕ) (xs : List ℕ) → is_exponent_mark x ≡ false → is_point x ≡ false → whole_part (x ∷ xs) ≡ x ∷ whole_part xs
@@ -253,9 +195,7 @@ abbrev is_number : List ℕ → Bool
 is_number text = are_digits (mantissa_part text) && has_good_exponent text
 
 is_literal-is : (text : List ℕ) → is_literal text ≡ is_number (without_sign text)
-is_literal-is text = λ i.
-    are_digits (before_first is_point (unsigned-is text i) ++ after_first is_point (unsigned-is text i))
-    && (not (marked-is text i) || are_digits (without_sign (exponent-is text i)))
+is_literal-is text = grind (arith, unsigned-is, marked-is, exponent-is)
 
 -- The text without its sign is a number with this exponent, or not a number.
 abbrev Says : List ℕ → Option ℤ → Type 0
@@ -264,34 +204,22 @@ Says text (Some exponent) =
 Says text None = is_number text ≡ false
 
 and-false : (a : Bool) → (a && false) ≡ false
-and-false true = refl
-and-false false = refl
+and-false v0 = grind arith
 
 no_digits : (front back : List ℕ) (x : ℕ) → is_digit x ≡ false → list_all is_digit (front ++ x ∷ back) ≡ false
 no_digits [] back x h = rw h refl
 no_digits (b ∷ bs) back x h = rw (no_digits bs back x h) (and-false (is_digit b))
 
 no_number : (text front back : List ℕ) (x : ℕ) → is_digit x ≡ false → mantissa_part text ≡ front ++ x ∷ back → is_number text ≡ false
-no_number text front back x h e =
-    ap (λ (t : List ℕ). are_digits t && has_good_exponent text) e
-    ∙ ap (λ (b : Bool). (nat_lt 0 (length (front ++ x ∷ back)) && b) && has_good_exponent text) (no_digits front back x h)
-    ∙ ap (λ (b : Bool). b && has_good_exponent text) (and-false (nat_lt 0 (length (front ++ x ∷ back))))
+no_number text front back x h e = grind (arith, no_digits, and-false)
 
 -- the digits are read, and what follows them is an exponent part or not
 says-parts : (text whole fraction exponent : List ℕ) → Parts text whole fraction exponent true → whole ++ fraction ≡ mantissa_front text → fraction ≡ fraction_front text
     → Says text (exponent_of exponent)
-says-parts text whole fraction exponent p m f = by (are_digits (without_sign exponent)) refl
-  where
-    good : (b : Bool) → are_digits (without_sign exponent) ≡ b → has_good_exponent text ≡ b
-    good b e = (λ i. not (p.marked_is i) || are_digits (without_sign (p.exponent_is i))) ∙ e
-
-    by : (b : Bool) → are_digits (without_sign exponent) ≡ b → Says text (cond b (Some (capped_exponent exponent)) None)
-    by true e = ((λ i. p.whole_is i ++ p.fraction_is i) ∙ m, p.fraction_is ∙ f, good true e, ap capped_exponent (sym p.exponent_is))
-    by false e = ap (λ (b : Bool). are_digits (mantissa_part text) && b) (good false e) ∙ and-false (are_digits (mantissa_part text))
+says-parts text whole fraction exponent p m f = grind arith
 
 says-plain : (text whole fraction : List ℕ) → Parts text whole fraction [] false → whole ++ fraction ≡ mantissa_front text → fraction ≡ fraction_front text → Says text (Some (pos 0))
-says-plain text whole fraction p m f =
-    ((λ i. p.whole_is i ++ p.fraction_is i) ∙ m, p.fraction_is ∙ f, (λ i. not (p.marked_is i) || are_digits (without_sign (p.exponent_is i))), ap capped_exponent (sym p.exponent_is))
+says-plain text whole fraction p m f = grind arith
 
 -- the whole text from its first digits and what follows them
 record Cut (text digits rest : List ℕ) : Type 0 where
@@ -310,23 +238,13 @@ parts-cut text digits rest whole fraction exponent marked c p =
     subst (λ (t : List ℕ). Parts t (digits ++ whole) fraction exponent marked) (sym c.whole) (parts-after digits rest whole fraction exponent marked c.digits_only p)
 
 other-cut : (text digits : List ℕ) (x : ℕ) (xs : List ℕ) → Cut text digits (x ∷ xs) → is_digit x ≡ false → is_exponent_mark x ≡ false → is_point x ≡ false → is_number text ≡ false
-other-cut text digits x xs c d m p =
-    no_number text digits (whole_part xs ++ fraction_part (digits ++ x ∷ xs)) x d
-    (ap mantissa_part c.whole
-    ∙ (λ i. (whole-after digits (x ∷ xs) c.digits_only ∙ ap (λ (t : List ℕ). digits ++ t) (whole-other x xs m p)) i ++ fraction_part (digits ++ x ∷ xs))
-    ∙ append_assoc digits (x ∷ whole_part xs) (fraction_part (digits ++ x ∷ xs)))
+other-cut text digits x xs c d m p = grind (arith, no_number, whole-after, whole-other, append_assoc)
 
 no_point-front : (text : List ℕ) (x : ℕ) (xs : List ℕ) → after_digits text ≡ x ∷ xs → is_point x ≡ false → fraction_front text ≡ []
-no_point-front text x xs e p = ap (λ (r : List ℕ). digits_front (after_point r)) e ∙ following
-  where
-    following : digits_front (after_point (x ∷ xs)) ≡ []
-    following = rw p refl
+no_point-front text x xs e p = grind arith
 
 point-front : (text : List ℕ) (x : ℕ) (xs : List ℕ) → after_digits text ≡ x ∷ xs → is_point x ≡ true → fraction_front text ≡ digits_front xs
-point-front text x xs e p = ap (λ (r : List ℕ). digits_front (after_point r)) e ∙ following
-  where
-    following : digits_front (after_point (x ∷ xs)) ≡ digits_front xs
-    following = rw p refl
+point-front text x xs e p = grind arith
 
 -- after a point: the digits of the fraction, and what follows them
 pointed : (text : List ℕ) (x : ℕ) (xs rest : List ℕ) → after_digits text ≡ x ∷ xs → is_point x ≡ true → after_digits xs ≡ rest → Says text (exponent_after rest)
@@ -399,10 +317,7 @@ says text = by (after_digits text) refl
 -- ---- the result of a scan
 
 no_digits-number : (text : List ℕ) (exponent : Option ℤ) → Says text exponent → length (mantissa_front text) ≡ 0 → is_number text ≡ false
-no_digits-number text None says none = says
-no_digits-number text (Some exponent) says none =
-    ap (λ (t : List ℕ). are_digits t && has_good_exponent text) says.0
-    ∙ ap (λ (n : ℕ). (nat_lt 0 n && list_all is_digit (mantissa_front text)) && has_good_exponent text) none
+no_digits-number text v1 says none = grind arith
 
 -- a text without digits before its exponent part is not a literal
 pub literal-no_digits : (text unsigned : List ℕ) (count : ℕ) → unsigned ≡ without_sign text → count ≡ length (mantissa_front unsigned) → count ≡ 0 → is_literal text ≡ false
@@ -411,42 +326,16 @@ literal-no_digits text unsigned count u c none =
 
 -- what follows the mantissa is not an exponent part
 pub literal-no_exponent : (text unsigned rest : List ℕ) → unsigned ≡ without_sign text → rest ≡ after_mantissa unsigned → exponent_after rest ≡ None → is_literal text ≡ false
-literal-no_exponent text unsigned rest u r none =
-    is_literal-is text ∙ ap is_number (sym u) ∙ subst (Says unsigned) (ap exponent_after (sym r) ∙ none) (says unsigned)
+literal-no_exponent text unsigned rest u r none = grind (arith, is_literal-is, says)
 
 front_digits : (text : List ℕ) → AreDigits (mantissa_front text)
 front_digits text =
     Each-append (λ b. is_digit b ≡ true) (digits_front text) (fraction_front text) (front-of text).digits_only (front-of (after_point (after_digits text))).digits_only
 
 length-unsigned : (text unsigned : List ℕ) → unsigned ≡ without_sign text → length unsigned ≤ length text
-length-unsigned text unsigned u = let e : length unsigned ≡ length (without_sign text) = ap length u in omega (arith, e, shorter text)
-  where
-    shorter : (t : List ℕ) → length (without_sign t) ≤ length t
-    shorter [] = omega arith
-    shorter (b ∷ bs) = by (is_sign b) refl
-      where
-        by : (s : Bool) → is_sign b ≡ s → length (without_sign (b ∷ bs)) ≤ suc (length bs)
-        by true e = rw (sign-off b bs e) (omega arith)
-        by false e = rw (sign-none b bs e) (omega arith)
+length-unsigned text unsigned u = grind arith
 
 pub scanned : (scan : Scan) (text unsigned rest : List ℕ) (exponent : ℤ) (count : ℕ) → unsigned ≡ without_sign text → rest ≡ after_mantissa unsigned → exponent_after rest ≡ Some exponent
     → IsSignificandOf scan.significand (digits_sum (mantissa_front unsigned)) → count ≡ length (mantissa_front unsigned) → 0 < count → scan.places ≡ length (fraction_front unsigned)
     → scan.exponent ≡ exponent → scan.is_negative ≡ is_minus text → count ≤ length unsigned → zeros_of scan.significand ≤ length unsigned → scan.places ≤ length unsigned → IsScanOf scan text
-scanned scan text unsigned rest exponent count u r e s c some p x minus within zeros_within places_within =
-    let said : Says unsigned (Some exponent) = subst (Says unsigned) (ap exponent_after (sym r) ∙ e) (says unsigned) in
-    let part : unsigned_part text ≡ before_exponent unsigned = unsigned-is text ∙ ap before_exponent (sym u) in
-    let mantissa : mantissa_digits text ≡ mantissa_front unsigned = (λ i. before_first is_point (part i) ++ after_first is_point (part i)) ∙ said.0 in
-    let fraction : fraction_digits text ≡ fraction_front unsigned = ap (after_first is_point) part ∙ said.1 in
-    let following : exponent_part text ≡ after_mark unsigned = exponent-is text ∙ ap after_mark (sym u) in
-    let shorter : length unsigned ≤ length text = length-unsigned text unsigned u in
-    let digits : are_digits (mantissa_part unsigned) ≡ true = ap are_digits said.0 ∙ are-digits (mantissa_front unsigned) (front_digits unsigned) (omega (arith, c)) in
-    record {
-      literal = is_literal-is text ∙ ap is_number (sym u) ∙ (λ i. digits i && said.2 i);
-      negative = minus;
-      significand = subst (λ (t : List ℕ). IsSignificandOf scan.significand (digits_sum t)) (sym mantissa) s;
-      places = p ∙ ap length (sym fraction);
-      exponent = x ∙ said.3 ∙ ap capped_exponent (sym following);
-      digits_within = omega (arith, shorter, ap length mantissa, c);
-      zeros_within = omega (arith, shorter);
-      places_within = omega (arith, shorter);
-    }
+scanned scan text unsigned rest exponent count u r e s c some p x minus within zeros_within places_within = grind (arith, says, unsigned-is, exponent-is, length-unsigned, are-digits, front_digits, arith, is_literal-is)

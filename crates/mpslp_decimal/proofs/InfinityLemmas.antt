@@ -1,4 +1,5 @@
 -- When a number of units of a power of ten is at least 1e20, counted in units of the least exponent.
+use Rattle.std.proofs.Common.{rules}
 use Rattle.std.proofs.Common.{◌≡◌, refl, sym, ap, ◌∙◌, ℕ, zero, suc, Bool, true, false, arith, ◌<◌, ◌≤◌, ◌+◌, ◌-◌, ◌*◌, ◌^◌, lit<}
 use Rattle.std.specs.Prelude.{ℤ, pos, negsuc, ◌≤ℤ◌, ◌<ℤ◌, ◌-ℤ◌, nat_le, unsigned_abs, ◌==◌, not}
 use Rattle.std.proofs.Math.Nat.{pow-le-pow_right}
@@ -22,18 +23,11 @@ at_least s p h = grind arith
 
 -- the power is infinite itself
 large : (s h t : ℕ) → t ≤ 10 ^ h → 0 < t → not (s == 0) ≡ nat_le t (s * 10 ^ h)
-large zero h t le some = no t (0 * 10 ^ h) (omega arith)
-large (suc s) h t le some = let b = at_least (suc s) (10 ^ h) (omega arith) in nonzero (suc s) (omega arith) ∙ yes t (suc s * 10 ^ h) (omega (arith, b))
-  where
-    nonzero : (n : ℕ) → 0 < n → not (n == 0) ≡ true
-    nonzero n h = grind (arith, nat_tests)
+large v0 h t le some = grind (arith, no, arith, at_least, yes, nat_tests)
 
 -- the power is too small for any mantissa
 small : (s p q t : ℕ) → s < q → 0 < p → q * p ≤ t → false ≡ nat_le t (s * p)
-small s p q t h some le = no t (s * p) (let b = below s p q h some in omega arith)
-  where
-    below : (s p q : ℕ) → s < q → 0 < p → s * p < q * p
-    below s p q h some = grind arith
+small s p q t h some le = grind arith
 
 -- between the two
 between : (s p q : ℕ) → 0 < p → nat_le q s ≡ nat_le (q * p) (s * p)
@@ -60,18 +54,13 @@ infinite-large s (pos n) h = let l : 520 ≤ n + 500 = above n h in large s (n +
 infinite-large s (negsuc n) h = absurd (omega (arith, ints))
 
 height-small : (e : ℤ) → e ≤ℤ negsuc 15 → height e ≤ 484
-height-small (pos n) h = absurd (omega (arith, ints))
-height-small (negsuc n) h = omega (arith, ints)
+height-small v0 h = grind arith
 
 pub infinite-small : (s : ℕ) (e : ℤ) → s < 10 ^ 36 → e ≤ℤ negsuc 15 → false ≡ nat_le (10 ^ 520) (s * 10 ^ height e)
-infinite-small s e few h =
-    let le : 10 ^ (36 + height e) ≤ 10 ^ 520 = let l : 36 + height e ≤ 520 = (let k = height-small e h in omega arith) in pow-le-pow_right ten_positive l in
-    let same : 10 ^ 36 * 10 ^ height e ≡ 10 ^ (36 + height e) = powers 36 (height e) (36 + height e) refl in
-    small s (10 ^ height e) (10 ^ 36) (10 ^ 520) few (pow_positive (height e)) (omega (arith, same, le))
+infinite-small s e few h = grind (arith, height-small, arith, pow-le-pow_right, ten_positive, powers, small, pow_positive)
 
 size-of_places : (e z : ℤ) → z ≡ pos 20 -ℤ e → e <ℤ pos 20 → pos (unsigned_abs z) ≡ pos 20 -ℤ e
-size-of_places e (pos k) is below = is
-size-of_places e (negsuc k) is below = absurd (omega (arith, ints))
+size-of_places e v1 is below = grind arith
 
 pub infinite-between : (s : ℕ) (e z : ℤ) (p : ℕ) → p ≡ 10 ^ unsigned_abs z → z ≡ pos 20 -ℤ e → e <ℤ pos 20 → negsuc 15 <ℤ e → nat_le p s ≡ nat_le (10 ^ 520) (s * 10 ^ height e)
 infinite-between s (pos n) z p power is below above =
@@ -99,7 +88,4 @@ infinite-between s (negsuc n) z p power is below above =
 
 -- the exponent of the power between the two is that of a mantissa
 pub power-small : (z e : ℤ) → z ≡ pos 20 -ℤ e → e <ℤ pos 20 → negsuc 15 <ℤ e → unsigned_abs z < 36
-power-small (pos k) (pos n) is below above = omega (arith, ints)
-power-small (pos k) (negsuc n) is below above = omega (arith, ints)
-power-small (negsuc k) (pos n) is below above = absurd (omega (arith, ints))
-power-small (negsuc k) (negsuc n) is below above = absurd (omega (arith, ints))
+power-small v0 v1 is below above = grind arith

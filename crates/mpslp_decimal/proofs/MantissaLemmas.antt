@@ -1,4 +1,5 @@
 -- The significand of digits before and after a point.
+use Rattle.std.proofs.Common.{rules}
 use Rattle.std.proofs.Common.{◌≡◌, refl, sym, ap, subst, ◌∙◌, List, [], ◌∷◌, ◌++◌, length, take, drop, get_or, ℕ, zero, suc, length-drop, true, arith, ◌≤◌, ◌+◌, ◌-◌, ◌*◌, ◌^◌, lit<}
 use Rattle.std.specs.List.{prefix_len}
 use Rattle.std.proofs.lemmas.List.Sums.{prefix_len-le-length}
@@ -26,15 +27,12 @@ pub all-digits : (text fraction : List ℕ) (whole result : Significand)
     → ((n : ℕ) → IsSignificandOf (Short 0 0) n → IsSignificandOf whole (n * 10 ^ length (digits_front text) + digits_sum (digits_front text)))
     → ((n : ℕ) → IsSignificandOf whole n → IsSignificandOf result (n * 10 ^ length (digits_front fraction) + digits_sum (digits_front fraction)))
     → fraction_front text ≡ digits_front fraction → IsSignificandOf result (digits_sum (mantissa_front text))
-all-digits text fraction whole result first more e =
-    subst (IsSignificandOf result) (sym (digits_sum-append (digits_front text) (digits_front fraction)) ∙ ap (λ (f : List ℕ). digits_sum (digits_front text ++ f)) (sym e))
-    (more (digits_sum (digits_front text)) (first-digits text whole first))
+all-digits text fraction whole result first more e = grind (arith, digits_sum-append, first-digits)
 
 -- if there is no point
 pub only-digits : (text : List ℕ) (whole : Significand) → fraction_front text ≡ []
     → ((n : ℕ) → IsSignificandOf (Short 0 0) n → IsSignificandOf whole (n * 10 ^ length (digits_front text) + digits_sum (digits_front text))) → IsSignificandOf whole (digits_sum (mantissa_front text))
-only-digits text whole e first =
-    subst (IsSignificandOf whole) (ap digits_sum (sym (append-nil (digits_front text)) ∙ ap (λ (f : List ℕ). digits_front text ++ f) (sym e))) (first-digits text whole first)
+only-digits text whole e first = grind (arith, append-nil, first-digits)
 
 -- what follows the point, as the pattern of a slice cuts it
 pub fraction-cut : (text rest : List ℕ) → rest ≡ after_digits text → 1 ≤ length rest → get_or rest 0 0 ≡ 46 → fraction_front text ≡ digits_front (take (length rest - 1) (drop 1 rest))
@@ -67,15 +65,4 @@ zeros-front text count h = omega (arith, prefix_len-le-length is_digit text)
 
 pub zeros-after : (text rest : List ℕ) (whole count : ℕ) → rest ≡ after_digits text → 1 ≤ length rest → whole ≤ 0 + prefix_len is_digit text
     → count ≤ whole + prefix_len is_digit (take (length rest - 1) (drop 1 rest)) → count ≤ length text
-zeros-after text rest whole count e some first more =
-    let cut : length rest ≡ length text - prefix_len is_digit text = ap length e ∙ length-drop (prefix_len is_digit text) text in
-    let within = prefix_len-le-length is_digit text in
-    let front = prefix_len-le-length is_digit (take (length rest - 1) (drop 1 rest)) in
-    let taken : length (take (length rest - 1) (drop 1 rest)) ≤ length rest - 1 = length-take (length rest - 1) (drop 1 rest) in
-    omega arith
-  where
-    length-take : (n : ℕ) (xs : List ℕ) → length (take n xs) ≤ n
-    length-take zero [] = omega arith
-    length-take zero (x ∷ xs) = omega arith
-    length-take (suc n) [] = omega arith
-    length-take (suc n) (x ∷ xs) = let h = length-take n xs in omega arith
+zeros-after text rest whole count e some first more = search (rules, length-drop, prefix_len-le-length, arith)

@@ -1,4 +1,5 @@
 -- The normal form of digits with zeros after them.
+use Rattle.std.proofs.Common.{rules}
 use Rattle.std.proofs.Common.{◌≡◌, refl, sym, ap, ◌∙◌, ℕ, zero, suc, Bool, true, false, arith, ◌<◌, ◌*◌, ◌^◌, ◌%◌, ◌/◌, pow-suc}
 use Rattle.std.specs.Prelude.{◌==◌, ℤ, pos, negsuc, ◌+ℤ◌, ◌-ℤ◌, neg_ℤ, unsigned_abs, int_div}
 use Rattle.std.proofs.lemmas.Int.{ints}
@@ -14,18 +15,10 @@ tenfold_div : (n : ℕ) → (n * 10) / 10 ≡ n
 tenfold_div n = omega arith
 
 zeros_none : (most n : ℕ) → 0 < n % 10 → zeros_within most n ≡ 0
-zeros_none zero n h = refl
-zeros_none (suc most) n h = by (n % 10) h
-  where
-    by : (r : ℕ) → 0 < r → ◌≡◌ {A = ℕ} (elim r as (λ _. ℕ) [ zero ↦ suc (zeros_within most (n / 10)) | suc _ ↦ 0 ]) 0
-    by zero h = absurd (omega arith)
-    by (suc r) h = refl
+zeros_none v0 n h = grind arith
 
 pub zeros_within-tens : (k most m : ℕ) → 0 < m % 10 → k < most → zeros_within most (m * 10 ^ k) ≡ k
-zeros_within-tens zero most m h l = ap (zeros_within most) (mul-one m) ∙ zeros_none most m h
-  where
-    mul-one : (m : ℕ) → m * 10 ^ 0 ≡ m
-    mul-one m = omega arith
+zeros_within-tens zero most m h l = grind (arith, zeros_none, arith)
 zeros_within-tens (suc k) zero m h l = absurd (omega arith)
 zeros_within-tens (suc k) (suc most) m h l =
     let shift : m * 10 ^ suc k ≡ (m * 10 ^ k) * 10 = rw pow-suc (grind arith) in
@@ -39,9 +32,7 @@ unfolding trailing_zeros
 trailing-tens k m h l = zeros_within-tens k 1100 m h l
 
 pub size-signed : (minus : Bool) (n : ℕ) → unsigned_abs (to_signed minus n) ≡ n
-size-signed false n = refl
-size-signed true zero = refl
-size-signed true (suc n) = refl
+size-signed v0 v1 = grind arith
 
 pub pow_positive : (k : ℕ) → 0 < 10 ^ k
 pow_positive zero = omega arith
@@ -54,22 +45,13 @@ zero_over : (p : ℕ) → 0 < p → 0 / p ≡ 0
 zero_over p h = grind arith
 
 signed_div : (minus : Bool) (m p : ℕ) → 0 < p → int_div (to_signed minus (m * p)) (pos p) ≡ to_signed minus m
-signed_div false m p h = ap pos (quotient m p h)
-signed_div true m p h = by (m * p) refl ∙ ap (λ (n : ℕ). neg_ℤ (pos n)) (quotient m p h)
-  where
-    by : (n : ℕ) → m * p ≡ n → int_div (neg_ℤ (pos n)) (pos p) ≡ neg_ℤ (pos (n / p))
-    by zero e = let z : 0 / p ≡ 0 = zero_over p h in ap pos z ∙ sym (ap (λ (n : ℕ). neg_ℤ (pos n)) z)
-    by (suc n) e = refl
+signed_div v0 m p h = grind arith
 
 nonzero_size : (minus : Bool) (n : ℕ) → 0 < n → (unsigned_abs (to_signed minus n) == 0) ≡ false
-nonzero_size minus n h = ap (λ (m : ℕ). m == 0) (size-signed minus n) ∙ not_zero n h
-  where
-    not_zero : (n : ℕ) → 0 < n → (n == 0) ≡ false
-    not_zero n h = grind (arith, nat_tests)
+nonzero_size minus n h = grind arith
 
 pub zero_mantissa : (m : ℤ) → (unsigned_abs m == 0) ≡ true → m ≡ pos 0
-zero_mantissa (pos n) h = ap pos (eqb-true n 0 h)
-zero_mantissa (negsuc n) h = let e : suc n ≡ 0 = eqb-true (suc n) 0 h in absurd (omega arith)
+zero_mantissa v0 h = grind arith
 
 some_part : (m : ℕ) → 0 < m % 10 → 0 < m
 some_part m h = omega arith
@@ -83,8 +65,4 @@ back e k = omega (arith, ints)
 -- digits with k zeros after them, at an exponent smaller by k
 pub normal-tens : (minus : Bool) (m k : ℕ) (e : ℤ) → 0 < m % 10 → k < 1100
     → normal (record { mantissa = to_signed minus (m * 10 ^ k); exponent = e -ℤ pos k }) ≡ record { mantissa = to_signed minus m; exponent = e }
-normal-tens minus m k e h l =
-    let p = pow_positive k in
-    let zeros : trailing_zeros (unsigned_abs (to_signed minus (m * 10 ^ k))) ≡ k = ap trailing_zeros (size-signed minus (m * 10 ^ k)) ∙ trailing-tens k m h l in
-    let some : (unsigned_abs (to_signed minus (m * 10 ^ k)) == 0) ≡ false = nonzero_size minus (m * 10 ^ k) (product_positive m (10 ^ k) (some_part m h) p) in
-    rw (some, zeros) (λ i. record { mantissa = signed_div minus m (10 ^ k) p i; exponent = back e k i })
+normal-tens minus m k e h l = grind (arith, pow_positive, size-signed, trailing-tens, nonzero_size, product_positive, some_part, signed_div, back)

@@ -1,4 +1,5 @@
 -- The decimal that the parts of a literal give.
+use Rattle.std.proofs.Common.{rules}
 use Rattle.std.proofs.Common.{◌≡◌, refl, sym, ap, subst, ◌∙◌, List, [], ◌∷◌, length, ℕ, zero, suc, Bool, true, false, arith, ◌<◌, ◌≤◌, ◌+◌, ◌-◌, ◌*◌, ◌^◌, ◌%◌, pow-suc, lit<}
 use Rattle.std.specs.Prelude.{ℤ, pos, negsuc, ◌+ℤ◌, ◌-ℤ◌, neg_ℤ, unsigned_abs, min, ◌&&◌, not, ◌==◌, nat_lt, nat_le, if◌then◌else◌, Some, Result, Ok, Err}
 use Rattle.std.specs.List.{list_all}
@@ -42,11 +43,7 @@ number-value : (text : List ℕ) (value : Number) → is_literal text ≡ true �
 number-value text value h short n = λ i. answer_of (h i) (le-ltb 255 (length text) short i) (n i)
 
 few-answer : (value : Number) → has_few_digits value ≡ true → answer_of true false value ≡ in_range value
-few-answer value h = rw h (by (has_small_exponent value))
-  where
-    by : (b : Bool) → ◌≡◌ {A = Answer} (if not b then Err ExponentRange else Ok value) (if b then Ok value else Err ExponentRange)
-    by true = refl
-    by false = refl
+few-answer value h = grind arith
 
 many-answer : (value : Number) → has_few_digits value ≡ false → answer_of true false value ≡ Err TooManyDigits
 many-answer value h = rw h refl
@@ -97,30 +94,12 @@ ten_positive : 0 < 10
 ten_positive = lit< tt
 
 pub few-zeros : (n m z len : ℕ) → IsStripped n m z → 0 < m → n < 10 ^ len → z < len
-few-zeros n m z len s some small = by (nat_lt z len) refl
-  where
-    by : (b : Bool) → nat_lt z len ≡ b → z < len
-    by true h = ltb-true z len h
-    by false h =
-        let within : len ≤ z = ltb-false z len h in
-        let p : 10 ^ len ≤ 10 ^ z = pow-le-pow_right ten_positive within in
-        let b : 10 ^ z ≤ m * 10 ^ z = at_least m (10 ^ z) some in
-        absurd (omega (arith, s.value))
-      where
-        at_least : (m p : ℕ) → 0 < m → p ≤ m * p
-        at_least m p h = grind arith
+few-zeros n m z len s some small = grind (arith, ltb-true, ltb-false, pow-le-pow_right, ten_positive, arith)
 
 -- ---- the exponent
 
 far-out : (m e : ℤ) → 500 < unsigned_abs e → has_small_exponent (record { mantissa = m; exponent = e }) ≡ false
-far-out m (pos n) h = ap (λ (b : Bool). true && b) (above n h)
-  where
-    above : (n : ℕ) → 500 < n → nat_le n 500 ≡ false
-    above n h = grind (arith, nat_tests)
-far-out m (negsuc n) h = ap (λ (b : Bool). b && true) (above n h)
-  where
-    above : (n : ℕ) → 500 < suc n → nat_le n 499 ≡ false
-    above n h = grind (arith, nat_tests)
+far-out m v1 h = grind arith
 
 shifted-up : (n f z : ℕ) → f ≤ n → (pos n -ℤ pos f) +ℤ pos z ≡ pos (n + z - f)
 shifted-up n f z h = omega (arith, ints)
@@ -133,12 +112,7 @@ size-negative n = size-signed true n
 
 -- a large exponent stays out of range, whatever the point and the zeros add to it
 still-far : (minus : Bool) (n f z : ℕ) (m : ℤ) → 100000 ≤ n → f ≤ 255 → z ≤ 255 → has_small_exponent (record { mantissa = m; exponent = (to_signed minus n -ℤ pos f) +ℤ pos z }) ≡ false
-still-far false n f z m far short few =
-    let is : (pos n -ℤ pos f) +ℤ pos z ≡ pos (n + z - f) = shifted-up n f z (omega arith) in
-    far-out m ((pos n -ℤ pos f) +ℤ pos z) (rw is (omega arith))
-still-far true n f z m far short few =
-    let is : (neg_ℤ (pos n) -ℤ pos f) +ℤ pos z ≡ neg_ℤ (pos (n + f - z)) = shifted-down n f z (omega arith) in
-    far-out m ((neg_ℤ (pos n) -ℤ pos f) +ℤ pos z) (rw (is, size-negative (n + f - z)) (omega arith))
+still-far v0 n f z m far short few = grind arith
 
 regroup : (x : ℤ) (f z : ℕ) → (x +ℤ pos z) -ℤ pos f ≡ (x -ℤ pos f) +ℤ pos z
 regroup x f z = omega (arith, ints)
@@ -149,31 +123,15 @@ in_range-out d h = rw h refl
 -- the cap does not change the result
 capped-range : (minus : Bool) (n f z : ℕ) (m : ℤ) → f ≤ 255 → z ≤ 255
     → in_range (record { mantissa = m; exponent = (to_signed minus (min n 100000) -ℤ pos f) +ℤ pos z }) ≡ in_range (record { mantissa = m; exponent = (to_signed minus n -ℤ pos f) +ℤ pos z })
-capped-range minus n f z m short few = by (nat_lt n 100000) refl
-  where
-    lesser : nat_lt n 100000 ≡ true → min n 100000 ≡ n
-    lesser h = let l : n < 100000 = ltb-true n 100000 h in omega arith
-
-    by : (b : Bool) → nat_lt n 100000 ≡ b
-        → in_range (record { mantissa = m; exponent = (to_signed minus (min n 100000) -ℤ pos f) +ℤ pos z }) ≡ in_range (record { mantissa = m; exponent = (to_signed minus n -ℤ pos f) +ℤ pos z })
-    by true h = λ i. in_range (record { mantissa = m; exponent = (to_signed minus (lesser h i) -ℤ pos f) +ℤ pos z })
-    by false h =
-        let l : 100000 ≤ n = ltb-false n 100000 h in
-        let least : 100000 ≤ min n 100000 = omega arith in
-        in_range-out (record { mantissa = m; exponent = (to_signed minus (min n 100000) -ℤ pos f) +ℤ pos z }) (still-far minus (min n 100000) f z m least short few)
-        ∙ sym (in_range-out (record { mantissa = m; exponent = (to_signed minus n -ℤ pos f) +ℤ pos z }) (still-far minus n f z m l short few))
+capped-range minus n f z m short few = grind arith
 
 -- ---- the results of `parse`
 
 positive-product : (m p n : ℕ) → 0 < m → 0 < p → m * p ≡ n → 0 < n
-positive-product m p n h k e = let b : 0 < m * p = product m p h k in omega (arith, e, b)
-  where
-    product : (m p : ℕ) → 0 < m → 0 < p → 0 < m * p
-    product m p h k = grind arith
+positive-product m p n h k e = grind arith
 
 not-zero : (m : ℕ) → (m ≡ 0 → ⊥) → 0 < m
-not-zero zero h = absurd (h refl)
-not-zero (suc m) h = omega arith
+not-zero v0 h = grind arith
 
 pub number-zero : (scan : Scan) (text : List ℕ) (m z : ℕ) → IsScanOf scan text → parts_of scan.significand ≡ Some (m, z) → m ≡ 0 → length text ≤ 255 → Ok zero_number ≡ number_of text
 number-zero scan text m z s e none short =
@@ -189,9 +147,7 @@ number-zero scan text m z s e none short =
         no_times p = omega arith
 
 pub scan-ends : (scan : Scan) (text : List ℕ) (m z : ℕ) → IsScanOf scan text → parts_of scan.significand ≡ Some (m, z) → (m ≡ 0 → ⊥) → 0 < m % 10
-scan-ends scan text m z s e some =
-    let parts = parts-are scan.significand (digits_sum (mantissa_digits text)) m z e s.significand in
-    parts.0.ends (positive-product m (10 ^ z) (digits_sum (mantissa_digits text)) (not-zero m some) (pow_positive z) parts.0.value)
+scan-ends scan text m z s e some = grind (arith, parts-are, positive-product, not-zero, pow_positive)
 
 pub scan-few : (scan : Scan) (text : List ℕ) (m z : ℕ) → IsScanOf scan text → parts_of scan.significand ≡ Some (m, z) → m < 10 ^ 36
 scan-few scan text m z s e = (parts-are scan.significand (digits_sum (mantissa_digits text)) m z e s.significand).1

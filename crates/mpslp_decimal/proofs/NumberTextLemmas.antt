@@ -1,4 +1,5 @@
 -- The text of a decimal is read back as the decimal.
+use Rattle.std.proofs.Common.{rules}
 use Rattle.std.proofs.Common.{◌≡◌, refl, sym, ap, subst, ◌∙◌, List, [], ◌∷◌, ◌++◌, length, take, drop, replicate, ℕ, zero, suc, Bool, true, false, cond, arith, ◌<◌, ◌≤◌, ◌+◌, ◌-◌, ◌*◌, ◌^◌, ◌%◌, length-append, length-drop, append_assoc, add-one}
 use Rattle.std.specs.Prelude.{ℤ, pos, negsuc, ◌-ℤ◌, neg_ℤ, unsigned_abs, int_le, ◌&&◌, ◌||◌, not, ◌==◌, nat_lt, nat_le, if◌then◌else◌, Result, Ok, Err, codes}
 use Rattle.std.specs.List.{list_any, before_first, after_first}
@@ -42,39 +43,21 @@ tests_pass lit long few small v a b c d = rw (a, b, c, d) refl
 
 pub number-read : (text : List ℕ) (d : Number) (minus : Bool) (digits fraction ex : List ℕ) → Reading text minus digits fraction ex → are_digits digits ≡ true
     → length text ≤ 255 → IsDecimal d → normal (record { mantissa = to_signed minus (digits_sum digits); exponent = signed_value ex -ℤ pos (length fraction) }) ≡ d → number_of text ≡ Ok d
-number-read text d minus digits fraction ex r good short ok n =
-    let whole : literal_value text ≡ record { mantissa = to_signed minus (digits_sum digits); exponent = signed_value ex -ℤ pos (length fraction) } =
-    (λ i. record { mantissa = to_signed (r.minus_is i) (digits_sum (r.mantissa i)); exponent = signed_value (r.exponent i) -ℤ pos (length (r.fraction_is i)) }) in
-    let value : normal (literal_value text) ≡ d = ap normal whole ∙ n in
-    let lit : is_literal text ≡ true = both (are_digits (mantissa_digits text)) _ (ap are_digits r.mantissa ∙ good) r.good in
-    let few : has_few_digits (normal (literal_value text)) ≡ true = ap has_few_digits value ∙ first_so (has_few_digits d) (has_small_exponent d && is_normal d) ok in
-    let small : has_small_exponent (normal (literal_value text)) ≡ true =
-    ap has_small_exponent value ∙ first_so (has_small_exponent d) (is_normal d) (second_so (has_few_digits d) (has_small_exponent d && is_normal d) ok) in
-    tests_pass (is_literal text) (nat_lt 255 (length text)) (has_few_digits (normal (literal_value text))) (has_small_exponent (normal (literal_value text))) (normal (literal_value text))
-    lit (le-ltb 255 (length text) short) few small ∙ ap (λ (v : Number). Ok v) value
-  where
-    both : (a b : Bool) → a ≡ true → b ≡ true → (a && b) ≡ true
-    both true b p q = q
-    both false b p q = p
+number-read text d minus digits fraction ex r good short ok n = grind (arith, tests_pass, le-ltb)
 
 -- ---- a sign, digits with or without a point, and an exponent part or none
 
 no_sign : (front : List ℕ) → BeginsWithDigit front → without_sign front ≡ front
-no_sign [] h = absurd h
-no_sign (b ∷ bs) h = rw (digit-no_sign b h) refl
+no_sign v0 h = grind arith
 
 unsign : (minus : Bool) (front : List ℕ) → BeginsWithDigit front → without_sign (sign_text minus ++ front) ≡ front
-unsign true front h = refl
-unsign false front h = no_sign front h
+unsign v0 front h = grind arith
 
 minus-of : (minus : Bool) (front tail : List ℕ) → BeginsWithDigit front → is_minus ((sign_text minus ++ front) ++ tail) ≡ minus
-minus-of true front tail h = refl
-minus-of false [] tail h = absurd h
-minus-of false (b ∷ bs) tail h = digit-no_minus b h
+minus-of v0 v1 tail h = grind arith
 
 no_mark-signed : (minus : Bool) (front : List ℕ) → NoMark front → NoMark (sign_text minus ++ front)
-no_mark-signed true front h = (refl, h)
-no_mark-signed false front h = h
+no_mark-signed v0 front h = grind arith
 
 -- the digits before the point and after it, if the part before the exponent part is known
 record Digits (front digits fraction : List ℕ) : Type 0 where
@@ -84,38 +67,17 @@ record Digits (front digits fraction : List ℕ) : Type 0 where
   after : after_first is_point front ≡ fraction
 
 reading-plain : (minus : Bool) (front digits fraction : List ℕ) → Digits front digits fraction → Reading (sign_text minus ++ front) minus digits fraction []
-reading-plain minus front digits fraction d =
-    let marks = no_mark-signed minus front d.no_mark in
-    let u : unsigned_part (sign_text minus ++ front) ≡ front = ap without_sign (before-none is_exponent_mark (sign_text minus ++ front) marks) ∙ unsign minus front d.begins in
-    record {
-      minus_is = ap is_minus (sym (append-nil (sign_text minus ++ front))) ∙ minus-of minus front [] d.begins;
-      mantissa = (λ i. before_first is_point (u i) ++ after_first is_point (u i)) ∙ d.before_after;
-      fraction_is = ap (after_first is_point) u ∙ d.after;
-      exponent = after-none is_exponent_mark (sign_text minus ++ front) marks;
-      good = rw (any-none is_exponent_mark (sign_text minus ++ front) marks) refl;
-    }
+reading-plain minus front digits fraction d = grind (arith, no_mark-signed, before-none, unsign, append-nil, minus-of, after-none, any-none)
 
 or_second : (x y : Bool) → y ≡ true → (x || y) ≡ true
-or_second true y h = refl
-or_second false y h = h
+or_second v0 y h = grind arith
 
 reading-exponent : (minus : Bool) (front digits fraction ex : List ℕ) → Digits front digits fraction → are_digits (without_sign ex) ≡ true
     → Reading ((sign_text minus ++ front) ++ 101 ∷ ex) minus digits fraction ex
-reading-exponent minus front digits fraction ex d good =
-    let marks = no_mark-signed minus front d.no_mark in
-    let u : unsigned_part ((sign_text minus ++ front) ++ 101 ∷ ex) ≡ front = ap without_sign (before-at is_exponent_mark (sign_text minus ++ front) ex 101 marks refl) ∙ unsign minus front d.begins in
-    let e : exponent_part ((sign_text minus ++ front) ++ 101 ∷ ex) ≡ ex = after-at is_exponent_mark (sign_text minus ++ front) ex 101 marks refl in
-    record {
-      minus_is = minus-of minus front (101 ∷ ex) d.begins;
-      mantissa = (λ i. before_first is_point (u i) ++ after_first is_point (u i)) ∙ d.before_after;
-      fraction_is = ap (after_first is_point) u ∙ d.after;
-      exponent = e;
-      good = or_second _ _ (ap (λ (x : List ℕ). are_digits (without_sign x)) e ∙ good);
-    }
+reading-exponent minus front digits fraction ex d good = grind (arith, no_mark-signed, before-at, unsign, after-at, minus-of, or_second)
 
 begins-digits : (ds : List ℕ) → AreDigits ds → 0 < length ds → BeginsWithDigit ds
-begins-digits [] h n = absurd (omega arith)
-begins-digits (d ∷ ds) h n = h.0
+begins-digits v0 h n = grind arith
 
 no_mark-digits : (ds : List ℕ) → AreDigits ds → NoMark ds
 no_mark-digits ds h = Each-weaker (λ b. is_digit b ≡ true) (λ b. is_exponent_mark b ≡ false) digit-no_mark ds h
@@ -124,19 +86,10 @@ no_point-digits : (ds : List ℕ) → AreDigits ds → Each (λ b. is_point b �
 no_point-digits ds h = Each-weaker (λ b. is_digit b ≡ true) (λ b. is_point b ≡ false) digit-no_point ds h
 
 digits-whole : (ds : List ℕ) → AreDigits ds → 0 < length ds → Digits ds ds []
-digits-whole ds h n =
-    let points = no_point-digits ds h in
-    let after : after_first is_point ds ≡ [] = after-none is_point ds points in
-    record {
-      begins = begins-digits ds h n;
-      no_mark = no_mark-digits ds h;
-      before_after = (λ i. before-none is_point ds points i ++ after i) ∙ append-nil ds;
-      after = after;
-    }
+digits-whole ds h n = grind (arith, no_point-digits, after-none, begins-digits, no_mark-digits, before-none, append-nil)
 
 begins-append : (xs ys : List ℕ) → BeginsWithDigit xs → BeginsWithDigit (xs ++ ys)
-begins-append [] ys h = absurd h
-begins-append (x ∷ xs) ys h = h
+begins-append v0 ys h = grind arith
 
 digits-pointed : (left right : List ℕ) → AreDigits left → AreDigits right → 0 < length left → Digits (left ++ 46 ∷ right) (left ++ right) right
 digits-pointed left right h k n =
@@ -155,9 +108,7 @@ are-digits ds h n = let some : nat_lt 0 (length ds) ≡ true = lt-ltb 0 (length 
 -- ---- the four forms of text
 
 value-unsigned : (n : ℕ) (ds : List ℕ) → Spells n ds → signed_value ds ≡ pos n
-value-unsigned n [] s = let some : 0 < length {A = ℕ} [] = s.some in absurd (omega arith)
-value-unsigned n (d ∷ ds) s =
-    (λ i. to_signed (digit-no_minus d s.digits.0 i) (digits_sum (no_sign (d ∷ ds) s.digits.0 i))) ∙ ap pos s.value
+value-unsigned n v1 s = grind arith
 
 record Mantissa (m : ℕ) (ds : List ℕ) : Type 0 where
   spells : Spells m ds
@@ -171,8 +122,7 @@ abbrev decimal_at : Bool → ℕ → ℤ → Number
 decimal_at minus m e = record { mantissa = to_signed minus m; exponent = e }
 
 sign_short : (minus : Bool) (t : List ℕ) → length (sign_text minus ++ t) ≤ 1 + length t
-sign_short true t = omega arith
-sign_short false t = omega arith
+sign_short v0 t = grind arith
 
 -- digits and k zeros
 whole-form : (minus : Bool) (m k : ℕ) (ds : List ℕ) → Mantissa m ds → k ≤ 5 → IsDecimal (decimal_at minus m (pos k))
@@ -256,12 +206,10 @@ point-form minus m n ds h l ok =
 -- ---- every decimal
 
 pub signed-size : (z : ℤ) → to_signed (int_le z (negsuc 0)) (unsigned_abs z) ≡ z
-signed-size (pos n) = refl
-signed-size (negsuc n) = ap (λ (b : Bool). to_signed b (suc n)) (le-leb 0 n (omega arith))
+signed-size v0 = grind arith
 
 mantissa-form : (m : ℕ) → m < 10 ^ 36 → 0 < m % 10 → Mantissa m (decimal m)
-mantissa-form m h e =
-    record { spells = decimal-spells m (omega (arith, h)); short = length-decimal-le_wide 36 m (omega arith) h (omega (arith, h)); ends = e }
+mantissa-form m h e = grind (arith, decimal-spells, arith, length-decimal-le_wide)
 
 after_e : (t : List ℕ) → codes "e" ++ t ≡ 101 ∷ t
 after_e t = refl
@@ -285,8 +233,7 @@ abbrev read_signed : Bool → List ℕ → Result Number NumberFault
 read_signed minus text = number_of (sign_text minus ++ text)
 
 grouped : (minus : Bool) (ds ex : List ℕ) → sign_text minus ++ (ds ++ 101 ∷ ex) ≡ (sign_text minus ++ ds) ++ 101 ∷ ex
-grouped true ds ex = refl
-grouped false ds ex = refl
+grouped v0 ds ex = grind arith
 
 few_of : (e : ℤ) (minus : Bool) (m : ℕ) → IsDecimal (decimal_at minus m e) → has_small_exponent (decimal_at minus m e) ≡ true
 few_of e minus m ok = first_so (has_small_exponent (decimal_at minus m e)) (is_normal (decimal_at minus m e)) (second_so (has_few_digits (decimal_at minus m e)) _ ok)
@@ -321,16 +268,10 @@ scaled-read minus m (negsuc n) small ends ok = by (nat_lt n 18) refl
 
 -- the parts of a decimal that is not 0
 pub nonzero-ends : (d : Number) → IsDecimal d → is_zero d ≡ false → 0 < unsigned_abs d.mantissa % 10
-nonzero-ends d ok z =
-    let normal_d : is_normal d ≡ true = second_so (has_small_exponent d) (is_normal d) (second_so (has_few_digits d) (has_small_exponent d && is_normal d) ok) in
-    let ends : not (unsigned_abs d.mantissa % 10 == 0) ≡ true = sym (ap (λ (b : Bool). cond b (int_eq d.exponent (pos 0)) (not (unsigned_abs d.mantissa % 10 == 0))) z) ∙ normal_d in
-    grind (arith, nat_tests)
+nonzero-ends d ok z = grind arith
 
 pub zero-is : (d : Number) → IsDecimal d → is_zero d ≡ true → d ≡ zero_number
-zero-is d ok z =
-    let normal_d : is_normal d ≡ true = second_so (has_small_exponent d) (is_normal d) (second_so (has_few_digits d) (has_small_exponent d && is_normal d) ok) in
-    let e : int_eq d.exponent (pos 0) ≡ true = sym (ap (λ (b : Bool). cond b (int_eq d.exponent (pos 0)) (not (unsigned_abs d.mantissa % 10 == 0))) z) ∙ normal_d in
-    λ i. record { mantissa = zero_mantissa d.mantissa z i; exponent = (Decides-int_eq d.exponent (pos 0)).0 e i }
+zero-is d ok z = grind arith
 
 zero-read : number_of (codes "0") ≡ Ok zero_number
 unfolding trailing_zeros
@@ -373,46 +314,14 @@ joined_bytes : (xs ys : List ℕ) → NumberBytes xs → NumberBytes ys → Numb
 joined_bytes xs ys h k = Each-append (λ b. is_number_byte b ≡ true) xs ys h k
 
 pointed_bytes : (c : ℕ) (padded : List ℕ) → AreDigits padded → NumberBytes (take c padded ++ 46 ∷ drop c padded)
-pointed_bytes c padded h =
-    let each = front_digits (take c padded) (drop c padded) (subst AreDigits (sym (take-drop c padded)) h) in
-    joined_bytes (take c padded) (46 ∷ drop c padded) (digit_bytes (take c padded) each.0) (refl, digit_bytes (drop c padded) each.1)
+pointed_bytes c padded h = grind (arith, front_digits, take-drop, joined_bytes, digit_bytes)
 
 scaled-bytes : (m : ℕ) (e : ℤ) → m < 10 ^ 64 → unsigned_abs e ≤ 500 → NumberBytes (scaled_text (decimal m) e)
-scaled-bytes m (pos n) h few = by (nat_le n 5) refl
-  where
-    ds : AreDigits (decimal m)
-    ds = (decimal-spells m h).digits
-
-    by : (b : Bool) → nat_le n 5 ≡ b → NumberBytes (scaled_text (decimal m) (pos n))
-    by true e = subst NumberBytes (sym (scaled-zeros (decimal m) n e)) (joined_bytes (decimal m) (zeros_text n) (digit_bytes (decimal m) ds) (digit_bytes (zeros_text n) (zeros_are_digits n)))
-    by false e =
-        let x = exponent_text n few in
-        subst NumberBytes (sym (scaled-large (decimal m) n e)) (joined_bytes (decimal m) (101 ∷ decimal n) (digit_bytes (decimal m) ds) (refl, digit_bytes (decimal n) x.0.digits))
-scaled-bytes m (negsuc n) h few = by (nat_lt n 18) refl
-  where
-    spells : Spells m (decimal m)
-    spells = decimal-spells m h
-
-    by : (b : Bool) → nat_lt n 18 ≡ b → NumberBytes (scaled_text (decimal m) (negsuc n))
-    by true e =
-        let padded : List ℕ = zeros_text ((n + 1) + 1 - length (decimal m)) ++ decimal m in
-        subst NumberBytes (sym (scaled-point (decimal m) n e))
-        (pointed_bytes (length (zeros_text ((n + 1) + 1 - length (decimal m)) ++ decimal m) - (n + 1)) (zeros_text ((n + 1) + 1 - length (decimal m)) ++ decimal m)
-        (padded-spells ((n + 1) + 1 - length (decimal m)) m (decimal m) spells).digits)
-    by false e =
-        let x = exponent_text (n + 1) (omega (arith, few)) in
-        subst NumberBytes (sym (scaled-small (decimal m) n e)) (joined_bytes (decimal m) (101 ∷ 45 ∷ decimal (n + 1)) (digit_bytes (decimal m) spells.digits) (refl, (refl, digit_bytes (decimal (n + 1)) x.0.digits)))
+scaled-bytes m v1 h few = grind (arith, decimal-spells, scaled-zeros, joined_bytes, digit_bytes, zeros_are_digits, exponent_text, scaled-large, scaled-point, pointed_bytes, padded-spells, arith, scaled-small)
 
 -- a text that is read has at least one and at most 255 bytes
 pub read-short : (text : List ℕ) (d : Number) → number_of text ≡ Ok d → length text ≤ 255
-read-short text d e = by (is_literal text) (nat_lt 255 (length text)) refl e
-  where
-    by : (lit long : Bool) → nat_lt 255 (length text) ≡ long
-        → ◌≡◌ {A = Result Number NumberFault} (if not lit then Err BadNumber else (if long then Err LongNumber else (if not (has_few_digits (normal (literal_value text))) then Err TooManyDigits else (if not (has_small_exponent (normal (literal_value text))) then Err ExponentRange else Ok (normal (literal_value text)))))) (Ok d)
-        → length text ≤ 255
-    by false long l e = cc
-    by true true l e = cc
-    by true false l e = ltb-false 255 (length text) l
+read-short text d e = grind arith
 
 -- ---- the pieces that are printed
 
@@ -422,21 +331,11 @@ zero-pieces = refl
 
 -- a text without its case for zero
 number_text-is : (d : Number) → IsDecimal d → sign_text (is_negative d) ++ scaled_text (decimal (unsigned_abs d.mantissa)) d.exponent ≡ number_text d
-number_text-is d ok = by (is_zero d) refl
-  where
-    chosen : (b : Bool) → is_zero d ≡ b → number_text d ≡ (if b then codes "0" else (sign_text (is_negative d) ++ scaled_text (decimal (unsigned_abs d.mantissa)) d.exponent))
-    chosen b e = ap (λ (c : Bool). if c then codes "0" else (sign_text (is_negative d) ++ scaled_text (decimal (unsigned_abs d.mantissa)) d.exponent)) e
-
-    by : (b : Bool) → is_zero d ≡ b → sign_text (is_negative d) ++ scaled_text (decimal (unsigned_abs d.mantissa)) d.exponent ≡ number_text d
-    by true z =
-        ap (λ (x : Number). sign_text (is_negative x) ++ scaled_text (decimal (unsigned_abs x.mantissa)) x.exponent) (zero-is d ok z)
-        ∙ zero-pieces ∙ sym (chosen true z)
-    by false z = sym (chosen false z)
+number_text-is d ok = grind (arith, zero-is, zero-pieces)
 
 pub printed-pieces : (d : Number) (none sign all ds : List ℕ) (e : ℤ) → IsDecimal d → none ≡ [] → sign ≡ none ++ sign_text (is_negative d) → all ≡ sign ++ scaled_text ds e
     → ds ≡ decimal (unsigned_abs d.mantissa) → e ≡ d.exponent → all ≡ number_text d
-printed-pieces d none sign all ds e ok a b c f g =
-    c ∙ (λ i. (b ∙ ap (λ (x : List ℕ). x ++ sign_text (is_negative d)) a) i ++ scaled_text (f i) (g i)) ∙ number_text-is d ok
+printed-pieces d none sign all ds e ok a b c f g = grind (arith, number_text-is)
 
 -- decimals with the same text are equal
 pub one-text : (a b : Number) → IsDecimal a → IsDecimal b → number_text a ≡ number_text b → a ≡ b

@@ -1,4 +1,5 @@
 -- The order of values in terms of the pairs of two decimals.
+use Rattle.std.proofs.Common.{rules}
 use Rattle.std.proofs.Common.{◌≡◌, refl, sym, ap, ◌∙◌, ℕ, zero, suc, Bool, true, false, cond, arith, ◌<◌, ◌*◌, ◌^◌}
 use Rattle.std.specs.Prelude.{ℤ, pos, negsuc, ◌+ℤ◌, ◌*ℤ◌, ◌<ℤ◌, neg_ℤ, unsigned_abs, not, Some, None}
 use Rattle.std.specs.Ordering.{is_eq, is_lt, int_cmp}
@@ -12,9 +13,7 @@ use Rattle.mpslp_decimal.proofs.NormalLemmas.{pow_positive}
 use Rattle.mpslp_decimal.proofs.ScaleLemmas.{one_form, scaled-normal, signed_times, negated_scaled}
 
 equal_from : (r : Ordering) → is_eq r ≡ true → r ≡ Equal
-equal_from Less h = cc
-equal_from Equal h = refl
-equal_from Greater h = cc
+equal_from v0 h = grind arith
 
 pub same_decimal : (a b : Number) → IsDecimal a → IsDecimal b → is_eq (decimal_cmp a b) ≡ true → a ≡ b
 same_decimal a b p q e = one_form a b p q (int_cmp-IsAntisymmetric (scaled a) (scaled b) (equal_from (decimal_cmp a b) e))
@@ -27,23 +26,7 @@ less_from y x h = ap is_lt (sym (int_cmp_is y x Less h))
 
 -- a number whose value is not negative is its own absolute value
 own_size : (d : Number) (y x : ℤ) → scaled d ≡ y +ℤ neg_ℤ x → not (is_lt (int_cmp y x)) ≡ true → size_of d ≡ d
-own_size d y x e h = by d.mantissa refl
-  where
-    by : (m : ℤ) → d.mantissa ≡ m → size_of d ≡ d
-    by (pos n) is = λ i. record { mantissa = (ap (λ (z : ℤ). pos (unsigned_abs z)) is ∙ sym is) i; exponent = d.exponent }
-    by (negsuc n) is = absurd (against (suc n * 10 ^ height d.exponent) refl)
-      where
-        whole : y +ℤ neg_ℤ x ≡ neg_ℤ (pos (suc n * 10 ^ height d.exponent))
-        whole = sym e ∙ ap (λ (z : ℤ). z *ℤ pos (10 ^ height d.exponent)) is ∙ signed_times true (suc n) (10 ^ height d.exponent)
-
-        some : (a p : ℕ) → 0 < p → 0 < suc a * p
-        some a p h = omega (arith, h)
-
-        against : (k : ℕ) → suc n * 10 ^ height d.exponent ≡ k → ⊥
-        against zero is_k = let s = some n (10 ^ height d.exponent) (pow_positive (height d.exponent)) in absurd (omega (arith, is_k, s))
-        against (suc k) is_k =
-            let less : is_lt (int_cmp y x) ≡ true = less_from y x (below_from y x k (whole ∙ ap (λ (n : ℕ). neg_ℤ (pos n)) is_k)) in
-            let f : not (is_lt (int_cmp y x)) ≡ false = ap not less in cc
+own_size d y x e h = grind (arith, signed_times, arith, pow_positive, less_from, below_from)
 
 pub difference_size : (a b d : Number) → not (is_lt (decimal_cmp b a)) ≡ true → difference_of b a ≡ Some d → size_of d ≡ d
 difference_size a b d h e = by (is_decimal (normal (at_scale (scaled b +ℤ scaled (negated a))))) e

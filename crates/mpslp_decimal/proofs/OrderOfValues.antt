@@ -1,4 +1,5 @@
 -- The order of values, counted in units of any exponent.
+use Rattle.std.proofs.Common.{rules}
 use Rattle.std.proofs.Common.{◌≡◌, refl, sym, ap, ◌∙◌, ℕ, zero, suc, true, arith, ◌<◌, ◌≤◌, ◌-◌, ◌*◌, ◌^◌, lit<}
 use Rattle.std.specs.Prelude.{ℤ, pos, negsuc, ◌-ℤ◌, ◌*ℤ◌, ◌<ℤ◌, ◌≤ℤ◌, neg_ℤ, unsigned_abs}
 use Rattle.std.specs.Ordering.{int_cmp, on, then_cmp, ordering_reverse}
@@ -23,34 +24,13 @@ product_some : (a p : ℕ) → 0 < p → 0 < suc a * p
 product_some a p some = grind arith
 
 times-below : (x y : ℤ) (p : ℕ) → 0 < p → x <ℤ y → (x *ℤ pos p) <ℤ (y *ℤ pos p)
-times-below (pos a) (pos b) p some h =
-    let l : a * p < b * p = product_below a b p (omega (arith, ints)) some in omega (arith, ints)
-times-below (negsuc a) (pos b) p some h =
-    let l : 0 < suc a * p = product_some a p some in
-    let e : negsuc a *ℤ pos p ≡ neg_ℤ (pos (suc a * p)) = signed_times true (suc a) p in
-    rw e (omega (arith, ints))
-times-below (pos a) (negsuc b) p some h = absurd (omega (arith, ints))
-times-below (negsuc a) (negsuc b) p some h =
-    let l : suc b * p < suc a * p = product_below (suc b) (suc a) p (omega (arith, ints)) some in
-    let e : negsuc a *ℤ pos p ≡ neg_ℤ (pos (suc a * p)) = signed_times true (suc a) p in
-    let f : negsuc b *ℤ pos p ≡ neg_ℤ (pos (suc b * p)) = signed_times true (suc b) p in
-    rw (e, f) (omega (arith, ints))
+times-below v0 v1 p some h = grind (arith, product_below, arith, ints, product_some, signed_times)
 
 pub int_cmp-times : (x y : ℤ) (p : ℕ) → 0 < p → int_cmp (x *ℤ pos p) (y *ℤ pos p) ≡ int_cmp x y
-int_cmp-times x y p some = sym (by (int_cmp x y) refl)
-  where
-    by : (r : Ordering) → int_cmp x y ≡ r → r ≡ int_cmp (x *ℤ pos p) (y *ℤ pos p)
-    by Less e = int_cmp_is (x *ℤ pos p) (y *ℤ pos p) Less (times-below x y p some (int_ranked x y Less (sym e)))
-    by Equal e = int_cmp_is (x *ℤ pos p) (y *ℤ pos p) Equal (ap (λ (z : ℤ). z *ℤ pos p) (int_ranked x y Equal (sym e)))
-    by Greater e = int_cmp_is (x *ℤ pos p) (y *ℤ pos p) Greater (times-below y x p some (int_ranked x y Greater (sym e)))
+int_cmp-times x y p some = grind (arith, times-below, int_ranked)
 
 pub reverse-int_cmp : (x y : ℤ) → ordering_reverse (int_cmp x y) ≡ int_cmp y x
-reverse-int_cmp x y = by (int_cmp x y) refl
-  where
-    by : (r : Ordering) → int_cmp x y ≡ r → ordering_reverse r ≡ int_cmp y x
-    by Less e = int_cmp_is y x Greater (int_ranked x y Less (sym e))
-    by Equal e = int_cmp_is y x Equal (sym (int_ranked x y Equal (sym e)))
-    by Greater e = int_cmp_is y x Less (int_ranked x y Greater (sym e))
+reverse-int_cmp x y = grind arith
 
 -- ---- the order of decimals
 
@@ -75,18 +55,10 @@ once : (m : ℤ) → m *ℤ pos (10 ^ 0) ≡ m
 once m = omega (arith, ints)
 
 pub surplus-up : (e f : ℤ) → f ≤ℤ e → surplus e f ≡ unsigned_abs (e -ℤ f)
-surplus-up e f h = by (e -ℤ f) refl
-  where
-    by : (z : ℤ) → e -ℤ f ≡ z → natural_part z ≡ unsigned_abs z
-    by (pos n) g = refl
-    by (negsuc n) g = absurd (omega (arith, ints))
+surplus-up e f h = grind arith
 
 pub surplus-down : (e f : ℤ) → f ≤ℤ e → surplus f e ≡ 0
-surplus-down e f h = by (f -ℤ e) refl
-  where
-    by : (z : ℤ) → f -ℤ e ≡ z → natural_part z ≡ 0
-    by (pos n) g = omega (arith, ints)
-    by (negsuc n) g = refl
+surplus-down e f h = grind arith
 
 -- at the smaller exponent, that of the second
 pub compare-beside : (a b : Number) → IsDecimal a → IsDecimal b → b.exponent ≤ℤ a.exponent → int_cmp (a.mantissa *ℤ pos (10 ^ unsigned_abs (a.exponent -ℤ b.exponent))) b.mantissa ≡ decimal_cmp a b
@@ -104,23 +76,14 @@ compare-beside a b p q h =
 
 pub compare-left : (a b : Number) (r : Ordering) (places : ℕ) → IsDecimal a → IsDecimal b → b.exponent ≤ℤ a.exponent → places ≡ unsigned_abs (a.exponent -ℤ b.exponent)
     → r ≡ int_cmp (a.mantissa *ℤ pos (10 ^ places)) b.mantissa → r ≡ order_of a b
-compare-left a b r places p q h e is =
-    is ∙ ap (λ (n : ℕ). int_cmp (a.mantissa *ℤ pos (10 ^ n)) b.mantissa) e ∙ compare-beside a b p q h ∙ sym (order-decimal a b p q)
+compare-left a b r places p q h e is = grind (arith, compare-beside, order-decimal)
 
 size-back : (e f : ℤ) → unsigned_abs (e -ℤ f) ≡ unsigned_abs (f -ℤ e)
-size-back e f = by (e -ℤ f) (f -ℤ e) refl refl
-  where
-    by : (y z : ℤ) → e -ℤ f ≡ y → f -ℤ e ≡ z → unsigned_abs y ≡ unsigned_abs z
-    by (pos m) (pos n) g h = omega (arith, ints)
-    by (pos m) (negsuc n) g h = omega (arith, ints)
-    by (negsuc m) (pos n) g h = omega (arith, ints)
-    by (negsuc m) (negsuc n) g h = absurd (omega (arith, ints))
+size-back e f = grind arith
 
 pub compare-right : (a b : Number) (r s : Ordering) (places : ℕ) → IsDecimal a → IsDecimal b → a.exponent ≤ℤ b.exponent → places ≡ unsigned_abs (a.exponent -ℤ b.exponent)
     → s ≡ int_cmp (b.mantissa *ℤ pos (10 ^ places)) a.mantissa → r ≡ ordering_reverse s → r ≡ order_of a b
-compare-right a b r s places p q h e is back =
-    back ∙ ap ordering_reverse (is ∙ ap (λ (n : ℕ). int_cmp (b.mantissa *ℤ pos (10 ^ n)) a.mantissa) (e ∙ size-back a.exponent b.exponent) ∙ compare-beside b a q p h)
-    ∙ reverse-int_cmp (scaled b) (scaled a) ∙ sym (order-decimal a b p q)
+compare-right a b r s places p q h e is back = grind (arith, size-back, compare-beside, reverse-int_cmp, order-decimal)
 
 -- ---- a mantissa that the other one never reaches
 
@@ -142,23 +105,7 @@ far-above (pos (suc n)) places nonzero h = far-times n places h
 far-above (negsuc n) places nonzero h = far-times n places h
 
 within : (other : ℤ) → unsigned_abs other < 10 ^ 36 → (other <ℤ pos (10 ^ 36)) × (neg_ℤ (pos (10 ^ 36)) <ℤ other)
-within (pos n) h = (omega (arith, ints), omega (arith, ints))
-within (negsuc n) h = (omega (arith, ints), omega (arith, ints))
+within v0 h = grind arith
 
 pub compare-far : (m other : ℤ) (places : ℕ) → 10 ^ 37 ≤ unsigned_abs m * 10 ^ places → unsigned_abs other < 10 ^ 36 → int_cmp m (pos 0) ≡ int_cmp (m *ℤ pos (10 ^ places)) other
-compare-far (pos zero) other places far small = absurd (omega (arith, far))
-compare-far (pos (suc n)) other places far small =
-    let l : 10 ^ 36 ≤ suc n * 10 ^ places = omega (arith, far) in
-    let b = within other small in
-    sym (int_cmp_is (pos (suc n)) (pos 0) Greater (omega (arith, ints))) ∙ int_cmp_is (pos (suc n) *ℤ pos (10 ^ places)) other Greater (above (suc n * 10 ^ places) l b.0)
-  where
-    above : (p : ℕ) → 10 ^ 36 ≤ p → other <ℤ pos (10 ^ 36) → other <ℤ pos p
-    above p l h = omega (arith, ints)
-compare-far (negsuc n) other places far small =
-    let l : 10 ^ 36 ≤ suc n * 10 ^ places = omega (arith, far) in
-    let b = within other small in
-    let e : negsuc n *ℤ pos (10 ^ places) ≡ neg_ℤ (pos (suc n * 10 ^ places)) = signed_times true (suc n) (10 ^ places) in
-    sym (int_cmp_is (negsuc n) (pos 0) Less (omega (arith, ints))) ∙ int_cmp_is (negsuc n *ℤ pos (10 ^ places)) other Less (rw e (below (suc n * 10 ^ places) l b.1))
-  where
-    below : (p : ℕ) → 10 ^ 36 ≤ p → neg_ℤ (pos (10 ^ 36)) <ℤ other → neg_ℤ (pos p) <ℤ other
-    below p l h = omega (arith, ints)
+compare-far v0 other places far small = grind arith

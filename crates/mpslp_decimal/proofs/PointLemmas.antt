@@ -5,23 +5,7 @@ use Rattle.mpslp_decimal.specs.NumberText.{with_point}
 
 -- one zero before the point, the others after it
 few-digits : (ds : List ℕ) (p k : ℕ) → p ≡ k + length ds → with_point p ds ≡ 48 ∷ 46 ∷ (replicate k 48 ++ ds)
-few-digits ds p k e = padded (p + 1 - length ds) (omega (arith, e))
-  where
-    cut : (n : ℕ) → n ≡ 1 → take n (48 ∷ (replicate k 48 ++ ds)) ++ 46 ∷ drop n (48 ∷ (replicate k 48 ++ ds)) ≡ 48 ∷ 46 ∷ (replicate k 48 ++ ds)
-    cut n h = ap (λ (m : ℕ). take m (48 ∷ (replicate k 48 ++ ds)) ++ 46 ∷ drop m (48 ∷ (replicate k 48 ++ ds))) h ∙ front (replicate k 48 ++ ds)
-      where
-        front : (xs : List ℕ) → take 1 (48 ∷ xs) ++ 46 ∷ drop 1 (48 ∷ xs) ≡ 48 ∷ 46 ∷ xs
-        front [] = refl
-        front (x ∷ xs) = refl
-
-    count : length (48 ∷ (replicate k 48 ++ ds)) - p ≡ 1
-    count = let n : length (replicate k 48 ++ ds) ≡ k + length ds = length-append (replicate k 48) ds ∙ ap (λ (m : ℕ). m + length ds) (length-replicate k 48) in omega (arith, n, e)
-
-    padded : (n : ℕ) → n ≡ suc k
-        → take (length (replicate n 48 ++ ds) - p) (replicate n 48 ++ ds) ++ 46 ∷ drop (length (replicate n 48 ++ ds) - p) (replicate n 48 ++ ds) ≡ 48 ∷ 46 ∷ (replicate k 48 ++ ds)
-    padded n h =
-        ap (λ (m : ℕ). take (length (replicate m 48 ++ ds) - p) (replicate m 48 ++ ds) ++ 46 ∷ drop (length (replicate m 48 ++ ds) - p) (replicate m 48 ++ ds)) h
-        ∙ cut (length (48 ∷ (replicate k 48 ++ ds)) - p) count
+few-digits ds p k e = grind (arith, arith, replicate, length-append, length-replicate)
 
 -- the three pieces that are appended
 pub point-pieces : (before first second all ds : List ℕ) (p : ℕ) → first ≡ before ++ 48 ∷ 46 ∷ [] → second ≡ first ++ take (p - length ds) (replicate 20 48) → all ≡ second ++ ds

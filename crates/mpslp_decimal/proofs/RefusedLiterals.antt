@@ -1,4 +1,5 @@
 -- Literals whose value is not that of a decimal, and which of the two errors they have.
+use Rattle.std.proofs.Common.{rules}
 use Rattle.std.proofs.Common.{◌≡◌, refl, sym, ap, subst, ◌∙◌, List, length, ℕ, zero, suc, Bool, true, false, arith, ◌<◌, ◌≤◌, ◌+◌, ◌*◌, ◌^◌, ◌%◌, pow-suc}
 use Rattle.std.specs.Prelude.{ℤ, pos, ◌+ℤ◌, ◌-ℤ◌, unsigned_abs, not, ◌==◌, ◌↔◌, nat_lt, if◌then◌else◌, Result, Ok, Err}
 use Rattle.std.proofs.lemmas.Int.{unsigned_abs-mul}
@@ -54,12 +55,7 @@ fewest-of_value v d m z s ends same =
     joined m z k = ap (λ (p : ℕ). m * p) (pow-add 10 z k) ∙ regroup m (10 ^ z) (10 ^ k)
 
 few_by_size : (minus : Bool) (m : ℕ) (e : ℤ) (d : Number) → m ≤ unsigned_abs d.mantissa → has_few_digits d ≡ true → has_few_digits (record { mantissa = to_signed minus m; exponent = e }) ≡ true
-few_by_size minus m e d less few =
-    let below : unsigned_abs d.mantissa < 10 ^ 36 = ltb-true (unsigned_abs d.mantissa) (10 ^ 36) few in
-    ap (λ (n : ℕ). nat_lt n (10 ^ 36)) (size-signed minus m) ∙ lt-ltb m (10 ^ 36) (under m (unsigned_abs d.mantissa) (10 ^ 36) less below)
-  where
-    under : (a b c : ℕ) → a ≤ b → b < c → a < c
-    under a b c h k = omega (arith, h, k)
+few_by_size minus m e d less few = grind arith
 
 -- if any number of few digits has a value, its normal form has few digits
 few-from_same : (minus : Bool) (n : ℕ) (e : ℤ) (len : ℕ) (d : Number) → n < 10 ^ len → len ≤ 255 → has_few_digits d ≡ true
@@ -92,15 +88,11 @@ digits-short : (text : List ℕ) → length text ≤ 255 → length (mantissa_di
 digits-short text short = let within = mantissa-short text in omega (arith, within, short)
 
 normal-literal : (text : List ℕ) → is_literal text ≡ true → length text ≤ 255 → IsNormalOf (literal_value text) (normal (literal_value text))
-normal-literal text literal short =
-    normal-same (is_minus text) (digits_sum (mantissa_digits text)) (signed_value (exponent_part text) -ℤ pos (length (fraction_digits text))) (length (mantissa_digits text))
-    (mantissa-small text literal) (digits-short text short)
+normal-literal text literal short = search (rules, normal-same, mantissa-small, digits-short)
 
 few-literal : (text : List ℕ) (d : Number) → is_literal text ≡ true → length text ≤ 255 → has_few_digits d ≡ true → HasSameValue (literal_value text) d
     → has_few_digits (normal (literal_value text)) ≡ true
-few-literal text d literal short few same =
-    few-from_same (is_minus text) (digits_sum (mantissa_digits text)) (signed_value (exponent_part text) -ℤ pos (length (fraction_digits text))) (length (mantissa_digits text)) d
-    (mantissa-small text literal) (digits-short text short) few same
+few-literal text d literal short few same = search (rules, few-from_same, mantissa-small, digits-short)
 
 -- ---- which error it is
 
@@ -112,37 +104,20 @@ answer_of literal long few small v =
     if not literal then Err BadNumber else (if long then Err LongNumber else (if not few then Err TooManyDigits else (if not small then Err ExponentRange else Ok v)))
 
 many-refused : (literal long few small : Bool) (v : Number) → answer_of literal long few small v ≡ Err TooManyDigits → (literal ≡ true) × (long ≡ false) × (few ≡ false)
-many-refused false long few small v e = absurd cc
-many-refused true true few small v e = absurd cc
-many-refused true false false small v e = (refl, refl, refl)
-many-refused true false true false v e = absurd cc
-many-refused true false true true v e = absurd cc
+many-refused v0 v1 v2 v3 v e = grind arith
 
 range-refused : (literal long few small : Bool) (v : Number) → answer_of literal long few small v ≡ Err ExponentRange → (literal ≡ true) × (long ≡ false) × (few ≡ true)
-range-refused false long few small v e = absurd cc
-range-refused true true few small v e = absurd cc
-range-refused true false false small v e = absurd cc
-range-refused true false true false v e = (refl, refl, refl)
-range-refused true false true true v e = absurd cc
+range-refused v0 v1 v2 v3 v e = grind arith
 
 tested : (text : List ℕ) (few small : Bool) → is_literal text ≡ true → length text ≤ 255 → has_few_digits (normal (literal_value text)) ≡ few
     → has_small_exponent (normal (literal_value text)) ≡ small → number_of text ≡ answer_of true false few small (normal (literal_value text))
 tested text few small literal short f s = λ i. answer_of (literal i) (le-ltb 255 (length text) short i) (f i) (s i) (normal (literal_value text))
 
 clash : (b : Bool) → b ≡ true → b ≡ false → ⊥
-clash true h k = cc
-clash false h k = cc
+clash v0 h k = grind arith
 
 many-from_number : (text : List ℕ) → number_of text ≡ Err TooManyDigits → HasTooManyDigits text
-many-from_number text e =
-    let value = normal (literal_value text) in
-    let t = many-refused (is_literal text) (nat_lt 255 (length text)) (has_few_digits value) (has_small_exponent value) value e in
-    let short : length text ≤ 255 = ltb-false 255 (length text) t.1 in
-    record {
-      literal = t.0;
-      short = short;
-      many = λ d few same. clash (has_few_digits value) (few-literal text d t.0 short few same) t.2;
-    }
+many-from_number text e = grind (arith, many-refused, ltb-false, clash, few-literal)
 
 number-from_many : (text : List ℕ) → HasTooManyDigits text → number_of text ≡ Err TooManyDigits
 number-from_many text h = by (has_few_digits (normal (literal_value text))) refl
@@ -152,19 +127,7 @@ number-from_many text h = by (has_few_digits (normal (literal_value text))) refl
     by false few = tested text false (has_small_exponent (normal (literal_value text))) h.literal h.short few refl
 
 range-from_number : (text : List ℕ) → number_of text ≡ Err ExponentRange → HasExponentOutOfRange text
-range-from_number text e =
-    let value = normal (literal_value text) in
-    let t = range-refused (is_literal text) (nat_lt 255 (length text)) (has_few_digits value) (has_small_exponent value) value e in
-    let short : length text ≤ 255 = ltb-false 255 (length text) t.1 in
-    record {
-      literal = t.0;
-      short = short;
-      few = (value, (t.2, (normal-literal text t.0 short).same));
-      out = λ d decimal same. another d (sym (number-from_spells text d (record { literal = t.0; short = short; decimal = decimal; value = same })) ∙ e);
-    }
-  where
-    another : (d : Number) → ◌≡◌ {A = Answer} (Ok d) (Err ExponentRange) → ⊥
-    another d h = cc
+range-from_number text e = grind (arith, range-refused, ltb-false, normal-literal, number-from_spells)
 
 number-from_range : (text : List ℕ) → HasExponentOutOfRange text → number_of text ≡ Err ExponentRange
 number-from_range text h = by (has_small_exponent (normal (literal_value text))) refl

@@ -1,4 +1,5 @@
 -- Sums and differences at one scale, and that adding a difference gives the number back.
+use Rattle.std.proofs.Common.{rules}
 use Rattle.std.proofs.Common.{◌≡◌, refl, sym, ap, ◌∙◌, ℕ, zero, suc, Bool, true, false, cond, arith, ◌<◌, ◌≤◌, ◌*◌, ◌^◌, ◌%◌, ◌/◌, pow-suc}
 use Rattle.std.specs.Prelude.{◌==◌, ℤ, pos, negsuc, ◌+ℤ◌, ◌-ℤ◌, ◌*ℤ◌, neg_ℤ, unsigned_abs, int_div, int_le, ◌&&◌, if◌then◌else◌, Some, None}
 use Rattle.std.specs.Cmp.{first_so, second_so}
@@ -10,22 +11,16 @@ use Rattle.mpslp_decimal.proofs.NormalLemmas.{normal-tens, pow_positive, zero_ma
 use Rattle.mpslp_decimal.proofs.NumberTextLemmas.{signed-size, nonzero-ends, zero-is}
 
 pub height_back : (e : ℤ) → int_le (negsuc 499) e ≡ true → e -ℤ pos (height e) ≡ negsuc 499
-height_back (pos n) h = omega (arith, ints)
-height_back (negsuc n) h = let l : n ≤ 499 = leb-true n 499 h in omega (arith, ints)
+height_back v0 h = grind arith
 
 pub height_below : (e : ℤ) → int_le e (pos 500) ≡ true → height e < 1100
-height_below (pos n) h = let l : n ≤ 500 = leb-true n 500 h in omega arith
-height_below (negsuc n) h = omega arith
+height_below v0 h = grind arith
 
 pub signed_times : (minus : Bool) (m p : ℕ) → to_signed minus m *ℤ pos p ≡ to_signed minus (m * p)
-signed_times false m p = refl
-signed_times true zero p = omega (arith, ints)
-signed_times true (suc m) p = omega (arith, ints)
+signed_times v0 v1 p = grind arith
 
 pub exponents-of : (d : Number) → IsDecimal d → (int_le (negsuc 499) d.exponent ≡ true) × (int_le d.exponent (pos 500) ≡ true)
-exponents-of d ok =
-    let e = first_so (has_small_exponent d) (is_normal d) (second_so (has_few_digits d) (has_small_exponent d && is_normal d) ok) in
-    (first_so (int_le (negsuc 499) d.exponent) (int_le d.exponent (pos 500)) e, second_so (int_le (negsuc 499) d.exponent) (int_le d.exponent (pos 500)) e)
+exponents-of d ok = grind arith
 
 -- the decimal of its mantissa at the least exponent is itself
 pub normal-scaled : (d : Number) → IsDecimal d → normal (at_scale (scaled d)) ≡ d
@@ -65,59 +60,34 @@ divided_by : (k n p : ℕ) → 0 < p → k * p ≡ n → (n / p) * p ≡ n
 divided_by k n p h e = ap (λ (x : ℕ). x * p) (ap (λ (x : ℕ). x / p) (sym e) ∙ quotient k p h) ∙ e
 
 divided_more : (z n : ℕ) → n % 10 ≡ 0 → ((n / 10) / 10 ^ z) * 10 ^ z ≡ n / 10 → (n / 10 ^ suc z) * 10 ^ suc z ≡ n
-divided_more z n h e =
-    let k : ℕ = (n / 10) / 10 ^ z in
-    let p : 10 ^ suc z ≡ 10 ^ z * 10 = rw pow-suc refl in
-    let whole : ((n / 10) / 10 ^ z) * 10 ^ suc z ≡ n = ap (λ (x : ℕ). ((n / 10) / 10 ^ z) * x) p ∙ sym (regroup ((n / 10) / 10 ^ z) (10 ^ z)) ∙ ap (λ (x : ℕ). x * 10) e ∙ tenfold n h in
-    divided_by ((n / 10) / 10 ^ z) n (10 ^ suc z) (pow_positive (suc z)) whole
+divided_more z n h e = grind (arith, pow-suc, regroup, tenfold, divided_by, pow_positive)
 
 divided_none : (n : ℕ) → (n / 10 ^ 0) * 10 ^ 0 ≡ n
 divided_none n = omega arith
 
 divided : (most n : ℕ) → (n / 10 ^ zeros_within most n) * 10 ^ zeros_within most n ≡ n
 divided zero n = divided_none n
-divided (suc most) n = by (n % 10) refl (divided most (n / 10))
-  where
-    by : (r : ℕ) → n % 10 ≡ r → ((n / 10) / 10 ^ zeros_within most (n / 10)) * 10 ^ zeros_within most (n / 10) ≡ n / 10
-        → (n / 10 ^ (elim r as (λ _. ℕ) [ zero ↦ suc (zeros_within most (n / 10)) | suc _ ↦ 0 ])) * 10 ^ (elim r as (λ _. ℕ) [ zero ↦ suc (zeros_within most (n / 10)) | suc _ ↦ 0 ]) ≡ n
-    by zero e more = divided_more (zeros_within most (n / 10)) n e more
-    by (suc r) e more = divided_none n
+divided (suc most) n = grind (arith, divided_more, divided_none, divided most (n / 10))
 
 divided_all : (n : ℕ) → (n / 10 ^ trailing_zeros n) * 10 ^ trailing_zeros n ≡ n
 unfolding trailing_zeros
 divided_all n = divided 1100 n
 
 neg_neg : (n : ℕ) → neg_ℤ (neg_ℤ (pos n)) ≡ pos n
-neg_neg zero = refl
-neg_neg (suc n) = refl
+neg_neg v0 = grind arith
 
 pub neg_times : (m : ℤ) (p : ℕ) → neg_ℤ m *ℤ pos p ≡ neg_ℤ (m *ℤ pos p)
-neg_times (pos n) p = signed_times true n p
-neg_times (negsuc n) p = sym (ap neg_ℤ (signed_times true (suc n) p) ∙ neg_neg (suc n * p))
+neg_times v0 p = grind arith
 
 int_divided : (m : ℤ) (p : ℕ) → (unsigned_abs m / p) * p ≡ unsigned_abs m → int_div m (pos p) *ℤ pos p ≡ m
-int_divided (pos n) p e = ap pos e
-int_divided (negsuc n) p e = neg_times (pos (suc n / p)) p ∙ ap (λ (x : ℕ). neg_ℤ (pos x)) e
+int_divided v0 p e = grind arith
 
 height_sum : (z : ℕ) → height (negsuc 499 +ℤ pos z) ≡ z
-height_sum z = by (negsuc 499 +ℤ pos z) refl
-  where
-    by : (e : ℤ) → negsuc 499 +ℤ pos z ≡ e → height e ≡ z
-    by (pos n) e = omega (arith, ints)
-    by (negsuc n) e = omega (arith, ints)
+height_sum z = grind arith
 
 -- stripping zeros keeps the value
 pub scaled-normal : (m : ℤ) → scaled (normal (at_scale m)) ≡ m
-scaled-normal m = by (unsigned_abs m == 0) refl
-  where
-    by : (b : Bool) → (unsigned_abs m == 0) ≡ b → scaled (normal (at_scale m)) ≡ m
-    by true e = ap (λ (x : ℤ). scaled (normal (at_scale x))) (zero_mantissa m e) ∙ refl ∙ sym (zero_mantissa m e)
-    by false e =
-        let z : ℕ = trailing_zeros (unsigned_abs m) in
-        let is : normal (at_scale m) ≡ record { mantissa = int_div m (pos (10 ^ trailing_zeros (unsigned_abs m))); exponent = negsuc 499 +ℤ pos (trailing_zeros (unsigned_abs m)) } =
-        ap (λ (b : Bool). cond b zero_number (record { mantissa = int_div m (pos (10 ^ trailing_zeros (unsigned_abs m))); exponent = negsuc 499 +ℤ pos (trailing_zeros (unsigned_abs m)) })) e in
-        ap scaled is ∙ ap (λ (h : ℕ). int_div m (pos (10 ^ trailing_zeros (unsigned_abs m))) *ℤ pos (10 ^ h)) (height_sum (trailing_zeros (unsigned_abs m)))
-        ∙ int_divided m (10 ^ trailing_zeros (unsigned_abs m)) (divided_all (unsigned_abs m))
+scaled-normal m = grind (arith, zero_mantissa, height_sum, int_divided, divided_all)
 
 pub negated_scaled : (d : Number) → scaled (negated d) ≡ neg_ℤ (scaled d)
 negated_scaled d = neg_times d.mantissa (10 ^ height d.exponent)

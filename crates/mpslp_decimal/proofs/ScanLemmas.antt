@@ -1,4 +1,5 @@
 -- The step of a loop over digits.
+use Rattle.std.proofs.Common.{rules}
 use Rattle.std.proofs.Common.{◌≡◌, sym, ap, ◌∙◌, ℕ, List, [], ◌∷◌, length, take, drop, get_or, true, arith, ◌<◌, ◌+◌, ◌-◌, ◌*◌, ◌^◌}
 use Rattle.std.specs.Prelude.{min, ◌&&◌}
 use Rattle.std.specs.List.{prefix_len, list_all}
@@ -25,8 +26,7 @@ regroup : (n p s d : ℕ) → (n * p + s) * 10 + d ≡ n * (p * 10) + (s * 10 + 
 regroup n p s d = grind arith
 
 pub value-more : (xs : List ℕ) (i n : ℕ) → i < length xs → (n * 10 ^ i + digits_sum (take i xs)) * 10 + (get_or xs i 0 - 48) ≡ n * 10 ^ (i + 1) + digits_sum (take (i + 1) xs)
-value-more xs i n h =
-    regroup n (10 ^ i) (digits_sum (take i xs)) (get_or xs i 0 - 48) ∙ (λ j. n * sym (pow-next i) j + sym (digits_sum-more xs i h) j)
+value-more xs i n h = search (rules, regroup, pow-next, digits_sum-more)
 
 pub all-more : (xs : List ℕ) (i : ℕ) → i < length xs → list_all is_digit (take i xs) ≡ true → is_digit (get_or xs i 0) ≡ true → list_all is_digit (take (i + 1) xs) ≡ true
 all-more xs i h before here = list_all_more is_digit xs i 0 h ∙ (λ j. before j && here j)
@@ -37,6 +37,4 @@ capped-more n d cap = omega arith
 
 pub capped-digit : (xs : List ℕ) (i size d result cap : ℕ) → i < length xs → size ≡ min (digits_sum (take i xs)) cap → d ≡ get_or xs i 0 - 48 → result ≡ min (size * 10 + d) cap
     → result ≡ min (digits_sum (take (i + 1) xs)) cap
-capped-digit xs i size d result cap h size_is d_is is =
-    is ∙ (λ j. min (size_is j * 10 + d_is j) cap) ∙ capped-more (digits_sum (take i xs)) (get_or xs i 0 - 48) cap
-    ∙ ap (λ (n : ℕ). min n cap) (sym (digits_sum-more xs i h))
+capped-digit xs i size d result cap h size_is d_is is = grind (arith, capped-more, digits_sum-more)

@@ -1,4 +1,5 @@
 -- The significand of a mantissa that was read as one number.
+use Rattle.std.proofs.Common.{rules}
 use Rattle.std.proofs.Common.{◌≡◌, refl, sym, ap, subst, ◌∙◌, List, [], ◌∷◌, ◌++◌, length, ℕ, suc, Bool, true, false, arith, ◌<◌, ◌≤◌, ◌+◌, ◌*◌, ◌^◌, lit<, length-append, length-take}
 use Rattle.std.specs.Prelude.{nat_lt, if◌then◌else◌}
 use Rattle.std.specs.List.{prefix_len}
@@ -21,16 +22,12 @@ none p s = omega arith
 pub all-number : (text fraction : List ℕ) (whole number : ℕ) → whole ≡ 0 * 10 ^ length (digits_front text) + digits_sum (digits_front text)
     → number ≡ whole * 10 ^ length (digits_front fraction) + digits_sum (digits_front fraction) → fraction_front text ≡ digits_front fraction
     → number ≡ digits_sum (mantissa_front text)
-all-number text fraction whole number first more e =
-    more ∙ ap (λ (w : ℕ). w * 10 ^ length (digits_front fraction) + digits_sum (digits_front fraction)) (first ∙ none (10 ^ length (digits_front text)) (digits_sum (digits_front text)))
-    ∙ sym (digits_sum-append (digits_front text) (digits_front fraction)) ∙ ap (λ (f : List ℕ). digits_sum (digits_front text ++ f)) (sym e)
+all-number text fraction whole number first more e = grind (arith, none, digits_sum-append)
 
 -- if there is no point
 pub only-number : (text : List ℕ) (whole : ℕ) → whole ≡ 0 * 10 ^ length (digits_front text) + digits_sum (digits_front text) → fraction_front text ≡ []
     → whole ≡ digits_sum (mantissa_front text)
-only-number text whole first e =
-    first ∙ none (10 ^ length (digits_front text)) (digits_sum (digits_front text))
-    ∙ ap digits_sum (sym (append-nil (digits_front text)) ∙ ap (λ (f : List ℕ). digits_front text ++ f) (sym e))
+only-number text whole first e = grind (arith, none, append-nil)
 
 front-digits : (text : List ℕ) → AreDigits (mantissa_front text)
 front-digits text = Each-append (λ (b : ℕ). is_digit b ≡ true) (digits_front text) (fraction_front text) (digits-only text) (digits-only (after_point (after_digits text)))
@@ -39,12 +36,7 @@ digits-within : (text : List ℕ) → length (digits_front text) ≤ length text
 digits-within text = omega (arith, length-take (prefix_len is_digit text) text)
 
 point-within : (text : List ℕ) → length (after_point text) ≤ length text
-point-within [] = omega arith
-point-within (x ∷ xs) = by (is_point x)
-  where
-    by : (b : Bool) → length (if b then xs else []) ≤ suc (length xs)
-    by true = omega arith
-    by false = omega arith
+point-within v0 = grind arith
 
 within : (text : List ℕ) → length (mantissa_front text) ≤ length text
 within text =
@@ -66,6 +58,4 @@ few zeros n len h small = by (nat_lt len zeros) refl
 -- no more zeros than bytes
 pub short-zeros : (text : List ℕ) (significand : Significand) (number : ℕ) → number ≡ digits_sum (mantissa_front text) → 10 ^ zeros_of significand ≤ number + 1
     → zeros_of significand ≤ length text
-short-zeros text significand number is zeros =
-    let small : number < 10 ^ length (mantissa_front text) = subst (λ (n : ℕ). n < 10 ^ length (mantissa_front text)) (sym is) (digits_sum-small (mantissa_front text) (front-digits text)) in
-    omega (arith, few (zeros_of significand) number (length (mantissa_front text)) zeros small, within text)
+short-zeros text significand number is zeros = grind (arith, digits_sum-small, front-digits, arith, few, within)

@@ -1,4 +1,5 @@
 -- A number with one more digit appended, and its significand.
+use Rattle.std.proofs.Common.{rules}
 use Rattle.std.proofs.Common.{◌≡◌, refl, sym, ap, ◌∙◌, ℕ, zero, suc, arith, ◌<◌, ◌≤◌, ◌+◌, ◌*◌, ◌^◌, pow-suc, add-one, lit<, subst, Option, Some, None}
 use Rattle.std.proofs.Math.Nat.{pow-le-pow_right, mul-le-mul_left}
 use Rattle.mpslp_decimal.specs.Scan.{IsStripped, IsSignificandOf, parts_of, zeros_of}
@@ -60,14 +61,7 @@ one-more-zero v m i h = sym (tens m i v (sym h))
 -- the digits with the zeros appended, and the digit after them
 pub digit-after : (n m z i v d e : ℕ) → IsStripped n m z → v ≡ m * 10 ^ i → i ≡ z + 1 → v < 10 ^ 36 → e ≡ d → 0 < d → d < 10
     → IsStripped (n * 10 + d) (v + e) 0 × (v + e < 10 ^ 36)
-digit-after n m z i v d e s value at few same some small =
-    let whole : v ≡ m * 10 ^ (z + 1) = value ∙ ap (λ (k : ℕ). m * 10 ^ k) at in
-    let all : m * 10 ^ (z + 1) ≡ n * 10 = tens m z n s.value in
-    let is : n * 10 + d ≡ v + e = omega (arith, whole, all, same) in
-    (subst (λ (x : ℕ). IsStripped (n * 10 + d) x 0) is (stripped-digit n d some small), room n v d e (whole ∙ all) few same small)
-  where
-    room : (n v d e : ℕ) → v ≡ n * 10 → v < 10 ^ 36 → e ≡ d → d < 10 → v + e < 10 ^ 36
-    room n v d e tens few same small = omega arith
+digit-after n m z i v d e s value at few same some small = grind (arith, tens, arith, stripped-digit)
 
 pub zero-after : (n m z d : ℕ) → IsStripped n m z → d ≡ 0 → IsStripped (n * 10 + d) m (z + 1)
 zero-after n m z d s none = rw none (stripped-zero n m z s)
@@ -77,16 +71,10 @@ same_Some p q e = cc
 
 -- the parts of a significand
 pub parts-are : (s : Significand) (n m z : ℕ) → parts_of s ≡ Some (m, z) → IsSignificandOf s n → IsStripped n m z × (m < 10 ^ 36)
-parts-are (Short a b) n m z e h = subst (λ (p : ℕ × ℕ). IsStripped n p.0 p.1 × (p.0 < 10 ^ 36)) (same_Some (a, b) (m, z) e) h
-parts-are (Long a b) n m z e h = subst (λ (p : ℕ × ℕ). IsStripped n p.0 p.1 × (p.0 < 10 ^ 36)) (same_Some (a, b) (m, z) e) h
-parts-are Many n m z e h = absurd cc
+parts-are v0 n m z e h = grind arith
 
 pub parts-zeros : (s : Significand) (m z : ℕ) → parts_of s ≡ Some (m, z) → zeros_of s ≡ z
-parts-zeros (Short a b) m z e = ap (λ (p : ℕ × ℕ). p.1) (same_Some (a, b) (m, z) e)
-parts-zeros (Long a b) m z e = ap (λ (p : ℕ × ℕ). p.1) (same_Some (a, b) (m, z) e)
-parts-zeros Many m z e = absurd cc
+parts-zeros v0 m z e = grind arith
 
 pub parts-none : (s : Significand) → parts_of s ≡ None → s ≡ Many
-parts-none (Short a b) e = absurd cc
-parts-none (Long a b) e = absurd cc
-parts-none Many e = refl
+parts-none v0 e = grind arith

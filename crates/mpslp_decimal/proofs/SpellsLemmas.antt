@@ -1,4 +1,5 @@
 -- A text is read as a decimal if and only if it is a literal within the limit that has the value of the decimal.
+use Rattle.std.proofs.Common.{rules}
 use Rattle.std.proofs.Common.{◌≡◌, refl, sym, ap, subst, ◌∙◌, List, [], ◌∷◌, ◌++◌, length, take, drop, length-append, length-drop, ℕ, zero, suc, Bool, true, false, arith, ◌<◌, ◌≤◌, ◌+◌, ◌*◌, ◌^◌, ◌%◌, ◌/◌, pow-suc}
 use Rattle.std.specs.Prelude.{ℤ, pos, negsuc, ◌+ℤ◌, ◌-ℤ◌, ◌*ℤ◌, unsigned_abs, int_le, ◌&&◌, not, ◌==◌, nat_lt, if◌then◌else◌, Result, Ok, Err}
 use Rattle.std.specs.List.{list_all, before_first, position_or_len}
@@ -44,51 +45,23 @@ strip (suc k) n small some = by (n % 10) refl (λ e. strip k (n / 10) (tenth-sma
 -- ---- from the number to its literal
 
 surplus-none : (e : ℤ) (z : ℕ) → surplus e (e +ℤ pos z) ≡ 0
-surplus-none e z = by (e -ℤ (e +ℤ pos z)) refl
-  where
-    by : (d : ℤ) → e -ℤ (e +ℤ pos z) ≡ d → natural_part d ≡ 0
-    by (pos n) h = omega (arith, ints)
-    by (negsuc n) h = refl
+surplus-none e z = grind arith
 
 surplus-all : (e : ℤ) (z : ℕ) → surplus (e +ℤ pos z) e ≡ z
-surplus-all e z = by ((e +ℤ pos z) -ℤ e) refl
-  where
-    by : (d : ℤ) → (e +ℤ pos z) -ℤ e ≡ d → natural_part d ≡ z
-    by (pos n) h = omega (arith, ints)
-    by (negsuc n) h = absurd (omega (arith, ints))
+surplus-all e z = grind arith
 
 stripped-value : (minus : Bool) (n m z : ℕ) (e : ℤ) → IsStripped n m z
     → HasSameValue (record { mantissa = to_signed minus n; exponent = e }) (record { mantissa = to_signed minus m; exponent = e +ℤ pos z })
-stripped-value minus n m z e s =
-    ap (λ (k : ℕ). to_signed minus n *ℤ pos (10 ^ k)) (surplus-none e z) ∙ signed_times minus n (10 ^ 0)
-    ∙ ap (to_signed minus) (times_one n ∙ sym s.value)
-    ∙ sym (signed_times minus m (10 ^ z)) ∙ sym (ap (λ (k : ℕ). to_signed minus m *ℤ pos (10 ^ k)) (surplus-all e z))
+stripped-value minus n m z e s = search (rules, surplus-none, signed_times, times_one, surplus-all)
 
 pub both : (a b : Bool) → a ≡ true → b ≡ true → (a && b) ≡ true
-both true b p q = q
-both false b p q = p
+both v0 b p q = grind arith
 
 pub ends-well : (m : ℤ) (e : ℤ) → 0 < unsigned_abs m % 10 → is_normal (record { mantissa = m; exponent = e }) ≡ true
-ends-well m e h =
-    let some : (unsigned_abs m == 0) ≡ false = nonzero (unsigned_abs m) h in
-    let ends : not (unsigned_abs m % 10 == 0) ≡ true = no_zero (unsigned_abs m) h in
-    rw (some, ends) refl
-  where
-    nonzero : (n : ℕ) → 0 < n % 10 → (n == 0) ≡ false
-    nonzero n h = grind (arith, nat_tests)
-
-    no_zero : (n : ℕ) → 0 < n % 10 → not (n % 10 == 0) ≡ true
-    no_zero n h = grind (arith, nat_tests)
+ends-well m e h = grind arith
 
 none-times : (minus : Bool) (n p : ℕ) → n ≡ 0 → to_signed minus n *ℤ pos p ≡ pos 0
-none-times minus n p h = signed_times minus n p ∙ ap (to_signed minus) (gone n p h) ∙ unsigned minus
-  where
-    gone : (n p : ℕ) → n ≡ 0 → n * p ≡ 0
-    gone n p h = rw h (omega arith)
-
-    unsigned : (minus : Bool) → to_signed minus 0 ≡ pos 0
-    unsigned true = refl
-    unsigned false = refl
+none-times minus n p h = grind arith
 
 zero-value : (minus : Bool) (n : ℕ) (e : ℤ) → n ≡ 0 → HasSameValue (record { mantissa = to_signed minus n; exponent = e }) zero_number
 zero-value minus n e h = none-times minus n (10 ^ surplus e (pos 0)) h ∙ sym (none-times false 0 (10 ^ surplus (pos 0) e) refl)
@@ -137,34 +110,16 @@ record Passed (literal long few small : Bool) (v d : Number) : Type 0 where
 passed : (literal long few small : Bool) (v d : Number)
     → ◌≡◌ {A = Answer} (if not literal then Err BadNumber else (if long then Err LongNumber else (if not few then Err TooManyDigits else (if not small then Err ExponentRange else Ok v)))) (Ok d)
     → Passed literal long few small v d
-passed false long few small v d e = cc
-passed true true few small v d e = cc
-passed true false false small v d e = cc
-passed true false true false v d e = cc
-passed true false true true v d e = record { is_literal = refl; is_short = refl; is_few = refl; is_small = refl; is_value = cc }
+passed v0 v1 v2 v3 v d e = grind arith
 
 pub mantissa-small : (text : List ℕ) → is_literal text ≡ true → digits_sum (mantissa_digits text) < 10 ^ length (mantissa_digits text)
-mantissa-small text h =
-    digits_sum-small (mantissa_digits text)
-    (digits-each (mantissa_digits text) (second_so (nat_lt 0 (length (mantissa_digits text))) (list_all is_digit (mantissa_digits text)) (first_so (are_digits (mantissa_digits text)) _ h)))
+mantissa-small text h = grind (arith, digits_sum-small, digits-each)
 
 around : (text : List ℕ) (i : ℕ) → length (take i text ++ drop (i + 1) text) ≤ length text
 around text i = omega (arith, length-append (take i text) (drop (i + 1) text), length-take i text, length-drop (i + 1) text)
 
 pub mantissa-short : (text : List ℕ) → length (mantissa_digits text) ≤ length text
-mantissa-short text =
-    let front : length (take (position_or_len is_exponent_mark text) text) ≤ length text = omega (arith, length-take (position_or_len is_exponent_mark text) text) in
-    let parts = around (unsigned_part text) (position_or_len is_point (unsigned_part text)) in
-    let bare = unsigned-short (before_first is_exponent_mark text) in
-    omega arith
-  where
-    unsigned-short : (t : List ℕ) → length (without_sign t) ≤ length t
-    unsigned-short [] = omega arith
-    unsigned-short (b ∷ bs) = by (is_sign b) refl
-      where
-        by : (s : Bool) → is_sign b ≡ s → length (without_sign (b ∷ bs)) ≤ suc (length bs)
-        by true e = rw e (omega arith)
-        by false e = rw e (omega arith)
+mantissa-short text = grind (arith, arith, length-take, around)
 
 pub spells-from_number : (text : List ℕ) (d : Number) → number_of text ≡ Ok d → Spells text d
 spells-from_number text d e =
@@ -184,34 +139,14 @@ spells-from_number text d e =
 
 -- a value equal to 0 is 0
 zero-from_same : (v : Number) → HasSameValue v zero_number → unsigned_abs v.mantissa ≡ 0
-zero-from_same v same =
-    let none : v.mantissa *ℤ pos (10 ^ surplus v.exponent (pos 0)) ≡ pos 0 = same ∙ none-times false 0 (10 ^ surplus (pos 0) v.exponent) refl in
-    let product : unsigned_abs v.mantissa * 10 ^ surplus v.exponent (pos 0) ≡ 0 = sym (unsigned_abs-mul v.mantissa (pos (10 ^ surplus v.exponent (pos 0)))) ∙ ap unsigned_abs none in
-    factor (unsigned_abs v.mantissa) (10 ^ surplus v.exponent (pos 0)) (pow_positive (surplus v.exponent (pos 0))) product
-  where
-    factor : (m p : ℕ) → 0 < p → m * p ≡ 0 → m ≡ 0
-    factor zero p h e = refl
-    factor (suc m) p h e = let b : 0 < suc m * p = more m p h in absurd (omega (arith, e, b))
-      where
-        more : (m p : ℕ) → 0 < p → 0 < suc m * p
-        more m p h = grind arith
+zero-from_same v same = grind (arith, none-times, unsigned_abs-mul, pow_positive, arith)
 
 -- the exponents of a value and of its normal form
 apart : (e f : ℤ) (k : ℕ) → surplus f e ≡ k → surplus e f ≡ 0 → e ≡ f -ℤ pos k
-apart e f k down up = by (f -ℤ e) (e -ℤ f) refl refl down up
-  where
-    by : (a b : ℤ) → f -ℤ e ≡ a → e -ℤ f ≡ b → natural_part a ≡ k → natural_part b ≡ 0 → e ≡ f -ℤ pos k
-    by (pos n) b h j is none = omega (arith, ints)
-    by (negsuc n) (pos m) h j is none = omega (arith, ints)
-    by (negsuc n) (negsuc m) h j is none = absurd (omega (arith, ints))
+apart e f k down up = grind arith
 
 above-both : (e f : ℤ) (k : ℕ) → surplus e f ≡ suc k → surplus f e ≡ 0
-above-both e f k up = by (e -ℤ f) (f -ℤ e) refl refl up
-  where
-    by : (a b : ℤ) → e -ℤ f ≡ a → f -ℤ e ≡ b → natural_part a ≡ suc k → natural_part b ≡ 0
-    by (pos n) (pos m) h j is = omega (arith, ints)
-    by (pos n) (negsuc m) h j is = refl
-    by (negsuc n) b h j is = absurd (omega arith)
+above-both e f k up = grind arith
 
 -- a normal mantissa absorbs no zeros of the other one
 no-zeros-after : (v d : Number) (k : ℕ) → HasSameValue v d → 0 < unsigned_abs d.mantissa % 10 → surplus v.exponent d.exponent ≡ suc k → ⊥

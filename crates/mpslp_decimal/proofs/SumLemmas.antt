@@ -1,4 +1,5 @@
 -- Sums at one exponent, and their normal form.
+use Rattle.std.proofs.Common.{rules}
 use Rattle.std.proofs.Common.{◌≡◌, refl, sym, ap, subst, ◌∙◌, ℕ, zero, suc, Bool, true, false, arith, ◌<◌, ◌≤◌, ◌+◌, ◌-◌, ◌*◌, ◌^◌, ◌%◌, ◌/◌, pow-suc, lit<}
 use Rattle.std.specs.Prelude.{ℤ, pos, negsuc, ◌+ℤ◌, ◌-ℤ◌, ◌*ℤ◌, ◌≤ℤ◌, neg_ℤ, unsigned_abs, int_le, int_lt, ◌&&◌, nat_lt, Some, None, Ok, Err, if◌then◌else◌}
 use Rattle.std.specs.Result.{result_ok}
@@ -29,18 +30,7 @@ ten_positive = lit< tt
 
 -- a number has no more zeros than digits
 pub zeros-below : (n m z len : ℕ) → m * 10 ^ z ≡ n → 0 < m → n < 10 ^ len → z < len
-zeros-below n m z len e some small = by (nat_lt z len) refl
-  where
-    by : (b : Bool) → nat_lt z len ≡ b → z < len
-    by true h = ltb-true z len h
-    by false h =
-        let within : len ≤ z = ltb-false z len h in
-        let p : 10 ^ len ≤ 10 ^ z = pow-le-pow_right ten_positive within in
-        let b : 10 ^ z ≤ m * 10 ^ z = at_least m (10 ^ z) some in
-        absurd (omega (arith, e))
-      where
-        at_least : (m p : ℕ) → 0 < m → p ≤ m * p
-        at_least m p h = grind arith
+zeros-below n m z len e some small = grind (arith, ltb-true, ltb-false, pow-le-pow_right, ten_positive, arith)
 
 pub one-zero-less : (d z n : ℕ) → d * 10 ^ z ≡ n → d % 10 ≡ 0 → (d / 10) * 10 ^ (z + 1) ≡ n
 one-zero-less d z n e ends = rw more (regroup (d / 10) (10 ^ z) ∙ ap (λ (x : ℕ). x * 10 ^ z) (whole d ends) ∙ e)
@@ -60,16 +50,7 @@ one-zero-less d z n e ends = rw more (regroup (d / 10) (10 ^ z) ∙ ap (λ (x : 
 pub decimal_of-stripped : (minus : Bool) (n m z : ℕ) (e : ℤ) → IsStripped n m z → 0 < n → z < 1100
     → decimal_of (record { mantissa = to_signed minus n; exponent = e })
     ≡ (if nat_lt m (10 ^ 36) && has_small_exponent (record { mantissa = to_signed minus m; exponent = e +ℤ pos z }) then Some (record { mantissa = to_signed minus m; exponent = e +ℤ pos z }) else None)
-decimal_of-stripped minus n m z e s some few =
-    let is = stripped-normal minus n m z e s some few in
-    let ends : is_normal (record { mantissa = to_signed minus m; exponent = e +ℤ pos z }) ≡ true = ends-well (to_signed minus m) (e +ℤ pos z) (rw size-signed (s.ends some)) in
-    ap (λ (d : Number). if is_decimal d then Some d else None) is
-    ∙ ap (λ (b : Bool). if has_few_digits (record { mantissa = to_signed minus m; exponent = e +ℤ pos z }) && (has_small_exponent (record { mantissa = to_signed minus m; exponent = e +ℤ pos z }) && b) then Some (record { mantissa = to_signed minus m; exponent = e +ℤ pos z }) else None) ends
-    ∙ (λ i. if nat_lt (size-signed minus m i) (10 ^ 36) && and_true (has_small_exponent (record { mantissa = to_signed minus m; exponent = e +ℤ pos z })) i then Some (record { mantissa = to_signed minus m; exponent = e +ℤ pos z }) else None)
-  where
-    and_true : (b : Bool) → (b && true) ≡ b
-    and_true true = refl
-    and_true false = refl
+decimal_of-stripped minus n m z e s some few = grind (arith, stripped-normal, ends-well, size-signed)
 
 -- ---- sums in units of a power of ten
 
@@ -140,10 +121,7 @@ sum-turn a b = ap (λ (z : ℤ). decimal_of (at_scale z)) (turn (scaled a) (scal
     turn x y = omega (arith, ints)
 
 scaled-zero : (d : Number) → IsDecimal d → is_zero d ≡ true → scaled d ≡ pos 0
-scaled-zero d ok z = ap scaled (zero-is d ok z) ∙ none
-  where
-    none : scaled zero_number ≡ pos 0
-    none = omega (arith, ints)
+scaled-zero d ok z = grind arith
 
 pub sum-zero_first : (a b : Number) → IsDecimal a → IsDecimal b → is_zero a ≡ true → Some b ≡ sum_of a b
 sum-zero_first a b p q z = sym (lone-sum a b p q (scaled-zero a p z))
@@ -168,11 +146,7 @@ signed-sum s = signed-size s
 -- the sum at the smaller exponent, and its decimal
 pub sum-stripped : (a b : Number) (minus : Bool) (n m z : ℕ) → IsDecimal a → IsDecimal b → b.exponent ≤ℤ a.exponent → a.mantissa *ℤ pos (10 ^ surplus a.exponent b.exponent) +ℤ b.mantissa ≡ to_signed minus n
     → IsStripped n m z → 0 < n → z < 99 → decimal_of (record { mantissa = to_signed minus n; exponent = b.exponent }) ≡ sum_of a b
-sum-stripped a b minus n m z p q h is s some few =
-    let exponents = exponents-of b q in
-    ap (λ (d : Number). if is_decimal d then Some d else None) (sym (normal-shift minus n m z b.exponent s some few exponents.0 exponents.1))
-    ∙ ap (λ (x : ℤ). decimal_of (at_scale (x *ℤ pos (10 ^ height b.exponent)))) (sym is)
-    ∙ ap (λ (x : ℤ). decimal_of (at_scale x)) (sym (sum-scaled a b p q h))
+sum-stripped a b minus n m z p q h is s some few = grind (arith, exponents-of, normal-shift, sum-scaled)
 
 pub sum-some : (a b : Number) (minus : Bool) (n : ℕ) → IsDecimal a → IsDecimal b → b.exponent ≤ℤ a.exponent → a.mantissa *ℤ pos (10 ^ surplus a.exponent b.exponent) +ℤ b.mantissa ≡ to_signed minus n
     → 0 < n → n < 10 ^ 39 → decimal_of (record { mantissa = to_signed minus n; exponent = b.exponent }) ≡ sum_of a b
@@ -190,53 +164,10 @@ sum-some a b minus n p q h is some small = by (strip 39 n small some)
 
 -- the last digit of the smaller one stays
 last-digit : (x y : ℤ) → 0 < unsigned_abs y % 10 → 0 < unsigned_abs (x *ℤ pos 10 +ℤ y) % 10
-last-digit x y ends = by (unsigned_abs (x *ℤ pos 10 +ℤ y) % 10) refl
-  where
-    by : (r : ℕ) → unsigned_abs (x *ℤ pos 10 +ℤ y) % 10 ≡ r → 0 < r
-    by (suc r) e = omega arith
-    by zero e = absurd (against (whole e))
-      where
-        q : ℕ
-        q = unsigned_abs (x *ℤ pos 10 +ℤ y) / 10
-
-        whole : unsigned_abs (x *ℤ pos 10 +ℤ y) % 10 ≡ 0 → unsigned_abs (x *ℤ pos 10 +ℤ y) ≡ (unsigned_abs (x *ℤ pos 10 +ℤ y) / 10) * 10
-        whole h = tenfold (unsigned_abs (x *ℤ pos 10 +ℤ y)) h
-          where
-            tenfold : (n : ℕ) → n % 10 ≡ 0 → n ≡ (n / 10) * 10
-            tenfold n h = omega (arith, h)
-
-        against : unsigned_abs (x *ℤ pos 10 +ℤ y) ≡ (unsigned_abs (x *ℤ pos 10 +ℤ y) / 10) * 10 → ⊥
-        against w =
-            let s : x *ℤ pos 10 +ℤ y ≡ to_signed (int_le (x *ℤ pos 10 +ℤ y) (negsuc 0)) q *ℤ pos 10 =
-            sym (signed-size (x *ℤ pos 10 +ℤ y)) ∙ ap (to_signed (int_le (x *ℤ pos 10 +ℤ y) (negsuc 0))) w ∙ sym (signed_times (int_le (x *ℤ pos 10 +ℤ y) (negsuc 0)) q 10) in
-            let y_is : y ≡ (to_signed (int_le (x *ℤ pos 10 +ℤ y) (negsuc 0)) q +ℤ neg_ℤ x) *ℤ pos 10 = other x y (to_signed (int_le (x *ℤ pos 10 +ℤ y) (negsuc 0)) q) s in
-            let size : unsigned_abs y ≡ unsigned_abs (to_signed (int_le (x *ℤ pos 10 +ℤ y) (negsuc 0)) q +ℤ neg_ℤ x) * 10 = ap unsigned_abs y_is ∙ unsigned_abs-mul (to_signed (int_le (x *ℤ pos 10 +ℤ y) (negsuc 0)) q +ℤ neg_ℤ x) (pos 10) in
-            none (unsigned_abs y) (unsigned_abs (to_signed (int_le (x *ℤ pos 10 +ℤ y) (negsuc 0)) q +ℤ neg_ℤ x)) size ends
-          where
-            other : (x y s : ℤ) → x *ℤ pos 10 +ℤ y ≡ s *ℤ pos 10 → y ≡ (s +ℤ neg_ℤ x) *ℤ pos 10
-            other x y s e = sub (x *ℤ pos 10) y (s *ℤ pos 10) e ∙ sym (sum-times s (neg_ℤ x) 10 ∙ ap (λ (z : ℤ). s *ℤ pos 10 +ℤ z) (turned x))
-              where
-                sub : (a y b : ℤ) → a +ℤ y ≡ b → y ≡ b +ℤ neg_ℤ a
-                sub a y b e = omega (arith, ints)
-
-                turned : (x : ℤ) → neg_ℤ x *ℤ pos 10 ≡ neg_ℤ (x *ℤ pos 10)
-                turned x = neg_times x 10
-
-            none : (n k : ℕ) → n ≡ k * 10 → 0 < n % 10 → ⊥
-            none n k e h = omega (arith, e, h)
+last-digit x y ends = grind arith
 
 pub triangle : (x y : ℤ) → unsigned_abs x ≤ unsigned_abs (x +ℤ y) + unsigned_abs y
-triangle x y = by x y (x +ℤ y) refl
-  where
-    by : (x y z : ℤ) → x +ℤ y ≡ z → unsigned_abs x ≤ unsigned_abs z + unsigned_abs y
-    by (pos a) (pos b) (pos c) e = omega (arith, ints)
-    by (pos a) (pos b) (negsuc c) e = omega (arith, ints)
-    by (pos a) (negsuc b) (pos c) e = omega (arith, ints)
-    by (pos a) (negsuc b) (negsuc c) e = omega (arith, ints)
-    by (negsuc a) (pos b) (pos c) e = omega (arith, ints)
-    by (negsuc a) (pos b) (negsuc c) e = omega (arith, ints)
-    by (negsuc a) (negsuc b) (pos c) e = omega (arith, ints)
-    by (negsuc a) (negsuc b) (negsuc c) e = omega (arith, ints)
+triangle x y = grind arith
 
 -- ---- the results of `decimal_of`
 
@@ -259,36 +190,18 @@ decimal-few minus n m z e s some few short =
 -- ---- the results of `sum_at`
 
 whole-number : (n : ℕ) → 0 < n % 10 → IsStripped n n 0
-whole-number n h = record { value = once_nat n; ends = λ _. h }
-  where
-    once_nat : (n : ℕ) → n * 10 ^ 0 ≡ n
-    once_nat n = omega arith
+whole-number n h = grind arith
 
 few-digits : (d : Number) → IsDecimal d → unsigned_abs d.mantissa < 10 ^ 36
 few-digits d ok = ltb-true (unsigned_abs d.mantissa) (10 ^ 36) (first_so (has_few_digits d) (has_small_exponent d && is_normal d) ok)
 
 sum-bound : (x y : ℤ) → unsigned_abs (x +ℤ y) ≤ unsigned_abs x + unsigned_abs y
-sum-bound x y = by x y (x +ℤ y) refl
-  where
-    by : (x y z : ℤ) → x +ℤ y ≡ z → unsigned_abs z ≤ unsigned_abs x + unsigned_abs y
-    by (pos a) (pos b) (pos c) e = omega (arith, ints)
-    by (pos a) (pos b) (negsuc c) e = omega (arith, ints)
-    by (pos a) (negsuc b) (pos c) e = omega (arith, ints)
-    by (pos a) (negsuc b) (negsuc c) e = omega (arith, ints)
-    by (negsuc a) (pos b) (pos c) e = omega (arith, ints)
-    by (negsuc a) (pos b) (negsuc c) e = omega (arith, ints)
-    by (negsuc a) (negsuc b) (pos c) e = omega (arith, ints)
-    by (negsuc a) (negsuc b) (negsuc c) e = omega (arith, ints)
+sum-bound x y = grind arith
 
 -- a sum that is too large in magnitude: zeros are appended to one of both, because two mantissas together do not reach it
 pub sum-far : (a b : Number) (places : ℕ) → IsDecimal a → IsDecimal b → b.exponent ≤ℤ a.exponent → is_zero b ≡ false
     → places ≡ unsigned_abs (a.exponent -ℤ b.exponent) → 2 * 10 ^ 36 ≤ unsigned_abs (a.mantissa *ℤ pos (10 ^ places) +ℤ b.mantissa) → None ≡ sum_of a b
-sum-far a b zero p q h y e far =
-    let both = sum-bound (a.mantissa *ℤ pos (10 ^ 0)) b.mantissa in
-    let size : unsigned_abs (a.mantissa *ℤ pos (10 ^ 0)) ≡ unsigned_abs a.mantissa * 10 ^ 0 = unsigned_abs-mul a.mantissa (pos (10 ^ 0)) in
-    let left = few-digits a p in
-    let right = few-digits b q in
-    absurd (omega (arith, both, size, left, right, far))
+sum-far a b zero p q h y e far = grind (arith, sum-bound, unsigned_abs-mul, few-digits, arith)
 sum-far a b (suc j) p q h y e far =
     decimal-many minus n n 0 b.exponent stripped some (omega arith) (omega (arith, far)) ∙ sum-stripped a b minus n n 0 p q h total stripped some (omega arith)
   where
@@ -325,21 +238,11 @@ pub beside-sum : (a b : Number) (places : ℕ) (s x y : ℤ) → b.exponent ≤�
 beside-sum a b places s x y h e left right is = (λ i. (sym left i *ℤ pos (10 ^ (surplus-up a.exponent b.exponent h ∙ sym e) i)) +ℤ sym right i) ∙ sym is
 
 pub exponent-small : (d : Number) → IsDecimal d → unsigned_abs d.exponent ≤ 500
-exponent-small d ok = by d.exponent (exponents-of d ok).0 (exponents-of d ok).1
-  where
-    by : (e : ℤ) → int_le (negsuc 499) e ≡ true → int_le e (pos 500) ≡ true → unsigned_abs e ≤ 500
-    by (pos n) h k = leb-true n 500 k
-    by (negsuc n) h k = let l : n ≤ 499 = leb-true n 499 h in omega arith
+exponent-small d ok = grind arith
 
 pub size-positive : (s : ℤ) → (s ≡ pos 0 → ⊥) → 0 < unsigned_abs s
-size-positive (pos zero) h = absurd (h refl)
-size-positive (pos (suc n)) h = omega arith
-size-positive (negsuc n) h = omega arith
+size-positive v0 h = grind arith
 
 -- a number from its sign and its absolute value
 pub signed-below : (s : ℤ) → s ≡ to_signed (int_lt s (pos 0)) (unsigned_abs s)
-signed-below (pos n) = sym (ap (λ (b : Bool). to_signed b n) (no_less n))
-  where
-    no_less : (n : ℕ) → nat_lt n 0 ≡ false
-    no_less n = grind (arith, nat_tests)
-signed-below (negsuc n) = refl
+signed-below v0 = grind arith

@@ -1,4 +1,5 @@
 -- Tables compared with definitions at each index, by computation.
+use Rattle.std.proofs.Common.{rules}
 use Rattle.std.proofs.Common.{◌≡◌, ℕ, zero, suc, ◌<◌, Bool, true, false, ◌&&◌, not, nat_eq, get_or, List, refl, arith, inl, inr}
 use Rattle.std.specs.Bool.{beq}
 use Rattle.std.proofs.lemmas.Bool.{cases_eq}
@@ -9,8 +10,7 @@ holds_below test zero = true
 holds_below test (suc n) = test n && holds_below test n
 
 both-of : (x rest : Bool) → (x && rest) ≡ true → (x ≡ true) × (rest ≡ true)
-both-of true rest h = (refl, h)
-both-of false rest h = cc
+both-of v0 rest h = grind arith
 
 pub holds-at : (test : ℕ → Bool) (n : ℕ) → holds_below test n ≡ true → (k : ℕ) → k < n → test k ≡ true
 unfolding holds_below

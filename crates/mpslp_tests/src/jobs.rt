@@ -2,7 +2,7 @@
 
 use crate::answers::{MUCH, SMALL, SMALL_CANONICAL, SMALL_CANONICAL_LP, SMALL_LP};
 use mpslp_convert::{Form, Job, JobFault, Word, perform};
-use mpslp_model::{FromRead, ToWrite};
+use mpslp_model::{FIXED_SEED, FromRead, ToWrite};
 use mpslp_vectors::{FailingReader, FailingWriter};
 use std::alloc::{AllocError, Global};
 use std::test::Fail;
@@ -86,6 +86,7 @@ fn performed(alloc: Global, job: &Result<Job, JobFault>, first: &str, second: &s
     let mut err = Vec::new(alloc);
     let status = perform(
         alloc,
+        FIXED_SEED,
         MUCH,
         job,
         &mut FromRead::new(first.as_bytes()),
@@ -268,6 +269,7 @@ fn ends_with_room(alloc: Global, room: usize, wanted: u8, line: &str) -> Result<
     let mut err = Vec::new(alloc);
     let status = perform(
         alloc,
+        FIXED_SEED,
         MUCH,
         &same(alloc, Form::Mps, Form::Mps),
         &mut FromRead::new(SMALL.as_bytes()),
@@ -298,6 +300,7 @@ fn ended_with_error_room(alloc: Global, room: usize) -> Result<(u8, usize, bool)
     let mut err = FailingWriter::new(alloc, room)?;
     let status = perform(
         alloc,
+        FIXED_SEED,
         MUCH,
         &same(alloc, Form::Mps, Form::Mps),
         &mut FromRead::new(b"ROWS\n".as_slice()),
@@ -324,6 +327,7 @@ fn ended_without_second(alloc: Global, wanted: &str) -> (u8, bool, bool) {
     let mut err = Vec::new(alloc);
     let status = perform(
         alloc,
+        FIXED_SEED,
         MUCH,
         &same(alloc, Form::Mps, Form::Mps),
         &mut FromRead::new(SMALL.as_bytes()),

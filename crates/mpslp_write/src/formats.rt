@@ -14,7 +14,7 @@ ghost use Rattle.mpslp_canonical_lp.proofs.LpFormat as lp_laws;
 use crate::lp::{first_unfit_name, write_lp};
 use crate::readers::{LpFormatReader, MpsFormatReader};
 use mpslp_lp::read_lp;
-use mpslp_model::{Format, Model, ReadFault, Sink, WriteFault};
+use mpslp_model::{Format, HashSeed, Model, ReadFault, Sink, WriteFault};
 use mpslp_mps::read_mps;
 use mpslp_write_mps::write_mps;
 use std::alloc::{AllocError, Global};
@@ -36,8 +36,8 @@ impl Format for Mps {
 
     type Reader = MpsFormatReader;
 
-    fn read(alloc: Global, bytes: &[u8]) -> Result<Model, ReadFault> {
-        read_mps(alloc, bytes)
+    fn read(alloc: Global, seed: HashSeed, bytes: &[u8]) -> Result<Model, ReadFault> {
+        read_mps(alloc, seed, bytes)
     }
 
     fn expressible(model: &Model) -> bool {
@@ -86,8 +86,8 @@ impl Format for Lp {
 
     type Reader = LpFormatReader;
 
-    fn read(alloc: Global, bytes: &[u8]) -> Result<Model, ReadFault> {
-        read_lp(alloc, bytes)
+    fn read(alloc: Global, seed: HashSeed, bytes: &[u8]) -> Result<Model, ReadFault> {
+        read_lp(alloc, seed, bytes)
     }
 
     fn expressible(model: &Model) -> bool {

@@ -4,7 +4,7 @@
 //! (see docs/DECISIONS.md). So each format has a type of its own around its reader.
 
 use mpslp_lp::LpReader;
-use mpslp_model::{Model, ModelReader, ReadFault};
+use mpslp_model::{HashSeed, Model, ModelReader, ReadFault};
 use mpslp_mps::MpsReader;
 use std::alloc::Global;
 
@@ -32,9 +32,9 @@ impl ModelReader for MpsFormatReader {
 
     ghost early_fault = { IsFaultOfComplete IsFaultOfLines };
 
-    fn new(alloc: Global) -> MpsFormatReader {
+    fn new(alloc: Global, seed: HashSeed) -> MpsFormatReader {
         MpsFormatReader {
-            reader: MpsReader::new(alloc),
+            reader: MpsReader::new(alloc, seed),
         }
     }
 
@@ -83,9 +83,9 @@ impl ModelReader for LpFormatReader {
 
     ghost early_fault = { IsFaultOfComplete IsFaultOfLines };
 
-    fn new(alloc: Global) -> LpFormatReader {
+    fn new(alloc: Global, seed: HashSeed) -> LpFormatReader {
         LpFormatReader {
-            reader: LpReader::new(alloc),
+            reader: LpReader::new(alloc, seed),
         }
     }
 

@@ -2,7 +2,7 @@
 
 use mpslp_convert::{ConvertFault, Form, RunFault};
 use mpslp_lp::read_lp;
-use mpslp_model::{Model, ReadFault};
+use mpslp_model::{FIXED_SEED, Model, ReadFault};
 use mpslp_mps::read_mps;
 use std::alloc::Global;
 use std::io::Read;
@@ -29,8 +29,8 @@ pub(crate) fn content<R: Files>(rt: &R, alloc: Global, path: &str) -> io::Result
 /// The model of a text that is read as a whole.
 pub(crate) fn model_in(alloc: Global, form: Form, text: &[u8]) -> Result<Model, ReadFault> {
     match form {
-        Form::Mps => read_mps(alloc, text),
-        Form::Lp => read_lp(alloc, text),
+        Form::Mps => read_mps(alloc, FIXED_SEED, text),
+        Form::Lp => read_lp(alloc, FIXED_SEED, text),
     }
 }
 

@@ -3,7 +3,7 @@
 use super::calls::{built, named};
 use super::{WITH_ROWS, first_absent, text_of_finished};
 use crate::texts::number;
-use mpslp_builder::{Builder, Entries, Entry};
+use mpslp_builder::{Builder, Entries, Entry, ReaderBuilder};
 use mpslp_types::BuildFault;
 use std::alloc::Global;
 use std::test::Fail;
@@ -33,7 +33,7 @@ fn entries_of(text: &str) -> Entries<'_> {
 
 /// Declares a line of the column of a text such as `first x` or `next x marked`. Whether it is taken.
 fn declare(
-    builder: &mut Builder,
+    builder: &mut ReaderBuilder,
     alloc: Global,
     column: &str,
     entries: &Entries<'_>,
@@ -50,7 +50,11 @@ fn declare(
 }
 
 /// Declares the line before the arrow. Whether it is taken.
-fn declare_line(builder: &mut Builder, alloc: Global, line: &str) -> Result<bool, BuildFault> {
+fn declare_line(
+    builder: &mut ReaderBuilder,
+    alloc: Global,
+    line: &str,
+) -> Result<bool, BuildFault> {
     let (column, entries) = line.split_once(": ").unwrap_or((line, ""));
     let Entries { first, second } = entries_of(entries);
     declare(builder, alloc, column, &Entries { first, second })
@@ -70,7 +74,7 @@ next y marked: s 7, f 8 => taken
 next y marked: s 7, f 8 => not taken";
 
 /// Declares the line before the arrow. Whether it is taken or not, as after the arrow.
-fn is_right(builder: &mut Builder, alloc: Global, line: &str) -> Result<bool, BuildFault> {
+fn is_right(builder: &mut ReaderBuilder, alloc: Global, line: &str) -> Result<bool, BuildFault> {
     let (line, expected) = line.split_once(" => ").unwrap_or((line, ""));
     let is_taken = declare_line(builder, alloc, line)?;
     let answer = if is_taken { "taken" } else { "not taken" };
@@ -79,7 +83,7 @@ fn is_right(builder: &mut Builder, alloc: Global, line: &str) -> Result<bool, Bu
 
 /// The first line with another result.
 fn first_wrong<'a>(
-    builder: &mut Builder,
+    builder: &mut ReaderBuilder,
     alloc: Global,
     lines: &'a str,
 ) -> Result<Option<&'a str>, BuildFault> {
@@ -93,9 +97,10 @@ fn first_wrong<'a>(
 
 /// A builder after these lines, and the first of them with another result, after which none is declared.
 fn with_lines<'a>(alloc: Global, lines: &'a str) -> Result<(Builder, Option<&'a str>), BuildFault> {
-    let mut builder = built(alloc, WITH_ROWS)?;
+    let draft = built(alloc, WITH_ROWS)?;
+    let mut builder = ReaderBuilder { draft };
     let wrong = first_wrong(&mut builder, alloc, lines)?;
-    Ok((builder, wrong))
+    Ok((builder.draft, wrong))
 }
 
 /// The first line of one builder with another result, and the accessors' results after the lines up to it.

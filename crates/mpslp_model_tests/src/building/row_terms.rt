@@ -3,9 +3,9 @@
 use super::calls::{built, named};
 use super::{WITH_ROWS, first_absent, has_line, text_of_finished};
 use crate::texts::number;
-use mpslp_builder::{Builder, RowTerms};
-use mpslp_types::BuildFault;
+use mpslp_builder::{ReaderBuilder, RowTerms};
 use mpslp_types::laws::each_name_is_legal;
+use mpslp_types::{BuildFault, FIXED_SEED};
 use std::alloc::Global;
 use std::test::Fail;
 
@@ -31,7 +31,7 @@ fn add(alloc: Global, terms: &mut RowTerms, term: &str) -> Result<bool, BuildFau
 
 /// Whether the column of each of these terms is new among those before it.
 fn are_new(alloc: Global, terms: &str) -> Result<bool, BuildFault> {
-    let mut kept = RowTerms::new(alloc);
+    let mut kept = RowTerms::new(alloc, FIXED_SEED);
     for term in terms.lines() {
         if !add(alloc, &mut kept, term)? {
             return Ok(false);
@@ -50,7 +50,7 @@ fn add_all(alloc: Global, kept: &mut RowTerms, terms: &str) -> Result<(), BuildF
 
 /// These terms, added after another one was cleared.
 fn terms_of(alloc: Global, terms: &str) -> Result<RowTerms, BuildFault> {
-    let mut kept = RowTerms::new(alloc);
+    let mut kept = RowTerms::new(alloc, FIXED_SEED);
     add(alloc, &mut kept, "x 7")?;
     kept.clear();
     add_all(alloc, &mut kept, terms)?;
@@ -58,14 +58,19 @@ fn terms_of(alloc: Global, terms: &str) -> Result<RowTerms, BuildFault> {
 }
 
 /// Declares these terms of a row by one call.
-fn declare(alloc: Global, builder: &mut Builder, row: &str, terms: &str) -> Result<(), BuildFault> {
+fn declare(
+    alloc: Global,
+    builder: &mut ReaderBuilder,
+    row: &str,
+    terms: &str,
+) -> Result<(), BuildFault> {
     builder.row_terms(row.as_bytes(), &terms_of(alloc, terms)?)
 }
 
 /// Declares a term of a row.
 fn declare_one(
     alloc: Global,
-    builder: &mut Builder,
+    builder: &mut ReaderBuilder,
     row: &str,
     term: &str,
 ) -> Result<(), BuildFault> {
@@ -76,20 +81,21 @@ fn declare_one(
 }
 
 /// A builder with the objective f, the rows r and s, and these terms of r.
-fn with_terms(alloc: Global, terms: &str) -> Result<Builder, BuildFault> {
-    let mut builder = built(alloc, WITH_ROWS)?;
+fn with_terms(alloc: Global, terms: &str) -> Result<ReaderBuilder, BuildFault> {
+    let draft = built(alloc, WITH_ROWS)?;
+    let mut builder = ReaderBuilder { draft };
     declare(alloc, &mut builder, "r", terms)?;
     Ok(builder)
 }
 
 /// Declares a term of s and one of the objective.
-fn declare_others(alloc: Global, builder: &mut Builder) -> Result<(), BuildFault> {
+fn declare_others(alloc: Global, builder: &mut ReaderBuilder) -> Result<(), BuildFault> {
     declare_one(alloc, builder, "s", "e 5")?;
     declare_one(alloc, builder, "f", "a 6")
 }
 
 /// The builder after these terms of r and some others.
-fn with_all_terms(alloc: Global, terms: &str) -> Result<Builder, BuildFault> {
+fn with_all_terms(alloc: Global, terms: &str) -> Result<ReaderBuilder, BuildFault> {
     let mut builder = with_terms(alloc, terms)?;
     declare_others(alloc, &mut builder)?;
     Ok(builder)
@@ -98,7 +104,7 @@ fn with_all_terms(alloc: Global, terms: &str) -> Result<Builder, BuildFault> {
 /// The accessors' results after these terms of r and some others.
 fn views_of_terms(alloc: Global, terms: &str) -> Result<Vec<u8>, BuildFault> {
     let builder = with_all_terms(alloc, terms)?;
-    Ok(text_of_finished(alloc, builder)?)
+    Ok(text_of_finished(alloc, builder.draft)?)
 }
 
 /// Lines of the model.
@@ -128,14 +134,14 @@ fn finds_columns_twice_in_a_row(rt: HostRuntime) -> Result<(), Fail> {
 }
 
 /// Whether a builder rejects a second term of r, and a term of no row.
-fn refuses_one(alloc: Global, builder: &mut Builder) -> bool {
+fn refuses_one(alloc: Global, builder: &mut ReaderBuilder) -> bool {
     let second = declare_one(alloc, builder, "r", "c 1");
     let unknown = declare_one(alloc, builder, "q", "c 1");
     second == Err(BuildFault::DuplicateEntry) && unknown == Err(BuildFault::UnknownRow)
 }
 
 /// Whether a builder rejects these terms of r once more, and of no row, but not that no row has no terms.
-fn refuses_all(alloc: Global, builder: &mut Builder, terms: &str) -> bool {
+fn refuses_all(alloc: Global, builder: &mut ReaderBuilder, terms: &str) -> bool {
     let second = declare(alloc, builder, "r", terms);
     let unknown = declare(alloc, builder, "q", terms);
     let none = declare(alloc, builder, "q", "");

@@ -8,7 +8,7 @@ use crate::refused::answers::{Answer, put, roomy};
 use crate::refused::refusing::{refuse, refuse_none};
 use mpslp_convert::{RunFault, report};
 use mpslp_decimal::Decimal;
-use mpslp_model::{BuildFault, Builder, Limit, Model, Name, ReadFault, RowType, Sense};
+use mpslp_model::{BuildFault, Builder, FIXED_SEED, Limit, Model, Name, ReadFault, RowType, Sense};
 use mpslp_vectors::FailingWriter;
 use mpslp_write::write_mps;
 use std::alloc::{AllocError, Global};
@@ -240,7 +240,7 @@ fn put_finished(out: &mut FailingWriter, answer: Result<Model, ReadFault>) -> bo
 /// The results of a builder's calls, one per line, and then the model that they declare.
 pub(crate) fn built(alloc: Global, calls: &str, growth: u32) -> Result<Answer, AllocError> {
     let mut out = roomy(alloc)?;
-    let mut builder = Builder::new(alloc);
+    let mut builder = Builder::new(alloc, FIXED_SEED);
     let mut is_out_of_memory = false;
     refuse(alloc, growth);
     for call in calls.lines() {

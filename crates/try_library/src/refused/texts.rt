@@ -6,7 +6,7 @@ use mpslp_convert::{
     Form, Job, JobFault, Word, canonical, is_canonical, load, perform, run, same_model, show,
 };
 use mpslp_io::Sink;
-use mpslp_model::{Format, Model, ModelReader, ReadFault};
+use mpslp_model::{FIXED_SEED, Format, Model, ModelReader, ReadFault};
 use mpslp_vectors::FailingReader;
 use mpslp_write::{Lp, Mps};
 use std::alloc::{AllocError, Global};
@@ -70,7 +70,7 @@ impl Text<'_> {
 
 fn read<A: Format>(alloc: Global, text: &[u8], growth: u32) -> Result<Answer, AllocError> {
     refuse(alloc, growth);
-    let answer = A::read(alloc, text);
+    let answer = A::read(alloc, FIXED_SEED, text);
     refuse_none(alloc);
     Answer::of_model(alloc, answer)
 }
@@ -81,7 +81,7 @@ fn fed<P: ModelReader>(
     text: &[u8],
     growth: u32,
 ) -> (Result<Model, ReadFault>, bool) {
-    let mut reader = P::new(alloc);
+    let mut reader = P::new(alloc, FIXED_SEED);
     refuse(alloc, growth);
     for piece in text.chunks(PIECE) {
         if let Err(fault) = reader.feed(piece) {
@@ -107,7 +107,7 @@ fn feed<A: Format>(alloc: Global, text: &[u8], growth: u32) -> Result<Answer, Al
 
 fn canonical_text<A: Format, B: Format>(alloc: Global, text: &[u8], growth: u32) -> Answer {
     refuse(alloc, growth);
-    let answer = canonical::<A, B>(alloc, text);
+    let answer = canonical::<A, B>(alloc, FIXED_SEED, text);
     refuse_none(alloc);
     Answer::of_conversion(alloc, answer)
 }
@@ -119,14 +119,14 @@ fn same<A: Format, B: Format>(
     growth: u32,
 ) -> Result<Answer, AllocError> {
     refuse(alloc, growth);
-    let answer = same_model::<A, B>(alloc, first, second);
+    let answer = same_model::<A, B>(alloc, FIXED_SEED, first, second);
     refuse_none(alloc);
     Answer::of_test(alloc, answer)
 }
 
 fn is_own_text<A: Format>(alloc: Global, text: &[u8], growth: u32) -> Result<Answer, AllocError> {
     refuse(alloc, growth);
-    let answer = is_canonical::<A>(alloc, text);
+    let answer = is_canonical::<A>(alloc, FIXED_SEED, text);
     refuse_none(alloc);
     Answer::of_test(alloc, answer)
 }
@@ -147,7 +147,7 @@ fn ran<A: Format, B: Format>(
     let mut source = text.source();
     let mut sink = roomy(alloc)?;
     refuse(alloc, growth);
-    let answer = run::<A, B, _, _>(alloc, MUCH, &mut source, &mut sink);
+    let answer = run::<A, B, _, _>(alloc, FIXED_SEED, MUCH, &mut source, &mut sink);
     refuse_none(alloc);
     Answer::of_run(alloc, answer, &sink)
 }
@@ -156,7 +156,7 @@ fn shown<A: Format>(alloc: Global, text: &Text<'_>, growth: u32) -> Result<Answe
     let mut source = text.source();
     let mut sink = roomy(alloc)?;
     refuse(alloc, growth);
-    let answer = show::<A, _, _>(alloc, MUCH, &mut source, &mut sink);
+    let answer = show::<A, _, _>(alloc, FIXED_SEED, MUCH, &mut source, &mut sink);
     refuse_none(alloc);
     Answer::of_run(alloc, answer, &sink)
 }
@@ -176,6 +176,7 @@ fn performed(
     refuse(alloc, growth);
     let status = perform(
         alloc,
+        FIXED_SEED,
         MUCH,
         job,
         &mut first,

@@ -4,7 +4,7 @@ use crate::inputs::{fault_of_run, model_in};
 use mpslp_convert::{
     ConvertFault, Form, RunFault, canonical, is_canonical, report, run, same_model, show,
 };
-use mpslp_model::{Format, Model, ModelReader, ReadFault, Sink, Source, ToWrite};
+use mpslp_model::{FIXED_SEED, Format, Model, ModelReader, ReadFault, Sink, Source, ToWrite};
 use mpslp_vectors::FailingReader;
 use mpslp_write::{Lp, Mps};
 use std::alloc::Global;
@@ -47,7 +47,7 @@ pub(crate) fn line_of(alloc: Global, fault: ConvertFault) -> Answer {
 }
 
 fn canonical_of<A: Format, B: Format>(alloc: Global, text: &[u8]) -> Answer {
-    match canonical::<A, B>(alloc, text) {
+    match canonical::<A, B>(alloc, FIXED_SEED, text) {
         Ok(text) => Answer {
             is_fault: false,
             text,
@@ -73,8 +73,8 @@ pub(crate) fn is_canonical_in(
     text: &[u8],
 ) -> Result<bool, ConvertFault> {
     match form {
-        Form::Mps => is_canonical::<Mps>(alloc, text),
-        Form::Lp => is_canonical::<Lp>(alloc, text),
+        Form::Mps => is_canonical::<Mps>(alloc, FIXED_SEED, text),
+        Form::Lp => is_canonical::<Lp>(alloc, FIXED_SEED, text),
     }
 }
 
@@ -87,10 +87,10 @@ pub(crate) fn same_in(
     second: &[u8],
 ) -> Result<bool, ConvertFault> {
     match (first_form, second_form) {
-        (Form::Mps, Form::Mps) => same_model::<Mps, Mps>(alloc, first, second),
-        (Form::Mps, Form::Lp) => same_model::<Mps, Lp>(alloc, first, second),
-        (Form::Lp, Form::Mps) => same_model::<Lp, Mps>(alloc, first, second),
-        (Form::Lp, Form::Lp) => same_model::<Lp, Lp>(alloc, first, second),
+        (Form::Mps, Form::Mps) => same_model::<Mps, Mps>(alloc, FIXED_SEED, first, second),
+        (Form::Mps, Form::Lp) => same_model::<Mps, Lp>(alloc, FIXED_SEED, first, second),
+        (Form::Lp, Form::Mps) => same_model::<Lp, Mps>(alloc, FIXED_SEED, first, second),
+        (Form::Lp, Form::Lp) => same_model::<Lp, Lp>(alloc, FIXED_SEED, first, second),
     }
 }
 
@@ -104,10 +104,10 @@ pub(crate) fn run_in<R: Source, W: Sink>(
     sink: &mut W,
 ) -> Result<(), RunFault> {
     match (from, to) {
-        (Form::Mps, Form::Mps) => run::<Mps, Mps, R, W>(alloc, max_bytes, source, sink),
-        (Form::Mps, Form::Lp) => run::<Mps, Lp, R, W>(alloc, max_bytes, source, sink),
-        (Form::Lp, Form::Mps) => run::<Lp, Mps, R, W>(alloc, max_bytes, source, sink),
-        (Form::Lp, Form::Lp) => run::<Lp, Lp, R, W>(alloc, max_bytes, source, sink),
+        (Form::Mps, Form::Mps) => run::<Mps, Mps, R, W>(alloc, FIXED_SEED, max_bytes, source, sink),
+        (Form::Mps, Form::Lp) => run::<Mps, Lp, R, W>(alloc, FIXED_SEED, max_bytes, source, sink),
+        (Form::Lp, Form::Mps) => run::<Lp, Mps, R, W>(alloc, FIXED_SEED, max_bytes, source, sink),
+        (Form::Lp, Form::Lp) => run::<Lp, Lp, R, W>(alloc, FIXED_SEED, max_bytes, source, sink),
     }
 }
 
@@ -119,8 +119,8 @@ pub(crate) fn show_in<R: Source, W: Sink>(
     sink: &mut W,
 ) -> Result<(), RunFault> {
     match from {
-        Form::Mps => show::<Mps, R, W>(alloc, MUCH, source, sink),
-        Form::Lp => show::<Lp, R, W>(alloc, MUCH, source, sink),
+        Form::Mps => show::<Mps, R, W>(alloc, FIXED_SEED, MUCH, source, sink),
+        Form::Lp => show::<Lp, R, W>(alloc, FIXED_SEED, MUCH, source, sink),
     }
 }
 
@@ -149,7 +149,7 @@ pub(crate) fn shown_of(alloc: Global, from: Form, text: &[u8], piece: usize) -> 
 
 /// The model of a text whose reader is fed in two pieces.
 fn fed<A: Format>(alloc: Global, first: &[u8], second: &[u8]) -> Result<Model, ReadFault> {
-    let mut reader = <A::Reader as ModelReader>::new(alloc);
+    let mut reader = <A::Reader as ModelReader>::new(alloc, FIXED_SEED);
     reader.feed(first)?;
     reader.feed(second)?;
     reader.finish()
