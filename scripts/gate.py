@@ -47,11 +47,17 @@ class Test:
     words: tuple[str, ...]
     folder: Path = ROOT
     needs: frozenset[str] = frozenset()
+    # A test that has to end before, whose results it uses.
+    after: str | None = None
 
+
+# What the documents and the tests of the tools need of the Python package: the environment in which it was tested.
+CALLERS = "C library and Python package"
+PACKAGE = ROOT / "build" / "python" / "bin"
 
 # The longest first. It takes minutes on one processor, so it begins before `rt ci` has ended.
 TESTS = (
-    Test("C library and Python package", ("sh", "tests/callers.sh"), needs=frozenset({PROGRAM, "mpslp_c"})),
+    Test(CALLERS, ("sh", "tests/callers.sh"), needs=frozenset({PROGRAM, "mpslp_c"})),
     Test("program on vectors/", ("python3", "tests/vectors.py")),
     Test("library on vectors/", ("../crates/try_library/out/try_library", "vectors"), ROOT / "vectors"),
     Test("refused memory", ("python3", "tests/refused.py")),
@@ -59,10 +65,16 @@ TESTS = (
     Test("make and make run", ("python3", "tests/commands_check.py")),
     Test("mutants in one check", ("python3", "tests/mutants_check.py")),
     Test("a large file", ("python3", "tests/large_file.py")),
-    Test("documents", ("python3", "tests/docs_check.py")),
+    Test("documents", ("python3", "tests/docs_check.py"), after=CALLERS),
     Test("random models in other dialects", ("python3", "tests/adapt_random.py", "--models", "300")),
+    Test("glued and damaged LP files", ("python3", "tests/adapt_glued.py", "--files", "600")),
+    Test("what installed programs write", ("python3", "tests/adapt_writers.py", "--models", "20")),
     Test("rules for other dialects", ("python3", "tests/adapt_rules.py", "--wrong")),
+    Test("solvers", ("python3", "tests/solvers.py")),
+    Test("names that collide", ("python3", "bench/growth.py", "--names", "8000"), after=CALLERS),
     Test("what other programs read otherwise", ("python3", "tests/portable_rules.py", "--wrong")),
+    Test("texts for solvers", ("python3", "tests/solver_texts.py", "--gate")),
+    Test("warnings", ("python3", "tests/warning_rules.py", "--wrong")),
     Test("digests of canonical texts", ("python3", "tests/digests.py")),
     Test("program on files", ("python3", "tests/program.py")),
     Test("library on standard input", ("python3", "tests/library.py")),
@@ -74,8 +86,10 @@ TESTS_PROVED = re.compile(r"rt: (\w+): its tests are proved$")
 KEPT = re.compile(r"rt: (\w+) is kept:")
 FAILURE = re.compile(r"^fn \S+: (?:not proved|no proof)|NOT PROVED|FAILED|\berror\b|^rt: .*(?:failed|refuse)")
 CLOSING = re.compile(r"(\d+) passed, (\d+) failed$")
-# A script that skips a test because a tool is missing reports it with this prefix.
+# A script that skips a test because a tool is missing reports it with this prefix. Whatever Debian has is installed by .ci/run, so the
+# test has failed then. The others are named at the end.
 SKIPPED = "skipped: "
+NOT_IN_DEBIAN = ("highspy",)
 
 
 # What a script or the mutants of a crate came to.
@@ -217,7 +231,13 @@ def run_test(test: Test) -> tuple[int, float, Path]:
     begun = time.monotonic()
     with log.open("wb") as output:
         status = subprocess.run(
-            test.words, cwd=test.folder, stdin=subprocess.DEVNULL, stdout=output, stderr=subprocess.STDOUT, check=False
+            test.words,
+            cwd=test.folder,
+            stdin=subprocess.DEVNULL,
+            stdout=output,
+            stderr=subprocess.STDOUT,
+            env={**os.environ, "PATH": f"{PACKAGE}:{os.environ['PATH']}"} if test.after == CALLERS else None,
+            check=False,
         ).returncode
     return status, time.monotonic() - begun, log
 
@@ -236,14 +256,18 @@ class Tally:
 
 def report_test(report: Report, test: Test, status: int, seconds: float, log: Path) -> Tally:
     lines = log.read_text(errors="replace").splitlines()
+    skipped = [line.removeprefix(SKIPPED) for line in lines if line.startswith(SKIPPED)]
+    excused = tuple(line for line in skipped if any(f"{name} is missing" in line for name in NOT_IN_DEBIAN))
+    for line in (it for it in skipped if it not in excused):
+        report.say(f"{test.name}: FAILED, since a test was skipped: {line}")
     if status:
         report.say(f"{test.name}: FAILED in {seconds:.0f} s; the last lines of {log.relative_to(ROOT)}:")
         for line in lines[-15:]:
             print(f"    {line[:300]}", flush=True)
     else:
         report.say(f"{test.name}: passed in {seconds:.0f} s{': ' + lines[-1][:100] if lines else ''}")
-    skipped = tuple(line.removeprefix(SKIPPED) for line in lines if line.startswith(SKIPPED))
-    return Tally(int(not status), int(bool(status)), skipped)
+    has_failed = bool(status) or len(skipped) > len(excused)
+    return Tally(int(not has_failed), int(has_failed), tuple(f"{line} (it is not in Debian)" for line in excused))
 
 
 def report_mutants(report: Report, outcome: Outcome) -> Tally:
@@ -266,6 +290,10 @@ class Job:
     """The mutants of a crate, or a script."""
 
     of: Crate | Test
+
+    @property
+    def after(self) -> str | None:
+        return self.of.after if isinstance(self.of, Test) else None
 
     def is_ready(self, ci: Ci, proved: list[Crate]) -> bool:
         """Whether `rt ci` has built what the job needs: all of it, or what these crates are that it has proved. Mutants need the
@@ -301,6 +329,7 @@ class Gate:
         self.report, self.crates = report, crates_of_repository()
         self.ci, self.waiting, self.tally = Ci.RUNNING, all_jobs(self.crates), Tally()
         self.proved: set[str] = set()
+        self.ended: set[str] = set()
         self.turns = Turns()
 
     def run(self) -> Tally:
@@ -312,6 +341,7 @@ class Gate:
                 for it in wait(running, timeout=SECONDS_BETWEEN_LOOKS, return_when=FIRST_COMPLETED).done:
                     if job := running.pop(it):
                         self.tally += job.report(self.report, it.result())
+                        self.ended.add(job.of.name)
                     else:
                         self.end_ci(*it.result())
                 # Last, so that the loop goes on where `rt ci` ended while nothing ran beside it.
@@ -322,7 +352,8 @@ class Gate:
         """Starts the jobs that can run now."""
         room = self.room() - sum(job is not None for job in running.values())
         proved = [crate for name, crate in self.crates.items() if name in self.proved]
-        for job in [it for it in self.waiting if it.is_ready(self.ci, proved)][: max(0, room)]:
+        ready = [it for it in self.waiting if it.is_ready(self.ci, proved) and it.after in {None, *self.ended}]
+        for job in ready[: max(0, room)]:
             self.waiting.remove(job)
             running[pool.submit(job.run, self.crates, self.turns)] = job
 

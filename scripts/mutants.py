@@ -10,9 +10,13 @@ as rejected only if the prover rejects the function that it changes for itself, 
 not proved, and if it rejects no function for itself that no mutant changes. Mutants that remain are checked together again,
 without those that were rejected, and at last one at a time.
 
+A function that is rejected only because its proof names a goal or a value which the edit took away, and of which no goal stays open, is
+rejected whatever the contract says. Such an edit does not count: it is a BAD EDIT, as is one that the prover cannot read or compile.
+Change a value in it, and keep the names.
+
 Other mutants, of definitions, invariants and constants, are checked one at a time. The line `function:` of such an edit names a
 function that the prover then rejects. Without that line, or if the function is not rejected, the whole crate is checked. At last
-all functions that were asked for are checked in the same way without any mutant, and none may be rejected.
+each check that rejected a mutant is made again without mutants, and may reject none of the functions that it was asked for.
 
 The libraries below the crates have to be proved and built, as `make` leaves them. One line is printed for each crate.
 """
@@ -48,6 +52,10 @@ PROOF = re.compile(r"`Rattle\.\w+\.proofs\.(\S+)\.(?:Answers|Invariants|Proof)\.
 # What the prover says of a text that it cannot read. A mutant is a statement that reads well and is false.
 UNREADABLE = re.compile(r"is not in scope|has no field|is no name|operand is missing|expected the end|cannot continue")
 
+# What it says of a proof that names what an edit took away, and of a text that does not compile.
+GONE = re.compile(r"has no field|is not in scope|has no `|was not admitted")
+NOT_COMPILED = re.compile(r"\berror\[[\w-]+\]")
+OF_A_PROOF = re.compile(r"(?:\./)?proofs/(\S+)/(?:Answers|Invariants|Proof)\.antt:\d+:\d+: error: (.*)")
 # Where in the code the prover has not found a proof that it looks for itself.
 OPEN_GOAL = re.compile(r"note: (?:\./)?(src/\S+?):(\d+):\d+: it is not proved that ")
 # A function whose proof is right, with or without holes in the proofs of the functions that it calls.
@@ -222,12 +230,31 @@ def batch_of(mutants: list[tuple[Mutant, Body]]) -> list[tuple[Mutant, Body]]:
 
 
 def unreadable(lines: list[str]) -> str | None:
-    """The line, if any, in which the prover says that it cannot read a text of the code or of its definitions."""
+    """The line, if any, in which the prover says that it cannot read or compile a text of the code or of its definitions."""
     for line in lines:
-        place = re.match(r"(?:\./)?((?:src|specs)/\S+?):\d+:\d+: error: (.*)", line)
-        if place and UNREADABLE.search(re.sub(r"`[^`]*`", "", place[2])):
+        place = re.match(r"(?:\./)?((?:src|specs)/\S+?):\d+:\d+: error: (?:(`[^`]*`): )?(.*)", line)
+        if place and (not place[2] or UNREADABLE.search(re.sub(r"`[^`]*`", "", place[3]))) or NOT_COMPILED.search(line):
             return line
     return None
+
+
+def errors_of_proof(name: str, lines: list[str]) -> list[str]:
+    """What the prover says of the proof of the function of this name."""
+    found = [it for line in lines if (it := OF_A_PROOF.match(line))]
+    return [it[2] for it in found if it[1].split("/") == name.split("::")[1:]]
+
+
+def names_what_is_gone(name: str, lines: list[str], bodies: list[Body]) -> bool:
+    """Whether a function is rejected only because its proof names a goal or a value that is gone: then no goal of it stays open."""
+    errors = errors_of_proof(name, lines)
+    return bool(errors) and all(map(GONE.search, errors)) and not any(body.is_of(name) for body in open_bodies(lines, bodies))
+
+
+def names_only_what_is_gone(lines: list[str]) -> bool:
+    """Whether a check of a whole crate rejects nothing but proofs that name what is gone."""
+    said = [line for line in lines if re.match(r"(?:note: )?\S+:\d+:\d+:", line)]
+    said = [line for line in said if ": error" in line or line.startswith("note: ")]
+    return bool(said) and all(re.match(r"(?:note: )?(?:\./)?proofs/", line) and GONE.search(line) for line in said)
 
 
 def is_of_others(name: str, reason: str) -> bool:
@@ -241,13 +268,18 @@ def is_of_others(name: str, reason: str) -> bool:
     return all(OF_ITS_CALLS.fullmatch(part) or cites_others(part) for part in reason.split("; "))
 
 
+def open_bodies(lines: list[str], bodies: list[Body]) -> list[Body]:
+    """The bodies in which a goal stays open."""
+    goals = [(it[1], int(it[2]) - 1) for line in lines if (it := OPEN_GOAL.match(line))]
+    return [it for it in bodies if any(it.file == file and it.header <= line <= it.last for file, line in goals)]
+
+
 def rejected_for_themselves(lines: list[str], bodies: list[Body]) -> list[str]:
     """The functions that the prover rejects for themselves. One with an open goal of its own is rejected for that, although the
     prover says only that it calls a function with a hole in its proof."""
     found = [it for line in lines if (it := NOT_PROVED.match(line))]
-    goals = [(it[1], int(it[2]) - 1) for line in lines if (it := OPEN_GOAL.match(line))]
-    open_bodies = [it for it in bodies if any(it.file == file and it.header <= line <= it.last for file, line in goals)]
-    return [it[1] for it in found if not is_of_others(it[1], it[2] or "") or any(body.is_of(it[1]) for body in open_bodies)]
+    is_open = open_bodies(lines, bodies)
+    return [it[1] for it in found if not is_of_others(it[1], it[2] or "") or any(body.is_of(it[1]) for body in is_open)]
 
 
 @dataclass(frozen=True)
@@ -276,6 +308,11 @@ class Check:
     @property
     def rejected(self) -> list[str]:
         """The functions that it rejects for themselves."""
+        return [it for it in self.rejected_or_misnamed if not names_what_is_gone(it, self.lines, self.bodies)]
+
+    @property
+    def rejected_or_misnamed(self) -> list[str]:
+        """The functions that it rejects for themselves, or whose proofs name what is gone."""
         return rejected_for_themselves(self.lines, self.bodies) if self.has_ended else []
 
     def accepts(self, functions: list[str]) -> bool:
@@ -338,8 +375,8 @@ class Prover:
     def __init__(self, crate: Crate, crates: dict[str, Crate], libraries: Path, kept: Path, log: Path, turn: Turn):
         self.crate, self.log, self.turn, self.checks = crate, log, turn, 0
         self.bodies = [it for file in crate.files() for it in bodies_of(str(file.relative_to(crate.folder)), file.read_text()) if file.suffix == ".rt"]
-        # The functions that checks were asked for, and whether one was asked for the whole crate.
-        self.asked: set[str] = set()
+        # The functions that each check which rejected a mutant was asked for, and whether one was asked for the whole crate.
+        self.asked: set[tuple[str, ...]] = set()
         self.has_asked_for_all = False
         # Checks of mutants give way to proofs and scripts, which the gate runs beside them.
         words = ["nice", "-n", "10", f"{kit_folder()}/bin/rattle", "check", *words_of(crate, crates, libraries)]
@@ -385,13 +422,19 @@ class Prover:
             check = self.check([mutant], [function], f"{mutant.name}: {function}")
             if check.unnamed:
                 return check.unnamed
-            if not check.unreadable and any(is_named(it, function) for it in check.rejected):
-                self.asked.add(function)
+            if line := check.unreadable:
+                return f"BAD EDIT: the prover cannot read it: {line[:160]}"
+            if any(is_named(it, function) for it in check.rejected):
+                self.asked.add((function,))
                 return None
+            if any(is_named(it, function) for it in check.rejected_or_misnamed):
+                return f"BAD EDIT: the proof of {function} names what it took away: change a value and keep the names"
         self.has_asked_for_all = True
         check = self.check([mutant], [], mutant.name)
         if line := check.unreadable:
-            return f"the prover cannot read it: {line[:160]}"
+            return f"BAD EDIT: the prover cannot read it: {line[:160]}"
+        if names_only_what_is_gone(check.lines):
+            return "BAD EDIT: proofs name what it took away: change a value and keep the names"
         if check.status == 1 and check.lines[-1].startswith("logic=not-proved"):
             return None
         return "NOT REJECTED: the crate is proved with it" if check.status == 0 else f"no verdict: {check.lines[-1][:160]}"
@@ -400,11 +443,11 @@ class Prover:
         """Those mutants of a batch of which one check shows that they are rejected."""
         functions = [body.name for _, body in batch]
         check = self.check([mutant for mutant, _ in batch], functions, f"{len(batch)} mutants of {self.crate.name}")
-        names = check.rejected
+        names = check.rejected_or_misnamed
         if check.unreadable or not all(any(body.is_of(name) for _, body in batch) for name in names):
             return []
-        self.asked.update(functions)
-        return [(mutant, body) for mutant, body in batch if any(map(body.is_of, names))]
+        self.asked.add(tuple(functions))
+        return [(mutant, body) for mutant, body in batch if any(map(body.is_of, check.rejected))]
 
     def test(self, mutants: list[Mutant]) -> list[str]:
         """Tests the mutants, and returns what is wrong with them."""
@@ -416,10 +459,10 @@ class Prover:
         return [f"{mutant.name}: {why}" for mutant, body in single if (why := self.rejects(mutant, body))]
 
     def is_sound(self) -> bool:
-        """Whether the functions that were asked for are accepted without mutants, over what the checks of the mutants left, and the
-        whole crate if that was asked for."""
-        unchanged, asked = f"{self.crate.name} unchanged", sorted(self.asked)
-        is_right = not asked or self.check([], asked, unchanged).accepts(asked)
+        """Whether each check that rejected a mutant accepts its functions without mutants, over what the checks of the mutants left, and
+        that of the whole crate if there was one."""
+        unchanged = f"{self.crate.name} unchanged"
+        is_right = all(self.check([], [*asked], unchanged).accepts([*asked]) for asked in sorted(self.asked))
         return is_right and (not self.has_asked_for_all or self.check([], [], unchanged).status == 0)
 
 

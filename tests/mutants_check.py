@@ -1,5 +1,5 @@
 #!/usr/bin/env python3
-"""Test scripts/mutants.py with a stand-in for the prover, on a small repository: tests/mutants_check.py
+"""Test scripts/mutants.py with a stand-in for the prover, on a small repository, and with the prover itself: tests/mutants_check.py
 
 The stand-in rejects a function whose body has the word `wrong`, and says of one that calls it that a function it calls is not
 proved. If the constant is 2, it rejects the function that uses it. So a mutant with another change is one that the prover accepts.
@@ -17,7 +17,7 @@ ROOT = Path(__file__).resolve().parent.parent
 sys.path.insert(0, str(ROOT / "scripts"))
 
 from crates import Crate
-from mutants import bodies_of, leave_out, rejected_for_themselves
+from mutants import bodies_of, leave_out, names_only_what_is_gone, names_what_is_gone, rejected_for_themselves, unreadable
 
 KIT_SUM = (ROOT / "kit-sum").read_text().strip()
 
@@ -170,7 +170,7 @@ class Mutants(unittest.TestCase):
         self.add("one", "    1", "    wrong")
         self.add("two", "    2", "    wrong + 2")
         status, said, checks = self.run_mutants()
-        self.assertEqual((status, checks), (0, ["check two one", "check one two"]), said)
+        self.assertEqual((status, checks), (0, ["check two one"] * 2), said)
         self.assertIn("low: 2 of 2 mutants rejected", said)
 
     def test_mutants_of_one_function_are_checked_one_after_another(self) -> None:
@@ -184,7 +184,7 @@ class Mutants(unittest.TestCase):
         self.add("three", "    one() + two()", "    one() + wrong", "src/high.rt")
         status, said, checks = self.run_mutants()
         both = "check high::three one"
-        self.assertEqual((status, checks), (0, [both, "check high::three", "check high::three one"]), said)
+        self.assertEqual((status, checks), (0, [both, "check high::three", "check high::three", both]), said)
 
     def test_a_mutant_of_a_constant_is_checked_by_the_function_that_it_names(self) -> None:
         self.add("constant", "u8 = 1;", "u8 = 2;", function="limit")
@@ -252,6 +252,27 @@ class Rejections(unittest.TestCase):
     def test_a_proof_of_another_function_is_none(self) -> None:
         line = "fn low::one: not proved; it stands on `Rattle.low.proofs.two.Answers.returns`, which antt refuses; it calls `low::two`, which is not proved"
         self.assertEqual(self.rejected(line), [])
+
+    def test_a_proof_that_names_what_is_gone_says_nothing_of_the_contract(self) -> None:
+        said = "./proofs/one/Answers.antt:3:5: error: `returns-then-len-eq0`: module `Rattle.low.proofs.one.Goals` has no `returns-then-len-eq0`"
+        goal = "proofs/one/Answers.antt:9:5: error: `returns`: the types differ"
+        self.assertTrue(names_what_is_gone("low::one", [said], self.BODIES))
+        self.assertFalse(names_what_is_gone("low::one", [said, goal], self.BODIES))
+        self.assertFalse(names_what_is_gone("low::two", [said], self.BODIES))
+        self.assertFalse(names_what_is_gone("low::one", ["fn low::one: not proved"], self.BODIES))
+        still_open = "note: src/lib.rt:6:5: it is not proved that the sum fits its type"
+        self.assertFalse(names_what_is_gone("low::one", [said, still_open], self.BODIES))
+
+    def test_a_whole_check_that_only_names_what_is_gone_says_nothing_of_the_contract(self) -> None:
+        gone = "proofs/one/Answers.antt:3:5: error: `c.old` has no field `old`"
+        self.assertTrue(names_only_what_is_gone([gone, "logic=not-proved"]))
+        self.assertFalse(names_only_what_is_gone([gone, "note: src/lib.rt:6:5: it is not proved that the sum fits its type"]))
+        self.assertFalse(names_only_what_is_gone(["logic=not-proved"]))
+
+    def test_a_text_that_does_not_compile_is_unreadable(self) -> None:
+        for line in ("src/lib.rt:1:1: error: `x`: `y` is not in scope", "src/lib.rt:1:1: error: a name is expected", "src/lib.rt:1:1: error[type]: u8"):
+            self.assertEqual(unreadable([line]), line)
+        self.assertIsNone(unreadable(["src/lib.rt:1:1: error: `one`: the types differ"]))
 
     def test_an_open_goal_is_one(self) -> None:
         calls = "fn low::{}: not proved; it calls `low::limit`, which is not proved"
@@ -321,6 +342,110 @@ class LeftOut(unittest.TestCase):
         found = {str(it.relative_to(proofs)): "?" in it.read_text() for it in proofs.rglob("*.antt")}
         holes = ("pair/Pair/both", "pair/Pair/more", "pair/PairSize/size", "pair/empty")
         self.assertEqual(found, {"pair/Pair/one/Answers.antt": False} | {f"{it}/Proof.antt": True for it in holes})
+
+
+PROVED_LIB = """//! A small crate, whose mutants are tested with the prover itself.
+#![tactic(auto)]
+
+ghost use Rattle.std.specs.Prelude.{◌≡◌};
+ghost use Rattle.low.specs.Limit.{limited, limit};
+
+/// The largest result.
+const LIMIT: u8 = 10;
+
+/// The number, or the limit if that is smaller.
+pub fn limited(n: u8) -> u8
+    ensures { result ≡ limited n }
+{
+    if n > LIMIT {
+        return LIMIT;
+    }
+    n
+}
+
+/// The limit.
+pub fn limit() -> u8
+    ensures { result ≡ limit }
+{
+    LIMIT
+}
+
+/// Twice the limit.
+pub fn twice() -> u8
+    ensures { result ≡ 20 }
+{
+    limit() + limit()
+}
+"""
+
+PROVED_LIMIT = """-- A number that has a limit.
+use Rattle.std.specs.Prelude.{ℕ, min}
+
+abbrev pub limit : ℕ
+limit = 10
+
+unfoldable pub limited : ℕ → ℕ
+limited n = min n limit
+"""
+
+PROVED_ANSWERS = """use native.Mathlib.Omega.{arith}
+use Rattle.std.specs.Prelude.{◌<◌, ◌≤◌}
+use Rattle.low.specs.Limit.{limited, limit}
+use Rattle.low.proofs.limited.Goals as goal
+
+pub returns-then-n-gt-LIMIT : goal.returns-then-n-gt-LIMIT
+unfolding limited
+returns-then-n-gt-LIMIT c =
+    let above : 10 < c.args.n = c.if-n-gt-LIMIT.true in
+    grind (arith, above)
+
+pub returns : goal.returns
+unfolding limited
+returns c =
+    let small : c.args.n ≤ 10 = c.if-n-gt-LIMIT.false in
+    grind (arith, small)
+"""
+
+PROVED_TWICE = """use native.Mathlib.Omega.{arith}
+use Rattle.low.proofs.twice.Goals as goal
+
+pub returns : goal.returns
+returns c = grind (arith, c.limit.ensures, c.limit-2.ensures)
+"""
+
+
+class RealProver(unittest.TestCase):
+    """What the kit's prover makes of an edit of each kind, in a small crate."""
+
+    EDITS = {
+        "value": ("        return LIMIT;", "        return LIMIT - 1;", ""),
+        "another_value": ("    LIMIT", "    LIMIT + 1", ""),
+        "constant": ("const LIMIT: u8 = 10;", "const LIMIT: u8 = 12;", "function: limit\n"),
+        "condition_with_another_name": ("    if n > LIMIT {", "    if n > 11 {", ""),
+        "unknown_name": ("    limit() + limit()", "    limit() + bound()", ""),
+        "same_meaning_without_the_calls": ("    limit() + limit()", "    20", ""),
+        "same_meaning": ("    limit() + limit()", "    limit() + limit() + 0", ""),
+    }
+
+    def test_an_edit_of_each_kind(self) -> None:
+        with tempfile.TemporaryDirectory(prefix="mpslp-mutants-") as name:
+            folder, crate = Path(name), Path(name) / "crates" / "low"
+            files = {"src/lib.rt": PROVED_LIB, "specs/Limit.antt": PROVED_LIMIT, "specs/Lib.antt": "pub mod Limit\n", "proofs/limited/Answers.antt": PROVED_ANSWERS,
+                     "proofs/twice/Answers.antt": PROVED_TWICE}
+            files |= {f"must-fail/{edit}.edit": f"file: src/lib.rt\n{named}old: {old}\nnew: {new}\n" for edit, (old, new, named) in self.EDITS.items()}
+            for path, text in files.items():
+                (crate / path).parent.mkdir(parents=True, exist_ok=True)
+                (crate / path).write_text(text)
+            (folder / "crates.txt").write_text("low:\n")
+            shutil.copy(ROOT / "kit-sum", folder / "kit-sum")
+            shutil.copytree(ROOT / "scripts", folder / "scripts")
+            ran = subprocess.run([sys.executable, "scripts/mutants.py"], cwd=folder, capture_output=True, text=True, timeout=600, check=False)
+        said = ran.stdout + ran.stderr
+        self.assertEqual(ran.returncode, 1, said)
+        self.assertIn("low: 4 of 7 mutants rejected", said)
+        self.assertIn("low/same_meaning_without_the_calls: BAD EDIT: the proof of twice names what it took away", said)
+        self.assertIn("low/unknown_name: BAD EDIT: the prover cannot read it", said)
+        self.assertIn("low/same_meaning: NOT REJECTED", said)
 
 
 if __name__ == "__main__":
