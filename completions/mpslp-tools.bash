@@ -8,7 +8,19 @@ _mpslp_tools() {
         return
     fi
     case $previous in
-        -f | --format | -t | --to)
+        -t | --to)
+            mapfile -t COMPREPLY < <(compgen -W 'mps lp glp' -- "$word")
+            return
+            ;;
+        --for)
+            mapfile -t COMPREPLY < <(compgen -W 'glpsol clp cbc lp_solve esolver' -- "$word")
+            return
+            ;;
+        --target)
+            mapfile -t COMPREPLY < <(compgen -W 'glpsol clp cbc lp_solve esolver coinutils' -- "$word")
+            return
+            ;;
+        -f | --format)
             mapfile -t COMPREPLY < <(compgen -W 'mps lp' -- "$word")
             return
             ;;
@@ -16,15 +28,16 @@ _mpslp_tools() {
             return
             ;;
         --from)
-            mapfile -t COMPREPLY < <(compgen -W 'coinutils glpsol lp_solve pulp qsopt' -- "$word")
+            mapfile -t COMPREPLY < <(compgen -W 'coinutils glpsol lp_solve pulp qsopt none' -- "$word")
             return
             ;;
     esac
     case $command in
-        canon) options+=' --output --in-place --to --jobs' ;;
-        check) options+=' --jobs --portable --ignore' ;;
+        canon) options+=' --output --in-place --force --to --for --jobs --no-warnings' ;;
+        check) options+=' --jobs --portable --target --all --ignore --no-warnings' ;;
+        same) options+=' --no-warnings' ;;
         digest) options+=' --jobs' ;;
-        diff) options+=' --ignore-objective-name --digits --by-position' ;;
+        diff) options+=' --ignore-objective-name --digits --by-position --no-warnings' ;;
         explain) options=--help ;;
         adapt) options+=' --output --from --dry-run --strict --map --names-back' ;;
         survey) options='--help --jobs --csv --json' ;;

@@ -10,10 +10,10 @@ rm -rf "$environment"
 "$python" -m pip --python "$environment/bin/python" install --quiet --no-index --no-deps build/mpslp-*.whl
 cd python
 export PYTHONDONTWRITEBYTECODE=1
-"$environment/bin/python" -m unittest discover -s tests
+"$environment/bin/python" tests/run.py
 if "$environment/bin/python" -c "import mypy" 2> /dev/null; then
     "$environment/bin/python" -m mypy --cache-dir=/dev/null src tests/typed.py
     (cd "$environment" && bin/python -m mypy.stubtest mpslp._mpslp)
 else
-    echo "mypy is missing, and types are not checked"
+    echo "skipped: types (mypy is missing)"
 fi

@@ -7,6 +7,9 @@ further sets, and so on. The file is adapted, and has to be the model, as the pr
 says of it and the canonical text that models.py writes; names are mapped. The file
 itself has to be rejected, and adapting again has to change nothing.
 
+MPS files with damage that a person might make (adapt_damage.py) have to be left, or to keep the model, or to be reported by
+a line of changes for the damaged lines, without a number or a name that is lost.
+
 The same models, as spellings.py spells them within the profile, and these texts
 broken at random, have to stay as they are wherever the program accepts them.
 
@@ -23,6 +26,7 @@ from collections import Counter
 from dataclasses import replace
 from pathlib import Path
 
+import adapt_damage
 import models
 from adapt_package import AdaptError, adapt_text
 from models import ONE, ZERO, Model, Number, canonical_mps, is_zero, same
@@ -212,11 +216,12 @@ def columns_of(fields):
 
 
 class MpsText:
-    """An MPS text of a model, in which habits of other dialects are drawn."""
+    """An MPS text of a model, in which habits of other dialects are drawn; dialect is the program that has them, or None."""
 
-    def __init__(self, source, model):
+    def __init__(self, source, model, dialect=None):
         self.source = source
         self.model = model
+        self.dialect = dialect
 
     def draw(self, chance=0.3):
         return self.source.random() < chance
@@ -225,8 +230,13 @@ class MpsText:
         return word.lower() if self.draw(0.2) else word
 
     def data(self, *fields):
-        remark = f"  {self.source.choice(('$ a remark', '(a remark)', 'kg of steel'))}" if self.draw(0.2) else ""
-        return "    " + "  ".join(fields) + remark
+        return "    " + "  ".join(fields) + (f"  {self.remark(len(fields))}" if self.draw(0.2) else "")
+
+    def remark(self, count):
+        """Text after the last field, where two programs or the one that wrote it drop it; no name has letters of its words."""
+        if count == 5:
+            return self.source.choice(("$ to see", "(to see)", "lots of steel"))
+        return "$ to see" if self.dialect == "glpsol" else ""
 
     def number(self, number, is_side=False):
         text = number.text()
@@ -250,7 +260,7 @@ class MpsText:
         lines += [self.header("ROWS"), f" {self.source.choice('Nn')}  {model.objective}"]
         for name, row in model.rows.items():
             letter = models.mps_row_letter(row)
-            lines.append(f" {self.source.choice((letter, letter.lower()))}  {name}{'  $ a row' if self.draw(0.2) else ''}")
+            lines.append(f" {self.source.choice((letter, letter.lower()))}  {name}{'  $row' if self.draw(0.2) else ''}")
         lines.append(self.header("COLUMNS"))
         integers = [name for name, each in model.columns.items() if each.kind == "integer"]
         for name in model.columns:
@@ -269,10 +279,6 @@ class MpsText:
         lines = []
         for name, body in sections:
             data = [self.limit(name, line.split()) for line in body.splitlines()]
-            if self.draw(0.4):
-                first = data[-1].split()
-                other = [first[0], "OTHER", *first[2:]] if name == "BOUNDS" else ["OTHER", *first[1:]]
-                data.append(" " + "  ".join(other))
             if name == "RANGES" and self.draw(0.5):
                 data.append(f"    RNG  {self.model.objective}  5")
             lines += [self.header(name), *data]
@@ -280,7 +286,10 @@ class MpsText:
 
     def limit(self, name, fields):
         if name != "BOUNDS":
-            return self.data(fields[0], fields[1], fields[2].replace("e", "D"))
+            number = fields[2]
+            if self.dialect == "glpsol" and fields[1] == self.model.objective:
+                number = number[1:] if number.startswith("-") else f"-{number}"
+            return self.data(fields[0], fields[1], number.replace("e", "D"))
         if len(fields) == 4:
             return f" {self.source.choice((fields[0], fields[0].lower()))}  BND  {fields[2]}  {fields[3].replace('e', 'd')}"
         if fields[0] == "PL" and self.draw(0.5):
@@ -331,10 +340,10 @@ def program_says(program, *arguments, text):
     return subprocess.run([program, *arguments], input=text, capture_output=True)
 
 
-def differs(program, text, format, model):
+def differs(program, text, format, model, dialect=None):
     """What is wrong with the adapted text of a model, or None; and the kinds of its changes."""
     try:
-        done = adapt_text(text, format)
+        done = adapt_text(text, format, dialect)
     except AdaptError as error:
         return f"left: {error}", ()
     kinds = {change.kind for change in done.changes}
@@ -345,17 +354,17 @@ def differs(program, text, format, model):
         return f"rejected: {printed.stderr.decode().strip()}", kinds
     if printed.stdout != wanted:
         return "another model", kinds
-    again = adapt_text(done.text, format)
+    again = adapt_text(done.text, format, dialect)
     if again.changes or again.text != done.text:
         return f"adapted again: {again.changes[0]}", kinds
     was = program_says(program, "canon", format, "mps", "-", text=text)
-    if done.changes and was.returncode == 0:
+    if done.changes and was.returncode == 0 and dialect is None:
         return "changed although the program accepts it", kinds
     return None, kinds
 
 
 def drawn(number):
-    """A text of another dialect, its format, and the model; or None."""
+    """A text of another dialect, its format, the model, and the program whose habits it has; or None."""
     source = random.Random(number)
     model = models.drawn_model(source)
     way = source.choice(("lp", "lp", "mps", "fixed"))
@@ -364,7 +373,8 @@ def drawn(number):
         return LpText(source, model).text(), "lp", model
     if way == "mps":
         model = renamed(source, model, mps_name)
-        return MpsText(source, model).text(), "mps", model
+        dialect = source.choice((None, None, "glpsol", "qsopt"))
+        return MpsText(source, model, dialect).text(), "mps", model, dialect
     model = renamed(source, model, fixed_name)
     text = fixed_text(model)
     return None if text is None else (text, "mps", model)
@@ -393,13 +403,71 @@ def kept(program, number):
                 yield f"changed, although the program accepts it: {done.changes[:1]}", format, text
 
 
+def with_damage(program, number):
+    """The outcome of a damaged MPS text, and what is wrong with what adapt makes of it; or None."""
+    source = random.Random(number)
+    model = models.drawn_model(source)
+    way = source.choice(("legal", "legal", "fixed", "dialect"))
+    text, dialect = legal_mps(source, model), None
+    if way == "fixed":
+        model = renamed(source, model, fixed_name)
+        text = fixed_text(model) or text
+    elif way == "dialect":
+        dialect = source.choice((None, "glpsol", "lp_solve", "coinutils", "qsopt"))
+        model = renamed(source, model, mps_name)
+        text = MpsText(source, model, dialect).text()
+
+    def canonical(content):
+        printed = program_says(program, "canon", "mps", "mps", "-", text=content)
+        return printed.stdout if printed.returncode == 0 else None
+
+    try:
+        good = canonical(adapt_text(text, "mps", dialect).text)
+    except AdaptError:
+        return None
+    made = adapt_damage.damaged(source, text.decode("latin-1"))
+    if made is None:
+        return None
+    broken, damage, lines = made
+    outcome, wrong = adapt_damage.judged(broken, good, dialect, lines, canonical)
+    return outcome, damage, wrong, broken
+
+
+def legal_mps(source, model):
+    """A model as MPS that the program accepts, in fixed columns where it fits, as people and programs write it."""
+    text = mps_text(source, model) if source.random() < 0.5 else fixed_text(model) or canonical_mps(model)
+    return text if isinstance(text, bytes) else text.encode("latin-1")
+
+
 def arguments():
     parser = argparse.ArgumentParser(description=__doc__, formatter_class=argparse.RawDescriptionHelpFormatter)
     parser.add_argument("--program", type=Path, default=PROGRAM, help="the path of mpslp")
     parser.add_argument("--models", type=int, default=1000, help="how many models (1000)")
     parser.add_argument("--first", type=int, default=0, help="the number of the first model (0)")
+    parser.add_argument("--damaged", type=int, help="how many damaged MPS files (as many as models)")
     parser.add_argument("--keep", type=Path, help="a directory for the texts that differ")
     return parser.parse_args()
+
+
+def try_damage(program, options, found):
+    """How often each outcome of damaged files is; what is wrong is added to what is found."""
+    outcomes = Counter()
+    for number in range(options.first, options.first + (options.models if options.damaged is None else options.damaged)):
+        try:
+            made = with_damage(program, number)
+        except Exception:
+            found.append(f"damage {number}: {traceback.format_exc()}")
+            continue
+        if made is None:
+            continue
+        outcome, damage, wrong, text = made
+        outcomes[outcome] += 1
+        if wrong:
+            found.append(f"damage {number}, {damage}: {wrong}")
+        if options.keep is not None and (wrong or outcome in ("shown", "said by the file")):
+            options.keep.mkdir(exist_ok=True)
+            (options.keep / f"damage-{number}-{damage}-{outcome.split()[0]}.mps").write_text(text, encoding="latin-1")
+    return outcomes
 
 
 def main():
@@ -426,9 +494,11 @@ def main():
             if options.keep is not None:
                 options.keep.mkdir(exist_ok=True)
                 (options.keep / f"{number}.{format}").write_bytes(text)
+    outcomes = try_damage(program, options, found)
     print(*found, sep="\n", end="\n" if found else "")
     print("changes: " + ", ".join(f"{kind} {count}" for kind, count in sorted(kinds.items())))
-    print(f"{tried} models, {len(found)} differ")
+    print("damaged files: " + ", ".join(f"{outcome} {count}" for outcome, count in sorted(outcomes.items())))
+    print(f"{tried} models, {sum(outcomes.values())} damaged files, {len(found)} differ")
     return 1 if found else 0
 
 

@@ -5,7 +5,9 @@ A row of the table has a format, the part of a file that the example is, a diale
 the kind of the change, the part before and after, and what the rule does. The part
 is put into a small file, which is adapted. The text has to be the one with the part
 after, all changes have to be of the kind, and adapting it again has to change
-nothing. Rows of the kind "stop" are left with an error that contains the text.
+nothing. Rows of the kind "stop" are left with an error that contains the text; it may
+start with the line. The dialect "header" is that of the program that the first lines of
+the file name.
 
 With the program, what is before has to be rejected, unless a dialect is given, and
 what is after has to be accepted. Each row of the table has to be in docs/DIALECTS.md.
@@ -29,6 +31,7 @@ PROGRAM = ROOT / "crates" / "mpslp" / "out" / "mpslp"
 TABLE = ROOT / "docs" / "adapt.tsv"
 PAGE = ROOT / "docs" / "DIALECTS.md"
 WRONG = ROOT / "tests" / "adapt_wrong.tsv"
+BY_HEADER = "header"
 MPS = """NAME  FRAME
 {head}ROWS
  N  COST
@@ -90,11 +93,11 @@ def differences(row, program):
     """What is wrong with the adapted text of an example."""
     before = framed(row, row["before"])
     try:
-        done = adapt_text(before, row["format"], row["dialect"] or None)
+        done = adapt_text(before, row["format"], dialect_of(row))
     except AdaptError as error:
         if row["kind"] != "stop":
             yield f"left: {error}"
-        elif unescaped(row["after"]).strip() not in error.reason:
+        elif unescaped(row["after"]).strip() not in str(error):
             yield f"left for another reason: {error}"
         return
     if row["kind"] == "stop":
@@ -106,13 +109,13 @@ def differences(row, program):
     if kinds != {row["kind"]}:
         yield f"changes of the kinds {sorted(kinds)}"
     try:
-        again = adapt_text(done.text, row["format"], row["dialect"] or None)
+        again = adapt_text(done.text, row["format"], dialect_of(row))
         if again.changes or again.text != done.text:
             yield f"adapted again to {again.text!r}"
     except AdaptError as error:
         yield f"left when it is adapted again: {error}"
     try:
-        adapt_text(before, row["format"], row["dialect"] or None, strict=[row["kind"]])
+        adapt_text(before, row["format"], dialect_of(row), strict=[row["kind"]])
         yield "no error although changes of its kind are not wanted"
     except AdaptError:
         pass
@@ -121,6 +124,11 @@ def differences(row, program):
             yield "the program rejects the adapted text"
         if not row["dialect"] and is_read(program, row["format"], before):
             yield "the program accepts the text as it is"
+
+
+def dialect_of(row):
+    """The dialect to give: none if the header of the file has to select it."""
+    return None if row["dialect"] == BY_HEADER else row["dialect"] or None
 
 
 def is_read(program, format, text):
@@ -139,12 +147,12 @@ def check(program):
     return found, len(tried)
 
 
-def missing_in_page(table, line_of):
+def missing_in_page(table, line_of, path=PAGE):
     """The rows of a table whose lines, as a function makes them, are not in the page."""
-    page = PAGE.read_text(encoding="utf-8")
+    page = path.read_text(encoding="utf-8")
     for number, row in enumerate(rows(table), 2):
         if line_of(row) not in page:
-            yield f"docs/DIALECTS.md: the row of docs/{table.name}:{number} is missing: {line_of(row)}"
+            yield f"docs/{path.name}: the row of docs/{table.name}:{number} is missing: {line_of(row)}"
 
 
 def table_line(row):
@@ -152,7 +160,7 @@ def table_line(row):
     before, after = (shown(row[name]) for name in ("before", "after"))
     if row["kind"] == "stop":
         return f"| {before} | {row['what']} |"
-    dialect = f"`--from {row['dialect']}`" if row["dialect"] else ""
+    dialect = "by its header" if row["dialect"] == BY_HEADER else f"`--from {row['dialect']}`" if row["dialect"] else ""
     return f"| `{row['kind']}` | {dialect} | {before} | {after or '(nothing)'} | {row['what']} |"
 
 
@@ -197,13 +205,13 @@ def main():
     return conclude(options, check, TABLE, table_line, lambda: wrong_rules(__file__))
 
 
-def conclude(options, check, table, line, try_wrong):
+def conclude(options, check, table, line, try_wrong, page=PAGE):
     """Checks the examples of a table, that the page has its lines and, if asked, that an example finds each wrong rule."""
     program = options.program.resolve() if options.program.exists() else None
     if program is None:
         print("skipped: the program is missing")
     found, tried = check(program)
-    found += missing_in_page(table, line)
+    found += missing_in_page(table, line, page)
     if options.wrong:
         found += try_wrong()
     print(*found, sep="\n", end="\n" if found else "")

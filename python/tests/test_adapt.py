@@ -4,6 +4,9 @@ import contextlib
 import gzip
 import io
 import json
+import os
+import subprocess
+import sys
 import tempfile
 import unittest
 from dataclasses import FrozenInstanceError
@@ -12,12 +15,26 @@ from unittest import mock
 
 import mpslp
 from mpslp import _adapt
+from mpslp._adapt import _changes, _check_lp, _check_mps
+from mpslp._adapt._writers import writer_of
 from repository import EXAMPLES, ROOT
 
 import adapt_rules  # from tests/ of the repository
 
 PLAN = b"max\n p: 3 x[1] + 2 y\nst\n c: x[1] + y + 3 <= 5\n d: x[1] >= y\nend\n"
 ADAPTED = b"max\n p: 3 x(1) + 2 y\nst\n c: x(1) + y <= 2\n d: x(1) - y >= 0\nend\n"
+
+
+ROWS = "ROWS\n N  C\n L  A\n"
+REJECTED = (
+    ("MissingEnd", None, f"{ROWS}COLUMNS\n    X  C  1\n"),
+    ("ColumnSplit", 7, f"{ROWS}COLUMNS\n    X  C  1\n    Y  C  1\n    X  A  1\nENDATA\n"),
+    ("DuplicateBound", 8, f"{ROWS}COLUMNS\n    X  C  1\nBOUNDS\n UP  B  X  1\n UP  B  X  2\nENDATA\n"),
+    ("BoundsCrossed", None, f"{ROWS}COLUMNS\n    X  C  1\nBOUNDS\n UP  B  X  1\n LO  B  X  2\nENDATA\n"),
+    ("NoColumns", None, f"{ROWS}COLUMNS\nENDATA\n"),
+    ("NegativeUpper", 7, f"{ROWS}COLUMNS\n    X  C  1\nBOUNDS\n UP  B  X  -1\nENDATA\n"),
+)
+"""Texts that no rule mends: the kind of the error, the line of the AdaptError, and the text."""
 
 
 class Calls(unittest.TestCase):
@@ -73,15 +90,112 @@ class Calls(unittest.TestCase):
     def test_kinds_that_are_not_wanted(self):
         with self.assertRaisesRegex(mpslp.AdaptError, "^4: a change of the kind constant-in-row is needed"):
             mpslp.adapt(PLAN, "lp", strict=["constant-in-row"])
+        with self.assertRaisesRegex(ValueError, "unknown kind of changes: 'constants' is none of"):
+            mpslp.adapt(PLAN, "lp", strict=["constants"])
+        with self.assertRaisesRegex(TypeError, "strict is a collection of kinds"):
+            mpslp.adapt(PLAN, "lp", strict="name")
+
+    def test_the_kinds_are_those_of_the_examples(self):
+        rows = adapt_rules.rows()
+        found = {(row["format"], row["kind"]) for row in rows if row["kind"] not in ("stop", *_changes.FILE_KINDS)}
+        self.assertEqual(found, {*(("mps", kind) for kind in _changes.MPS_KINDS), *(("lp", kind) for kind in _changes.LP_KINDS)})
+
+    def test_what_is_still_rejected_is_left(self):
+        for kind, line, text in REJECTED:
+            with self.subTest(kind), self.assertRaisesRegex(mpslp.AdaptError, kind) as caught:
+                mpslp.adapt(text.encode(), "mps")
+            self.assertEqual(caught.exception.line, line)
+            with self.subTest(kind), self.assertRaisesRegex(mpslp.ModelFileError, kind):
+                mpslp.load(text.encode(), "mps")
+
+    def test_a_rejection_has_the_line_of_the_source(self):
+        text = f"{ROWS}COLUMNS\n    X  A  1\nRHS\n    RHS  A  1\nBOUNDS\n UP  BND  X  1\nRHS\n    RHS  A  2\nENDATA\n"
+        with self.assertRaises(mpslp.AdaptError) as caught:
+            mpslp.adapt(text.encode(), "mps")
+        self.assertEqual((caught.exception.line, caught.exception.rejection.kind), (11, "DuplicateRhs"))
+
+    def test_what_is_accepted_stays_at_once(self):
+        for text in (
+            f"ROWS\n L  A\nCOLUMNS\n    X  obj  1  A  1\nRHS\n    RHS  obj  5\nENDATA\n",
+            f"{ROWS}COLUMNS\n    X  A  1\nRHS\n    {'S' * 300}  A  1\nENDATA\n",
+            f"*{'a' * 1_048_575}\r\n{ROWS}COLUMNS\n    X  A  1\nENDATA\n",
+        ):
+            with self.subTest(text[:80]):
+                done = mpslp.adapt(text.encode(), "mps")
+                self.assertEqual((done.text, done.changes), (text.encode(), ()))
+
+    def test_columns_and_sets_are_kept_where_something_else_is_changed(self):
+        text = f"ROWS\n l  A\nCOLUMNS\n    X  obj  1  A  1\nRHS\n    {'S' * 300}  A  1\nENDATA\n"
+        done = mpslp.adapt(text.encode(), "mps")
+        self.assertEqual(done.text, text.replace(" l  A", " L  A").encode())
+
+    def test_a_second_row_says_where_the_first_is(self):
+        text = "ROWS\n N  C\n L  LIM1\n L  LIM1\nCOLUMNS\nENDATA\n"
+        with self.assertRaises(mpslp.AdaptError) as caught:
+            mpslp.adapt(text.encode(), "mps")
+        self.assertEqual(str(caught.exception), "4: a second row LIM1, first in line 3")
+
+    def test_the_sense_of_glpsol_and_lp_solve(self):
+        text = f"{ROWS}COLUMNS\n    X  C  1  A  1\nENDATA\n"
+        self.assertIn("glpsol does not write the sense", mpslp.adapt(text.encode(), "mps", "glpsol").notes[0].text)
+        text = f"*<meta origsense='MAX'>\n{text}"
+        self.assertIn("lp_solve maximised this model", mpslp.adapt(text.encode(), "mps", "lp_solve").notes[0].text)
+
+    def test_the_constant_of_lp_solve(self):
+        rest = f"{ROWS}COLUMNS\n    X  C  3  A  1\nRHS\n    RHS  C  -5  A  4\nENDATA\n"
+        for sense, constant in (("", -5), ("OBJSENSE\n    MIN\n", -5), ("OBJSENSE\n    MAX\n", 5)):
+            with self.subTest(sense):
+                done = mpslp.adapt(f"{sense}{rest}".encode(), "mps", "lp_solve")
+                self.assertEqual(mpslp.load(done.text, "mps").constant, constant)
 
     def test_dialects(self):
-        text = b"*SENSE:Maximize\nROWS\n N  C\nCOLUMNS\n    X  C  1\nENDATA\n"
+        text = b"NAME\n*SENSE:Maximize\nROWS\n N  C\nCOLUMNS\n    X  C  1\nENDATA\n"
         self.assertEqual(mpslp.load(mpslp.adapt(text, "mps", "pulp").text, "mps").sense, "maximize")
         without = mpslp.adapt(text, "mps")
-        self.assertEqual((without.text, without.changes), (text, ()))
-        self.assertEqual([note.line for note in without.notes], [1])
+        self.assertEqual((without.text, without.changes, without.writer), (text, (), None))
+        self.assertEqual([note.line for note in without.notes], [2])
         with self.assertRaisesRegex(ValueError, "unknown dialect"):
             mpslp.adapt(text, "mps", "cplex")
+
+    def test_a_header_that_names_the_writer(self):
+        text = b"*SENSE:Maximize\nROWS\n N  C\nCOLUMNS\n    X  C  1\nENDATA\n"
+        for given in (text, text.replace(b"\n", b"\r\n"), gzip.compress(text)):
+            with self.subTest(given):
+                done = mpslp.adapt(given, "mps")
+                self.assertEqual((done.writer.name, done.writer.dialect), ("PuLP", "pulp"))
+                self.assertEqual(mpslp.load(done.text, "mps").sense, "maximize")
+        for dialect in ("none", "glpsol"):
+            with self.subTest(dialect):
+                done = mpslp.adapt(text, "mps", dialect)
+                self.assertEqual((done.text, done.changes, done.writer), (text, (), None))
+
+    def test_headers(self):
+        for format, text, dialect in (
+            ("lp", "\\* Objective function *\\\nMaximize\n +143 x +60 y\n\nEnd\n", "lp_solve"),
+            ("lp", "\\* Problem: Unknown *\\\n\nMaximize\n obj: + x\n\nEnd\n", "glpsol"),
+            ("lp", "\\* a_plan *\\\nMinimize\nOBJ: x\nSubject To\nEnd\n", "pulp"),
+            ("lp", "\\* a plan *\\\nMinimize\n obj: x\nSubject To\nEnd\n", None),
+            ("lp", "\\Problem name: a.lp\n\nMinimize\n obj: x\nSubject To\nEnd\n", None),
+            ("lp", "\\Problem name: a\n\nMinimize\nobj:\nSubject To\nEnd\n", "coinutils"),
+            ("lp", "Minimize\n obj: problem\nEnd\n", None),
+            ("lp", "PROBLEM\n a\nMINIMIZE\n obj: x\nEND\n", "qsopt"),
+            ("mps", "* Problem:    a\n* Class:      MIP\n* Rows:       3\n", "glpsol"),
+            ("mps", "*<meta creator='lp_solve v5.5'>\n*<meta rows=2>\n", "lp_solve"),
+            ("mps", "* Problem: write less\nNAME  a\n", None),
+            ("mps", "\n*SENSE:Maximize\n", None),
+        ):
+            with self.subTest(text):
+                writer = writer_of(text, format)
+                self.assertEqual(writer and writer.dialect, dialect)
+
+    def test_a_text_with_a_header_that_is_left(self):
+        text = b"*SENSE:Maximize\nROWS\n N  C\nCOLUMNS\n    X  C  inf\nENDATA\n"
+        with self.assertRaises(mpslp.AdaptError) as caught:
+            mpslp.adapt(text, "mps")
+        self.assertEqual(caught.exception.writer.dialect, "pulp")
+        with self.assertRaises(mpslp.AdaptError) as caught:
+            mpslp.adapt(text, "mps", "pulp")
+        self.assertIsNone(caught.exception.writer)
 
     def test_long_lines(self):
         columns = "".join(f"+ {number} x{number} " for number in range(150_000))
@@ -108,7 +222,6 @@ class Calls(unittest.TestCase):
             (b"min x\nst\nx >= 2 + y <= 5\nend\n", "lp", 3),
             (b"min c: x\n\\* constant term = 5 *\\\nst\nx >= 2\nend\n", "lp", 2),
             (b"ROWS\n N  C\nCOLUMNS\n    X  C  1\nRHS\n    RHS  C  5\nENDATA\n", "mps", 6),
-            (b"ROWS\n N  C\nCOLUMNS\n    X  C  1\nBOUNDS\n UP  BND  X  -5\nENDATA\n", "mps", 6),
         ):
             with self.subTest(text):
                 done = mpslp.adapt(text, format)
@@ -118,6 +231,91 @@ class Calls(unittest.TestCase):
         done = mpslp.adapt(gzip.compress((EXAMPLES / "small.mps").read_bytes()), "mps")
         self.assertEqual(done.text, (EXAMPLES / "small.mps").read_bytes())
         self.assertEqual([change.kind for change in done.changes], ["compressed"])
+
+
+class TheCheck(unittest.TestCase):
+    """The check that knows no rule finds what a wrong rule would do."""
+
+    TEXT = f"{ROWS}COLUMNS\n    X  C  1  A  2\nRHS\n    RHS  A  4  C  5\nRANGES\n    RNG  A  1\nBOUNDS\n UP  BND  X  7\nENDATA\n"
+
+    def difference(self, before, after, *changes, names={}):
+        read = _check_mps.readings
+        found = _check_mps.differences(read(before, None, changes), read(after), changes, names)
+        return None if found is None else found.text
+
+    def test_the_same(self):
+        self.assertIsNone(self.difference(self.TEXT, self.TEXT))
+        self.assertIsNone(self.difference(self.TEXT, self.TEXT.replace("1", "1.0e+00").replace("  ", "\t")))
+        self.assertIsNone(self.difference(self.TEXT, self.TEXT.replace("X", "Y"), names={"X": "Y"}))
+
+    def test_each_part_of_a_declaration(self):
+        for old, new in (("C  1", "C  -1"), ("C  1", "C  10"), ("A  2", "C  2"), ("X  C", "Y  C"), ("A  4", "A  -4"), ("C  5", "C  -5"),
+                         ("RNG  A  1", "RNG  A  2"), (" UP", " LO"), ("X  7", "X  70"), (" L  A", " G  A"), ("  A  2", ""),
+                         (" UP  BND  X  7\n", ""), ("    RNG  A  1\n", ""), ("ROWS", "OBJSENSE\n    MAX\nROWS"), ("BND", "OTHER"),
+                         ("COLUMNS", "COLUMNS\n    M  'MARKER'  'INTORG'"), ("A  4", "A  1e20"), (" N  C\n L  A", " L  A\n N  C\n N  D")):
+            with self.subTest(old=old, new=new):
+                after = self.TEXT.replace(old, new, 1)
+                self.assertNotEqual(after, self.TEXT)
+                self.assertIsNotNone(self.difference(self.TEXT, after))
+                self.assertIsNotNone(self.difference(after, self.TEXT))
+
+    def test_a_change_accounts_for_its_own_kind_and_line_only(self):
+        remark = self.TEXT.replace("A  2", "A  2  to see")
+        for line, kind, is_right in ((5, "trailing-text", True), (6, "trailing-text", False), (5, "number", False)):
+            with self.subTest(line=line, kind=kind):
+                found = self.difference(remark, self.TEXT, mpslp.Change(line, kind, "", ""))
+                self.assertEqual(found is None, is_right)
+        for word in ("2", "A", "X", ";A"):
+            with self.subTest(word):
+                change = mpslp.Change(5, "trailing-text", "", "")
+                self.assertIsNotNone(self.difference(self.TEXT.replace("A  2", f"A  2  {word}"), self.TEXT, change))
+
+    def test_what_is_added(self):
+        change = mpslp.Change(12, "negative-upper", "", "")
+        below = self.TEXT.replace("X  7", "X  -7")
+        with_lower = below.replace("ENDATA", " MI  BND  X\nENDATA")
+        self.assertIsNone(self.difference(below, with_lower, change))
+        self.assertIsNotNone(self.difference(below, with_lower))
+        self.assertIsNotNone(self.difference(self.TEXT, self.TEXT.replace("ENDATA", " MI  BND  X\nENDATA"), change))
+
+    def test_one_name_for_two(self):
+        before = self.TEXT.replace("RHS\n", "    Y  C  1\nRHS\n", 1)
+        self.assertEqual(self.difference(before, before, names={"X": "Z", "Y": "Z"}), "one name is written for two")
+
+    def test_adapt_reports_a_wrong_rule(self):
+        text = f"{ROWS}COLUMNS\n    X  C  1D2\nENDATA\n".encode()
+        with mock.patch("mpslp._adapt._mps_rules._with_e", lambda field: "5"):
+            with self.assertRaisesRegex(mpslp.AdaptError, "^5: internal error: the result does not say what the file says: coefficient X C"):
+                mpslp.adapt(text, "mps")
+
+
+class TheCheckOfLp(unittest.TestCase):
+    """The check of LP, which knows no rule, finds what a wrong rule would do."""
+
+    TEXT = "min c: 2 x + y + 3\nst\nr: x + 2 y <= 4\n1 <= x - y <= 9\nx >= 2\n+ y <= 7\nbounds\nx <= 8\ngenerals\nx\nend\n"
+
+    def difference(self, before, after, names={}):
+        read = _check_lp.readings
+        found = _check_lp.differences(read(before, None), read(after, None, is_profile=True), names)
+        return None if found is None else found.text
+
+    def test_the_same(self):
+        self.assertIsNone(self.difference(self.TEXT, self.TEXT))
+        self.assertIsNone(self.difference(self.TEXT.replace("+ 2 y <= 4", "- 1 + y <= 3 - y"), self.TEXT))
+        self.assertIsNone(self.difference(self.TEXT.replace("r: x + 2 y <= 4", "r: 4 >= x + 2 * y"), self.TEXT))
+        self.assertIsNone(self.difference(self.TEXT, self.TEXT.replace("y", "z"), {"y": "z"}))
+
+    def test_what_differs(self):
+        for right, wrong in (("min", "max"), ("c:", "d:"), ("+ 3", "- 3"), ("2 x", "x"), ("r:", "s:"), ("+ 2 y", "- 2 y"), ("<= 4", "<= 42"),
+                             ("<= 4", ">= 4"), ("1 <= x", "2 <= x"), ("<= 9", "<= 90"), ("x >= 2\n+", "x >= 23"), ("x <= 8", "y <= 8"),
+                             ("x <= 8", "x <= 9"), ("x <= 8", "x >= 8"), ("generals", "binaries"), ("generals\nx", "generals\ny")):
+            with self.subTest(wrong):
+                self.assertIsNotNone(self.difference(self.TEXT, self.TEXT.replace(right, wrong)))
+
+    def test_what_has_two_readings(self):
+        for rows in ("x <= 5+x+x <= 4", "x <= 5\n+ y\n+ z <= 4"):
+            with self.assertRaisesRegex(mpslp.AdaptError, "more than one reading"):
+                _check_lp.check_lp(f"min x\nst\n{rows}\nend\n", "min x\nst\nend\n", None, {})
 
 
 class Command(unittest.TestCase):
@@ -143,6 +341,19 @@ class Command(unittest.TestCase):
         self.assertEqual((status, output), (1, ADAPTED))
         self.assertIn(f"{self.plan}:4: constant-in-row: c: x[1] + y + 3 <= 5 -> c: x(1) + y <= 2\n", errors)
 
+    def test_a_header_is_the_first_line_of_the_report(self):
+        file = self.folder / "sense.mps"
+        file.write_text("*SENSE:Maximize\nROWS\n N  C\nCOLUMNS\n    X  C  1\nENDATA\n")
+        first = f"{file}: written by PuLP (its header says so): read with --from pulp\n"
+        status, _, errors = self.run_with(file)
+        self.assertEqual((status, errors), (1, f"{first}{file}:1: pulp-sense: *SENSE:Maximize -> OBJSENSE MAX\n"))
+        self.assertEqual(self.run_with(file, "--from", "none")[:2], (0, file.read_bytes()))
+        self.assertNotIn("written by", self.run_with(file, "--from", "none")[2])
+        file.write_text("*SENSE:Maximize\nROWS\n N  C\nCOLUMNS\n    X  C  inf\nENDATA\n")
+        status, output, errors = self.run_with(file)
+        self.assertEqual((status, output), (2, b""))
+        self.assertTrue(errors.startswith(first))
+
     def test_a_file_that_stays(self):
         self.assertEqual(self.run_with(EXAMPLES / "small.lp"), (0, (EXAMPLES / "small.lp").read_bytes(), ""))
 
@@ -167,6 +378,35 @@ class Command(unittest.TestCase):
         self.assertEqual(self.run_with("--from", "word", self.plan)[0], 3)
         self.assertEqual(self.run_with(self.folder / "plan")[0], 3)
         self.assertEqual(self.run_with(self.folder / "missing.lp")[0], 4)
+
+    def test_nothing_is_written_for_a_file_that_is_still_rejected(self):
+        path = self.folder / "plan.mps"
+        for kind, line, text in REJECTED:
+            with self.subTest(kind):
+                path.write_text(text)
+                status, output, errors = self.run_with(path, "-o", self.out)
+                self.assertEqual((status, output, self.out.exists()), (2, b"", False))
+                self.assertRegex(errors, f"^{path}:{'' if line is None else f'{line}:'} {kind}")
+
+    def test_a_kind_that_is_none(self):
+        status, output, errors = self.run_with(self.plan, "--strict", "constants")
+        self.assertEqual((status, output), (3, b""))
+        self.assertIn("unknown kind of changes", errors)
+
+    def test_an_output_that_takes_a_part_only(self):
+        text = f"{ROWS}COLUMNS\n" + "".join(f"    X{number}  C  {number}D0\n" for number in range(20_000)) + "ENDATA\n"
+        path = self.folder / "plan.mps"
+        path.write_text(text)
+        program = f"import sys; from mpslp import _adapt; sys.exit(_adapt.command([{str(path)!r}]))"
+        environment = {**os.environ, "PYTHONUNBUFFERED": "1"}
+        with subprocess.Popen([sys.executable, "-c", program], env=environment, stdout=subprocess.PIPE, stderr=subprocess.DEVNULL) as run:
+            first = run.stdout.read(10)
+            rest = run.stdout.read()
+        self.assertEqual((run.returncode, len(first + rest)), (1, len(text)))
+        if os.path.exists("/dev/full"):
+            with open("/dev/full", "wb") as full:
+                done = subprocess.run([sys.executable, "-c", program], env=environment, stdout=full, stderr=subprocess.PIPE)
+            self.assertEqual(done.returncode, 4)
 
     def test_standard_input(self):
         with mock.patch("sys.stdin", io.TextIOWrapper(io.BytesIO(PLAN))):

@@ -132,6 +132,36 @@ class FromArrays(unittest.TestCase):
             found = mpslp.Arrays(array("d", [1, 2]), array(code, [0, 1, 2]), array(code, [1, 0]), array("f", [5, 7]), array("i", [0, 1]), (9, 9), integrality=array(code, [0, 1]))
             self.assertEqual(mpslp.from_arrays(found), wanted, code)
 
+    def test_arrays_of_numpy(self):
+        try:
+            import numpy
+        except ImportError:
+            self.skipTest("numpy is missing")
+        good = mpslp.Arrays([1, 2], [0, 1, 2], [1, 0], [5, 7], [0, 1], [9, 9], integrality=[0, 1])
+        wanted = mpslp.from_arrays(good)
+        for code in ("i1", "u2", "i4", "u8", "i8"):
+            for order in "<>":
+                for name in ("indptr", "indices", "integrality"):
+                    numbers = numpy.array(getattr(good, name), dtype=order + code)
+                    self.assertEqual(mpslp.from_arrays(good._replace(**{name: numbers})), wanted, (name, order, code))
+                    self.assertEqual(mpslp.from_arrays(good._replace(**{name: numpy.repeat(numbers, 2)[::2]})), wanted, (name, order, code))
+        for name in ("c", "data", "row_lower"):
+            for order in "<>":
+                self.assertEqual(mpslp.from_arrays(good._replace(**{name: numpy.array(getattr(good, name), dtype=order + "f8")})), wanted, name)
+        for name in ("indptr", "indices"):
+            for code in ("O", "f8", ">f4", "U3", "S3", "c16", "M8[s]"):
+                with self.assertRaisesRegex(TypeError, f"^{name}"):
+                    mpslp.from_arrays(good._replace(**{name: numpy.array(getattr(good, name)).astype(code)}))
+
+    def test_indexes_that_are_no_integers(self):
+        good = mpslp.Arrays([1, 2], [0, 1, 2], [1, 0], [5, 7], [0, 1], [9, 9])
+        for wrong in ([1, "0"], [1, None], [1.0, 0], "ab", [[1], [0]]):
+            with self.assertRaisesRegex(TypeError, "^indices: .* is no integer$"):
+                mpslp.from_arrays(good._replace(indices=wrong))
+        for wrong in (5, None, "x", [1], tuple(good)):
+            with self.assertRaisesRegex(TypeError, "^arrays are a mpslp.Arrays, not "):
+                mpslp.from_arrays(wrong)
+
     def test_zeros_are_no_entries(self):
         model = mpslp.from_arrays(mpslp.Arrays([0.0], [0, 2], [1, 0], [-0.0, 7.0], [0.0, 1.0], [9.0, 9.0]))
         self.assertEqual(model.columns["x0"].entries, {"r0": 7})

@@ -72,6 +72,9 @@ DuplicateRow
         for kind, words in (("BadTokem", "^no such kind of error: 'BadTokem'; is it BadToken[?]$"), ("", "^no such kind of error: ''$")):
             with self.assertRaisesRegex(ValueError, words):
                 mpslp.explain(kind)
+        for wrong in (5, None, b"BadToken", ["BadToken"]):
+            with self.assertRaisesRegex(TypeError, "^a kind is a str, not "):
+                mpslp.explain(wrong)
 
 
 class Places(unittest.TestCase):

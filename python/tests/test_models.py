@@ -133,6 +133,18 @@ class Parts(unittest.TestCase):
         with self.assertRaises(AttributeError):
             model.digest = ""
 
+    def test_parts_that_are_made_again(self):
+        """Like a tuple, a part that is made stays as it is."""
+        for path in (None, EXAMPLES / "small.lp"):
+            model = mpslp.Model(rows=[mpslp.Row("r", 1)], columns=[mpslp.Column("x", entries={"r": 2})]) if path is None else mpslp.load(path)
+            text, digest = mpslp.dumps(model, "mps"), model.digest
+            model.__init__("maximize", columns=[mpslp.Column("z")])
+            self.assertEqual((mpslp.dumps(model, "mps"), model.digest, hash(model)), (text, digest, hash(digest)))
+            for part in (*model.rows.values(), *model.columns.values()):
+                shown = repr(part), dict(part.entries)
+                part.__init__("another")
+                self.assertEqual((repr(part), dict(part.entries)), shown)
+
     def test_hashes(self):
         model, other = sample(), sample()
         self.assertIsNot(model, other)

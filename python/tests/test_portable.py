@@ -9,7 +9,7 @@ from dataclasses import FrozenInstanceError
 
 import mpslp
 from mpslp import _mpslp
-from mpslp._portable import KINDS, remarks_of
+from mpslp._portable import AGREED, KINDS, PROGRAMS, grouped, remarks_of
 from mpslp._portable._lp import LpFile
 from mpslp._portable._mps import MpsFile
 from repository import EXAMPLES, VECTORS, model_files
@@ -20,6 +20,13 @@ import portable_rules
 import spellings
 
 MAX = b"NAME\nOBJSENSE\n    MAX\nROWS\n N  C\nCOLUMNS\n    x/2  C  1\nBOUNDS\n UP  BND  x/2  0\nENDATA\nmore\n"
+MANY = b"min c: x\nst\n" + b"".join(b" r%d: 1 <= x <= %d\n" % (number, number + 2) for number in range(5)) + b"bounds\n x <= 0\nend\n"
+NO_OBJECTIVE = b"NAME\nROWS\n L  R\nCOLUMNS\n    X  R  1\nRHS\n    RHS  R  4\n    RHS  obj  5\nENDATA\n"
+
+
+def summary(path, remarks):
+    """What the command prints of remarks without --all."""
+    return "".join(f"{path}:{line}\n" for line in grouped(each for each in remarks if each.kind not in AGREED))
 LINES = ("3: objsense: ", "7: name-like-arithmetic: ", "9: upper-zero: ", "11: text-after-end: ")
 
 
@@ -34,7 +41,13 @@ class Calls(unittest.TestCase):
         self.assertEqual([str(each)[: len(line)] for each, line in zip(found, LINES)], list(LINES))
         self.assertEqual(len(found), len(LINES))
         self.assertEqual(found[2], mpslp.Remark(9, "upper-zero", found[2].text))
+        self.assertEqual(found[0].programs, ("glpsol", "clp", "cbc", "coinutils"))
         self.assertEqual(str(found[2]), f"9: upper-zero: {found[2].text}")
+
+    def test_the_objective_of_a_file_without_an_n_row(self):
+        text = b"NAME\nROWS\n L  R\nCOLUMNS\n    X  R  1\nRHS\n    RHS  obj  5  R  1e25\nENDATA\n"
+        self.assertEqual([(each.line, each.kind) for each in mpslp.portability(text, "mps")], [(7, "large-limit"), (7, "objective-rhs")])
+        self.assertEqual(mpslp.portability(text.replace(b"obj  5", b"obj  1e25"), "mps")[0].kind, "large-limit")
 
     def test_remarks_are_records(self):
         remark = mpslp.portability(MAX, "mps")[0]
@@ -49,6 +62,27 @@ class Calls(unittest.TestCase):
         self.assertEqual(mpslp.portability(EXAMPLES / "small.canonical.lp"), ())
         with self.assertRaisesRegex(ValueError, "format"):
             mpslp.portability(MAX)
+
+    def test_targets(self):
+        everything = mpslp.portability(MAX, "mps")
+        for program in PROGRAMS:
+            found = mpslp.portability(MAX, "mps", target=program)
+            self.assertEqual(found, tuple(each for each in everything if program in each.programs))
+        self.assertEqual([each.kind for each in mpslp.portability(MAX, "mps", target="clp")], ["objsense"])
+        self.assertEqual(mpslp.portability(MAX, "mps", target="lp_solve"), ())
+        with self.assertRaisesRegex(ValueError, "'highs' is none of glpsol, clp"):
+            mpslp.portability(MAX, "mps", target="highs")
+
+    def test_a_file_without_an_n_row(self):
+        """Its objective has the name obj, which RHS may have."""
+        self.assertEqual([(each.line, each.kind) for each in mpslp.portability(NO_OBJECTIVE, "mps")], [(8, "objective-rhs")])
+        large = NO_OBJECTIVE.replace(b"obj  5", b"obj  1e25")
+        self.assertEqual([each.kind for each in mpslp.portability(large, "mps")], ["objective-rhs"])
+
+    def test_a_last_column_that_is_integer(self):
+        """lp_solve keeps it, also without an RHS section and without bounds."""
+        marked = b"NAME\nROWS\n N  C\nCOLUMNS\n    M  'MARKER'  'INTORG'\n    X  C  1\nENDATA\n"
+        self.assertEqual([each.kind for each in mpslp.portability(marked, "mps")], ["marked-without-bound"])
 
     def test_a_text_that_is_rejected(self):
         with self.assertRaisesRegex(mpslp.ModelFileError, "line 1: BadToken"):
@@ -107,7 +141,8 @@ class Command(Directory):
         self.file("a.lp", CANONICAL_LP)
         self.prints(["check", "--portable", "a.lp"], 0)
         self.file("b.mps", MAX)
-        lines = "".join(f"b.mps:{each}\n" for each in mpslp.portability(MAX, "mps"))
+        lines = summary("b.mps", mpslp.portability(MAX, "mps"))
+        self.assertEqual(lines.split("\n")[0], "b.mps: objsense: 1 line")
         self.prints(["check", "--portable", "a.lp", "b.mps"], 1, lines)
         self.file("c.lp", BROKEN)
         self.prints(["check", "--portable", "c.lp", "b.mps"], 2, lines, "c.lp:1: BadToken: y\n")
@@ -116,15 +151,38 @@ class Command(Directory):
     def test_sources(self):
         self.file("deep/b.mps.gz", gzip.compress(MAX))
         remarks = mpslp.portability(MAX, "mps")
-        self.prints(["check", "--portable", "."], 1, "".join(f"./deep/b.mps.gz:{each}\n" for each in remarks))
-        self.prints(["check", "--portable", "-f", "mps", "-"], 1, "".join(f"-:{each}\n" for each in remarks), content=MAX)
+        self.prints(["check", "--portable", "."], 1, summary("./deep/b.mps.gz", remarks))
+        self.prints(["check", "--portable", "-f", "mps", "-"], 1, summary("-", remarks), content=MAX)
+
+    def test_all_lines(self):
+        """With --all each line is printed, in their order, and also the kinds in which all programs agree."""
+        self.file("b.mps", MAX)
+        self.prints(["check", "--portable", "--all", "b.mps"], 1, "".join(f"b.mps:{each}\n" for each in mpslp.portability(MAX, "mps")))
+        self.file("agreed.lp", b"min x\nst\n x >= -1\nbounds\n x <= 0\nend\n")
+        self.prints(["check", "--portable", "agreed.lp"], 0)
+        self.assertEqual(self.run_tools("check", "--portable", "--all", "agreed.lp").returncode, 1)
+
+    def test_many_lines_of_a_kind(self):
+        self.file("many.lp", MANY)
+        remarks = mpslp.portability(MANY, "lp")
+        shown = "".join(f"many.lp:{each}\n" for each in remarks[:3])
+        self.prints(["check", "--portable", "many.lp"], 1, "many.lp: ranged-row: 5 lines, of which the first 3 follow; --all prints each\n" + shown)
+
+    def test_targets(self):
+        self.file("b.mps", MAX)
+        remarks = mpslp.portability(MAX, "mps")
+        self.prints(["check", "--portable", "--target", "glpsol", "b.mps"], 1, summary("b.mps", remarks[:1]))
+        self.prints(["check", "--portable", "--target", "lp_solve", "--all", "b.mps"], 0)
+        self.assertEqual(self.run_tools("check", "--target", "clp", "b.mps").returncode, 3)
+        self.assertEqual(self.run_tools("check", "--all", "b.mps").returncode, 3)
+        self.assertEqual(self.run_tools("check", "--portable", "--target", "highs", "b.mps").returncode, 3)
 
     def test_kinds_that_are_left_out(self):
         self.file("b.mps", MAX)
         found = mpslp.portability(MAX, "mps")
         words = [word for each in found[1:] for word in ("--ignore", each.kind)]
-        self.prints(["check", "--portable", "b.mps", *words], 1, f"b.mps:{found[0]}\n")
-        self.prints(["check", "--portable", "b.mps", *words, "--ignore", found[0].kind], 0)
+        self.prints(["check", "--portable", "--all", "b.mps", *words], 1, f"b.mps:{found[0]}\n")
+        self.prints(["check", "--portable", "--all", "b.mps", *words, "--ignore", found[0].kind], 0)
         self.assertEqual(self.run_tools("check", "--portable", "--ignore", "sense", "b.mps").returncode, 3)
         self.prints(["check", "--ignore", "objsense", "b.mps"], 3, error="python3 -m mpslp: error: --ignore leaves out remarks of --portable\n")
 

@@ -192,6 +192,34 @@ class CompressedFiles(unittest.TestCase):
                     mpslp.load(path)
                 self.assertIn(str(path), str(caught.exception))
 
+    def test_files_that_are_empty(self):
+        for ending, pack in self.packs.items():
+            with self.subTest(ending):
+                with self.assertRaisesRegex(OSError, f"is not a complete {ending} file: it is empty$"):
+                    mpslp.load(self.file(f"a.mps{ending}", b""))
+                with self.assertRaisesRegex(mpslp.ModelFileError, "MissingEnd"):
+                    mpslp.load(self.file(f"a.mps{ending}", pack(b"")))
+
+    def test_other_bytes_after_the_end(self):
+        for ending, pack in self.packs.items():
+            for junk in (b"\xff", b"junk and more junk", b"\n", pack(b"x")[:4], b"\0junk"):
+                path = self.file(f"a.mps{ending}", pack(TEXT) + junk)
+                with self.subTest(ending, junk=junk), self.assertRaises(OSError):
+                    mpslp.load(path)
+
+    def test_zeros_after_the_end(self):
+        """They are legal for gzip, and for xz in fours; also between parts."""
+        for ending, zeros, is_legal in ((".gz", 1, True), (".gz", 5000, True), (".xz", 4, True), (".xz", 4096, True), (".xz", 3, False), (".bz2", 4, False)):
+            pack = self.packs[ending]
+            for content in (pack(TEXT) + bytes(zeros), pack(TEXT[:40]) + bytes(zeros) + pack(TEXT[40:])):
+                path = self.file(f"a.mps{ending}", content)
+                with self.subTest(ending, zeros=zeros):
+                    if is_legal:
+                        self.assertEqual(mpslp.canonical(path), CANONICAL)
+                    else:
+                        with self.assertRaises(OSError):
+                            mpslp.load(path)
+
     def test_the_fault_of_a_file(self):
         path = self.file("a.lp.gz", gzip.compress(b"min x y\nend\n"))
         with self.assertRaisesRegex(mpslp.ModelFileError, "a.lp.gz: line 1: BadToken$"):

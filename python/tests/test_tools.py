@@ -170,7 +170,7 @@ class InPlace(Directory):
         self.assertEqual((done.returncode, done.stdout.decode()), (2, "".join(f"./{name}\n" for name in changed)))
         done = self.run_tools("canon", "-i", "-j", "3", ".")
         self.assertEqual((done.returncode, done.stdout.decode()), (2, "".join(f"./{name}\n" for name in changed)))
-        printed = done.stderr.decode().splitlines()
+        printed = [line for line in done.stderr.decode().splitlines() if not line.startswith("warning: ")]
         self.assertEqual(len(printed), len(errors))
         for line, error in zip(printed, errors):
             where = "" if error.line is None else f":{error.line}"
@@ -262,8 +262,9 @@ class Check(Directory):
         for name in ("a.mps", "b.LP", "deep/er/c.mps.gz", "deep/d.MPS.xz", ".git/e.mps", "deep/.hidden/f.lp", "g.txt", "mps", "deep/h.mps.old"):
             self.file(name, b"")
         self.prints(["check", "."], 4, error="".join([
-            "./a.mps: MissingEnd\n", "./b.LP: MissingEnd\n", "./deep/d.MPS.xz: not a complete .xz file: Compressed data ended before the end-of-stream marker was reached\n",
-            "./deep/er/c.mps.gz: MissingEnd\n"]))
+            "./a.mps: MissingEnd\n", "./b.LP: MissingEnd\n", "./deep/d.MPS.xz: not a complete .xz file: it is empty\n",
+            "./deep/er/c.mps.gz: not a complete .gz file: it is empty\n"]))
+        self.file("deep/er/c.mps.gz", gzip.compress(b""))
         self.prints(["check", "deep/er", "a.mps"], 2, error="deep/er/c.mps.gz: MissingEnd\na.mps: MissingEnd\n")
 
     def test_many_at_a_time_are_in_order(self):
@@ -339,16 +340,53 @@ class Files(Directory):
 
     def test_output_that_fails(self):
         self.file("a.mps")
-        for words in ("canon a.mps >/dev/full", "check a.mps >/dev/full", "show a.mps >/dev/full", "diff a.mps a.mps >/dev/full", "explain >&-"):
-            done = subprocess.run(f"exec {sys.executable} -m mpslp {words}", shell=True, cwd=self.folder, stderr=subprocess.PIPE, text=True, timeout=60)
-            self.assertEqual((done.returncode, done.stderr), (4, "write failed\n"), words)
-        done = subprocess.run(f"{sys.executable} -m mpslp show a.mps 2>&- >/dev/full; echo $?", shell=True, cwd=self.folder, capture_output=True, timeout=60)
-        self.assertEqual((done.stdout, done.stderr), (b"4\n", b""))
-        reader, writer = os.pipe()
-        os.close(reader)
-        done = subprocess.run([*TOOLS, "show", "a.mps"], cwd=self.folder, stdout=writer, stderr=subprocess.PIPE, timeout=60)
-        os.close(writer)
-        self.assertEqual((done.returncode, done.stderr), (4, b"write failed\n"))
+        full, closed = "standard output: No space left on device\n", "standard output: it is closed\n"
+        for unbuffered in ("", "1"):
+            environment = {**os.environ, "PYTHONUNBUFFERED": unbuffered}
+            for words, output, wanted in (("canon a.mps", ">/dev/full", full), ("check a.mps", ">/dev/full", full), ("show a.mps", ">/dev/full", full),
+                                          ("diff a.mps a.mps", ">/dev/full", full), ("--help", ">/dev/full", full), ("--version", ">/dev/full", full),
+                                          ("explain", ">&-", closed), ("canon -h", ">&-", closed), ("show a.mps", "2>&- >/dev/full", ""),
+                                          ("check b.mps", "2>/dev/full", ""), ("check -", "2>/dev/full", "")):
+                done = subprocess.run(f"exec {sys.executable} -m mpslp {words} {output}", shell=True, cwd=self.folder, capture_output=True, env=environment, text=True, timeout=60)
+                self.assertEqual((done.returncode, done.stdout, done.stderr), (4, "", wanted), words)
+
+    def test_a_reader_that_is_gone(self):
+        """The command ends as grep does, and says nothing."""
+        self.file("a.mps")
+        for unbuffered in ("", "1"):
+            reader, writer = os.pipe()
+            os.close(reader)
+            done = subprocess.run([*TOOLS, "show", "a.mps"], cwd=self.folder, stdout=writer, stderr=subprocess.PIPE, env={**os.environ, "PYTHONUNBUFFERED": unbuffered}, timeout=60)
+            os.close(writer)
+            self.assertEqual((done.returncode, done.stderr), (-signal.SIGPIPE, b""))
+
+    def test_pieces_of_output(self):
+        """A pipe that takes a part of each write, and one that does not block, get all of it."""
+        content = large_text(20000)
+        self.file("a.mps", content)
+        wanted = mpslp.canonical(content, "mps")
+        for unbuffered in ("", "1"):
+            for blocks in (True, False):
+                reader, writer = os.pipe()
+                os.set_blocking(writer, blocks)
+                running = subprocess.Popen([*TOOLS, "canon", "--no-warnings", "a.mps"], cwd=self.folder, stdout=writer, env={**os.environ, "PYTHONUNBUFFERED": unbuffered})
+                os.close(writer)
+                with os.fdopen(reader, "rb", 0) as file:
+                    found = b"".join(iter(lambda: file.read(5000), b""))
+                self.assertEqual((running.wait(60), found), (0, wanted))
+
+    def test_standard_input_that_is_closed(self):
+        for words in ("canon -f lp -", "show -f mps -", f"same -f lp - {EXAMPLES / 'small.lp'}", "digest -f lp -"):
+            done = subprocess.run(f"exec {sys.executable} -m mpslp {words} <&-", shell=True, capture_output=True, text=True, timeout=60)
+            self.assertEqual((done.returncode, done.stdout, done.stderr), (4, "", "-: standard input is closed\n"), words)
+
+    def test_names_of_files_in_other_encodings(self):
+        self.file("é.lp", BROKEN)
+        for encoding in ("ascii", "latin-1", "utf-16", "ascii:strict"):
+            for words in (["check", "é.lp"], ["survey", "é.lp"], ["survey", "--json", "."]):
+                done = self.run_process(*words, env={**os.environ, "PYTHONIOENCODING": encoding})
+                self.assertEqual(done.returncode, 2 if words[0] == "check" else 0, done.stderr)
+                self.assertIn(b"\\u00e9.lp" if "--json" in words else "é.lp".encode(), done.stderr if words[0] == "check" else done.stdout)
 
 
 class Models(Directory):
@@ -449,8 +487,8 @@ class Command(Directory):
 
 class Completions(Directory):
     WANTED = {
-        "": "canon check same diff show digest explain adapt survey report --help --version", "d": "diff digest", "s": "same show survey", "check --p": "--portable", "survey --": "--help --jobs --csv --json", "canon -t ": "mps lp", "check -f l": "lp",
-        "diff --": "--help --format --ignore-objective-name --digits --by-position", "canon -i sm": "small.lp small.mps", "explain DuplicateR": "DuplicateRange DuplicateRhs DuplicateRow",
+        "": "canon check same diff show digest explain adapt survey report --help --version", "d": "diff digest", "s": "same show survey", "check --p": "--portable", "survey --": "--help --jobs --csv --json", "canon -t ": "mps lp glp", "check -f l": "lp",
+        "diff --": "--help --format --ignore-objective-name --digits --by-position --no-warnings", "canon -i sm": "small.lp small.mps", "explain DuplicateR": "DuplicateRange DuplicateRhs DuplicateRow",
         "diff --digits ": "",
     }
 

@@ -100,6 +100,9 @@ def surveyed(source: mpslp.Source, path: Path, name: str) -> None:
     for remark in mpslp.portability(source, "lp"):
         assert_type(remark, mpslp.Remark)
         assert_type((remark.line, remark.kind, remark.text), tuple[int, str, str])
+    for warning in mpslp.warnings_of(source, "lp"):
+        assert_type(warning, mpslp.ModelFileWarning)
+        assert_type((warning.line, warning.kind, warning.text), tuple[int, str, str])
     found = mpslp.survey(path, name, jobs=2)
     assert_type(found, mpslp.Survey)
     assert_type(found.files[0], mpslp.SurveyedFile)

@@ -41,8 +41,11 @@ from mpslp._faults import ModelFileError
 from mpslp._models import Column, Kind, Model, Row, Sense, dump, dumps, from_arrays, load
 from mpslp._numbers import Number, fraction
 from mpslp._portable import Remark, portability
+from mpslp._solver_texts import SolverError, SolverText
+from mpslp._solver_texts._of_models import text_for
 from mpslp._sources import Format, Source
 from mpslp._survey import Survey, SurveyedFile, survey
+from mpslp._warnings import ModelFileWarning, warnings_of
 
 __all__ = [
     "__version__",
@@ -63,12 +66,15 @@ __all__ = [
     "Model",
     "ModelDifference",
     "ModelFileError",
+    "ModelFileWarning",
     "Number",
     "Remark",
     "Row",
     "RowDifference",
     "RowOnly",
     "Sense",
+    "SolverError",
+    "SolverText",
     "Source",
     "Survey",
     "SurveyedFile",
@@ -87,6 +93,8 @@ __all__ = [
     "portability",
     "same",
     "survey",
+    "text_for",
+    "warnings_of",
 ]
 
 # In whatever module they are defined, they are shown and pickled by the names under which they are found.

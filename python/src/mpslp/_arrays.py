@@ -5,12 +5,15 @@
 from array import array
 from collections.abc import Sequence
 from importlib import import_module
+from operator import index
 from typing import Any, Literal, NamedTuple
 
 from mpslp import _mpslp
 
 # Each whole number up to this one is a double.
 _MOST_WHOLE = 2**53
+# The type codes of integers in the machine's own byte order.
+_INTEGERS = frozenset("bBhHiIlLqQ?")
 
 
 class Arrays(NamedTuple):
@@ -91,14 +94,32 @@ def doubles_of(values: Any) -> bytes | None:
     return array("d", numbers).tobytes() if all(map(_is_double, numbers)) else None
 
 
-def integers_of(values: Any) -> bytes | None:
-    """The memory of an array of 64-bit integers that are those of a sequence, or None if there is none."""
-    if _code(values) == "q":
-        return memoryview(values).tobytes()
+def integers_of(name: str, values: Any) -> bytes | None:
+    """The memory of an array of 64-bit integers that are those of a sequence, or None if one does not fit.
+
+    Raises TypeError for a sequence of anything else: an index is exact.
+    """
+    code = _code(values)
     try:
-        return array("q", memoryview(values) if _code(values) else listed(values)).tobytes()
-    except (OverflowError, TypeError):
+        if code == "q":
+            return memoryview(values).tobytes()
+        return array("q", memoryview(values) if code in _INTEGERS else _whole_numbers(name, values)).tobytes()
+    except OverflowError:
         return None
+
+
+def _whole_numbers(name: str, values: Any) -> list[int]:
+    """A sequence as a list of whole numbers, of an array in another byte order, too."""
+    if getattr(getattr(values, "dtype", None), "kind", "") == "O":
+        raise TypeError(f"{name} is an array of objects, not of integers")
+    return [_whole_number(name, number) for number in listed(values)]
+
+
+def _whole_number(name: str, number: Any) -> int:
+    try:
+        return index(number)
+    except TypeError:
+        raise TypeError(f"{name}: {number!r} is no integer") from None
 
 
 def bytes_of(values: Any) -> bytes | None:
@@ -113,7 +134,7 @@ def _code(values: Any) -> str:
     """The type code of a buffer of one dimension; empty for other sequences."""
     try:
         view = memoryview(values)
-    except TypeError:
+    except (TypeError, ValueError):  # the second is that of arrays of times
         return ""
     return view.format if view.ndim == 1 else ""
 

@@ -50,7 +50,8 @@ def _gzip(content: bytes) -> bytes:
 def _gunzip(content: bytes) -> bytes:
     import gzip
 
-    return gzip.decompress(content)
+    _begun(content)
+    return gzip.decompress(content)  # it takes zeros after the last part, which tapes and tar leave, and nothing else
 
 
 def _bzip2(content: bytes) -> bytes:
@@ -62,7 +63,7 @@ def _bzip2(content: bytes) -> bytes:
 def _bunzip2(content: bytes) -> bytes:
     import bz2
 
-    return bz2.decompress(content)
+    return _joined_streams(content, bz2.BZ2Decompressor)
 
 
 def _xz(content: bytes) -> bytes:
@@ -74,19 +75,45 @@ def _xz(content: bytes) -> bytes:
 def _unxz(content: bytes) -> bytes:
     import lzma
 
-    return lzma.decompress(content)
+    return _joined_streams(content, lzma.LZMADecompressor, padding=4)
+
+
+def _joined_streams(content: bytes, decompressor: Callable[[], Any], padding: int = 0) -> bytes:
+    """The text of streams one after the other. The module's own function ignores other bytes after the first.
+
+    Zeros are legal after a stream of some formats, in multiples of ``padding``.
+    """
+    parts: list[bytes] = []
+    while content or not parts:
+        _begun(content)
+        stream = decompressor()
+        parts.append(stream.decompress(content))
+        if not stream.eof:
+            raise EOFError("Compressed data ended before the end-of-stream marker was reached")
+        content = stream.unused_data
+        if padding:
+            stripped = content.lstrip(b"\0")
+            if (len(content) - len(stripped)) % padding:
+                raise EOFError(f"the zeros after a stream are no multiple of {padding} bytes")
+            content = stripped
+    return b"".join(parts)
+
+
+def _begun(content: bytes) -> None:
+    """Raises EOFError for an empty file: each compression writes something for an empty text, too."""
+    if not content:
+        raise EOFError("it is empty")
 
 
 def _zstd(content: bytes) -> bytes:
     own = _own_zstd()
     if own is not None:
         return bytes(own.compress(content))
-    import zstandard
-
-    return bytes(zstandard.ZstdCompressor().compress(content))
+    return bytes(import_module("zstandard").ZstdCompressor().compress(content))
 
 
 def _unzstd(content: bytes) -> bytes:
+    _begun(content)
     own = _own_zstd()
     return _unzstandard(content) if own is None else bytes(own.decompress(content))
 
@@ -101,16 +128,8 @@ def _own_zstd() -> Any:
 
 def _unzstandard(content: bytes) -> bytes:
     """Frame by frame; a truncated frame is an error, which the readers of zstandard ignore."""
-    import zstandard
-
-    parts: list[bytes] = []
-    while content or not parts:
-        frame = zstandard.ZstdDecompressor().decompressobj()
-        parts.append(frame.decompress(content))
-        if not frame.eof:
-            raise EOFError("a frame is cut off")
-        content = frame.unused_data
-    return b"".join(parts)
+    zstandard = import_module("zstandard")
+    return _joined_streams(content, lambda: zstandard.ZstdDecompressor().decompressobj())
 
 
 COMPRESSIONS = {

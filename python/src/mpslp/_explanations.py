@@ -63,6 +63,8 @@ def explain(kind: str) -> Explanation:
           RANGES
               RNG  LIM  2
     """
+    if not isinstance(kind, str):
+        raise TypeError(f"a kind is a str, not {type(kind).__name__}")
     found = {each.lower(): each for each in kinds()}
     known = found.get(kind.lower())
     if known is None:

@@ -3,16 +3,18 @@
 from __future__ import annotations
 
 import argparse
-import io
 import os
 import signal
 import sys
+from collections import Counter
 from collections.abc import Callable, Iterable, Iterator, Sequence
 from concurrent.futures import Future, ThreadPoolExecutor
+from contextlib import suppress
 from enum import IntEnum
 from functools import partial
 from importlib import import_module
 from importlib.util import find_spec
+from itertools import chain
 from typing import Any, NamedTuple, NoReturn
 
 from mpslp import _adapt, _mpslp
@@ -23,14 +25,21 @@ from mpslp._faults import ModelFileError
 from mpslp._files import model_files, replace_file
 from mpslp._models import model_of
 from mpslp._numbers import MOST_DIGITS
+from mpslp._output import OutputError, write_all, write_line, write_lines
 from mpslp._places import about
-from mpslp._portable import KINDS, portability
+from mpslp._portable import AGREED, KINDS, PROGRAMS, grouped, portability
 from mpslp._shown import shown
-from mpslp._sources import Format, Text, format_number, format_of_name, naming, read
+from mpslp._solver_texts import SOLVERS, SolverError, solver_text
+from mpslp._sources import Format, Text, format_number, format_of_name, naming, read, read_standard_input
 from mpslp._survey import survey_of
+from mpslp._warnings import KINDS as WARNING_KINDS, ModelFileWarning, warnings_in
 
 STANDARD_INPUT = "-"
 _MOST_JOBS = 1000
+_MOST_WARNINGS = 10
+"""How many warnings of a kind are printed for a file."""
+_KEPT = "sense-in-comment"
+"""The kind of warning about what a canonical text does not keep: a file is not replaced without it."""
 
 
 class Status(IntEnum):
@@ -45,12 +54,13 @@ class Status(IntEnum):
 
 
 class Outcome(NamedTuple):
-    """What came of a file, and what is printed of it: a line on each stream, or a text."""
+    """What came of a file, and what is printed of it: lines on each stream, or a text."""
 
     status: Status = Status.DONE
     output: str = ""
     error: str = ""
-    text: Iterable[bytes] = ()
+    text: bytes = b""
+    lines: Iterable[str] = ()
 
 
 class Parser(argparse.ArgumentParser):
@@ -59,6 +69,9 @@ class Parser(argparse.ArgumentParser):
     def error(self, message: str) -> NoReturn:
         self.print_usage(sys.stderr)
         self.exit(Status.USAGE, f"{self.prog}: error: {message}\n")
+
+    def _print_message(self, message: str, file: Any = None) -> None:
+        write_all(file, message)  # None is standard output that is closed: there is always a standard error
 
 
 class UsageError(Exception):
@@ -76,7 +89,7 @@ def text_of(path: str, options: argparse.Namespace) -> Text:
             os.stat(path)  # what is wrong with a path that is missing is not its name
         raise UsageError(f"{path}: its name ends neither in .mps nor in .lp: say -f mps or -f lp")
     if path == STANDARD_INPUT:
-        return Text(sys.stdin.buffer.read(), format_number(format), path)
+        return Text(read_standard_input(), format_number(format), path)
     return read(path, format)
 
 
@@ -108,6 +121,49 @@ def attempt(path: str, options: argparse.Namespace, work: Callable[[Text], Outco
         return failure(path, error, text)
 
 
+# ---- warnings
+
+
+class Warned(NamedTuple):
+    """What is printed of the warnings about a file, and whether it is rejected because of them."""
+
+    lines: str = ""
+    is_rejected: bool = False
+
+    def before(self, work: Callable[[], Outcome]) -> Outcome:
+        """What comes of a file, with its warnings; nothing is done with one that is rejected."""
+        if self.is_rejected:
+            return Outcome(Status.REJECTED, error=self.lines)
+        done = work()
+        return done._replace(error="\n".join(filter(None, (self.lines, done.error))))
+
+
+def warned(text: Text, options: argparse.Namespace) -> Warned:
+    """The warnings about a text that is accepted, as the options ask for them."""
+    if not options.warnings and not options.strict:
+        return Warned()
+    return _as_asked(str(text.filename), warnings_in(text.content, text.format), options)
+
+
+def _as_asked(path: str, all_found: Sequence[ModelFileWarning], options: argparse.Namespace) -> Warned:
+    found = [each for each in all_found if each.kind not in options.ignored]
+    is_rejected = any(each.kind in options.strict for each in found)
+    shown = found if options.warnings else [each for each in found if each.kind in options.strict]
+    return Warned("\n".join(_warning_lines(path, shown)), is_rejected)
+
+
+def _warning_lines(path: str, found: Sequence[ModelFileWarning]) -> Iterator[str]:
+    """A line for each warning; for many of a kind, how many more there are."""
+    numbers = Counter[str]()
+    for each in found:
+        numbers[each.kind] += 1
+        if numbers[each.kind] <= _MOST_WARNINGS:
+            yield f"warning: {path}:{each}"
+    for kind, number in numbers.items():
+        if number > _MOST_WARNINGS:
+            yield f"warning: {path}: {number - _MOST_WARNINGS:,} more of {kind}"
+
+
 # ---- many files
 
 
@@ -120,12 +176,12 @@ class Progress:
 
     def show(self, done: int, total: int) -> None:
         if self._is_terminal and total > 1:
-            print(f"\r{done} of {total}", end="", file=sys.stderr, flush=True)
+            write_all(sys.stderr, f"\r{done} of {total}")
             self._is_shown = True
 
     def clear(self) -> None:
         if self._is_shown:
-            print("\r\x1b[K", end="", file=sys.stderr, flush=True)
+            write_all(sys.stderr, "\r\x1b[K")
 
 
 def for_each(paths: Iterable[str], options: argparse.Namespace, work: Callable[[Text], Outcome]) -> Status:
@@ -164,11 +220,12 @@ def _outcomes(files: list[str], options: argparse.Namespace, work: Callable[[Tex
 
 
 def _print(outcome: Outcome) -> None:
-    sys.stdout.buffer.writelines(outcome.text)
-    if outcome.output:
-        print(outcome.output, flush=True)
     if outcome.error:
-        print(outcome.error, file=sys.stderr, flush=True)
+        write_line(sys.stderr, outcome.error)
+    write_all(sys.stdout, outcome.text)
+    write_lines(sys.stdout, outcome.lines)
+    if outcome.output:
+        write_line(sys.stdout, outcome.output)
 
 
 # ---- the commands
@@ -176,24 +233,41 @@ def _print(outcome: Outcome) -> None:
 
 def canon(options: argparse.Namespace) -> Status:
     if options.in_place:
-        if options.to or STANDARD_INPUT in options.files:
-            raise UsageError("-i rewrites files in their own formats: it goes neither with -t nor with standard input")
-        return for_each(options.files, options, _rewrite)
+        if options.to or options.solver or STANDARD_INPUT in options.files:
+            raise UsageError("-i rewrites files in their own formats: it goes neither with -t, nor with --for, nor with standard input")
+        return for_each(options.files, options, lambda text: _rewrite(text, options))
     if len(options.files) > 1 or os.path.isdir(options.files[0]):
         raise UsageError("without -i, canon writes the text of one file")
-    outcome = attempt(options.files[0], options, lambda text: _write(text, options))
+    if options.to == "glp" and options.solver is None:
+        raise UsageError("-t glp goes with --for glpsol")
+    write = _write if options.solver is None else _write_for_solver
+    outcome = attempt(options.files[0], options, lambda text: write(text, options))
     _print(outcome)
     return outcome.status
 
 
-def _rewrite(text: Text) -> Outcome:
+def _rewrite(text: Text, options: argparse.Namespace) -> Outcome:
     """Makes a file canonical. One that is canonical already is not written."""
     path = str(text.filename)
     content = _mpslp.canonical(text.content, text.format, text.format)
     if content == text.content:
-        return Outcome()
+        return warned(text, options).before(Outcome)
+    return _replacing(text, options, lambda: _replaced(path, content))
+
+
+def _replaced(path: str, content: bytes) -> Outcome:
     replace_file(path, pack(path, content))
     return Outcome(output=path)
+
+
+def _replacing(text: Text, options: argparse.Namespace, work: Callable[[], Outcome]) -> Outcome:
+    """Replaces the file of a text by another text, if that loses nothing that only a comment has."""
+    path, found = str(text.filename), warnings_in(text.content, text.format)
+    kept = [] if options.force else [each for each in found if each.kind == _KEPT]
+    if kept:
+        lines = (f"{path}:{each}; the file is left: write OBJSENSE, or give --force" for each in kept)
+        return Outcome(Status.REJECTED, error="\n".join(lines))
+    return _as_asked(path, found, options).before(work)
 
 
 def _write(text: Text, options: argparse.Namespace) -> Outcome:
@@ -202,29 +276,62 @@ def _write(text: Text, options: argparse.Namespace) -> Outcome:
     to: Format | None = options.to or format_of_name(path)
     content = _mpslp.canonical(text.content, text.format, text.format if to is None else format_number(to))
     if path == STANDARD_INPUT:
-        return Outcome(text=[content])
-    replace_file(path, pack(path, content))
-    return Outcome()
+        return warned(text, options).before(lambda: Outcome(text=content))
+
+    def work() -> Outcome:
+        replace_file(path, pack(path, content))
+        return Outcome()
+
+    return _replacing(text, options, work) if _is_one_file(path, text.filename) else warned(text, options).before(work)
+
+
+def _is_one_file(path: str, other: str | None) -> bool:
+    try:
+        return other != STANDARD_INPUT and os.path.samefile(path, str(other))
+    except OSError:  # one is not there
+        return False
+
+
+def _write_for_solver(text: Text, options: argparse.Namespace) -> Outcome:
+    """Writes the text that a solver reads as the model of a file, with warnings for what the solver does not hold."""
+    path = options.output or STANDARD_INPUT
+    canonical = _mpslp.canonical(text.content, text.format, _mpslp.MPS)
+    try:
+        made = solver_text(canonical, options.solver, options.to or format_of_name(path))
+    except SolverError as error:
+        return Outcome(Status.REJECTED, error=f"{text.filename}: {error}")
+    lines = "\n".join(f"warning: {text.filename}: {each}" for each in made.warnings)
+    if lines and set(options.strict) >= set(WARNING_KINDS):
+        return Outcome(Status.REJECTED, error=lines)
+
+    def work() -> Outcome:
+        if path != STANDARD_INPUT:
+            replace_file(path, pack(path, made))
+        return Outcome(text=made if path == STANDARD_INPUT else b"", error=lines if options.warnings else "")
+
+    return _replacing(text, options, work) if _is_one_file(path, text.filename) else warned(text, options).before(work)
 
 
 def check(options: argparse.Namespace) -> Status:
     if options.portable:
-        return for_each(options.files, options, lambda text: _portable(text, options.ignore))
-    if options.ignore:
-        raise UsageError("--ignore leaves out remarks of --portable")
+        return for_each(options.files, options, lambda text: _portable(text, options))
+    if options.ignore or options.target or options.all:
+        name = "--ignore leaves out" if options.ignore else "--target and --all choose"
+        raise UsageError(f"{name} remarks of --portable")
 
     def work(text: Text) -> Outcome:
         is_canonical = _mpslp.is_canonical(text.content, text.format)
-        return Outcome() if is_canonical else Outcome(Status.DIFFERS, str(text.filename))
+        return warned(text, options).before(lambda: Outcome() if is_canonical else Outcome(Status.DIFFERS, str(text.filename)))
 
     return for_each(options.files, options, work)
 
 
-def _portable(text: Text, ignored: Sequence[str]) -> Outcome:
+def _portable(text: Text, options: argparse.Namespace) -> Outcome:
     """What other programs may read otherwise in a file."""
-    remarks = [remark for remark in portability(text.content, _format_of(text)) if remark.kind not in ignored]
-    lines = "\n".join(f"{text.filename}:{remark}" for remark in remarks)
-    return Outcome(Status.DIFFERS if remarks else Status.DONE, lines)
+    found = portability(text.content, _format_of(text), target=options.target)
+    remarks = [remark for remark in found if remark.kind not in options.ignore and (options.all or remark.kind not in AGREED)]
+    lines = map(str, remarks) if options.all else grouped(remarks)
+    return Outcome(Status.DIFFERS if remarks else Status.DONE, "\n".join(f"{text.filename}:{line}" for line in lines))
 
 
 def survey(options: argparse.Namespace) -> Status:
@@ -233,10 +340,10 @@ def survey(options: argparse.Namespace) -> Status:
         found = survey_of(options.paths, options.jobs, progress.show)
     except ChildProcessError as error:
         progress.clear()
-        print(error, file=sys.stderr)
+        write_line(sys.stderr, str(error))
         return Status.FAILED
     progress.clear()
-    print(found.csv() if options.csv else found.json() if options.json else f"{found}\n", end="")
+    write_all(sys.stdout, found.csv() if options.csv else found.json() if options.json else f"{found}\n")
     return Status.FAILED if found.results["unreadable"] else Status.DONE
 
 
@@ -251,7 +358,7 @@ def digest(options: argparse.Namespace) -> Status:
 
 def show(options: argparse.Namespace) -> Status:
     def work(text: Text) -> Outcome:
-        return Outcome(text=(f"{line}\n".encode("ascii") for line in shown(model_of(_mpslp.load(text.content, text.format)))))
+        return Outcome(lines=shown(model_of(_mpslp.load(text.content, text.format))))
 
     outcome = attempt(options.file, options, work)
     _print(outcome)
@@ -271,25 +378,29 @@ def _texts(options: argparse.Namespace) -> tuple[Text, Text] | Outcome:
     return texts[0], texts[1]
 
 
-def _compare(options: argparse.Namespace, work: Callable[[Text, Text], Status]) -> Status:
+def _compare(options: argparse.Namespace, work: Callable[[Text, Text], Outcome]) -> Status:
+    """Compares two files by a function that reads both, and returns what is printed of them."""
     texts = _texts(options)
     if isinstance(texts, Outcome):
         _print(texts)
         return texts.status
     try:
-        return work(*texts)
+        done = work(*texts)
     except ModelFileError as error:
         text = texts[1] if error.which == "second" else texts[0]
         outcome = failure(str(text.filename), error, text)
-        _print(outcome)
-        return outcome.status
+    else:
+        first, second = (warned(text, options) for text in texts)
+        lines = "\n".join(filter(None, (first.lines, second.lines)))
+        outcome = Warned(lines, first.is_rejected or second.is_rejected).before(lambda: done)
+    _print(outcome)
+    return outcome.status
 
 
 def same(options: argparse.Namespace) -> Status:
-    def work(first: Text, second: Text) -> Status:
+    def work(first: Text, second: Text) -> Outcome:
         is_same = _mpslp.same(first.content, first.format, second.content, second.format)
-        print("same" if is_same else "not the same")
-        return Status.DONE if is_same else Status.DIFFERS
+        return Outcome(output="same") if is_same else Outcome(Status.DIFFERS, "not the same")
 
     return _compare(options, work)
 
@@ -298,7 +409,7 @@ def difference(options: argparse.Namespace) -> Status:
     if os.devnull in (options.first, options.second):
         return _print_whole_model(options)
 
-    def work(first: Text, second: Text) -> Status:
+    def work(first: Text, second: Text) -> Outcome:
         differences = diff(
             first.content,
             second.content,
@@ -308,13 +419,11 @@ def difference(options: argparse.Namespace) -> Status:
             digits=options.digits,
             by_position=options.by_position,
         )
-        differs = False
-        for each in differences:
-            differs = True
-            print(each)
-        if not differs:
-            print(differences.verdict)
-        return Status.DIFFERS if differs else Status.DONE
+        lines = map(str, differences)
+        first_line = next(lines, None)
+        if first_line is None:
+            return Outcome(output=differences.verdict)
+        return Outcome(Status.DIFFERS, lines=chain([first_line], lines))
 
     return _compare(options, work)
 
@@ -325,7 +434,8 @@ def _print_whole_model(options: argparse.Namespace) -> Status:
 
     def work(text: Text) -> Outcome:
         rows, columns, entries = _mpslp.load(text.content, text.format).counts()
-        return Outcome(Status.DIFFERS, f"{sign} model: {rows} rows, {columns} columns, {entries} entries")
+        line = f"{sign} model: {rows} rows, {columns} columns, {entries} entries"
+        return warned(text, options).before(lambda: Outcome(Status.DIFFERS, line))
 
     outcome = attempt(path, options, work)
     _print(outcome)
@@ -341,7 +451,7 @@ def explanation(options: argparse.Namespace) -> Status:
         explained = [explain(kind) for kind in options.kinds]
     except ValueError as error:
         raise UsageError(str(error)) from None
-    print("\n\n".join(map(str, explained)) if explained else "\n".join(kinds()))
+    write_line(sys.stdout, "\n\n".join(map(str, explained)) if explained else "\n".join(kinds()))
     return Status.DONE
 
 
@@ -359,7 +469,7 @@ def report(options: argparse.Namespace) -> Status:
     except ValueError as error:  # a path without a format
         raise UsageError(str(error)) from None
     else:
-        outcome = Outcome(text=[page.encode("utf-8")] if options.output is None else ())
+        outcome = Outcome(text=page.encode("utf-8") if options.output is None else b"")
     _print(outcome)
     return outcome.status
 
@@ -427,6 +537,25 @@ def _add_jobs(command: argparse.ArgumentParser) -> None:
     command.add_argument("-j", "--jobs", type=partial(whole_number, most=_MOST_JOBS), default=_processors(), metavar="N", help="work on N files at a time (default: the number of processors)")
 
 
+class _WarningOption(argparse.Action):
+    """-Werror, -Werror=KIND and -Wno-KIND, as compilers have them."""
+
+    def __call__(self, parser: argparse.ArgumentParser, options: argparse.Namespace, value: Any, option: str | None = None) -> None:
+        word, _, kind = str(value).partition("=")
+        if word == "error" and (not kind or kind in WARNING_KINDS):
+            options.strict = (*options.strict, *((kind,) if kind else WARNING_KINDS))
+        elif not kind and word.startswith("no-") and word[3:] in WARNING_KINDS:
+            options.ignored = (*options.ignored, word[3:])
+        else:
+            parser.error(f"argument -W: {value!r} is neither error, error=KIND nor no-KIND; KIND is one of {', '.join(WARNING_KINDS)}")
+
+
+def _add_warnings(command: argparse.ArgumentParser) -> None:
+    command.add_argument("--no-warnings", dest="warnings", action="store_false", help="do not print what is accepted and rarely meant")
+    command.add_argument("-W", action=_WarningOption, metavar="HOW", help="-Werror rejects files with warnings, -Werror=KIND those of a kind; -Wno-KIND leaves a kind out")
+    command.set_defaults(strict=(), ignored=())
+
+
 def _add_two_files(command: argparse.ArgumentParser) -> None:
     _add_format(command)
     command.add_argument("first", metavar="FIRST", help="a model file")
@@ -434,11 +563,18 @@ def _add_two_files(command: argparse.ArgumentParser) -> None:
 
 
 def _add_canon(commands: Any) -> None:
-    command = _add(commands, "canon", canon, "write the canonical text of a file", "Write the canonical text of a model file.")
+    command = _add(
+        commands, "canon", canon, "write the canonical text of a file",
+        "Write the canonical text of a model file. It has the model only: comments, the problem's name after NAME, and the order\n"
+        "of rows and columns go.",
+    )
     place = command.add_mutually_exclusive_group()
     place.add_argument("-o", "--output", metavar="PATH", help="write to this file; its extension says the format")
     place.add_argument("-i", "--in-place", action="store_true", help="rewrite each file that is not canonical, and print its path")
-    command.add_argument("-t", "--to", choices=("mps", "lp"), help="the format to write (default: that of PATH, else of FILE)")
+    command.add_argument("--force", action="store_true", help="with -i, also a file whose comments have the sense of the objective")
+    command.add_argument("-t", "--to", choices=("mps", "lp", "glp"), help="the format to write (default: that of PATH, else of FILE); glp goes with --for glpsol")
+    command.add_argument("--for", dest="solver", choices=tuple(SOLVERS), help="write the text that this solver reads as the model; what it does not hold is a warning, or the status 2")
+    _add_warnings(command)
     _add_files(command, "a model file; with -i, several files and directories")
 
 
@@ -446,15 +582,19 @@ def _add_check(commands: Any) -> None:
     command = _add(
         commands, "check", check, "print which files are not canonical",
         "Print the paths of the files that are not canonical; with --portable, the lines that other programs may read\n"
-        "otherwise, as PATH:LINE: KIND: what is read.",
+        "otherwise, as PATH:LINE: KIND: what is read. Of each kind, these are the number of lines and the first three.",
     )
     command.add_argument("--portable", action="store_true", help="print what other programs may read otherwise instead")
+    command.add_argument("--target", choices=PROGRAMS, help="with --portable, keep what this program was found to read otherwise or to reject")
+    command.add_argument("--all", action="store_true", help="with --portable, print all lines, and the kinds in which the programs measured agree")
     command.add_argument("--ignore", action="append", default=[], choices=KINDS, metavar="KIND", help="with --portable, leave out remarks of this kind; may be given more than once")
+    _add_warnings(command)
     _add_files(command, "a model file or a directory")
 
 
 def _add_same(commands: Any) -> None:
     command = _add(commands, "same", same, "say whether two files define the same model", "Print same, or not the same.")
+    _add_warnings(command)
     _add_two_files(command)
 
 
@@ -466,6 +606,7 @@ def _add_diff(commands: Any) -> None:
     )
     command.add_argument("--ignore-objective-name", action="store_true", help="the name of the objective does not count")
     _add_nearness(command)
+    _add_warnings(command)
     _add_two_files(command)
 
 
@@ -525,35 +666,29 @@ def main(arguments: Sequence[str] | None = None, prog: str | None = None) -> int
     try:
         status: Status = options.run(options)
     except UsageError as error:
-        print(f"{command.prog}: error: {error}", file=sys.stderr)
+        write_line(sys.stderr, f"{command.prog}: error: {error}")
         return Status.USAGE
     if status == Status.REJECTED and sys.stderr.isatty():
-        print(f"{command.prog} explain KIND prints what to do about a kind of error", file=sys.stderr)
+        write_line(sys.stderr, f"{command.prog} explain KIND prints what to do about a kind of error")
     return status
 
 
 def run(prog: str | None = None) -> int:
     """The whole of a process: main, with the streams and the signals of a command."""
-    for stream in (sys.stdout, sys.stderr):
-        if isinstance(stream, io.TextIOWrapper):
-            stream.reconfigure(errors="surrogateescape")  # names of files may be any bytes
-    if sys.stderr is None:  # it is closed, and what is printed to None goes to standard output
+    if sys.stderr is None:  # it is closed: nobody wants the messages
         sys.stderr = open(os.devnull, "w")
     signal.signal(signal.SIGTERM, _terminate)
     try:
-        if sys.stdout is None:
-            raise OSError("standard output is closed")
-        status = main(prog=prog)
-        sys.stdout.flush()
-        return status
+        return main(prog=prog)
     except KeyboardInterrupt:
         return 128 + signal.SIGINT
     except MemoryError:
-        print("out of memory", file=sys.stderr)
+        _write_last_line("out of memory")
         return Status.NO_MEMORY
-    except OSError:  # of standard output: errors of files are reported with their paths
-        print("write failed", file=sys.stderr)
-        _drop_output()
+    except OutputError as error:
+        if error.is_closed_pipe:
+            _end_by_closed_pipe()
+        _write_last_line(f"{error.filename}: {error.strerror}")
         return Status.FAILED
 
 
@@ -562,7 +697,12 @@ def _terminate(number: int, frame: object) -> NoReturn:
     sys.exit(128 + number)
 
 
-def _drop_output() -> None:
-    """Lets the interpreter end without another error for what is left in standard output."""
-    if sys.stdout is not None:
-        os.dup2(os.open(os.devnull, os.O_WRONLY), sys.stdout.fileno())
+def _end_by_closed_pipe() -> None:
+    """Ends the process as a pipe without a reader ends programs that do not ask for anything else, such as grep."""
+    signal.signal(signal.SIGPIPE, signal.SIG_DFL)
+    signal.raise_signal(signal.SIGPIPE)
+
+
+def _write_last_line(line: str) -> None:
+    with suppress(OutputError):  # standard error fails, too
+        write_line(sys.stderr, line)

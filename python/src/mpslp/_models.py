@@ -37,9 +37,16 @@ _NAME = re.compile(f"[!-~]{{1,{_MOST_BYTES}}}")
 
 
 class _Part:
-    """The common part of rows, columns and models: they are frozen, and a copy is the part itself."""
+    """The common part of rows, columns and models: they are frozen, and a copy is the part itself.
+
+    Like a tuple, a part that is made does not change if ``__init__`` is called again.
+    """
 
     __slots__ = ()
+
+    def _is_made(self, last: str) -> bool:
+        """Whether the attribute that is set last is there."""
+        return hasattr(self, last)
 
     def _fill(self, **values: object) -> None:
         for name, value in values.items():
@@ -82,6 +89,8 @@ class Row(_Part):
         _entries: Mapping[str, Decimal]
 
     def __init__(self, name: str, lower: Number = -INFINITY, upper: Number = INFINITY) -> None:
+        if self._is_made("_entries"):
+            return
         about = f"row {name!r}"
         _check_name(name, "row")
         self._fill(name=name, lower=_given(about, "lower", limit_of, lower), upper=_given(about, "upper", limit_of, upper))
@@ -143,6 +152,8 @@ class Column(_Part):
         cost: Number = 0,
         entries: Mapping[str, Number] = Held[Decimal](),
     ) -> None:
+        if self._is_made("entries"):
+            return
         about = f"column {name!r}"
         _check_name(name, "column")
         if kind not in _KIND_NUMBERS:
@@ -309,6 +320,8 @@ class Model(_Part):
         rows: Iterable[Row] | Mapping[str, Row] = (),
         columns: Iterable[Column] | Mapping[str, Column] = (),
     ) -> None:
+        if self._is_made("_arrays"):
+            return
         if sense not in _SENSE_NUMBERS:
             raise ValueError(f"the sense {sense!r} is neither 'minimize' nor 'maximize'")
         _check_name(objective, "objective")
@@ -393,12 +406,15 @@ def load(source: Source, format: Format | None = None) -> Model:
 def from_arrays(arrays: Arrays) -> Model:
     """Returns the model of arrays, with each double as the decimal of its shortest text.
 
-    Raises ValueError for arrays that do not match each other, and for what no model has.
+    Raises ValueError for arrays that do not match each other, and for what no model has; TypeError for indexes that are no
+    integers, which an array of objects is not either.
 
     >>> arrays = mpslp.Arrays(c=[3, 1], indptr=[0, 1, 2], indices=[0, 0], data=[0.5, 1], row_lower=[0], row_upper=[4])
     >>> mpslp.from_arrays(arrays).columns["x0"].entries
     {'r0': Decimal('0.5')}
     """
+    if not isinstance(arrays, Arrays):
+        raise TypeError(f"arrays are a mpslp.Arrays, not {type(arrays).__name__}")
     row_names = _names_of(arrays.row_names, "r", len(arrays.row_lower))
     column_names = _names_of(arrays.column_names, "x", len(arrays.c))
     made = _made_of_doubles(arrays, row_names, column_names)
@@ -415,8 +431,8 @@ def _made_of_doubles(arrays: Arrays, row_names: list[str], column_names: list[st
         doubles_of([math.inf] * count if arrays.upper is None else arrays.upper),
         doubles_of(arrays.c),
         bytes(count) if arrays.integrality is None else bytes_of(arrays.integrality),
-        integers_of(arrays.indptr),
-        integers_of(arrays.indices),
+        integers_of("indptr", arrays.indptr),
+        integers_of("indices", arrays.indices),
         doubles_of(arrays.data),
     )
     given = [part for part in parts if part is not None]

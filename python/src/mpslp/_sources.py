@@ -1,7 +1,9 @@
 """The bytes of a text, and its format."""
 
+import errno
 import io
 import os
+import sys
 from collections.abc import Callable, Iterator
 from contextlib import contextmanager
 from typing import TYPE_CHECKING, Literal, NamedTuple, Protocol, TypeAlias, Union
@@ -63,6 +65,13 @@ def read(source: Source, format: Format | None) -> Text:
     if format is None:
         raise ValueError("the format of bytes has to be given: 'mps' or 'lp'")
     return Text(_frozen(view), format_number(format), None)
+
+
+def read_standard_input() -> bytes:
+    """All bytes of standard input; raises OSError if it is closed."""
+    if sys.stdin is None:
+        raise OSError(errno.EBADF, "standard input is closed")
+    return sys.stdin.buffer.read()
 
 
 def _read_file(source: object, format: Format | None) -> Text:

@@ -233,12 +233,17 @@ def _adapted(path: str, text: Text, error: ModelFileError) -> SurveyedFile:
         done = adapt_text(text.content, "lp" if text.format == _mpslp.LP else "mps")
         model = _model(done.text, text.format)
     except AdaptError as left:
-        return SurveyedFile(path, "rejected", error=error.kind, line=error.line, reason=f"line {left.line}: {left.reason}")
-    except ModelFileError as again:
-        is_same = (again.kind, again.line, again.name) == (error.kind, error.line, error.name)
-        return SurveyedFile(path, "rejected", error=error.kind, line=error.line, reason="" if is_same else f"adapted: {again}")
+        return SurveyedFile(path, "rejected", error=error.kind, line=error.line, reason=_reason(left, error))
     changes = Counter(change.kind for change in done.changes)
     return SurveyedFile(path, "adapted", error=error.kind, line=error.line, changes=dict(changes), **model)
+
+
+def _reason(left: AdaptError, error: ModelFileError) -> str:
+    """Why adapt leaves a file, or nothing if it is the error of the file."""
+    again = left.rejection
+    if again is not None and (again.kind, left.line, again.name) == (error.kind, error.line, error.name):
+        return ""
+    return left.reason if left.line is None else f"line {left.line}: {left.reason}"
 
 
 def _model(content: bytes, format: int) -> dict[str, Any]:

@@ -1,11 +1,48 @@
 """What is changed in a text, and why a text is left."""
 
-from collections.abc import Collection
+from collections.abc import Collection, Sequence
 from dataclasses import dataclass
-from typing import Optional
+from typing import TYPE_CHECKING, Optional
+
+if TYPE_CHECKING:
+    from mpslp._adapt._writers import Writer
+    from mpslp._faults import ModelFileError
 
 DIALECTS = ("coinutils", "glpsol", "lp_solve", "pulp", "qsopt")
 """The programs whose habits are known, beside what every file may have."""
+
+NO_DIALECT = "none"
+"""What is given instead of a dialect if the header of a file is not to select one."""
+
+FILE_KINDS = ("byte-order-mark", "compressed", "end-of-file-byte", "line-ends", "long-line")
+"""Kinds of changes of whole files, in both formats."""
+
+MPS_KINDS = (
+    "bound-value", "column-in-bounds", "continued-column", "fixed-columns", "indent", "integer-bound", "letter-case", "marker-name", "name",
+    "negative-upper", "number", "objective-rhs", "objsense", "pulp-sense", "range-on-free", "section-again", "section-order",
+    "set-left-out", "trailing-text",
+)  # fmt: skip
+"""Kinds of changes in MPS: the names of its rules."""
+
+LP_KINDS = (
+    "added-constants", "added-terms", "bound-again", "constant-in-row", "free-and-bound", "glpsol-constant", "infinity", "integer-bound",
+    "keyword", "name", "negative-upper", "number", "number-first", "objective-constant", "problem-name", "product", "qsopt-range",
+    "row-without-terms", "section-again", "symbol", "terms-on-the-right",
+)  # fmt: skip
+"""Kinds of changes in LP: the names of its rules."""
+
+KINDS = tuple(sorted({*FILE_KINDS, *MPS_KINDS, *LP_KINDS}))
+"""All kinds of changes."""
+
+
+def kinds_of(strict: Collection[str]) -> frozenset[str]:
+    """The kinds of changes that are not wanted; TypeError for a str, and ValueError for what is no kind."""
+    if isinstance(strict, (str, bytes)):
+        raise TypeError(f"strict is a collection of kinds, not {strict!r}: write [{strict!r}]")
+    unknown = next((each for each in strict if each not in KINDS), None)
+    if unknown is not None:
+        raise ValueError(f"unknown kind of changes: {unknown!r} is none of {', '.join(KINDS)}")
+    return frozenset(strict)
 
 
 @dataclass(frozen=True)
@@ -33,20 +70,28 @@ class Note:
 
 
 class AdaptError(ValueError):
-    """A text that is left, since its meaning would have to be guessed, or since the profile does not have it.
+    """A text that is left, since its meaning would have to be guessed, or since mpslp rejects what it declares.
 
-    ``line`` is the line, from 1; ``reason`` says why, and what to do; ``filename`` is the path of the file, if it has one.
+    ``line`` is the line, from 1, or None for an error of the whole text; ``reason`` says why, and what to do; ``rejection`` is
+    the error of mpslp if the text is left for it, else None; ``filename`` is the path of the file, if it has one; ``writer`` is the program
+    that the header of the text names, if its dialect was taken for that reason.
     """
 
-    def __init__(self, line: int, reason: str) -> None:
-        super().__init__(line, reason)
+    def __init__(self, line: Optional[int], reason: str, rejection: "Optional[ModelFileError]" = None) -> None:
+        super().__init__(line, reason, rejection)
         self.line = line
         self.reason = reason
+        self.rejection = rejection
         self.filename: Optional[str] = None
+        self.writer: Optional[Writer] = None
 
     def __str__(self) -> str:
         prefix = "" if self.filename is None else f"{self.filename}:"
-        return f"{prefix}{self.line}: {self.reason}"
+        return f"{prefix}{'' if self.line is None else f'{self.line}:'} {self.reason}".lstrip()
+
+
+class OtherLanguage(AdaptError):
+    """A text that mpslp accepts in another meaning than that of the language that it is written in."""
 
 
 class Log:
@@ -57,6 +102,8 @@ class Log:
         self.notes: list[Note] = []
         self.kinds_not_wanted = frozenset(strict)
         self.fixed_names: dict[str, str] = {}
+        self.source_lines: Sequence[int] = ()
+        """The line of the source for each line that is written; empty if they are the same."""
 
     def add(self, line: int, kind: str, before: str, after: str) -> None:
         if kind in self.kinds_not_wanted:

@@ -1,23 +1,28 @@
 """The command line: python3 -m mpslp adapt."""
 
 import argparse
+import errno
 import json
+import os
 import re
 import sys
 from collections.abc import Mapping, Sequence
-from typing import Any, NoReturn, Optional
+from typing import Any, BinaryIO, NoReturn, Optional
 
 from mpslp._adapt._call import adapt
-from mpslp._adapt._changes import DIALECTS, AdaptError
+from mpslp._adapt._changes import DIALECTS, NO_DIALECT, AdaptError
+from mpslp._adapt._writers import Writer
 from mpslp._compression import pack
 from mpslp._files import replace_file
+from mpslp._output import OutputError, write_all, write_line, write_lines
 
 UNCHANGED, CHANGED, STOPPED, USAGE, NO_FILE = range(5)
 """Exit statuses; the last two are those of the program mpslp."""
 
 _EPILOG = """\
-exit status: 0 if nothing was changed, 1 if something was, 2 if the file is left,
-3 for a usage error, 4 if a file does not open, or a read or a write failed.
+exit status: 0 if mpslp accepts the file unchanged, 1 if it accepts it with the changes,
+2 if the file is left and nothing is written, 3 for a usage error, 4 if a file does not
+open, or a read or a write failed.
 """
 
 
@@ -53,7 +58,8 @@ def add_to(commands: Any) -> None:
 def _add_arguments(made: argparse.ArgumentParser) -> None:
     made.add_argument("file", metavar="FILE", help="the file; - is standard input")
     made.add_argument("-o", "--output", metavar="FILE", help="where to write; standard output if it is left out")
-    made.add_argument("--from", dest="dialect", choices=DIALECTS, help="the program that wrote the file")
+    made.add_argument("--from", dest="dialect", choices=(*DIALECTS, NO_DIALECT),
+                      help="the program that wrote the file; if left out, the one that its header names; none ignores the header")  # fmt: skip
     made.add_argument("-f", "--format", choices=("mps", "lp"), help="the format, if the name of the file does not say it")
     made.add_argument("--dry-run", action="store_true", help="only report the changes")
     made.add_argument("--strict", metavar="KIND", action="append", default=[], help="leave the file if it needs a change of this kind")
@@ -63,47 +69,62 @@ def _add_arguments(made: argparse.ArgumentParser) -> None:
 
 def command(arguments: Sequence[str]) -> int:
     """Runs the command with its arguments, and returns its exit status."""
-    return run(parser().parse_args(arguments))
+    try:
+        return run(parser().parse_args(arguments))
+    except OutputError:
+        return NO_FILE
 
 
 def run(options: argparse.Namespace) -> int:
     """Runs the command with its options, and returns its exit status."""
     try:
         if options.names_back is not None:
-            with open(options.names_back, encoding="utf-8", errors="surrogateescape") as file:
-                given = {written: name for name, written in json.load(file).items()}
-            _put(options.output, with_names(_bytes_of(options.file), given))
-            return UNCHANGED
+            return _names_back(options)
         return _adapted(options)
     except AdaptError as error:
         error.filename = options.file
-        print(error, file=sys.stderr)
+        _say_writer(options.file, error.writer)
+        write_line(sys.stderr, str(error))
         return STOPPED
+    except OutputError:  # the caller of the command knows about pipes
+        raise
     except OSError as error:
-        print(f"{error.filename or options.file}: {error.strerror or error}", file=sys.stderr)
+        write_line(sys.stderr, f"{error.filename or options.file}: {error.strerror or error}")
         return NO_FILE
 
 
+def _names_back(options: argparse.Namespace) -> int:
+    """Writes a solution with the names given."""
+    with open(options.names_back, encoding="utf-8", errors="surrogateescape") as file:
+        given = {written: name for name, written in json.load(file).items()}
+    _put(options.output, with_names(_bytes_of(options.file), given))
+    return UNCHANGED
+
+
 def _adapted(options: argparse.Namespace) -> int:
-    source = sys.stdin.buffer if options.file == "-" else options.file
+    """Writes the adapted file after the report of its changes."""
+    source = _standard_input() if options.file == "-" else options.file
     try:
         done = adapt(source, options.format, options.dialect, strict=options.strict)
     except AdaptError:
         raise
     except ValueError as error:
-        print(error, file=sys.stderr)
+        write_line(sys.stderr, str(error))
         return USAGE
-    for change in done.changes:
-        print(f"{options.file}:{change}", file=sys.stderr)
-    for note in done.notes:
-        print(f"{options.file}:{note}", file=sys.stderr)
+    _say_writer(options.file, done.writer)
+    write_lines(sys.stderr, (f"{options.file}:{each}" for each in (*done.changes, *done.notes)))
     if options.map is not None:
-        with open(options.map, "w", encoding="utf-8", errors="surrogateescape") as file:
-            json.dump(done.names, file, indent=1, ensure_ascii=False)
-            file.write("\n")
+        names = json.dumps(done.names, indent=1, ensure_ascii=False) + "\n"
+        replace_file(options.map, names.encode("utf-8", "surrogateescape"))
     if not options.dry_run:
         _put(options.output, done.text)
     return CHANGED if done.changes else UNCHANGED
+
+
+def _say_writer(file: str, writer: Optional[Writer]) -> None:
+    """Says why the file is read in a dialect that was not given."""
+    if writer is not None:
+        write_line(sys.stderr, f"{file}: {writer}")
 
 
 def with_names(solution: bytes, given: Mapping[str, str]) -> bytes:
@@ -114,14 +135,19 @@ def with_names(solution: bytes, given: Mapping[str, str]) -> bytes:
 
 def _bytes_of(path: str) -> bytes:
     if path == "-":
-        return sys.stdin.buffer.read()
+        return _standard_input().read()
     with open(path, "rb") as file:
         return file.read()
 
 
+def _standard_input() -> BinaryIO:
+    if sys.stdin is None:  # its descriptor is closed
+        raise OSError(errno.EBADF, os.strerror(errno.EBADF), "standard input")
+    return sys.stdin.buffer
+
+
 def _put(path: Optional[str], text: bytes) -> None:
     if path is None:
-        sys.stdout.buffer.write(text)
-        sys.stdout.buffer.flush()
-        return
-    replace_file(path, pack(path, text))
+        write_all(sys.stdout, text)
+    else:
+        replace_file(path, pack(path, text))

@@ -11,16 +11,22 @@ _PART_OF_LINE = 1_000_000
 
 
 def with_short_lines(text: str, comment: str, log: Log) -> str:
-    """Lines over the limit are broken, within comments too; in MPS spaces at their ends go."""
-    if len(text) <= LONGEST_LINE or max(map(len, text.split("\n"))) <= LONGEST_LINE:
+    """Lines over the limit are broken, within comments too; in MPS spaces at their ends go. A line end is no part of its line."""
+    if len(text) <= LONGEST_LINE:
         return text
-    lines = []
-    for number, line in enumerate(text.split("\n"), 1):
-        if len(line) > LONGEST_LINE:
-            log.add(number, "long-line", f"{len(line)} bytes", "")
-            line = _broken(line, comment, number)
-        lines.append(line)
+    lines = text.split("\n")
+    if all(len(line) <= LONGEST_LINE or _length(line) <= LONGEST_LINE for line in lines):
+        return text
+    for at, line in enumerate(lines):
+        if _length(line) > LONGEST_LINE:
+            log.add(at + 1, "long-line", f"{_length(line)} bytes", "")
+            lines[at] = _broken(line.removesuffix("\r"), comment, at + 1)
     return "\n".join(lines)
+
+
+def _length(line: str) -> int:
+    """The bytes of a line that ends with LF or CRLF."""
+    return len(line.removesuffix("\r"))
 
 
 def _broken(line: str, comment: str, number: int) -> str:

@@ -1,17 +1,15 @@
-"""What an LP file is read as, and how its parts are written."""
+"""What an LP file is read as."""
 
 from __future__ import annotations
 
-from collections.abc import Iterable, Sequence
+from collections.abc import Sequence
 from dataclasses import dataclass, field
-from typing import Optional
+from typing import NamedTuple, Optional
 
 from mpslp._adapt._lp_tokens import Token
 
 FLIPPED = {"<": ">", ">": "<", "=": "="}
 """A relation as it is with its sides exchanged."""
-
-_LONGEST_ROW_LINE = 200
 
 
 @dataclass
@@ -28,14 +26,35 @@ class Item:
 
 
 @dataclass
+class Objective:
+    """The objective as it is read."""
+
+    first: Token
+    last: Token
+    label: Optional[Token]
+    items: list[Item]
+
+
+@dataclass
 class Row:
     """A row as it is read: what is on each side of its relations."""
 
     first: Token
+    last: Token
     label: Optional[Token]
     sides: list[list[Item]]
     relations: list[Token]
-    end: int = 0
+
+
+@dataclass
+class BoundLine:
+    """A statement of Bounds as it is read: a column and up to two numbers, or that it is free."""
+
+    first: Token
+    last: Token
+    name: Token
+    sides: list[Item]
+    relations: list[Token]
 
 
 @dataclass
@@ -44,22 +63,20 @@ class Bound:
 
     lower: Optional[str]
     upper: Optional[str]
-    start: int
-    end: int
-    line: int
+    first: Token
+    last: Token
 
     @property
     def is_free(self) -> bool:
         return self.lower == self.upper == "free"
 
 
-def outermost(edits: Iterable[tuple[int, int, str]]) -> list[tuple[int, int, str]]:
-    """Edits in order, without those of tokens in a statement that is written again."""
-    kept: list[tuple[int, int, str]] = []
-    for edit in sorted(edits, key=lambda each: (each[0], -each[1])):
-        if not kept or edit[0] >= kept[-1][1]:
-            kept.append(edit)
-    return kept
+class Section(NamedTuple):
+    """A section: its name, and the first and the last word of its header."""
+
+    name: str
+    first: Token
+    last: Token
 
 
 def has_terms(items: Sequence[Item]) -> bool:
@@ -83,23 +100,3 @@ def sense_of(token: Token) -> str:
 
 def spelled(sense: str) -> str:
     return sense if sense == "=" else f"{sense}="
-
-
-def signed(number: str) -> str:
-    return f"- {number[1:]}" if number.startswith("-") else f"+ {number}"
-
-
-def ended(text: str) -> str:
-    return text if not text or text.endswith("\n") else f"{text}\n"
-
-
-def wrapped(parts: Sequence[str]) -> str:
-    """Terms on lines that are not long; the first has no plus."""
-    lines, line = [], ""
-    for part in parts:
-        if line and len(line) + len(part) >= _LONGEST_ROW_LINE:
-            lines.append(line)
-            line = ""
-        line = f"{line} {part}" if line else part
-    text = "\n  ".join([*lines, line])
-    return text[2:] if text.startswith("+ ") else text

@@ -3,18 +3,21 @@
 from __future__ import annotations
 
 import re
+import unicodedata
 from bisect import bisect_left
+from collections.abc import Iterator
 from typing import NamedTuple, Optional
 
 from mpslp._adapt._changes import AdaptError
 
-_FIRST = r"A-Za-z!\"#$%&()/,;?@_'`{}|~\x80-\xff"
-_INDEX = r"\[[^\[\]\n^*]*\]"
+_ASCII = r"A-Za-z!\"#$%&()/,;?@_'`{}|~"
+_OTHER = r"(?!\xe2\x89[\xa4\xa5]|\xe2\x88\x92)[\x80-\xff]"
+_INDEX = r"\[[^\[\]\s^*<>=]*\]"
 _NUMBER = r"(?:[0-9]+\.?[0-9]*|\.[0-9]+)(?:[eE][+-]?[0-9]+)?"
 _RELATION = r"<=|=<|<|>=|=>|>|==|=|\xe2\x89[\xa4\xa5]"
 _COMMON = rf"(?P<comment>\\[^\n]*)|(?P<relation>{_RELATION})|(?P<other>::|->)|(?P<minus>\xe2\x88\x92)"
 _FREE = re.compile(
-    rf"{_COMMON}|(?P<number>{_NUMBER})|(?P<word>\.?[{_FIRST}](?:[{_FIRST}0-9.]|{_INDEX})*)"
+    rf"{_COMMON}|(?P<number>{_NUMBER})|(?P<word>\.?(?:[{_ASCII}]|{_OTHER})(?:[{_ASCII}0-9.]+|{_OTHER}|{_INDEX})*)"
     r"|(?P<sign>[+-])|(?P<colon>:)|(?P<star>\*)|(?P<space>[ \t\r\n]+)|(?P<bad>.)"
 )
 # Fractions are numbers for QSopt_ex.
@@ -24,6 +27,9 @@ _SPACED = re.compile(
     rf"{_COMMON}(?=\s|\Z)|(?P<sign>[+-](?=\s|[0-9.]|inf\b))|(?P<number>{_NUMBER})(?=\s|\Z)"
     r"|(?P<word>[^\s:]+(?::[^\s:]+)*)|(?P<colon>:)|(?P<star>\*)|(?P<space>\s+)|(?P<bad>.)"
 )
+
+# Signs, dashes, spaces, digits above the line, and what is not seen.
+_NO_LETTERS = ("Sm", "Pd", "Zs", "Zl", "Zp", "No", "Cf", "Cc")
 
 
 class Token(NamedTuple):
@@ -55,8 +61,18 @@ class Tokens:
         self.all.append(Token("end", "", len(text), len(text), line))
         self._places_of_comments = [each.start for each in self.comments]
 
-    def line_of(self, place: int) -> int:
-        return self.text.count("\n", 0, place) + 1
+    def spaced(self) -> Iterator[tuple[Token, str]]:
+        """Each token, with the spaces, line ends and comments before it."""
+        done = 0
+        for token in self.all:
+            yield token, self.text[done : token.start]
+            done = token.end
+
+    def before(self, token: Token) -> Token:
+        return self.all[self.all.index(token) - 1]
+
+    def after(self, token: Token) -> Token:
+        return self.all[self.all.index(token) + 1]
 
     def _ends_file(self, token: Token, dialect: Optional[str]) -> bool:
         """Whether the word end is the last one of the file: on its line, and for PuLP the only one; after a sign it is a name."""
@@ -86,6 +102,16 @@ def punctuation_after(number: Token, word: Token) -> Optional[AdaptError]:
         return AdaptError(number.line, f"a comma in a number: write a decimal point: {number.text}{word.text}")
     if is_joined or word.text in (",", ";"):
         return AdaptError(number.line, f"after the number is a {word.text[0]}, which is a letter of names in LP: remove it")
+    return None
+
+
+def look_alike(word: Token) -> Optional[AdaptError]:
+    """The error of a word with a sign that looks like a space, a minus, an operator or a power; or None."""
+    if word.text.isascii():
+        return None
+    for letter in word.text.encode("latin-1").decode("utf-8", "replace"):
+        if not letter.isascii() and unicodedata.category(letter) in _NO_LETTERS:
+            return AdaptError(word.line, f"U+{ord(letter):04X} is no letter of a name: write the sign or the space of ASCII that is meant")
     return None
 
 

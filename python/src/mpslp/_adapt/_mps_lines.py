@@ -1,44 +1,85 @@
-"""The lines of an MPS file, and the sections that they are in."""
+"""The lines of an MPS file as fields with their places, the sections that they are in, and how they are written.
+
+A rule gives a line other fields. Only the printer here makes text of them, and it separates fields by spaces: fields cannot
+run together. A line that gets no other fields keeps its bytes.
+"""
 
 from __future__ import annotations
 
 import re
 from collections.abc import Sequence
 from dataclasses import dataclass, field
+from typing import Optional
 
 FIELD = re.compile(r"[^ \t]+")
+Fields = tuple[str, ...]
 
 
-@dataclass
 class Line:
-    """A line with its number in the source, from 1, and what ends it."""
+    """A line of the source, or one that is added: its number in the source, from 1, and what ends it."""
 
-    __slots__ = ("number", "text", "end")
+    __slots__ = ("number", "source", "end", "_written", "is_indented", "is_dropped")
 
-    number: int
-    text: str
-    end: str
+    def __init__(self, number: int, source: str, end: str, written: Optional[Fields] = None) -> None:
+        self.number = number
+        self.source = source
+        self.end = end
+        self._written = written
+        self.is_indented = False
+        self.is_dropped = False
 
-    def fields(self) -> list[str]:
-        return FIELD.findall(self.text)
+    def fields(self) -> Fields:
+        """The fields as they are to be written."""
+        return tuple(FIELD.findall(self.source)) if self._written is None else self._written
+
+    def places(self) -> list[int]:
+        """The columns, from 0, in which the fields of the source start."""
+        return [found.start() for found in FIELD.finditer(self.source)]
 
     def is_comment(self) -> bool:
-        return self.text.startswith("*")
+        return self.source.startswith("*")
+
+    def is_empty(self) -> bool:
+        return not self.source.strip(" \t") and self._written is None
 
     def is_data(self) -> bool:
-        return self.text[:1] in (" ", "\t")
+        return self.source[:1] in (" ", "\t") or self.is_indented
 
     def put(self, fields: Sequence[str]) -> None:
-        """Gives the line other fields; spaces stay where the number of fields does."""
-        spans = [found.span() for found in FIELD.finditer(self.text)]
-        if len(fields) < len(spans) and list(fields) == self.fields()[: len(fields)]:
-            self.text = self.text[: spans[len(fields) - 1][1]]
-        elif len(fields) == len(spans):
-            for (start, stop), each in zip(reversed(spans), reversed(fields)):
-                self.text = self.text[:start] + each + self.text[stop:]
-        else:
-            indent = self.text[: len(self.text) - len(self.text.lstrip(" \t"))]
-            self.text = (indent if len(indent) <= 4 else "    ") + "  ".join(fields)
+        """Gives the line other fields."""
+        self._written = tuple(fields)
+
+    def indent(self) -> None:
+        """Makes a line that starts in the first column a data line."""
+        self.is_indented = True
+
+    def drop(self) -> None:
+        """Makes the line a comment."""
+        self.is_dropped = True
+
+    @property
+    def text(self) -> str:
+        """The line as it is written."""
+        body = self.source if self._written is None else _printed(self.source, self._written)
+        return ("*" if self.is_dropped else "") + (" " if self.is_indented else "") + body
+
+
+def added_data(number: int, fields: Sequence[str], end: str, indent: str = "    ") -> Line:
+    """A data line that the source has not."""
+    return Line(number, indent, end, tuple(fields))
+
+
+def _printed(source: str, fields: Fields) -> str:
+    """Fields in the layout of a line: spaces stay where the number of fields does."""
+    spans = [found.span() for found in FIELD.finditer(source)]
+    if len(fields) < len(spans) and fields == tuple(source[start:stop] for start, stop in spans[: len(fields)]):
+        return source[: spans[len(fields) - 1][1]]
+    if len(fields) == len(spans):
+        starts = [0] + [stop for _, stop in spans]
+        gaps = [source[stop:start] for stop, (start, _) in zip(starts, spans)]
+        return "".join(gap + each for gap, each in zip(gaps, fields)) + source[starts[-1] :]
+    indent = source[: len(source) - len(source.lstrip(" \t"))]
+    return (indent if len(indent) <= 4 else "    ") + "  ".join(fields)
 
 
 @dataclass
@@ -49,7 +90,7 @@ class Section:
     lines: list[Line] = field(default_factory=list)
 
     def data(self) -> list[Line]:
-        return [line for line in self.lines if line.is_data() and line.text.strip(" \t")]
+        return [line for line in self.lines if line.is_data() and not line.is_dropped and not line.is_empty()]
 
 
 def lines_of(text: str) -> list[Line]:
@@ -59,8 +100,8 @@ def lines_of(text: str) -> list[Line]:
         end = "\r\n" if part.endswith("\r") else "\n"
         lines.append(Line(number, part[:-1] if end == "\r\n" else part, end))
     last = lines[-1]
-    if last.text or last.end == "\r\n":
-        last.text, last.end = (last.text + "\r" if last.end == "\r\n" else last.text), ""
+    if last.source or last.end == "\r\n":
+        last.source, last.end = (last.source + "\r" if last.end == "\r\n" else last.source), ""
     else:
         lines.pop()
     return lines

@@ -1,14 +1,17 @@
-"""Files as they come: compressed, in another encoding, or with lines that the profile does not have."""
+"""Files as they come: compressed, in another encoding, or with lines that mpslp rejects."""
 
 # Annotations are evaluated here: the classes say that they are of the package, whose names are fewer.
 
 from collections.abc import Collection, Mapping
-from dataclasses import dataclass
+from dataclasses import dataclass, replace
 from typing import Optional
 
-from mpslp._adapt._changes import DIALECTS, AdaptError, Change, Log, Note
+from mpslp._adapt._accepted import rejection_of, require_accepted
+from mpslp._adapt._changes import DIALECTS, NO_DIALECT, AdaptError, Change, Log, Note, OtherLanguage, kinds_of
+from mpslp._adapt._check import require_the_same
 from mpslp._adapt._lp import adapt_lp
 from mpslp._adapt._mps import adapt_mps
+from mpslp._adapt._writers import Writer, writer_of
 from mpslp._compression import unpack
 from mpslp._sources import Format
 
@@ -18,9 +21,10 @@ _MARKS = ((b"\xef\xbb\xbf", "utf-8"), (b"\xff\xfe", "utf-16-le"), (b"\xfe\xff", 
 
 @dataclass(frozen=True)
 class Adapted:
-    """A text of the profile, its format, what was changed, in the order of lines, and the names written for names given.
+    """A text that mpslp accepts, its format, what was changed, in the order of lines, and the names written for names given.
 
-    ``notes`` has the lines that stay, and that another dialect means in another way.
+    ``notes`` has the lines that stay, and that another dialect means in another way. ``writer`` is the program that the header of
+    the text names, if its dialect was taken for that reason, else None.
     """
 
     text: bytes
@@ -28,20 +32,61 @@ class Adapted:
     changes: tuple[Change, ...]
     names: Mapping[str, str]
     notes: tuple[Note, ...] = ()
+    writer: Optional[Writer] = None
 
 
 def adapt_text(content: bytes, format: Format, dialect: Optional[str] = None, strict: Collection[str] = ()) -> Adapted:
-    """The text of the profile for bytes in a format; raises AdaptError if its meaning would have to be guessed."""
-    if dialect is not None and dialect not in DIALECTS:
-        raise ValueError(f"unknown dialect: {dialect!r} is none of {', '.join(DIALECTS)}")
-    log = Log(strict)
+    """The text that mpslp accepts for bytes in a format; raises AdaptError if its meaning would have to be guessed."""
+    kinds = kinds_of(strict)
+    if dialect is not None and dialect not in (*DIALECTS, NO_DIALECT):
+        raise ValueError(f"unknown dialect: {dialect!r} is none of {', '.join((*DIALECTS, NO_DIALECT))}")
+    writer = named_writer(content, format) if dialect is None else None
+    chosen = writer.dialect if writer is not None else None if dialect == NO_DIALECT else dialect
+    try:
+        return replace(adapted_from(content, format, chosen, kinds), writer=writer)
+    except AdaptError as error:
+        error.writer = writer
+        raise
+
+
+def named_writer(content: bytes, format: Format) -> Optional[Writer]:
+    """The program that the header of a text names; the text may be compressed, or in another encoding."""
+    for rule in (decompressed, decoded, with_line_feeds):
+        content = rule(content, Log())
+    return writer_of(content.decode("latin-1"), format)
+
+
+def adapted_from(content: bytes, format: Format, dialect: Optional[str], kinds: frozenset[str]) -> Adapted:
+    """The text of a dialect as mpslp accepts it."""
+    if dialect is None and rejection_of(content, format) is None:
+        return Adapted(content, format, (), {}, notes_of(content, format))
+    log = Log(kinds)
     for rule in (decompressed, decoded, with_line_feeds, without_end_of_file_byte):
         content = rule(content, log)
-    rewrite = adapt_lp if format == "lp" else adapt_mps
-    text, names = rewrite(content.decode("latin-1"), dialect, log)
+    before = content.decode("latin-1")
+    after, names = rewritten(before, format, dialect, log)
     changes = tuple(sorted(log.changes, key=lambda change: change.line))
-    written = {as_read(given): name for given, name in names.items()}
-    return Adapted(text.encode("latin-1"), format, changes, written, tuple(log.notes))
+    require_the_same(before, after, format, dialect, changes, names)
+    text = after.encode("latin-1")
+    require_accepted(text, format, log.source_lines)
+    return Adapted(text, format, changes, {as_read(given): name for given, name in names.items()}, tuple(log.notes))
+
+
+def rewritten(text: str, format: Format, dialect: Optional[str], log: Log) -> tuple[str, dict[str, str]]:
+    """A text in latin-1 as mpslp reads it, and the names written instead of names given."""
+    return adapt_lp(text, dialect, log) if format == "lp" else adapt_mps(text, dialect, log)
+
+
+def notes_of(content: bytes, format: Format) -> tuple[Note, ...]:
+    """What other dialects mean by lines of a text that mpslp accepts."""
+    log = Log()
+    try:
+        rewritten(content.decode("latin-1"), format, None, log)
+    except OtherLanguage:
+        raise
+    except AdaptError:
+        return ()
+    return tuple(log.notes)
 
 
 def as_read(text: str) -> str:

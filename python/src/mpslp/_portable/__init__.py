@@ -1,6 +1,6 @@
 """What other programs may read otherwise in a file that is accepted."""
 
 from mpslp._portable._call import KINDS, portability, remarks_of
-from mpslp._portable._remarks import Remark
+from mpslp._portable._remarks import AGREED, PROGRAMS, Remark, grouped
 
-__all__ = ["KINDS", "Remark", "portability", "remarks_of"]
+__all__ = ["AGREED", "KINDS", "PROGRAMS", "Remark", "grouped", "portability", "remarks_of"]

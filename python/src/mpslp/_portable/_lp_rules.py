@@ -7,8 +7,11 @@ import re
 from mpslp._adapt._numbers import parts
 from mpslp._portable._lp import LpFile
 from mpslp._portable._numbers import is_large
-from mpslp._portable._remarks import Found, by_kind
+from mpslp._portable._remarks import COIN, NONE, Found, by_kind
 from mpslp._portable._words import Word, of_names, of_numbers, of_rest
+
+_READERS = ("glpsol", *COIN, "esolver")
+"""The measured programs that read LP."""
 
 _CONSTANT_OF_GLPSOL = re.compile(r"\\\* constant term = ")
 
@@ -16,31 +19,32 @@ _CONSTANT_OF_GLPSOL = re.compile(r"\\\* constant term = ")
 def constant_in_comment(file: LpFile) -> Found:
     for line, text in file.comments:
         if _CONSTANT_OF_GLPSOL.match(text):
-            yield line, "the comment is ignored; glpsol has the constant of the objective in it"
+            yield line, "the comment is ignored; glpsol has the constant of the objective in it", NONE
 
 
 def objective_constant(file: LpFile) -> Found:
     if file.constant is not None and not file.is_maximised and parts(file.constant.text)[0]:
-        yield file.constant.line, f"the constant of the objective is {file.constant.text}; clp takes its negative, and cbc drops it"
+        text = f"the constant of the objective is {file.constant.text}; clp takes its negative, and cbc drops it"
+        yield file.constant.line, text, _READERS
 
 
 def ranged_row(file: LpFile) -> Found:
     for row in file.rows:
         if len(row.sides) == 2:
-            yield row.line, f"the row is between {row.sides[0].text} and {row.sides[1].text}; clp and cbc read another row"
+            yield row.line, f"the row is between {row.sides[0].text} and {row.sides[1].text}; clp and cbc read another row", _READERS
 
 
 def row_after_side(file: LpFile) -> Found:
     for row in file.rows:
         if not row.label and row.after == row.line:
-            yield row.line, f"at {row.first} a new row starts, as a number ends the row before"
+            yield row.line, f"at {row.first} a new row starts, as a number ends the row before", ("glpsol", "esolver")
 
 
 def upper_zero(file: LpFile) -> Found:
     for name, bounds in file.bounds.items():
         zero = [each for each in bounds if each.upper is not None and each.upper.lstrip("-") != "inf" and not parts(each.upper)[0]]
         if zero and all(each.lower is None for each in bounds):
-            yield zero[0].line, f"{name} is fixed at 0, as its lower bound stays 0"
+            yield zero[0].line, f"{name} is fixed at 0, as its lower bound stays 0", NONE
 
 
 def large_limit(file: LpFile) -> Found:
@@ -48,34 +52,34 @@ def large_limit(file: LpFile) -> Found:
         for line, *sides in bounds:
             for side in sides:
                 if side is not None and "inf" not in side and is_large(side):
-                    yield line, f"{side} is infinite; for glpsol, clp and cbc it is a number"
+                    yield line, f"{side} is infinite; for glpsol, clp and cbc it is a number", _READERS
 
 
 def joined_tokens(file: LpFile) -> Found:
     for line, text in file.joined.items():
-        yield line, f"{text} is read as with a space in it; clp and cbc read something else"
+        yield line, f"{text} is read as with a space in it; clp and cbc read something else", COIN
 
 
 def spaced_side(file: LpFile) -> Found:
     for row in file.rows:
         for side in row.sides:
             if side.is_spaced:
-                yield side.line, f"the side is {side.text}; for clp and cbc, with a space after its sign, it is something else"
+                yield side.line, f"the side is {side.text}; for clp and cbc, with a space after its sign, it is something else", (*COIN, "esolver")
 
 
 def integer_section(file: LpFile) -> Found:
     for name, line in file.lists["generals"].items():
         if file.has_integer and not any(each.upper for each in file.bounds.get(name, [])):
-            yield line, f"{name} is an integer column without an upper bound; for esolver it has the upper bound 1"
+            yield line, f"{name} is an integer column without an upper bound; for esolver it has the upper bound 1", ("esolver",)
 
 
 def several_signs(file: LpFile) -> Found:
     for line in file.signs:
-        yield line, "several signs before a term are multiplied; clp, cbc and esolver read another term"
+        yield line, "several signs before a term are multiplied; clp, cbc and esolver read another term", _READERS
 
 
 def text_after_end(file: LpFile) -> Found:
-    return of_rest(file.rest, "end")
+    return of_rest(file.rest, "end", ("glpsol",))
 
 
 def name_like_arithmetic(file: LpFile) -> Found:
@@ -83,7 +87,7 @@ def name_like_arithmetic(file: LpFile) -> Found:
 
 
 def number_not_held(file: LpFile) -> Found:
-    return of_numbers(file.numbers)
+    return of_numbers(file.numbers, ("glpsol", *COIN))
 
 
 RULES = by_kind(

@@ -9,6 +9,10 @@ from mpslp._portable._numbers import is_doubtful, is_infinite
 from mpslp._portable._words import Word, first_text
 
 
+_OWN_OBJECTIVE = "obj"
+"""The objective of a file without an N row."""
+
+
 class Pair(NamedTuple):
     """A number of RHS or RANGES."""
 
@@ -52,16 +56,22 @@ class MpsFile:
         """The numbers that a double may not hold; of the infinite ones none."""
         self.rest: Optional[Word] = None
         """The first text after the end."""
+        self.headers: dict[str, int] = {}
+        """The lines of the section headers."""
         self._line = 0
         self._is_marked = False
         self._read(content.decode("latin-1").split("\n"))
 
     @property
-    def objective(self) -> Optional[str]:
-        """The name of the N row that is the objective."""
+    def objective(self) -> str:
+        """The name of the objective: that of an N row if there is one."""
         if self.objname is not None:
             return self.objname.text
-        return next((name for name, word in self.types.items() if word.text == "N"), None)
+        return next((name for name, word in self.types.items() if word.text == "N"), _OWN_OBJECTIVE)
+
+    def type_of(self, row: str) -> str:
+        """The type of a row; the objective that a file without an N row gets is one."""
+        return self.types[row].text if row in self.types else "N"
 
     def _read(self, lines: Sequence[str]) -> None:
         takes: dict[str, Callable[[list[str]], None]] = {
@@ -88,6 +98,7 @@ class MpsFile:
                 break
             else:
                 take = takes[fields[0]]
+                self.headers.setdefault(fields[0], self._line)
                 if len(fields) > 1:
                     self.is_sense_in_header |= fields[0] == "OBJSENSE"
                     take(fields[1:])

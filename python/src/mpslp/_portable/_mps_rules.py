@@ -6,12 +6,11 @@ from __future__ import annotations
 from mpslp._adapt._numbers import parts
 from mpslp._portable._mps import Bound, MpsFile
 from mpslp._portable._numbers import is_large
-from mpslp._portable._remarks import Found, by_kind
+from mpslp._portable._remarks import COIN, NONE, PROGRAMS, Found, by_kind
 from mpslp._portable._words import Word, of_names, of_numbers, of_rest
 
+_DOUBLES = ("glpsol", *COIN, "lp_solve")
 _UPPER = ("UP", "UI", "PL", "FX", "FR", "BV", "SC")
-
-
 _LOWER = ("LO", "LI", "MI", "FX", "FR", "BV")
 
 
@@ -20,67 +19,80 @@ def sense_in_comment(file: MpsFile) -> Found:
     for line, text in file.comments:
         word = text[1:].replace(" ", "").upper()
         if word.startswith("SENSE:M") and word.startswith("SENSE:MAX") != is_maximised:
-            yield line, f"the comment is ignored, and the model {'maximised' if is_maximised else 'minimised'}; PuLP writes the sense there"
+            yield line, f"the comment is ignored, and the model {'maximised' if is_maximised else 'minimised'}; PuLP writes the sense there", NONE
 
 
 def objsense(file: MpsFile) -> Found:
     if file.sense is not None and _is_maximised(file):
-        others = "lp_solve ignores the word on the line of OBJSENSE" if file.is_sense_in_header else "clp and cbc ignore OBJSENSE"
-        yield file.sense.line, f"the model is maximised; {others} and minimise{'s' if file.is_sense_in_header else ''}"
+        if file.is_sense_in_header:
+            yield file.sense.line, "the model is maximised; lp_solve ignores the word on the line of OBJSENSE and minimises", PROGRAMS
+        else:
+            yield file.sense.line, "the model is maximised; clp and cbc ignore OBJSENSE and minimise", ("glpsol", *COIN)
+
+
+def no_name(file: MpsFile) -> Found:
+    if "NAME" not in file.headers:
+        yield min(file.headers.values()), "there is no line NAME; clp and cbc read a model without rows then, and find the optimum 0", ("glpsol", *COIN)
+
+
+def no_rhs_section(file: MpsFile) -> Found:
+    name, column = list(file.columns.items())[-1]
+    if "RHS" not in file.headers and not column.is_marked and name not in file.bounds:
+        yield column.line, f"without an RHS section lp_solve drops the last column, {name}", ("lp_solve", *COIN)
 
 
 def further_n_row(file: MpsFile) -> Found:
     objective = file.objective
     for name, (line, kind) in file.types.items():
         if kind == "N" and name != objective:
-            yield line, f"{name} is a free row; glpsol, clp, cbc and lp_solve drop it"
+            yield line, f"{name} is a free row; glpsol, clp, cbc and lp_solve drop it", _DOUBLES
 
 
 def marked_without_bound(file: MpsFile) -> Found:
     for name, column in file.columns.items():
         if column.is_marked and name not in file.bounds:
-            yield column.line, f"{name} is an integer column from 0 to 1; for lp_solve it has no upper bound"
+            yield column.line, f"{name} is an integer column from 0 to 1; for lp_solve it has no upper bound", ("lp_solve",)
 
 
 def marked_with_lower_bound(file: MpsFile) -> Found:
     for name, column in file.columns.items():
         bounds = file.bounds.get(name, [])
         if column.is_marked and bounds and not _given(bounds, _UPPER):
-            yield bounds[0].line, f"{name} is an integer column without an upper bound; for glpsol it has the upper bound 1"
+            yield bounds[0].line, f"{name} is an integer column without an upper bound; for glpsol it has the upper bound 1", ("glpsol",)
 
 
 def objective_rhs(file: MpsFile) -> Found:
     objective = file.objective
     for line, row, number in file.sides:
         if row == objective and parts(number)[0]:
-            yield line, f"the constant of the objective is minus {number}; for glpsol and lp_solve it is {number}"
+            yield line, f"the constant of the objective is minus {number}; for glpsol and lp_solve it is {number}", ("glpsol", "lp_solve", "esolver")
 
 
 def range_on_equation(file: MpsFile) -> Found:
     for line, row, number in file.ranges:
-        if file.types[row].text == "E" and parts(number)[0] < 0:
-            yield line, f"the range of the E row {row} is below its right-hand side, by the sign of {number}"
+        if file.type_of(row) == "E" and parts(number)[0] < 0:
+            yield line, f"the range of the E row {row} is below its right-hand side, by the sign of {number}", NONE
 
 
 def upper_zero(file: MpsFile) -> Found:
     for name, bounds in file.bounds.items():
         upper = [bound for bound in bounds if bound.type in ("UP", "UI")]
         if upper and not parts(upper[0].number)[0] and not _given(bounds, _LOWER):
-            yield upper[0].line, f"{name} is fixed at 0, as its lower bound stays 0"
+            yield upper[0].line, f"{name} is fixed at 0, as its lower bound stays 0", NONE
 
 
 def large_limit(file: MpsFile) -> Found:
     for line, row, number in file.sides:
-        if row != file.objective and file.types[row].text != "N" and is_large(number):
-            yield line, f"{number} is infinite; for glpsol and lp_solve it is a number"
+        if row != file.objective and file.type_of(row) != "N" and is_large(number):
+            yield line, f"{number} is infinite; for glpsol and lp_solve it is a number", ("glpsol", "lp_solve", "esolver", "coinutils")
     for bounds in file.bounds.values():
         for bound in bounds:
             if bound.number and is_large(bound.number):
-                yield bound.line, f"{bound.number} is infinite; for glpsol, clp, cbc and lp_solve it is a number"
+                yield bound.line, f"{bound.number} is infinite; for glpsol, clp, cbc and lp_solve it is a number", PROGRAMS
 
 
 def text_after_end(file: MpsFile) -> Found:
-    return of_rest(file.rest, "ENDATA")
+    return of_rest(file.rest, "ENDATA", NONE)
 
 
 def name_like_arithmetic(file: MpsFile) -> Found:
@@ -89,7 +101,7 @@ def name_like_arithmetic(file: MpsFile) -> Found:
 
 
 def number_not_held(file: MpsFile) -> Found:
-    return of_numbers(file.numbers)
+    return of_numbers(file.numbers, _DOUBLES)
 
 
 def _is_maximised(file: MpsFile) -> bool:
@@ -103,6 +115,8 @@ def _given(bounds: list[Bound], types: tuple[str, ...]) -> bool:
 RULES = by_kind(
     sense_in_comment,
     objsense,
+    no_name,
+    no_rhs_section,
     further_n_row,
     marked_without_bound,
     marked_with_lower_bound,

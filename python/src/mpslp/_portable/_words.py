@@ -7,7 +7,7 @@ from typing import NamedTuple, Optional
 
 from mpslp._portable._names import arithmetic
 from mpslp._portable._numbers import nearest_if_lost
-from mpslp._portable._remarks import Found
+from mpslp._portable._remarks import NONE, Found, Program
 
 
 class Word(NamedTuple):
@@ -26,20 +26,20 @@ def first_text(lines: Sequence[str], at: int, comment: str) -> Optional[Word]:
     return None
 
 
-def of_rest(rest: Optional[Word], keyword: str) -> Found:
+def of_rest(rest: Optional[Word], keyword: str, programs: tuple[Program, ...]) -> Found:
     if rest is not None:
-        yield rest.line, f"the text after {keyword} is ignored"
+        yield rest.line, f"the text after {keyword} is ignored", programs
 
 
 def of_names(names: Iterable[Word]) -> Found:
     for line, name in names:
         why = arithmetic(name)
         if why is not None:
-            yield line, f"{name} is one name; {why}"
+            yield line, f"{name} is one name; {why}", NONE
 
 
-def of_numbers(numbers: Iterable[Word]) -> Found:
+def of_numbers(numbers: Iterable[Word], programs: tuple[Program, ...]) -> Found:
     for line, number in numbers:
         nearest = nearest_if_lost(number)
         if nearest is not None:
-            yield line, f"{number} is exact; as a double it is {nearest}"
+            yield line, f"{number} is exact; as a double it is {nearest}", programs

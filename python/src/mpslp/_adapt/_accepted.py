@@ -1,0 +1,32 @@
+"""Whether mpslp accepts a text, by the calls that are proved."""
+
+from __future__ import annotations
+
+from collections.abc import Sequence
+from typing import Optional
+
+from mpslp import _mpslp
+from mpslp._adapt._changes import AdaptError
+from mpslp._faults import ModelFileError
+from mpslp._sources import Format, format_number
+
+
+def rejection_of(content: bytes, format: Format) -> Optional[ModelFileError]:
+    """Why mpslp rejects a text, or None."""
+    try:
+        _mpslp.load(content, format_number(format))
+    except ModelFileError as error:
+        return error
+    return None
+
+
+def require_accepted(content: bytes, format: Format, source_lines: Sequence[int]) -> None:
+    """Raises AdaptError, with the line of the source, for a text that mpslp rejects."""
+    error = rejection_of(content, format)
+    if error is None:
+        return
+    line = error.line
+    if line is not None and source_lines and line <= len(source_lines):
+        line = source_lines[line - 1]
+    name = "" if error.name is None else f" {error.name}"
+    raise AdaptError(line, f"{error.kind}{name}: see mpslp-tools explain {error.kind}", error)

@@ -1,0 +1,314 @@
+"""The tokens, the sections and the sums that the check of LP files reads."""
+
+from __future__ import annotations
+
+import re
+from collections.abc import Iterator, Sequence
+from fractions import Fraction
+from functools import lru_cache
+from typing import NamedTuple, Optional, Union
+
+Limit = Union[Fraction, float]
+"""A number, or an infinite one."""
+
+_TOKEN = re.compile(
+    r"(?P<space>\s+)|\\(?P<comment>[^\n]*)|(?P<relation>[<>]=?|=[<>=]?|\xe2\x89[\xa4\xa5])|(?P<sign>[+-]|\xe2\x88\x92)"
+    r"|(?P<number>(?:\d+(?:\.\d*)?|\.\d+)(?:[eE][+-]?\d+)?(?:\#inf)?)|(?P<colon>:)|(?P<star>\*)"
+    r"|(?P<name>(?:(?!\xe2\x89[\xa4\xa5]|\xe2\x88\x92)[^\s\\<>=:*^+\-\[\]]|\[[^\s\[\]<>=*^]*\])+)|(?P<other>.)",
+    re.IGNORECASE,
+)
+_TOKEN_OF_QSOPT = re.compile(_TOKEN.pattern.replace(r"|(?P<number>", r"|(?P<number>\d+/\d+(?![\d.])|"), re.IGNORECASE)
+_LINE_END = re.compile(r"[ \t\r]*(?:\\|\n|\Z)")
+_WORD_OF_PULP = re.compile(r"\\(?P<comment>[^\n]*)|(?P<word>\S+)|(?P<space>\s+)")
+_NUMBER = re.compile(r"(?:\d+(?:\.\d*)?|\.\d+)(?:[eE]([+-]?\d+))?")
+_INFINITE_WORDS = ("inf", "infinity")
+INFINITE_SIDES = ("infty", "infin")
+_RANGE = re.compile(r" RANGE \(.*\)\s*")
+_CONSTANT = re.compile(r"\* constant term = (-?)([0-9.]+(?:e[+-]?[0-9]+)?) \*\\")
+_NEGATED = "the constant of the objective is negated"
+_HEADERS = {
+    **dict.fromkeys(("min", "minimize", "minimum", "minimise", "minimization"), "min"),
+    **dict.fromkeys(("max", "maximize", "maximum", "maximise", "maximization"), "max"),
+    **dict.fromkeys(("subject to", "such that", "st", "s.t.", "st."), "rows"),
+    **dict.fromkeys(("bound", "bounds"), "bounds"),
+    **dict.fromkeys(("general", "generals", "gen", "integer", "integers", "int"), "generals"),
+    **dict.fromkeys(("binary", "binaries", "bin"), "binaries"),
+    **dict.fromkeys(("semi", "semis"), "semis"),
+    "end": "end",
+}
+_FIRST_WORDS = {header.split()[0] for header in _HEADERS}
+_MOST_DIGITS_OF_EXPONENT = 5
+_ONE = Fraction(1)
+
+
+class LpToken(NamedTuple):
+    """A token: a relation is one of <, > and =, and a sign one of + and -."""
+
+    kind: str
+    text: str
+    line: int
+    is_joined: bool = False
+    """Whether no space is before it."""
+
+
+class Unreadable(Exception):
+    """A text that has no reading, or more than one."""
+
+    def __init__(self, line: int, reason: str) -> None:
+        super().__init__(line, reason)
+        self.line = line
+        self.reason = reason
+
+
+# ---- tokens
+
+
+def tokens_of(text: str, dialect: Optional[str]) -> list[LpToken]:
+    """The tokens of a text in latin-1, without the first lines of QSopt_ex; some comments are tokens."""
+    found = list(_words_of_pulp(text) if dialect == "pulp" else _tokens(text, _TOKEN_OF_QSOPT if dialect == "qsopt" else _TOKEN))
+    if found and dialect == "qsopt" and found[0].text.lower() == "problem":
+        found = [token for token in found if token.line > found[0].line + 1]
+    return found
+
+
+def _tokens(text: str, pattern: re.Pattern[str]) -> Iterator[LpToken]:
+    line, kind = 1, "space"
+    for found in pattern.finditer(text):
+        is_space, kind = kind in ("space", "comment"), found.lastgroup or ""
+        if kind == "space":
+            line += found[0].count("\n")
+        elif kind == "comment":
+            yield from _remark(found["comment"], line)
+        else:
+            yield _plain(kind, found[0], line, not is_space)
+            if kind == "name" and found[0].lower() == "end" and _LINE_END.match(text, found.end()):
+                return
+
+
+def _remark(text: str, line: int) -> Iterator[LpToken]:
+    if _RANGE.fullmatch(text):
+        yield LpToken("range", text, line)
+    elif _CONSTANT.match(text):
+        yield LpToken("constant", text, line)
+    elif _NEGATED in text:
+        yield LpToken("negated", text, line)
+
+
+def _plain(kind: str, text: str, line: int, is_joined: bool = False) -> LpToken:
+    if kind == "relation":
+        sense = "<" if "<" in text or text.endswith("\xa4") else ">" if ">" in text or text.endswith("\xa5") else "="
+        return LpToken(kind, sense, line)
+    if kind == "sign":
+        return LpToken(kind, "+" if text == "+" else "-", line)
+    if kind == "name" and text.lower() in _INFINITE_WORDS:
+        return LpToken("number", "inf", line)
+    if kind == "other":
+        raise Unreadable(line, f"the sign {text}")
+    return LpToken(kind, text, line, is_joined)
+
+
+def _words_of_pulp(text: str) -> Iterator[LpToken]:
+    """PuLP has spaces between all tokens, and a label ends with a colon."""
+    line = 1
+    for found in _WORD_OF_PULP.finditer(text):
+        word = found[0]
+        if found["space"] is not None:
+            line += word.count("\n")
+        elif found["comment"] is not None:
+            yield from _remark(found["comment"], line)
+        else:
+            yield from _parts_of_word(word, line)
+            if word.lower() == "end":
+                before, after = text[: found.start()].rsplit("\n", 1)[-1], text[found.end() :].split("\n", 1)[0]
+                if not before.strip() and not after.split("\\")[0].strip():
+                    return
+
+
+def _parts_of_word(word: str, line: int) -> Iterator[LpToken]:
+    sign, rest = (word[0], word[1:]) if word[0] in "+-" else ("", word)
+    if re.fullmatch(r"[<>]=?|=[<>=]?|\xe2\x89[\xa4\xa5]", word):
+        yield _plain("relation", word, line)
+    elif _NUMBER.fullmatch(rest) or rest.lower() == "inf" or not rest:
+        if sign:
+            yield LpToken("sign", sign, line)
+        if rest:
+            yield LpToken("number", rest, line)
+    elif len(word) > 1 and word.endswith(":"):
+        yield LpToken("name", word[:-1], line)
+        yield LpToken("colon", ":", line)
+    elif word in ("*", ":"):
+        yield LpToken("star" if word == "*" else "colon", word, line)
+    else:
+        yield LpToken("name", word, line)
+
+
+# ---- sections
+
+
+def sections_of(tokens: Sequence[LpToken], dialect: Optional[str]) -> list[tuple[str, list[LpToken]]]:
+    """The sections: the name of each, and its tokens."""
+    found: list[tuple[str, list[LpToken]]] = []
+    at = 0
+    while at < len(tokens):
+        is_word = tokens[at].kind == "name" and tokens[at].text.lower() in _FIRST_WORDS
+        name, count = _header(tokens, at, dialect, found[-1][0] if found else "") if is_word else ("", 0)
+        if name:
+            found.append((name, []))
+            at += count
+            if at < len(tokens) and tokens[at].kind == "colon" and name not in ("min", "max"):
+                at += 1
+            if name == "end":
+                break
+            continue
+        if not found:
+            raise Unreadable(tokens[at].line, "no objective")
+        token = tokens[at]
+        at += 1
+        if token.kind == "number" and _is_label_with_digit(tokens, at - 1):
+            token = LpToken("name", token.text + tokens[at].text, token.line)
+            at += 1
+        elif token.kind == "number" and _is_label_of_number(tokens, at - 1):
+            token = token._replace(kind="name")
+        found[-1][1].append(token)
+    return found
+
+
+def _header(tokens: Sequence[LpToken], at: int, dialect: Optional[str], section: str) -> tuple[str, int]:
+    """The section that a token opens and how many tokens its header has, or nothing."""
+    word = tokens[at].text.lower()
+    following = tokens[at + 1].text.lower() if at + 1 < len(tokens) else ""
+    if tokens[at].kind != "name":
+        return "", 0
+    if f"{word} {following}" in _HEADERS and not section == "rows":
+        return "rows", 2
+    if word not in _HEADERS or (section and word in ("min", "max", "minimize", "maximize")):
+        return "", 0
+    if at and _is_name_here(tokens, at, dialect, section):
+        return "", 0
+    is_dashed = word == "semi" and following == "-" and at + 2 < len(tokens)
+    return _HEADERS[word], 3 if is_dashed else 1
+
+
+def _is_name_here(tokens: Sequence[LpToken], at: int, dialect: Optional[str], section: str) -> bool:
+    """Whether a word that may open a section is a name where it is."""
+    token, before = tokens[at], tokens[at - 1]
+    if before.kind in ("sign", "star") or (dialect == "pulp" and before.line == token.line):
+        return True
+    if at + 1 == len(tokens) or tokens[at + 1].line != token.line:
+        return False
+    after = tokens[at + 1]
+    if after.kind == "colon":
+        return at + 2 < len(tokens) and tokens[at + 2].line == token.line
+    if after.kind == "relation" or (after.text.lower() == "free" and section == "bounds"):
+        return True
+    is_dashed = token.text.lower() == "semi" and after.text == "-"
+    return after.kind == "sign" and _HEADERS[token.text.lower()] not in ("rows", "bounds", "end") and not is_dashed
+
+
+def _is_label_with_digit(tokens: Sequence[LpToken], at: int) -> bool:
+    """Whether a label such as 2x starts a line."""
+    if at + 2 >= len(tokens) or not _starts_label(tokens, at) or not tokens[at + 1].is_joined:
+        return False
+    return tokens[at].kind == "number" and tokens[at + 1].kind == "name" and tokens[at + 2].kind == "colon"
+
+
+def _starts_label(tokens: Sequence[LpToken], at: int) -> bool:
+    """Whether a number at the start of a line is no right-hand side."""
+    if not at or tokens[at - 1].line == tokens[at].line:
+        return False
+    return tokens[at - 1].kind != "relation" and not (tokens[at - 1].kind == "sign" and tokens[at - 2].kind == "relation")
+
+
+def _is_label_of_number(tokens: Sequence[LpToken], at: int) -> bool:
+    return tokens[at].kind == "number" and _starts_label(tokens, at) and at + 1 < len(tokens) and tokens[at + 1].kind == "colon"
+
+
+# ---- sums
+
+
+class Side(NamedTuple):
+    """A side of a row, or the objective: its terms, with those of one column added, its constant, and of how many numbers it is the sum."""
+
+    terms: dict[str, Fraction]
+    constant: Limit
+    constants: int
+
+
+def side_of(tokens: Sequence[LpToken]) -> Side:
+    """The sum that tokens are: each term but the first has a sign."""
+    terms: dict[str, Fraction] = {}
+    constant: Limit = Fraction(0)
+    constants, at = 0, 0
+    while at < len(tokens):
+        start, is_negative = at, False
+        while at < len(tokens) and tokens[at].kind == "sign":
+            is_negative ^= tokens[at].text == "-"
+            at += 1
+        if start and at == start:
+            raise Unreadable(tokens[at].line, "no sign between terms")
+        end = at
+        while end < len(tokens) and tokens[end].kind != "sign":
+            end += 1
+        name, number = _term(tokens[at:end], tokens[start].line)
+        number = -number if is_negative else number
+        if name is None:
+            constant, constants = constant + number, constants + 1
+        elif isinstance(number, float):
+            raise Unreadable(tokens[start].line, "an infinite coefficient")
+        else:
+            terms[name] = terms[name] + number if name in terms else number
+        at = end
+    return Side(terms, constant, constants)
+
+
+def _term(tokens: Sequence[LpToken], line: int) -> tuple[Optional[str], Limit]:
+    kinds = [token.kind for token in tokens]
+    names = [token.text for token in tokens if token.kind == "name"]
+    if kinds == ["name"] and names[0].lower() in INFINITE_SIDES:
+        return None, float("inf")
+    numbers = [token.text for token in tokens if token.kind == "number"]
+    shapes = (["number"], ["name"], ["number", "name"], ["number", "star", "name"], ["name", "star", "number"])
+    if kinds not in shapes:
+        raise Unreadable(line, "no term: " + " ".join(token.text for token in tokens))
+    number = number_of(numbers[0]) if numbers else _ONE
+    if number is None:
+        raise Unreadable(line, f"a division by 0: {numbers[0]}")
+    return (names[0] if names else None), number
+
+
+@lru_cache(maxsize=10_000)
+def number_of(text: str) -> Optional[Limit]:
+    """The value of an unsigned number, or None for a division by 0."""
+    if text.lower().endswith("inf"):
+        return float("inf")
+    if "/" in text:
+        numerator, denominator = text.split("/")
+        return Fraction(int(numerator), int(denominator)) if int(denominator) else None
+    found = _NUMBER.fullmatch(text)
+    assert found is not None
+    if found[1] is not None and len(found[1].lstrip("+-0")) > _MOST_DIGITS_OF_EXPONENT:
+        return float("inf") if "-" not in found[1] else Fraction(0)
+    return Fraction(text)
+
+
+def value_of(tokens: Sequence[LpToken]) -> Limit:
+    """A bound: a number with its signs, which is infinite from 10^20 on."""
+    value = side_of(tokens).constant
+    if not is_large(value):
+        return value
+    return float("inf") if value > 0 else -float("inf")
+
+
+def is_large(value: Limit) -> bool:
+    """Whether a limit or a bound is infinite."""
+    return not -(10**20) < value < 10**20
+
+
+def comment_constant(tokens: Sequence[LpToken]) -> Fraction:
+    """The constant of the objective that glpsol writes into a comment."""
+    for token in tokens:
+        if token.text.lower() in ("subject", "st", "s.t."):
+            break
+        if token.kind == "constant" and (found := _CONSTANT.match(token.text)):
+            return Fraction(found[2]) * (-1 if found[1] else 1)
+    return Fraction(0)

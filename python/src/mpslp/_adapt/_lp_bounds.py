@@ -1,0 +1,164 @@
+"""The rules of Bounds and of the lists of names."""
+
+from __future__ import annotations
+
+from typing import Optional
+
+from mpslp._adapt._changes import AdaptError, OtherLanguage
+from mpslp._adapt._lp_context import Context
+from mpslp._adapt._lp_parts import FLIPPED, Bound, BoundLine, sense_of
+from mpslp._adapt._lp_print import Cell, literal_cells, statement
+from mpslp._adapt._lp_sections import SECTIONS, SECTIONS_OF_OTHERS
+from mpslp._adapt._lp_tokens import Token
+
+
+class BoundRules:
+    """Bounds, and the columns that are listed as integer, binary or semi-continuous."""
+
+    def __init__(self, context: Context) -> None:
+        self.context = context
+        self.bounds: dict[str, list[Bound]] = {}
+        self.integers: dict[str, Token] = {}
+        self.new_columns: list[tuple[Token, str]] = []
+        self.last_bound: Optional[Token] = None
+        """After this token further bounds are written."""
+
+    # ---- Bounds
+
+    def settle(self, line: BoundLine) -> None:
+        context = self.context
+        sides: dict[str, str] = {}
+        if not line.relations:
+            sides = {"lower": "free", "upper": "free"}
+        for relation, before, after in zip(line.relations, line.sides, line.sides[1:]):
+            sense = sense_of(relation)
+            if after.name is not None:
+                sense = FLIPPED[sense]
+            number = before if after.name is not None else after
+            if number.signs > 1:
+                raise context.reader.error("several signs before a number: write one", line.first)
+            value = context.side_literal(number)
+            sides.update({"lower": value, "upper": value} if sense == "=" else {"upper" if sense == "<" else "lower": value})
+            context.settle_relation(relation)
+            context.settle_items([number], True)
+        context.settle_name(line.name)
+        self.take_column(line.name, "Bounds")
+        bound = Bound(sides.get("lower"), sides.get("upper"), line.first, line.last)
+        self.bounds.setdefault(line.name.text, []).append(bound)
+        self.last_bound = line.last
+
+    def take_column(self, name: Token, section: str) -> None:
+        """A column that is not in the objective and the rows may be another one with its name misspelt."""
+        if name.text not in self.context.columns:
+            self.new_columns.append((name, section))
+            self.context.columns[name.text] = name
+
+    def settle_bounds(self) -> None:
+        """Bounds that are given again, and what a program means by bounds that it does not write."""
+        for name, bounds in self.bounds.items():
+            kept = self.settle_again(bounds) if len(bounds) > 1 else bounds
+            if len(bounds) > 1:
+                self.settle_free(name, kept)
+            if self.context.dialect == "qsopt":
+                self.settle_negative_upper(name, kept)
+        if self.context.dialect == "qsopt":
+            self.settle_integers()
+
+    def settle_free(self, name: str, bounds: list[Bound]) -> None:
+        """A column that is free and has an upper or a lower bound."""
+        free = [bound for bound in bounds if bound.is_free]
+        others = [bound for bound in bounds if not bound.is_free]
+        if len(free) != 1 or len(others) != 1:
+            return
+        bound, context = others[0], self.context
+        if bound.first.start < free[0].first.start and (context.dialect != "coinutils" or bound.lower is not None):
+            raise AdaptError(free[0].first.line, f"{name} is free after it was given a bound: CoinUtils keeps the bound (--from coinutils), "
+                             "others drop it; remove one of the two lines")  # fmt: skip
+        if bound.upper is not None and bound.lower is None:
+            self.write_without_lower(name, bound, "free-and-bound")
+        self.remove(free[0], "free-and-bound")
+
+    def settle_again(self, bounds: list[Bound]) -> list[Bound]:
+        """The bounds without those that are given again, which are removed."""
+        kept: list[Bound] = []
+        for bound in bounds:
+            if any((bound.lower, bound.upper) == (each.lower, each.upper) for each in kept):
+                self.remove(bound, "bound-again")
+            else:
+                kept.append(bound)
+        return kept
+
+    def remove(self, bound: Bound, kind: str) -> None:
+        self.context.replace(bound.first, bound.last, [kind], [])
+
+    def write_without_lower(self, name: str, bound: Bound, kind: str) -> None:
+        """An upper bound, with the lower bound minus infinity."""
+        assert bound.upper is not None
+        written = self.context.names.of(name)
+        cells = [*literal_cells("-inf"), Cell(" ", "<="), Cell(" ", written), Cell(" ", "<="), *literal_cells(bound.upper)]
+        self.context.replace(bound.first, bound.last, [kind], statement(cells))
+
+    # ---- QSopt_ex
+
+    def settle_negative_upper(self, name: str, bounds: list[Bound]) -> None:
+        """For QSopt_ex a column with a negative upper bound and no lower bound has the lower bound minus infinity."""
+        if any(bound.lower is not None for bound in bounds):
+            return
+        for bound in bounds:
+            if bound.upper is not None and bound.upper.startswith("-") and bound.upper[1:].strip("0."):
+                self.write_without_lower(name, bound, "negative-upper")
+
+    def settle_integers(self) -> None:
+        """For QSopt_ex an integer column without bounds has the upper bound 1."""
+        cells: list[Cell] = []
+        for name, token in self.integers.items():
+            if name not in self.bounds:
+                written = [Cell("\n ", self.context.names.of(name)), Cell(" ", "<="), Cell(" ", "1")]
+                self.context.log.add(token.line, "integer-bound", name, f"{written[0].text} <= 1")
+                cells += written
+        if not cells:
+            return
+        sections = self.context.reader.sections
+        after = self.last_bound
+        if after is None:
+            header = next(each for each in sections if each.name in ("bounds", "generals"))
+            after = header.last
+            if header.name != "bounds":
+                cells.insert(0, Cell("\n", "Bounds"))
+                after = self.context.reader.tokens.before(header.first)
+        self.context.script.insert_after(after, cells)
+
+    # ---- lists of names
+
+    def has_listed(self) -> bool:
+        """Whether a further name comes, and no section."""
+        reader = self.context.reader
+        if reader.token.text in self.context.names.written and reader.token.text.lower() in SECTIONS:
+            raise reader.error("a column, or the word that opens a section: rename the column")
+        return reader.has_bound()
+
+    def take_listed(self, name: Token, section: str) -> None:
+        context = self.context
+        self.check_section_of_others(name)
+        self.take_column(name, section)
+        if section == "generals":
+            self.integers.setdefault(name.text, name)
+        context.settle_name(name)
+
+    def check_section_of_others(self, name: Token) -> None:
+        """A word on its own line that opens a section for Xpress or lp_solve is no column, if no row has it."""
+        kind = SECTIONS_OF_OTHERS.get(name.text.lower())
+        if kind is None or name.text in self.context.columns:
+            return
+        reader = self.context.reader
+        is_last = reader.token.line != name.line
+        if is_last and reader.starts_line(reader.at - 1):
+            raise OtherLanguage(name.line, f"{name.text} is a name here, and opens the section of {kind} for other programs: rename the column, "
+                                "or write the section as mpslp has it")  # fmt: skip
+
+    def note_new_columns(self) -> None:
+        """A column that is first in Bounds or a list: one note for all."""
+        if self.new_columns:
+            name, section = self.new_columns[0]
+            others = f" and {len(self.new_columns) - 1} more" if len(self.new_columns) > 1 else ""
+            self.context.log.note(name.line, f"{name.text}{others} first named under {section}, after the rows: a new column")

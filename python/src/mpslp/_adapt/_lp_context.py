@@ -1,0 +1,157 @@
+"""What the rules of LP files share: names, numbers, and how tokens are replaced and reported."""
+
+from __future__ import annotations
+
+import re
+from collections.abc import Iterable, Sequence
+from fractions import Fraction
+from typing import Optional
+
+from mpslp._adapt import _numbers
+from mpslp._adapt._changes import AdaptError, Log
+from mpslp._adapt._lp_parts import Item, sense_of, spelled
+from mpslp._adapt._lp_print import Cell, Script, printed
+from mpslp._adapt._lp_reader import Reader
+from mpslp._adapt._lp_sections import INFINITIES
+from mpslp._adapt._lp_tokens import Token, look_alike, no_column, punctuation_after
+from mpslp._adapt._names import Names, is_lp_name
+
+
+class Context:
+    """What is known of a file so far, and what is written instead of its tokens."""
+
+    def __init__(self, reader: Reader, log: Log) -> None:
+        self.reader = reader
+        self.dialect = reader.dialect
+        self.tokens = reader.tokens
+        self.log = log
+        self.script = Script(reader.tokens)
+        self.names = Names(is_lp_name, lambda: {each.text for each in reader.tokens.all if each.kind == "word"})
+        self.columns: dict[str, Token] = {}
+        """Each column, and where it is first."""
+
+    @property
+    def first_column(self) -> Optional[str]:
+        return next((self.names.of(name) for name in self.columns), None)
+
+    def take_columns(self, items: Iterable[Item]) -> None:
+        for item in items:
+            if item.name is not None:
+                self.columns.setdefault(item.name.text, item.name)
+
+    # ---- what stays, and what is written again
+
+    def edit(self, token: Token, kind: str, *cells: Cell) -> None:
+        """Writes cells in place of a token."""
+        self.log.add(token.line, kind, token.text, printed(cells))
+        self.script.replace(token.start, token.end, cells)
+
+    def replace(self, first: Token, last: Token, kinds: Iterable[str], cells: Sequence[Cell]) -> None:
+        """Writes a statement again, after the comments that were within it."""
+        after = without_comments(printed(cells))
+        for kind in kinds:
+            self.log.add(first.line, kind, self.source(first, last), after)
+        self.script.replace(first.start, last.end, cells)
+
+    def source(self, first: Token, last: Token) -> str:
+        return without_comments(self.tokens.text[first.start : last.end])
+
+    def settle_items(self, items: Sequence[Item], is_limit: bool) -> None:
+        for item in items:
+            for token in item.numbers:
+                if item.is_infinite:
+                    self.settle_infinity(item, token)
+                else:
+                    self.settle_number(token, is_limit)
+            for token in item.tokens:
+                if token.kind == "sign" and token.text not in "+-":
+                    self.edit(token, "symbol", Cell("", "-"))
+            if item.name is not None:
+                self.settle_name(item.name)
+
+    def settle_number(self, token: Token, is_limit: bool) -> None:
+        literal = self.literal(token, is_limit)
+        if literal != token.text:
+            self.edit(token, "number", Cell("", literal))
+
+    def settle_infinity(self, item: Item, token: Token) -> None:
+        last = item.tokens[-1]
+        if last.text.lower() not in INFINITIES:
+            self.edit(self.reader.as_word(token, last), "infinity", Cell("", "inf"))
+
+    def settle_relation(self, token: Token) -> None:
+        if token.text == "==" or not token.text.isascii():
+            self.edit(token, "symbol", Cell("", spelled(sense_of(token))))
+
+    def settle_name(self, token: Token) -> None:
+        self.check_name(token)
+        name = self.names.of(token.text)
+        if name != token.text:
+            self.edit(token, "name", Cell("", name))
+
+    def name_of(self, token: Token) -> str:
+        self.check_name(token)
+        name = self.names.of(token.text)
+        if name != token.text:
+            self.log.add(token.line, "name", token.text, name)
+        return name
+
+    def check_name(self, token: Token) -> None:
+        """In a file that has to be changed no name has a comma or a semicolon at an end: it would be a statement's, or a number's."""
+        if self.dialect == "pulp":
+            return
+        if (found := look_alike(token)) is not None:
+            raise found
+        if token.text[0] in ",;" or token.text[-1] in ",;":
+            reason = f"a comma or a semicolon is a letter of names in LP: remove it, or rename {token.text}"
+            self.reader.unclear.append(AdaptError(token.line, reason))
+
+    def reject_punctuation(self, items: Iterable[Item]) -> None:
+        """In a statement that is written again, neither 10,5 nor 10; is 10 times a column, and (10) is none."""
+        for item in items:
+            if item.name is not None:
+                found = (punctuation_after(item.numbers[0], item.name) if item.numbers else None) or no_column(item.name)
+                if found is not None:
+                    raise found
+
+    # ---- numbers
+
+    def literal(self, token: Token, is_limit: bool) -> str:
+        """A number of the profile."""
+        text = token.text
+        if "/" in text:
+            decimal = _numbers.fraction(text)
+            if decimal is None:
+                raise self.reader.error("no finite decimal: scale the row", token)
+            return decimal
+        if _numbers.is_decimal(text):
+            return text
+        if is_limit and _numbers.is_infinite(text):
+            return _numbers.INFINITE
+        raise self.reader.error("a number with over 36 digits, or an exponent over 500: round it, or scale the row", token)
+
+    def sum_of(self, items: Sequence[Item]) -> Fraction:
+        """The exact sum of numbers."""
+        total = Fraction(0)
+        for item in items:
+            if item.is_infinite:
+                raise self.reader.error("an infinite number: only sides of rows and bounds may be infinite", item.numbers[0])
+            value = _numbers.exact(self.literal(item.numbers[0], False) if item.numbers else "1")
+            assert value is not None
+            total += item.sign * value
+        return total
+
+    def number_text(self, value: Fraction, first: Token) -> str:
+        text = _numbers.text(value)
+        if text is None:
+            raise AdaptError(first.line, "a sum with over 36 digits: scale the row, or use fewer digits")
+        return text
+
+    def side_literal(self, item: Item) -> str:
+        """A side of a row or a bound of the profile, with its sign."""
+        number = item.numbers[0]
+        return ("-" if item.sign < 0 else "") + ("inf" if item.is_infinite else self.literal(number, True))
+
+
+def without_comments(text: str) -> str:
+    return re.sub(r"\\[^\n]*", "", text)

@@ -1,0 +1,51 @@
+"""The call."""
+
+from collections.abc import Callable, Iterator, Mapping
+from typing import Optional
+
+from mpslp import _mpslp
+from mpslp._sources import Format, Source, naming, read
+from mpslp._warnings import _lp_rules, _mps_rules
+from mpslp._warnings._lp import LpText
+from mpslp._warnings._mps import MpsText
+from mpslp._warnings._records import Found, ModelFileWarning
+
+KINDS = tuple(dict.fromkeys([*_mps_rules.RULES, *_lp_rules.RULES]))
+"""The kinds of warnings."""
+
+
+def warnings_of(source: Source, format: Optional[Format] = None) -> tuple[ModelFileWarning, ...]:
+    """Returns what is accepted in a text and rarely meant, in the order of lines.
+
+    The format may be left out for a path that ends in ``.mps`` or ``.lp``.
+
+    Raises ModelFileError if the text defines no model.
+
+    >>> for warning in mpslp.warnings_of(b"min x\\nbounds\\nX <= 4\\nend\\n", "lp"):
+    ...     print(warning)
+    3: late-name: X first appears in Bounds, as a new column that is in no row; the name x is there
+    """
+    text = read(source, format)
+    with naming(text):
+        _mpslp.is_canonical(text.content, text.format)  # it raises the error of a text that is rejected
+    return warnings_in(text.content, text.format)
+
+
+def warnings_in(content: bytes, format: int) -> tuple[ModelFileWarning, ...]:
+    """The warnings about a text that is accepted."""
+    if format == _mpslp.LP:
+        return _in_order(content, LpText(content), _lp_rules.RULES)
+    return _in_order(content, MpsText(content), _mps_rules.RULES)
+
+
+def _in_order(content: bytes, file: object, rules: Mapping[str, Callable[..., Found]]) -> tuple[ModelFileWarning, ...]:
+    found = sorted((place, kind, text) for kind, rule in rules.items() for place, text in rule(file))
+    return tuple(ModelFileWarning(line, kind, text) for line, (_, kind, text) in zip(_lines(content, [place for place, _, _ in found]), found))
+
+
+def _lines(content: bytes, places: list[int]) -> Iterator[int]:
+    """The lines of places that rise."""
+    line, before = 1, 0
+    for place in places:
+        line, before = line + content.count(b"\n", before, place), place
+        yield line
