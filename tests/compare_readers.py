@@ -177,6 +177,18 @@ def read_coin(text: str) -> Read:
     return found
 
 
+def with_infinities(read: Read) -> Read:
+    """What clp and cbc make of the numbers that CoinUtils reads: from 1e30 on they are infinite."""
+    for pairs in (read.rows, read.bounds):
+        for name, pair in pairs.items():
+            pairs[name] = (as_infinite(pair[0]), as_infinite(pair[1]))
+    return read
+
+
+def as_infinite(number: float) -> float:
+    return math.copysign(math.inf, number) if abs(number) >= 1e30 else number
+
+
 def minimised(model: Read) -> Read:
     """The model with the objective of CoinUtils, which reads `max` as the negated objective to be minimised."""
     if model.sense == "minimize":
@@ -255,13 +267,20 @@ def readers(folder: Path) -> dict[str, Callable[[str, Path], Read]]:
         found["glpsol"] = by_glpsol
     else:
         print("skipped: glpsol: apt-get install glpk-utils")
-    if shutil.which("g++") and COIN_HEADERS.exists():
-        program = folder / "coin_reader"
-        subprocess.run(["g++", "-o", program, COIN_SOURCE, f"-I{COIN_HEADERS}", "-lCoinUtils"], check=True)
+    program = coin_reader(folder)
+    if program is not None:
         found["CoinUtils"] = lambda form, file: by_coin(program, form, file)
-    else:
-        print("skipped: CoinUtils: apt-get install g++ coinor-libcoinutils-dev")
     return found
+
+
+def coin_reader(folder: Path) -> Path | None:
+    """The program that prints what CoinUtils reads, or None if it cannot be made."""
+    if not (shutil.which("g++") and COIN_HEADERS.exists()):
+        print("skipped: CoinUtils: apt-get install g++ coinor-libcoinutils-dev")
+        return None
+    program = folder / "coin_reader"
+    subprocess.run(["g++", "-o", program, COIN_SOURCE, f"-I{COIN_HEADERS}", "-lCoinUtils"], check=True)
+    return program
 
 
 def found_differences(installed: dict) -> tuple[int, dict[tuple[str, str, str], list[str]]]:

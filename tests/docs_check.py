@@ -6,8 +6,7 @@ and vectors/, and docs/*.md are tested in a scratch directory with the repositor
 examples. A comment before a fenced block or a table, which a reader of the page does
 not see, says how:
 
-    <!-- file: NAME -->        the block is the file NAME; an awk script is also that
-                               file in docs/solvers
+    <!-- file: NAME -->        the block is the file NAME
     <!-- prints: COMMAND -->   the block is what the command prints
     <!-- runs -->              the block is run by sh -e and ends with status 0
     <!-- table: FORM -->       each row is checked, in the way of docs_tables.py, which
@@ -24,8 +23,9 @@ is a command, and the lines up to the next one are what it prints.
 Links within the repository must lead to a file, and to a heading of it. Each pair of
 examples must have the same canonical text, which is the stated one if there is one,
 and canonical texts must be fixed points. docs/TRUST.md must list what trust_page.py
-derives from the imports of specs/. prose_lint.py must find nothing in the documents,
-the C header and the comments of the code.
+derives from the imports of specs/. docs/PROMISES.md must agree with the contracts of a
+builder (promises_check.py). prose_lint.py must find nothing in the documents, the C header
+and the comments of the code.
 
 It needs git, make and gzip. Each difference is reported on one line; then they are
 counted. Exits with 1 if there is one.
@@ -41,12 +41,12 @@ import tempfile
 from pathlib import Path
 
 import docs_tables
+import promises_check
 import prose_lint
 import trust_page
 
 ROOT = Path(__file__).resolve().parent.parent
 PROGRAM = ROOT / "crates" / "mpslp" / "out" / "mpslp"
-SCRIPTS = ROOT / "docs" / "solvers"
 DOCUMENTS = ("README.md", "CONTRIBUTING.md", "examples/README.md", "vectors/README.md", "docs/*.md")
 MARK = re.compile(r"<!-- (file|prints|table|check|needs): (.+) -->$|<!-- (runs) -->$")
 PARAGRAPH = re.compile(r"#+ |\*\*")
@@ -187,7 +187,6 @@ class Document:
         for kind, value in marks:
             if kind == "file":
                 (self.scratch.work / value).write_text(text)
-                self.attempt(number, is_stored_as, SCRIPTS / value, text)
             elif kind == "prints":
                 self.attempt(number, self.scratch.wants, value, text.encode())
             elif kind == "runs":
@@ -219,12 +218,6 @@ class Document:
                 continue
             path = (self.path.parent / target).resolve() if target else self.path
             self.attempt(number, leads_somewhere, path, heading, target)
-
-
-def is_stored_as(path, text):
-    """A script that is also a file must be the same there."""
-    if path.suffix == ".awk" and (not path.exists() or path.read_text() != text):
-        raise Wrong(f"{path.relative_to(ROOT)} is not this block")
 
 
 def answers_of(check, cells):
@@ -293,7 +286,7 @@ def main():
             wrong += document.wrong
     with tempfile.TemporaryDirectory() as folder:
         tried += check_examples(Scratch(folder, program), wrong)
-    wrong += trust_page.check() + prose_lint.check(code=True)
+    wrong += trust_page.check() + list(promises_check.differences(promises_check.ROOT)) + prose_lint.check(code=True)
     for line in wrong:
         print(line)
     print(f"{tried} tried, {len(wrong)} differ")

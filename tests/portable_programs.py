@@ -3,24 +3,38 @@
 
 portable_programs.tsv has small files, each with the kind of its remark, the optimum
 as mpslp reads it, and what each program has to find: an optimum, or "none" if it
-rejects the file or finds none. Data lines of MPS are written in fixed columns, which
-all programs read.
+rejects the file or finds none; CoinUtils, the reader of clp and cbc, has "same", "other"
+or "none". Data lines of MPS are written in fixed columns, which all programs read.
+
+A remark names the programs that it is about: those that find something else than mpslp, or
+nothing. A kind that is said only with --all has no such program in any row.
 
 --table prints the table as measured. A program that is missing is skipped.
 """
 
 import argparse
 import shutil
+import subprocess
 import sys
+import tempfile
 from fractions import Fraction
+from pathlib import Path
 
-from adapt_package import KINDS, remarks_of
+import compare_readers
+import independent_reader
+from adapt_package import AGREED, KINDS, remarks_of
 from adapt_rules import ROOT, rows, unescaped
 from solvers import CLOSE, SOLVERS, answer
 
 TABLE = ROOT / "tests" / "portable_programs.tsv"
 STARTS = (1, 4, 14, 24, 39, 49)
 FORMATS = {"mps": 0, "lp": 1}
+COIN = "coinutils"
+ABOUT_NAMES = {"rows dropped", "rows added", "columns dropped", "columns added", "objective", "coefficients"}
+# Rows that are dropped without another optimum, and numbers, which are compared as doubles.
+NOT_SHOWN = {"further-n-row": ("glpsol", "clp", "cbc", "lp_solve"), "number-not-held": (COIN,)}
+# Integer columns, which clp treats as continuous with or without the remark.
+NOT_MEANT = {"integer-section": ("clp",)}
 
 
 def text_of(row):
@@ -40,7 +54,7 @@ def found(row, name):
     solver = SOLVERS[name]
     if row["format"] not in solver.commands:
         return "-"
-    value = answer(solver, row["format"], solver.commands[row["format"]], text_of(row), {})
+    value = answer(solver, row["format"], solver.commands[row["format"]], text_of(row))
     return "none" if value is None else f"{value:.10g}"
 
 
@@ -50,18 +64,70 @@ def is_same(one, other):
     return abs(Fraction(one) - Fraction(other)) <= CLOSE * max(1, abs(Fraction(other)))
 
 
-def differences(names):
+def found_by_coin(row, program):
+    """Whether CoinUtils reads the same model; program is coin_reader."""
+    text = text_of(row)
+    with tempfile.TemporaryDirectory() as folder:
+        file = Path(folder) / f"model.{row['format']}"
+        file.write_text(text)
+        run = subprocess.run([program, row["format"], file], capture_output=True, timeout=compare_readers.SECONDS)
+    if run.returncode or compare_readers.COMPLAINT.search(run.stdout + run.stderr):
+        return "none"
+    want = compare_readers.own(independent_reader.read(text.encode(), row["format"]))
+    have = compare_readers.with_infinities(compare_readers.read_coin(run.stdout.decode("latin-1")))
+    if row["format"] == "lp":
+        want = compare_readers.minimised(want)
+    if not set(compare_readers.differences(have, want)) - ABOUT_NAMES and without_names(have) == without_names(want):
+        return "same"
+    return "other"
+
+
+def without_names(model):
+    """A model without the names of its rows and columns, which CoinUtils replaces in LP if one has a / or a |."""
+    columns = sorted((model.kinds[name], *model.bounds[name], model.costs.get(name, 0.0)) for name in model.bounds)
+    return columns, sorted(model.rows.values()), sorted(value for value in model.entries.values() if value)
+
+
+def concerned(row, name):
+    """Whether a program finds something else than mpslp in a file, or rejects it."""
+    if name == COIN:
+        return row[name] != "same"
+    return row[name] != "-" and not is_same(row[name], row["here"]) and name not in NOT_MEANT.get(row["kind"], ())
+
+
+def differences(names, coin):
     """What is wrong with the rows, and the rows as measured."""
     for number, row in enumerate(rows(TABLE), 2):
-        kinds = {each.kind for each in remarks_of(text_of(row).encode(), FORMATS[row["format"]])}
+        place = f"tests/portable_programs.tsv:{number}: {row['kind']}"
+        remarks = remarks_of(text_of(row).encode(), FORMATS[row["format"]])
+        kinds = {each.kind for each in remarks}
         if kinds != ({row["kind"]} if row["kind"] else set()):
-            yield row, f"tests/portable_programs.tsv:{number}: the remarks are {sorted(kinds)}"
+            yield row, f"{place}: the remarks are {sorted(kinds)}"
         for name in names:
             value = found(row, name)
             if not is_same(value, row[name]):
-                yield row, f"tests/portable_programs.tsv:{number}: {row['kind']}: {name} finds {value}, not {row[name]}"
+                yield row, f"{place}: {name} finds {value}, not {row[name]}"
             row[name] = value
+        if coin is not None and found_by_coin(row, coin) != row[COIN]:
+            yield row, f"{place}: CoinUtils finds {found_by_coin(row, coin)}, not {row[COIN]}"
+            row[COIN] = found_by_coin(row, coin)
+        said = {name for each in remarks for name in each.programs}
+        missing = {name for name in (*SOLVERS, COIN) if remarks and concerned(row, name)} - said
+        if missing:
+            yield row, f"{place}: the remark does not name {', '.join(sorted(missing))}"
         yield row, ""
+
+
+def too_many_programs(measured):
+    """The programs that remarks name although no row of their kind and format shows that they find something else."""
+    for kind, form in sorted({(row["kind"], row["format"]) for row in measured if row["kind"]}):
+        own = [row for row in measured if (row["kind"], row["format"]) == (kind, form)]
+        shown = {name for row in own for name in (*SOLVERS, COIN) if concerned(row, name)} | set(NOT_SHOWN.get(kind, ()))
+        said = {name for row in own for each in remarks_of(text_of(row).encode(), FORMATS[form]) for name in each.programs}
+        if said - shown:
+            yield f"tests/portable_programs.tsv: {kind} in {form}: the remarks name {', '.join(sorted(said - shown))}, which no row shows"
+        if kind in AGREED and shown:
+            yield f"tests/portable_programs.tsv: {kind} is said only with --all, but {', '.join(sorted(shown))} read something else"
 
 
 def main():
@@ -73,9 +139,12 @@ def main():
         if name not in names:
             print(f"skipped: {name} is missing ({SOLVERS[name].package})")
     differing, measured = [], []
-    for row, wrong in differences(names):
-        differing += [wrong] if wrong else []
-        measured += [] if wrong else [row]
+    with tempfile.TemporaryDirectory() as folder:
+        coin = compare_readers.coin_reader(Path(folder))
+        for row, wrong in differences(names, coin):
+            differing += [wrong] if wrong else []
+            measured += [] if wrong else [row]
+    differing += too_many_programs(measured)
     if options.table:
         print(*measured[0], sep="\t")
         print(*("\t".join(row.values()) for row in measured), sep="\n")

@@ -2,10 +2,11 @@
 """Check each rule of check --portable on its examples in docs/portable.tsv.
 
 A row of the table has a format, the part of a file that the example is, the kind of
-the remark, the part that has it, a part that other programs read as mpslp does, what
-mpslp and others read, and what to do. The part is put into the small file of adapt_rules.py: all
-remarks on it have to be of the kind, and on lines of the part. On the other part there
-must be none. Every kind has an example in each format that it is for.
+the remark, the part that has it, a part that other programs read as mpslp does, the
+programs that read something else or reject it, what mpslp and others read, and what to do.
+The part is put into the small file of adapt_rules.py: all remarks on it have to be of the
+kind, with these programs, and on lines of the part. On the other part there must be none.
+Every kind has an example in each format that it is for.
 
 With the program, both have to be accepted. Each row of the table has to be in
 docs/DIALECTS.md.
@@ -36,6 +37,8 @@ def differences(row, program):
         yield "no remark"
     if {each.kind for each in found} - {row["kind"]}:
         yield f"other remarks: {'; '.join(map(str, found))}"
+    if {frozenset(each.programs) for each in found} != {frozenset(row["programs"].split())}:
+        yield f"other programs: {'; '.join(' '.join(each.programs) for each in found)}"
     part = [line.strip() for line in unescaped(row["text"]).split("\n") if line.strip()]
     yield from (f"on another line: {each}" for each in found if not any(line in lines[each.line - 1] for line in part))
     _, found = remarks(row, row["plain"])

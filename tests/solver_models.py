@@ -4,6 +4,10 @@ The optimum differs if a solver ignores the feature. Names are long unless they 
 feature, because some solvers misread short ones as fixed columns.
 """
 
+import copy
+
+from models import Number
+
 LONG = "quantity" + "x" * 247
 SYMBOLS = [f"{symbol}amount{symbol}" for symbol in "!\"#%&(),/;?@_'`{}|~"] + ["amount.", "amount$"]
 
@@ -48,3 +52,33 @@ FEATURES = {
         "mps", "NAME\nROWS\n N  total\n G  need[1]\nCOLUMNS\n    2amount  total  3\n    2amount  need[1]  1\n"
                "    amount[1]  total  1\n    amount[1]  need[1]  1\nRHS\n    RHS  need[1]  2\nENDATA\n", "2"),
 }
+
+
+def bounded_model(source, model):
+    """A random model with the names, kinds and places of another one, and with small numbers: most such models have an optimum."""
+    found = copy.deepcopy(model)
+    point = {}
+    is_continuous = source.random() < 0.5
+    for name, column in found.columns.items():
+        column.kind = "continuous" if is_continuous else column.kind
+        low = source.choice((0, 0, 0, source.randint(-9, 9)))
+        high = low + source.choice((0, 1, 4, 4, 20))
+        if column.kind == "semi":
+            low, high = source.choice((0, source.randint(1, 4))), source.randint(5, 20)
+        column.lower, column.upper = Number.of(low, 0), Number.of(high, 0)
+        point[name] = source.randint(low, high)
+        if column.kind != "semi" and source.random() < 0.2:
+            column.lower = source.choice((column.lower, None))
+            column.upper = source.choice((column.upper, None)) if column.lower is not None else None
+        for row in column.values:
+            column.values[row] = Number.of(source.choice((1, 1, 2, 5, 15, -1, -1, -4)), source.choice((0, 0, -1)))
+    for name, row in found.rows.items():
+        value = sum(column.values[name].scaled(-1) * point[each] for each, column in found.columns.items() if name in column.values)
+        room, further = source.randint(0, 60), source.randint(0, 60)
+        if row.lower is not None and row.lower == row.upper:
+            row.lower = row.upper = Number.of(value, -1)
+        else:
+            row.lower = None if row.lower is None else Number.of(value - room, -1)
+            row.upper = None if row.upper is None else Number.of(value + further, -1)
+    found.constant = Number.of(source.choice((0, source.randint(-99, 99))), -source.randint(0, 1))
+    return found

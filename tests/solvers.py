@@ -4,13 +4,17 @@
 The models are the examples, with the optima of examples/README.md, and small ones
 of solver_models.py that have one feature each. Each solver gets the canonical text
 directly, and then by the recipe of docs/SOLVERS.md: the shell block after the
-comment <!-- solver: NAME FORMAT -->, which reads model.mps or model.lp. A block
-after <!-- file: NAME --> is a file that recipes read.
+comment <!-- solver: NAME FORMAT -->, which reads model.mps. It uses mpslp-tools, for
+which canon_for.py stands in. A recipe that ends with status 2 rejects the model.
 
 The tables of that page, each after a comment <!-- optima: FORMAT -->, state the
 results, and the table after <!-- exports --> what became of the models that a
 command reads and writes again, to the file out. Cells that differ are reported.
 --tables prints the tables as measured, for the solvers that are installed.
+
+The models of vectors/ and the examples whose canonical MPS text has no RHS section
+are read by lp_solve, directly and with an empty section: it must drop the last column
+where the page says so, and must read all columns with the section.
 
 A solver that is missing is reported and skipped. Exits with 1 if a cell differs,
 or a recipe spoils what was right without it.
@@ -26,6 +30,8 @@ from dataclasses import dataclass
 from fractions import Fraction
 from pathlib import Path
 
+import canon_for
+import compare_readers
 from solver_models import FEATURES
 
 ROOT = Path(__file__).resolve().parent.parent
@@ -33,7 +39,6 @@ PROGRAM = ROOT / "crates" / "mpslp" / "out" / "mpslp"
 PAGE = ROOT / "docs" / "SOLVERS.md"
 EXAMPLES = ROOT / "examples"
 FORMATS = ("mps", "lp")
-FILE = re.compile(r"^<!-- file: (\S+) -->\n```.*\n((?:.*\n)*?)```$", re.M)
 RECIPE = re.compile(r"^<!-- solver: (\S+) (\S+) -->\n```sh\n((?:.*\n)*?)```$", re.M)
 TABLE = re.compile(r"^<!-- optima: (\S+) -->\n((?:\|.*\n)+)", re.M)
 EXPORTS = re.compile(r"^<!-- exports -->\n((?:\|.*\n)+)", re.M)
@@ -73,11 +78,10 @@ class Model:
 
 
 class Page:
-    """The recipes of the page, the files that they read, and its tables."""
+    """The recipes of the page, and its tables."""
 
     def __init__(self, path):
         text = path.read_text()
-        self.files = dict(FILE.findall(text))
         self.recipes = {(name, form): recipe for name, form, recipe in RECIPE.findall(text)}
         self.tables = {form: cells_of(rows) for form, rows in TABLE.findall(text)}
         self.exports = [[cell.strip() for cell in row.split("|")[1:-1]] for row in EXPORTS.search(text)[1].splitlines()]
@@ -107,16 +111,20 @@ def models(program):
             for name, form, text, optimum in sources]
 
 
-def answer(solver, form, command, text, files):
-    """The optimum that a command prints for a text, or None."""
+REJECTED = "rejected"
+
+
+def answer(solver, form, command, text, environment=None):
+    """The optimum that a command prints for a text, or None. A recipe that ends with status 2 rejects the model."""
     with tempfile.TemporaryDirectory() as folder:
-        for name, content in {**files, f"model.{form}": text}.items():
-            (Path(folder) / name).write_text(content)
+        (Path(folder) / f"model.{form}").write_text(text)
         try:
-            done = subprocess.run(["sh", "-e", "-c", command], cwd=folder, stdin=subprocess.DEVNULL,
+            done = subprocess.run(["sh", "-e", "-c", command], cwd=folder, stdin=subprocess.DEVNULL, env=environment,
                                   stdout=subprocess.PIPE, stderr=subprocess.STDOUT, timeout=SECONDS)
         except subprocess.TimeoutExpired:
             return None
+        if environment and done.returncode == 2:
+            return REJECTED
         found = Path(folder) / "found"
         reported = solver.reported.findall((found.read_bytes() if found.exists() else done.stdout).decode("latin-1"))
         return float(Fraction(reported[-1])) if reported else None
@@ -125,23 +133,25 @@ def answer(solver, form, command, text, files):
 def verdict(found, optimum):
     if found is None:
         return "error"
+    if found is REJECTED:
+        return REJECTED
     return "yes" if abs(found - optimum) <= CLOSE * max(1, abs(optimum)) else "wrong"
 
 
-def cell(name, form, model, page):
+def cell(name, form, model, page, environment):
     """The required content of a table's cell, and whether the recipe spoils what was right without it."""
     solver, text = SOLVERS[name], model.texts[form]
-    plain = verdict(answer(solver, form, solver.commands[form], text, {}), model.optimum)
+    plain = verdict(answer(solver, form, solver.commands[form], text), model.optimum)
     recipe = page.recipes.get((name, form))
     if not recipe:
         return plain, False
-    mended = verdict(answer(solver, form, recipe, text, page.files), model.optimum)
+    mended = verdict(answer(solver, form, recipe, text, environment), model.optimum)
     if plain == "yes":
         return plain, mended != "yes"
-    return f"recipe, else {plain}" if mended == "yes" else mended, False
+    return {"yes": f"recipe, else {plain}", REJECTED: f"rejected, else {plain}"}.get(mended, mended), False
 
 
-def measured(form, names, chosen, page):
+def measured(form, names, chosen, page, environment):
     """Each model with its cells, and the errors of recipes."""
     rows, reported = [], []
     for model in chosen:
@@ -149,11 +159,65 @@ def measured(form, names, chosen, page):
             continue
         cells = {}
         for name in names:
-            cells[name], spoiled = cell(name, form, model, page)
+            cells[name], spoiled = cell(name, form, model, page, environment)
             if spoiled:
                 reported.append(f"{name}, {form}, {model.name}: the recipe spoils what was right without it")
         rows.append((model.name, cells))
     return rows, reported
+
+
+# ---- models without an RHS section
+
+@dataclass
+class Columns:
+    """The columns of a canonical MPS text, in its order, and those that are integer or in BOUNDS."""
+
+    names: list
+    kept: set
+
+
+def columns_of(text):
+    found, section, is_integer = Columns([], set()), "", False
+    for line in text.splitlines():
+        words = line.split()
+        if not line.startswith(" "):
+            section = line
+        elif words[1:2] == ["'MARKER'"]:
+            is_integer = words[2] == "'INTORG'"
+        elif section == "COLUMNS":
+            found.names += [words[0]] if words[0] not in found.names else []
+            found.kept |= {words[0]} if is_integer else set()
+        elif section == "BOUNDS":
+            found.kept.add(words[2])
+    return found
+
+
+def columns_read(text):
+    """How many columns lp_solve reads from a text, as the first lines say that it writes."""
+    with tempfile.TemporaryDirectory() as folder:
+        (Path(folder) / "model.mps").write_text(text)
+        subprocess.run(["lp_solve", "-S1", "-parse_only", "-fmps", "model.mps", "-wfmps", "out"], cwd=folder, capture_output=True, timeout=SECONDS)
+        found = re.search(r"^\*<meta columns=(\d+)>", (Path(folder) / "out").read_text(encoding="latin-1"), re.M)
+    return int(found[1])
+
+
+def differences_without_rhs(program):
+    """What lp_solve reads otherwise than the page says from canonical texts without an RHS section, and how many there are."""
+    tried, reported = 0, []
+    for name, form, content, _ in compare_readers.accepted_files():
+        text = canonical(program, form, "mps", content.decode("latin-1"))
+        if re.search(r"^RHS$", text, re.M):
+            continue
+        columns = columns_of(text)
+        want = len(columns.names) - (columns.names[-1] not in columns.kept)
+        have = columns_read(text)
+        if have != want:
+            reported.append(f"lp_solve, {name}: it reads {have} columns without an RHS section; by the page, {want}")
+        have = columns_read(re.sub(r"^(?=(?:RANGES|BOUNDS|ENDATA)$)", "RHS\n", text, count=1, flags=re.M))
+        if have != len(columns.names):
+            reported.append(f"lp_solve, {name}: it reads {have} of {len(columns.names)} columns with an empty RHS section")
+        tried += 1
+    return tried, reported
 
 
 def shown(program, form, text):
@@ -168,14 +232,13 @@ def without(text, *names):
     return [line for line in lines if not line.startswith(names)]
 
 
-def exported(program, command, text, files):
+def exported(program, command, text, environment):
     """What became of a model that a command reads and writes again: a column of the table of exports."""
     source, target = ("lp" if "model.lp" in command else "mps"), ("lp" if "--wlp" in command else "mps")
     with tempfile.TemporaryDirectory() as folder:
-        for name, content in {**files, f"model.{source}": text}.items():
-            (Path(folder) / name).write_text(content)
+        (Path(folder) / f"model.{source}").write_text(text)
         try:
-            subprocess.run(["sh", "-c", command], cwd=folder, stdin=subprocess.DEVNULL, capture_output=True, timeout=SECONDS)
+            subprocess.run(["sh", "-e", "-c", command], cwd=folder, stdin=subprocess.DEVNULL, capture_output=True, timeout=SECONDS, env=environment)
         except subprocess.TimeoutExpired:
             return "not written"
         out = Path(folder) / "out"
@@ -191,16 +254,16 @@ def exported(program, command, text, files):
     return "renamed, sense lost" if without(before, "sense ") == without(after, "sense ") else "changed"
 
 
-def export_differences(program, chosen, page, tables):
+def export_differences(program, chosen, page, tables, environment):
     """The rows of the table of exports that differ, and the number of those measured."""
     head, _, *rows = page.exports
     tried, reported = 0, []
     for row in rows:
         command = row[0].strip("`")
-        if not all(shutil.which(part.split()[0]) for part in command.split("; ")):
+        if not all(shutil.which(part.split()[0], path=environment["PATH"]) for part in command.split("; ")):
             continue
         source = "lp" if "model.lp" in command else "mps"
-        kinds = [exported(program, command, model.texts[source], page.files) for model in chosen if model.texts[source]]
+        kinds = [exported(program, command, model.texts[source], environment) for model in chosen if model.texts[source]]
         found = [str(kinds.count(kind)) for kind in head[1:]]
         tried += len(found)
         if found != row[1:]:
@@ -248,15 +311,20 @@ def main():
     for name in SOLVERS.keys() - set(there):
         print(f"{name} is missing: apt-get install {SOLVERS[name].package}")
     chosen, tried, reported = models(program), 0, []
-    for form in FORMATS:
-        names = [name for name in there if form in SOLVERS[name].commands]
-        rows, spoiled = measured(form, names, chosen, page)
-        tried += sum(len(cells) for _, cells in rows)
-        reported += spoiled + list(differences(form, rows, page.tables.get(form, {})))
-        if options.tables:
-            print_table(form, names, rows)
-    more, differ = export_differences(program, chosen, page, options.tables)
+    with tempfile.TemporaryDirectory() as folder:
+        environment = canon_for.put_command(folder, program)
+        for form in FORMATS:
+            names = [name for name in there if form in SOLVERS[name].commands]
+            rows, spoiled = measured(form, names, chosen, page, environment)
+            tried += sum(len(cells) for _, cells in rows)
+            reported += spoiled + list(differences(form, rows, page.tables.get(form, {})))
+            if options.tables:
+                print_table(form, names, rows)
+        more, differ = export_differences(program, chosen, page, options.tables, environment)
     tried, reported = tried + more, reported + differ
+    if "lp_solve" in there:
+        more, differ = differences_without_rhs(program)
+        tried, reported = tried + more, reported + differ
     for line in reported:
         print(line)
     print(f"{tried} tried, {len(reported)} differ")

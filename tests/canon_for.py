@@ -1,0 +1,53 @@
+#!/usr/bin/env python3
+"""What `mpslp-tools canon --for SOLVER` does, with the built program instead of the library, so that tests need no wheel.
+
+canon_for.py PROGRAM canon --for SOLVER [-t FORMAT] [-o PATH] FILE
+"""
+
+import argparse
+import os
+import subprocess
+import sys
+from pathlib import Path
+
+import adapt_package  # noqa: F401 the package, or its sources with a stand-in for the library
+from mpslp._solver_texts import SOLVERS, SolverError, solver_text
+
+
+def put_command(folder, program):
+    """Puts the command mpslp-tools into a directory, and returns the environment in which it is found."""
+    command = Path(folder) / "mpslp-tools"
+    command.write_text(f'#!/bin/sh\nexec "{sys.executable}" -B "{Path(__file__).resolve()}" "{program}" "$@"\n')
+    command.chmod(0o755)
+    return {**os.environ, "PATH": f"{folder}:{os.environ['PATH']}"}
+
+
+def main():
+    parser = argparse.ArgumentParser()
+    parser.add_argument("program")
+    parser.add_argument("command", choices=("canon",))
+    parser.add_argument("--for", dest="solver", choices=tuple(SOLVERS), required=True)
+    parser.add_argument("-t", dest="to", choices=("mps", "lp", "glp"))
+    parser.add_argument("-o", dest="output", type=Path)
+    parser.add_argument("file", type=Path)
+    options = parser.parse_args()
+    canonical = subprocess.run([options.program, "canon", options.file.suffix[1:], "mps", options.file], stdout=subprocess.PIPE)
+    if canonical.returncode:
+        return canonical.returncode
+    suffix = options.output.suffix[1:] if options.output else ""
+    try:
+        text = solver_text(canonical.stdout, options.solver, options.to or (suffix if suffix in ("mps", "lp") else None))
+    except SolverError as error:
+        print(f"{options.file}: {error}", file=sys.stderr)
+        return 2
+    for warning in text.warnings:
+        print(f"warning: {options.file}: {warning}", file=sys.stderr)
+    if options.output:
+        options.output.write_bytes(text)
+    else:
+        sys.stdout.buffer.write(text)
+    return 0
+
+
+if __name__ == "__main__":
+    sys.exit(main())
