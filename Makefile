@@ -47,6 +47,7 @@ bench:
 	sh bench/numbers.sh
 	python3 bench/run.py --sizes 10M,100M
 	python3 bench/run.py --sizes 10M,100M --hostile
+	python3 bench/growth.py
 
 # Refuses each growth of memory in turn.
 refused: program
@@ -67,20 +68,25 @@ vectors: program
 docs-check: program
 	python3 tests/docs_check.py
 
-# Feeds canonical texts to the solvers that are installed, as docs/SOLVERS.md says, and compares the optima. Compares what glpsol
-# and CoinUtils read from each accepted file with what mpslp reads.
+# Feeds canonical texts to the solvers that are installed, as docs/SOLVERS.md says, and compares the optima. Does so with what
+# canon --for writes of random models and of vectors/. Compares what glpsol and CoinUtils read from each accepted file with what
+# mpslp reads.
 solvers: program
 	python3 tests/solvers.py
+	python3 tests/solver_texts.py
 	python3 tests/compare_readers.py
 
-# Tests adapt and check --portable: their rules, random models in other dialects, and what the installed solvers write of real
-# models.
+# Tests adapt, warnings and check --portable: their rules, random models in other dialects, and what the installed programs write of
+# random models and of published ones.
 dialects: program
 	python3 tests/adapt_rules.py --wrong
 	python3 tests/portable_rules.py --wrong
+	python3 tests/warning_rules.py --wrong
 	python3 tests/portable_programs.py
 	python3 tests/adapt_random.py
+	python3 tests/adapt_glued.py
 	python3 tests/adapt_writers.py
+	python3 tests/adapt_published.py
 
 # install, install-lib, uninstall; dist, dist-check, install-check.
 include release/install.mk release/release.mk

@@ -25,5 +25,5 @@ uninstall:
 crates/mpslp/out/mpslp: $(SOURCES)
 	$(MAKE) --no-print-directory
 
-build/libmpslp.so.0: $(SOURCES) include/mpslp.h lib/build.sh lib/inline.c lib/mpslp.map VERSION
+build/libmpslp.so.0: $(SOURCES) include/mpslp.h lib/build.sh lib/inline.c lib/doubles.c lib/mpslp.map VERSION
 	$(MAKE) --no-print-directory lib

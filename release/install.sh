@@ -32,7 +32,7 @@ library 644 include/mpslp.h $prefix/include/mpslp.h
 library 644 build/libmpslp.a $libdir/libmpslp.a
 library 755 build/libmpslp.so.0 $libdir/libmpslp.so.0
 TABLE
-    for document in README.md CHANGELOG.md CONTRIBUTING.md docs/*.md docs/errors.tsv docs/solvers/* python/README.md examples/*; do
+    for document in README.md CHANGELOG.md CONTRIBUTING.md docs/*.md docs/errors.tsv python/README.md examples/*; do
         echo "documents 644 $document $docdir/$document"
     done
 }

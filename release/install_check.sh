@@ -35,7 +35,7 @@ use() {
     "$mpslp" canon mps mps examples/small.mps | cmp - examples/small.canonical.mps
     LD_LIBRARY_PATH=$libdir "$scratch/shared" canon mps mps examples/small.mps | cmp - examples/small.canonical.mps
     "$scratch/static" canon mps mps examples/small.mps | cmp - examples/small.canonical.mps
-    for file in man/man1/mpslp.1 doc/mpslp/README.md doc/mpslp/docs/C.md doc/mpslp/docs/solvers/coin.awk doc/mpslp/examples/small.mps; do
+    for file in man/man1/mpslp.1 doc/mpslp/README.md doc/mpslp/docs/C.md doc/mpslp/docs/SOLVERS.md doc/mpslp/examples/small.mps; do
         test -s "$1/share/$file" || die "$1/share/$file is missing"
     done
 }
@@ -70,7 +70,7 @@ make_without_kit uninstall DESTDIR="$scratch/stage" PREFIX=/usr LIBDIR=/usr/lib6
 test "$(find "$scratch/stage" -type f)" = "$scratch/stage/usr/share/zsh/site-functions/_other" || die "uninstall takes away too much, or leaves $(find "$scratch/stage" -type f)"
 
 # What the library is built from: if a file is newer, it is built again.
-for source in crates.txt crates/mpslp_c/src/storing.rt include/mpslp.h lib/build.sh lib/inline.c lib/mpslp.map VERSION; do
+for source in crates.txt crates/mpslp_c/src/storing.rt include/mpslp.h lib/build.sh lib/inline.c lib/doubles.c lib/mpslp.map VERSION; do
     make -n -W "$source" install-lib | grep -qx 'sh lib/build.sh' || die "install-lib installs a library that is older than $source"
 done
 ! make -n install-lib python | grep -q 'lib/build.sh' || die "install-lib or python builds again what is built"
