@@ -4,7 +4,7 @@ mod hashing;
 mod keys;
 mod lp;
 
-ghost use Rattle.std.specs.Prelude.{◌≡◌, [], ◌∷◌, Some, IfSome, IfNone, IfOk, MatchResult, refl};
+ghost use Rattle.std.specs.Prelude.{◌≡◌, ◌≤◌, [], ◌∷◌, Some, IfSome, IfNone, IfOk, IsOk, MatchResult, length, refl};
 ghost use Rattle.std.proofs.Common.{rules};
 ghost use Rattle.std.specs.List.{list_all};
 ghost use Rattle.std.specs.Result.{result_err};
@@ -158,10 +158,11 @@ impl Name {
     ///
     /// # Errors
     ///
-    /// Those of [`check`](Self::check); `OutOfMemory` only if there is none of them.
+    /// Those of [`check`](Self::check); `OutOfMemory` only if there is none of them and the name has more than 16 bytes.
     pub fn new(alloc: Global, bytes: &[u8]) -> Result<Name, NameFault>
         ensures refused { IfSome (name_refusal bytes.now) (λ fault. result ≡ Err fault) }
         ensures taken { IfNone (name_refusal bytes.now) (MatchResult result (λ name. name ≡ bytes.now) (λ fault. fault ≡ NameFault.OutOfMemory)) }
+        ensures short { length bytes.now ≤ 16 → IfNone (name_refusal bytes.now) (IsOk result) }
     {
         Name::check(bytes)?;
         match Name::from_legal(alloc, bytes) {
@@ -174,10 +175,11 @@ impl Name {
     ///
     /// # Errors
     ///
-    /// [`AllocError`] if the allocation of a long name fails.
+    /// [`AllocError`] if the allocation of a name of more than 16 bytes fails.
     pub fn from_legal(alloc: Global, bytes: &[u8]) -> Result<Name, AllocError>
         requires { IsMpsName bytes.now }
-        ensures { IfOk result (λ name. name ≡ bytes.now) }
+        ensures copied { IfOk result (λ name. name ≡ bytes.now) }
+        ensures short { length bytes.now ≤ 16 → IsOk result }
     {
         let bytes = SmallVec::from_slice(alloc, bytes)?;
         Ok(Name { bytes })
