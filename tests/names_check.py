@@ -55,6 +55,8 @@ PATH = re.compile(rf"(?:[\w.-]+/)*[\w.-]+{ENDING}|(?:[\w.-]+/)+|(?:crates|src|sp
 # Where a path may begin, besides the top and the directory of the page.
 STARTS = ("crates", "crates/*", "crates/*/src", "crates/*/src/*", "crates/*/specs", "crates/*/proofs", "include", "tests", "scripts", "bench", "docs",
           "python", "python/src/mpslp", "python/src/mpslp/*", "vectors")
+# Words that stand for a name of the reader's choice.
+PLACEHOLDER = re.compile(r"\b(?:FILE|NAME|CRATE)\b")
 # What a build makes.
 BUILT = ("build/", "out/", "bench/data/", "crates/mpslp/out/", "crates/try_library/out/")
 
@@ -130,6 +132,8 @@ def names_of_code() -> frozenset[str]:
     found: set[str] = set()
     for name in files():
         found.update(part for each in Path(name).parts for part in (each, each.partition(".")[0]))
+        if name == str(ALLOWED.relative_to(ROOT)):
+            continue
         if name.endswith(CODE) or name.startswith("completions/") or "." not in Path(name).name:
             for each in NAME.findall(code_of(name)):
                 found.update((each, *re.split(r"[-']", each)))
@@ -146,7 +150,7 @@ def starts() -> tuple[Path, ...]:
 
 
 def leads_to_a_file(path: str, page: str) -> bool:
-    if path.startswith(BUILT):
+    if path.startswith(BUILT) or PLACEHOLDER.search(path):
         return True
     return any((start / path).exists() or (start / f"{path}.antt").exists() for start in ((ROOT / page).parent, *starts()))
 
