@@ -11,7 +11,7 @@ Some tables of the documents for contributors are read further:
 
     | rule | definition |        each definition is in the file of specs/ that is named
     | term | in the code | in `specs/` |     so, and each name of the code in src/
-    | limit | in the code | in `specs/` | ..    so, and each name of the code in the file after it
+    | limit | in the code | in `specs/` | ..    so, and each name and number of the limit in the file after it
     | function | file | ..       the file has the function
     | crate | ..                 the crates are those of crates.txt, in any order
 
@@ -253,6 +253,15 @@ def missing_constants(cell: str) -> Iterator[str]:
                 yield f"{span} in {' or '.join(paths)}"
 
 
+def missing_numbers(limit: str, cell: str) -> Iterator[str]:
+    """The numbers of a limit that no file of its cell has; of a power of ten the exponent."""
+    paths = [span for span in re.findall(r"`([^`]+)`", cell) if span in files()]
+    code = " ".join(code_of(path).replace("_", "") for path in paths)
+    for number in re.findall(r"\d[\d,]*", re.sub(r"\b10\^", "", limit)):
+        if paths and not re.search(rf"(?<!\d){number.replace(',', '')}(?!\d)", code):
+            yield f"{number} in {' or '.join(paths)}"
+
+
 def tables(text: str) -> Iterator[tuple[list[str], int, list[str]]]:
     """Each row of each table, with the cells of its head and its line."""
     head: list[str] = []
@@ -277,6 +286,7 @@ def missing_in_tables(page: str, text: str) -> Iterator[Missing]:
             yield from (Missing(page, number, name, "no such definition") for name in missing_definitions(cells[2]))
         elif head[:3] == ["limit", "in the code", "in `specs/`"]:
             yield from (Missing(page, number, name, "no such name of the code") for name in missing_constants(cells[1]))
+            yield from (Missing(page, number, name, "no such number") for name in missing_numbers(cells[0], cells[1]))
             yield from (Missing(page, number, name, "no such definition") for name in missing_definitions(cells[2]))
         elif head[:2] == ["function", "file"]:
             path = re.findall(r"`([^`]+)`", cells[1])
