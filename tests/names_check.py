@@ -233,13 +233,13 @@ def missing_definitions(cell: str) -> Iterator[str]:
 
 
 def missing_in_code(cell: str) -> Iterator[str]:
-    """The names of a cell that the crate which is named after them does not have in its src/."""
+    """The types and functions of a cell that the crate which is named after them does not declare in its src/."""
     parts = re.split(r"\((mpslp_\w+)\)", cell)
-    for text, crate in zip(parts[::2], parts[1::2] or ["mpslp_"]):
-        sources = [name for name in files() if name.startswith(f"crates/{crate}") and "/src/" in name]
+    for text, crate in zip(parts[::2], parts[1::2]):
+        code = "\n".join(code_of(name) for name in files_of([crate], "src/"))
         for span in re.findall(r"`([^`]+)`", text):
             for word in span.split("::"):
-                if not any(has_word(name, word) for name in sources):
+                if not re.search(rf"\b(?:struct|enum|trait|type|fn) {word}\b", code):
                     yield f"{span} in src/ of {crate}"
 
 
