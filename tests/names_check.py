@@ -53,12 +53,13 @@ NAME = re.compile(r"[A-Za-z_][A-Za-z0-9_]*(?:[-'][A-Za-z0-9_]+)*")
 ENDING = r"\.(?:rt|antt|py|sh|tsv|md|mk|h|c|cpp|edit)"
 PATH = re.compile(rf"(?:[\w.-]+/)*[\w.-]+{ENDING}|(?:[\w.-]+/)+|(?:crates|src|specs|proofs|must-fail|tests|scripts|docs|python)/[\w./-]+")
 # Where a path may begin, besides the top and the directory of the page.
-STARTS = ("crates", "crates/*", "crates/*/src", "crates/*/src/*", "crates/*/specs", "crates/*/proofs", "include", "tests", "scripts", "bench", "docs",
-          "python", "python/src/mpslp", "python/src/mpslp/*", "vectors")
+STARTS = ("crates", "crates/*", "crates/*/src", "crates/*/src/*", "crates/*/specs", "crates/*/proofs", "include", "tests", "scripts",
+          "bench", "docs", "python", "python/src/mpslp", "python/src/mpslp/*", "vectors")
 # Words that stand for a name of the reader's choice.
 PLACEHOLDER = re.compile(r"\b(?:FILE|NAME|CRATE)\b")
 # What a build makes.
 BUILT = ("build/", "out/", "bench/data/", "crates/mpslp/out/", "crates/try_library/out/")
+MADE = {".git", "build", "out", "__pycache__"}
 
 
 class Missing(NamedTuple):
@@ -91,7 +92,10 @@ def permissions() -> list[Permission]:
 def files() -> tuple[str, ...]:
     """The files of the repository: those that git knows, or would."""
     listed = subprocess.run(("git", "ls-files", "--cached", "--others", "--exclude-standard"), cwd=ROOT, capture_output=True, text=True)
-    names = listed.stdout.splitlines() if listed.returncode == 0 else [str(it.relative_to(ROOT)) for it in ROOT.rglob("*")]
+    if listed.returncode == 0:
+        names = listed.stdout.splitlines()
+    else:
+        names = [str(it.relative_to(ROOT)) for it in ROOT.rglob("*") if not MADE & set(it.relative_to(ROOT).parts)]
     return tuple(name for name in names if (ROOT / name).is_file())
 
 
@@ -113,7 +117,8 @@ def code_of(name: str) -> str:
 
 def comments_of(name: str) -> str:
     """The comments of a file, line by line as before."""
-    text, kept, at = text_of(name), [], 0
+    text, at = text_of(name), 0
+    kept: list[str] = []
     for match in re.finditer(COMMENTS[Path(name).suffix], text, flags=re.M):
         kept += [re.sub(r"[^\n]", "", text[at:match.start()]), match[0]]
         at = match.end()
@@ -225,8 +230,7 @@ def missing_definitions(cell: str) -> Iterator[str]:
         if not crates or not found:
             continue
         module = found[1] or module
-        alone = not found[1] and is_defined(crates, found[2], found[2])
-        if alone:
+        if not found[1] and is_defined(crates, found[2], found[2]):
             module = found[2]
         elif not is_defined(crates, module, found[2]):
             yield f"{module}.{found[2]} in {' or '.join(crates)}"
@@ -277,7 +281,8 @@ def tables(text: str) -> Iterator[tuple[list[str], int, list[str]]]:
 
 
 def missing_in_tables(page: str, text: str) -> Iterator[Missing]:
-    crates, seen = {name.split("/")[1] for name in files() if name.startswith("crates/")}, set()
+    crates = {name.split("/")[1] for name in files() if name.startswith("crates/")}
+    seen: set[str] = set()
     for head, number, cells in tables(text):
         if head[-1] == "definition":
             yield from (Missing(page, number, name, "no such definition") for name in missing_definitions(cells[-1]))
@@ -319,7 +324,8 @@ def all_missing() -> Iterator[Missing]:
 
 def check() -> list[str]:
     """What is missing and not allowed, the entries that allow nothing, and too many words."""
-    allowed, used, lines = permissions(), set(), []
+    allowed, lines = permissions(), []
+    used: set[Permission] = set()
     for missing in all_missing():
         covering = [permission for permission in allowed if permission.covers(missing)]
         used.update(covering)
