@@ -11,7 +11,8 @@ Some tables of the documents for contributors are read further:
 
     | rule | definition |        each definition is in the file of specs/ that is named
     | term | in the code | in `specs/` |     so, and each name of the code in src/
-    | limit | in the code | in `specs/` | ..    so, and each name and number of the limit in the file after it
+    | limit | in the code | in `specs/` | ..    so, and each name and number of the limit in the files
+                                           that are named
     | function | file | ..       the file has the function
     | crate | ..                 the crates are those of crates.txt, in any order
 
@@ -266,6 +267,15 @@ def missing_numbers(limit: str, cell: str) -> Iterator[str]:
             yield f"{number} in {' or '.join(paths)}"
 
 
+def missing_elsewhere(limit: str, cell: str) -> Iterator[str]:
+    """The files of the last cell of a limit that have none of its numbers."""
+    numbers = [number.replace(",", "") for number in re.findall(r"\d[\d,]*", limit)]
+    for path in (span for span in re.findall(r"`([^`]+)`", cell) if span in files()):
+        text = re.sub(r"(?<=\d)[_,](?=\d)", "", text_of(path))
+        if numbers and not any(re.search(rf"(?<!\d){number}(?!\d)", text) for number in numbers):
+            yield f"{' or '.join(numbers)} in {path}"
+
+
 def tables(text: str) -> Iterator[tuple[list[str], int, list[str]]]:
     """Each row of each table, with the cells of its head and its line."""
     head: list[str] = []
@@ -292,6 +302,7 @@ def missing_in_tables(page: str, text: str) -> Iterator[Missing]:
         elif head[:3] == ["limit", "in the code", "in `specs/`"]:
             yield from (Missing(page, number, name, "no such name of the code") for name in missing_constants(cells[1]))
             yield from (Missing(page, number, name, "no such number") for name in missing_numbers(cells[0], cells[1]))
+            yield from (Missing(page, number, name, "no such number") for name in missing_elsewhere(cells[0], cells[-1]))
             yield from (Missing(page, number, name, "no such definition") for name in missing_definitions(cells[2]))
         elif head[:2] == ["function", "file"]:
             path = re.findall(r"`([^`]+)`", cells[1])
