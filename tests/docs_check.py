@@ -25,7 +25,8 @@ examples must have the same canonical text, which is the stated one if there is 
 and canonical texts must be fixed points. docs/TRUST.md must list what trust_page.py
 derives from the imports of specs/. docs/PROMISES.md must agree with the contracts of a
 builder (promises_check.py). prose_lint.py must find nothing in the documents, the C header
-and the comments of the code.
+and the comments of the code. Names in documents and comments must exist (names_check.py),
+and the checklists of CONTRIBUTING.md must be complete (places.py).
 
 It needs git, make and gzip. Each difference is reported on one line; then they are
 counted. Exits with 1 if there is one.
@@ -41,6 +42,8 @@ import tempfile
 from pathlib import Path
 
 import docs_tables
+import names_check
+import places
 import promises_check
 import prose_lint
 import trust_page
@@ -287,6 +290,7 @@ def main():
     with tempfile.TemporaryDirectory() as folder:
         tried += check_examples(Scratch(folder, program), wrong)
     wrong += trust_page.check() + list(promises_check.differences(promises_check.ROOT)) + prose_lint.check(code=True)
+    wrong += names_check.check() + places.check()
     for line in wrong:
         print(line)
     print(f"{tried} tried, {len(wrong)} differ")

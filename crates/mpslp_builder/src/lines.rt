@@ -1,4 +1,4 @@
-//! Lines of a column: one call declares the column, whether it is marked, and its coefficients, so that each name is looked up
+//! Lines of a column: one call declares the column, whether it is marked, and its coefficients, so that each row is looked up
 //! only once.
 
 ghost use Rattle.std.specs.Prelude.{◌≡◌, ◌≢◌, ◌&&◌, ◌++◌, ℕ, List, [], ◌∷◌, IfOk, IfSome, OnOk, Ok, None, Some, false, true, is_some};

@@ -287,7 +287,7 @@ impl Tables {
 
 impl ReaderBuilder {
     /// Declares a column, and its coefficient of a row or of the objective. It does what [`column`](crate::Builder::column) and
-    /// [`coefficient`](crate::Builder::coefficient) do, and looks each name up only once.
+    /// [`coefficient`](crate::Builder::coefficient) do, and looks the row up only once.
     ///
     /// # Errors
     ///
@@ -310,7 +310,7 @@ impl ReaderBuilder {
     }
 
     /// Declares the terms of a row in order: each column, and its coefficient. It does what
-    /// [`column`](crate::Builder::column) and [`coefficient`](crate::Builder::coefficient) do, and looks each name up only once.
+    /// [`column`](crate::Builder::column) and [`coefficient`](crate::Builder::coefficient) do, and looks the row up only once.
     ///
     /// # Errors
     ///

@@ -1,4 +1,4 @@
-//! Lines of COLUMNS without an error. Each name of such a line is looked up once.
+//! Lines of COLUMNS without an error. Each row of such a line is looked up once.
 
 ghost use Rattle.std.specs.Prelude.{◌≡◌, ◌≢◌, [], map, IfSome, Ok, Some, None, true, false, is_some};
 ghost use Rattle.std.specs.Option.{option_map, option_map_or, ForSome};
