@@ -1,6 +1,7 @@
 """The package as Python finds it: its version, names, help and types, and further interpreters."""
 
 import inspect
+import os
 import pickle
 import pydoc
 import subprocess
@@ -30,7 +31,7 @@ for _ in range(3):
 import sys
 sys.path[:0] = {path!r}
 import mpslp
-assert mpslp.load({file!r}).rows["weight"].upper == 4.5
+assert mpslp.load({file!r}).rows["weight"].upper.as_tuple() == (0, (4, 5), -1)
 try:
     mpslp.canonical(b"", "lp")
 except mpslp.ModelFileError as error:
@@ -95,7 +96,9 @@ class Package(unittest.TestCase):
 
     def test_further_interpreters(self):
         program = IN_AN_INTERPRETER.format(path=sys.path, file=str(EXAMPLES / "semi.mps"))
-        done = subprocess.run([sys.executable, "-c", program], capture_output=True, text=True)
+        # What is freed is overwritten, so that its use shows.
+        environment = {**os.environ, "PYTHONMALLOC": "debug"}
+        done = subprocess.run([sys.executable, "-c", program], env=environment, capture_output=True, text=True)
         self.assertEqual((done.returncode, done.stdout, done.stderr), (0, "use\n", ""))
 
 

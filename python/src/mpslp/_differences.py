@@ -14,7 +14,7 @@ from typing import Literal, NamedTuple, TypeAlias, Union
 from mpslp import _mpslp
 from mpslp._faults import ModelFileError
 from mpslp._models import Column, Kind, Model, Row, Sense, model_of
-from mpslp._numbers import MOST_DIGITS, is_near, number_text
+from mpslp._numbers import MOST_DIGITS, ZERO, is_near, number_text
 from mpslp._positions import Names, names_by_position
 from mpslp._sources import Format, Source, naming, read
 
@@ -27,7 +27,6 @@ Verdict: TypeAlias = Literal["same", "close", "not the same"]
 """What is said of two models."""
 
 _SIGNS: dict[Which, str] = {"first": "-", "second": "+"}
-_ZERO = Decimal(0)
 _LIMITS: tuple[Literal["lower", "upper"], ...] = ("lower", "upper")
 _MOST_LINES = 100
 
@@ -238,7 +237,7 @@ class Differences(Iterable[Difference]):
         self, column: str, entries: dict[str, Decimal], others: dict[str, Decimal], is_in_both: Callable[[str], bool]
     ) -> Iterator[Difference]:
         for row in sorted(entries.keys() | others.keys()):
-            value, other = entries.get(row, _ZERO), others.get(row, _ZERO)
+            value, other = entries.get(row, ZERO), others.get(row, ZERO)
             if not self._rules.is_equal(value, other) and is_in_both(row):
                 yield EntryDifference(row, column, value, other)
 

@@ -17,6 +17,7 @@ typedef struct {
     PyObject *error;          /* the class ModelFileError */
     PyObject *arrays;         /* the class Arrays */
     PyObject *decimal;        /* the class Decimal */
+    PyObject *context;        /* the Context in which Decimals are made: the current one may be of an interpreter that ended */
     PyObject *infinity;       /* Decimal('Infinity') */
     PyObject *minus_infinity; /* Decimal('-Infinity') */
 } state;
@@ -161,7 +162,7 @@ static PyObject *decimal_of(const state *held, const mpslp_number *number) {
     digits[sizeof digits - 1] = 0;
     PyOS_snprintf(text, sizeof text, "%s%s%.*sE%d", number->high < 0 ? "-" : "", put_digits(digits + sizeof digits - 1, size),
                   is_whole ? (int)number->exponent : 0, "00000000000000000000", is_whole ? 0 : (int)number->exponent);
-    return PyObject_CallFunction(held->decimal, "s", text);
+    return PyObject_CallFunction(held->decimal, "sO", text, held->context);
 }
 
 /* The text of a name. Names are ASCII. */
@@ -955,6 +956,13 @@ static PyObject *imported(const char *module_name, const char *name) {
     return found;
 }
 
+/* A context of its own for the Decimals that are made here. */
+static PyObject *context_of_decimals(void) {
+    PyObject *class = imported("decimal", "Context"), *made = class != NULL ? PyObject_CallNoArgs(class) : NULL;
+    Py_XDECREF(class);
+    return made;
+}
+
 /* The constants of the library that the modules of the package use. */
 static const struct {
     const char *name;
@@ -975,8 +983,9 @@ static int begin(PyObject *module) {
     if ((held->arrays = PyType_FromModuleAndSpec(module, &arrays_spec, NULL)) == NULL) return -1;
     if (PyModule_AddType(module, (PyTypeObject *)held->arrays) < 0) return -1;
     if ((held->decimal = imported("decimal", "Decimal")) == NULL) return -1;
-    if ((held->infinity = PyObject_CallFunction(held->decimal, "s", "Infinity")) == NULL) return -1;
-    if ((held->minus_infinity = PyObject_CallFunction(held->decimal, "s", "-Infinity")) == NULL) return -1;
+    if ((held->context = context_of_decimals()) == NULL) return -1;
+    if ((held->infinity = PyObject_CallFunction(held->decimal, "sO", "Infinity", held->context)) == NULL) return -1;
+    if ((held->minus_infinity = PyObject_CallFunction(held->decimal, "sO", "-Infinity", held->context)) == NULL) return -1;
     if (PyModule_AddStringConstant(module, "VERSION", PACKAGE_VERSION) < 0) return -1;
     for (size_t i = 0; i < sizeof words / sizeof words[0]; i++)
         if (PyModule_AddIntConstant(module, words[i].name, words[i].number) < 0) return -1;
@@ -988,6 +997,7 @@ static int traverse(PyObject *module, visitproc visit, void *arg) {
     Py_VISIT(held->error);
     Py_VISIT(held->arrays);
     Py_VISIT(held->decimal);
+    Py_VISIT(held->context);
     Py_VISIT(held->infinity);
     Py_VISIT(held->minus_infinity);
     return 0;
@@ -998,6 +1008,7 @@ static int clear(PyObject *module) {
     Py_CLEAR(held->error);
     Py_CLEAR(held->arrays);
     Py_CLEAR(held->decimal);
+    Py_CLEAR(held->context);
     Py_CLEAR(held->infinity);
     Py_CLEAR(held->minus_infinity);
     return 0;

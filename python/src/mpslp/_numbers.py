@@ -10,10 +10,15 @@ from typing import TypeAlias, Union
 Number: TypeAlias = Union[int, float, Decimal, Fraction]
 """What may be given as a number: a float is the decimal of its shortest text, such as 0.1."""
 
-INFINITY = Decimal("Infinity")
 MOST_DIGITS = 36
 MOST_EXPONENT = 500
-LARGE = Decimal(10**20)
+
+# Enough precision for each sum of two numbers of a model. Neither importing the package nor loading a model uses the current context of
+# decimal: in CPython 3.11 an interpreter that used its own and has ended may leave it, freed, to the others.
+EXACT = Context(prec=4 * MOST_EXPONENT, Emax=MAX_EMAX, Emin=MIN_EMIN)
+ZERO, ONE = Decimal(0, EXACT), Decimal(1, EXACT)
+INFINITY, MINUS_INFINITY = Decimal("Infinity", EXACT), Decimal("-Infinity", EXACT)
+LARGE = Decimal(10**20, EXACT)
 """A limit or a bound of this magnitude or more is infinite."""
 
 # The maximum number of zeros that are written out after digits, as in the extension module.
@@ -22,9 +27,6 @@ _MOST_ZEROS = 20
 # The same in canonical texts, and the most decimal places there; other numbers have an exponent.
 _MOST_ZEROS_OF_TEXT = 5
 _MOST_PLACES_OF_TEXT = 18
-
-# Enough precision for each difference of two numbers of a model.
-_EXACT = Context(prec=4 * MOST_EXPONENT, Emax=MAX_EMAX, Emin=MIN_EMIN)
 
 
 def fraction(number: Number) -> Fraction | None:
@@ -68,7 +70,7 @@ def is_near(first: Decimal, second: Decimal, digits: int) -> bool:
     if first.is_infinite() or second.is_infinite():
         return False
     larger = max(first.copy_abs(), second.copy_abs())
-    return _EXACT.subtract(first, second).adjusted() <= larger.adjusted() - digits
+    return EXACT.subtract(first, second).adjusted() <= larger.adjusted() - digits
 
 
 def number_text(number: Decimal) -> str:
@@ -92,7 +94,7 @@ def number_text(number: Decimal) -> str:
 
 def difference(upper: Decimal, lower: Decimal) -> Decimal:
     """The exact difference of two finite numbers; raises ValueError if it is not a decimal of a model."""
-    return _normal(_EXACT.subtract(upper, lower))
+    return _normal(EXACT.subtract(upper, lower))
 
 
 def _decimal(number: Number) -> Decimal:

@@ -5,11 +5,12 @@ from __future__ import annotations
 from collections.abc import Iterator, Sequence
 from decimal import Context, Decimal
 
+from mpslp._numbers import EXACT
 from mpslp._report._contents import Extreme, Magnitudes
 from mpslp._report._markup import Markup, code, digits, element, joined, markup, table
 
 # What guides of solvers advise at most for the ratio of the largest to the smallest coefficient.
-_WIDE, _VERY_WIDE = Decimal("1e6"), Decimal("1e9")
+_WIDE, _VERY_WIDE = Decimal("1e6", EXACT), Decimal("1e9", EXACT)
 # Coefficients that HiGHS treats as 0, and those that it rejects, if its options are not changed.
 _TREATED_AS_0, _REJECTED = -9, 15
 # From this power of ten on, neighbouring doubles differ by more than 1e-6, the usual tolerance for limits and bounds.

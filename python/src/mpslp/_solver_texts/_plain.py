@@ -4,11 +4,10 @@ from __future__ import annotations
 
 from collections.abc import Callable, Iterator
 from dataclasses import dataclass, field
-from decimal import Context, Decimal
+from decimal import Decimal
 from typing import Optional
 
-EXACT = Context(prec=2100, Emin=-9999, Emax=9999)
-"""Sums of two numbers of a model are exact in it: each has at most 36 digits and an exponent from -500 to 500."""
+from mpslp._numbers import EXACT, ZERO
 
 
 @dataclass
@@ -30,9 +29,9 @@ class Column:
 
     is_integer: bool = False
     is_semi_continuous: bool = False
-    lower: Optional[Decimal] = Decimal(0)
+    lower: Optional[Decimal] = ZERO
     upper: Optional[Decimal] = None
-    cost: Decimal = Decimal(0)
+    cost: Decimal = ZERO
     entries: dict[str, Decimal] = field(default_factory=dict)
 
 
@@ -42,7 +41,7 @@ class Model:
 
     objective: str = ""
     is_maximised: bool = False
-    constant: Decimal = Decimal(0)
+    constant: Decimal = ZERO
     rows: dict[str, Row] = field(default_factory=dict)
     columns: dict[str, Column] = field(default_factory=dict)
 

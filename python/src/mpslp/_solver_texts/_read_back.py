@@ -8,11 +8,9 @@ from dataclasses import dataclass, field
 from decimal import Decimal
 from typing import Optional
 
-from mpslp._solver_texts._plain import EXACT
+from mpslp._numbers import EXACT, INFINITY, MINUS_INFINITY, ONE, ZERO
 from mpslp._solver_texts._solvers import Constant, Language, TextFormat
 
-PLUS, MINUS = Decimal("Infinity"), Decimal("-Infinity")
-_ZERO, _ONE = Decimal(0), Decimal(1)
 _MPSLP = Language("mps", Constant.NEGATED, Constant.NEGATED)
 _ULPS = 8 * 2.0**-53
 
@@ -23,7 +21,7 @@ class Said:
 
     objective: str = ""
     is_maximised: bool = False
-    constant: Decimal = Decimal(0)
+    constant: Decimal = ZERO
     limits: dict[str, tuple[Decimal, Decimal]] = field(default_factory=dict)
     kinds: dict[str, str] = field(default_factory=dict)
     bounds: dict[str, tuple[Decimal, Decimal]] = field(default_factory=dict)
@@ -37,7 +35,7 @@ class Said:
     def meet(self, column: str, kind: str = "continuous") -> None:
         """A column is named; the first time it gets what a column has without bounds."""
         self.kinds.setdefault(column, kind)
-        self.bounds.setdefault(column, (Decimal(0), PLUS))
+        self.bounds.setdefault(column, (Decimal(0), INFINITY))
 
 
 def canonical_says(canonical: bytes) -> Said:
@@ -97,14 +95,14 @@ def _mps(text: str, language: Language) -> Said:
 
 
 def _limits_of(letter: str, side: Decimal) -> tuple[Decimal, Decimal]:
-    return {"N": (MINUS, PLUS), "L": (MINUS, side), "G": (side, PLUS), "E": (side, side)}[letter]
+    return {"N": (MINUS_INFINITY, INFINITY), "L": (MINUS_INFINITY, side), "G": (side, INFINITY), "E": (side, side)}[letter]
 
 
 def _mps_bound(said: Said, fields: list[str]) -> None:
     letters, name, number = fields[0], fields[2], Decimal((fields[3:] or ["0"])[0])
     lower, upper = said.bounds[name]
     said.bounds[name] = {
-        "FX": (number, number), "FR": (MINUS, PLUS), "MI": (MINUS, upper), "PL": (lower, PLUS), "LO": (number, upper), "UP": (lower, number), "SC": (lower, number),
+        "FX": (number, number), "FR": (MINUS_INFINITY, INFINITY), "MI": (MINUS_INFINITY, upper), "PL": (lower, INFINITY), "LO": (number, upper), "UP": (lower, number), "SC": (lower, number),
     }[letters]
     if letters == "SC":
         said.kinds[name] = "semi-continuous"
@@ -153,7 +151,7 @@ def _lp_rows(said: Said, words: list[str]) -> None:
         constant = _lp_terms(said, name, words[at + 1 : relation])
         assert not constant and words[at].endswith(":") and name not in said.limits, name
         side = _side(words[relation + 1])
-        said.limits[name] = {"<=": (MINUS, side), ">=": (side, PLUS), "=": (side, side)}[words[relation]]
+        said.limits[name] = {"<=": (MINUS_INFINITY, side), ">=": (side, INFINITY), "=": (side, side)}[words[relation]]
         at = relation + 2
 
 
@@ -173,7 +171,7 @@ def _lp_terms(said: Said, row: str, words: list[str]) -> Decimal:
 
 def _side(word: str) -> Decimal:
     number = Decimal(word)
-    return number if abs(number) < Decimal("1e30") else PLUS.copy_sign(number)
+    return number if abs(number) < Decimal("1e30") else INFINITY.copy_sign(number)
 
 
 def _lp_bound(said: Said, words: list[str]) -> None:
@@ -181,11 +179,11 @@ def _lp_bound(said: Said, words: list[str]) -> None:
         case []:
             return
         case [name, "free"]:
-            said.bounds[name] = MINUS, PLUS
+            said.bounds[name] = MINUS_INFINITY, INFINITY
         case [name, "=", side]:
             said.bounds[name] = _side(side), _side(side)
         case [name, ">=", side]:
-            said.bounds[name] = _side(side), PLUS
+            said.bounds[name] = _side(side), INFINITY
         case [lower, "<=", name, "<=", upper]:
             said.bounds[name] = _side(lower), _side(upper)
         case _:
@@ -228,7 +226,7 @@ def _glp(text: str, language: Language) -> Said:
 def _glp_limits(words: list[str]) -> tuple[Decimal, Decimal]:
     letter, *numbers = words
     values = list(map(Decimal, numbers))
-    return {"f": (MINUS, PLUS), "l": (*values, PLUS), "u": (MINUS, *values), "d": tuple(values), "s": (*values, *values)}[letter]  # type: ignore[return-value]
+    return {"f": (MINUS_INFINITY, INFINITY), "l": (*values, INFINITY), "u": (MINUS_INFINITY, *values), "d": tuple(values), "s": (*values, *values)}[letter]  # type: ignore[return-value]
 
 
 _READERS: Mapping[TextFormat, Callable[[str, Language], Said]] = {"mps": _mps, "lp": _lp, "glp": _glp}
@@ -300,13 +298,13 @@ def _take_away(text: Said, added: Added) -> Iterator[str]:
     if added.row is not None and text.limits.pop(added.row, None) is None:
         yield "the row that was added"
     for row, column in added.values.items():
-        is_equation = text.limits.get(row) == (_ZERO, _ZERO)
+        is_equation = text.limits.get(row) == (ZERO, ZERO)
         if not is_equation or text.kinds.pop(column, "") != "continuous" or text.coefficients.pop((row, column), None) != -1:
             yield f"the column that was added for row {row}"
             return
         text.limits[row] = text.bounds.pop(column)
     if added.constant is not None:
-        if text.kinds.pop(added.constant, "") != "continuous" or text.bounds.pop(added.constant, None) != (_ONE, _ONE) or text.constant:
+        if text.kinds.pop(added.constant, "") != "continuous" or text.bounds.pop(added.constant, None) != (ONE, ONE) or text.constant:
             yield "the column that was added for the constant"
             return
         text.constant = text.coefficients.pop((text.objective, added.constant), Decimal(0))
