@@ -17,7 +17,6 @@ measuring time.
 
 import argparse
 import os
-import re
 import resource
 import subprocess
 import sys
@@ -31,6 +30,7 @@ from pathlib import Path
 from colliding import alike, colliding
 from generate import size_in_bytes
 from hostile import KINDS, named_as_lp, named_as_mps, of_size
+from instructions import COUNTING, counted
 from library import LIBRARY, built_library
 
 ROOT = Path(__file__).resolve().parent.parent
@@ -45,8 +45,6 @@ SMALLEST = 2000
 PIECE = 5
 PIECES_OF_SIZE = 20
 """A file that is fed in pieces is smaller by this factor: each piece is a call of the system."""
-CALLGRIND = ("valgrind", "--tool=callgrind", "--callgrind-out-file=/dev/null")
-COLLECTED = re.compile(r"Collected : (\d+)")
 CALLS_OF_PYTHON = """
 import mpslp, sys
 path = sys.argv[1]
@@ -151,10 +149,7 @@ def seconds(command: Command, file: Path) -> float:
 
 def instructions(command: Command, file: Path) -> float:
     """How many million instructions one run executes."""
-    found = COLLECTED.search(run([*CALLGRIND, *command.on(file)], command.feeding, file))
-    if found is None:
-        sys.exit("valgrind counts no instructions")
-    return int(found[1]) / 1e6
+    return counted(run([*COUNTING, *command.on(file)], command.feeding, file)) / 1e6
 
 
 @dataclass(frozen=True)
