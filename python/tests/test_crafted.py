@@ -1,8 +1,13 @@
 """Texts that are made to be slow take time proportional to their size, also in what is not proved."""
 
+import bz2
+import gzip
 import itertools
+import lzma
+import tempfile
 import time
 import unittest
+from pathlib import Path
 
 import mpslp
 
@@ -52,3 +57,14 @@ class Crafted(unittest.TestCase):
         text = mpslp.text_for(made, "clp", "lp")
         self.assertLess(time.process_time() - begun, self.MOST_SECONDS)
         self.assertIn(b"_32768", text)
+
+    def test_many_compressed_parts(self):
+        text = b"min x\nend\n"
+        with tempfile.TemporaryDirectory() as folder:
+            for ending, pack in (("gz", gzip.compress), ("bz2", bz2.compress), ("xz", lzma.compress)):
+                with self.subTest(ending):
+                    path = Path(folder, f"small.lp.{ending}")
+                    path.write_bytes(pack(text) + pack(b"") * 200_000)
+                    begun = time.process_time()
+                    self.assertEqual(list(mpslp.load(path).columns), ["x"])
+                    self.assertLess(time.process_time() - begun, self.MOST_SECONDS)
