@@ -79,6 +79,12 @@ class Command:
         return size if self.feeding is Feeding.BY_PATH else size // PIECES_OF_SIZE
 
 
+def written(file: Path, lines: Iterable[str]) -> Path:
+    with file.open("w", encoding="ascii") as target:
+        target.writelines(lines)
+    return file
+
+
 def commands(program: str, scratch: Path) -> list[Command]:
     """Those of the program, and of the libraries that are built."""
     found = [
@@ -95,15 +101,16 @@ def commands(program: str, scratch: Path) -> list[Command]:
     return found
 
 
-def tools() -> list[Command]:
+def tools(scratch: Path) -> list[Command]:
     """The commands of mpslp-tools."""
+    other = written(scratch / "other.lp", ["min y\nend\n"])
     words = {
         "canon": ("canon", "FILE"),
         "canon --for": ("canon", "--for", "glpsol", "FILE"),
         "check": ("check", "FILE"),
         "portable": ("check", "--portable", "--all", "FILE"),
         "same": ("same", "FILE", "FILE"),
-        "diff": ("diff", "FILE", "FILE"),
+        "diff": ("diff", "FILE", str(other)),
         "positions": ("diff", "--by-position", "FILE", "FILE"),
         "show": ("show", "FILE"),
         "digest": ("digest", "FILE"),
@@ -198,7 +205,7 @@ def print_head(*words: str) -> None:
     print("|" + "---|" * len(words))
 
 
-def printed(lines: Iterable[Line]) -> bool:
+def report(lines: Iterable[Line]) -> bool:
     """Prints the lines, and returns whether no ratio is too large."""
     is_right = True
     for line in lines:
@@ -207,20 +214,15 @@ def printed(lines: Iterable[Line]) -> bool:
     return is_right
 
 
-def written(file: Path, lines: Iterable[str]) -> Path:
-    with file.open("w", encoding="ascii") as target:
-        target.writelines(lines)
-    return file
-
-
 def growths(chosen: list[Command], kinds: list[str], sizes: list[int], measure: Measure, most: float, folder: Path) -> Iterator[Line]:
     """For each kind, format and command, what the two sizes take."""
     for kind in kinds:
         for form, lines in KINDS[kind].items():
+            wanted = {size: folder / f"{size}.{form}" for command in chosen for size in (SMALLEST, *map(command.size, sizes))}
+            for size, file in wanted.items():
+                written(file, of_size(lines, size, SEED))
             for command in chosen:
-                of_sizes = [command.size(size) for size in sizes]
-                files = [written(folder / f"{size}.{form}", of_size(lines, size, SEED)) for size in (SMALLEST, *of_sizes)]
-                start, small, large = measure.of_files(command, files)
+                start, small, large = measure.of_files(command, [wanted[size] for size in (SMALLEST, *map(command.size, sizes))])
                 ratio = (large - start) / max(small - start, measure.least)
                 yield Line((kind, form, command.name), small, large, ratio, most)
 
@@ -249,7 +251,7 @@ def main() -> int:
     measure = INSTRUCTIONS if options.instructions else SECONDS
     with tempfile.TemporaryDirectory() as scratch:
         folder = Path(scratch)
-        chosen = tools() if options.tools else commands(options.program, folder)
+        chosen = tools(folder) if options.tools else commands(options.program, folder)
         if options.commands:
             chosen = [command for command in chosen if command.name in options.commands.split(",")]
         if options.names:
@@ -259,7 +261,7 @@ def main() -> int:
             sizes = options.sizes.split(",")
             print_head("kind", "format", "command", *(f"{size}, {measure.unit}" for size in sizes), "ratio")
             lines = growths(chosen, options.kinds.split(","), list(map(size_in_bytes, sizes)), measure, options.most or measure.most_growth, folder)
-        return 0 if printed(lines) else 1
+        return 0 if report(lines) else 1
 
 
 if __name__ == "__main__":
