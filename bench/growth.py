@@ -218,11 +218,11 @@ def growths(chosen: list[Command], kinds: list[str], sizes: list[int], measure: 
     """For each kind, format and command, what the two sizes take."""
     for kind in kinds:
         for form, lines in KINDS[kind].items():
-            wanted = {size: folder / f"{size}.{form}" for command in chosen for size in (SMALLEST, *map(command.size, sizes))}
-            for size, file in wanted.items():
+            files = {size: folder / f"{size}.{form}" for command in chosen for size in map(command.size, (SMALLEST, *sizes))}
+            for size, file in files.items():
                 written(file, of_size(lines, size, SEED))
             for command in chosen:
-                start, small, large = measure.of_files(command, [wanted[size] for size in (SMALLEST, *map(command.size, sizes))])
+                start, small, large = measure.of_files(command, [files[command.size(size)] for size in (SMALLEST, *sizes)])
                 ratio = (large - start) / max(small - start, measure.least)
                 yield Line((kind, form, command.name), small, large, ratio, most)
 
