@@ -2,7 +2,7 @@
 """How the time of each command grows with files that were made to be slow.
 
     growth.py [--sizes 1M,10M] [--kinds KIND,..] [--commands COMMAND,..] [--tools] [--instructions]
-    growth.py --names 44000 [--most 1.2] [--instructions]
+    growth.py --names 40000 [--most 1.2] [--instructions]
 
 For each kind of file of hostile.py and each command: the processor time at two sizes, and the second divided by the first, both
 without the time of a small file. Ten times the size may take ten times the instructions, and a little more for sorting, and twice that
