@@ -23,7 +23,7 @@ import sys
 import tempfile
 from collections.abc import Callable, Iterable, Iterator
 from contextlib import suppress
-from dataclasses import dataclass
+from dataclasses import dataclass, replace
 from enum import Enum
 from pathlib import Path
 
@@ -246,9 +246,12 @@ def main() -> int:
     parser.add_argument("--tools", action="store_true", help="the commands of mpslp-tools instead")
     parser.add_argument("--names", type=int, metavar="N", help="only N colliding names, against others")
     parser.add_argument("--instructions", action="store_true", help="count instructions by valgrind instead of measuring time")
+    parser.add_argument("--rounds", type=int, help=f"runs of each command and file; default {SECONDS.rounds}, and 1 with --instructions")
     parser.add_argument("--program", default=str(PROGRAM), help="the path of mpslp")
     options = parser.parse_args()
     measure = INSTRUCTIONS if options.instructions else SECONDS
+    if options.rounds:
+        measure = replace(measure, rounds=options.rounds)
     with tempfile.TemporaryDirectory() as scratch:
         folder = Path(scratch)
         chosen = tools(folder) if options.tools else commands(options.program, folder)
