@@ -48,6 +48,7 @@ bench:
 	python3 bench/run.py --sizes 10M,100M
 	python3 bench/run.py --sizes 10M,100M --hostile
 	python3 bench/growth.py
+	python3 bench/growth.py --names 40000 --most 1.2
 
 # Refuses each growth of memory in turn.
 refused: program

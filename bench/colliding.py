@@ -38,19 +38,21 @@ def _front(source: random.Random) -> bytes:
             return block + state
 
 
+def _numbered(front: bytes, source: random.Random, count: int) -> Iterator[str]:
+    """So many names with this front, which differ in the next eight bytes."""
+    before, after = front.decode("ascii"), bytes(source.choices(_LETTERS, k=2 * _WORD)).decode("ascii")
+    numbers = itertools.product("abcdefghijklmnop", repeat=_WORD)
+    return (before + "".join(number) + after for number in itertools.islice(numbers, count))
+
+
 def colliding(count: int, seed: int = 1) -> Iterator[str]:
     """So many names with one hash, which are legal in both formats."""
     source = random.Random(seed)
-    front = _front(source).decode("ascii")
-    back = bytes(source.choices(_LETTERS, k=2 * _WORD)).decode("ascii")
-    numbers = itertools.product("abcdefghijklmnop", repeat=_WORD)
-    return (front + "".join(number) + back for number in itertools.islice(numbers, count))
+    return _numbered(_front(source), source, count)
 
 
 def alike(count: int, seed: int = 1) -> Iterator[str]:
-    """As many names of the same length, which differ in the same bytes, but do not collide."""
-    source = random.Random(seed + 1)
-    front = bytes(source.choices(_LETTERS, k=3 * _WORD)).decode("ascii")
-    back = bytes(source.choices(_LETTERS, k=2 * _WORD)).decode("ascii")
-    numbers = itertools.product("abcdefghijklmnop", repeat=_WORD)
-    return (front + "".join(number) + back for number in itertools.islice(numbers, count))
+    """As many names of the same bytes, in another order: they differ in the same places, but do not collide."""
+    source = random.Random(seed)
+    front = _front(source)
+    return _numbered(front[: 2 * _WORD] + front[: 2 * _WORD - 1 : -1], source, count)

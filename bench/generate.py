@@ -14,7 +14,7 @@ from decimal import Context, Decimal
 from functools import lru_cache
 from string import ascii_letters
 
-from colliding import colliding
+import hostile
 from literals import literal, whole
 
 COLUMNS_PER_ROW = 3
@@ -32,11 +32,6 @@ INFINITE_SIZE = Decimal(10) ** 20
 SAMPLE = 400
 # Only the start of the search for the right count; the file is measured then.
 GUESSED_BYTES_PER_COLUMN = 250
-# The longest legal names have 255 bytes; comparing two of these means
-# reading nearly all of both.
-NAME_BYTES = 255
-LONG_FRONT = "a_name_that_is_the_same_as_all_others_but_for_its_number_" * 5
-NUMBER_BYTES = 8
 
 UNITS = {"k": 10 ** 3, "M": 10 ** 6, "G": 10 ** 9}
 
@@ -449,100 +444,6 @@ def write_lp(out, options):
     out.write("End\n")
 
 
-def hostile_row_line(name):
-    return row_line("L", name)
-
-
-def write_hostile(out, row_names, columns):
-    """A thin file of these row names and these columns, each a name and its pairs."""
-    out.write(name_line() + "ROWS\n" + row_line("N", OBJECTIVE))
-    out.writelines(map(hostile_row_line, row_names))
-    out.write("COLUMNS\n")
-    for name, pairs in columns:
-        out.write(pair_lines(name, pairs, 1))
-    out.write("RHS\nENDATA\n")
-
-
-def write_one_column(out, options, ordered):
-    """A reader that inserts each row into a sorted column moves all later rows each time."""
-    source = random.Random(options.seed)
-    name = "row_{:08d}".format
-    a_row = hostile_row_line(name(0)) + pair_lines("X", [(name(0), "-12.5")], 1)
-    names = [name(number) for number in range(max(1, options.size // len(a_row)))]
-    pairs = [(OBJECTIVE, "1")] + [(row, literal(source)) for row in ordered(source, names)]
-    write_hostile(out, names, [("X", pairs)])
-
-
-def rising(source, names):
-    return names
-
-
-def falling(source, names):
-    return reversed(names)
-
-
-def in_random_order(source, names):
-    return source.sample(names, len(names))
-
-
-def write_rising(out, options):
-    write_one_column(out, options, rising)
-
-
-def write_falling(out, options):
-    write_one_column(out, options, falling)
-
-
-def write_random(out, options):
-    write_one_column(out, options, in_random_order)
-
-
-def write_tiny_columns(out, options):
-    """The stored data of each column is larger than its coefficients."""
-    source = random.Random(options.seed)
-    name = "c{:07d}".format
-    a_column = pair_lines(name(0), [("LIMIT", "1")], 1)
-    names = [name(number) for number in range(max(1, options.size // len(a_column)))]
-    source.shuffle(names)
-    write_hostile(out, ["LIMIT"], ((column, [("LIMIT", "1")]) for column in names))
-
-
-def write_many_names(out, options):
-    """A look-up or a sort that compares names reads their long common prefix each time."""
-    source = random.Random(options.seed)
-    name = (LONG_FRONT[:NAME_BYTES - NUMBER_BYTES] + "{:08d}").format
-    a_column = hostile_row_line(name(0)) + pair_lines(name(0), [(name(0), "-12.5")] * 2, 1)
-    count = max(2, options.size // len(a_column))
-    names = [name(number) for number in range(count)]
-    source.shuffle(names)
-    columns = source.sample(names, count)
-    pairs = ((column, [(row, literal(source)) for row in source.sample(names, 2)]) for column in columns)
-    write_hostile(out, names, pairs)
-
-
-def write_colliding(out, options):
-    """Rows and columns whose names have one hash, if the seed of the hash is the fixed one."""
-    a_name = len(next(colliding(1)))
-    count = max(1, options.size // (3 * a_name + len(" L \n ..  1\n")))
-    names = list(colliding(count, options.seed))
-    if options.lp:
-        out.write(f"Minimize\n {OBJECTIVE}: {names[0]}\nSubject To\n")
-        out.writelines(f" {row}: 2 {name} >= 1\n" for row, name in zip(names, reversed(names)))
-        out.write("End\n")
-    else:
-        write_hostile(out, names, ((name, [(row, "1")]) for name, row in zip(names, reversed(names))))
-
-
-HOSTILE = {
-    "one-column-rising": write_rising,
-    "one-column-falling": write_falling,
-    "one-column-random": write_random,
-    "tiny-columns": write_tiny_columns,
-    "many-names": write_many_names,
-    "colliding": write_colliding,
-}
-
-
 def arguments():
     parser = argparse.ArgumentParser(
         description=__doc__, formatter_class=argparse.RawDescriptionHelpFormatter)
@@ -559,22 +460,24 @@ def arguments():
                         help="LP text of the thin model of this seed and size")
     parser.add_argument("--sorted", action="store_true",
                         help="the rows of each column in the order of ROWS")
-    parser.add_argument("--hostile", choices=sorted(HOSTILE),
-                        help="in place of all this, but with size and seed: one column that has "
-                        "very many rows in some order, very many columns of one coefficient, "
-                        "names with long common prefixes, or names with one hash under a known seed")
+    parser.add_argument("--hostile", choices=sorted(hostile.KINDS), metavar="KIND",
+                        help="a file made to be slow instead, of the size and the seed, with --lp as LP: "
+                        + ", ".join(sorted(hostile.KINDS)))
     parser.add_argument("--colliding", action="store_const", dest="hostile", const="colliding",
-                        help="the same as --hostile colliding; also with --lp")
+                        help="the same as --hostile colliding: names with one hash under a known seed")
     return parser.parse_args()
 
 
 def main():
     options = arguments()
-    if options.lp:
+    if options.hostile:
+        lines = hostile.KINDS[options.hostile]["lp" if options.lp else "mps"]
+        sys.stdout.writelines(hostile.of_size(lines, options.size, options.seed))
+    elif options.lp:
         options.thin = True
-    usual = write_lp if options.lp else write_usual
-    write = write_colliding if options.hostile == "colliding" else usual if options.lp else HOSTILE.get(options.hostile, usual)
-    write(sys.stdout, options)
+        write_lp(sys.stdout, options)
+    else:
+        write_usual(sys.stdout, options)
 
 
 if __name__ == "__main__":

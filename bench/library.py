@@ -23,6 +23,7 @@ from turns import KINDS, file_of, listed
 HERE = Path(__file__).resolve().parent
 ROOT = HERE.parent
 PROGRAM = ROOT / "crates" / "mpslp" / "out" / "mpslp"
+LIBRARY = ROOT / "build" / "libmpslp.a"
 
 # Run by the Python that has the package, with a path: prints seconds of the calls, the peak, and the part of load in which a
 # second thread did not run, by the gaps between its turns.
@@ -71,7 +72,7 @@ def built_library(directory: Path) -> Path:
     """library.c, compiled over the library that is built."""
     program = directory / "library"
     words = [os.environ.get("CC", "cc"), "-O2", f"-I{ROOT / 'include'}", "-o", str(program), str(HERE / "library.c")]
-    subprocess.run([*words, str(ROOT / "build" / "libmpslp.a")], check=True)
+    subprocess.run([*words, str(LIBRARY)], check=True)
     return program
 
 

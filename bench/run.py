@@ -22,13 +22,14 @@ import threading
 import time
 from pathlib import Path
 
-from generate import HOSTILE, size_in_bytes
+from generate import size_in_bytes
+from hostile import ACCEPTED
 
 HERE = Path(__file__).resolve().parent
 DATA = HERE / "data"
 FORMATS = ("mps", "lp")
 GENERATOR = HERE / "generate.py"
-SOURCES = (GENERATOR, HERE / "literals.py")
+SOURCES = (GENERATOR, HERE / "hostile.py", HERE / "colliding.py", HERE / "literals.py")
 CRATES = HERE.parent / "crates"
 DEFAULT_PROGRAM = CRATES / "mpslp" / "out" / "mpslp"
 DEFAULT_READER = CRATES / "try_library" / "out" / "try_library"
@@ -249,10 +250,11 @@ def present(candidates):
 
 def wanted_files(options):
     """Shapes and sizes of files, and the generator's arguments for them."""
-    if options.source == "lp":
-        shapes = {"thin": ("--lp",)}
-    elif options.hostile:
-        shapes = {name: ("--hostile", name) for name in sorted(HOSTILE)}
+    as_lp = ("--lp",) if options.source == "lp" else ()
+    if options.hostile:
+        shapes = {name: ("--hostile", name, *as_lp) for name in sorted(ACCEPTED)}
+    elif as_lp:
+        shapes = {"thin": as_lp}
     else:
         shapes = {kind: KINDS[kind] for kind in options.kinds}
     return [
@@ -274,8 +276,8 @@ def arguments():
     parser.add_argument("--hostile", action="store_true",
                         help="the hostile files in place of the kinds")
     parser.add_argument("--source", choices=FORMATS, default="mps",
-                        help="the format that is read; of lp there is one kind, thin, and a size is that "
-                        "of the same model as MPS")
+                        help="the format that is read; of lp there is one kind, thin, whose size is that "
+                        "of the same model as MPS, and the hostile files")
     parser.add_argument("--target", choices=FORMATS, default="mps", help="the format that is written")
     parser.add_argument("--seed", type=int, default=1)
     parser.add_argument("--runs", type=int, default=5)

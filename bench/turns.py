@@ -1,7 +1,7 @@
 #!/usr/bin/env python3
 """Measure two versions of mpslp and the installed peers in turns.
 
-    turns.py PROGRAM OTHER [--files KIND,..] [--sizes 10M,..] [--rounds N]
+    turns.py PROGRAM OTHER [--files KIND,..] [--sizes 10M,..] [--rounds N] [--instructions]
 
 Each file is read and written again by every program, one after another, in rounds whose order rotates, so that other load on
 the machine affects all alike. The table has, for each file and program, the median over the rounds of the processor time of
@@ -10,6 +10,9 @@ seconds, and the largest memory of any run, divided by the size of the file. Tim
 compared.
 
 A peer that rejects a file, or writes less than an eighth of it, has no time. Files are kept in bench/data/.
+
+With --instructions the table has how many million instructions PROGRAM and OTHER execute for each file, by valgrind, and the second
+divided by the first. That takes one run of each, and does not depend on other load.
 """
 
 import argparse
@@ -26,6 +29,7 @@ from dataclasses import dataclass
 from pathlib import Path
 
 from generate import size_in_bytes
+from instructions import instructions
 from shapes import SHAPES, SHORTEST
 
 HERE = Path(__file__).resolve().parent
@@ -167,6 +171,21 @@ def rows(source: Path, runs: dict[str, list[Run | None]]) -> Iterator[list[str]]
         yield [source.name, f"{size / 1e6:.1f}", name, f"{processor:.2f}", f"{wall:.2f}", f"{seconds:.2f}", f"{memory:.1f}"]
 
 
+def row_of_instructions(path: str, other: str, source: Path, target: str) -> list[str]:
+    form = source.suffix.removeprefix(".")
+    ours, its = (instructions([os.path.abspath(program), "canon", form, target, str(source)]) / 1e6 for program in (path, other))
+    return [source.name, f"{source.stat().st_size / 1e6:.1f}", f"{ours:.1f}", f"{its:.1f}", f"{its / ours:.3f}"]
+
+
+def print_row(row: list[str]) -> None:
+    print("| " + " | ".join(row) + " |", flush=True)
+
+
+def print_head(*titles: str) -> None:
+    print_row(list(titles))
+    print("|" + "---|" * len(titles))
+
+
 def listed(text: str) -> list[str]:
     return text.split(",")
 
@@ -179,6 +198,7 @@ def main() -> None:
     parser.add_argument("--sizes", type=listed, default=["10M"])
     parser.add_argument("--rounds", type=int, default=9)
     parser.add_argument("--target", choices=("mps", "lp"), help="the format that is written; by default the file's own")
+    parser.add_argument("--instructions", action="store_true", help="count instructions instead of measuring time")
     parser.add_argument("--limit", type=float, default=600, help="seconds after which a run is stopped")
     options = parser.parse_args()
     for kind in options.files:
@@ -186,15 +206,21 @@ def main() -> None:
             parser.error(f"unknown kind of file: {kind}")
     for size in options.sizes:
         size_in_bytes(size)
-    print("| file | MB | program | processor time, by mpslp's | wall time, by mpslp's | seconds | peak memory, by the file's size |")
-    print("|---|---|---|---|---|---|---|")
+    if options.instructions:
+        print_head("file", "MB", "million instructions of mpslp", "of the other version", "ratio")
+    else:
+        print_head("file", "MB", "program", "processor time, by mpslp's", "wall time, by mpslp's", "seconds", "peak memory, by the file's size")
     for size in sorted(options.sizes, key=size_in_bytes):
         for kind in options.files:
             source = file_of(kind, size, os.path.abspath(options.program))
             form = source.suffix.removeprefix(".")
-            candidates = programs(options.program, options.other, form, options.target or form)
+            target = options.target or form
+            if options.instructions:
+                print_row(row_of_instructions(options.program, options.other, source, target))
+                continue
+            candidates = programs(options.program, options.other, form, target)
             for row in rows(source, rounds_of(candidates, source, options.rounds, options.limit)):
-                print("| " + " | ".join(row) + " |", flush=True)
+                print_row(row)
     OUTPUT.unlink(missing_ok=True)
 
 

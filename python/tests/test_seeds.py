@@ -10,14 +10,16 @@ from repository import ROOT
 sys.path.insert(0, str(ROOT / "bench"))
 
 from colliding import alike, colliding
-from growth import names_of_rows
+from hostile import named_as_lp, named_as_mps
 
+NAMED = {"mps": named_as_mps, "lp": named_as_lp}
 COUNT = 8000
+SEED = 1
 ROUNDS = 5
 
 
 def text_of(names, form):
-    return "".join(names_of_rows(names)[form](COUNT)).encode()
+    return "".join(NAMED[form](names)(COUNT, SEED)).encode()
 
 
 def seconds(call):

@@ -2,9 +2,14 @@
 
 from __future__ import annotations
 
+import re
 from collections.abc import Callable
 from importlib import import_module
 from typing import Any, NamedTuple
+
+
+_ZEROS = re.compile(rb"\0*")
+_LEAST_BLOCK, _MOST_BLOCK = 1 << 8, 1 << 20
 
 
 class Compression(NamedTuple):
@@ -49,9 +54,13 @@ def _gzip(content: bytes) -> bytes:
 
 def _gunzip(content: bytes) -> bytes:
     import gzip
+    import io
 
     _begun(content)
-    return gzip.decompress(content)  # it takes zeros after the last part, which tapes and tar leave, and nothing else
+    # It takes zeros after the last part, which tapes and tar leave, and nothing else. The function `decompress` copies all parts that
+    # follow each part.
+    with gzip.GzipFile(fileobj=io.BytesIO(content)) as file:
+        return file.read()
 
 
 def _bzip2(content: bytes) -> bytes:
@@ -84,19 +93,37 @@ def _joined_streams(content: bytes, decompressor: Callable[[], Any], padding: in
     Zeros are legal after a stream of some formats, in multiples of ``padding``.
     """
     parts: list[bytes] = []
-    while content or not parts:
-        _begun(content)
-        stream = decompressor()
-        parts.append(stream.decompress(content))
-        if not stream.eof:
-            raise EOFError("Compressed data ended before the end-of-stream marker was reached")
-        content = stream.unused_data
+    at = 0
+    while at < len(content) or not parts:
+        text, at = _stream(content, at, decompressor())
+        parts.append(text)
         if padding:
-            stripped = content.lstrip(b"\0")
-            if (len(content) - len(stripped)) % padding:
+            start, at = at, _end_of_zeros(content, at)
+            if (at - start) % padding:
                 raise EOFError(f"the zeros after a stream are no multiple of {padding} bytes")
-            content = stripped
     return b"".join(parts)
+
+
+def _stream(content: bytes, start: int, decompressor: Any) -> tuple[bytes, int]:
+    """The text of the stream from a place on, and where the stream ends.
+
+    It is read in blocks that grow, since what is left of a block is copied: so many short streams take no longer than a long one.
+    """
+    _begun(content[start : start + 1])
+    parts: list[bytes] = []
+    at, size = start, _LEAST_BLOCK
+    while not decompressor.eof:
+        block = content[at : at + size]
+        if not block:
+            raise EOFError("Compressed data ended before the end-of-stream marker was reached")
+        parts.append(decompressor.decompress(block))
+        at, size = at + len(block), min(2 * size, _MOST_BLOCK)
+    return b"".join(parts), at - len(decompressor.unused_data)
+
+
+def _end_of_zeros(content: bytes, start: int) -> int:
+    found = _ZEROS.match(content, start)
+    return start if found is None else found.end()
 
 
 def _begun(content: bytes) -> None:

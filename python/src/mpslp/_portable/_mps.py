@@ -3,6 +3,7 @@
 from __future__ import annotations
 
 from collections.abc import Callable, Sequence
+from functools import cached_property
 from typing import NamedTuple, Optional
 
 from mpslp._portable._numbers import is_doubtful, is_infinite
@@ -62,7 +63,7 @@ class MpsFile:
         self._is_marked = False
         self._read(content.decode("latin-1").split("\n"))
 
-    @property
+    @cached_property
     def objective(self) -> str:
         """The name of the objective: that of an N row if there is one."""
         if self.objname is not None:

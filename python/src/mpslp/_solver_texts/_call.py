@@ -86,6 +86,8 @@ class _Fitted:
         self._language = language
         self._model = plain_model(canonical)
         self._names = {self._model.objective, *self._model.rows, *self._model.columns}
+        self._numbers: dict[str, int] = {}
+        """The last number after each name that was wanted again."""
         self._check()
         self._renamed = self._rename()
         self._continuous = self._make_continuous()
@@ -201,11 +203,12 @@ class _Fitted:
 
     def _new_name(self, wanted: str) -> str:
         """A name that the model has not."""
-        name, number = wanted, 1
+        name, number = wanted, self._numbers.get(wanted, 1)
         while name in self._names:
             number += 1
             name = f"{wanted}_{number}"
         self._names.add(name)
+        self._numbers[wanted] = number
         return name
 
     def _warn_of_digits(self) -> None:

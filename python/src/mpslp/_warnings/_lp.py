@@ -8,11 +8,12 @@ from functools import cached_property
 from typing import NamedTuple
 
 from mpslp._lp_words import OTHERS, SYMBOLS, WORD
+from mpslp._warnings._records import shown
 
 _TOKEN = re.compile(f"{WORD}|{OTHERS}".encode(), re.ASCII)
 _NAME = re.compile(f"[A-Za-z{SYMBOLS}][A-Za-z0-9.{SYMBOLS}]*".encode())
 _NUMBER = re.compile(f"(?<![A-Za-z0-9.{SYMBOLS}])(?:[0-9]+\\.?[0-9]*|\\.[0-9]+)(?:[eE][+-]?[0-9]+)?".encode())
-_LABEL = re.compile(f"[A-Za-z{SYMBOLS}][A-Za-z0-9.{SYMBOLS}]*[ \t\r\n]*:".encode())
+_LABEL = re.compile(f"(?<![A-Za-z0-9.{SYMBOLS}])[A-Za-z{SYMBOLS}][A-Za-z0-9.{SYMBOLS}]*[ \t\r\n]*:".encode())
 _COMMENT = re.compile(rb"\\[^\n]*")
 _LISTS = {
     **dict.fromkeys((b"general", b"generals", b"gen", b"integer", b"integers", b"int"), "Generals"),
@@ -27,6 +28,7 @@ _SEMI_CONTINUOUS = b"semi-continuous"
 _SECTION_ON_A_LINE = re.compile(rb"\n[ \t]*((?:[Bb][OoIi]|[Gg][Ee]|[Ii][Nn]|[Ss][Ee]|[Ee][Nn])[A-Za-z]*)" + f"(?![A-Za-z0-9.{SYMBOLS}])".encode())
 _MOST_READ_IN_FULL = 1 << 18
 """Up to this size each token is looked at; in larger files, a section is looked for at the start of a line."""
+_MOST_NAMES_COMPARED = 5000
 _BLOCK = 1 << 20
 
 
@@ -119,11 +121,12 @@ class LpText:
             before = b"semi-" if before == b"semi" and word == b"-" else word
 
     @cached_property
-    def names(self) -> frozenset[bytes]:
-        """The words of the objective and the rows, if there are few."""
+    def names(self) -> dict[str, bytes]:
+        """The words of the objective and the rows by what they are in lower case, if there are few."""
         if self.rows_end > _MOST_READ_IN_FULL:
-            return frozenset()
-        return frozenset(_words_of(self.content[: self.rows_end], True))
+            return {}
+        words = _words_of(self.content[: self.rows_end], True)
+        return {shown(word).lower(): word for word in sorted(words)} if len(words) <= _MOST_NAMES_COMPARED else {}
 
 
 def _words_of(block: bytes, exactly: bool) -> set[bytes]:

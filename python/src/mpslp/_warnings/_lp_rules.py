@@ -10,12 +10,16 @@ _KEYWORDS = frozenset(
     b"MINIMIZE MAXIMIZE MINIMISE MAXIMISE MINIMUM MAXIMUM MIN MAX SUBJECT SUCH ST S.T. ST. BOUND BOUNDS GENERAL GENERALS GEN "
     b"INTEGER INTEGERS INT BINARY BINARIES BIN SEMI SEMIS SEMI-CONTINUOUS SEC SIN SOS SOS1 SOS2 LAZY USER PWLOBJ SCENARIOS".split()
 )
-_MOST_NAMES_COMPARED = 5000
+_MOST_COMPARED = 1 << 24
+"""How many pairs of bytes are compared to find names that may be meant: beyond that, names are reported without one."""
 
 
 def late_name(file: LpText) -> Found:
+    left, of_rows = _MOST_COMPARED, sum(map(len, file.names))
     for name, place, section in file.late_names:
-        yield place, f"{shown(name)} first appears in {section}, as a new column that is in no row{_nearest(name, file)}"
+        left -= len(name) * of_rows
+        meant = _nearest(name, file) if left >= 0 else ""
+        yield place, f"{shown(name)} first appears in {section}, as a new column that is in no row{meant}"
 
 
 def section_after_end(file: LpText) -> Found:
@@ -24,13 +28,12 @@ def section_after_end(file: LpText) -> Found:
 
 def _nearest(name: bytes, file: LpText) -> str:
     """The name of the rows that may be meant."""
-    if not 0 < len(file.names) <= _MOST_NAMES_COMPARED:
+    if not file.names:
         return ""
     from difflib import get_close_matches  # few files need it
 
-    folded = {shown(each).lower(): each for each in sorted(file.names)}
-    found = get_close_matches(shown(name).lower(), folded, 1, 0.7)
-    return f"; the name {shown(folded[found[0]])} is there" if found else ""
+    found = get_close_matches(shown(name).lower(), file.names, 1, 0.7)
+    return f"; the name {shown(file.names[found[0]])} is there" if found else ""
 
 
 RULES = by_kind(late_name, section_after_end)

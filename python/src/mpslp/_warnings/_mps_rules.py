@@ -10,7 +10,7 @@ from mpslp._warnings._rest import sections_in
 
 _SENSE = re.compile(
     rb"\*[\s*]*(?:"
-    rb"(?:(?:obj(?:ective)?|opt(?:imi[sz]ation)?)[\s_-]*)?(?:sense|direction)\s*[:=]?\s*[\"'(]?(max|min)"
+    rb"(?:(?:obj(?:ective)?|opt(?:imi[sz]ation)?)[\s_-]*)?(?:sense|direction)\s*(?:[:=]\s*)?[\"'(]?(max|min)"
     rb"|objective\s*[:=]\s*[\"'(]?(max|min)"
     rb"|(max|min)(?:imi[sz](?:e|ation))?[\s*]*$)",
     re.I,
