@@ -72,7 +72,7 @@ def explain(kind: str) -> Explanation:
 
         near = difflib.get_close_matches(kind.lower(), found, 1)
         raise ValueError(f"no such kind of error: {kind!r}" + (f"; is it {found[near[0]]}?" if near else ""))
-    return Explanation(known, _causes()[known])
+    return Explanation(known, tuple(cause for _, cause in causes_with_rules(known)))
 
 
 def kinds() -> list[str]:
@@ -80,16 +80,22 @@ def kinds() -> list[str]:
     return list(_causes())
 
 
+def causes_with_rules(kind: str) -> tuple[tuple[str, Cause], ...]:
+    """The causes of a kind of error, each after the rule of the messages that recognises it; the rule is empty for the usual cause."""
+    return _causes()[kind]
+
+
 @lru_cache(maxsize=None)
-def _causes() -> dict[str, tuple[Cause, ...]]:
+def _causes() -> dict[str, tuple[tuple[str, Cause], ...]]:
     import csv  # it and what follows take longer than all else of the package to be imported
     from importlib.resources import files
 
     text = files("mpslp").joinpath("errors.tsv").read_text(encoding="utf-8")
-    found: dict[str, tuple[Cause, ...]] = {}
+    found: dict[str, tuple[tuple[str, Cause], ...]] = {}
     for row in csv.DictReader(text.splitlines(), delimiter="\t", quoting=csv.QUOTE_NONE):
         plain = [row[name].replace("\\n", "\n") for name in ("place", "before", "after")]
-        found[row["kind"]] = (*found.get(row["kind"], ()), Cause(_plain(row["cause"]), _plain(row["fix"]), *plain))
+        cause = Cause(_plain(row["cause"]), _plain(row["fix"]), *plain)
+        found[row["kind"]] = (*found.get(row["kind"], ()), (row["rule"], cause))
     return found
 
 

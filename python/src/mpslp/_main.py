@@ -23,10 +23,10 @@ from mpslp._differences import diff
 from mpslp._explanations import explain, kinds
 from mpslp._faults import ModelFileError
 from mpslp._files import model_files, replace_file
+from mpslp._messages import message
 from mpslp._models import model_of
 from mpslp._numbers import MOST_DIGITS
 from mpslp._output import OutputError, write_all, write_line, write_lines
-from mpslp._places import about
 from mpslp._portable import AGREED, KINDS, PROGRAMS, grouped, portability
 from mpslp._shown import shown
 from mpslp._solver_texts import SOLVERS, SolverError, solver_text
@@ -96,9 +96,7 @@ def text_of(path: str, options: argparse.Namespace) -> Text:
 def failure(path: str, error: Exception, text: Text | None = None) -> Outcome:
     """What is said of an error that ends the work on a file."""
     if isinstance(error, ModelFileError):
-        where = path if error.line is None else f"{path}:{error.line}"
-        words = about(text, error) if text is not None else error.name
-        return Outcome(Status.REJECTED, error=f"{where}: {error.kind}" + (f": {words}" if words else ""))
+        return Outcome(Status.REJECTED, error=str(message(path, error, text)))
     if isinstance(error, UsageError):
         return Outcome(Status.USAGE, error=str(error))
     if isinstance(error, MemoryError):
