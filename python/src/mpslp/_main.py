@@ -20,7 +20,7 @@ from typing import Any, NamedTuple, NoReturn
 from mpslp import _adapt, _mpslp
 from mpslp._compression import pack
 from mpslp._differences import diff
-from mpslp._explanations import explain, kinds
+from mpslp._explanations import all_kinds, explain
 from mpslp._faults import ModelFileError
 from mpslp._files import model_files, replace_file
 from mpslp._messages import message
@@ -445,12 +445,21 @@ def _format_of(text: Text) -> Format:
 
 
 def explanation(options: argparse.Namespace) -> Status:
+    outcomes = [_explained(word, options) for word in options.kinds] or [Outcome(output="\n".join(all_kinds()))]
+    for outcome in outcomes:
+        _print(outcome)
+    return max(outcome.status for outcome in outcomes)
+
+
+def _explained(word: str, options: argparse.Namespace) -> Outcome:
+    """What is said of a kind; or of a file, that it is accepted, or why not."""
+    if word == STANDARD_INPUT or format_of_name(word) is not None or os.path.exists(word):
+        outcome = attempt(word, options, lambda text: Outcome(output=f"{word}: accepted" if _mpslp.load(text.content, text.format) else ""))
+        return outcome._replace(output=outcome.error, error="") if outcome.status == Status.REJECTED else outcome
     try:
-        explained = [explain(kind) for kind in options.kinds]
+        return Outcome(output=f"{explain(word)}\n" if word != options.kinds[-1] else str(explain(word)))
     except ValueError as error:
         raise UsageError(str(error)) from None
-    write_line(sys.stdout, "\n\n".join(map(str, explained)) if explained else "\n".join(kinds()))
-    return Status.DONE
 
 
 def report(options: argparse.Namespace) -> Status:
@@ -623,8 +632,9 @@ def _add_digest(commands: Any) -> None:
 
 
 def _add_explain(commands: Any) -> None:
-    command = _add(commands, "explain", explanation, "explain a kind of error", "Print the usual causes of a kind of error, and what to do; without KIND, all kinds.")
-    command.add_argument("kinds", nargs="*", metavar="KIND", help="such as DuplicateEntry")
+    command = _add(commands, "explain", explanation, "explain why a file is rejected, or a kind", "Print why a file is rejected, and what to do; or what a kind of error, warning, remark or change means. Without an\nargument, print all kinds.")
+    _add_format(command)
+    command.add_argument("kinds", nargs="*", metavar="KIND|FILE", help="a kind, such as DuplicateEntry or upper-zero; or a model file")
 
 
 def _add_survey(commands: Any) -> None:

@@ -52,6 +52,10 @@ def latin_1(case: Case) -> Optional[Found]:
     return None
 
 
+def utf_8_letter(case: Case) -> Optional[Found]:
+    return FOUND if _byte(case) >= b"\x80" else None
+
+
 def _byte(case: Case) -> bytes:
     return b"" if case.place is None else case.line.content[case.place.start : case.place.end]
 
@@ -104,4 +108,4 @@ def emptied(case: Case) -> Optional[Found]:
     return None if case.content.strip() else FOUND
 
 
-RULES: tuple[Rule, ...] = (compressed, byte_order_mark, utf_16, cr_only, latin_1, decimal_comma, nan, other_number, tiny_number, truncated, emptied)
+RULES: tuple[Rule, ...] = (compressed, byte_order_mark, utf_16, cr_only, latin_1, utf_8_letter, decimal_comma, nan, other_number, tiny_number, truncated, emptied)

@@ -108,7 +108,7 @@ def other_relation(case: Case) -> Optional[Found]:
     if token is None:
         return None
     if token.text == "=" and before is not None and before.text == "=":
-        return Found(mend="" if after is None or before is None else f"= {after.text}")
+        return FOUND
     is_unequal = token.text == "!" and after is not None and after.text == "="
     return FOUND if is_unequal or (token.text == ">" and before is not None and before.text == "<") else None
 
@@ -345,7 +345,8 @@ def solved(case: Case, line: int) -> str:
         tokens = tokens[2:]
     elif not _ends_row([each for each in case.tokens if each.line < line]):
         return ""
-    after = tokens_of(case.content[_span(case, line)[1] :][:_MOST_AFTER])
+    end = _span(case, line)[1]
+    after = tokens_of(case.content[end : end + _MOST_AFTER])
     is_whole = not after or after[0].is_section or (len(after) > 1 and after[1].text == ":")
     return (solved_row(tokens) or "") if is_whole else ""
 

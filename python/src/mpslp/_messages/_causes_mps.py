@@ -34,14 +34,19 @@ def unquoted_marker(case: Case) -> Optional[Found]:
 
 
 def shifted_fields(case: Case) -> Optional[Found]:
-    """A space in the name of a column: with the first two fields as one, all pairs are a row and a number."""
+    """A space in the name of a column or a row, or text after the fields."""
     texts = [field.text for field in case.fields]
-    if case.section != "COLUMNS" or len(texts) < 4:
-        return _text_after(case)
-    pairs = texts[2:]
-    if len(pairs) % 2 == 0 and all(map(is_number, pairs[1::2])) and not any(map(is_number, pairs[::2])):
-        return Found(mend="_".join(texts[:2]))
+    if case.section == "COLUMNS" and len(texts) == 5 and texts[1] not in case.rows and texts[2] in case.rows:
+        return _joined(case, 0)
+    if case.section in ("RHS", "RANGES") and len(texts) == 4 and is_number(texts[3]) and texts[2] not in case.rows:
+        return _joined(case, 1)
     return _text_after(case)
+
+
+def _joined(case: Case, at: int) -> Found:
+    """A field and the next one as one name."""
+    fields = case.fields[at : at + 2]
+    return Found(mend="_".join(field.text for field in fields), marks=(case.mark_of(fields[0])._replace(end=fields[1].end),), moves=True)
 
 
 def _text_after(case: Case) -> Optional[Found]:

@@ -24,14 +24,6 @@ _MOST_READ = 2**24
 # ---- both formats
 
 
-def letter(case: Case) -> Found:
-    """A letter of UTF-8, or a control byte."""
-    at = 0 if case.place is None else case.place.start
-    if case.line.content[at] < 0x80:
-        return FOUND
-    return Found(mend="iconv -f utf-8 -t ascii//TRANSLIT FILE, or mpslp-tools adapt FILE")
-
-
 def digits(case: Case) -> Found:
     count = len(re.sub(r"[eE].*|\D", "", case.words).strip("0"))
     return Found(f"it has {count}") if count else FOUND
@@ -123,7 +115,7 @@ def _joined(case: Case, first: int, end: int) -> Found:
 
 def first_row(case: Case) -> Found:
     start = case.rows.place(case.words)
-    return FOUND if start is None else _first(case.mark_at(start, start + len(case.words)))
+    return FOUND if start is None else _first(case, case.mark_at(start, start + len(case.words)))
 
 
 def first_entry(case: Case) -> Found:
@@ -131,7 +123,7 @@ def first_entry(case: Case) -> Found:
     at = 0 if case.at is None else case.at
     same = next((field for field in case.fields[:at] if field.text == case.field), None)
     if same is not None:
-        return Found("both are in this line", marks=(case.mark_of(same),))
+        return _first(case, case.mark_of(same))
     row = re.escape(case.field.encode("latin-1"))
     column = re.escape(case.fields[0].text.encode("latin-1")) if case.section == "COLUMNS" else rb"\S+"
     start = case.start_of(case.section)
@@ -139,7 +131,7 @@ def first_entry(case: Case) -> Found:
     if case.section != "COLUMNS":
         patterns.append(rb"\n[ \t]+(" + row + rb")[ \t]")
     marks = [mark for mark in (case.first_match(pattern, start) for pattern in patterns) if mark is not None]
-    return _first(min(marks)) if marks else FOUND
+    return _first(case, min(marks)) if marks else FOUND
 
 
 def first_bound(case: Case) -> Found:
@@ -157,7 +149,7 @@ def first_bound(case: Case) -> Found:
 
 def first_section(case: Case) -> Found:
     mark = case.first_match(rb"(?:^|\n)(" + case.field.encode("latin-1") + rb")(?=[ \t\r\n])")
-    return FOUND if mark is None else _first(mark)
+    return FOUND if mark is None else _first(case, mark)
 
 
 def split_column(case: Case) -> Found:
@@ -185,7 +177,7 @@ def open_marker(case: Case) -> Found:
 
 def first_label(case: Case) -> Found:
     found = first_duplicate(case.content, case.line.start + len(case.line.content))
-    return FOUND if found is None else _first(case.mark_at(found[0].start, found[0].end))
+    return FOUND if found is None else _first(case, case.mark_at(found[0].start, found[0].end))
 
 
 def first_term(case: Case) -> Found:
@@ -213,7 +205,7 @@ def first_lp_section(case: Case) -> Found:
     words = next((words for words in _SAME if word in words), (word,))
     pattern = rb"(?i)(?:^|\n)[ \t]*(" + b"|".join(re.escape(each.encode()) for each in words) + rb")(?![\w.])"
     mark = case.first_match(pattern)
-    return FOUND if mark is None else _first(mark)
+    return FOUND if mark is None else _first(case, mark)
 
 
 _SAME: Sequence[Sequence[str]] = (
@@ -227,17 +219,19 @@ _SAME: Sequence[Sequence[str]] = (
 
 
 def _first_token(case: Case, token: Token) -> Found:
-    return _first(case.mark_of_tokens([token]))
+    return _first(case, case.mark_of_tokens([token]))
 
 
-def _first(mark: Mark) -> Found:
-    return Found(f"the first is in line {mark.number}", marks=(mark,))
+def _first(case: Case, mark: Mark) -> Found:
+    """What is said of the first of two."""
+    is_same = mark.number == case.line.number
+    return Found("both are in this line" if is_same else f"the first is in line {mark.number}", marks=(mark,))
 
 
 # ---- the tables
 
 _BOTH: Mapping[str, Detail] = {
-    "BadByte": letter, "TooManyDigits": digits, "ExponentRange": infinity, "NotLp": not_lp,
+    "TooManyDigits": digits, "ExponentRange": infinity, "NotLp": not_lp,
     **dict.fromkeys((*_ROW_KINDS, "NegativeUpper", "BoundsCrossed", "BinaryBounds", "SemiBounds"), named),
 }  # fmt: skip
 _MPS: Mapping[str, Detail] = {

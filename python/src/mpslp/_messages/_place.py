@@ -226,7 +226,7 @@ class _Finder:
             most = 2 if fields[0].text in ("OBJSENSE", "OBJNAME") else 1
         elif section == "COLUMNS" and len(fields) > 1 and fields[1].text == "'MARKER'":
             most = 3
-        words = f"{len(fields)} fields"
+        words = "1 field" if len(fields) == 1 else f"{len(fields)} fields"
         if len(fields) > most:
             return _of(fields[most], words)
         end = fields[-1].end

@@ -63,7 +63,7 @@ def message(path: str, error: ModelFileError, text: Optional[Text]) -> Message:
     marks = [*found.marks, *([case.mark] if case.mark is not None and not (found.moves and _has_line(found, case)) else [])]
     shown = excerpt(marks)
     if cause is None:
-        return Message(first, shown, "", "")
+        return Message(first, shown, "not recognised", f"mpslp-tools explain {error.kind} lists the usual causes")
     said = _HOW_IT_IS_SEEN.sub("", cause.cause)
     return Message(first, shown, said + (f"; {found.detail}" if found.detail else ""), cause.fix + (f": {found.mend}" if found.mend else ""), found.mend)
 
