@@ -26,6 +26,7 @@ _OTHER_KEYWORDS = {
     "minimise": "minimize", "minimization": "minimize", "minimisation": "minimize", "maximise": "maximize", "maximization": "maximize",
     "maximisation": "maximize", "constraints": "subject to", "subjectto": "subject to", "subj": "subject to", "s.t": "st", "finish": "end",
 }  # fmt: skip
+_SECOND_WORDS = {"subject": "to", "such": "that"}
 _FLIPPED = {"<": ">", ">": "<", "<=": ">=", "=<": ">=", ">=": "<=", "=>": "<=", "=": "="}
 _MPS = re.compile(rb"(?:\*[^\n]*\n|\s)*(?:NAME|ROWS|OBJSENSE|OBJNAME)\b")
 _BRACKETS = re.compile(r"([A-Za-z_][\w.]*)\s*((?:\[[^\[\]^*]*\])+)", re.ASCII)
@@ -70,7 +71,10 @@ def colon_after_keyword(case: Case) -> Optional[Found]:
 
 
 def other_keyword(case: Case) -> Optional[Found]:
-    """A word on a line of its own, or the first one of the file, that is nearly a keyword."""
+    """A word on a line of its own, or the first one of the file, that is nearly a keyword; or one half of a keyword."""
+    before, token = case.before(), case.token
+    if before is not None and token is not None and before.word in _SECOND_WORDS and token.word != _SECOND_WORDS[before.word]:
+        return Found(mend=f"{before.text} {_SECOND_WORDS[before.word]}")
     for at in (case.token_at, case.token_at - 1):
         if not 0 <= at < len(case.tokens) or not _is_like_keyword(case, at):
             continue
@@ -157,6 +161,23 @@ def sum_on_the_right(case: Case) -> Optional[Found]:
         return None
     value = sum((Fraction(f"{sign.text}{number.text}") for sign, number in zip(rest[::2], rest[1::2])), _signed(first))
     return Found(mend=decimal_text(value) or "", marks=(case.mark_of_tokens([*first, *rest]),))
+
+
+def missing_number(case: Case) -> Optional[Found]:
+    """After a relation a section or the next row comes."""
+    token, after = case.token, case.after
+    if token is None or not _follows_relation(case):
+        return None
+    return FOUND if token.is_section or (after is not None and after.text == ":" and _starts_line(case, case.token_at)) else None
+
+
+def second_relation(case: Case) -> Optional[Found]:
+    """A relation after a relation and a number."""
+    before, token = case.before(), case.token
+    if before is None or token is None or not token.is_relation or not before.is_number:
+        return None
+    first = next((each for each in reversed(case.tokens[: case.token_at - 1]) if not each.is_sign), None)
+    return FOUND if first is not None and first.is_relation else None
 
 
 def terms_on_the_right(case: Case) -> Optional[Found]:
@@ -380,6 +401,6 @@ def _signed(tokens: Sequence[Token]) -> Fraction:
 
 RULES: tuple[Rule, ...] = (
     mps_as_lp, lp_solve_statements, lp_solve_comment, colon_after_keyword, other_relation, other_comment, lazy_constraints, decimal_comma,
-    punctuation_after_row, other_keyword, no_sense, sum_on_the_right, terms_on_the_right, number_on_the_left, row_without_relation,
+    punctuation_after_row, other_keyword, no_sense, sum_on_the_right, missing_number, second_relation, terms_on_the_right, number_on_the_left, row_without_relation,
     coefficient_in_bounds, no_sign, brackets_in_name, product, automatic_name,
 )  # fmt: skip

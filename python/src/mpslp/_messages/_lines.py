@@ -29,7 +29,7 @@ def line_with(content: bytes, place: int) -> Line:
 
 def _line_from(content: bytes, start: int) -> bytes:
     end = content.find(b"\n", start)
-    return (content[start:] if end < 0 else content[start:end]).removesuffix(b"\r")
+    return content[start:] if end < 0 else content[start:end].removesuffix(b"\r")
 
 
 def _start_of_line(content: bytes, number: int) -> int:
