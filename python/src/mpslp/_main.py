@@ -23,7 +23,7 @@ from mpslp._differences import diff
 from mpslp._explanations import all_kinds, explain
 from mpslp._faults import ModelFileError
 from mpslp._files import model_files, replace_file
-from mpslp._messages import message
+from mpslp._messages import message, verdict
 from mpslp._models import model_of
 from mpslp._numbers import MOST_DIGITS
 from mpslp._output import OutputError, write_all, write_line, write_lines
@@ -454,12 +454,16 @@ def explanation(options: argparse.Namespace) -> Status:
 def _explained(word: str, options: argparse.Namespace) -> Outcome:
     """What is said of a kind; or of a file, that it is accepted, or why not."""
     if word == STANDARD_INPUT or format_of_name(word) is not None or os.path.exists(word):
-        outcome = attempt(word, options, lambda text: Outcome(output=f"{word}: accepted" if _mpslp.load(text.content, text.format) else ""))
-        return outcome._replace(output=outcome.error, error="") if outcome.status == Status.REJECTED else outcome
+        return attempt(word, options, lambda text: _explained_file(word, text))
     try:
         return Outcome(output=f"{explain(word)}\n" if word != options.kinds[-1] else str(explain(word)))
     except ValueError as error:
         raise UsageError(str(error)) from None
+
+
+def _explained_file(path: str, text: Text) -> Outcome:
+    found = verdict(path, text)
+    return Outcome(output=f"{path}: accepted") if found is None else Outcome(Status.REJECTED, output=str(found))
 
 
 def report(options: argparse.Namespace) -> Status:

@@ -5,13 +5,14 @@ from __future__ import annotations
 import re
 from typing import NamedTuple, Optional
 
+from mpslp import _mpslp
 from mpslp._explanations import Cause, causes_with_rules
 from mpslp._faults import ModelFileError
 from mpslp._messages import _causes_both, _causes_lp, _causes_mps
 from mpslp._messages._case import FOUND, Case, Found
 from mpslp._messages._causes_both import Rule
 from mpslp._messages._details import detail_of
-from mpslp._messages._excerpt import Mark, excerpt
+from mpslp._messages._excerpt import excerpt
 from mpslp._messages._place import about
 from mpslp._sources import Text
 
@@ -24,6 +25,8 @@ class Message(NamedTuple):
 
     first: str
     """The line ``FILE:LINE: Kind: name``."""
+    words: str
+    """What the error is about: the name of the first line; empty if it is not known."""
     excerpt: str
     """The lines of the text, with carets; empty if none is known."""
     cause: str
@@ -55,7 +58,7 @@ def message(path: str, error: ModelFileError, text: Optional[Text]) -> Message:
     """The message about the file of a path, which has a text, or None if that is not known."""
     where = path if error.line is None else f"{path}:{error.line}"
     if text is None:
-        return Message(f"{where}: {error.kind}" + (f": {error.name}" if error.name else ""), "", "", "")
+        return Message(f"{where}: {error.kind}" + (f": {error.name}" if error.name else ""), error.name or "", "", "", "")
     case = Case(text, error)
     cause, found = _cause_of(case)
     words = (case.words if error.line is not None else about(text, error)) or found.words
@@ -63,9 +66,20 @@ def message(path: str, error: ModelFileError, text: Optional[Text]) -> Message:
     marks = [*found.marks, *([case.mark] if case.mark is not None and not (found.moves and _has_line(found, case)) else [])]
     shown = excerpt(marks)
     if cause is None:
-        return Message(first, shown, "not recognised", f"mpslp-tools explain {error.kind} lists the usual causes")
+        return Message(first, words, shown, "not recognised", f"mpslp-tools explain {error.kind} lists the usual causes")
     said = _HOW_IT_IS_SEEN.sub("", cause.cause)
-    return Message(first, shown, said + (f"; {found.detail}" if found.detail else ""), cause.fix + (f": {found.mend}" if found.mend else ""), found.mend)
+    detail = f"; {found.detail}" if found.detail else ""
+    mend = f": {found.mend}" if found.mend else ""
+    return Message(first, words, shown, said + detail, cause.fix + mend, found.mend)
+
+
+def verdict(path: str, text: Text) -> Optional[Message]:
+    """The message about the file of a path, or None if it is accepted."""
+    try:
+        _mpslp.is_canonical(text.content, text.format)
+    except ModelFileError as error:
+        return message(path, error, text)
+    return None
 
 
 def _has_line(found: Found, case: Case) -> bool:
@@ -86,6 +100,3 @@ def _cause_of(case: Case) -> tuple[Optional[Cause], Found]:
         return None, FOUND
     own = next((cause for cause in usual if cause.place.startswith("MPS" if case.is_mps else "LP")), usual[0])
     return own, detail_of(case)
-
-
-__all__ = ["Mark", "Message", "message", "name_of", "rules_of"]
