@@ -231,7 +231,7 @@ def data_in_first_column(case: Case) -> Optional[Found]:
         is_data = texts[0] in (*_VALUED, *UNVALUED)
     else:
         is_data = case.section in ("COLUMNS", "RHS", "RANGES") and len(texts) > 1 and (is_number(texts[-1]) or "'MARKER'" in texts)
-    return Found(mend=f" {case.line.content.decode('latin-1').strip()}") if is_data else None
+    return FOUND if is_data else None
 
 
 RULES: tuple[Rule, ...] = (

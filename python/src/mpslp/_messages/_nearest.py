@@ -3,9 +3,10 @@
 from __future__ import annotations
 
 import re
-from collections.abc import Collection, Iterator
+from collections.abc import Callable, Iterable, Iterator, Mapping
 
-_MOST_COMPARED = 20_000
+_MOST_COMPARED = 2_000
+"""So many names are compared by a measure that takes time; names with one other letter are found among all."""
 _MOST_SHORTER = 2
 
 
@@ -28,30 +29,65 @@ class Known:
 
     def nearest(self, name: str) -> tuple[str, int] | None:
         """The nearest name, and its place."""
-        first: dict[str, int] = {}
-        last = b""
-        size = len(name)
-        for found, start in self._names():
-            if found != last and abs(len(found) - size) <= _MOST_SHORTER:
-                first.setdefault(found.decode("latin-1"), start)
-            last = found
-        found_name = nearest(name, first)
-        return None if found_name is None else (found_name, first[found_name])
+        found = _nearest(name.encode("latin-1"), self._names())
+        return None if found is None else (found[0].decode("latin-1"), found[1])
 
     def _names(self) -> Iterator[tuple[bytes, int]]:
+        last = b""
         for match in self._pattern.finditer(self._content, self._start, self._end):
-            yield match[1], match.start(1)
+            if match[1] != last:
+                last = match[1]
+                yield last, match.start(1)
 
 
-def nearest(name: str, names: Collection[str]) -> str | None:
+def nearest(name: str, names: Iterable[str]) -> str | None:
     """The nearest of some names, or None if none is near."""
-    lower = name.lower()
-    same = next((each for each in names if each.lower() == lower and each != name), None)
-    if same is not None:
-        return same
-    if len(names) > _MOST_COMPARED:
-        names = [each for each in names if each[:2] == name[:2] or each[-2:] == name[-2:]][:_MOST_COMPARED]
+    found = _nearest(name.encode("utf-8"), ((each.encode("utf-8"), 0) for each in names))
+    return None if found is None else found[0].decode("utf-8")
+
+
+def _nearest(name: bytes, names: Iterable[tuple[bytes, int]]) -> tuple[bytes, int] | None:
+    """The name that differs by the case of letters; or else by one letter; or else by few, if it is among the first ones."""
+    lower, has_one_edit = name.lower(), _one_edit_from(name)
+    by_one: tuple[bytes, int] | None = None
+    others: dict[bytes, int] = {}
+    for each, start in names:
+        if abs(len(each) - len(name)) > _MOST_SHORTER or each == name:
+            continue
+        if len(each) == len(name) and each.lower() == lower:
+            return each, start
+        if by_one is None and has_one_edit(each):
+            by_one = each, start
+        elif len(others) < _MOST_COMPARED:
+            others.setdefault(each, start)
+    return by_one or _close(name, others)
+
+
+def _one_edit_from(name: bytes) -> Callable[[bytes], bool]:
+    """Whether a name of two letters or more is another one with a letter more, a letter less, another letter, or two swapped."""
+    size, number = len(name), int.from_bytes(name, "big")
+    shorter = {name[:at] + name[at + 1 :] for at in range(size)}
+    swapped = {name[:at] + name[at + 1 : at + 2] + name[at : at + 1] + name[at + 2 :] for at in range(size - 1)}
+
+    def has_one_edit(other: bytes) -> bool:
+        if len(other) == size:
+            differing = number ^ int.from_bytes(other, "big")
+            lowest = (differing & -differing).bit_length() - 1
+            return lowest // 8 == (differing.bit_length() - 1) // 8 or other in swapped
+        if len(other) == size - 1:
+            return other in shorter
+        if len(other) != size + 1:
+            return False
+        differing = number ^ int.from_bytes(other[:size], "big")
+        first = size - (differing.bit_length() + 7) // 8
+        return other[first + 1 :] == name[first:]
+
+    return has_one_edit if size > 1 else lambda other: len(other) == 2 and name in other
+
+
+def _close(name: bytes, others: Mapping[bytes, int]) -> tuple[bytes, int] | None:
     from difflib import get_close_matches
 
-    found = get_close_matches(name, names, 1)
-    return found[0] if found else None
+    by_text = {each.decode("latin-1"): each for each in others}
+    found = get_close_matches(name.decode("latin-1"), by_text, 1)
+    return (by_text[found[0]], others[by_text[found[0]]]) if found else None
