@@ -7,6 +7,7 @@ from collections.abc import Callable, Iterable, Iterator, Mapping
 
 _MOST_COMPARED = 2_000
 """So many names are compared by a measure that takes time; names with one other letter are found among all."""
+_MOST_BEFORE_FIRST = 20_000
 _MOST_SHORTER = 2
 
 
@@ -47,11 +48,16 @@ def nearest(name: str, names: Iterable[str]) -> str | None:
 
 
 def _nearest(name: bytes, names: Iterable[tuple[bytes, int]]) -> tuple[bytes, int] | None:
-    """The name that differs by the case of letters; or else by one letter; or else by few, if it is among the first ones."""
+    """The name that differs by the case of letters; or else by one letter; or else by few, if it is among the first ones.
+
+    After many names the first one that differs by one letter is returned without a look at the rest.
+    """
     lower, has_one_edit = name.lower(), _one_edit_from(name)
     by_one: tuple[bytes, int] | None = None
     others: dict[bytes, int] = {}
-    for each, start in names:
+    for number, (each, start) in enumerate(names):
+        if by_one is not None and number > _MOST_BEFORE_FIRST:
+            break
         if abs(len(each) - len(name)) > _MOST_SHORTER or each == name:
             continue
         if len(each) == len(name) and each.lower() == lower:
