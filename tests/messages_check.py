@@ -6,12 +6,11 @@ have a caret, the cause and the fix; and a text that is mended as the message sa
 \\n, \\r, \\t, \\\\ and \\xNN for bytes. The file is m.mps or m.lp.
 
 The command has to print the message and end with 2, `explain FILE` has to print the same, and the mended text has to be
-accepted and to contain what the message says to write. Each rule of the messages has a cause in docs/errors.tsv, and each rule
-that a cause names exists.
+accepted and to contain what the message says to write. Each rule of the messages has a cause in docs/errors.tsv, each rule
+that a cause names exists, and the message about the example of a cause has that cause.
 
-With --wrong each rule is left out in turn, and each is made to find nothing more than the cause: a row has to fail if that
-changes what the rule prints for a row. With --write the columns for the message are filled from what is printed; read the
-difference before you commit it.
+With --wrong each rule is left out in turn, and a row has to fail. With --write the columns for the message are filled from
+what is printed; read the difference before you commit it.
 """
 
 import argparse
@@ -26,6 +25,7 @@ from pathlib import Path
 from typing import NamedTuple
 from unittest import mock
 
+import errors
 from mpslp import ModelFileError, canonical
 from mpslp._explanations import causes_with_rules, kinds
 from mpslp._main import main as run_command
@@ -131,6 +131,20 @@ def tables() -> Iterator[str]:
     yield from (f"no cause of docs/errors.tsv has the rule {rule}" for rule in sorted(known - named))
 
 
+def examples() -> Iterator[str]:
+    """What is wrong with the causes of the messages about the examples of docs/errors.tsv."""
+    for cause in errors.causes():
+        if cause.place:
+            form, text = cause.file(cause.before)
+            try:
+                canonical(text.encode(), form, "lp" if cause.kind == "NotLp" else None)
+            except ModelFileError as error:
+                found = _text.message("m", error, read(text.encode(), form)).cause
+                wanted = _text.without_note(errors.plain(cause.cause))
+                if found != wanted and not found.startswith(f"{wanted}; "):
+                    yield f"docs/errors.tsv: {cause.kind}: the cause of {cause.before!r} is {found!r}, not {wanted!r}"
+
+
 def missed(all_rows: list[dict[str, str]]) -> Iterator[str]:
     """The rules without which no row fails."""
     for module in MODULES:
@@ -179,7 +193,7 @@ def main() -> int:
             write(all_rows)
             return 0
         found = [f"docs/messages.tsv:{number}: {each}" for number, row in enumerate(all_rows, 2) for each in (*differences(row), *mending(row))]
-        found += [*tables(), *(missed(all_rows) if options.wrong else ())]
+        found += [*tables(), *examples(), *(missed(all_rows) if options.wrong else ())]
         print(*found, sep="\n", end="\n" if found else "")
         rules = sum(len(module.RULES) for module in MODULES)
         print(f"{len(all_rows)} messages, {rules} rules{', each left out once' if options.wrong else ''}: {len(found)} wrong")

@@ -130,8 +130,7 @@ def causes_with_rules(kind: str) -> tuple[tuple[str, Cause], ...]:
 def _causes() -> dict[str, tuple[tuple[str, Cause], ...]]:
     found: dict[str, tuple[tuple[str, Cause], ...]] = {}
     for row in _rows("errors.tsv"):
-        plain = [row[name].replace("\\n", "\n") for name in ("place", "before", "after")]
-        cause = Cause(_plain(row["cause"]), _plain(row["fix"]), *plain)
+        cause = Cause(_plain(row["cause"]), _plain(row["fix"]), row["place"], row["before"].replace("\\n", "\n"), row["after"].replace("\\n", "\n"))
         found[row["kind"]] = (*found.get(row["kind"], ()), (row["rule"], cause))
     return found
 

@@ -23,7 +23,6 @@ from mpslp._differences import diff
 from mpslp._explanations import all_kinds, explain
 from mpslp._faults import ModelFileError
 from mpslp._files import model_files, replace_file
-from mpslp._messages import message, verdict
 from mpslp._models import model_of
 from mpslp._numbers import MOST_DIGITS
 from mpslp._output import OutputError, write_all, write_line, write_lines
@@ -96,6 +95,8 @@ def text_of(path: str, options: argparse.Namespace) -> Text:
 def failure(path: str, error: Exception, text: Text | None = None) -> Outcome:
     """What is said of an error that ends the work on a file."""
     if isinstance(error, ModelFileError):
+        from mpslp._messages import message  # its rules are wanted for rejected files only
+
         return Outcome(Status.REJECTED, error=str(message(path, error, text)))
     if isinstance(error, UsageError):
         return Outcome(Status.USAGE, error=str(error))
@@ -462,6 +463,8 @@ def _explained(word: str, options: argparse.Namespace) -> Outcome:
 
 
 def _explained_file(path: str, text: Text) -> Outcome:
+    from mpslp._messages import verdict
+
     found = verdict(path, text)
     return Outcome(output=f"{path}: accepted") if found is None else Outcome(Status.REJECTED, output=str(found))
 

@@ -7,7 +7,7 @@ from typing import Optional
 
 from mpslp._messages._case import FOUND, Case, Found
 from mpslp._messages._causes_both import Rule
-from mpslp._messages._lines import line_at
+from mpslp._messages._lines import Line, line_at
 from mpslp._messages._nearest import nearest
 from mpslp._messages._place import NUMBER, UNVALUED, Field, fields_of
 from mpslp._messages._tokens import ROWS, SENSES
@@ -148,13 +148,13 @@ def misspelt_column(case: Case) -> Optional[Found]:
     if len(lines) < 2 or not case.fields:
         return None
     name, (before, first) = case.fields[0].text, lines
-    other = fields_of(before.content)
-    if not other or fields_of(first.content)[:1] == [] or fields_of(first.content)[0].text != name or nearest(other[0].text, [name]) is None:
+    other, same = fields_of(before.content), fields_of(first.content)
+    if not other or not same or same[0].text != name or nearest(other[0].text, [name]) is None:
         return None
     return Found(f"{other[0].text} is between lines of {name}", mend=name, marks=(case.mark_of(other[0], before),))
 
 
-def _line_before(case: Case, count: int):  # type: ignore[no-untyped-def]
+def _line_before(case: Case, count: int) -> Optional[Line]:
     number = case.line.number - count
     return line_at(case.content, number) if number > 0 else None
 

@@ -101,9 +101,9 @@ def joined_name(case: Case) -> Found:
         return _joined(case, 1, len(texts))
     if case.section == "COLUMNS" and len(texts) in (4, 6) and is_number(texts[-1]):
         pairs = range(1, len(texts) - 1, 2)
-        first = 0 if texts[2] in case.rows else next((at for at in pairs if not is_number(texts[at + 1])), None)
-        if first is not None:
-            return _joined(case, first, first + 2)
+        shifted = [0] if texts[2] in case.rows else [at for at in pairs if not is_number(texts[at + 1])]
+        if shifted:
+            return _joined(case, shifted[0], shifted[0] + 2)
     if case.section == "COLUMNS" and len(texts) == 4:
         return Found(marks=(case.mark_of(case.fields[3]),), moves=True)
     return FOUND

@@ -67,10 +67,15 @@ def message(path: str, error: ModelFileError, text: Optional[Text]) -> Message:
     shown = excerpt(marks)
     if cause is None:
         return Message(first, words, shown, "not recognised", f"mpslp-tools explain {error.kind} lists the usual causes")
-    said = _HOW_IT_IS_SEEN.sub("", cause.cause)
+    said = without_note(cause.cause)
     detail = f"; {found.detail}" if found.detail else ""
     mend = f": {found.mend}" if found.mend else ""
     return Message(first, words, shown, said + detail, cause.fix + mend, found.mend)
+
+
+def without_note(cause: str) -> str:
+    """A cause without the note in parentheses at its end."""
+    return _HOW_IT_IS_SEEN.sub("", cause)
 
 
 def verdict(path: str, text: Text) -> Optional[Message]:
