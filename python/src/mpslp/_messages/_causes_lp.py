@@ -104,6 +104,18 @@ def lazy_constraints(case: Case) -> Optional[Found]:
     return FOUND if is_section else None
 
 
+def no_subject_to(case: Case) -> Optional[Found]:
+    """A relation, or the label of a row, in the objective."""
+    token, after = case.token, case.after
+    if token is None or lp_section(case) or not case.token_at:
+        return None
+    if token.is_relation or (token.text == ":" and case.token_at > 2):
+        return FOUND
+    rest = [each for each in case.tokens[case.token_at :] if each.line == token.line]
+    is_row = (after is not None and after.text == ":") or any(each.is_relation for each in rest)
+    return FOUND if token.is_name and not token.is_section and is_row and _starts_line(case, case.token_at) else None
+
+
 # ---- characters of other languages
 
 
@@ -185,7 +197,7 @@ def terms_on_the_right(case: Case) -> Optional[Found]:
     if before is not None and token is not None and token.is_name and not token.is_section and _follows_relation(case):
         return Found(mend=solved(case, token.line))
     found = _right_of_relation(case)
-    if found is None:
+    if found is None or lp_section(case) == "bounds":
         return None
     first, rest = found
     is_coefficient = rest[0].is_name
@@ -278,13 +290,40 @@ def no_sign(case: Case) -> Optional[Found]:
     return Found(mend=f"{before.text} + {token.text}")
 
 
+def space_in_label(case: Case) -> Optional[Found]:
+    """Two words at the start of a line, and a colon."""
+    before, token, after = case.before(), case.token, case.after
+    if before is None or token is None or after is None or after.text != ":" or not token.is_name or not before.is_name:
+        return None
+    if before.line != token.line or not _starts_line(case, case.token_at - 1) or before.is_section or before.word in SENSES:
+        return None
+    return Found(mend=f"{before.text}_{token.text}", marks=(case.mark_of_tokens([before, token]),), moves=True)
+
+
+def digit_first(case: Case) -> Optional[Found]:
+    """A number at the start of a line, a word without a space, and a colon."""
+    number, before, token = case.before(2), case.before(), case.token
+    if number is None or before is None or token is None or token.text != ":" or not number.is_number or not before.is_name:
+        return None
+    is_label = number.line == before.line and number.end == before.start and _starts_line(case, case.token_at - 2)
+    return Found(marks=(case.mark_of_tokens([number, before]),), moves=True) if is_label else None
+
+
+def row_in_bounds(case: Case) -> Optional[Found]:
+    """A column on each side of a relation, or a sign after a column."""
+    before, token = case.before(), case.token
+    if before is None or token is None or lp_section(case) != "bounds" or token.is_section:
+        return None
+    if token.is_name and before.is_relation:
+        return FOUND
+    return FOUND if token.is_sign and before.is_name and not before.is_section else None
+
+
 def coefficient_in_bounds(case: Case) -> Optional[Found]:
     before, token = case.before(), case.token
-    if before is None or token is None or lp_section(case) != "bounds":
+    if before is None or token is None or lp_section(case) != "bounds" or not token.is_name or not (before.is_number or before.is_sign):
         return None
-    if token.is_name and (before.is_number or before.is_sign):
-        return Found(mend=_divided(case) or "")
-    return FOUND if token.is_sign and before.is_name else None
+    return Found(mend=_divided(case) or "")
 
 
 def _divided(case: Case) -> Optional[str]:
@@ -401,6 +440,7 @@ def _signed(tokens: Sequence[Token]) -> Fraction:
 
 RULES: tuple[Rule, ...] = (
     mps_as_lp, lp_solve_statements, lp_solve_comment, colon_after_keyword, other_relation, other_comment, lazy_constraints, decimal_comma,
-    punctuation_after_row, other_keyword, no_sense, sum_on_the_right, missing_number, second_relation, terms_on_the_right, number_on_the_left, row_without_relation,
-    coefficient_in_bounds, no_sign, brackets_in_name, product, automatic_name,
+    punctuation_after_row, other_keyword, no_sense, no_subject_to, digit_first, space_in_label, row_in_bounds, sum_on_the_right,
+    missing_number, second_relation, terms_on_the_right, number_on_the_left, row_without_relation, coefficient_in_bounds, no_sign,
+    brackets_in_name, product, automatic_name,
 )  # fmt: skip
