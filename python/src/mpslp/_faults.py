@@ -32,6 +32,8 @@ class ModelFileError(ValueError):
         The path of the file; None for a text that is bytes.
     explanation
         The usual causes of this kind of error, and what to do about each: an :class:`Explanation`, which can be printed.
+    message()
+        What ``mpslp-tools`` prints: the line with a caret, the cause that fits it, and what to do.
     """
 
     kind: str

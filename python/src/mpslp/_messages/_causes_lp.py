@@ -180,7 +180,9 @@ def missing_number(case: Case) -> Optional[Found]:
     token, after = case.token, case.after
     if token is None or not _follows_relation(case):
         return None
-    return FOUND if token.is_section or (after is not None and after.text == ":" and _starts_line(case, case.token_at)) else None
+    has_relation = any(each.is_relation and each.line == token.line for each in case.tokens[case.token_at :])
+    is_row = _starts_line(case, case.token_at) and (has_relation or (after is not None and after.text == ":"))
+    return FOUND if token.is_section or is_row else None
 
 
 def second_relation(case: Case) -> Optional[Found]:
