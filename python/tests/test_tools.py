@@ -460,6 +460,8 @@ class Models(Directory):
         self.file("b.mps.gz", gzip.compress(SMALL))
         self.prints(["explain", "a.lp", "b.mps.gz"], 2, f"{message}\nb.mps.gz: accepted\n")
         self.prints(["explain", "-", "-f", "lp"], 2, f"{message}\n".replace("a.lp:", "-:", 1), content=BROKEN)
+        self.file("Sos")
+        self.prints(["explain", "Sos"], 0, f"{mpslp.explain('Sos')}\n")
         self.prints(["explain", "none.mps"], 4, error="none.mps: No such file or directory\n")
         self.prints(["explain", "."], 3, error=".: its name ends neither in .mps nor in .lp: say -f mps or -f lp\n")
 

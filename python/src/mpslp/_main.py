@@ -454,12 +454,12 @@ def explanation(options: argparse.Namespace) -> Status:
 
 def _explained(word: str, options: argparse.Namespace) -> Outcome:
     """What is said of a kind; or of a file, that it is accepted, or why not."""
-    if word == STANDARD_INPUT or format_of_name(word) is not None or os.path.exists(word):
-        return attempt(word, options, lambda text: _explained_file(word, text))
     try:
         return Outcome(output=f"{explain(word)}\n" if word != options.kinds[-1] else str(explain(word)))
     except ValueError as error:
-        raise UsageError(str(error)) from None
+        if word != STANDARD_INPUT and format_of_name(word) is None and not os.path.exists(word):
+            raise UsageError(str(error)) from None
+    return attempt(word, options, lambda text: _explained_file(word, text))
 
 
 def _explained_file(path: str, text: Text) -> Outcome:

@@ -130,8 +130,9 @@ def other_relation(case: Case) -> Optional[Found]:
 
 
 def other_comment(case: Case) -> Optional[Found]:
-    for token in _back_from(case):
-        if token.text.startswith(("//", "#")):
+    for at in reversed(range(max(0, case.token_at - _MOST_BACK), min(case.token_at + 1, len(case.tokens)))):
+        token = case.tokens[at]
+        if token.text.startswith("//") or token.text == "#" or (token.text[0] == "#" and _starts_line(case, at)):
             return Found(marks=(case.mark_of_tokens([token]),), moves=True)
     return None
 
@@ -238,9 +239,11 @@ def _last_relation(tokens: Sequence[Token]) -> Optional[int]:
 
 def number_on_the_left(case: Case) -> Optional[Found]:
     """The last relation has a number on its left that starts the row, and terms on its right."""
-    tokens = _complete_lines(case)
+    tokens, token = _complete_lines(case), case.token
     at = _last_relation(tokens)
     if at is None or at == 0 or not tokens[at - 1].is_number:
+        return None
+    if token is not None and not token.is_section and not _starts_line(case, len(tokens)):
         return None
     first = at - 2 if at >= 2 and tokens[at - 2].is_sign else at - 1
     starts_row = first == 0 or tokens[first - 1].text == ":" or tokens[first - 1].line < tokens[first].line
