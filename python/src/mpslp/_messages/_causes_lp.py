@@ -75,7 +75,7 @@ def other_keyword(case: Case) -> Optional[Found]:
     before, token = case.before(), case.token
     if before is not None and token is not None and before.word in _SECOND_WORDS and token.word != _SECOND_WORDS[before.word]:
         return Found(mend=f"{before.text} {_SECOND_WORDS[before.word]}")
-    for at in (case.token_at, case.token_at - 1):
+    for at in (case.token_at, case.token_at - 1, case.token_at - 2):
         if not 0 <= at < len(case.tokens) or not _is_like_keyword(case, at):
             continue
         token = case.tokens[at]
@@ -106,14 +106,12 @@ def lazy_constraints(case: Case) -> Optional[Found]:
 
 def no_subject_to(case: Case) -> Optional[Found]:
     """A relation, or the label of a row, in the objective."""
-    token, after = case.token, case.after
+    token = case.token
     if token is None or lp_section(case) or not case.token_at:
         return None
     if token.is_relation or (token.text == ":" and case.token_at > 2):
         return FOUND
-    rest = [each for each in case.tokens[case.token_at :] if each.line == token.line]
-    is_row = (after is not None and after.text == ":") or any(each.is_relation for each in rest)
-    return FOUND if token.is_name and not token.is_section and is_row and _starts_line(case, case.token_at) else None
+    return FOUND if token.is_name and not token.is_section and _starts_row(case) else None
 
 
 # ---- characters of other languages
@@ -178,12 +176,19 @@ def sum_on_the_right(case: Case) -> Optional[Found]:
 
 def missing_number(case: Case) -> Optional[Found]:
     """After a relation a section or the next row comes."""
-    token, after = case.token, case.after
+    token = case.token
     if token is None or not _follows_relation(case):
         return None
+    return FOUND if token.is_section or _starts_row(case) else None
+
+
+def _starts_row(case: Case) -> bool:
+    """Whether the token with the error is the first one of its line, and a label or followed by a relation."""
+    token, after = case.token, case.after
+    if token is None or not _starts_line(case, case.token_at):
+        return False
     has_relation = any(each.is_relation and each.line == token.line for each in case.tokens[case.token_at :])
-    is_row = _starts_line(case, case.token_at) and (has_relation or (after is not None and after.text == ":"))
-    return FOUND if token.is_section or is_row else None
+    return has_relation or (after is not None and after.text == ":")
 
 
 def second_relation(case: Case) -> Optional[Found]:
@@ -257,8 +262,8 @@ def number_on_the_left(case: Case) -> Optional[Found]:
 
 def row_without_relation(case: Case) -> Optional[Found]:
     """Between a label, or the keyword that opens the rows, and the error there are terms and no relation."""
-    token, after = case.token, case.after
-    starts_row = token is not None and (token.text == ":" or token.is_section or (after is not None and after.text == ":"))
+    token = case.token
+    starts_row = token is not None and (token.text == ":" or token.is_section or _starts_row(case))
     tokens = _complete_lines(case)
     terms: list[Token] = []
     for at in reversed(range(len(tokens))):
