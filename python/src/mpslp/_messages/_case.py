@@ -104,7 +104,10 @@ class Case:
 
     def start_of(self, section: str) -> int:
         """The place of the line end before the header of a section; that of the line if it comes later."""
-        match = re.compile(rb"(?:^|\n)" + section.encode() + rb"[ \t\r\n]").search(self.content, 0, self.line.start)
+        if re.match(section.encode() + rb"[ \t\r\n]", self.content):
+            return 0
+        # A pattern that starts with a line end is looked for faster than one that may also start the text.
+        match = re.compile(rb"\n" + section.encode() + rb"[ \t\r\n]").search(self.content, 0, self.line.start)
         return self.line.start if match is None else match.start()
 
     @cached_property
