@@ -35,7 +35,7 @@ WHEEL = build/mpslp-$(shell cat VERSION)-cp310-abi3-linux_x86_64.whl
 
 python: $(WHEEL)
 
-$(WHEEL): build/libmpslp.so.0 python/build.sh $(shell find python/src python/setup.py python/pyproject.toml python/README.md docs/errors.tsv -name '__pycache__' -prune -o -type f -print)
+$(WHEEL): build/libmpslp.so.0 python/build.sh $(shell find python/src python/setup.py python/pyproject.toml python/README.md docs/errors.tsv docs/warnings.tsv docs/portable.tsv docs/adapt.tsv -name '__pycache__' -prune -o -type f -print)
 	@sh python/build.sh
 
 # Tests the Python package.

@@ -14,7 +14,7 @@ ROOT = Path(__file__).resolve().parent.parent
 INCLUDE = Path(os.environ.get("MPSLP_INCLUDE", ROOT / "include"))
 LIBRARY = Path(os.environ.get("MPSLP_LIBRARY", ROOT / "build" / "libmpslp.a"))
 
-ERRORS = ROOT / "docs" / "errors.tsv"
+TABLES = tuple(ROOT / "docs" / f"{name}.tsv" for name in ("errors", "warnings", "portable", "adapt"))
 
 VERSION = (ROOT / "VERSION").read_text().strip()
 
@@ -25,11 +25,12 @@ for part in (INCLUDE / "mpslp.h", LIBRARY):
 
 
 class BuildModules(build_py):
-    """Adds the list of errors, which is one of the documents."""
+    """Adds the tables of errors, warnings, remarks and changes, which are documents."""
 
     def run(self) -> None:
         super().run()
-        self.copy_file(str(ERRORS), str(Path(self.build_lib) / "mpslp" / ERRORS.name), preserve_mode=False)
+        for table in TABLES:
+            self.copy_file(str(table), str(Path(self.build_lib) / "mpslp" / table.name), preserve_mode=False)
 
 
 setup(

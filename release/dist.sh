@@ -37,7 +37,7 @@ work=$(realpath "$dist/work")
 # The wheel is made of the commit's files, whose modes go into it, and without debug information, which contains their paths.
 build_wheel() {
     mkdir -p "$work/source/build"
-    git -c tar.umask=0022 archive HEAD VERSION include python docs/errors.tsv | tar -xf - -C "$work/source"
+    git -c tar.umask=0022 archive HEAD VERSION include python docs/errors.tsv docs/warnings.tsv docs/portable.tsv docs/adapt.tsv | tar -xf - -C "$work/source"
     cp build/libmpslp.a "$work/source/build/"
     CFLAGS=-g0 sh "$work/source/python/build.sh" > /dev/null
     test -f "$work/source/build/$wheel" || die "the wheel has another name than $wheel"

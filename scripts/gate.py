@@ -75,6 +75,7 @@ TESTS = (
     Test("what other programs read otherwise", ("python3", "tests/portable_rules.py", "--wrong")),
     Test("texts for solvers", ("python3", "tests/solver_texts.py", "--gate")),
     Test("warnings", ("python3", "tests/warning_rules.py", "--wrong")),
+    Test("messages about rejected files", ("python3", "tests/messages_check.py", "--wrong"), after=CALLERS),
     Test("digests of canonical texts", ("python3", "tests/digests.py")),
     Test("program on files", ("python3", "tests/program.py")),
     Test("library on standard input", ("python3", "tests/library.py")),

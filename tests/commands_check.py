@@ -68,7 +68,7 @@ class Commands(unittest.TestCase):
         self.folder = Path(tempfile.mkdtemp(prefix="mpslp-commands-"))
         self.addCleanup(shutil.rmtree, self.folder)
         self.copy = self.folder / "copy"
-        for name in ("Makefile", "HANDLES", "VERSION", "kit-sum", "crates.txt", "docs/errors.tsv"):
+        for name in ("Makefile", "HANDLES", "VERSION", "kit-sum", "crates.txt", "docs/errors.tsv", "docs/warnings.tsv", "docs/portable.tsv", "docs/adapt.tsv"):
             (self.copy / name).parent.mkdir(parents=True, exist_ok=True)
             shutil.copy(ROOT / name, self.copy / name)
         for name in ("scripts", "examples", "release", "python"):

@@ -5,7 +5,8 @@ The table in docs/ERRORS.md and the section DIAGNOSTICS of docs/mpslp.1 are made
 it: `python3 tests/errors.py --write` writes them, and docs_check.py compares.
 
 A line of the file is one cause: the kind of the error, the cause, the fix, and an
-example: its place, and its lines before and after the fix, with \\n between lines.
+example: its place, and its lines before and after the fix, with \\n between lines; then the
+rule of the messages of mpslp-tools that recognises the cause, if it needs one.
 """
 
 import csv
@@ -33,6 +34,7 @@ class Cause(NamedTuple):
     place: str
     before: str
     after: str
+    rule: str
 
     def example(self):
         """The example for a cell of a table in Markdown."""

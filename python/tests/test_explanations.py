@@ -6,10 +6,13 @@ import unittest
 from unittest import mock
 
 import mpslp
-from mpslp import _places
-from mpslp._explanations import kinds
-from mpslp._places import about
+from mpslp._adapt._changes import KINDS as CHANGES
+from mpslp._explanations import all_kinds, kinds
+from mpslp._messages import _place
+from mpslp._messages._place import about
+from mpslp._portable import KINDS as REMARKS
 from mpslp._sources import read
+from mpslp._warnings import KINDS as WARNINGS
 from repository import ROOT, VECTORS
 
 import fault_examples  # from tests/ of the repository
@@ -68,8 +71,36 @@ DuplicateRow
             self.assertEqual(error.explanation.kind, kind)
             self.assertEqual(pickle.loads(pickle.dumps(error.explanation)), error.explanation)
 
+    def test_every_kind_that_a_command_prints(self):
+        self.assertEqual(all_kinds(), [*kinds(), *sorted({*CHANGES, *REMARKS, *WARNINGS})])
+        for kinds_of_one, printed in ((CHANGES, "change"), (REMARKS, "remark"), (WARNINGS, "warning")):
+            for kind in kinds_of_one:
+                with self.subTest(kind):
+                    found = mpslp.explain(kind.upper())
+                    self.assertEqual(found.kind, kind)
+                    self.assertIn(printed, {cause.printed for cause in found.causes})
+                    self.assertNotIn("`", "".join(cause.cause + cause.fix for cause in found.causes))
+        self.assertEqual({cause.printed for kind in kinds() for cause in mpslp.explain(kind).causes}, {"error"})
+
+    def test_text_of_a_remark(self):
+        self.assertEqual(str(mpslp.explain("further-n-row")), """\
+further-n-row
+
+A remark of check --portable:
+
+- A free row; glpsol, clp, cbc and lp_solve drop it.
+  Remove it if it is not needed: it limits nothing.
+
+    MPS ROWS:
+       N  NEXT
+    without the remark:
+       L  NEXT""")
+        for line in ("A warning of canon, same, diff and check:", "A remark of check --portable:", "A change of adapt:", "    without the warning:", "    becomes:"):
+            self.assertIn(line, str(mpslp.explain("objective-rhs")).split("\n"))
+
     def test_what_is_no_kind(self):
-        for kind, words in (("BadTokem", "^no such kind of error: 'BadTokem'; is it BadToken[?]$"), ("", "^no such kind of error: ''$")):
+        for kind, words in (("BadTokem", "^no such kind: 'BadTokem'; did you mean BadToken[?]$"), ("uper-zero", "^no such kind: 'uper-zero'; did you mean upper-zero[?]$"),
+                            ("", "^no such kind: ''; the kinds are BadByte, BadMarker, .*, upper-zero$")):
             with self.assertRaisesRegex(ValueError, words):
                 mpslp.explain(kind)
         for wrong in (5, None, b"BadToken", ["BadToken"]):
@@ -138,7 +169,7 @@ class Places(unittest.TestCase):
     def test_long_lines(self):
         self.assertEqual(self.about("min x\n\\" + 2**20 * "-" + "\r\nend\n", "lp"), ("LineTooLong", "1,048,577 bytes"))
         self.assertEqual(self.about("min " + "x + " * 1000 + "y\nend\n", "lp"), ("DuplicateEntry", "x"))
-        with mock.patch.object(_places, "_MOST_READ_AGAIN", 9):
+        with mock.patch.object(_place, "_MOST_READ_AGAIN", 9):
             self.assertEqual(self.about("min " + "x + " * 1000 + "y\nst x x\nend\n", "lp"), ("DuplicateEntry", "x"))
             self.assertEqual(self.about("min x + y\nst x x\nend\n", "lp"), ("BadToken", ""), "it is not read again")
 

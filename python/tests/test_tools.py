@@ -42,6 +42,15 @@ def read_to_the_end(terminal):
     return b"".join(pieces)
 
 
+MORE_OF_A_MESSAGE = re.compile(r"^(?: +\d+ \| .*| +\| [ ^]+|  (?:cause|fix): .+)\n", re.M)
+
+
+def first_lines(error):
+    """What is printed on standard error, with the first line only of each message about a rejected file; test_messages has the rest."""
+    text = os.fsdecode(error) if isinstance(error, bytes) else error
+    return os.fsencode(MORE_OF_A_MESSAGE.sub("", text)) if isinstance(error, bytes) else MORE_OF_A_MESSAGE.sub("", text)
+
+
 class Directory(unittest.TestCase):
     """Tests that have a directory of their own."""
 
@@ -89,7 +98,7 @@ class Directory(unittest.TestCase):
 
     def prints(self, words, status, output="", error="", content=b""):
         done = self.run_tools(*words, content=content)
-        found = done.returncode, os.fsdecode(done.stdout), os.fsdecode(done.stderr)
+        found = done.returncode, os.fsdecode(done.stdout), first_lines(os.fsdecode(done.stderr))
         self.assertEqual(found, (status, output, error), words)
 
     def leaves(self, **files):
@@ -170,7 +179,7 @@ class InPlace(Directory):
         self.assertEqual((done.returncode, done.stdout.decode()), (2, "".join(f"./{name}\n" for name in changed)))
         done = self.run_tools("canon", "-i", "-j", "3", ".")
         self.assertEqual((done.returncode, done.stdout.decode()), (2, "".join(f"./{name}\n" for name in changed)))
-        printed = [line for line in done.stderr.decode().splitlines() if not line.startswith("warning: ")]
+        printed = [line for line in first_lines(done.stderr.decode()).splitlines() if not line.startswith("warning: ")]
         self.assertEqual(len(printed), len(errors))
         for line, error in zip(printed, errors):
             where = "" if error.line is None else f":{error.line}"
@@ -282,9 +291,9 @@ class Check(Directory):
         os.close(terminal)
         printed = read_to_the_end(main).decode().replace("\r\n", "\n")
         self.assertEqual((done.returncode, done.stdout), (2, b""))
-        self.assertEqual(re.sub(r"\r\d of 3|\r\x1b\[K", "", printed), "./1.lp:1: BadToken: y\npython3 -m mpslp explain KIND prints what to do about a kind of error\n")
+        self.assertEqual(first_lines(re.sub(r"\r\d of 3|\r\x1b\[K", "", printed)), "./1.lp:1: BadToken: y\npython3 -m mpslp explain KIND prints what to do about a kind of error\n")
         self.assertEqual(re.findall(r"\d of 3", printed), ["1 of 3", "2 of 3", "3 of 3"])
-        self.assertEqual(self.run_tools("check", ".").stderr, b"./1.lp:1: BadToken: y\n", "no progress where there is no terminal")
+        self.assertEqual(first_lines(self.run_tools("check", ".").stderr), b"./1.lp:1: BadToken: y\n", "no progress where there is no terminal")
 
 
 class Files(Directory):
@@ -334,7 +343,7 @@ class Files(Directory):
         self.file(os.fsdecode(b"\xfe.lp"), BROKEN)
         for locale in ("C", "C.UTF-8"):
             done = self.run_process("check", ".", env={**os.environ, "LC_ALL": locale})
-            self.assertEqual((done.returncode, done.stdout, done.stderr), (2, b"./\xff \xc3\xa9\n.mps\n", b"./\xfe.lp:1: BadToken: y\n"))
+            self.assertEqual((done.returncode, done.stdout, first_lines(done.stderr)), (2, b"./\xff \xc3\xa9\n.mps\n", b"./\xfe.lp:1: BadToken: y\n"))
         self.prints(["canon", "-i", name], 0, name + "\n")
         self.assertEqual((self.folder / name).read_bytes(), CANONICAL)
 
@@ -442,7 +451,19 @@ class Models(Directory):
         self.prints(["explain", "badbyte", "Sos"], 0, f"{mpslp.explain('BadByte')}\n\n{mpslp.explain('Sos')}\n")
         listed = self.run_tools("explain")
         self.assertEqual((listed.returncode, listed.stdout.split()[:2]), (0, [b"BadByte", b"BadMarker"]))
-        self.prints(["explain", "BadBite"], 3, error="python3 -m mpslp: error: no such kind of error: 'BadBite'; is it BadByte?\n")
+        self.prints(["explain", "BadBite"], 3, error="python3 -m mpslp: error: no such kind: 'BadBite'; did you mean BadByte?\n")
+
+    def test_explain_a_file(self):
+        self.file("a.lp", BROKEN)
+        message = mpslp.ModelFileError("BadToken", 1, filename="a.lp").message()
+        self.assertEqual(self.run_tools("check", "a.lp").stderr.decode(), f"{message}\n")
+        self.file("b.mps.gz", gzip.compress(SMALL))
+        self.prints(["explain", "a.lp", "b.mps.gz"], 2, f"{message}\nb.mps.gz: accepted\n")
+        self.prints(["explain", "-", "-f", "lp"], 2, f"{message}\n".replace("a.lp:", "-:", 1), content=BROKEN)
+        self.file("Sos")
+        self.prints(["explain", "Sos"], 0, f"{mpslp.explain('Sos')}\n")
+        self.prints(["explain", "none.mps"], 4, error="none.mps: No such file or directory\n")
+        self.prints(["explain", "."], 3, error=".: its name ends neither in .mps nor in .lp: say -f mps or -f lp\n")
 
 
 class Command(Directory):

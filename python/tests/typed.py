@@ -39,6 +39,7 @@ def faults(error: mpslp.ModelFileError) -> None:
     assert_type(error.number, Union[int, None])
     assert_type(error.filename, Union[str, None])
     assert_type(error.explanation, mpslp.Explanation)
+    assert_type(error.message(), str)
     assert_type(mpslp.explain("BadByte").causes[0], mpslp.Cause)
     assert_type(mpslp.explain("BadByte").causes[0].fix, str)
 

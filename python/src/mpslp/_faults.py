@@ -1,8 +1,11 @@
 """Why a model file is rejected."""
 
-from typing import Any, Literal
+from typing import TYPE_CHECKING, Any, Literal
 
 from mpslp._explanations import Explanation, explain
+
+if TYPE_CHECKING:
+    from mpslp._sources import Format, Source
 
 
 class ModelFileError(ValueError):
@@ -29,6 +32,8 @@ class ModelFileError(ValueError):
         The path of the file; None for a text that is bytes.
     explanation
         The usual causes of this kind of error, and what to do about each: an :class:`Explanation`, which can be printed.
+    message()
+        What ``mpslp-tools`` prints: the line with a caret, the cause that fits it, and what to do.
     """
 
     kind: str
@@ -62,6 +67,19 @@ class ModelFileError(ValueError):
     def explanation(self) -> Explanation:
         """The usual causes of this kind of error, and what to do about each."""
         return explain(self.kind)
+
+    def message(self, source: "Source | None" = None, format: "Format | None" = None) -> str:
+        """Returns what ``mpslp-tools`` prints: the place, the line with a caret, the cause that fits it, and what to do.
+
+        ``source`` is the text that was rejected, and ``format`` its format. They may be left out if the text is that of a
+        file, which is read again; for a text that is bytes only the first line is returned without them.
+        """
+        from mpslp._messages import message
+        from mpslp._sources import read
+
+        source = self.filename if source is None else source
+        text = None if source is None else read(source, format)
+        return str(message(self.filename or "<text>", self, text))
 
     def __reduce__(self) -> tuple[Any, ...]:
         # By its attributes: the path is set after the error is raised, and the arguments are those of the error.

@@ -20,13 +20,12 @@ from typing import Any, NamedTuple, NoReturn
 from mpslp import _adapt, _mpslp
 from mpslp._compression import pack
 from mpslp._differences import diff
-from mpslp._explanations import explain, kinds
+from mpslp._explanations import all_kinds, explain
 from mpslp._faults import ModelFileError
 from mpslp._files import model_files, replace_file
 from mpslp._models import model_of
 from mpslp._numbers import MOST_DIGITS
 from mpslp._output import OutputError, write_all, write_line, write_lines
-from mpslp._places import about
 from mpslp._portable import AGREED, KINDS, PROGRAMS, grouped, portability
 from mpslp._shown import shown
 from mpslp._solver_texts import SOLVERS, SolverError, solver_text
@@ -96,9 +95,9 @@ def text_of(path: str, options: argparse.Namespace) -> Text:
 def failure(path: str, error: Exception, text: Text | None = None) -> Outcome:
     """What is said of an error that ends the work on a file."""
     if isinstance(error, ModelFileError):
-        where = path if error.line is None else f"{path}:{error.line}"
-        words = about(text, error) if text is not None else error.name
-        return Outcome(Status.REJECTED, error=f"{where}: {error.kind}" + (f": {words}" if words else ""))
+        from mpslp._messages import message  # its rules are wanted for rejected files only
+
+        return Outcome(Status.REJECTED, error=str(message(path, error, text)))
     if isinstance(error, UsageError):
         return Outcome(Status.USAGE, error=str(error))
     if isinstance(error, MemoryError):
@@ -447,12 +446,27 @@ def _format_of(text: Text) -> Format:
 
 
 def explanation(options: argparse.Namespace) -> Status:
+    outcomes = [_explained(word, options) for word in options.kinds] or [Outcome(output="\n".join(all_kinds()))]
+    for outcome in outcomes:
+        _print(outcome)
+    return max(outcome.status for outcome in outcomes)
+
+
+def _explained(word: str, options: argparse.Namespace) -> Outcome:
+    """What is said of a kind; or of a file, that it is accepted, or why not."""
     try:
-        explained = [explain(kind) for kind in options.kinds]
+        return Outcome(output=f"{explain(word)}\n" if word != options.kinds[-1] else str(explain(word)))
     except ValueError as error:
-        raise UsageError(str(error)) from None
-    write_line(sys.stdout, "\n\n".join(map(str, explained)) if explained else "\n".join(kinds()))
-    return Status.DONE
+        if word != STANDARD_INPUT and format_of_name(word) is None and not os.path.exists(word):
+            raise UsageError(str(error)) from None
+    return attempt(word, options, lambda text: _explained_file(word, text))
+
+
+def _explained_file(path: str, text: Text) -> Outcome:
+    from mpslp._messages import verdict
+
+    found = verdict(path, text)
+    return Outcome(output=f"{path}: accepted") if found is None else Outcome(Status.REJECTED, output=str(found))
 
 
 def report(options: argparse.Namespace) -> Status:
@@ -625,8 +639,9 @@ def _add_digest(commands: Any) -> None:
 
 
 def _add_explain(commands: Any) -> None:
-    command = _add(commands, "explain", explanation, "explain a kind of error", "Print the usual causes of a kind of error, and what to do; without KIND, all kinds.")
-    command.add_argument("kinds", nargs="*", metavar="KIND", help="such as DuplicateEntry")
+    command = _add(commands, "explain", explanation, "explain why a file is rejected, or a kind", "Print why a file is rejected, and what to do; or what a kind of error, warning, remark or change means. Without an\nargument, print all kinds.")
+    _add_format(command)
+    command.add_argument("kinds", nargs="*", metavar="KIND|FILE", help="a kind, such as DuplicateEntry or upper-zero; or a model file")
 
 
 def _add_survey(commands: Any) -> None:

@@ -27,7 +27,7 @@ _LANGUAGE_OF_LP_SOLVE = "the LP language of lp_solve: convert it with lp_solve -
 def adapt_lp(text: str, dialect: Optional[str], log: Log) -> tuple[str, dict[str, str]]:
     """The text of the profile, and the names written instead of names given."""
     is_commented = re.match(r"\s*(?:/\*|//)", text) is not None
-    if _OBJECTIVE_OF_LP_SOLVE.match(text) or (is_commented and _OBJECTIVE_OF_LP_SOLVE.search(text)):
+    if is_commented and _OBJECTIVE_OF_LP_SOLVE.search(text):
         raise AdaptError(1, _LANGUAGE_OF_LP_SOLVE)
     adapter = _Adapter(text, dialect, log)
     written = adapter.written()
@@ -83,6 +83,8 @@ class _Adapter:
         elif word not in SENSES:
             raise reader.error("an LP file starts with the objective: write Minimize or Maximize first")
         reader.at += 1
+        if reader.token.kind == "colon" and ";" not in self.text:  # its statements end with one
+            raise AdaptError(reader.token.line, f"a colon after {token.text}: remove it")
         if reader.token.kind == "colon":
             raise reader.error(_LANGUAGE_OF_LP_SOLVE)
         return word.startswith("max")

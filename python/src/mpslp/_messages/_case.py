@@ -1,0 +1,166 @@
+"""A line that is rejected, as the rules see it; and what a rule returns."""
+
+from __future__ import annotations
+
+import re
+from collections.abc import Iterable
+from functools import cached_property
+from typing import NamedTuple
+
+from mpslp import _mpslp
+from mpslp._faults import ModelFileError
+from mpslp._messages._excerpt import Mark
+from mpslp._messages._lines import Line, line_at, line_with
+from mpslp._messages._nearest import Known
+from mpslp._messages._place import Field, Place, fields_of, place_of, section_before
+from mpslp._messages._tokens import Token, tokens_of
+from mpslp._sources import Text
+
+_MOST_BACK = 2**16
+"""A statement of LP is looked for among so many bytes before the line."""
+
+
+class Found(NamedTuple):
+    """What a rule has found in a line: more about the cause, what to write, a name for the first line, and further marks."""
+
+    detail: str = ""
+    mend: str = ""
+    words: str = ""
+    marks: tuple[Mark, ...] = ()
+    moves: bool = False
+    """Whether the marks are shown instead of the place of the error."""
+
+
+FOUND = Found()
+"""The cause is the right one, and there is no more to say."""
+
+
+class Case:
+    """A text that is rejected, and its line with the error. For an error of the whole text it has no line."""
+
+    def __init__(self, text: Text, error: ModelFileError) -> None:
+        self.text = text
+        self.error = error
+        self.content = text.content
+        self.kind = error.kind
+        self.is_mps = text.format == _mpslp.MPS
+        self.line = Line(0, len(text.content), b"") if error.line is None else line_at(text.content, error.line)
+        self.place: Place | None = None if error.line is None else place_of(text, error, self.line)
+
+    # ---- the line
+
+    @property
+    def words(self) -> str:
+        return "" if self.place is None else self.place.words
+
+    @cached_property
+    def is_last_line(self) -> bool:
+        """Whether nothing comes after the line."""
+        return not self.content[self.line.start + len(self.line.content) :].strip()
+
+    @cached_property
+    def fields(self) -> list[Field]:
+        return fields_of(self.line.content)
+
+    @cached_property
+    def at(self) -> int | None:
+        """The number of the field that has the error, from 0."""
+        return next((at for at, field in enumerate(self.fields) if self.place and field.start == self.place.start), None)
+
+    @property
+    def field(self) -> str:
+        """The text of the field that has the error."""
+        return "" if self.at is None else self.fields[self.at].text
+
+    @property
+    def is_header(self) -> bool:
+        return self.line.content[:1] not in (b" ", b"\t")
+
+    @property
+    def mark(self) -> Mark | None:
+        if self.error.line is None:
+            return None
+        return Mark(self.line.number, self.line.content, *(self.place[1:] if self.place else (0, 0)))
+
+    def mark_of(self, field: Field, line: Line | None = None) -> Mark:
+        line = self.line if line is None else line
+        return Mark(line.number, line.content, field.start, field.end)
+
+    def first_match(self, pattern: bytes, start: int = 0, end: int | None = None) -> Mark | None:
+        """The group of the first match of a pattern in the text before the line, or up to a place."""
+        match = re.compile(pattern).search(self.content, start, self.line.start if end is None else end)
+        return None if match is None else self.mark_at(*match.span(1))
+
+    def mark_at(self, start: int, end: int) -> Mark:
+        """The mark of a part of the text, which is within a line."""
+        line = line_with(self.content, start)
+        return Mark(line.number, line.content, start - line.start, end - line.start)
+
+    # ---- MPS
+
+    @cached_property
+    def section(self) -> str:
+        return section_before(self.content, self.line.start)
+
+    def start_of(self, section: str) -> int:
+        """The place of the line end before the header of a section; that of the line if it comes later."""
+        if re.match(section.encode() + rb"[ \t\r\n]", self.content):
+            return 0
+        # A pattern that starts with a line end is looked for faster than one that may also start the text.
+        match = re.compile(rb"\n" + section.encode() + rb"[ \t\r\n]").search(self.content, 0, self.line.start)
+        return self.line.start if match is None else match.start()
+
+    @cached_property
+    def rows(self) -> Known:
+        """The rows and N rows that are declared before the line."""
+        start = self.start_of("ROWS")
+        end = min(self.start_of("COLUMNS"), self.line.start)
+        return Known(self.content, re.compile(rb"\n[ \t]+\S+[ \t]+(\S+)"), start, end)
+
+    @cached_property
+    def columns(self) -> Known:
+        """The columns that are declared before the line."""
+        start = self.start_of("COLUMNS")
+        ends = [self.start_of(section) for section in ("RHS", "RANGES", "BOUNDS")]
+        return Known(self.content, re.compile(rb"\n[ \t]+(\S+)[ \t]+(?![ \t]|'MARKER')"), start, min(ends))
+
+    # ---- LP
+
+    @cached_property
+    def tokens(self) -> list[Token]:
+        """The tokens from some lines before the line up to it, as far as they are needed to see the statement before."""
+        first = max(0, self.line.start - _MOST_BACK)
+        start = 0 if first == 0 else self.content.find(b"\n", first, self.line.start) + 1 or self.line.start
+        number = self.line.number - self.content.count(b"\n", start, self.line.start)
+        return tokens_of(self.content, number, start, self.line.start + len(self.line.content))
+
+    @cached_property
+    def token_at(self) -> int:
+        """The number of the token that has the error; the number of tokens if it is not known."""
+        if self.place is None:
+            return len(self.tokens)
+        wanted = self.line.number, self.place.start
+        return next((at for at, each in enumerate(self.tokens) if (each.line, each.start) == wanted), len(self.tokens))
+
+    @property
+    def token(self) -> Token | None:
+        return self.tokens[self.token_at] if self.token_at < len(self.tokens) else None
+
+    def before(self, count: int = 1) -> Token | None:
+        """The token that many before the one with the error."""
+        at = self.token_at - count
+        return self.tokens[at] if 0 <= at < len(self.tokens) else None
+
+    @cached_property
+    def after(self) -> Token | None:
+        """The token after the one with the error, which may be in a later line."""
+        if self.token_at + 1 < len(self.tokens):
+            return self.tokens[self.token_at + 1]
+        start = self.line.start + len(self.line.content)
+        rest = tokens_of(self.content[start : start + 1000])
+        return rest[0] if rest else None
+
+    def mark_of_tokens(self, tokens: Iterable[Token]) -> Mark:
+        """The mark of tokens of one line."""
+        of_line = list(tokens)
+        return Mark(of_line[0].line, line_at(self.content, of_line[0].line).content, of_line[0].start, of_line[-1].end)

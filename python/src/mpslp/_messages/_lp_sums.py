@@ -1,0 +1,90 @@
+"""A row of LP in one line, with terms on its right or constants on its left, as a row that mpslp accepts."""
+
+from __future__ import annotations
+
+from collections.abc import Sequence
+from fractions import Fraction
+from typing import NamedTuple, Optional
+
+from mpslp._messages._tokens import INFINITIES, Token
+
+_MOST_DIGITS = 36
+
+
+class Term(NamedTuple):
+    """A term as it is written: its sign, its coefficient, and its column; a constant has no column."""
+
+    is_negative: bool
+    coefficient: str
+    name: str
+
+    def moved(self) -> Term:
+        return self._replace(is_negative=not self.is_negative)
+
+    @property
+    def value(self) -> Fraction:
+        value = Fraction(self.coefficient or "1")
+        return -value if self.is_negative else value
+
+    @property
+    def text(self) -> str:
+        return " ".join(filter(None, (self.coefficient, self.name)))
+
+
+def solved_row(tokens: Sequence[Token]) -> Optional[str]:
+    """The row without its label, with its terms on the left and one number on the right; None if it is not one of a simple form."""
+    at = [number for number, token in enumerate(tokens) if token.is_relation]
+    if len(at) != 1:
+        return None
+    left, right = terms_of(tokens[: at[0]]), terms_of(tokens[at[0] + 1 :])
+    if left is None or right is None:
+        return None
+    terms = [term for term in left if term.name] + [term.moved() for term in right if term.name]
+    if not terms or len({term.name for term in terms}) < len(terms):
+        return None
+    value = sum((term.value for term in right if not term.name), Fraction(0)) - sum(term.value for term in left if not term.name)
+    number = decimal_text(value)
+    return None if number is None else f"{_sum(terms)} {tokens[at[0]].text} {number}"
+
+
+def _sum(terms: Sequence[Term]) -> str:
+    first = ("- " if terms[0].is_negative else "") + terms[0].text
+    return " ".join([first, *(f"{'-' if term.is_negative else '+'} {term.text}" for term in terms[1:])])
+
+
+def terms_of(tokens: Sequence[Token]) -> Optional[list[Term]]:
+    """The terms of a sum, or None if the tokens are not one."""
+    found: list[Term] = []
+    at = 0
+    while at < len(tokens):
+        first, is_negative = at, False
+        while at < len(tokens) and tokens[at].is_sign:
+            is_negative ^= tokens[at].text == "-"
+            at += 1
+        if found and at == first:
+            return None
+        coefficient = tokens[at].text if at < len(tokens) and tokens[at].is_number else ""
+        at += 1 if coefficient else 0
+        name = tokens[at].text if at < len(tokens) and _is_column(tokens[at]) else ""
+        at += 1 if name else 0
+        if not coefficient and not name:
+            return None
+        found.append(Term(is_negative, coefficient, name))
+    return found
+
+
+def _is_column(token: Token) -> bool:
+    return token.is_name and not token.is_section and token.word not in INFINITIES and not set(token.text) & set("(),;/")
+
+
+def decimal_text(value: Fraction) -> Optional[str]:
+    """A number as a decimal, or None if it has no end or is too long."""
+    denominator, places = value.denominator, 0
+    while denominator % 2 == 0 or denominator % 5 == 0:
+        denominator //= 10 if denominator % 10 == 0 else 2 if denominator % 2 == 0 else 5
+        places += 1
+    digits = str(abs(int(value * 10**places)))
+    if denominator != 1 or max(len(digits), places) > _MOST_DIGITS:
+        return None
+    sign, digits = "-" if value < 0 else "", digits.rjust(places + 1, "0")
+    return sign + (f"{digits[:-places]}.{digits[-places:]}" if places else digits)

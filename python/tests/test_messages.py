@@ -1,0 +1,200 @@
+"""The messages about rejected files: the line with its caret, the one cause that fits it, and what to do. docs/messages.tsv has most."""
+
+import gzip
+import pickle
+import random
+import tempfile
+import time
+import unittest
+from pathlib import Path
+from unittest import mock
+
+import mpslp
+from mpslp._messages import _place, message, verdict
+from mpslp._messages._excerpt import Mark, excerpt, readable
+from mpslp._messages._lines import line_at, line_with
+from mpslp._messages._nearest import nearest
+from mpslp._messages._tokens import tokens_of
+from mpslp._sources import Text, format_number
+from repository import EXAMPLES, VECTORS, model_files
+
+MPS = "NAME\nROWS\n N  COST\n L  LIM\n G  MYG\nCOLUMNS\n    X  COST  1  LIM  1\n    Y  COST  2  MYG  1\n{}ENDATA\n"
+
+
+def about(text, form, to=None, path="m"):
+    """The message about a text that is rejected."""
+    content = text.encode() if isinstance(text, str) else text
+    try:
+        mpslp.canonical(content, form, to)
+    except mpslp.ModelFileError as error:
+        return message(path, error, Text(content, format_number(form), None))
+    raise AssertionError("it is accepted")
+
+
+class Whole(unittest.TestCase):
+    def test_a_line_of_mps(self):
+        self.assertEqual(str(about(MPS.format("RHS\n    RHS  LIMM  4\n"), "mps", path="plan.mps")), """\
+plan.mps:10: UnknownRow: LIMM
+   4 |  L  LIM
+     |     ^^^
+  10 |     RHS  LIMM  4
+     |          ^^^^
+  cause: a row that is not in ROWS: usually a misspelt name; the nearest row is LIM, in line 4
+  fix: add the row to ROWS, or correct its name: LIM""")
+
+    def test_the_line_of_the_mistake_before_that_of_the_report(self):
+        self.assertEqual(str(about("min x + y\nst\nc2: x >= 2 y + 1\n\nc3: x <= 4\nend\n", "lp", path="plan.lp")), """\
+plan.lp:5: BadToken: :
+  3 | c2: x >= 2 y + 1
+    |          ^^^^^^^
+  5 | c3: x <= 4
+    |   ^
+  cause: terms or a parenthesised sum on the right
+  fix: move all terms to the left, and keep one number on the right: x - 2 y >= 1""")
+
+    def test_a_whole_file(self):
+        self.assertEqual(str(about(MPS.format("BOUNDS\n UP  BND  X  -4\n"), "mps")), """\
+m: NegativeUpper: X
+  10 |  UP  BND  X  -4
+     |           ^
+  cause: an upper bound below 0 without a lower bound
+  fix: give the lower bound too""")
+        self.assertEqual(str(about("min x\n", "lp")), """\
+m: MissingEnd
+  cause: the file is truncated
+  fix: fetch it again; if it is complete, append ENDATA (MPS) or end (LP)""")
+
+    def test_a_cause_that_no_rule_recognises(self):
+        self.assertEqual(str(about("min x\nst\ninf + x <= 1\nend\n", "lp")), """\
+m:3: BadToken: +
+  3 | inf + x <= 1
+    |     ^
+  cause: not recognised
+  fix: mpslp-tools explain BadToken lists the usual causes""")
+
+    def test_without_the_text(self):
+        error = mpslp.ModelFileError("NegativeUpper", None, "X")
+        self.assertEqual(str(message("plan.mps", error, None)), "plan.mps: NegativeUpper: X")
+
+    def test_verdict(self):
+        self.assertIsNone(verdict("m", Text(b"min x\nend\n", format_number("lp"), None)))
+        self.assertEqual(verdict("m", Text(b"min x y\nend\n", format_number("lp"), None)), about("min x y\nend\n", "lp"))
+
+
+class OfAnError(unittest.TestCase):
+    def test_of_a_file_that_is_read_again(self):
+        with tempfile.TemporaryDirectory() as folder:
+            path = Path(folder) / "plan.lp.gz"
+            path.write_bytes(gzip.compress(b"min x y\nend\n"))
+            with self.assertRaises(mpslp.ModelFileError) as caught:
+                mpslp.load(path)
+            self.assertEqual(caught.exception.message(), str(about("min x y\nend\n", "lp", path=str(path))))
+            self.assertEqual(pickle.loads(pickle.dumps(caught.exception)).message(), caught.exception.message())
+            path.unlink()
+            with self.assertRaises(FileNotFoundError):
+                caught.exception.message()
+
+    def test_of_bytes(self):
+        with self.assertRaises(mpslp.ModelFileError) as caught:
+            mpslp.load(b"min x y\nend\n", "lp")
+        self.assertEqual(caught.exception.message(b"min x y\nend\n", "lp"), str(about("min x y\nend\n", "lp", path="<text>")))
+        self.assertEqual(caught.exception.message(), "<text>:1: BadToken")
+
+
+class Excerpts(unittest.TestCase):
+    def test_long_lines(self):
+        """Of a long line the part around the caret is shown, whatever is in it."""
+        for filling in ("x" * 200, "\u00f6" * 200, "\t" * 200, "\x07" * 200):
+            for before in (0, 1, 59, 60, 61, 99, 100, 101, 200):
+                line = (filling[:before] + "HERE" + filling).encode()
+                start = line.index(b"HERE")
+                shown = excerpt([Mark(7, line, start, start + 4)]).split("\n")
+                with self.subTest(filling[0], before=before):
+                    self.assertEqual(shown[0][:6], "  7 | ")
+                    at = shown[1].index("^")
+                    self.assertEqual(shown[0][at : at + 4], "HERE")
+                    self.assertEqual(shown[1][at:], "^^^^")
+                    self.assertTrue(shown[0].endswith("..."))
+                    self.assertLess(len(shown[0]), 500)
+
+    def test_two_parts_of_a_line(self):
+        self.assertEqual(excerpt([Mark(10, b"a b a", 4, 5), Mark(10, b"a b a", 0, 1), Mark(9, b"", 0, 1)]), "   9 |\n     | ^\n  10 | a b a\n     | ^   ^")
+        self.assertEqual(excerpt([]), "")
+
+    def test_bytes_that_are_not_printable(self):
+        for content, wanted in ((b"gr\xf6\xdfe", r"gr\xf6\xdfe"), ("gr\u00f6\u00dfe".encode(), "gr\u00f6\u00dfe"), (b"a\x07\x00b\x7f", r"a\x07\x00b\x7f"),
+                                ("\u202eabc\u2028".encode(), r"\u202eabc\u2028"), (b"a\tb", "a    b"), (b"\x1b[31m", r"\x1b[31m")):
+            self.assertEqual(readable(content), wanted)
+
+    def test_no_control_character_is_printed(self):
+        drawn = random.Random(5)
+        for _ in range(300):
+            content = bytes(drawn.randrange(256) for _ in range(drawn.randrange(1, 400)))
+            shown = excerpt([Mark(1, content, drawn.randrange(len(content)), len(content))])
+            self.assertTrue(shown.replace("\n", "").isprintable())
+
+
+class Parts(unittest.TestCase):
+    def test_lines(self):
+        content = b"a\nb\r\n\nlast\r"
+        self.assertEqual([line_at(content, number).content for number in (1, 2, 3, 4)], [b"a", b"b", b"", b"last\r"])
+        many = b"line\n" * 500_000
+        for number in (1, 2, 209_715, 209_716, 209_717, 500_000):
+            self.assertEqual(line_at(many, number)[:2], (number, 5 * (number - 1)))
+            self.assertEqual(line_with(many, 5 * (number - 1) + 4), line_at(many, number))
+
+    def test_nearest_names(self):
+        for name, names, wanted in (("LIMM", ["LIM", "COST"], "LIM"), ("lim", ["LIM", "LIMM"], "LIM"), ("Q", ["LIM"], None), ("x10", [f"yy{number}" for number in range(50_000)] + ["x1"], "x1"),
+                                    ("ab", ["ba"], "ba"), ("ab", ["abc"], "abc"), ("ab", ["cab"], "cab"), ("ab", ["acb"], "acb"), ("x", ["xy"], "xy"), ("product", ["prodcut"], "prodcut"),
+                                    ("UPPER_LIMIT", ["upper_limit", "UPPER_LIMITS"], "upper_limit"), ("anything", [], None), ("same", ["same"], None)):
+            self.assertEqual(nearest(name, names), wanted, name)
+
+    def test_tokens_have_their_lines(self):
+        self.assertEqual([(each.text, each.line, each.start, each.end) for each in tokens_of(b"min x \\ a + b\n\n st\nx<=1e5", 3)],
+                         [("min", 3, 0, 3), ("x", 3, 4, 5), ("st", 5, 1, 3), ("x", 6, 0, 1), ("<=", 6, 1, 3), ("1e5", 6, 3, 6)])
+
+    def test_a_large_lp_text_is_read_in_part(self):
+        """The token is found among the last rows or bounds; what is before them is not read again."""
+        with mock.patch.object(_place, "_MOST_READ_AGAIN", 100), mock.patch.object(_place, "_MOST_BEFORE", 60):
+            rows = "".join(f"row{number}: x + y <= {number}\n" for number in range(30))
+            for tail, words in (("bad: x y <= 1\nend\n", "y"), ("bounds\nx <= 4\n2 y <= 4\nend\n", "y"), ("bounds\n" + "x >= -1\n" * 20 + "end\n", "x"), ("row0: x <= 1\nend\n", "")):
+                self.assertEqual(about(f"min x\nst\n{rows}{tail}", "lp").words, words)
+
+
+class Robust(unittest.TestCase):
+    def test_files_that_are_damaged_anyhow(self):
+        """There is a message for each rejected text, with its line, and parts of it under the carets."""
+        drawn = random.Random(76)
+        pieces = [b" ", b"\n", b":", b"<=", b"=", b"+", b"-", b"1", b"x", b"'MARKER'", b"\nRHS\n", b"\nBOUNDS\n", b"\nst\n", b"end", b",", b";", b"[", b"*", b"\t", b"\r",
+                  b"\xf6", b"\xc3\xb6", b"free", b"inf", b"nan", b"\nbounds\n", b"//", b"\\", b"\nROWS\n", b" UP ", b" FR ", b"max:", b"\x00"]
+        files = [(path.read_bytes(), path.suffix[1:]) for path in (*model_files(EXAMPLES), *model_files(VECTORS)) if path.stat().st_size < 3000]
+        rejected = 0
+        for _ in range(2000):
+            content, form = drawn.choice(files)
+            for _ in range(drawn.randrange(1, 3)):
+                at = drawn.randrange(len(content) + 1)
+                content = content[:at] + drawn.choice([b"", drawn.choice(pieces)]) + content[at + drawn.randrange(5) :]
+            try:
+                mpslp.canonical(content, form, drawn.choice([form, "lp"]))
+            except mpslp.ModelFileError as error:
+                rejected += 1
+                with self.subTest(content):
+                    made = message("m", error, Text(content, format_number(form), None))
+                    self.assertTrue(made.first.startswith("m" if error.line is None else f"m:{error.line}: {error.kind}"))
+                    self.assertTrue(made.cause and made.fix)
+                    self.assertTrue(error.line is None or f" {error.line} | " in f"{made.excerpt}\n".replace("|\n", "| \n"))
+                    self.assertTrue(str(made).replace("\n", "").isprintable())
+        self.assertGreater(rejected, 1000)
+
+    def test_large_texts(self):
+        """A message takes a small part of the time of reading the text."""
+        columns = "".join(f"    X{number}  COST  1  LIM  1\n" for number in range(200_000))
+        text = MPS.replace("{}", columns + "BOUNDS\n UP  BND  X19999O  4\n").encode()
+        begun = time.process_time()
+        made = about(text, "mps")
+        self.assertIn("the nearest column is X19999", made.cause)
+        self.assertLess(time.process_time() - begun, 10)
+
+
+if __name__ == "__main__":
+    unittest.main()
