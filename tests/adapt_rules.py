@@ -97,7 +97,7 @@ def differences(row, program):
     except AdaptError as error:
         if row["kind"] != "stop":
             yield f"left: {error}"
-        elif unescaped(row["after"]).strip() not in str(error):
+        elif unescaped(row["after"]).strip().encode("latin-1").decode("utf-8") not in str(error):
             yield f"left for another reason: {error}"
         return
     if row["kind"] == "stop":

@@ -1,6 +1,6 @@
-"""LP files: from a file as it comes to a file of the profile.
+"""LP files: from a file as it comes to one in mpslp's LP format.
 
-The reader takes a larger language than the profile's. Each statement that is one of the profile stays as it is written;
+The reader takes a larger language than mpslp's LP format. Each statement that mpslp reads stays as it is written;
 others are written again. A rule replaces tokens by tokens, and the printer makes text of them.
 """
 
@@ -25,9 +25,9 @@ _LANGUAGE_OF_LP_SOLVE = "the LP language of lp_solve: convert it with lp_solve -
 
 
 def adapt_lp(text: str, dialect: Optional[str], log: Log) -> tuple[str, dict[str, str]]:
-    """The text of the profile, and the names written instead of names given."""
+    """The text that mpslp reads, and the names written instead of names given."""
     is_commented = re.match(r"\s*(?:/\*|//)", text) is not None
-    if _OBJECTIVE_OF_LP_SOLVE.match(text) or (is_commented and _OBJECTIVE_OF_LP_SOLVE.search(text)):
+    if is_commented and _OBJECTIVE_OF_LP_SOLVE.search(text):
         raise AdaptError(1, _LANGUAGE_OF_LP_SOLVE)
     adapter = _Adapter(text, dialect, log)
     written = adapter.written()

@@ -117,7 +117,7 @@ class Context:
     # ---- numbers
 
     def literal(self, token: Token, is_limit: bool) -> str:
-        """A number of the profile."""
+        """A number that mpslp reads."""
         text = token.text
         if "/" in text:
             decimal = _numbers.fraction(text)
@@ -148,7 +148,7 @@ class Context:
         return text
 
     def side_literal(self, item: Item) -> str:
-        """A side of a row or a bound of the profile, with its sign."""
+        """A side of a row or a bound as mpslp reads it, with its sign."""
         number = item.numbers[0]
         return ("-" if item.sign < 0 else "") + ("inf" if item.is_infinite else self.literal(number, True))
 

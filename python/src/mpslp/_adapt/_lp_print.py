@@ -10,8 +10,8 @@ from typing import NamedTuple
 from mpslp._adapt._lp_tokens import Token, Tokens
 
 _LONGEST_ROW_LINE = 200
-# The longest match of the profile, at the start of a text.
-_PROFILE = re.compile(r"\\.*|<=|=<|<|>=|=>|>|==|=|::|:|->|(?:[0-9]+\.?[0-9]*|\.[0-9]+)(?:[eE][+-]?[0-9]+)?|[^\s\\<>=:*^+\-\[\]]+|.", re.DOTALL)
+# The longest token of mpslp's LP format, at the start of a text.
+_TOKEN = re.compile(r"\\.*|<=|=<|<|>=|=>|>|==|=|::|:|->|(?:[0-9]+\.?[0-9]*|\.[0-9]+)(?:[eE][+-]?[0-9]+)?|[^\s\\<>=:*^+\-\[\]]+|.", re.DOTALL)
 
 
 class Cell(NamedTuple):
@@ -98,7 +98,7 @@ def _are_apart(first: str, second: str) -> bool:
     """Whether two tokens without a space between them are read as these two."""
     if not second:
         return True
-    found = _PROFILE.match(first + second)
+    found = _TOKEN.match(first + second)
     if found is None or found.end() != len(first):
         return False
     return first not in ("+", "-", "<", ">", "=") or second[0] not in "<>=-+"

@@ -119,7 +119,7 @@ class RowRules:
         if len(row.relations) == 2:
             terms, outer = row.sides[1], [row.sides[0], row.sides[2]]
             if any(has_terms(side) or len(side) != 1 for side in outer) or not has_terms(terms):
-                raise self.context.reader.error("between two relations the profile has terms, and outside numbers", row.first)
+                raise self.context.reader.error("in a row with two relations, terms are between them, and numbers outside", row.first)
             if [sense_of(relation) for relation in row.relations] not in (["<", "<"], [">", ">"]):
                 raise self.context.reader.error("two relations in a row are both at most, or both at least: write two rows", row.first)
             return terms, outer
@@ -154,7 +154,7 @@ class RowRules:
         return kinds + kinds_of_terms(terms + [each for side in outer for each in side if each.name is not None])
 
     def keep(self, row: Row, terms: list[Item], outer: list[list[Item]]) -> None:
-        """A row of the profile."""
+        """A row that mpslp reads as it is."""
         if row.label is not None:
             self.context.settle_name(row.label)
         for relation in row.relations:

@@ -1,4 +1,4 @@
-"""The tokens of an LP file, with their places and lines; more words are names than in the profile."""
+"""The tokens of an LP file, with their places and lines; more words are names than for mpslp."""
 
 from __future__ import annotations
 
@@ -90,7 +90,7 @@ class Tokens:
 
 
 def quadratic(token: Token) -> AdaptError:
-    return AdaptError(token.line, "a quadratic term: the profile has linear ones; remove it, or linearise it")
+    return AdaptError(token.line, "a quadratic term: mpslp has linear ones; remove it, or linearise it")
 
 
 def punctuation_after(number: Token, word: Token) -> Optional[AdaptError]:

@@ -1,4 +1,4 @@
-"""Names that the profile has, for names that it has not."""
+"""Names that are legal for mpslp, for names that are not."""
 
 from __future__ import annotations
 

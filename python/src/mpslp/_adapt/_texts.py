@@ -7,7 +7,7 @@ from dataclasses import dataclass, replace
 from typing import Optional
 
 from mpslp._adapt._accepted import rejection_of, require_accepted
-from mpslp._adapt._changes import DIALECTS, NO_DIALECT, AdaptError, Change, Log, Note, OtherLanguage, kinds_of
+from mpslp._adapt._changes import DIALECTS, NO_DIALECT, AdaptError, Change, Log, Note, OtherLanguage, kinds_of, readable
 from mpslp._adapt._check import require_the_same
 from mpslp._adapt._lp import adapt_lp
 from mpslp._adapt._mps import adapt_mps
@@ -46,6 +46,7 @@ def adapt_text(content: bytes, format: Format, dialect: Optional[str] = None, st
         return replace(adapted_from(content, format, chosen, kinds), writer=writer)
     except AdaptError as error:
         error.writer = writer
+        error.reason = readable(error.reason)
         raise
 
 
