@@ -2,6 +2,7 @@
 
 from __future__ import annotations
 
+import re
 from collections.abc import Callable, Sequence
 
 from mpslp._adapt._changes import AdaptError
@@ -28,6 +29,8 @@ from mpslp._adapt._mps_rules import (
 from mpslp._adapt._mps_state import MARKER, MARKERS, ROW_TYPES, UNVALUED, Bound, Row, State, is_plain, is_plain_bound
 from mpslp._adapt._numbers import LITERAL
 
+_WITH_PAIRS = ("COLUMNS", "RHS", "RANGES")
+_STARTS_AS_NUMBER = re.compile(r"[+-]?\.?[0-9]")
 SPECIAL_SETS = "special ordered sets: write them as rows with binary columns"
 
 
@@ -58,9 +61,14 @@ class DataLines:
         is_pair_section = self.state.section.name in ("RHS", "RANGES")
         set_at = 1 if self.state.section.name == "BOUNDS" else 0 if is_pair_section and len(fields) % 2 else None
         written = [
-            each if is_no_name(each) or (at == set_at and each.isascii()) else self.state.names.of(each) for at, each in enumerate(fields)
+            each if is_no_name(each) or (at == set_at and each.isascii()) or self.is_wrong_number(fields, at) else self.state.names.of(each)
+            for at, each in enumerate(fields)
         ]
         self.rewrite(line, "name", written)
+
+    def is_wrong_number(self, fields: Sequence[str], at: int) -> bool:
+        """Whether a field is where a number comes, and starts as one; as a name it would not be shown as it is in the file."""
+        return self.state.section.name in _WITH_PAIRS and (at - len(fields) % 2) % 2 == 1 and _STARTS_AS_NUMBER.match(fields[at]) is not None
 
     # ---- the lines of each section
 
