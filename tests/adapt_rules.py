@@ -7,7 +7,7 @@ is put into a small file, which is adapted. The text has to be the one with the 
 after, all changes have to be of the kind, and adapting it again has to change
 nothing. Rows of the kind "stop" are left with an error that contains the text; it may
 start with the line. The dialect "header" is that of the program that the first lines of
-the file name.
+the file name. Files of the kind "note" are accepted, with a note that contains the text.
 
 With the program, what is before has to be rejected, unless a dialect is given, and
 what is after has to be accepted. Each row of the table has to be in docs/DIALECTS.md.
@@ -38,6 +38,8 @@ WRONG = ROOT / "tests" / "adapt_wrong.tsv"
 SOURCES = ROOT / "python" / "src" / "mpslp"
 PROCESSES = 4
 BY_HEADER = "header"
+LEFT_OR_NOTED = ("stop", "note")
+"""Kinds of examples that are no changes."""
 MPS = """NAME  FRAME
 {head}ROWS
  N  COST
@@ -109,6 +111,10 @@ def differences(row, program):
     if row["kind"] == "stop":
         yield f"adapted, with {len(done.changes)} changes"
         return
+    if row["kind"] == "note":
+        if not any(unescaped(row["after"]) in str(note) for note in done.notes):
+            yield f"other notes: {[str(note) for note in done.notes]}"
+        return
     if done.text != framed(row, row["after"]):
         yield f"adapted to {done.text!r}"
     kinds = {change.kind for change in done.changes}
@@ -166,7 +172,7 @@ def missing_in_page(table, line_of, path=PAGE):
 def table_line(row):
     """The row of the page's tables for an example."""
     before, after = (shown(row[name]) for name in ("before", "after"))
-    if row["kind"] == "stop":
+    if row["kind"] in LEFT_OR_NOTED:
         return f"| {before} | {row['what']} |"
     dialect = "by its header" if row["dialect"] == BY_HEADER else f"`--from {row['dialect']}`" if row["dialect"] else ""
     return f"| `{row['kind']}` | {dialect} | {before} | {after or '(nothing)'} | {row['what']} |"
@@ -258,9 +264,10 @@ def arguments(description):
 def main():
     options = arguments(__doc__)
     if options.table:
-        for kind in ("mps", "lp"):
-            for is_stop in (False, True):
-                print(*[table_line(row) for row in rows() if row["format"] == kind and (row["kind"] == "stop") == is_stop], "", sep="\n")
+        for format in ("mps", "lp"):
+            for kind in ("", *LEFT_OR_NOTED):
+                of_kind = [row for row in rows() if row["format"] == format and kind == (row["kind"] if row["kind"] in LEFT_OR_NOTED else "")]
+                print(*map(table_line, of_kind), "", sep="\n")
         return 0
     if options.rules:
         found, _ = check(None, options.rules)

@@ -33,6 +33,8 @@ def adapt_lp(text: str, dialect: Optional[str], log: Log) -> tuple[str, dict[str
     written = adapter.written()
     if log.changes or (dialect is not None and adapter.has_text_after_end):
         adapter.require_clear()
+    if log.changes:
+        adapter.bounds.note_lone_columns()
     return written, adapter.context.names.written
 
 

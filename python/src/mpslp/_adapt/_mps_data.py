@@ -92,11 +92,18 @@ class DataLines:
             fields = line.fields()
             if not is_plain(state, fields, 1, (3, 5)):
                 raise wrong_pairs(state, line, 1, "a column")
-        state.column = fields[0]
-        state.columns.setdefault(state.column, state.is_marked)
+        if fields[0] != state.column:
+            self.next_column(line, fields[0])
         self.is_block_empty = False
 
     is_block_empty = False
+
+    def next_column(self, line: Line, name: str) -> None:
+        state = self.state
+        state.column = name
+        if name not in state.columns:
+            state.columns[name] = state.is_marked
+            state.column_lines.append(line.number)
 
     def marker(self, line: Line) -> None:
         self.apply(line, (upper_marker, marker_name, marker_trailing))

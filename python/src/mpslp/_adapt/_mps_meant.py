@@ -9,10 +9,14 @@ from mpslp._adapt._changes import AdaptError
 from mpslp._adapt._mps_dialects import ObjectiveSide
 from mpslp._adapt._mps_lines import Line, Section, added_data
 from mpslp._adapt._mps_state import State
-from mpslp._adapt._numbers import parts
+from mpslp._adapt._names import are_near
+from mpslp._adapt._numbers import LITERAL, parts
 
 NEGATED = "* the number on the objective is negated: it was that of another dialect"
 """The comment before a line whose number was negated; a file that has it is not changed again."""
+
+_MOST_NOTES = 5
+"""Of columns that may be misspelt."""
 
 _LOWER = ("LO", "LI", "MI", "FX", "FR", "BV")
 
@@ -30,12 +34,29 @@ class Meant:
         self.give_the_constant()
         self.declare_columns()
         self.give_bounds()
+        if self.state.log.changes:
+            self.check_columns()
 
     def found(self, name: str) -> Optional[Section]:
         return next((each for each in self.sections if each.name == name), None)
 
     def comments(self) -> Sequence[Line]:
         return [line for section in self.sections for line in section.lines if line.is_comment()]
+
+    # ---- what may not be meant
+
+    def check_columns(self) -> None:
+        """In a file that is changed, the end of a number on a line of its own is no column; one that may be misspelt is noted."""
+        names, lines = list(self.state.columns), self.state.column_lines
+        misspelt = []
+        for at, (name, line) in enumerate(zip(names, lines)):
+            if LITERAL.fullmatch(name) and not name.isdigit():
+                raise AdaptError(line, f"{name}, where a column is expected, is a number: correct the line, or rename the column")
+            has_one_line = at + 1 == len(names) or lines[at + 1] == line + 1
+            if has_one_line and any(are_near(name, other) for other in (*names[max(at - 1, 0) : at], *names[at + 1 : at + 2])):
+                misspelt.append((name, line))
+        for name, line in misspelt[:_MOST_NOTES]:
+            self.state.log.note(line, f"{name} is a column of its own, or the one beside it misspelt")
 
     # ---- the sense
 

@@ -72,3 +72,24 @@ def _proposed(given: str) -> str:
 
 
 _REPLACED = {ord("["): "(", ord("]"): ")", **{ord(each): "_" for each in " \t:*^<>=+-\\"}}
+
+
+def are_near(first: str, second: str) -> bool:
+    """Whether two names are the same but for one letter or sign more, less or changed; names that differ in digits are not."""
+    return without_digits(first) != without_digits(second) and not parts_of(first).isdisjoint(parts_of(second))
+
+
+def parts_of(name: str) -> set[str]:
+    """A name without its digits, and this without each of its letters: names that differ in one letter have one in common."""
+    letters = without_digits(name)
+    if not 1 < len(letters) <= _MOST_COMPARED_LETTERS:
+        return {letters}
+    return {letters, *(letters[:at] + letters[at + 1 :] for at in range(len(letters)))}
+
+
+def without_digits(name: str) -> str:
+    return name.translate(_NO_DIGITS)
+
+
+_NO_DIGITS = dict.fromkeys(map(ord, "0123456789"))
+_MOST_COMPARED_LETTERS = 64
