@@ -164,12 +164,12 @@ def _read_objective(reading: Reading, body: Sequence[LpToken], tokens: Sequence[
 
 def _read_rows(reading: Reading, body: Sequence[LpToken], is_of_mpslp: bool) -> None:
     """The rows of a section: those between two labels are taken apart by their relations."""
-    starts = [at for at in range(len(body) - 1) if body[at + 1].kind == "colon"]
-    for start, end in zip([0, *starts], [*starts, len(body)]):
-        if start == end:
-            continue
-        label = body[start].text if start in starts else None
-        _read_block(reading, label, body[start + 2 : end] if label is not None else body[start:end], is_of_mpslp)
+    starts = [at - 1 for at, token in enumerate(body) if at and token.kind == "colon"]
+    first = starts[0] if starts else len(body)
+    if first:
+        _read_block(reading, None, body[:first], is_of_mpslp)
+    for start, end in zip(starts, [*starts[1:], len(body)]):
+        _read_block(reading, body[start].text, body[start + 2 : end], is_of_mpslp)
 
 
 def _read_block(reading: Reading, label: Optional[str], body: Sequence[LpToken], is_of_mpslp: bool) -> None:

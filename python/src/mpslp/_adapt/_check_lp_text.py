@@ -38,7 +38,7 @@ _HEADERS = {
 }
 _FIRST_WORDS = {header.split()[0] for header in _HEADERS}
 _MOST_DIGITS_OF_EXPONENT = 5
-_ONE = Fraction(1)
+_INFINITE = float("inf")
 
 
 class LpToken(NamedTuple):
@@ -72,17 +72,21 @@ def tokens_of(text: str, dialect: Optional[str]) -> list[LpToken]:
 
 
 def _tokens(text: str, pattern: re.Pattern[str]) -> Iterator[LpToken]:
-    line, kind = 1, "space"
+    line, is_apart = 1, True
     for found in pattern.finditer(text):
-        is_space, kind = kind in ("space", "comment"), found.lastgroup or ""
+        kind, word = found.lastgroup or "", found[0]
         if kind == "space":
-            line += found[0].count("\n")
-        elif kind == "comment":
+            line += word.count("\n")
+            is_apart = True
+            continue
+        if kind == "comment":
             yield from _remark(found["comment"], line)
-        else:
-            yield _plain(kind, found[0], line, not is_space)
-            if kind == "name" and found[0].lower() == "end" and _LINE_END.match(text, found.end()):
-                return
+            is_apart = True
+            continue
+        yield LpToken(kind, word, line, not is_apart) if kind == "number" else _plain(kind, word, line, not is_apart)
+        is_apart = False
+        if kind == "name" and word.lower() == "end" and _LINE_END.match(text, found.end()):
+            return
 
 
 def _remark(text: str, line: int) -> Iterator[LpToken]:
@@ -164,11 +168,12 @@ def sections_of(tokens: Sequence[LpToken], dialect: Optional[str]) -> list[tuple
             raise Unreadable(tokens[at].line, "no objective")
         token = tokens[at]
         at += 1
-        if token.kind == "number" and _is_label_with_digit(tokens, at - 1):
-            token = LpToken("name", token.text + tokens[at].text, token.line)
-            at += 1
-        elif token.kind == "number" and _is_label_of_number(tokens, at - 1):
-            token = token._replace(kind="name")
+        if token.kind == "number" and token.line != tokens[at - 2].line:
+            if _is_label_with_digit(tokens, at - 1):
+                token = LpToken("name", token.text + tokens[at].text, token.line)
+                at += 1
+            elif _is_label_of_number(tokens, at - 1):
+                token = token._replace(kind="name")
         found[-1][1].append(token)
     return found
 
@@ -249,8 +254,7 @@ def side_of(tokens: Sequence[LpToken]) -> Side:
         end = at
         while end < len(tokens) and tokens[end].kind != "sign":
             end += 1
-        name, number = _term(tokens[at:end], tokens[start].line)
-        number = -number if is_negative else number
+        name, number = _term(tokens[at:end], is_negative, tokens[start].line)
         if name is None:
             constant, constants = constant + number, constants + 1
         elif isinstance(number, float):
@@ -261,22 +265,46 @@ def side_of(tokens: Sequence[LpToken]) -> Side:
     return Side(terms, constant, constants)
 
 
-def _term(tokens: Sequence[LpToken], line: int) -> tuple[Optional[str], Limit]:
-    kinds = [token.kind for token in tokens]
-    names = [token.text for token in tokens if token.kind == "name"]
-    if kinds == ["name"] and names[0].lower() in INFINITE_SIDES:
-        return None, float("inf")
-    numbers = [token.text for token in tokens if token.kind == "number"]
-    shapes = (["number"], ["name"], ["number", "name"], ["number", "star", "name"], ["name", "star", "number"])
-    if kinds not in shapes:
+def _term(tokens: Sequence[LpToken], is_negative: bool, line: int) -> tuple[Optional[str], Limit]:
+    """The name of a term, or None for a constant, and its number."""
+    shape = "".join([token.kind[:2] for token in tokens])
+    places = _SHAPES.get(shape)
+    if places is None:
         raise Unreadable(line, "no term: " + " ".join(token.text for token in tokens))
-    number = number_of(numbers[0]) if numbers else _ONE
+    name = None if places.name is None else tokens[places.name].text
+    if shape == _NAME_ONLY and tokens[0].text.lower() in INFINITE_SIDES:
+        return None, -_INFINITE if is_negative else _INFINITE
+    number = signed_number("1" if places.number is None else tokens[places.number].text, is_negative)
     if number is None:
-        raise Unreadable(line, f"a division by 0: {numbers[0]}")
-    return (names[0] if names else None), number
+        raise Unreadable(line, f"a division by 0: {tokens[places.number or 0].text}")
+    return name, number
 
 
-@lru_cache(maxsize=10_000)
+class _Places(NamedTuple):
+    """Where in a term its number and its name are."""
+
+    number: Optional[int]
+    name: Optional[int]
+
+
+_NAME_ONLY = "na"
+_SHAPES = {
+    "nu": _Places(0, None),
+    _NAME_ONLY: _Places(None, 0),
+    "nuna": _Places(0, 1),
+    "nustna": _Places(0, 2),
+    "nastnu": _Places(2, 0),
+}
+"""The terms, by the first letters of the kinds of their tokens."""
+
+
+@lru_cache(maxsize=100_000)
+def signed_number(text: str, is_negative: bool) -> Optional[Limit]:
+    """The value of a number with a sign, or None for a division by 0."""
+    number = number_of(text)
+    return -number if is_negative and number is not None else number
+
+
 def number_of(text: str) -> Optional[Limit]:
     """The value of an unsigned number, or None for a division by 0."""
     if text.lower().endswith("inf"):

@@ -162,6 +162,8 @@ class _Adapter:
         is_again = len({section.name for section in sections}) < len(sections)
         if not self.context.script.is_changed and not is_again:
             return self.short(self.text)
+        if not is_again:
+            return self.short(printed(cell for _, cell in self.context.script.cells(joins_tokens=True)))
         return self.short(printed(cell for part in self.parts() for cell in part))
 
     def parts(self) -> list[list[Cell]]:
@@ -193,7 +195,7 @@ def parted(script: Script, starts: list[int]) -> list[list[Cell]]:
     """The cells of a script, in a part for what is before the first place, and one for each place."""
     parts: list[list[Cell]] = [[] for _ in range(len(starts) + 1)]
     at = 0
-    for place, cell in script.cells():
+    for place, cell in script.cells(joins_tokens=False):
         while at < len(starts) and starts[at] <= place:
             at += 1
         parts[at].append(cell)

@@ -5,7 +5,6 @@ from __future__ import annotations
 import re
 import unicodedata
 from bisect import bisect_left
-from collections.abc import Iterator
 from typing import NamedTuple, Optional
 
 from mpslp._adapt._changes import AdaptError
@@ -61,12 +60,9 @@ class Tokens:
         self.all.append(Token("end", "", len(text), len(text), line))
         self._places_of_comments = [each.start for each in self.comments]
 
-    def spaced(self) -> Iterator[tuple[Token, str]]:
-        """Each token, with the spaces, line ends and comments before it."""
-        done = 0
-        for token in self.all:
-            yield token, self.text[done : token.start]
-            done = token.end
+    def space_before(self, at: int) -> str:
+        """The spaces, line ends and comments before a token."""
+        return self.text[self.all[at - 1].end if at else 0 : self.all[at].start]
 
     def before(self, token: Token) -> Token:
         return self.all[self.all.index(token) - 1]
