@@ -32,12 +32,19 @@ def _stand_in():
     package._mpslp = library
 
 
+class _UnknownArrays:
+    """The arrays of a text that the program accepts, as far as adapt asks: a column without coefficients, as there may be one."""
+
+    def doubles(self):
+        return bytes(8), bytes(8)
+
+
 def _load(content, number):
     """Raises the error of the program if it rejects a text; without the program each text is accepted."""
     from mpslp._faults import ModelFileError
 
     if not PROGRAM.exists():
-        return
+        return _UnknownArrays()
     key = f"{FORMATS[number]} {content.decode('latin-1')}"
     if key not in _answers:
         done = subprocess.run([PROGRAM, "canon", FORMATS[number], "mps", "-"], input=content, capture_output=True)
@@ -45,6 +52,7 @@ def _load(content, number):
     if _answers[key]:
         line, kind, name = re.search(r"(?:line (\d+)|file): (\w+)(?: (\S+))?", _answers[key]).groups()
         raise ModelFileError(kind, line and int(line), name)
+    return _UnknownArrays()
 
 
 def _load_answers():

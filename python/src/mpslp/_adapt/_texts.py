@@ -6,12 +6,13 @@ from collections.abc import Collection, Mapping
 from dataclasses import dataclass, replace
 from typing import Optional
 
-from mpslp._adapt._accepted import rejection_of, require_accepted
-from mpslp._adapt._changes import DIALECTS, NO_DIALECT, AdaptError, Change, Log, Note, OtherLanguage, kinds_of, readable
+from mpslp._adapt._accepted import accepted, require_accepted
+from mpslp._adapt._changes import DIALECTS, NO_DIALECT, AdaptError, Change, Log, Note, kinds_of, readable
 from mpslp._adapt._check import require_the_same
 from mpslp._adapt._lp import adapt_lp
 from mpslp._adapt._mps import adapt_mps
-from mpslp._adapt._writers import Writer, writer_of
+from mpslp._adapt._notes import notes_of
+from mpslp._adapt._writers import MOST_OF_HEADER, Writer, writer_of
 from mpslp._compression import unpack
 from mpslp._sources import Format
 
@@ -52,15 +53,15 @@ def adapt_text(content: bytes, format: Format, dialect: Optional[str] = None, st
 
 def named_writer(content: bytes, format: Format) -> Optional[Writer]:
     """The program that the header of a text names; the text may be compressed, or in another encoding."""
-    for rule in (decompressed, decoded, with_line_feeds):
+    for rule in (decompressed, decoded):
         content = rule(content, Log())
-    return writer_of(content.decode("latin-1"), format)
+    return writer_of(with_line_feeds(content[:MOST_OF_HEADER], Log()).decode("latin-1"), format)
 
 
 def adapted_from(content: bytes, format: Format, dialect: Optional[str], kinds: frozenset[str]) -> Adapted:
     """The text of a dialect as mpslp accepts it."""
-    if dialect is None and rejection_of(content, format) is None:
-        return Adapted(content, format, (), {}, notes_of(content, format))
+    if dialect is None and (arrays := accepted(content, format)) is not None:
+        return Adapted(content, format, (), {}, notes_of(content, format, arrays))
     log = Log(kinds)
     for rule in (decompressed, decoded, with_line_feeds, without_end_of_file_byte):
         content = rule(content, log)
@@ -76,18 +77,6 @@ def adapted_from(content: bytes, format: Format, dialect: Optional[str], kinds: 
 def rewritten(text: str, format: Format, dialect: Optional[str], log: Log) -> tuple[str, dict[str, str]]:
     """A text in latin-1 as mpslp reads it, and the names written instead of names given."""
     return adapt_lp(text, dialect, log) if format == "lp" else adapt_mps(text, dialect, log)
-
-
-def notes_of(content: bytes, format: Format) -> tuple[Note, ...]:
-    """What other dialects mean by lines of a text that mpslp accepts."""
-    log = Log()
-    try:
-        rewritten(content.decode("latin-1"), format, None, log)
-    except OtherLanguage:
-        raise
-    except AdaptError:
-        return ()
-    return tuple(log.notes)
 
 
 def as_read(text: str) -> str:
