@@ -12,9 +12,9 @@ Limit = Union[Fraction, float]
 """A number, or an infinite one."""
 
 _TOKEN = re.compile(
-    r"(?P<space>\s+)|\\(?P<comment>[^\n]*)|(?P<relation>[<>]=?|=[<>=]?|\xe2\x89[\xa4\xa5])|(?P<sign>[+-]|\xe2\x88\x92)"
+    r"[ \t]*(?:(?P<space>\s+)|\\(?P<comment>[^\n]*)|(?P<relation>[<>]=?|=[<>=]?|\xe2\x89[\xa4\xa5])|(?P<sign>[+-]|\xe2\x88\x92)"
     r"|(?P<number>(?:\d+(?:\.\d*)?|\.\d+)(?:[eE][+-]?\d+)?(?:\#inf)?)|(?P<colon>:)|(?P<star>\*)"
-    r"|(?P<name>(?:(?!\xe2\x89[\xa4\xa5]|\xe2\x88\x92)[^\s\\<>=:*^+\-\[\]]|\[[^\s\[\]<>=*^]*\])+)|(?P<other>.)",
+    r"|(?P<name>(?:(?!\xe2\x89[\xa4\xa5]|\xe2\x88\x92)[^\s\\<>=:*^+\-\[\]]|\[[^\s\[\]<>=*^]*\])+)|(?P<other>\S)|\Z)",
     re.IGNORECASE,
 )
 _TOKEN_OF_QSOPT = re.compile(_TOKEN.pattern.replace(r"|(?P<number>", r"|(?P<number>\d+/\d+(?![\d.])|"), re.IGNORECASE)
@@ -72,21 +72,20 @@ def tokens_of(text: str, dialect: Optional[str]) -> list[LpToken]:
 
 
 def _tokens(text: str, pattern: re.Pattern[str]) -> Iterator[LpToken]:
-    line, is_apart = 1, True
+    line, end = 1, 0  # where the last token ends
     for found in pattern.finditer(text):
-        kind, word = found.lastgroup or "", found[0]
+        kind = found.lastgroup or "space"
+        word = found[kind] or ""
         if kind == "space":
             line += word.count("\n")
-            is_apart = True
-            continue
-        if kind == "comment":
-            yield from _remark(found["comment"], line)
-            is_apart = True
-            continue
-        yield LpToken(kind, word, line, not is_apart) if kind == "number" else _plain(kind, word, line, not is_apart)
-        is_apart = False
-        if kind == "name" and word.lower() == "end" and _LINE_END.match(text, found.end()):
-            return
+        elif kind == "comment":
+            yield from _remark(word, line)
+        else:
+            is_joined = found.start(kind) == end
+            end = found.end()
+            yield LpToken(kind, word, line, is_joined) if kind == "number" else _plain(kind, word, line, is_joined)
+            if kind == "name" and word.lower() == "end" and _LINE_END.match(text, end):
+                return
 
 
 def _remark(text: str, line: int) -> Iterator[LpToken]:

@@ -14,17 +14,17 @@ _OTHER = r"(?!\xe2\x89[\xa4\xa5]|\xe2\x88\x92)[\x80-\xff]"
 _INDEX = r"\[[^\[\]\s^*<>=]*\]"
 _NUMBER = r"(?:[0-9]+\.?[0-9]*|\.[0-9]+)(?:[eE][+-]?[0-9]+)?"
 _RELATION = r"<=|=<|<|>=|=>|>|==|=|\xe2\x89[\xa4\xa5]"
-_COMMON = rf"(?P<comment>\\[^\n]*)|(?P<relation>{_RELATION})|(?P<other>::|->)|(?P<minus>\xe2\x88\x92)"
+_COMMON = rf"(?P<space>[ \t\r\n]+)|(?P<comment>\\[^\n]*)|(?P<relation>{_RELATION})|(?P<other>::|->)|(?P<minus>\xe2\x88\x92)"
 _FREE = re.compile(
     rf"{_COMMON}|(?P<number>{_NUMBER})|(?P<word>\.?(?:[{_ASCII}]|{_OTHER})(?:[{_ASCII}0-9.]+|{_OTHER}|{_INDEX})*)"
-    r"|(?P<sign>[+-])|(?P<colon>:)|(?P<star>\*)|(?P<space>[ \t\r\n]+)|(?P<bad>.)"
+    r"|(?P<sign>[+-])|(?P<colon>:)|(?P<star>\*)|(?P<bad>.)"
 )
 # Fractions are numbers for QSopt_ex.
 _FRACTIONS = re.compile(_FREE.pattern.replace("(?P<number>", "(?P<number>[0-9]+/[0-9]+(?![0-9.])|"))
 # PuLP puts spaces around each token, and has nearly every byte in its names; a label ends with a colon.
 _SPACED = re.compile(
     rf"{_COMMON}(?=\s|\Z)|(?P<sign>[+-](?=\s|[0-9.]|inf\b))|(?P<number>{_NUMBER})(?=\s|\Z)"
-    r"|(?P<word>[^\s:]+(?::[^\s:]+)*)|(?P<colon>:)|(?P<star>\*)|(?P<space>\s+)|(?P<bad>.)"
+    r"|(?P<word>[^\s:]+(?::[^\s:]+)*)|(?P<colon>:)|(?P<star>\*)|(?P<other_space>[^\S \t\r\n]+)|(?P<bad>.)"
 )
 
 # Signs, dashes, spaces, digits above the line, and what is not seen.
@@ -52,6 +52,8 @@ class Tokens:
             kind = found.lastgroup or ""
             if kind == "space":
                 line += found[0].count("\n")
+                continue
+            if kind == "other_space":
                 continue
             token = Token("sign" if kind == "minus" else kind, found[0], found.start(), found.end(), line)
             (self.comments if kind == "comment" else self.all).append(token)
