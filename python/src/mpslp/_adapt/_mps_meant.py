@@ -46,17 +46,29 @@ class Meant:
     # ---- what may not be meant
 
     def check_columns(self) -> None:
-        """In a file that is changed, the end of a number on a line of its own is no column; one that may be misspelt is noted."""
+        """In a file that is changed, a number or a sign that is read as a column is not meant as one; others are noted."""
         names, lines = list(self.state.columns), self.state.column_lines
-        misspelt = []
+        notes = []
         for at, (name, line) in enumerate(zip(names, lines)):
-            if LITERAL.fullmatch(name) and not name.isdigit():
-                raise AdaptError(line, f"{name}, where a column is expected, is a number: correct the line, or rename the column")
-            has_one_line = at + 1 == len(names) or lines[at + 1] == line + 1
-            if has_one_line and any(are_near(name, other) for other in (*names[max(at - 1, 0) : at], *names[at + 1 : at + 2])):
-                misspelt.append((name, line))
-        for name, line in misspelt[:_MOST_NOTES]:
-            self.state.log.note(line, f"{name} is a column of its own, or the one beside it misspelt")
+            if not any(map(str.isalnum, name)) or (LITERAL.fullmatch(name) and not name.isdigit()):
+                what = "a number" if LITERAL.fullmatch(name) else "a sign"
+                raise AdaptError(line, f"{name}, where a column is expected, is {what}: correct the line, or rename the column")
+            if at + 1 == len(names) or lines[at + 1] == line + 1:  # the column has one line
+                others = (*names[max(at - 1, 0) : at], *names[at + 1 : at + 2])
+                reason = self.other_meaning(name, others, names[0].isdigit())
+                notes += [] if reason is None else [(line, reason)]
+        for line, reason in notes[:_MOST_NOTES]:
+            self.state.log.note(line, reason)
+
+    def other_meaning(self, name: str, others: Sequence[str], have_digits: bool) -> Optional[str]:
+        """What a column may be instead: one beside it that is misspelt, a number, or a row."""
+        if any(are_near(name, other) for other in others):
+            return f"{name} is a column of its own, or the one beside it misspelt"
+        if name.isdigit() and not have_digits:
+            return f"{name} is a column here, and may be a number"
+        if name in self.state.rows:
+            return f"{name} is a column here, and also a row"
+        return None
 
     # ---- the sense
 
