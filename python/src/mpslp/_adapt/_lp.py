@@ -35,6 +35,7 @@ def adapt_lp(text: str, dialect: Optional[str], log: Log) -> tuple[str, dict[str
         adapter.require_clear()
     if log.changes:
         adapter.bounds.note_lone_columns()
+        adapter.rows.note_rows_like_bounds()
     return written, adapter.context.names.written
 
 
