@@ -3,11 +3,11 @@
 from __future__ import annotations
 
 import re
-import unicodedata
 from bisect import bisect_left
 from typing import NamedTuple, Optional
 
 from mpslp._adapt._changes import AdaptError
+from mpslp._adapt._names import reason_against
 
 _ASCII = r"A-Za-z!\"#$%&()/,;?@_'`{}|~"
 _OTHER = r"(?!\xe2\x89[\xa4\xa5]|\xe2\x88\x92)[\x80-\xff]"
@@ -26,9 +26,6 @@ _SPACED = re.compile(
     rf"{_COMMON}(?=\s|\Z)|(?P<sign>[+-](?=\s|[0-9.]|inf\b))|(?P<number>{_NUMBER})(?=\s|\Z)"
     r"|(?P<word>[^\s:]+(?::[^\s:]+)*)|(?P<colon>:)|(?P<star>\*)|(?P<other_space>[^\S \t\r\n]+)|(?P<bad>.)"
 )
-
-# Signs, dashes, spaces, digits above the line, and what is not seen.
-_NO_LETTERS = ("Sm", "Pd", "Zs", "Zl", "Zp", "No", "Cf", "Cc")
 
 
 class Token(NamedTuple):
@@ -105,12 +102,8 @@ def punctuation_after(number: Token, word: Token) -> Optional[AdaptError]:
 
 def look_alike(word: Token) -> Optional[AdaptError]:
     """The error of a word with a sign that looks like a space, a minus, an operator or a power; or None."""
-    if word.text.isascii():
-        return None
-    for letter in word.text.encode("latin-1").decode("utf-8", "replace"):
-        if not letter.isascii() and unicodedata.category(letter) in _NO_LETTERS:
-            return AdaptError(word.line, f"U+{ord(letter):04X} is no letter of a name: write the sign or the space of ASCII that is meant")
-    return None
+    reason = reason_against(word.text)
+    return None if reason is None else AdaptError(word.line, reason)
 
 
 def no_column(word: Token) -> Optional[AdaptError]:

@@ -27,6 +27,7 @@ from mpslp._adapt._mps_rules import (
     upper_row_type,
 )
 from mpslp._adapt._mps_state import MARKER, MARKERS, ROW_TYPES, UNVALUED, Bound, Row, State, is_plain, is_plain_bound
+from mpslp._adapt._names import reason_against
 from mpslp._adapt._numbers import LITERAL
 
 _WITH_PAIRS = ("COLUMNS", "RHS", "RANGES")
@@ -58,6 +59,9 @@ class DataLines:
     def replace_names(self, line: Line) -> None:
         """Replaces the names that no row or column may have; a set may have a long one."""
         fields = line.fields()
+        reason = next(filter(None, (reason_against(each) for at, each in enumerate(fields) if not self.is_wrong_number(fields, at))), None)
+        if reason is not None:
+            raise AdaptError(line.number, reason)
         is_pair_section = self.state.section.name in ("RHS", "RANGES")
         set_at = 1 if self.state.section.name == "BOUNDS" else 0 if is_pair_section and len(fields) % 2 else None
         written = [

@@ -57,6 +57,8 @@ class Meant:
                 others = (*names[max(at - 1, 0) : at], *names[at + 1 : at + 2])
                 reason = self.other_meaning(name, others, names[0].isdigit())
                 notes += [] if reason is None else [(line, reason)]
+        if names and self.found("RHS") is None and names[-1].upper().startswith("RHS"):
+            notes.insert(0, (lines[-1], f"{names[-1]} is a column here: if it is meant as the set of right-hand sides, write RHS before it"))
         for line, reason in notes[:_MOST_NOTES]:
             self.state.log.note(line, reason)
 

@@ -30,6 +30,20 @@ def is_mps_name(name: str) -> bool:
     return 0 < len(name) <= MOST_BYTES and all("!" <= each <= "~" for each in name) and name != "'MARKER'"
 
 
+# Signs, dashes, spaces, digits above the line, and what is not seen.
+_NO_LETTERS = ("Sm", "Pd", "Zs", "Zl", "Zp", "No", "Cf", "Cc")
+
+
+def reason_against(name: str) -> str | None:
+    """Why a name is left: a sign of Unicode that looks like a space, a minus, an operator or a power; or None."""
+    if name.isascii():
+        return None
+    for letter in name.encode("latin-1").decode("utf-8", "replace"):
+        if not letter.isascii() and unicodedata.category(letter) in _NO_LETTERS:
+            return f"U+{ord(letter):04X} is no letter of a name: write the sign or the space of ASCII that is meant"
+    return None
+
+
 class Names:
     """The names that are written instead of names given. Each is another than all names of the file, and stays the same."""
 
