@@ -12,12 +12,11 @@ Limit = Union[Fraction, float]
 """A number, or an infinite one."""
 
 _TOKEN = re.compile(
-    r"[ \t]*(?:(?P<space>\s+)|\\(?P<comment>[^\n]*)|(?P<relation>[<>]=?|=[<>=]?|\xe2\x89[\xa4\xa5])|(?P<sign>[+-]|\xe2\x88\x92)"
-    r"|(?P<number>(?:\d+(?:\.\d*)?|\.\d+)(?:[eE][+-]?\d+)?(?:\#inf)?)|(?P<colon>:)|(?P<star>\*)"
-    r"|(?P<name>(?:(?!\xe2\x89[\xa4\xa5]|\xe2\x88\x92)[^\s\\<>=:*^+\-\[\]]|\[[^\s\[\]<>=*^]*\])+)|(?P<other>\S)|\Z)",
-    re.IGNORECASE,
+    r"[ \t]*(?:(?P<space>\s+)|(?P<sign>[+-]|\xe2\x88\x92)|(?P<number>(?:\d+(?:\.\d*)?|\.\d+)(?:[eE][+-]?\d+)?(?:\#[iI][nN][fF])?)"
+    r"|(?P<name>(?:[^\s\\<>=:*^+\-\[\]\xe2]+|(?!\xe2\x89[\xa4\xa5]|\xe2\x88\x92)\xe2|\[[^\s\[\]<>=*^]*\])+)|\\(?P<comment>[^\n]*)"
+    r"|(?P<relation>[<>]=?|=[<>=]?|\xe2\x89[\xa4\xa5])|(?P<colon>:)|(?P<star>\*)|(?P<other>\S)|\Z)"
 )
-_TOKEN_OF_QSOPT = re.compile(_TOKEN.pattern.replace(r"|(?P<number>", r"|(?P<number>\d+/\d+(?![\d.])|"), re.IGNORECASE)
+_TOKEN_OF_QSOPT = re.compile(_TOKEN.pattern.replace(r"|(?P<number>", r"|(?P<number>\d+/\d+(?![\d.])|"))
 _LINE_END = re.compile(r"[ \t\r]*(?:\\|\n|\Z)")
 _WORD_OF_PULP = re.compile(r"\\(?P<comment>[^\n]*)|(?P<word>\S+)|(?P<space>\s+)")
 _NUMBER = re.compile(r"(?:\d+(?:\.\d*)?|\.\d+)(?:[eE]([+-]?\d+))?")
@@ -49,6 +48,10 @@ class LpToken(NamedTuple):
     line: int
     is_joined: bool = False
     """Whether no space is before it."""
+
+
+new_token = tuple.__new__
+"""Makes a token in half of the time that the class needs: a file has many."""
 
 
 class Unreadable(Exception):
@@ -83,8 +86,8 @@ def _tokens(text: str, pattern: re.Pattern[str]) -> Iterator[LpToken]:
         else:
             is_joined = found.start(kind) == end
             end = found.end()
-            yield LpToken(kind, word, line, is_joined) if kind == "number" else _plain(kind, word, line, is_joined)
-            if kind == "name" and word.lower() == "end" and _LINE_END.match(text, end):
+            yield new_token(LpToken, (kind, word, line, is_joined)) if kind == "number" else _plain(kind, word, line, is_joined)
+            if kind == "name" and len(word) == 3 and word.lower() == "end" and _LINE_END.match(text, end):
                 return
 
 
@@ -99,15 +102,15 @@ def _remark(text: str, line: int) -> Iterator[LpToken]:
 
 def _plain(kind: str, text: str, line: int, is_joined: bool = False) -> LpToken:
     if kind == "relation":
-        sense = "<" if "<" in text or text.endswith("\xa4") else ">" if ">" in text or text.endswith("\xa5") else "="
-        return LpToken(kind, sense, line)
-    if kind == "sign":
-        return LpToken(kind, "+" if text == "+" else "-", line)
-    if kind == "name" and text.lower() in _INFINITE_WORDS:
-        return LpToken("number", "inf", line)
-    if kind == "other":
+        text = "<" if "<" in text or text.endswith("\xa4") else ">" if ">" in text or text.endswith("\xa5") else "="
+        is_joined = False
+    elif kind == "sign":
+        text, is_joined = "+" if text == "+" else "-", False
+    elif kind == "name" and text[0] in "iI" and text.lower() in _INFINITE_WORDS:
+        kind, text, is_joined = "number", "inf", False
+    elif kind == "other":
         raise Unreadable(line, f"the sign {text}")
-    return LpToken(kind, text, line, is_joined)
+    return new_token(LpToken, (kind, text, line, is_joined))
 
 
 def _words_of_pulp(text: str) -> Iterator[LpToken]:

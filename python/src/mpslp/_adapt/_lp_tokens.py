@@ -14,16 +14,18 @@ _OTHER = r"(?!\xe2\x89[\xa4\xa5]|\xe2\x88\x92)[\x80-\xff]"
 _INDEX = r"\[[^\[\]\s^*<>=]*\]"
 _NUMBER = r"(?:[0-9]+\.?[0-9]*|\.[0-9]+)(?:[eE][+-]?[0-9]+)?"
 _RELATION = r"<=|=<|<|>=|=>|>|==|=|\xe2\x89[\xa4\xa5]"
-_COMMON = rf"(?P<space>[ \t\r\n]+)|(?P<comment>\\[^\n]*)|(?P<relation>{_RELATION})|(?P<other>::|->)|(?P<minus>\xe2\x88\x92)"
+_SPACE = r"(?P<space>[ \t\r\n]+)"
+_COMMON = rf"(?P<comment>\\[^\n]*)|(?P<relation>{_RELATION})|(?P<other>::|->)|(?P<minus>\xe2\x88\x92)"
+# What comes most often is first.
 _FREE = re.compile(
-    rf"{_COMMON}|(?P<number>{_NUMBER})|(?P<word>\.?(?:[{_ASCII}]|{_OTHER})(?:[{_ASCII}0-9.]+|{_OTHER}|{_INDEX})*)"
+    rf"{_SPACE}|(?P<number>{_NUMBER})|(?P<word>\.?(?:[{_ASCII}]|{_OTHER})(?:[{_ASCII}0-9.]+|{_OTHER}|{_INDEX})*)|{_COMMON}"
     r"|(?P<sign>[+-])|(?P<colon>:)|(?P<star>\*)|(?P<bad>.)"
 )
 # Fractions are numbers for QSopt_ex.
 _FRACTIONS = re.compile(_FREE.pattern.replace("(?P<number>", "(?P<number>[0-9]+/[0-9]+(?![0-9.])|"))
 # PuLP puts spaces around each token, and has nearly every byte in its names; a label ends with a colon.
 _SPACED = re.compile(
-    rf"{_COMMON}(?=\s|\Z)|(?P<sign>[+-](?=\s|[0-9.]|inf\b))|(?P<number>{_NUMBER})(?=\s|\Z)"
+    rf"{_SPACE}|{_COMMON}(?=\s|\Z)|(?P<sign>[+-](?=\s|[0-9.]|inf\b))|(?P<number>{_NUMBER})(?=\s|\Z)"
     r"|(?P<word>[^\s:]+(?::[^\s:]+)*)|(?P<colon>:)|(?P<star>\*)|(?P<other_space>[^\S \t\r\n]+)|(?P<bad>.)"
 )
 
@@ -52,7 +54,7 @@ class Tokens:
                 continue
             if kind == "other_space":
                 continue
-            token = Token("sign" if kind == "minus" else kind, found[0], found.start(), found.end(), line)
+            token = tuple.__new__(Token, ("sign" if kind == "minus" else kind, found[0], found.start(), found.end(), line))  # in half of the time
             (self.comments if kind == "comment" else self.all).append(token)
             if kind == "word" and token.text.lower() == "end" and self._ends_file(token, dialect):
                 break  # whatever comes after it is ignored
