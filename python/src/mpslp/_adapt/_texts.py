@@ -2,7 +2,9 @@
 
 # Annotations are evaluated here: the classes say that they are of the package, whose names are fewer.
 
-from collections.abc import Collection, Mapping
+import gc
+from collections.abc import Collection, Iterator, Mapping
+from contextlib import contextmanager
 from dataclasses import dataclass, replace
 from typing import Optional
 
@@ -66,9 +68,10 @@ def adapted_from(content: bytes, format: Format, dialect: Optional[str], kinds: 
     for rule in (decompressed, decoded, with_line_feeds, without_end_of_file_byte):
         content = rule(content, log)
     before = content.decode("latin-1")
-    after, names = rewritten(before, format, dialect, log)
-    changes = tuple(sorted(log.changes, key=lambda change: change.line))
-    require_the_same(before, after, format, dialect, changes, names)
+    with without_collection():
+        after, names = rewritten(before, format, dialect, log)
+        changes = tuple(sorted(log.changes, key=lambda change: change.line))
+        require_the_same(before, after, format, dialect, changes, names)
     text = after.encode("latin-1")
     require_accepted(text, format, log.source_lines)
     return Adapted(text, format, changes, {as_read(given): name for given, name in names.items()}, tuple(log.notes))
@@ -77,6 +80,18 @@ def adapted_from(content: bytes, format: Format, dialect: Optional[str], kinds: 
 def rewritten(text: str, format: Format, dialect: Optional[str], log: Log) -> tuple[str, dict[str, str]]:
     """A text in latin-1 as mpslp reads it, and the names written instead of names given."""
     return adapt_lp(text, dialect, log) if format == "lp" else adapt_mps(text, dialect, log)
+
+
+@contextmanager
+def without_collection() -> Iterator[None]:
+    """Does not look for cycles among the tokens of a text, which have none: that takes a sixth of the time."""
+    was_enabled = gc.isenabled()
+    gc.disable()
+    try:
+        yield
+    finally:
+        if was_enabled:
+            gc.enable()
 
 
 def as_read(text: str) -> str:
