@@ -131,12 +131,16 @@ class _Adapter:
         if self.reader.dialect != "pulp":
             return
         for name in self.context.names.written:
+            if name[0] in "+-<>=":
+                raise AdaptError(self.line_of(name), f"{name} is a name for PuLP, which writes no such names: correct it, or write a space after the sign")
             parts = Tokens(name, None).all[:-1]
             words = [part.text for part in parts if part.kind == "word"]
             is_sum = any(part.kind in ("sign", "relation") for part in parts)
             if is_sum and words and all(word in self.context.columns for word in words):
-                line = next(token.line for token in self.reader.tokens.all if token.text == name)
-                raise AdaptError(line, f"{name} is a name for PuLP, and may be {' '.join(part.text for part in parts)}: write spaces, or rename it")
+                raise AdaptError(self.line_of(name), f"{name} is a name for PuLP, and may be {' '.join(part.text for part in parts)}: write spaces, or rename it")
+
+    def line_of(self, word: str) -> int:
+        return next(token.line for token in self.reader.tokens.all if token.text == word)
 
     @property
     def has_text_after_end(self) -> bool:
