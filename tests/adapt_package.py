@@ -1,10 +1,13 @@
 """The modules of the Python package that need no library, for scripts that run without the wheel.
 
 If the package is installed, it is that one; else the sources of this repository, or those in the directory
-MPSLP_SOURCES, with a stand-in for the library, which runs the program mpslp.
+MPSLP_SOURCES, with a stand-in for the library, which runs the program mpslp. What the program said of a text is kept, for
+other scripts, too, if there is a file MPSLP_ANSWERS.
 """
 
+import atexit
 import importlib.util
+import json
 import os
 import re
 import subprocess
@@ -29,18 +32,41 @@ def _stand_in():
     package._mpslp = library
 
 
+class _UnknownArrays:
+    """The arrays of a text that the program accepts, as far as adapt asks: a column without coefficients, as there may be one."""
+
+    def doubles(self):
+        return bytes(8), bytes(8)
+
+
 def _load(content, number):
     """Raises the error of the program if it rejects a text; without the program each text is accepted."""
     from mpslp._faults import ModelFileError
 
     if not PROGRAM.exists():
-        return
-    done = subprocess.run([PROGRAM, "canon", FORMATS[number], "mps", "-"], input=content, capture_output=True)
-    if done.returncode:
-        line, kind, name = re.search(rb"(?:line (\d+)|file): (\w+)(?: (\S+))?", done.stderr).groups()
-        raise ModelFileError(kind.decode(), line and int(line), name and name.decode("latin-1"))
+        return _UnknownArrays()
+    key = f"{FORMATS[number]} {content.decode('latin-1')}"
+    if key not in _answers:
+        done = subprocess.run([PROGRAM, "canon", FORMATS[number], "mps", "-"], input=content, capture_output=True)
+        _answers[key] = done.stderr.decode("latin-1") if done.returncode else ""
+    if _answers[key]:
+        line, kind, name = re.search(r"(?:line (\d+)|file): (\w+)(?: (\S+))?", _answers[key]).groups()
+        raise ModelFileError(kind, line and int(line), name)
+    return _UnknownArrays()
 
 
+def _load_answers():
+    """What the program said of texts, from the file MPSLP_ANSWERS; if there is none, it is written at the end."""
+    path = Path(os.environ["MPSLP_ANSWERS"])
+    if path.exists():
+        _answers.update(json.loads(path.read_text()))
+    else:
+        atexit.register(lambda: path.write_text(json.dumps(_answers)))
+
+
+_answers = {}
+if "MPSLP_ANSWERS" in os.environ:
+    _load_answers()
 if GIVEN or importlib.util.find_spec("mpslp") is None or importlib.util.find_spec("mpslp._adapt") is None:
     _stand_in()
 

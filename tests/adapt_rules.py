@@ -7,21 +7,25 @@ is put into a small file, which is adapted. The text has to be the one with the 
 after, all changes have to be of the kind, and adapting it again has to change
 nothing. Rows of the kind "stop" are left with an error that contains the text; it may
 start with the line. The dialect "header" is that of the program that the first lines of
-the file name.
+the file name. Files of the kind "note" are accepted, with a note that contains the text.
 
 With the program, what is before has to be rejected, unless a dialect is given, and
 what is after has to be accepted. Each row of the table has to be in docs/DIALECTS.md.
 
 With --wrong the rules are made wrong one by one, as adapt_wrong.tsv says: the
-examples have to find each.
+examples have to find each, and each example has to find one.
 """
 
 import argparse
 import csv
 import os
+import re
+import shutil
 import subprocess
 import sys
 import tempfile
+from concurrent.futures import ThreadPoolExecutor
+from dataclasses import dataclass
 from pathlib import Path
 
 from adapt_package import AdaptError, adapt_text
@@ -31,7 +35,11 @@ PROGRAM = ROOT / "crates" / "mpslp" / "out" / "mpslp"
 TABLE = ROOT / "docs" / "adapt.tsv"
 PAGE = ROOT / "docs" / "DIALECTS.md"
 WRONG = ROOT / "tests" / "adapt_wrong.tsv"
+SOURCES = ROOT / "python" / "src" / "mpslp"
+PROCESSES = 4
 BY_HEADER = "header"
+LEFT_OR_NOTED = ("stop", "note")
+"""Kinds of examples that are no changes."""
 MPS = """NAME  FRAME
 {head}ROWS
  N  COST
@@ -97,11 +105,15 @@ def differences(row, program):
     except AdaptError as error:
         if row["kind"] != "stop":
             yield f"left: {error}"
-        elif unescaped(row["after"]).strip() not in str(error):
+        elif unescaped(row["after"]).strip().encode("latin-1").decode("utf-8") not in str(error):
             yield f"left for another reason: {error}"
         return
     if row["kind"] == "stop":
         yield f"adapted, with {len(done.changes)} changes"
+        return
+    if row["kind"] == "note":
+        if not any(unescaped(row["after"]) in str(note) for note in done.notes):
+            yield f"other notes: {[str(note) for note in done.notes]}"
         return
     if done.text != framed(row, row["after"]):
         yield f"adapted to {done.text!r}"
@@ -136,9 +148,11 @@ def is_read(program, format, text):
     return done.returncode == 0
 
 
-def check(program):
+def check(program, format="all"):
     found, tried = [], rows()
     for number, row in enumerate(tried, 2):
+        if format not in ("all", row["format"]):
+            continue
         try:
             reported = list(differences(row, program))
         except Exception as error:  # a rule that is wrong may fail in any way
@@ -158,7 +172,7 @@ def missing_in_page(table, line_of, path=PAGE):
 def table_line(row):
     """The row of the page's tables for an example."""
     before, after = (shown(row[name]) for name in ("before", "after"))
-    if row["kind"] == "stop":
+    if row["kind"] in LEFT_OR_NOTED:
         return f"| {before} | {row['what']} |"
     dialect = "by its header" if row["dialect"] == BY_HEADER else f"`--from {row['dialect']}`" if row["dialect"] else ""
     return f"| `{row['kind']}` | {dialect} | {before} | {after or '(nothing)'} | {row['what']} |"
@@ -170,27 +184,79 @@ def shown(cell):
     return "<br>".join(f"`{line}`" for line in lines if line)
 
 
-def wrong_rules(script, wrong=WRONG, package="_adapt"):
-    """Whether the examples of a script find each of the wrong rules: lines for those that they do not find."""
-    sources = ROOT / "python" / "src"
-    for number, row in enumerate(rows(wrong), 2):
-        with tempfile.TemporaryDirectory() as folder:
-            subprocess.run(["cp", "-r", sources, folder], check=True)
-            module = Path(folder) / "src" / "mpslp" / package / row["module"]
+@dataclass(frozen=True)
+class Tried:
+    """A wrong rule that was tried: its line in the table, and what the script says; or why it could not be tried."""
+
+    line: int
+    row: dict
+    output: str
+    error: str = ""
+
+
+def tried_wrong(script, wrong, package, options_for):
+    """Runs a script with each of the wrong rules, several at a time; ``options_for`` has the options for a module."""
+    with tempfile.TemporaryDirectory() as folder, ThreadPoolExecutor(PROCESSES) as pool:
+        answers = Path(folder) / "answers"
+        run_with(SOURCES, script, answers)  # so that the program has to say only once what it says of each text
+
+        def tried(numbered):
+            line, row = numbered
+            made = Path(folder) / str(line)
+            shutil.copytree(SOURCES, made)
+            module = made / package / row["module"]
             text = module.read_text(encoding="utf-8")
             if text.count(row["right"]) != 1:
-                yield f"tests/{wrong.name}:{number}: {row['right']!r} is not in {row['module']} once"
-                continue
+                return Tried(line, row, "", f"{row['right']!r} is not in {row['module']} once")
             module.write_text(text.replace(row["right"], row["wrong"]), encoding="utf-8")
-            environment = {**os.environ, "MPSLP_SOURCES": str(Path(folder) / "src" / "mpslp")}
-            if subprocess.run([sys.executable, "-B", script], env=environment, capture_output=True).returncode == 0:
-                yield f"tests/{wrong.name}:{number}: no example finds {row['wrong']!r} instead of {row['right']!r}"
+            done = run_with(made, script, answers, *options_for(row["module"]))
+            shutil.rmtree(made)
+            return Tried(line, row, done.stdout if done.returncode else "")
+
+        yield from pool.map(tried, enumerate(rows(wrong), 2))
+
+
+def run_with(sources, script, answers, *options):
+    """Runs a script with other sources of the package."""
+    environment = {**os.environ, "MPSLP_SOURCES": str(sources), "MPSLP_ANSWERS": str(answers)}
+    return subprocess.run([sys.executable, "-B", script, *options], env=environment, capture_output=True, text=True)
+
+
+def not_found(tried, wrong):
+    """A line for each wrong rule that no example finds."""
+    for each in tried:
+        if each.error:
+            yield f"tests/{wrong.name}:{each.line}: {each.error}"
+        elif not each.output:
+            yield f"tests/{wrong.name}:{each.line}: no example finds {each.row['wrong']!r} instead of {each.row['right']!r}"
+
+
+def wrong_rules(script, wrong, package):
+    """Whether the examples of a script find each of the wrong rules: lines for those that they do not find."""
+    yield from not_found(tried_wrong(script, wrong, package, lambda module: ()), wrong)
+
+
+def wrong_rules_of_adapt():
+    """Whether the examples find each of the wrong rules, and whether each example finds one."""
+    tried = list(tried_wrong(__file__, WRONG, "_adapt", format_options))
+    yield from not_found(tried, WRONG)
+    found = {int(line) for each in tried for line in re.findall(rf"^docs/{TABLE.name}:(\d+): ", each.output, re.MULTILINE)}
+    for number, row in enumerate(rows(), 2):
+        if number not in found:
+            yield f"docs/{TABLE.name}:{number}: no rule of tests/{WRONG.name} is wrong for it: {row['before']}"
+
+
+def format_options(module):
+    """Only the examples of a format can find what is wrong in a module of this format."""
+    format = re.match(r"_(lp|mps)[_.]", module)
+    return ("--rules", format[1]) if format is not None else ("--rules", "all")
 
 
 def arguments(description):
     parser = argparse.ArgumentParser(description=description, formatter_class=argparse.RawDescriptionHelpFormatter)
     parser.add_argument("--program", type=Path, default=PROGRAM, help="the path of mpslp")
     parser.add_argument("--wrong", action="store_true", help="make the rules wrong one by one")
+    parser.add_argument("--rules", choices=("lp", "mps", "all"), help="only the examples of a format, and not what the program says of them")
     parser.add_argument("--table", action="store_true", help="print the tables of docs/DIALECTS.md")
     return parser.parse_args()
 
@@ -198,11 +264,16 @@ def arguments(description):
 def main():
     options = arguments(__doc__)
     if options.table:
-        for kind in ("mps", "lp"):
-            for is_stop in (False, True):
-                print(*[table_line(row) for row in rows() if row["format"] == kind and (row["kind"] == "stop") == is_stop], "", sep="\n")
+        for format in ("mps", "lp"):
+            for kind in ("", *LEFT_OR_NOTED):
+                of_kind = [row for row in rows() if row["format"] == format and kind == (row["kind"] if row["kind"] in LEFT_OR_NOTED else "")]
+                print(*map(table_line, of_kind), "", sep="\n")
         return 0
-    return conclude(options, check, TABLE, table_line, lambda: wrong_rules(__file__))
+    if options.rules:
+        found, _ = check(None, options.rules)
+        print(*found, sep="\n")
+        return 1 if found else 0
+    return conclude(options, check, TABLE, table_line, wrong_rules_of_adapt)
 
 
 def conclude(options, check, table, line, try_wrong, page=PAGE):

@@ -97,7 +97,7 @@ class Calls(unittest.TestCase):
 
     def test_the_kinds_are_those_of_the_examples(self):
         rows = adapt_rules.rows()
-        found = {(row["format"], row["kind"]) for row in rows if row["kind"] not in ("stop", *_changes.FILE_KINDS)}
+        found = {(row["format"], row["kind"]) for row in rows if row["kind"] not in (*adapt_rules.LEFT_OR_NOTED, *_changes.FILE_KINDS)}
         self.assertEqual(found, {*(("mps", kind) for kind in _changes.MPS_KINDS), *(("lp", kind) for kind in _changes.LP_KINDS)})
 
     def test_what_is_still_rejected_is_left(self):
@@ -227,6 +227,18 @@ class Calls(unittest.TestCase):
                 done = mpslp.adapt(text, format)
                 self.assertEqual((done.text, done.changes, [note.line for note in done.notes]), (text, (), [line]))
 
+    def test_notes_of_a_text_that_is_read_in_part(self):
+        columns = "".join(f"    X{number}  A  1\n" for number in range(50))
+        text = f"{ROWS}COLUMNS\n{columns}*SENSE:Maximize\n    Y  C  1\nRHS\n    RHS  C  5\nBOUNDS\n*SENSE:Maximize\n UP  BND  Y  4\nENDATA\nRHS\n"
+        for end in ("\n", "\r\n"):
+            with self.subTest(end):
+                done = mpslp.adapt(text.replace("\n", end).encode(), "mps", "none")
+                self.assertEqual([note.line for note in done.notes], [55, 58])
+        for row, line in (("x >= 2 + y <= 5", 3), ("x >= \\ <\n -2 - y <= 5", 4), ("x >= -inf + y <= 5", 3), ("x >= 2e-1\n+ y <= 5", None), ("-1 <= x - y <= 5", None)):
+            with self.subTest(row):
+                notes = mpslp.adapt(f"min x\nst\n{row}\nend\n".encode(), "lp").notes
+                self.assertEqual([note.line for note in notes], [] if line is None else [line])
+
     def test_compressed_bytes(self):
         done = mpslp.adapt(gzip.compress((EXAMPLES / "small.mps").read_bytes()), "mps")
         self.assertEqual(done.text, (EXAMPLES / "small.mps").read_bytes())
@@ -296,7 +308,7 @@ class TheCheckOfLp(unittest.TestCase):
 
     def difference(self, before, after, names={}):
         read = _check_lp.readings
-        found = _check_lp.differences(read(before, None), read(after, None, is_profile=True), names)
+        found = _check_lp.differences(read(before, None), read(after, None, is_of_mpslp=True), names)
         return None if found is None else found.text
 
     def test_the_same(self):

@@ -3,28 +3,32 @@
 from __future__ import annotations
 
 from collections.abc import Sequence
-from typing import Optional
+from typing import TYPE_CHECKING, Optional
 
 from mpslp import _mpslp
 from mpslp._adapt._changes import AdaptError
 from mpslp._faults import ModelFileError
 from mpslp._sources import Format, format_number
 
+if TYPE_CHECKING:
+    from mpslp._mpslp import Arrays
 
-def rejection_of(content: bytes, format: Format) -> Optional[ModelFileError]:
-    """Why mpslp rejects a text, or None."""
+
+def accepted(content: bytes, format: Format) -> Optional[Arrays]:
+    """The arrays of a text that mpslp accepts, or None."""
     try:
-        _mpslp.load(content, format_number(format))
-    except ModelFileError as error:
-        return error
-    return None
+        return _mpslp.load(content, format_number(format))
+    except ModelFileError:
+        return None
 
 
 def require_accepted(content: bytes, format: Format, source_lines: Sequence[int]) -> None:
     """Raises AdaptError, with the line of the source, for a text that mpslp rejects."""
-    error = rejection_of(content, format)
-    if error is None:
+    try:
+        _mpslp.load(content, format_number(format))
         return
+    except ModelFileError as rejection:
+        error = rejection
     line = error.line
     if line is not None and source_lines and line <= len(source_lines):
         line = source_lines[line - 1]

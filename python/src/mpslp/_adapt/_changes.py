@@ -111,12 +111,17 @@ class Log:
         self.changes.append(Change(line, kind, shown(before), shown(after)))
 
     def note(self, line: int, text: str) -> None:
-        self.notes.append(Note(line, text))
+        self.notes.append(Note(line, readable(text)))
+
+
+def readable(text: str) -> str:
+    """Text in latin-1, a character for each byte, as people read it."""
+    return text.encode("latin-1", "backslashreplace").decode("utf-8", "backslashreplace")
 
 
 def shown(text: str) -> str:
-    """Text in latin-1, a character for each byte, as people read it: on one line, and short."""
-    text = " ".join(text.encode("latin-1").decode("utf-8", "backslashreplace").split())
+    """Text in latin-1, as people read it: on one line, and short."""
+    text = " ".join(readable(text).split())
     return text if len(text) <= _MOST_SHOWN else f"{text[:_MOST_SHOWN]}.."
 
 

@@ -73,7 +73,7 @@ def check_lp(source: str, written: str, dialect: Optional[str], names: Mapping[s
     except Unreadable as error:
         raise AdaptError(error.line, f"the file has more than one reading, or none: {error.reason}") from error
     try:
-        after = readings(written, None, is_profile=True)
+        after = readings(written, None, is_of_mpslp=True)
     except Unreadable as error:
         raise AdaptError(1, f"{INTERNAL_ERROR}: line {error.line} of the result: {error.reason}") from error
     found = differences(before, after, names)
@@ -128,8 +128,8 @@ def _is_same_row(before: RowReading, after: RowReading, names: Mapping[str, str]
 # ---- the reading
 
 
-def readings(text: str, dialect: Optional[str], is_profile: bool = False) -> Reading:
-    """What a text declares; raises Unreadable where it has no reading, or two. In the profile a number after a relation ends its row."""
+def readings(text: str, dialect: Optional[str], is_of_mpslp: bool = False) -> Reading:
+    """What a text declares; raises Unreadable where it has no reading, or two. For mpslp a number after a relation ends its row."""
     tokens = tokens_of(text, dialect)
     reading = Reading()
     ranges = {token.line for token in tokens if token.kind == "range"} if dialect == "qsopt" else set()
@@ -139,7 +139,7 @@ def readings(text: str, dialect: Optional[str], is_profile: bool = False) -> Rea
             reading.is_max = name == "max"
             _read_objective(reading, body, tokens, dialect)
         elif name == "rows":
-            _read_rows(reading, body, is_profile)
+            _read_rows(reading, body, is_of_mpslp)
         elif name == "bounds":
             _read_bounds(reading, body)
         elif name != "end":
@@ -162,17 +162,17 @@ def _read_objective(reading: Reading, body: Sequence[LpToken], tokens: Sequence[
         reading.constant = -side.constant
 
 
-def _read_rows(reading: Reading, body: Sequence[LpToken], is_profile: bool) -> None:
+def _read_rows(reading: Reading, body: Sequence[LpToken], is_of_mpslp: bool) -> None:
     """The rows of a section: those between two labels are taken apart by their relations."""
-    starts = [at for at in range(len(body) - 1) if body[at + 1].kind == "colon"]
-    for start, end in zip([0, *starts], [*starts, len(body)]):
-        if start == end:
-            continue
-        label = body[start].text if start in starts else None
-        _read_block(reading, label, body[start + 2 : end] if label is not None else body[start:end], is_profile)
+    starts = [at - 1 for at, token in enumerate(body) if at and token.kind == "colon"]
+    first = starts[0] if starts else len(body)
+    if first:
+        _read_block(reading, None, body[:first], is_of_mpslp)
+    for start, end in zip(starts, [*starts[1:], len(body)]):
+        _read_block(reading, body[start].text, body[start + 2 : end], is_of_mpslp)
 
 
-def _read_block(reading: Reading, label: Optional[str], body: Sequence[LpToken], is_profile: bool) -> None:
+def _read_block(reading: Reading, label: Optional[str], body: Sequence[LpToken], is_of_mpslp: bool) -> None:
     relations = [at for at, token in enumerate(body) if token.kind == "relation"]
     if not relations:
         raise Unreadable(body[0].line if body else 1, "a row without a relation")
@@ -187,7 +187,7 @@ def _read_block(reading: Reading, label: Optional[str], body: Sequence[LpToken],
         if at + used < len(relations):
             last = relations[at + used - 1] + 1
             gap = body[last : relations[at + used]]
-            end = last + (side_length(gap) if is_profile else split_of(gap))
+            end = last + (side_length(gap) if is_of_mpslp else split_of(gap))
         marks = relations[at : at + used]
         sides = [side_of(body[first:last]) for first, last in zip([start, *(mark + 1 for mark in marks)], [*marks, end])]
         reading.rows.append(_row(label, sides, [body[mark] for mark in marks], body[start], body[end - 1]))
@@ -235,7 +235,7 @@ def atoms_of(tokens: Sequence[LpToken]) -> list[Atom]:
 
 
 def side_length(tokens: Sequence[LpToken]) -> int:
-    """How many tokens a right-hand side of the profile has: a number and at most one sign."""
+    """How many tokens a right-hand side of mpslp's LP format has: a number and at most one sign."""
     length = 2 if tokens and tokens[0].kind == "sign" else 1
     if len(tokens) < length or tokens[length - 1].kind != "number":
         raise Unreadable(tokens[0].line if tokens else 1, "no number after a relation")

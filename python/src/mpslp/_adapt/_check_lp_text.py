@@ -12,12 +12,11 @@ Limit = Union[Fraction, float]
 """A number, or an infinite one."""
 
 _TOKEN = re.compile(
-    r"(?P<space>\s+)|\\(?P<comment>[^\n]*)|(?P<relation>[<>]=?|=[<>=]?|\xe2\x89[\xa4\xa5])|(?P<sign>[+-]|\xe2\x88\x92)"
-    r"|(?P<number>(?:\d+(?:\.\d*)?|\.\d+)(?:[eE][+-]?\d+)?(?:\#inf)?)|(?P<colon>:)|(?P<star>\*)"
-    r"|(?P<name>(?:(?!\xe2\x89[\xa4\xa5]|\xe2\x88\x92)[^\s\\<>=:*^+\-\[\]]|\[[^\s\[\]<>=*^]*\])+)|(?P<other>.)",
-    re.IGNORECASE,
+    r"[ \t]*(?:(?P<space>\s+)|(?P<sign>[+-]|\xe2\x88\x92)|(?P<number>(?:\d+(?:\.\d*)?|\.\d+)(?:[eE][+-]?\d+)?(?:\#[iI][nN][fF])?)"
+    r"|(?P<name>(?:[^\s\\<>=:*^+\-\[\]\xe2]+|(?!\xe2\x89[\xa4\xa5]|\xe2\x88\x92)\xe2|\[[^\s\[\]<>=*^]*\])+)|\\(?P<comment>[^\n]*)"
+    r"|(?P<relation>[<>]=?|=[<>=]?|\xe2\x89[\xa4\xa5])|(?P<colon>:)|(?P<star>\*)|(?P<other>\S)|\Z)"
 )
-_TOKEN_OF_QSOPT = re.compile(_TOKEN.pattern.replace(r"|(?P<number>", r"|(?P<number>\d+/\d+(?![\d.])|"), re.IGNORECASE)
+_TOKEN_OF_QSOPT = re.compile(_TOKEN.pattern.replace(r"|(?P<number>", r"|(?P<number>\d+/\d+(?![\d.])|"))
 _LINE_END = re.compile(r"[ \t\r]*(?:\\|\n|\Z)")
 _WORD_OF_PULP = re.compile(r"\\(?P<comment>[^\n]*)|(?P<word>\S+)|(?P<space>\s+)")
 _NUMBER = re.compile(r"(?:\d+(?:\.\d*)?|\.\d+)(?:[eE]([+-]?\d+))?")
@@ -38,7 +37,7 @@ _HEADERS = {
 }
 _FIRST_WORDS = {header.split()[0] for header in _HEADERS}
 _MOST_DIGITS_OF_EXPONENT = 5
-_ONE = Fraction(1)
+_INFINITE = float("inf")
 
 
 class LpToken(NamedTuple):
@@ -49,6 +48,10 @@ class LpToken(NamedTuple):
     line: int
     is_joined: bool = False
     """Whether no space is before it."""
+
+
+new_token = tuple.__new__
+"""Makes a token in half of the time that the class needs: a file has many."""
 
 
 class Unreadable(Exception):
@@ -72,16 +75,19 @@ def tokens_of(text: str, dialect: Optional[str]) -> list[LpToken]:
 
 
 def _tokens(text: str, pattern: re.Pattern[str]) -> Iterator[LpToken]:
-    line, kind = 1, "space"
+    line, end = 1, 0  # where the last token ends
     for found in pattern.finditer(text):
-        is_space, kind = kind in ("space", "comment"), found.lastgroup or ""
+        kind = found.lastgroup or "space"
+        word = found[kind] or ""
         if kind == "space":
-            line += found[0].count("\n")
+            line += word.count("\n")
         elif kind == "comment":
-            yield from _remark(found["comment"], line)
+            yield from _remark(word, line)
         else:
-            yield _plain(kind, found[0], line, not is_space)
-            if kind == "name" and found[0].lower() == "end" and _LINE_END.match(text, found.end()):
+            is_joined = found.start(kind) == end
+            end = found.end()
+            yield new_token(LpToken, (kind, word, line, is_joined)) if kind == "number" else _plain(kind, word, line, is_joined)
+            if kind == "name" and len(word) == 3 and word.lower() == "end" and _LINE_END.match(text, end):
                 return
 
 
@@ -96,15 +102,15 @@ def _remark(text: str, line: int) -> Iterator[LpToken]:
 
 def _plain(kind: str, text: str, line: int, is_joined: bool = False) -> LpToken:
     if kind == "relation":
-        sense = "<" if "<" in text or text.endswith("\xa4") else ">" if ">" in text or text.endswith("\xa5") else "="
-        return LpToken(kind, sense, line)
-    if kind == "sign":
-        return LpToken(kind, "+" if text == "+" else "-", line)
-    if kind == "name" and text.lower() in _INFINITE_WORDS:
-        return LpToken("number", "inf", line)
-    if kind == "other":
+        text = "<" if "<" in text or text.endswith("\xa4") else ">" if ">" in text or text.endswith("\xa5") else "="
+        is_joined = False
+    elif kind == "sign":
+        text, is_joined = "+" if text == "+" else "-", False
+    elif kind == "name" and text[0] in "iI" and text.lower() in _INFINITE_WORDS:
+        kind, text, is_joined = "number", "inf", False
+    elif kind == "other":
         raise Unreadable(line, f"the sign {text}")
-    return LpToken(kind, text, line, is_joined)
+    return new_token(LpToken, (kind, text, line, is_joined))
 
 
 def _words_of_pulp(text: str) -> Iterator[LpToken]:
@@ -164,11 +170,12 @@ def sections_of(tokens: Sequence[LpToken], dialect: Optional[str]) -> list[tuple
             raise Unreadable(tokens[at].line, "no objective")
         token = tokens[at]
         at += 1
-        if token.kind == "number" and _is_label_with_digit(tokens, at - 1):
-            token = LpToken("name", token.text + tokens[at].text, token.line)
-            at += 1
-        elif token.kind == "number" and _is_label_of_number(tokens, at - 1):
-            token = token._replace(kind="name")
+        if token.kind == "number" and token.line != tokens[at - 2].line:
+            if _is_label_with_digit(tokens, at - 1):
+                token = LpToken("name", token.text + tokens[at].text, token.line)
+                at += 1
+            elif _is_label_of_number(tokens, at - 1):
+                token = token._replace(kind="name")
         found[-1][1].append(token)
     return found
 
@@ -249,8 +256,7 @@ def side_of(tokens: Sequence[LpToken]) -> Side:
         end = at
         while end < len(tokens) and tokens[end].kind != "sign":
             end += 1
-        name, number = _term(tokens[at:end], tokens[start].line)
-        number = -number if is_negative else number
+        name, number = _term(tokens[at:end], is_negative, tokens[start].line)
         if name is None:
             constant, constants = constant + number, constants + 1
         elif isinstance(number, float):
@@ -261,22 +267,46 @@ def side_of(tokens: Sequence[LpToken]) -> Side:
     return Side(terms, constant, constants)
 
 
-def _term(tokens: Sequence[LpToken], line: int) -> tuple[Optional[str], Limit]:
-    kinds = [token.kind for token in tokens]
-    names = [token.text for token in tokens if token.kind == "name"]
-    if kinds == ["name"] and names[0].lower() in INFINITE_SIDES:
-        return None, float("inf")
-    numbers = [token.text for token in tokens if token.kind == "number"]
-    shapes = (["number"], ["name"], ["number", "name"], ["number", "star", "name"], ["name", "star", "number"])
-    if kinds not in shapes:
+def _term(tokens: Sequence[LpToken], is_negative: bool, line: int) -> tuple[Optional[str], Limit]:
+    """The name of a term, or None for a constant, and its number."""
+    shape = "".join([token.kind[:2] for token in tokens])
+    places = _SHAPES.get(shape)
+    if places is None:
         raise Unreadable(line, "no term: " + " ".join(token.text for token in tokens))
-    number = number_of(numbers[0]) if numbers else _ONE
+    name = None if places.name is None else tokens[places.name].text
+    if shape == _NAME_ONLY and tokens[0].text.lower() in INFINITE_SIDES:
+        return None, -_INFINITE if is_negative else _INFINITE
+    number = signed_number("1" if places.number is None else tokens[places.number].text, is_negative)
     if number is None:
-        raise Unreadable(line, f"a division by 0: {numbers[0]}")
-    return (names[0] if names else None), number
+        raise Unreadable(line, f"a division by 0: {tokens[places.number or 0].text}")
+    return name, number
 
 
-@lru_cache(maxsize=10_000)
+class _Places(NamedTuple):
+    """Where in a term its number and its name are."""
+
+    number: Optional[int]
+    name: Optional[int]
+
+
+_NAME_ONLY = "na"
+_SHAPES = {
+    "nu": _Places(0, None),
+    _NAME_ONLY: _Places(None, 0),
+    "nuna": _Places(0, 1),
+    "nustna": _Places(0, 2),
+    "nastnu": _Places(2, 0),
+}
+"""The terms, by the first letters of the kinds of their tokens."""
+
+
+@lru_cache(maxsize=100_000)
+def signed_number(text: str, is_negative: bool) -> Optional[Limit]:
+    """The value of a number with a sign, or None for a division by 0."""
+    number = number_of(text)
+    return -number if is_negative and number is not None else number
+
+
 def number_of(text: str) -> Optional[Limit]:
     """The value of an unsigned number, or None for a division by 0."""
     if text.lower().endswith("inf"):

@@ -181,8 +181,8 @@ class _Scan:
             return
         if self.is_fixed and line.startswith(" "):
             padded = line.rstrip("\r")
-            words = [word for start, stop in _COLUMNS_OF_FIELDS if (word := padded[start:stop].strip())]
-            words += padded[61:].split()
+            words = [word for start, stop in _COLUMNS_OF_FIELDS if (word := padded[start:stop].strip(" "))]
+            words += [word for word in padded[61:].split(" ") if word]
         if words:
             read(words)
 

@@ -1,4 +1,4 @@
-"""Lines over the limit of the profile."""
+"""Lines over the limit of mpslp."""
 
 from __future__ import annotations
 

@@ -1,6 +1,6 @@
-"""LP files: from a file as it comes to a file of the profile.
+"""LP files: from a file as it comes to one in mpslp's LP format.
 
-The reader takes a larger language than the profile's. Each statement that is one of the profile stays as it is written;
+The reader takes a larger language than mpslp's LP format. Each statement that mpslp reads stays as it is written;
 others are written again. A rule replaces tokens by tokens, and the printer makes text of them.
 """
 
@@ -25,7 +25,7 @@ _LANGUAGE_OF_LP_SOLVE = "the LP language of lp_solve: convert it with lp_solve -
 
 
 def adapt_lp(text: str, dialect: Optional[str], log: Log) -> tuple[str, dict[str, str]]:
-    """The text of the profile, and the names written instead of names given."""
+    """The text that mpslp reads, and the names written instead of names given."""
     is_commented = re.match(r"\s*(?:/\*|//)", text) is not None
     if is_commented and _OBJECTIVE_OF_LP_SOLVE.search(text):
         raise AdaptError(1, _LANGUAGE_OF_LP_SOLVE)
@@ -33,6 +33,9 @@ def adapt_lp(text: str, dialect: Optional[str], log: Log) -> tuple[str, dict[str
     written = adapter.written()
     if log.changes or (dialect is not None and adapter.has_text_after_end):
         adapter.require_clear()
+    if log.changes:
+        adapter.bounds.note_lone_columns()
+        adapter.rows.note_rows_like_bounds()
     return written, adapter.context.names.written
 
 
@@ -130,12 +133,16 @@ class _Adapter:
         if self.reader.dialect != "pulp":
             return
         for name in self.context.names.written:
+            if name[0] in "+-<>=":
+                raise AdaptError(self.line_of(name), f"{name} is a name for PuLP, which writes no such names: correct it, or write a space after the sign")
             parts = Tokens(name, None).all[:-1]
             words = [part.text for part in parts if part.kind == "word"]
             is_sum = any(part.kind in ("sign", "relation") for part in parts)
             if is_sum and words and all(word in self.context.columns for word in words):
-                line = next(token.line for token in self.reader.tokens.all if token.text == name)
-                raise AdaptError(line, f"{name} is a name for PuLP, and may be {' '.join(part.text for part in parts)}: write spaces, or rename it")
+                raise AdaptError(self.line_of(name), f"{name} is a name for PuLP, and may be {' '.join(part.text for part in parts)}: write spaces, or rename it")
+
+    def line_of(self, word: str) -> int:
+        return next(token.line for token in self.reader.tokens.all if token.text == word)
 
     @property
     def has_text_after_end(self) -> bool:
@@ -162,6 +169,8 @@ class _Adapter:
         is_again = len({section.name for section in sections}) < len(sections)
         if not self.context.script.is_changed and not is_again:
             return self.short(self.text)
+        if not is_again:
+            return self.short(printed(cell for _, cell in self.context.script.cells(joins_tokens=True)))
         return self.short(printed(cell for part in self.parts() for cell in part))
 
     def parts(self) -> list[list[Cell]]:
@@ -193,7 +202,7 @@ def parted(script: Script, starts: list[int]) -> list[list[Cell]]:
     """The cells of a script, in a part for what is before the first place, and one for each place."""
     parts: list[list[Cell]] = [[] for _ in range(len(starts) + 1)]
     at = 0
-    for place, cell in script.cells():
+    for place, cell in script.cells(joins_tokens=False):
         while at < len(starts) and starts[at] <= place:
             at += 1
         parts[at].append(cell)

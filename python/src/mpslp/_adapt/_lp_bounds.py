@@ -2,6 +2,7 @@
 
 from __future__ import annotations
 
+from collections.abc import Collection, Sequence
 from typing import Optional
 
 from mpslp._adapt._changes import AdaptError, OtherLanguage
@@ -10,6 +11,13 @@ from mpslp._adapt._lp_parts import FLIPPED, Bound, BoundLine, sense_of
 from mpslp._adapt._lp_print import Cell, literal_cells, statement
 from mpslp._adapt._lp_sections import SECTIONS, SECTIONS_OF_OTHERS
 from mpslp._adapt._lp_tokens import Token
+from mpslp._adapt._names import parts_of
+
+_MOST_NOTES = 5
+"""Of columns that are named once."""
+
+_MOST_COMPARED = 20_000
+"""More names are not compared with them."""
 
 
 class BoundRules:
@@ -51,7 +59,7 @@ class BoundRules:
         """A column that is not in the objective and the rows may be another one with its name misspelt."""
         if name.text not in self.context.columns:
             self.new_columns.append((name, section))
-            self.context.columns[name.text] = name
+        self.context.take_column(name)
 
     def settle_bounds(self) -> None:
         """Bounds that are given again, and what a program means by bounds that it does not write."""
@@ -162,3 +170,20 @@ class BoundRules:
             name, section = self.new_columns[0]
             others = f" and {len(self.new_columns) - 1} more" if len(self.new_columns) > 1 else ""
             self.context.log.note(name.line, f"{name.text}{others} first named under {section}, after the rows: a new column")
+
+    def note_lone_columns(self) -> None:
+        """In a file that is changed, a column that is named once may be another one with its name misspelt: at most some notes."""
+        context, new = self.context, {name.text for name, _ in self.new_columns}
+        lone = [name for name in context.columns.values() if name.text not in context.named_again and name.text not in new]
+        shown = first_to_note(lone, context.named_again) if len(lone) > _MOST_NOTES else lone
+        for name in shown:
+            context.log.note(name.line, f"{name.text} is named only here: a column of its own, or another one misspelt")
+        if len(lone) > len(shown):
+            context.log.note(lone[-1].line, f"{len(lone) - len(shown)} more columns are named only once")
+
+
+def first_to_note(names: Sequence[Token], others: Collection[str]) -> list[Token]:
+    """Some names, those first that are another one with a letter more, less or changed, and those with other signs than letters."""
+    near = {part for other in others for part in parts_of(other)} if len(others) <= _MOST_COMPARED else set()
+    likely = [name for name in names if not near.isdisjoint(parts_of(name.text)) or not name.text.replace("_", "").isalnum()]
+    return (likely or [*names])[:_MOST_NOTES]

@@ -29,6 +29,8 @@ class Context:
         self.names = Names(is_lp_name, lambda: {each.text for each in reader.tokens.all if each.kind == "word"})
         self.columns: dict[str, Token] = {}
         """Each column, and where it is first."""
+        self.named_again: set[str] = set()
+        """The columns that are named more than once."""
 
     @property
     def first_column(self) -> Optional[str]:
@@ -37,7 +39,11 @@ class Context:
     def take_columns(self, items: Iterable[Item]) -> None:
         for item in items:
             if item.name is not None:
-                self.columns.setdefault(item.name.text, item.name)
+                self.take_column(item.name)
+
+    def take_column(self, name: Token) -> None:
+        if self.columns.setdefault(name.text, name) is not name:
+            self.named_again.add(name.text)
 
     # ---- what stays, and what is written again
 
@@ -117,7 +123,7 @@ class Context:
     # ---- numbers
 
     def literal(self, token: Token, is_limit: bool) -> str:
-        """A number of the profile."""
+        """A number that mpslp reads."""
         text = token.text
         if "/" in text:
             decimal = _numbers.fraction(text)
@@ -148,7 +154,7 @@ class Context:
         return text
 
     def side_literal(self, item: Item) -> str:
-        """A side of a row or a bound of the profile, with its sign."""
+        """A side of a row or a bound as mpslp reads it, with its sign."""
         number = item.numbers[0]
         return ("-" if item.sign < 0 else "") + ("inf" if item.is_infinite else self.literal(number, True))
 

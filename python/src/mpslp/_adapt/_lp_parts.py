@@ -84,7 +84,7 @@ def has_terms(items: Sequence[Item]) -> bool:
 
 
 def starts_with_side(item: Item) -> bool:
-    """Whether an item is, or starts with, a number that may be a side of the profile."""
+    """Whether an item is, or starts with, a number that mpslp reads as a side."""
     return bool(item.numbers) and item.signs <= 1 and not item.has_star
 
 

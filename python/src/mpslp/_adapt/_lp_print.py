@@ -3,6 +3,7 @@
 from __future__ import annotations
 
 import re
+from bisect import bisect_left
 from collections.abc import Iterable, Iterator, Sequence
 from functools import lru_cache
 from typing import NamedTuple
@@ -10,8 +11,10 @@ from typing import NamedTuple
 from mpslp._adapt._lp_tokens import Token, Tokens
 
 _LONGEST_ROW_LINE = 200
-# The longest match of the profile, at the start of a text.
-_PROFILE = re.compile(r"\\.*|<=|=<|<|>=|=>|>|==|=|::|:|->|(?:[0-9]+\.?[0-9]*|\.[0-9]+)(?:[eE][+-]?[0-9]+)?|[^\s\\<>=:*^+\-\[\]]+|.", re.DOTALL)
+_MOST_JOINED = 8
+"""Whether a token is joined to what is before it depends on so many of its letters at most."""
+# The longest token of mpslp's LP format, at the start of a text.
+_TOKEN = re.compile(r"\\.*|<=|=<|<|>=|=>|>|==|=|::|:|->|(?:[0-9]+\.?[0-9]*|\.[0-9]+)(?:[eE][+-]?[0-9]+)?|[^\s\\<>=:*^+\-\[\]]+|.", re.DOTALL)
 
 
 class Cell(NamedTuple):
@@ -48,27 +51,35 @@ class Script:
     def insert_after(self, token: Token, cells: Sequence[Cell]) -> None:
         self._edits.append(Edit(token.end, token.end, cells))
 
-    def cells(self) -> Iterator[tuple[int, Cell]]:
-        """The cells that are written, each with its place in the source."""
-        edits = iter(_outermost(self._edits))
-        edit = next(edits, None)
-        done, pending, is_cut = 0, "", False
-        for token, space in self._tokens.spaced():
-            while edit is not None and edit.start <= token.start and edit.start == edit.end:
-                yield from ((edit.start - 1, cell) for cell in edit.cells)
-                edit = next(edits, None)
-            if token.start < done:
-                continue
-            if edit is None or token.start < edit.start:
-                yield token.start, Cell(pending + space, token.text, is_cut)
+    def cells(self, joins_tokens: bool) -> Iterator[tuple[int, Cell]]:
+        """The cells that are written, each with its place in the source; tokens that stay side by side may be joined in one cell."""
+        starts = [token.start for token in self._tokens.all]
+        at, pending, is_cut = 0, "", False
+        for edit in _outermost(self._edits):
+            first = bisect_left(starts, edit.start, at)
+            if first > at:
+                yield from self._kept(at, first, Cell(pending, "", is_cut), joins_tokens)
                 pending, is_cut = "", False
+            at = first
+            if edit.start == edit.end:
+                yield from ((edit.start - 1, cell) for cell in edit.cells)
                 continue
-            space = pending + space + "".join(f"{comment}\n" for comment in self._tokens.comments_in(edit.start, edit.end))
+            at = bisect_left(starts, edit.end, first)
+            space = pending + self._tokens.space_before(first) + "".join(f"{comment}\n" for comment in self._tokens.comments_in(edit.start, edit.end))
             pending, is_cut = ("", False) if edit.cells else (space, True)
-            for at, cell in enumerate(edit.cells):
-                yield edit.start, cell if at else Cell(space + cell.space, cell.text)
-            done = edit.end
-            edit = next(edits, None)
+            for number, cell in enumerate(edit.cells):
+                yield edit.start, cell if number else Cell(space + cell.space, cell.text)
+        yield from self._kept(at, len(starts), Cell(pending, "", is_cut), joins_tokens)
+
+    def _kept(self, first: int, end: int, before: Cell, joins_tokens: bool) -> Iterator[tuple[int, Cell]]:
+        """The cells of tokens that stay, after the spaces of a cell."""
+        tokens = self._tokens.all
+        yield tokens[first].start, Cell(before.space + self._tokens.space_before(first), tokens[first].text, before.is_new)
+        if joins_tokens and end - first > 2:
+            yield tokens[first + 1].start, Cell("", self._tokens.text[tokens[first].end : tokens[end - 2].end], False)
+            first = end - 2
+        for at in range(first + 1, end):
+            yield tokens[at].start, Cell(self._tokens.space_before(at), tokens[at].text, False)
 
 
 def _outermost(edits: Iterable[Edit]) -> list[Edit]:
@@ -86,7 +97,7 @@ def printed(cells: Iterable[Cell]) -> str:
     last = Cell("", "")
     for cell in cells:
         space = cell.space
-        if not space and (cell.is_new or last.is_new) and last.text and not _are_apart(last.text, cell.text):
+        if not space and (cell.is_new or last.is_new) and last.text and not _are_apart(last.text, cell.text[:_MOST_JOINED]):
             space = " "
         parts += (space, cell.text)
         last = cell
@@ -98,7 +109,7 @@ def _are_apart(first: str, second: str) -> bool:
     """Whether two tokens without a space between them are read as these two."""
     if not second:
         return True
-    found = _PROFILE.match(first + second)
+    found = _TOKEN.match(first + second)
     if found is None or found.end() != len(first):
         return False
     return first not in ("+", "-", "<", ">", "=") or second[0] not in "<>=-+"

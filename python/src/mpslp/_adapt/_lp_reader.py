@@ -1,6 +1,6 @@
-"""The reader of LP files: statements of a larger language than the profile's, as tokens.
+"""The reader of LP files: statements of a larger language than mpslp's LP format, as tokens.
 
-Where line breaks decide, and a reader of the profile takes none into account, the reading of the profile holds if it has one.
+Line breaks have no meaning in mpslp's LP format. If it has one reading of what they would decide, that one is taken.
 """
 
 from __future__ import annotations
@@ -22,7 +22,7 @@ from mpslp._adapt._lp_tokens import Token, Tokens, look_alike, other_comment, pu
 from mpslp._adapt._names import RESERVED
 
 _WORDS_BEFORE_ERROR = 3
-_NO_BOUND = "no bound of the profile: a column and a number, or a column between two numbers"
+_NO_BOUND = "no bound of LP: a column and a number, or a column between two numbers"
 
 
 class Exponent(NamedTuple):
@@ -94,7 +94,7 @@ class Reader:
         if word == "semi" and second.text == "-":
             third = self.tokens.all[min(at + 2, len(self.tokens.all) - 1)]
             if third.text.lower() == "integer":
-                raise self.error("semi-integer columns: the profile has integer and semi-continuous ones", token)
+                raise self.error("semi-integer columns: mpslp has integer and semi-continuous ones", token)
             return "semis", 3
         return SECTIONS[word], 1
 
@@ -328,7 +328,7 @@ class Reader:
         self.unclear.append(AdaptError(first.line, f"a {what} starts within a line: start each {what} on a new line: {self.last.text} {first.text}"))
 
     def side(self, sides: list[list[Item]], count: int) -> list[Item]:
-        """What comes after a relation: in the profile a number ends the row, and what follows it starts the next one."""
+        """What comes after a relation: for mpslp a number ends the row, and what follows it starts the next one."""
         start = self.at
         self.is_after_terms = has_terms(sides[-1])
         items = self.items()
@@ -421,8 +421,8 @@ class Reader:
     def listed_name(self, section: str) -> Token:
         token = self.token
         if token.kind != "word":
-            raise self.error(f"under {section} the profile has names")
+            raise self.error(f"under {section} are only names")
         self.at += 1
         if self.token.kind == "colon":
-            raise self.error(f"under {section} the profile has names; general constraints are not supported", token)
+            raise self.error(f"under {section} are only names; general constraints are not supported", token)
         return token

@@ -92,10 +92,13 @@ class RowRules:
         self.empty_rows: list[Row] = []
         self.lone_names: list[tuple[Row, Token]] = []
         self.previous: Optional[Row] = None
+        self.like_bounds: Optional[Row] = None
+        """The first of the last rows, if they look as bounds."""
 
     def settle(self, row: Row) -> None:
         """Leaves a row, or writes it again."""
         context = self.context
+        self.like_bounds = (self.like_bounds or row) if is_like_bound(row) else None
         for side in row.sides:
             context.take_columns(side)
         if self.settle_range_of_qsopt(row):
@@ -119,7 +122,7 @@ class RowRules:
         if len(row.relations) == 2:
             terms, outer = row.sides[1], [row.sides[0], row.sides[2]]
             if any(has_terms(side) or len(side) != 1 for side in outer) or not has_terms(terms):
-                raise self.context.reader.error("between two relations the profile has terms, and outside numbers", row.first)
+                raise self.context.reader.error("in a row with two relations, terms are between them, and numbers outside", row.first)
             if [sense_of(relation) for relation in row.relations] not in (["<", "<"], [">", ">"]):
                 raise self.context.reader.error("two relations in a row are both at most, or both at least: write two rows", row.first)
             return terms, outer
@@ -154,7 +157,7 @@ class RowRules:
         return kinds + kinds_of_terms(terms + [each for side in outer for each in side if each.name is not None])
 
     def keep(self, row: Row, terms: list[Item], outer: list[list[Item]]) -> None:
-        """A row of the profile."""
+        """A row that mpslp reads as it is."""
         if row.label is not None:
             self.context.settle_name(row.label)
         for relation in row.relations:
@@ -213,6 +216,14 @@ class RowRules:
             cells = labelled(self.context.name_of(row.label), [*term_cells([("0", column)]), relation, *side])
             self.context.replace(row.first, row.last, ["row-without-terms"], cells)
 
+    # ---- what may not be meant
+
+    def note_rows_like_bounds(self) -> None:
+        """In a file that is changed and has no Bounds, rows at the end may be bounds whose header is lost."""
+        row, context = self.like_bounds, self.context
+        if row is not None and all(section.name != "bounds" for section in context.reader.sections):
+            context.log.note(row.first.line, f"{context.source(row.first, row.last)} is a row: if it is meant as a bound, write Bounds before it")
+
     # ---- what other programs have
 
     def settle_lone_names(self) -> None:
@@ -247,6 +258,13 @@ class RowRules:
         self.context.script.replace(row.first.start, row.last.end, [])
         self.previous = None
         return True
+
+
+def is_like_bound(row: Row) -> bool:
+    """Whether a row looks as a bound: a column without a label and a coefficient, and numbers."""
+    items = [item for side in row.sides for item in side]
+    named = [item for item in items if item.name is not None]
+    return row.label is None and len(named) == 1 and not named[0].numbers and not named[0].signs and len(items) == len(row.sides)
 
 
 def spelling(row: Row) -> list[tuple[int, str, str]]:

@@ -1,4 +1,4 @@
-"""The words of LP: senses, sections, infinities, and what the profile does not have."""
+"""The words of LP: senses, sections, infinities, and what mpslp does not have."""
 
 from __future__ import annotations
 
@@ -24,14 +24,14 @@ NOT_SUPPORTED = {
     "lazy constraints": "lazy constraints: move them under Subject To, or remove the section",
     "user cuts": "user cuts: move them under Subject To, or remove the section",
     "pwlobj": "a piecewise linear objective: write it with a column and a row for each piece",
-    "multi-objectives": "several objectives: the profile has one",
+    "multi-objectives": "several objectives: mpslp has one",
 }
 SECTIONS_OF_OTHERS = {
     **dict.fromkeys(("s.i.", "sin"), "semi-integer columns"),
     **dict.fromkeys(("s.c.", "sec"), "semi-continuous columns"),
     **dict.fromkeys(("p.i.", "pin"), "partial integer columns"),
 }
-"""Words that open a section for Xpress or lp_solve, on a line of their own: for the profile they are names."""
+"""Words that open a section for Xpress or lp_solve, on a line of their own: for mpslp they are names."""
 
 OTHER_TOKENS = {
     "->": "an indicator constraint: write it with a large coefficient",

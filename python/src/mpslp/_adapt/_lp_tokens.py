@@ -1,35 +1,33 @@
-"""The tokens of an LP file, with their places and lines; more words are names than in the profile."""
+"""The tokens of an LP file, with their places and lines; more words are names than for mpslp."""
 
 from __future__ import annotations
 
 import re
-import unicodedata
 from bisect import bisect_left
-from collections.abc import Iterator
 from typing import NamedTuple, Optional
 
 from mpslp._adapt._changes import AdaptError
+from mpslp._adapt._names import reason_against
 
 _ASCII = r"A-Za-z!\"#$%&()/,;?@_'`{}|~"
 _OTHER = r"(?!\xe2\x89[\xa4\xa5]|\xe2\x88\x92)[\x80-\xff]"
 _INDEX = r"\[[^\[\]\s^*<>=]*\]"
 _NUMBER = r"(?:[0-9]+\.?[0-9]*|\.[0-9]+)(?:[eE][+-]?[0-9]+)?"
 _RELATION = r"<=|=<|<|>=|=>|>|==|=|\xe2\x89[\xa4\xa5]"
+_SPACE = r"(?P<space>[ \t\r\n]+)"
 _COMMON = rf"(?P<comment>\\[^\n]*)|(?P<relation>{_RELATION})|(?P<other>::|->)|(?P<minus>\xe2\x88\x92)"
+# What comes most often is first.
 _FREE = re.compile(
-    rf"{_COMMON}|(?P<number>{_NUMBER})|(?P<word>\.?(?:[{_ASCII}]|{_OTHER})(?:[{_ASCII}0-9.]+|{_OTHER}|{_INDEX})*)"
-    r"|(?P<sign>[+-])|(?P<colon>:)|(?P<star>\*)|(?P<space>[ \t\r\n]+)|(?P<bad>.)"
+    rf"{_SPACE}|(?P<number>{_NUMBER})|(?P<word>\.?(?:[{_ASCII}]|{_OTHER})(?:[{_ASCII}0-9.]+|{_OTHER}|{_INDEX})*)|{_COMMON}"
+    r"|(?P<sign>[+-])|(?P<colon>:)|(?P<star>\*)|(?P<bad>.)"
 )
 # Fractions are numbers for QSopt_ex.
 _FRACTIONS = re.compile(_FREE.pattern.replace("(?P<number>", "(?P<number>[0-9]+/[0-9]+(?![0-9.])|"))
 # PuLP puts spaces around each token, and has nearly every byte in its names; a label ends with a colon.
 _SPACED = re.compile(
-    rf"{_COMMON}(?=\s|\Z)|(?P<sign>[+-](?=\s|[0-9.]|inf\b))|(?P<number>{_NUMBER})(?=\s|\Z)"
-    r"|(?P<word>[^\s:]+(?::[^\s:]+)*)|(?P<colon>:)|(?P<star>\*)|(?P<space>\s+)|(?P<bad>.)"
+    rf"{_SPACE}|{_COMMON}(?=\s|\Z)|(?P<sign>[+-](?=\s|[0-9.]|inf\b))|(?P<number>{_NUMBER})(?=\s|\Z)"
+    r"|(?P<word>[^\s:]+(?::[^\s:]+)*)|(?P<colon>:)|(?P<star>\*)|(?P<other_space>[^\S \t\r\n]+)|(?P<bad>.)"
 )
-
-# Signs, dashes, spaces, digits above the line, and what is not seen.
-_NO_LETTERS = ("Sm", "Pd", "Zs", "Zl", "Zp", "No", "Cf", "Cc")
 
 
 class Token(NamedTuple):
@@ -54,19 +52,18 @@ class Tokens:
             if kind == "space":
                 line += found[0].count("\n")
                 continue
-            token = Token("sign" if kind == "minus" else kind, found[0], found.start(), found.end(), line)
+            if kind == "other_space":
+                continue
+            token = tuple.__new__(Token, ("sign" if kind == "minus" else kind, found[0], found.start(), found.end(), line))  # in half of the time
             (self.comments if kind == "comment" else self.all).append(token)
             if kind == "word" and token.text.lower() == "end" and self._ends_file(token, dialect):
                 break  # whatever comes after it is ignored
         self.all.append(Token("end", "", len(text), len(text), line))
         self._places_of_comments = [each.start for each in self.comments]
 
-    def spaced(self) -> Iterator[tuple[Token, str]]:
-        """Each token, with the spaces, line ends and comments before it."""
-        done = 0
-        for token in self.all:
-            yield token, self.text[done : token.start]
-            done = token.end
+    def space_before(self, at: int) -> str:
+        """The spaces, line ends and comments before a token."""
+        return self.text[self.all[at - 1].end if at else 0 : self.all[at].start]
 
     def before(self, token: Token) -> Token:
         return self.all[self.all.index(token) - 1]
@@ -90,7 +87,7 @@ class Tokens:
 
 
 def quadratic(token: Token) -> AdaptError:
-    return AdaptError(token.line, "a quadratic term: the profile has linear ones; remove it, or linearise it")
+    return AdaptError(token.line, "a quadratic term: mpslp has linear ones; remove it, or linearise it")
 
 
 def punctuation_after(number: Token, word: Token) -> Optional[AdaptError]:
@@ -107,12 +104,8 @@ def punctuation_after(number: Token, word: Token) -> Optional[AdaptError]:
 
 def look_alike(word: Token) -> Optional[AdaptError]:
     """The error of a word with a sign that looks like a space, a minus, an operator or a power; or None."""
-    if word.text.isascii():
-        return None
-    for letter in word.text.encode("latin-1").decode("utf-8", "replace"):
-        if not letter.isascii() and unicodedata.category(letter) in _NO_LETTERS:
-            return AdaptError(word.line, f"U+{ord(letter):04X} is no letter of a name: write the sign or the space of ASCII that is meant")
-    return None
+    reason = reason_against(word.text)
+    return None if reason is None else AdaptError(word.line, reason)
 
 
 def no_column(word: Token) -> Optional[AdaptError]:

@@ -2,6 +2,7 @@
 
 from __future__ import annotations
 
+import re
 from collections.abc import Callable, Sequence
 
 from mpslp._adapt._changes import AdaptError
@@ -26,8 +27,11 @@ from mpslp._adapt._mps_rules import (
     upper_row_type,
 )
 from mpslp._adapt._mps_state import MARKER, MARKERS, ROW_TYPES, UNVALUED, Bound, Row, State, is_plain, is_plain_bound
+from mpslp._adapt._names import reason_against
 from mpslp._adapt._numbers import LITERAL
 
+_WITH_PAIRS = ("COLUMNS", "RHS", "RANGES")
+_STARTS_AS_NUMBER = re.compile(r"[+-]?\.?[0-9]")
 SPECIAL_SETS = "special ordered sets: write them as rows with binary columns"
 
 
@@ -55,12 +59,20 @@ class DataLines:
     def replace_names(self, line: Line) -> None:
         """Replaces the names that no row or column may have; a set may have a long one."""
         fields = line.fields()
+        reason = next(filter(None, (reason_against(each) for at, each in enumerate(fields) if not self.is_wrong_number(fields, at))), None)
+        if reason is not None:
+            raise AdaptError(line.number, reason)
         is_pair_section = self.state.section.name in ("RHS", "RANGES")
         set_at = 1 if self.state.section.name == "BOUNDS" else 0 if is_pair_section and len(fields) % 2 else None
         written = [
-            each if is_no_name(each) or (at == set_at and each.isascii()) else self.state.names.of(each) for at, each in enumerate(fields)
+            each if is_no_name(each) or (at == set_at and each.isascii()) or self.is_wrong_number(fields, at) else self.state.names.of(each)
+            for at, each in enumerate(fields)
         ]
         self.rewrite(line, "name", written)
+
+    def is_wrong_number(self, fields: Sequence[str], at: int) -> bool:
+        """Whether a field is where a number comes, and starts as one; as a name it would not be shown as it is in the file."""
+        return self.state.section.name in _WITH_PAIRS and (at - len(fields) % 2) % 2 == 1 and _STARTS_AS_NUMBER.match(fields[at]) is not None
 
     # ---- the lines of each section
 
@@ -84,11 +96,18 @@ class DataLines:
             fields = line.fields()
             if not is_plain(state, fields, 1, (3, 5)):
                 raise wrong_pairs(state, line, 1, "a column")
-        state.column = fields[0]
-        state.columns.setdefault(state.column, state.is_marked)
+        if fields[0] != state.column:
+            self.next_column(line, fields[0])
         self.is_block_empty = False
 
     is_block_empty = False
+
+    def next_column(self, line: Line, name: str) -> None:
+        state = self.state
+        state.column = name
+        if name not in state.columns:
+            state.columns[name] = state.is_marked
+            state.column_lines.append(line.number)
 
     def marker(self, line: Line) -> None:
         self.apply(line, (upper_marker, marker_name, marker_trailing))

@@ -7,7 +7,7 @@ from typing import Optional
 from mpslp._adapt._changes import Log
 from mpslp._adapt._mps_lines import Line
 from mpslp._adapt._mps_state import MARKER, NAMED_SECTIONS
-from mpslp._adapt._names import Names, is_mps_name
+from mpslp._adapt._names import Names, is_mps_name, reason_against
 
 _FIELDS = ((1, 3), (4, 12), (14, 22), (24, 36), (39, 47), (49, 61))
 _GAPS = ((0, 1), (3, 4), (12, 14), (22, 24), (36, 39), (47, 49))
@@ -53,11 +53,13 @@ def _data_lines(lines: list[Line]) -> list[Line]:
 
 
 def _cut(line: Line) -> Optional[list[str]]:
-    """The fields of a line in fixed columns; or None if it is not so, or has a space in a number or text after the columns."""
+    """The fields of a line in fixed columns; or None if it is not so, or has a space in a number, text after the columns or a space of Unicode."""
     text = line.source
     if "\t" in text or text[_END:].strip(" ") or any(text[start:stop].strip(" ") for start, stop in _GAPS):
         return None
     fields = [text[start:stop].strip(" ") for start, stop in _FIELDS]
+    if any(reason_against(fields[at]) is not None for at in _NAMES):
+        return None
     return fields if all(" " not in field for at, field in enumerate(fields) if at not in _NAMES) else None
 
 

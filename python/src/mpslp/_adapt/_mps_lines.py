@@ -93,10 +93,10 @@ class Section:
         return [line for line in self.lines if line.is_data() and not line.is_dropped and not line.is_empty()]
 
 
-def lines_of(text: str) -> list[Line]:
-    """The lines of a text in latin-1."""
+def lines_of(text: str, first: int = 1) -> list[Line]:
+    """The lines of a text in latin-1, of which the first has this number."""
     lines = []
-    for number, part in enumerate(text.split("\n"), 1):
+    for number, part in enumerate(text.split("\n"), first):
         end = "\r\n" if part.endswith("\r") else "\n"
         lines.append(Line(number, part[:-1] if end == "\r\n" else part, end))
     last = lines[-1]

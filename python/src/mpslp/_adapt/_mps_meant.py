@@ -9,10 +9,14 @@ from mpslp._adapt._changes import AdaptError
 from mpslp._adapt._mps_dialects import ObjectiveSide
 from mpslp._adapt._mps_lines import Line, Section, added_data
 from mpslp._adapt._mps_state import State
-from mpslp._adapt._numbers import parts
+from mpslp._adapt._names import are_near
+from mpslp._adapt._numbers import LITERAL, parts
 
 NEGATED = "* the number on the objective is negated: it was that of another dialect"
 """The comment before a line whose number was negated; a file that has it is not changed again."""
+
+_MOST_NOTES = 5
+"""Of columns that may be misspelt."""
 
 _LOWER = ("LO", "LI", "MI", "FX", "FR", "BV")
 
@@ -30,12 +34,43 @@ class Meant:
         self.give_the_constant()
         self.declare_columns()
         self.give_bounds()
+        if self.state.log.changes:
+            self.check_columns()
 
     def found(self, name: str) -> Optional[Section]:
         return next((each for each in self.sections if each.name == name), None)
 
     def comments(self) -> Sequence[Line]:
         return [line for section in self.sections for line in section.lines if line.is_comment()]
+
+    # ---- what may not be meant
+
+    def check_columns(self) -> None:
+        """In a file that is changed, a number or a sign that is read as a column is not meant as one; others are noted."""
+        names, lines = list(self.state.columns), self.state.column_lines
+        notes = []
+        for at, (name, line) in enumerate(zip(names, lines)):
+            if not any(map(str.isalnum, name)) or (LITERAL.fullmatch(name) and not name.isdigit()):
+                what = "a number" if LITERAL.fullmatch(name) else "a sign"
+                raise AdaptError(line, f"{name}, where a column is expected, is {what}: correct the line, or rename the column")
+            if at + 1 == len(names) or lines[at + 1] == line + 1:  # the column has one line
+                others = (*names[max(at - 1, 0) : at], *names[at + 1 : at + 2])
+                reason = self.other_meaning(name, others, names[0].isdigit())
+                notes += [] if reason is None else [(line, reason)]
+        if names and self.found("RHS") is None and names[-1].upper().startswith("RHS"):
+            notes.insert(0, (lines[-1], f"{names[-1]} is a column here: if it is meant as the set of right-hand sides, write RHS before it"))
+        for line, reason in notes[:_MOST_NOTES]:
+            self.state.log.note(line, reason)
+
+    def other_meaning(self, name: str, others: Sequence[str], have_digits: bool) -> Optional[str]:
+        """What a column may be instead: one beside it that is misspelt, a number, or a row."""
+        if any(are_near(name, other) for other in others):
+            return f"{name} is a column of its own, or the one beside it misspelt"
+        if name.isdigit() and not have_digits:
+            return f"{name} is a column here, and may be a number"
+        if name in self.state.rows:
+            return f"{name} is a column here, and also a row"
+        return None
 
     # ---- the sense
 

@@ -147,8 +147,14 @@ def range_on_free(state: State, line: Line) -> NewFields:
     """A range on an N row holds nothing, for glpsol and lp_solve too."""
     fields = line.fields()
     start = len(fields) % 2
-    kept = [each for at in range(start, len(fields), 2) if state.rows[fields[at]].kind != "N" for each in fields[at : at + 2]]
+    kept = [each for at in range(start, len(fields), 2) if not is_declared_free(state, fields[at]) for each in fields[at : at + 2]]
     return [*fields[:start], *kept] if kept else []
+
+
+def is_declared_free(state: State, name: str) -> bool:
+    """Whether ROWS has an N row of this name; the objective of a file without N rows may be a row that is lost."""
+    row = state.rows[name]
+    return row.kind == "N" and row.line > 0
 
 
 # ---- bounds

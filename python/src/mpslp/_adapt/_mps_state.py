@@ -55,6 +55,7 @@ class State:
         self.objective_named: Optional[str] = None
         self.sense: Optional[str] = None
         self.columns: dict[str, bool] = {}  # whether each is between markers
+        self.column_lines: list[int] = []  # where each of them is first
         self.bounds_only: dict[str, int] = {}  # columns that are in BOUNDS only, and their first lines
         self.is_marked = False
         self.has_empty_block = False

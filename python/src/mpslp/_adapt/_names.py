@@ -1,4 +1,4 @@
-"""Names that the profile has, for names that it has not."""
+"""Names that are legal for mpslp, for names that are not."""
 
 from __future__ import annotations
 
@@ -28,6 +28,20 @@ def is_lp_name(name: str) -> bool:
 
 def is_mps_name(name: str) -> bool:
     return 0 < len(name) <= MOST_BYTES and all("!" <= each <= "~" for each in name) and name != "'MARKER'"
+
+
+# Signs, dashes, spaces, digits above the line, and what is not seen.
+_NO_LETTERS = ("Sm", "Pd", "Zs", "Zl", "Zp", "No", "Cf", "Cc")
+
+
+def reason_against(name: str) -> str | None:
+    """Why a name is left: a sign of Unicode that looks like a space, a minus, an operator or a power; or None."""
+    if name.isascii():
+        return None
+    for letter in name.encode("latin-1").decode("utf-8", "replace"):
+        if not letter.isascii() and unicodedata.category(letter) in _NO_LETTERS:
+            return f"U+{ord(letter):04X} is no letter of a name: write the sign or the space of ASCII that is meant"
+    return None
 
 
 class Names:
@@ -72,3 +86,24 @@ def _proposed(given: str) -> str:
 
 
 _REPLACED = {ord("["): "(", ord("]"): ")", **{ord(each): "_" for each in " \t:*^<>=+-\\"}}
+
+
+def are_near(first: str, second: str) -> bool:
+    """Whether two names are the same but for one letter or sign more, less or changed; names that differ in digits are not."""
+    return without_digits(first) != without_digits(second) and not parts_of(first).isdisjoint(parts_of(second))
+
+
+def parts_of(name: str) -> set[str]:
+    """A name without its digits, and this without each of its letters: names that differ in one letter have one in common."""
+    letters = without_digits(name)
+    if not 1 < len(letters) <= _MOST_COMPARED_LETTERS:
+        return {letters}
+    return {letters, *(letters[:at] + letters[at + 1 :] for at in range(len(letters)))}
+
+
+def without_digits(name: str) -> str:
+    return name.translate(_NO_DIGITS)
+
+
+_NO_DIGITS = dict.fromkeys(map(ord, "0123456789"))
+_MOST_COMPARED_LETTERS = 64

@@ -1,4 +1,4 @@
-"""Exact decimals, as the profile has them."""
+"""Exact decimals, as mpslp reads them."""
 
 from __future__ import annotations
 
@@ -33,7 +33,7 @@ def parts(literal: str) -> tuple[int, int]:
 
 
 def is_decimal(literal: str) -> bool:
-    """Whether a literal is within the limits of the profile."""
+    """Whether a literal is within the limits of mpslp."""
     if len(literal) <= MOST_DIGITS and "e" not in literal and "E" not in literal:
         return True
     mantissa, exponent = parts(literal)

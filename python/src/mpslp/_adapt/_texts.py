@@ -2,16 +2,19 @@
 
 # Annotations are evaluated here: the classes say that they are of the package, whose names are fewer.
 
-from collections.abc import Collection, Mapping
+import gc
+from collections.abc import Collection, Iterator, Mapping
+from contextlib import contextmanager
 from dataclasses import dataclass, replace
 from typing import Optional
 
-from mpslp._adapt._accepted import rejection_of, require_accepted
-from mpslp._adapt._changes import DIALECTS, NO_DIALECT, AdaptError, Change, Log, Note, OtherLanguage, kinds_of
+from mpslp._adapt._accepted import accepted, require_accepted
+from mpslp._adapt._changes import DIALECTS, NO_DIALECT, AdaptError, Change, Log, Note, kinds_of, readable
 from mpslp._adapt._check import require_the_same
 from mpslp._adapt._lp import adapt_lp
 from mpslp._adapt._mps import adapt_mps
-from mpslp._adapt._writers import Writer, writer_of
+from mpslp._adapt._notes import notes_of
+from mpslp._adapt._writers import MOST_OF_HEADER, Writer, writer_of
 from mpslp._compression import unpack
 from mpslp._sources import Format
 
@@ -46,27 +49,29 @@ def adapt_text(content: bytes, format: Format, dialect: Optional[str] = None, st
         return replace(adapted_from(content, format, chosen, kinds), writer=writer)
     except AdaptError as error:
         error.writer = writer
+        error.reason = readable(error.reason)
         raise
 
 
 def named_writer(content: bytes, format: Format) -> Optional[Writer]:
     """The program that the header of a text names; the text may be compressed, or in another encoding."""
-    for rule in (decompressed, decoded, with_line_feeds):
+    for rule in (decompressed, decoded):
         content = rule(content, Log())
-    return writer_of(content.decode("latin-1"), format)
+    return writer_of(with_line_feeds(content[:MOST_OF_HEADER], Log()).decode("latin-1"), format)
 
 
 def adapted_from(content: bytes, format: Format, dialect: Optional[str], kinds: frozenset[str]) -> Adapted:
     """The text of a dialect as mpslp accepts it."""
-    if dialect is None and rejection_of(content, format) is None:
-        return Adapted(content, format, (), {}, notes_of(content, format))
+    if dialect is None and (arrays := accepted(content, format)) is not None:
+        return Adapted(content, format, (), {}, notes_of(content, format, arrays))
     log = Log(kinds)
     for rule in (decompressed, decoded, with_line_feeds, without_end_of_file_byte):
         content = rule(content, log)
     before = content.decode("latin-1")
-    after, names = rewritten(before, format, dialect, log)
-    changes = tuple(sorted(log.changes, key=lambda change: change.line))
-    require_the_same(before, after, format, dialect, changes, names)
+    with without_collection():
+        after, names = rewritten(before, format, dialect, log)
+        changes = tuple(sorted(log.changes, key=lambda change: change.line))
+        require_the_same(before, after, format, dialect, changes, names)
     text = after.encode("latin-1")
     require_accepted(text, format, log.source_lines)
     return Adapted(text, format, changes, {as_read(given): name for given, name in names.items()}, tuple(log.notes))
@@ -77,16 +82,16 @@ def rewritten(text: str, format: Format, dialect: Optional[str], log: Log) -> tu
     return adapt_lp(text, dialect, log) if format == "lp" else adapt_mps(text, dialect, log)
 
 
-def notes_of(content: bytes, format: Format) -> tuple[Note, ...]:
-    """What other dialects mean by lines of a text that mpslp accepts."""
-    log = Log()
+@contextmanager
+def without_collection() -> Iterator[None]:
+    """Does not look for cycles among the tokens of a text, which have none: that takes a sixth of the time."""
+    was_enabled = gc.isenabled()
+    gc.disable()
     try:
-        rewritten(content.decode("latin-1"), format, None, log)
-    except OtherLanguage:
-        raise
-    except AdaptError:
-        return ()
-    return tuple(log.notes)
+        yield
+    finally:
+        if was_enabled:
+            gc.enable()
 
 
 def as_read(text: str) -> str:

@@ -41,11 +41,11 @@ _HEADERS: dict[Format, tuple[tuple[str, Writer], ...]] = {
         (r"problem[ \t]*\n(?:[ \t]*\S+[ \t]*\n)?" + _SENSE, _QSOPT),
     ),
 }
-_FIRST = 100_000
+MOST_OF_HEADER = 100_000
 """More characters than a header has; a line of a whole file may be very long."""
 
 
 def writer_of(text: str, format: Format) -> Optional[Writer]:
     """The program that the header of a text names, if it is one whose files are read in a dialect."""
-    first = text[:_FIRST].replace("\r\n", "\n")
+    first = text[:MOST_OF_HEADER].replace("\r\n", "\n")
     return next((writer for header, writer in _HEADERS[format] if re.match(header, first, re.IGNORECASE)), None)
