@@ -79,7 +79,7 @@ ONE_FILE = "a model file; - is standard input"
 TWO_FILES = "a model file or a directory; - is standard input"
 FILES = "a model file or a directory; - is standard input"
 
-FORMAT = option("-f", "--format", choices=FORMATS, metavar="FORMAT", help="mps or lp, if the extension does not say it")
+FORMAT = option("-f", "--format", choices=FORMATS, metavar="FORMAT", help="the format, if the extension does not say it: mps or lp")
 JOBS = option("-j", "--jobs", type=partial(whole_number, most=_MOST_JOBS), default=_processors(), metavar="N", help="work in N processes (default: all processors)")
 QUIET = flag("-q", "--quiet", help="print errors only; the exit status says the rest")
 JSON = flag("--json", help="print JSON, also about files that are rejected")
@@ -87,7 +87,7 @@ OUTPUT = option("-o", "--output", metavar="FILE", help="write to FILE instead of
 OUT_DIR = option("--out-dir", metavar="DIR", help="write all files below DIR, in the same directories")
 IN_PLACE = flag("-i", "--in-place", help="rewrite the files, and print their paths")
 PATCH = flag("--diff", dest="patch", help="print what -i would change, as diff -u does")
-DIALECT = option("--from", dest="dialect", choices=(*DIALECTS, NO_DIALECT), metavar="DIALECT", help="coinutils, glpsol, lp_solve, pulp, qsopt or none")
+DIALECT = option("--from", dest="dialect", choices=(*DIALECTS, NO_DIALECT), metavar="DIALECT", help="the program that wrote the file: coinutils, glpsol,\nlp_solve, pulp, qsopt; none ignores its header")
 DIGITS = option("--digits", type=partial(whole_number, most=MOST_DIGITS), metavar="N", help="numbers are equal if N significant digits are")
 BY_POSITION = flag("--by-position", help="compare by position, not by name")
 NO_WARNINGS = option("--no-warnings", dest="warnings", action="store_false", help="print no warnings")
