@@ -68,11 +68,10 @@ def run(options: argparse.Namespace) -> Status:
     if options.names_back is not None:
         return _names_back(options)
     _require_fitting(options)
-    failed: list[OSError] = []
-    inputs = inputs_for(options, failed.append)
+    inputs = inputs_for(options)
     if options.out_dir is not None:
         require_one_place_each(inputs, lambda given: target_of(given, options.out_dir, None))
-    done = for_each(inputs, options, _adapted, failed, _BYTES_THAT_PAY)
+    done = for_each(inputs, options, _adapted, _BYTES_THAT_PAY)
     if options.summary and not options.json:
         write_lines(sys.stderr if _prints_texts(options) else sys.stdout, _summary(done))
     return done.status

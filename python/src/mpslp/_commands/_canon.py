@@ -80,9 +80,8 @@ def _run_in_place(options: argparse.Namespace) -> Status:
         raise UsageError("-i and --diff keep the format: they go neither with -t nor with --for")
     if options.in_place and STANDARD_INPUT in options.files:
         raise UsageError("-i rewrites files: it does not go with standard input")
-    failed: list[OSError] = []
-    inputs = inputs_for(options, failed.append)
-    return for_each(inputs, options, _show_patch if options.patch else _rewrite, failed).status
+    inputs = inputs_for(options)
+    return for_each(inputs, options, _show_patch if options.patch else _rewrite).status
 
 
 def _rewrite(text: Text, given: Input, options: argparse.Namespace) -> Outcome:
@@ -110,10 +109,9 @@ def _show_patch(text: Text, given: Input, options: argparse.Namespace) -> Outcom
 
 
 def _run_for_all(options: argparse.Namespace) -> Status:
-    failed: list[OSError] = []
-    inputs = inputs_for(options, failed.append)
+    inputs = inputs_for(options)
     require_one_place_each(inputs, lambda given: _target(given, options, options.to or ("*" if options.solver else None)))
-    return for_each(inputs, options, _write if options.solver is None else _write_for_solver, failed).status
+    return for_each(inputs, options, _write if options.solver is None else _write_for_solver).status
 
 
 def _target(given: Input, options: argparse.Namespace, format: str | None) -> str:

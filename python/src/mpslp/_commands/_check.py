@@ -44,9 +44,8 @@ def run(options: argparse.Namespace) -> Status:
     if not options.portable and (options.ignore or options.target or options.all):
         name = "--ignore leaves out" if options.ignore else "--target and --all choose"
         raise UsageError(f"{name} remarks of --portable")
-    failed: list[OSError] = []
-    inputs = inputs_of(options, failed.append)
-    return for_each(inputs, options, _portable if options.portable else _canonical, failed).status
+    inputs = inputs_of(options)
+    return for_each(inputs, options, _portable if options.portable else _canonical).status
 
 
 def _canonical(text: Text, given: Input, options: argparse.Namespace) -> Outcome:

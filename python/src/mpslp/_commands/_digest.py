@@ -25,8 +25,7 @@ def add(parser: argparse.ArgumentParser) -> None:
 
 
 def run(options: argparse.Namespace) -> Status:
-    failed: list[OSError] = []
-    return for_each(inputs_of(options, failed.append), options, _digest, failed).status
+    return for_each(inputs_of(options), options, _digest).status
 
 
 def _digest(text: Text, given: Input, options: argparse.Namespace) -> Outcome:

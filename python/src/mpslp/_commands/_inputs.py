@@ -4,7 +4,7 @@ from __future__ import annotations
 
 import argparse
 import os
-from collections.abc import Callable, Sequence
+from collections.abc import Sequence
 from typing import NamedTuple
 
 from mpslp._commands._outcomes import UsageError
@@ -25,9 +25,25 @@ class Input(NamedTuple):
     """The format if it is given before the path, as for the program mpslp; then the extension does not count."""
 
 
-def inputs_of(options: argparse.Namespace, report: Callable[[OSError], None], left_out: str | None = None) -> list[Input]:
+class Inputs(NamedTuple):
+    """The files of the arguments."""
+
+    files: list[Input]
+    failed: list[OSError]
+    """Why directories do not open."""
+    empty: list[str]
+    """The directories that have no model files."""
+
+
+def inputs_of(options: argparse.Namespace, left_out: str | None = None) -> Inputs:
     """The files of the arguments, and the model files in their directories. What is in ``left_out`` is not among them."""
-    return [Input(*found) for found in found_files(options.files, report, left_out)]
+    inputs = Inputs([], [], [])
+    for path in options.files:
+        before = len(inputs.files) + len(inputs.failed)
+        inputs.files.extend(Input(*found) for found in found_files([path], inputs.failed.append, left_out))
+        if len(inputs.files) + len(inputs.failed) == before:
+            inputs.empty.append(path)
+    return inputs
 
 
 def one_input(options: argparse.Namespace) -> Input:

@@ -4,6 +4,7 @@ from __future__ import annotations
 
 import argparse
 import sys
+from collections.abc import Sequence
 from typing import Any, NoReturn
 
 from mpslp import _mpslp
@@ -14,10 +15,13 @@ from mpslp._output import write_all
 _WIDTH = 24
 """The columns of the names of options, with the space around them."""
 
+_MARK = "\0"
+"""What no word of a command line begins with."""
+
 _INTRODUCTION = "Check, rewrite, compare and explain linear and mixed-integer model files."
 _EPILOG = """\
 'COMMAND --help' lists its options. The extension of a file is its format: .mps
-or .lp, also before .gz, .bz2, .xz or .zst. A directory is all model files in it.
+or .lp, also before .gz, .bz2, .xz or .zst. A directory is its model files.
 
 exit status: 0 done, or the same; 1 different, or not canonical; 2 a file is
 rejected; 3 usage error; 4 a file cannot be read or written; 5 out of memory"""
@@ -47,9 +51,12 @@ class CommandParser(Parser):
             return super().parse_known_args(args, namespace)
         self._is_within = True
         try:
-            return self.parse_known_intermixed_args(args, namespace)
+            found, rest = self.parse_known_intermixed_args(_marked(args), namespace)
         finally:
             self._is_within = False
+        for operand in (action.dest for action in self._actions if not action.option_strings):
+            setattr(found, operand, [word.removeprefix(_MARK) for word in getattr(found, operand)])
+        return found, rest
 
     def format_help(self) -> str:
         lines = (line for action in self._actions if action.help != argparse.SUPPRESS for line in _lines_of(action))
@@ -73,6 +80,12 @@ def parser(prog: str | None, name: str | None = None) -> Parser:
         command.add(added)
         added.add_argument("-h", "--help", action="help", help="print this help")
     return made
+
+
+def _marked(words: Sequence[str]) -> list[str]:
+    """The words of a command, with a mark on those after ``--``, none of which is an option."""
+    at = list(words).index("--") if "--" in words else len(words)
+    return [*words[:at], *(_MARK + word for word in words[at + 1 :])]
 
 
 def _lines_of(action: argparse.Action) -> list[str]:

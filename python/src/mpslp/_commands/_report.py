@@ -66,10 +66,9 @@ def _of_texts(texts: list[Text], options: argparse.Namespace) -> Outcome:
 
 
 def _run_for_all(options: argparse.Namespace) -> Status:
-    failed: list[OSError] = []
-    inputs = inputs_for(options, failed.append)
+    inputs = inputs_for(options)
     require_one_place_each(inputs, lambda given: _target(given, options))
-    return for_each(inputs, options, _put_page, failed).status
+    return for_each(inputs, options, _put_page).status
 
 
 def _put_page(text: Text, given: Input, options: argparse.Namespace) -> Outcome:

@@ -36,8 +36,7 @@ def run(options: argparse.Namespace) -> Status:
         return for_one(Input(options.files[1], format=formats[0]), options, _show)
     if len(options.files) == 1 and not os.path.isdir(options.files[0]):
         return for_one(one_input(options), options, _show)
-    failed: list[OSError] = []
-    return for_each(inputs_of(options, failed.append), options, _show_titled, failed).status
+    return for_each(inputs_of(options), options, _show_titled).status
 
 
 def _show(text: Text, given: Input, options: argparse.Namespace) -> Outcome:

@@ -4,32 +4,32 @@ from __future__ import annotations
 
 import argparse
 import os
-from collections.abc import Callable, Sequence
+from collections.abc import Callable
 
-from mpslp._commands._inputs import STANDARD_INPUT, Input, inputs_of
+from mpslp._commands._inputs import STANDARD_INPUT, Input, Inputs, inputs_of
 from mpslp._commands._outcomes import UsageError
 from mpslp._compression import pack, without_ending
 from mpslp._files import replace_file
 from mpslp._sources import format_of_name
 
 
-def inputs_for(options: argparse.Namespace, report: Callable[[OSError], None]) -> list[Input]:
+def inputs_for(options: argparse.Namespace) -> Inputs:
     """The files of the arguments. With --out-dir, what is below it is left out, and standard input has no name to be written to."""
     directory: str | None = options.out_dir
     if directory is None:
-        return inputs_of(options, report)
+        return inputs_of(options)
     if STANDARD_INPUT in options.files:
         raise UsageError("--out-dir does not go with standard input, which has no name")
     for path in options.files:
         if os.path.isdir(path) and os.path.realpath(path) == os.path.realpath(directory):
             raise UsageError(f"--out-dir {directory} is the directory that is read")
-    return inputs_of(options, report, directory)
+    return inputs_of(options, directory)
 
 
-def require_one_place_each(inputs: Sequence[Input], target: Callable[[Input], str]) -> None:
+def require_one_place_each(inputs: Inputs, target: Callable[[Input], str]) -> None:
     """Raises UsageError if two files would be written to one."""
     sources: dict[str, str] = {}
-    for each in inputs:
+    for each in inputs.files:
         path = os.path.normpath(target(each))
         if path in sources and os.path.normpath(sources[path]) != os.path.normpath(each.path):
             raise UsageError(f"{sources[path]} and {each.path} would both be written to {path}")

@@ -11,11 +11,10 @@ from collections import Counter
 from collections.abc import Callable, Iterable, Iterator, Sequence
 from contextlib import AbstractContextManager, nullcontext
 from functools import partial
-from itertools import chain
 from typing import NamedTuple
 
 from mpslp._commands import _colour
-from mpslp._commands._inputs import STANDARD_INPUT, Input, text_of
+from mpslp._commands._inputs import STANDARD_INPUT, Input, Inputs, text_of
 from mpslp._commands._outcomes import Outcome, Record, Status, UsageError, failure
 from mpslp._commands._progress import Progress
 from mpslp._faults import ModelFileError
@@ -66,22 +65,29 @@ class Done(NamedTuple):
     """The numbers of files by these kinds."""
 
 
-def for_each(
-    inputs: Sequence[Input], options: argparse.Namespace, work: Work, failed: Sequence[OSError] = (), bytes_that_pay: int = _BYTES_THAT_PAY
-) -> Done:
+def for_each(inputs: Inputs, options: argparse.Namespace, work: Work, bytes_that_pay: int = _BYTES_THAT_PAY) -> Done:
     """Does something with each file, and prints what came of them in order. The status is the greatest."""
-    worst, counts, files = Status.DONE, Counter[str](), Counter[str]()
-    processes = processes_for(inputs, options.jobs, bytes_that_pay)
-    function = partial(attempt, options=options, work=work)
-    unread = (failure(str(error.filename), error) for error in failed)
-    with Progress(len(inputs), not options.quiet) as progress:
-        for outcome in chain(unread, results_in_order(function, inputs, processes)):
+    worst, counts, kinds = Status.DONE, Counter[str](), Counter[str]()
+    files = inputs.files
+    results = results_in_order(partial(attempt, options=options, work=work), files, processes_for(files, options.jobs, bytes_that_pay))
+    with Progress(len(files), not options.quiet) as progress:
+        for outcome in _unread(inputs, options):
+            print_outcome(outcome, options, progress)
+            worst = max(worst, outcome.status)
+        for outcome in results:
             print_outcome(outcome, options, progress)
             progress.count()
             worst = max(worst, outcome.status)
             counts.update(outcome.counts or {})
-            files.update((outcome.counts or {}).keys())
-    return Done(worst, counts, files)
+            kinds.update((outcome.counts or {}).keys())
+    return Done(worst, counts, kinds)
+
+
+def _unread(inputs: Inputs, options: argparse.Namespace) -> Iterator[Outcome]:
+    """What is said of directories that do not open, or have no model files."""
+    yield from (failure(str(error.filename), error) for error in inputs.failed)
+    if not options.quiet:
+        yield from (Outcome(error=f"warning: {path}: no model files") for path in inputs.empty)
 
 
 def processes_for(inputs: Sequence[Input], jobs: int, bytes_that_pay: int) -> int:
