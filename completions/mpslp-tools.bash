@@ -40,10 +40,10 @@ _mpslp_tools() {
             ;;
     esac
     case $command in
-        canon) options='--format --output --out-dir --in-place --diff --to --for --force --jobs --quiet --no-warnings --help' ;;
-        check) options='--format --portable --target --all --ignore --jobs --json --quiet --no-warnings --help' ;;
-        same) options='--format --quiet --no-warnings --help' ;;
-        diff) options='--format --ignore-objective-name --digits --by-position --json --quiet --no-warnings --help' ;;
+        canon) options='--format --output --out-dir --in-place --diff --to --for --force --jobs --quiet --no-warnings --help -Werror' ;;
+        check) options='--format --portable --target --all --ignore --jobs --json --quiet --no-warnings --help -Werror' ;;
+        same) options='--format --quiet --no-warnings --help -Werror' ;;
+        diff) options='--format --ignore-objective-name --digits --by-position --json --quiet --no-warnings --help -Werror' ;;
         show) options='--format --quiet --help' ;;
         digest) options='--format --jobs --json --quiet --help' ;;
         explain) options='--help' ;;

@@ -125,7 +125,8 @@ def _bash_case(names: str, words: str) -> str:
 
 
 def _long(words: Words) -> list[str]:
-    return [name for option in words.options for name in option.names if name.startswith("--")]
+    names = [name for option in words.options for name in option.names if name.startswith("--")]
+    return [*names, *("-Werror" for option in words.options if option.value == "HOW")]
 
 
 def _by(options: list[Argument], key: Callable[[Argument], tuple[str, ...]]) -> dict[tuple[str, ...], list[str]]:

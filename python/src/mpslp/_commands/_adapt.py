@@ -19,7 +19,7 @@ from mpslp._commands import _options
 from mpslp._commands._inputs import STANDARD_INPUT, Input, one_input
 from mpslp._commands._options import add_files, add_one_of, add_options, flag, option
 from mpslp._commands._outcomes import Outcome, Status, UsageError, failure, record_of
-from mpslp._commands._targets import inputs_for, put, require_one_place_each, target_of
+from mpslp._commands._targets import given_out, inputs_for, require_one_place_each, target_of
 from mpslp._commands._work import Done, for_each, for_outcome
 from mpslp._compression import pack
 from mpslp._files import replace_file
@@ -92,7 +92,9 @@ def _require_fitting(options: argparse.Namespace) -> None:
 
 def _prints_texts(options: argparse.Namespace) -> bool:
     """Whether the text of a file goes to standard output."""
-    return options.output is None and options.out_dir is None and not (options.in_place or options.patch or options.dry_run or options.summary)
+    if options.out_dir is not None or options.in_place or options.patch or options.dry_run:
+        return False
+    return options.output == STANDARD_INPUT or (options.output is None and not options.summary)
 
 
 def _adapted(text: Text, given: Input, options: argparse.Namespace) -> Outcome:
@@ -126,12 +128,10 @@ def _written(text: Text, given: Input, options: argparse.Namespace, done: Adapte
         replace_file(given.path, pack(given.path, done.text))
         return Outcome(output="" if options.quiet else given.path)
     if options.out_dir is not None:
-        put(target_of(given, options.out_dir, None), done.text, options)
-    elif options.output is not None:
-        put(options.output, done.text, options)
-    elif _prints_texts(options):
-        return Outcome(text=done.text)
-    return Outcome()
+        return given_out(done.text, target_of(given, options.out_dir, None), options)
+    if options.output is None and options.summary:
+        return Outcome()
+    return given_out(done.text, options.output, options)
 
 
 def _left(given: Input, error: AdaptError) -> Outcome:
@@ -200,10 +200,7 @@ def _with_names_given(given: Input, options: argparse.Namespace) -> Outcome:
     with open(options.names_back, encoding="utf-8", errors="surrogateescape") as file:
         names = {written: name for name, written in json.load(file).items()}
     text = with_names(_bytes_of(given.path), names)
-    if options.output is None:
-        return Outcome(text=text)
-    put(options.output, text, options)
-    return Outcome()
+    return given_out(text, options.output, options)
 
 
 def with_names(solution: bytes, given: Mapping[str, str]) -> bytes:

@@ -11,7 +11,7 @@ from mpslp._commands import _options
 from mpslp._commands._inputs import STANDARD_INPUT, Input, formats_before, one_input
 from mpslp._commands._options import add_files, add_one_of, add_options, add_warnings, flag, option
 from mpslp._commands._outcomes import Outcome, Status, UsageError
-from mpslp._commands._targets import inputs_for, put, require_one_place_each, target_of
+from mpslp._commands._targets import given_out, inputs_for, require_one_place_each, target_of
 from mpslp._commands._warned import is_printed, replacing, warned
 from mpslp._commands._work import for_each, for_one
 from mpslp._compression import pack
@@ -126,7 +126,7 @@ def _write(text: Text, given: Input, options: argparse.Namespace) -> Outcome:
     path = _target(given, options, options.to)
     to: Format | None = options.to or format_of_name(path)
     content = _mpslp.canonical(text.content, text.format, text.format if to is None else format_number(to))
-    return _written(text, given, options, path, lambda: _put(path, content, options))
+    return _written(text, given, options, path, lambda: given_out(content, path, options))
 
 
 def _write_for_solver(text: Text, given: Input, options: argparse.Namespace) -> Outcome:
@@ -141,17 +141,10 @@ def _write_for_solver(text: Text, given: Input, options: argparse.Namespace) -> 
     if lines and set(options.strict) >= set(WARNING_KINDS):
         return Outcome(Status.REJECTED, error=lines)
     path = _target(given, options, made.format)
-    return _written(text, given, options, path, lambda: _put(path, made, options).preceded_by(lines if is_printed(options) else ""))
+    return _written(text, given, options, path, lambda: given_out(made, path, options).preceded_by(lines if is_printed(options) else ""))
 
 
 def _written(text: Text, given: Input, options: argparse.Namespace, path: str, work: Callable[[], Outcome]) -> Outcome:
     """Writes a text with the warnings about its source, which it may replace."""
     replaces = path != STANDARD_INPUT and given.path != STANDARD_INPUT and is_one_file(path, given.path)
     return replacing(text, options, work) if replaces else warned(text, options).before(work)
-
-
-def _put(path: str, content: bytes, options: argparse.Namespace) -> Outcome:
-    if path == STANDARD_INPUT:
-        return Outcome(text=content)
-    put(path, content, options)
-    return Outcome()

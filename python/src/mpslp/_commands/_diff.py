@@ -32,7 +32,7 @@ The exit status is 1 if there is one. One of the files may be /dev/null, as git 
 
 
 def add(parser: argparse.ArgumentParser) -> None:
-    add_files(parser, _options.TWO_FILES)
+    add_files(parser, _options.FILES)
     add_options(
         parser,
         flag("--ignore-objective-name", help="the name of the objective does not count"),

@@ -75,8 +75,6 @@ class _WarningOption(argparse.Action):
             parser.error(f"argument -W: {value!r} is neither error, error=KIND nor no-KIND; KIND is one of {', '.join(WARNING_KINDS)}")
 
 
-ONE_FILE = "a model file; - is standard input"
-TWO_FILES = "a model file or a directory; - is standard input"
 FILES = "a model file or a directory; - is standard input"
 
 FORMAT = option("-f", "--format", choices=FORMATS, metavar="FORMAT", help="the format, if the extension does not say it: mps or lp")

@@ -11,7 +11,7 @@ from mpslp._commands import _options
 from mpslp._commands._inputs import Input, one_input, text_of
 from mpslp._commands._options import add_files, add_one_of, add_options
 from mpslp._commands._outcomes import Outcome, Status, UsageError, failure
-from mpslp._commands._targets import inputs_for, put, require_one_place_each, target_of
+from mpslp._commands._targets import given_out, inputs_for, put, require_one_place_each, target_of
 from mpslp._commands._work import for_each, for_outcome
 from mpslp._faults import ModelFileError
 from mpslp._sources import Text, naming
@@ -58,11 +58,7 @@ def _outcome(inputs: list[Input], options: argparse.Namespace) -> Outcome:
 def _of_texts(texts: list[Text], options: argparse.Namespace) -> Outcome:
     if options.json:
         return Outcome(record=_report().record(texts, digits=options.digits, by_position=options.by_position))
-    content = _page(texts, options)
-    if options.output is None:
-        return Outcome(text=content)
-    put(options.output, content, options)
-    return Outcome()
+    return given_out(_page(texts, options), options.output, options)
 
 
 def _run_for_all(options: argparse.Namespace) -> Status:

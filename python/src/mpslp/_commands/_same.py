@@ -22,7 +22,7 @@ DETAILS = ""
 
 
 def add(parser: argparse.ArgumentParser) -> None:
-    add_files(parser, _options.TWO_FILES)
+    add_files(parser, _options.FILES)
     add_options(parser, _options.QUIET)
     add_warnings(parser)
 

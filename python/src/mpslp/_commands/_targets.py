@@ -7,7 +7,7 @@ import os
 from collections.abc import Callable
 
 from mpslp._commands._inputs import STANDARD_INPUT, Input, Inputs, inputs_of
-from mpslp._commands._outcomes import UsageError
+from mpslp._commands._outcomes import Outcome, UsageError
 from mpslp._compression import pack, without_ending
 from mpslp._files import replace_file
 from mpslp._sources import format_of_name
@@ -48,6 +48,14 @@ def with_extension(name: str, format: str) -> str:
     if old == format:
         return name
     return f"{stem if old is None else stem[: -len(old) - 1]}.{format}{ending}"
+
+
+def given_out(text: bytes, path: str | None, options: argparse.Namespace) -> Outcome:
+    """Writes a text to a file, or prints it if there is no path or if that is ``-``."""
+    if path is None or path == STANDARD_INPUT:
+        return Outcome(text=text)
+    put(path, text, options)
+    return Outcome()
 
 
 def put(path: str, text: bytes, options: argparse.Namespace) -> None:
