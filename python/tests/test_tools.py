@@ -489,7 +489,7 @@ class Completions(Directory):
     WANTED = {
         "": "canon check same diff show digest explain adapt survey report --help --version", "d": "diff digest", "s": "same show survey", "check --p": "--portable",
         "survey --": "--help --format --from --jobs --quiet --csv --json", "canon -t ": "mps lp glp", "check -f l": "lp",
-        "diff --": "--help --format --ignore-objective-name --digits --by-position --json --quiet --no-warnings", "same -W": "-Werror", "canon -i sm": "small.lp small.mps",
+        "diff --": "--help --format --ignore-objective-name --digits --by-position --json --quiet --no-warnings", "canon -i sm": "small.lp small.mps",
         "explain DuplicateR": "DuplicateRange DuplicateRhs DuplicateRow", "diff --digits ": "", "adapt --from q": "qsopt", "adapt --in": "--in-place", "canon --out-dir d": "deep",
     }
 
@@ -518,7 +518,7 @@ COMP_CWORD=$((${{#COMP_WORDS[@]}} - 1))
 _mpslp_tools
 printf '%s\\n' "${{COMPREPLY[@]}}"
 """
-        self.check("bash", script, self.WANTED)
+        self.check("bash", script, {**self.WANTED, "same -W": "-Werror"})
 
     def test_fish(self):
         script = "source " + str(ROOT / "completions" / "mpslp-tools.fish") + "; complete -C 'mpslp-tools {line}' | string replace -r '\\t.*' ''"
