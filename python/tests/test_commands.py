@@ -502,6 +502,17 @@ class Pairs(Directory):
             ("old/a.mps", "new/a.mps", "same"), ("old/c.mps", "/dev/null", "not the same"), ("/dev/null", "new/d.lp", "not the same"), ("old/deep/b.lp", "new/deep/b.lp", "not the same"),
         ])  # fmt: skip
 
+    def test_a_directory_that_is_converted(self):
+        """Files whose extensions differ are compared, unless there is more than one."""
+        self.file("old/packed.mps.gz", gzip.compress(SMALL))
+        self.prints(["canon", "-t", "lp", "--out-dir", "out", "old"], 0)
+        self.assertEqual({str(path.relative_to("out")) for path in Path("out").rglob("*.*")}, {"a.lp", "deep/b.lp", "packed.lp.gz"})
+        self.prints(["same", "old", "out"], 0, "same\n")
+        self.file("out/a.lp", SMALL_LP.replace(b"1.5", b"1.25"))
+        self.prints(["diff", "old", "out"], 1, "==> a.mps <==\nentry MYG Y: 1.5 -> 1.25\n")
+        self.file("out/a.lp.gz", gzip.compress(SMALL_LP))
+        self.prints(["same", "old", "out"], 1, "==> a.lp <==\nonly in out\n==> a.lp.gz <==\nonly in out\n==> a.mps <==\nonly in old\n")
+
     def test_files_that_are_rejected(self):
         self.file("new/a.mps", b"ROWS\n")
         self.prints(["same", "old", "new"], 2, "==> deep/b.lp <==\nnot the same\n", "new/a.mps: MissingEnd\n")

@@ -11,8 +11,10 @@ from typing import NamedTuple, Protocol
 from mpslp._commands._inputs import STANDARD_INPUT, Input, formats_before, text_of
 from mpslp._commands._outcomes import Outcome, Status, UsageError, failure
 from mpslp._commands._progress import Progress
+from mpslp._commands._targets import with_extension
 from mpslp._commands._warned import before, warned
 from mpslp._commands._work import for_outcome, print_outcome
+from mpslp._compression import without_ending
 from mpslp._faults import ModelFileError
 from mpslp._files import found_files
 from mpslp._sources import Text
@@ -104,10 +106,25 @@ def _run_for_directories(options: argparse.Namespace, comparison: Comparison) ->
 
 
 def _pairs(first: str, second: str, report: Callable[[OSError], None]) -> list[tuple[str, Pair]]:
-    """The files of two directories by their places, in order."""
+    """The files of two directories by their places, in order.
+
+    Files that have no other one with their place are paired if their places differ in the extensions only.
+    """
     ones, others = ({each.place: Input(*each) for each in found_files([path], report)} for path in (first, second))
-    missing = Input(NO_FILE)
-    return [(place, Pair(ones.get(place, missing), others.get(place, missing))) for place in sorted(ones.keys() | others.keys())]
+    left, right = _by_stem(ones.keys() - others.keys()), _by_stem(others.keys() - ones.keys())
+    converted = {left[stem][0]: right[stem][0] for stem in left.keys() & right.keys() if len(left[stem]) == len(right[stem]) == 1}
+    missing, partners = Input(NO_FILE), set(converted.values())
+    pairs = [(place, Pair(given, others.get(converted.get(place, place), missing))) for place, given in ones.items()]
+    pairs += [(place, Pair(missing, given)) for place, given in others.items() if place not in ones and place not in partners]
+    return sorted(pairs)
+
+
+def _by_stem(places: Iterable[str]) -> dict[str, list[str]]:
+    """Places by what they are without their extensions."""
+    found: dict[str, list[str]] = {}
+    for place in places:
+        found.setdefault(with_extension(without_ending(place)[0], "mps"), []).append(place)
+    return found
 
 
 def _outcomes(pairs: Iterable[tuple[str, Pair]], options: argparse.Namespace, comparison: Comparison) -> Iterator[Outcome]:
