@@ -19,7 +19,7 @@ import mpslp
 from mpslp import _patch, _workers
 from mpslp._commands import COMMANDS, _work, command_of
 from mpslp._commands._parser import parser
-from repository import EXAMPLES, ROOT, VECTORS, form_of, large_text, model_files
+from repository import EXAMPLES, ROOT, VECTORS, model_files
 from test_load import entries
 from test_tools import BROKEN, CANONICAL, CANONICAL_LP, SMALL, TOOLS, Directory, read_to_the_end
 
@@ -564,9 +564,8 @@ class Processes(Directory):
         self.file("b.lp", SMALL_LP)
         with mock.patch("multiprocessing.get_context", side_effect=AssertionError):
             self.prints(["check", "-j", "4", "a.lp", "b.lp"], 1, "a.lp\nb.lp\n")
-            with self.assertRaises(AssertionError):
-                self.file("c.mps", large_text(50000))
-                self.run_tools("check", "-j", "4", "c.mps", "a.lp")
+            with mock.patch.object(_work, "_BYTES_OF_A_FILE", 10**9), self.assertRaises(AssertionError):
+                self.run_tools("check", "-j", "4", "a.lp", "b.lp")
 
     def test_a_process_that_ends(self):
         with mock.patch.object(_work, "results_in_order", side_effect=ChildProcessError("a process ended before its file was done")):

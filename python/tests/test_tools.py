@@ -204,7 +204,7 @@ class InPlace(Directory):
 
     def test_interrupted_runs(self):
         """Whenever it ends, each file has its old text or its new one, and nothing else is left."""
-        text, names = large_text(1000), {f"{number}.mps" for number in range(60)}  # so large that processes pay
+        text, names = large_text(8000), {f"{number}.mps" for number in range(60)}  # so large that processes pay
         new = mpslp.canonical(text, "mps")
         for number in (signal.SIGINT, signal.SIGTERM, signal.SIGKILL):
             for jobs in ("1", "4"):

@@ -39,7 +39,7 @@ Without --from, the header of a file that names its writer selects the dialect, 
 turns this off. --summary prints the number of changes of each kind, and of files that have one; without -o, -i or --out-dir nothing
 is written then. DIALECTS.md lists the kinds."""
 
-_BYTES_THAT_PAY = 300_000
+_BYTES_THAT_PAY = 3_000_000
 """How many bytes take longer to adapt than processes take to start."""
 
 

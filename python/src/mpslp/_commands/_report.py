@@ -23,6 +23,9 @@ With --out-dir, a page for each file: model.mps.html for model.mps."""
 DETAILS = """\
 The page needs no network and has no scripts. With --json, the counts, magnitudes, remarks and rules are printed as JSON instead."""
 
+_BYTES_THAT_PAY = 3_000_000
+"""How many bytes take longer to count than processes take to start."""
+
 
 def add(parser: argparse.ArgumentParser) -> None:
     add_files(parser, "a model file; with --out-dir also a directory")
@@ -64,7 +67,7 @@ def _of_texts(texts: list[Text], options: argparse.Namespace) -> Outcome:
 def _run_for_all(options: argparse.Namespace) -> Status:
     inputs = inputs_for(options)
     require_one_place_each(inputs, lambda given: _target(given, options))
-    return for_each(inputs, options, _put_page).status
+    return for_each(inputs, options, _put_page, _BYTES_THAT_PAY).status
 
 
 def _put_page(text: Text, given: Input, options: argparse.Namespace) -> Outcome:

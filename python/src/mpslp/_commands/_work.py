@@ -25,9 +25,9 @@ from mpslp._workers import results_in_order
 Work = Callable[[Text, Input, argparse.Namespace], Outcome]
 """What is done with the text of a file."""
 
-_BYTES_THAT_PAY = 2_000_000
+_BYTES_THAT_PAY = 20_000_000
 """How many bytes take longer to read, with warnings, than processes take to start."""
-_BYTES_OF_A_FILE = 4_000
+_BYTES_OF_A_FILE = 20_000
 """How many bytes take as long as it takes to open a file."""
 
 
