@@ -40,8 +40,8 @@ def add(parser: argparse.ArgumentParser) -> None:
     add_one_of(parser, _options.OUTPUT, _options.OUT_DIR, _options.IN_PLACE, _options.PATCH)
     add_options(
         parser,
-        option("-t", "--to", choices=("mps", "lp", "glp"), metavar="FORMAT", help="write mps or lp (default: the extension of the file\nwritten); with --for glpsol also glp"),
-        option("--for", dest="solver", choices=tuple(SOLVERS), metavar="SOLVER", help="write what SOLVER reads as the model: glpsol,\nclp, cbc, lp_solve or esolver"),
+        option("-t", "--to", choices=("mps", "lp", "glp"), metavar="FORMAT", help="write mps or lp; with --for glpsol also glp"),
+        option("--for", dest="solver", choices=tuple(SOLVERS), metavar="SOLVER", help="write what glpsol, clp, cbc, lp_solve or esolver reads"),
         flag("--force", help="with -i, also if the sense is in a comment only"),
         _options.JOBS,
         _options.QUIET,

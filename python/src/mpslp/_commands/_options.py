@@ -89,7 +89,7 @@ DIALECT = option("--from", dest="dialect", choices=(*DIALECTS, NO_DIALECT), meta
 DIGITS = option("--digits", type=partial(whole_number, most=MOST_DIGITS), metavar="N", help="numbers are equal if N significant digits are")
 BY_POSITION = flag("--by-position", help="compare by position, not by name")
 NO_WARNINGS = option("--no-warnings", dest="warnings", action="store_false", help="print no warnings")
-WARNINGS = option("-W", action=_WarningOption, metavar="HOW", help="-Werror[=KIND] rejects a file that has a warning;\n-Wno-KIND leaves out a kind")
+WARNINGS = option("-W", action=_WarningOption, metavar="HOW", help="-Werror[=KIND] rejects warnings, -Wno-KIND hides them")
 
 
 def add_warnings(parser: argparse.ArgumentParser) -> None:
