@@ -347,7 +347,8 @@ class AdaptMany(Directory):
 
     def test_usage(self):
         for words in (["m"], ["m/a.lp", "m/c.mps"], ["-o", "x.lp", "m"], ["--map", "names", "--dry-run", "m"], ["-i", "-f", "lp", "-"], ["-i", "-o", "x", "m/a.lp"],
-                      ["--json", "m/a.lp"], ["--strict", "word", "-i", "m"], ["--names-back", "m/a.lp", "m/a.lp", "m/c.mps"], ["--names-back", "m/a.lp", "m/a.lp"]):
+                      ["--json", "m/a.lp"], ["--strict", "word", "-i", "m"], ["--names-back", "m/a.lp", "m/a.lp", "m/c.mps"], ["--names-back", "m/a.lp", "m/a.lp"],
+                      ["--names-back", "m/a.lp", "-i", "m/a.lp"], ["--names-back", "m/a.lp", "--out-dir", "out", "m/a.lp"], ["--names-back", "m/a.lp", "--json", "m/a.lp"]):
             done = self.run_tools("adapt", *words)
             self.assertEqual((done.returncode, done.stdout), (3, b""), words)
             self.assertIn(b"error: ", done.stderr)

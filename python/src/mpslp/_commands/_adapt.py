@@ -183,6 +183,8 @@ def _names_back(options: argparse.Namespace) -> Status:
     """Writes a solution with the names given."""
     if len(options.files) != 1:
         raise UsageError("--names-back takes one solution")
+    if options.in_place or options.patch or options.out_dir is not None or options.dry_run or options.summary or options.json or options.map is not None:
+        raise UsageError("--names-back writes a solution: it goes only with -o and -q")
     given = one_input(options)
 
     def work() -> Outcome:
