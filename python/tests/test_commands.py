@@ -519,6 +519,10 @@ class Pairs(Directory):
         self.prints(["same", "old", "new"], 2, "==> deep/b.lp <==\nnot the same\n", "new/a.mps: MissingEnd\n")
 
     def test_usage(self):
+        for name in ("empty", "none"):
+            (self.folder / name).mkdir()
+        self.prints(["same", "empty", "none"], 0, error="warning: empty: no model files\nwarning: none: no model files\n")
+        self.prints(["check", "empty", "none"], 0, error="warning: empty: no model files\nwarning: none: no model files\n")
         for words in (["old"], ["old", "new", "old"], ["old/a.mps", "new/a.mps", "old/a.mps"]):
             self.assertEqual(self.run_tools("same", *words).returncode, 3, words)
         self.assertEqual(self.run_tools("same", "old", "new/a.mps").returncode, 3)

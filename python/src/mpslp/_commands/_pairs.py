@@ -4,7 +4,7 @@ from __future__ import annotations
 
 import argparse
 import os
-from collections.abc import Callable, Iterable, Iterator
+from collections.abc import Callable, Collection, Iterable, Iterator
 from itertools import chain
 from typing import NamedTuple, Protocol
 
@@ -13,7 +13,7 @@ from mpslp._commands._outcomes import Outcome, Status, UsageError, failure
 from mpslp._commands._progress import Progress
 from mpslp._commands._targets import with_extension
 from mpslp._commands._warned import before, warned
-from mpslp._commands._work import for_outcome, print_outcome
+from mpslp._commands._work import for_outcome, print_outcome, without_models
 from mpslp._compression import without_ending
 from mpslp._faults import ModelFileError
 from mpslp._files import found_files
@@ -101,8 +101,13 @@ def _run_for_directories(options: argparse.Namespace, comparison: Comparison) ->
             progress.count()
             worst = max(worst, outcome.status)
         if worst == Status.DONE and not options.quiet and not getattr(options, "json", False):
-            print_outcome(Outcome(output="close" if "close" in verdicts else "same"), options, progress)
+            print_outcome(_verdict(verdicts) if pairs else without_models(options.files), options, progress)
     return worst
+
+
+def _verdict(verdicts: Collection[str]) -> Outcome:
+    """What is said of two directories in which nothing differs."""
+    return Outcome(output="close" if "close" in verdicts else "same")
 
 
 def _pairs(first: str, second: str, report: Callable[[OSError], None]) -> list[tuple[str, Pair]]:

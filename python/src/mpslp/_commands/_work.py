@@ -86,8 +86,13 @@ def for_each(inputs: Inputs, options: argparse.Namespace, work: Work, bytes_that
 def _unread(inputs: Inputs, options: argparse.Namespace) -> Iterator[Outcome]:
     """What is said of directories that do not open, or have no model files."""
     yield from (failure(str(error.filename), error) for error in inputs.failed)
-    if not options.quiet:
-        yield from (Outcome(error=f"warning: {path}: no model files") for path in inputs.empty)
+    if inputs.empty and not options.quiet:
+        yield without_models(inputs.empty)
+
+
+def without_models(directories: Iterable[str]) -> Outcome:
+    """What is said of directories that have no model files."""
+    return Outcome(error="\n".join(f"warning: {path}: no model files" for path in directories))
 
 
 def processes_for(inputs: Sequence[Input], jobs: int, bytes_that_pay: int) -> int:
