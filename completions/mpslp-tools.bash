@@ -1,13 +1,16 @@
-# Completion of mpslp-tools for bash.
+# Completion of mpslp-tools for bash. Made by python/pages.py.
 _mpslp_tools() {
-    local word=${COMP_WORDS[COMP_CWORD]} previous=${COMP_WORDS[COMP_CWORD - 1]} command=${COMP_WORDS[1]}
-    local commands='canon check same diff show digest explain adapt survey report' options='--help --format'
+    local word=${COMP_WORDS[COMP_CWORD]} previous=${COMP_WORDS[COMP_CWORD - 1]} command=${COMP_WORDS[1]} options=
     COMPREPLY=()
     if ((COMP_CWORD == 1)); then
-        mapfile -t COMPREPLY < <(compgen -W "$commands --help --version" -- "$word")
+        mapfile -t COMPREPLY < <(compgen -W 'canon check same diff show digest explain adapt survey report --help --version' -- "$word")
         return
     fi
     case $previous in
+        -f | --format)
+            mapfile -t COMPREPLY < <(compgen -W 'mps lp' -- "$word")
+            return
+            ;;
         -t | --to)
             mapfile -t COMPREPLY < <(compgen -W 'mps lp glp' -- "$word")
             return
@@ -20,28 +23,33 @@ _mpslp_tools() {
             mapfile -t COMPREPLY < <(compgen -W 'glpsol clp cbc lp_solve esolver coinutils' -- "$word")
             return
             ;;
-        -f | --format)
-            mapfile -t COMPREPLY < <(compgen -W 'mps lp' -- "$word")
-            return
-            ;;
-        -j | --jobs | --digits | --strict | --ignore)
+        --ignore)
+            mapfile -t COMPREPLY < <(compgen -W 'sense-in-comment objsense no-name no-rhs-section further-n-row marked-without-bound marked-with-lower-bound objective-rhs range-on-equation upper-zero large-limit text-after-end name-like-arithmetic number-not-held constant-in-comment objective-constant ranged-row row-after-side joined-tokens spaced-side integer-section several-signs' -- "$word")
             return
             ;;
         --from)
             mapfile -t COMPREPLY < <(compgen -W 'coinutils glpsol lp_solve pulp qsopt none' -- "$word")
             return
             ;;
+        --out-dir)
+            mapfile -t COMPREPLY < <(compgen -d -- "$word")
+            return
+            ;;
+        --digits | --jobs | --strict | -j)
+            return
+            ;;
     esac
     case $command in
-        canon) options+=' --output --in-place --force --to --for --jobs --no-warnings' ;;
-        check) options+=' --jobs --portable --target --all --ignore --no-warnings' ;;
-        same) options+=' --no-warnings' ;;
-        digest) options+=' --jobs' ;;
-        diff) options+=' --ignore-objective-name --digits --by-position --no-warnings' ;;
-        explain) options=--help ;;
-        adapt) options+=' --output --from --dry-run --strict --map --names-back' ;;
-        survey) options='--help --jobs --csv --json' ;;
-        report) options='--help --output --digits --by-position' ;;
+        canon) options='--format --output --out-dir --in-place --diff --to --for --force --jobs --quiet --no-warnings --help -Werror' ;;
+        check) options='--format --portable --target --all --ignore --jobs --json --quiet --no-warnings --help -Werror' ;;
+        same) options='--format --quiet --no-warnings --help -Werror' ;;
+        diff) options='--format --ignore-objective-name --digits --by-position --json --quiet --no-warnings --help -Werror' ;;
+        show) options='--format --quiet --help' ;;
+        digest) options='--format --jobs --json --quiet --help' ;;
+        explain) options='--format --help' ;;
+        adapt) options='--format --output --out-dir --in-place --diff --dry-run --from --summary --strict --map --names-back --jobs --json --quiet --help' ;;
+        survey) options='--format --json --csv --from --jobs --quiet --help' ;;
+        report) options='--format --output --out-dir --json --digits --by-position --jobs --quiet --help' ;;
     esac
     case $command:$word in
         *:-*)

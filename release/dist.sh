@@ -112,11 +112,11 @@ Description: one canonical text for each linear or mixed-integer model
 CONTROL
 }
 
-# The files of Debian's packages: a compressed manual page, completions of zsh among those of other packages.
+# The files of Debian's packages: compressed manual pages, completions of zsh among those of other packages.
 stage_package() {
     root=$work/debian
     DESTDIR=$root PREFIX=/usr LIBDIR=/usr/lib/x86_64-linux-gnu sh release/install.sh program library documents
-    gzip -9n "$root/usr/share/man/man1/mpslp.1"
+    gzip -9n "$root/usr/share/man/man1/mpslp.1" "$root/usr/share/man/man1/mpslp-tools.1"
     mv "$root/usr/share/zsh/site-functions" "$root/usr/share/zsh/vendor-completions"
     install -D -m 644 "$work/source/build/$wheel" "$root/usr/share/mpslp/$wheel"
     install_tools "$root/usr"

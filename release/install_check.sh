@@ -35,7 +35,7 @@ use() {
     "$mpslp" canon mps mps examples/small.mps | cmp - examples/small.canonical.mps
     LD_LIBRARY_PATH=$libdir "$scratch/shared" canon mps mps examples/small.mps | cmp - examples/small.canonical.mps
     "$scratch/static" canon mps mps examples/small.mps | cmp - examples/small.canonical.mps
-    for file in man/man1/mpslp.1 doc/mpslp/README.md doc/mpslp/docs/C.md doc/mpslp/docs/SOLVERS.md doc/mpslp/examples/small.mps; do
+    for file in man/man1/mpslp.1 man/man1/mpslp-tools.1 doc/mpslp/README.md doc/mpslp/docs/C.md doc/mpslp/docs/SOLVERS.md doc/mpslp/examples/small.mps; do
         test -s "$1/share/$file" || die "$1/share/$file is missing"
     done
 }

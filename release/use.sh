@@ -17,7 +17,8 @@ page=$(man -w mpslp)
 test -s "$page" || die "man -w mpslp prints $page"
 man mpslp > page.txt 2> /dev/null
 grep -q '^SYNOPSIS' page.txt || die "the man page is not shown"
-man mpslp-tools 2> /dev/null | cmp - page.txt
+man mpslp-tools > tools.txt 2> /dev/null
+grep -q '^EXIT STATUS' tools.txt || die "the man page of mpslp-tools is not shown"
 
 test "$(pkg-config --modversion mpslp)" = "$version" || die "pkg-config --modversion prints $(pkg-config --modversion mpslp)"
 flags=$(pkg-config --cflags mpslp)

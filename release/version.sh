@@ -17,6 +17,7 @@ has() {
 
 has crates/mpslp_command/src/usage.rt "const VERSION: &str = \"$version\";"
 has docs/mpslp.1 "\"mpslp $version\""
+has docs/mpslp-tools.1 "\"mpslp $version\""
 has CHANGELOG.md "## $version"
 has include/mpslp.h "#define MPSLP_VERSION_MAJOR $(echo "$version" | cut -d. -f1)"
 has include/mpslp.h "#define MPSLP_VERSION_MINOR $(echo "$version" | cut -d. -f2)"

@@ -388,6 +388,8 @@ class Command(unittest.TestCase):
         self.assertEqual((status, output, self.out.exists()), (2, b"", False))
         self.assertTrue(errors.startswith(f"{self.plan}:3: a quadratic term"))
         self.assertEqual(self.run_with("--from", "word", self.plan)[0], 3)
+        self.assertEqual(self.run_with(self.folder / "plan")[0], 4, "as in the other commands, a file that is missing comes first")
+        (self.folder / "plan").write_bytes(PLAN)
         self.assertEqual(self.run_with(self.folder / "plan")[0], 3)
         self.assertEqual(self.run_with(self.folder / "missing.lp")[0], 4)
 

@@ -8,6 +8,7 @@ random files.
 import io
 import os
 import random
+import shutil
 import signal
 import subprocess
 import sys
@@ -27,9 +28,14 @@ import spellings
 RANDOM_FILES = int(os.environ.get("MPSLP_RANDOM_FILES", "100"))
 SMALL = str(EXAMPLES / "small.mps")
 COMMANDS = (
-    ["canon"], ["canon", "-t", "mps"], ["canon", "-t", "lp"], ["canon", "-i"], ["canon", "-o", "out.lp"], ["canon", "-Werror"], ["check"], ["check", "--portable"],
-    ["same", SMALL], ["diff", SMALL], ["diff", "--digits", "3", "--by-position", SMALL], ["diff", os.devnull], ["show"], ["digest"],
-    ["explain"], ["adapt"], ["adapt", "--dry-run"], ["survey"], ["survey", "--json"], ["report"], ["report", SMALL],
+    ["canon"], ["canon", "-t", "mps"], ["canon", "-t", "lp"], ["canon", "-i"], ["canon", "-o", "out.lp"], ["canon", "-Werror"], ["canon", "--diff"],
+    ["canon", "--out-dir", "out", "-t", "lp"], ["canon", "-q", "--for", "glpsol", "--out-dir", "out"], ["canon", "mps", "lp"], ["canon", "lp", "mps"],
+    ["check"], ["check", "--portable"], ["check", "--json"], ["check", "--portable", "--json"], ["check", "-q", "-j", "2", SMALL],
+    ["same", SMALL], ["same", "-q", SMALL], ["same", "mps", SMALL, "lp"], ["diff", SMALL], ["diff", "--digits", "3", "--by-position", SMALL], ["diff", "--json", SMALL], ["diff", os.devnull],
+    ["show"], ["show", "mps"], ["show", SMALL], ["digest"], ["digest", "--json"], ["explain"],
+    ["adapt"], ["adapt", "--dry-run"], ["adapt", "-i"], ["adapt", "--diff"], ["adapt", "--json", "--summary"], ["adapt", "--out-dir", "out", "--from", "pulp", SMALL], ["adapt", "--summary"],
+    ["survey"], ["survey", "--from", "lp_solve", "--csv"], ["survey", "--json"],
+    ["report"], ["report", SMALL], ["report", "--json"], ["report", "--json", "--digits", "3", SMALL], ["report", "--out-dir", "out"],
 )
 STATUSES = {0, 1, 2, 3, 4}
 ENVIRONMENTS = ({}, {"PYTHONUNBUFFERED": "1"}, {"PYTHONIOENCODING": "ascii"}, {"PYTHONIOENCODING": "utf-16", "PYTHONUNBUFFERED": "1"}, {"LC_ALL": "C", "PYTHONUTF8": "0"})
@@ -80,6 +86,7 @@ class EveryInput(Directory):
                 self.assertIn(self.run_quietly([*command, *([] if command == ["explain"] else [name])]), STATUSES)
         with suppress(FileNotFoundError):
             os.unlink("out.lp")
+        shutil.rmtree("out", ignore_errors=True)
 
     def test_vectors(self):
         for path in model_files(VECTORS):

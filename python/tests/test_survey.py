@@ -17,7 +17,7 @@ from pathlib import Path
 from unittest import mock
 
 import mpslp
-from mpslp import _survey
+from mpslp import _survey, _workers
 from repository import EXAMPLES, VECTORS, form_of, model_files
 from test_tools import CANONICAL_LP, SMALL, TOOLS, Directory, read_to_the_end
 
@@ -86,8 +86,8 @@ class Calls(Collection):
         self.assertEqual(one.groups, three.groups)
 
     def test_a_process_that_is_killed(self):
-        with mock.patch.object(_survey, "surveyed_file", os._exit), self.assertRaisesRegex(ChildProcessError, "a process of the survey ended"):
-            list(_survey.each_file([3, 3], 2))
+        with self.assertRaisesRegex(ChildProcessError, "a process ended before its file was done"):
+            list(_workers.results_in_order(os._exit, [3, 3], 2))
 
     def test_memory_that_is_missing(self):
         with mock.patch.object(_survey, "read", side_effect=MemoryError):
@@ -120,6 +120,19 @@ class Calls(Collection):
                     if file.result == "adapted":
                         self.assertEqual(file.digest, mpslp.digest(mpslp.adapt(file.path).text, form_of(Path(file.path))))
         self.assertEqual(len(mpslp.survey(EXAMPLES, VECTORS).files), len(paths))
+
+
+    def test_a_dialect(self):
+        """Each file is adapted, also one that is accepted."""
+        self.file("pulp.mps", b"*SENSE:Maximize\nROWS\n N  C\nCOLUMNS\n    X  C  1\nENDATA\n")
+        self.assertEqual([file.result for file in mpslp.survey("pulp.mps").files], ["accepted"])
+        found = mpslp.survey("pulp.mps", "a.mps", "f.mps", dialect="pulp")
+        results = {file.path: (file.result, dict(file.changes), file.error) for file in found.files}
+        self.assertEqual(results, {"pulp.mps": ("adapted", {"pulp-sense": 1}, ""), "a.mps": ("accepted", {}, ""), "f.mps": ("rejected", {}, "MissingEnd")})
+        self.assertEqual(found.files[2].digest, mpslp.digest(mpslp.adapt("pulp.mps", dialect="pulp").text, "mps"))
+        self.assertEqual(mpslp.survey(".", dialect="none").results, mpslp.survey(".").results)
+        with self.assertRaisesRegex(ValueError, "unknown dialect"):
+            mpslp.survey(".", dialect="word")
 
 
 class Written(Collection):
@@ -166,7 +179,10 @@ class Command(Collection):
             self.assertEqual((done.returncode, done.stderr), (0, b""), words)
             self.assertRegex(done.stdout, re.compile(pattern, re.S))
         self.assertEqual(self.run_tools("survey", "-j", "1", ".").returncode, 4, "a file is unreadable")
-        for words in ([], ["--csv", "--json", "."], ["-j", "0", "."]):
+        self.file("pulp.txt", b"*SENSE:Maximize\nROWS\n N  C\nCOLUMNS\n    X  C  1\nENDATA\n")
+        done = self.run_tools("survey", "-f", "mps", "--from", "pulp", "--csv", "pulp.txt")
+        self.assertRegex(done.stdout, rb"\npulp.txt,adapted,mps,")
+        for words in ([], ["--csv", "--json", "."], ["-j", "0", "."], ["-"], ["--from", "word", "."]):
             self.assertEqual(self.run_tools("survey", *words).returncode, 3, words)
 
     def test_processes_of_the_command(self):
@@ -181,11 +197,16 @@ class Command(Collection):
         self.assertEqual({path: path.read_bytes() for path in self.folder.rglob("*") if path.is_file()}, before)
 
     def test_progress_on_a_terminal(self):
+        os.mkfifo("deep/e.lp")
         main, terminal = pty.openpty()
-        done = subprocess.run([*TOOLS, "survey", "-j", "1", "deep"], cwd=self.folder, stdout=subprocess.PIPE, stderr=terminal, timeout=60)
+        running = subprocess.Popen([*TOOLS, "survey", "-j", "1", "deep"], cwd=self.folder, stdout=subprocess.PIPE, stderr=terminal)
         os.close(terminal)
-        self.assertEqual(done.returncode, 0)
-        self.assertEqual(read_to_the_end(main), b"\r1 of 2\r2 of 2\r\x1b[K")
+        writer = self.opened_as_reader_is_there("deep/e.lp")
+        time.sleep(2)
+        os.close(writer)
+        running.communicate(timeout=60)
+        self.assertEqual(running.returncode, 0)
+        self.assertRegex(read_to_the_end(main), rb"\A(\r\x1b\[K2 of 3 files, \d s)+\r\x1b\[K\Z")
 
     def test_interrupted_runs_begin_no_further_file(self):
         """The processes are interrupted, as at a terminal, while they read pipes, which give no end of file before that."""
@@ -206,8 +227,8 @@ class Command(Collection):
                 os.unlink(name)
 
     def test_a_process_that_is_killed(self):
-        with mock.patch.object(_survey, "each_file", side_effect=ChildProcessError("a process of the survey ended")):
-            self.prints(["survey", "."], 4, error="a process of the survey ended\n")
+        with mock.patch.object(_survey, "results_in_order", side_effect=ChildProcessError("a process ended before its file was done")):
+            self.prints(["survey", "."], 4, error="a process ended before its file was done\n")
 
 
 if __name__ == "__main__":

@@ -159,7 +159,7 @@ def _changes() -> Iterator[tuple[str, Cause]]:
     for row in _rows("adapt.tsv"):
         dialect = row["dialect"] if row["dialect"] != "header" else ""
         said = _plain(row["what"]) + (f", with --from {dialect}" if dialect else "")
-        if row["kind"] != "stop":  # why a file is left is printed in words
+        if row["kind"] not in ("stop", "note"):  # why a file is left, and what may be meant in it, is printed in words
             yield row["kind"], Cause(said, "", _place(row), _lines(row["before"]), _lines(row["after"]), "change")
     for kind, said in _WITHOUT_EXAMPLES.items():
         yield kind, Cause(said, "", "", "", "", "change")

@@ -6,22 +6,49 @@ import os
 import stat
 from collections.abc import Callable, Iterable, Iterator
 from contextlib import suppress
+from typing import NamedTuple
 
 from mpslp._sources import format_of_name
 
 
-def model_files(paths: Iterable[str], report: Callable[[OSError], None]) -> Iterator[str]:
+class FoundFile(NamedTuple):
+    """A file of the paths that were given."""
+
+    path: str
+    place: str
+    """Where it is below the directory that was given; of a file that was given itself, its name."""
+
+
+def found_files(paths: Iterable[str], report: Callable[[OSError], None], left_out: str | None = None) -> Iterator[FoundFile]:
     """The paths in order; for a directory, the model files in it and below it, by name, without hidden directories.
 
-    Directories that do not open are reported and skipped.
+    Directories that do not open are reported and skipped; so is, without a report, the directory ``left_out``.
     """
     for path in paths:
         if not os.path.isdir(path):
-            yield path
+            yield FoundFile(path, os.path.basename(path))
             continue
         for directory, directories, names in os.walk(path, onerror=report):
-            directories[:] = sorted(name for name in directories if not name.startswith("."))
-            yield from (os.path.join(directory, name) for name in sorted(names) if format_of_name(name) is not None)
+            directories[:] = sorted(name for name in directories if not name.startswith(".") and not _is(os.path.join(directory, name), left_out))
+            found = (os.path.join(directory, name) for name in sorted(names) if format_of_name(name) is not None)
+            yield from (FoundFile(each, os.path.relpath(each, path)) for each in found)
+
+
+def model_files(paths: Iterable[str], report: Callable[[OSError], None]) -> Iterator[str]:
+    """The paths of these files."""
+    return (found.path for found in found_files(paths, report))
+
+
+def _is(path: str, other: str | None) -> bool:
+    return other is not None and os.path.realpath(path) == os.path.realpath(other)
+
+
+def is_one_file(path: str, other: str) -> bool:
+    """Whether two paths lead to one file that is there."""
+    try:
+        return os.path.samefile(path, other)
+    except OSError:
+        return False
 
 
 def replace_file(path: str, content: bytes) -> None:

@@ -51,16 +51,26 @@ def write_line(stream: Any, line: str) -> None:
 
 def write_lines(stream: Any, lines: Iterable[str]) -> None:
     """Writes lines, many at a time."""
+    _write_joined(stream, lines, "\n")
+
+
+def write_pieces(stream: Any, pieces: Iterable[str]) -> None:
+    """Writes pieces of a text, many at a time."""
+    _write_joined(stream, pieces, "")
+
+
+def _write_joined(stream: Any, pieces: Iterable[str], end: str) -> None:
+    """Writes pieces, each with this end."""
     block: list[str] = []
     size = 0
-    for line in lines:
-        block.append(line)
-        size += len(line) + 1
+    for piece in pieces:
+        block.append(piece)
+        size += len(piece) + 1
         if size >= _BLOCK:
-            write_line(stream, "\n".join(block))
+            write_all(stream, end.join([*block, ""]))
             block, size = [], 0
     if block:
-        write_line(stream, "\n".join(block))
+        write_all(stream, end.join([*block, ""]))
 
 
 def encoded(text: str) -> bytes:

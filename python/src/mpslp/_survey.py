@@ -7,14 +7,16 @@ import time
 from collections import Counter
 from collections.abc import Callable, Iterable, Iterator, Mapping, Sequence
 from dataclasses import dataclass, field, replace
-from functools import cached_property
+from functools import cached_property, partial
 from typing import Any, Literal, Optional, TypeAlias
 
 from mpslp import _mpslp
-from mpslp._adapt import AdaptError, adapt_text
+from mpslp._adapt import DIALECTS, AdaptError, adapt_text
+from mpslp._adapt._changes import NO_DIALECT
 from mpslp._faults import ModelFileError
 from mpslp._files import model_files
 from mpslp._sources import Format, Path, Text, format_of_name, read
+from mpslp._workers import results_in_order
 
 Result: TypeAlias = Literal["accepted", "adapted", "rejected", "unreadable"]
 """What came of a file."""
@@ -143,23 +145,35 @@ class Survey:
 _FIELDS = ("path", "result", "format", "bytes", "seconds", "rows", "columns", "entries", "digest", "error", "line", "reason", "changes")
 
 
-def survey(*paths: Path, jobs: int = 1) -> Survey:
+def survey(*paths: Path, jobs: int = 1, dialect: Optional[str] = None) -> Survey:
     """Returns what there is in collections of model files: directories, with all below them, and files.
 
-    Each file is read; one that is rejected is adapted, as :func:`adapt` does without a dialect, and read again. Nothing is
-    written. ``jobs`` is the number of processes that work on files. As with ``multiprocessing``, a script that asks for more
-    than one has to guard what it runs by ``if __name__ == "__main__":``.
+    Each file is read; one that is rejected is adapted, as :func:`adapt` does without a dialect, and read again. With a dialect,
+    as for :func:`adapt`, each file is adapted. Nothing is written. ``jobs`` is the number of processes that work on files. As
+    with ``multiprocessing``, a script that asks for more than one has to guard what it runs by ``if __name__ == "__main__":``.
 
     Files and directories that do not open are in the result, as ``"unreadable"``.
     """
-    return survey_of(map(os.fsdecode, paths), jobs)
+    if dialect is not None and dialect not in (*DIALECTS, NO_DIALECT):
+        raise ValueError(f"unknown dialect: {dialect!r} is none of {', '.join((*DIALECTS, NO_DIALECT))}")
+    return survey_of(map(os.fsdecode, paths), jobs, dialect=dialect)
 
 
-def survey_of(paths: Iterable[str], jobs: int, watch: Callable[[int, int], None] = lambda done, total: None) -> Survey:
-    """The survey of paths. After each file ``watch`` gets the number of those that are done, and of all."""
+def survey_of(
+    paths: Iterable[str],
+    jobs: int,
+    watch: Callable[[int, int], None] = lambda done, total: None,
+    dialect: Optional[str] = None,
+    format: Optional[Format] = None,
+) -> Survey:
+    """The survey of paths. After each file ``watch`` gets the number of those that are done, and of all.
+
+    The format is that of files whose extension does not say it.
+    """
     start = time.perf_counter()
     below, found = files_below(paths)
-    for done, file in enumerate(each_file(below, jobs), 1):
+    watch(0, len(below))
+    for done, file in enumerate(results_in_order(partial(surveyed_file, dialect=dialect, format=format), below, jobs), 1):
         found.append(file)
         watch(done, len(below))
     return Survey(tuple(sorted(found, key=lambda file: file.path)), time.perf_counter() - start)
@@ -172,42 +186,15 @@ def files_below(paths: Iterable[str]) -> tuple[list[str], list[SurveyedFile]]:
     return found, failed
 
 
-def each_file(paths: Sequence[str], jobs: int) -> Iterator[SurveyedFile]:
-    """What there is of each file, in order."""
-    workers = min(jobs, len(paths))
-    if workers < 2:
-        yield from map(surveyed_file, paths)
-        return
-    from concurrent.futures import ProcessPoolExecutor
-    from concurrent.futures.process import BrokenProcessPool
-    from multiprocessing import get_context
-
-    # New processes: a forked one may not call the library if its parent has threads.
-    pool = ProcessPoolExecutor(workers, get_context("spawn"), _leave_interrupts)
-    try:
-        yield from pool.map(surveyed_file, paths)
-    except BrokenProcessPool:
-        raise ChildProcessError("a process of the survey ended before its file was done") from None
-    finally:
-        pool.shutdown(cancel_futures=True)
-
-
-def _leave_interrupts() -> None:
-    """An interrupt ends the process that waits for this one, which then gets no further file."""
-    import signal
-
-    signal.signal(signal.SIGINT, signal.SIG_IGN)
-
-
-def surveyed_file(path: str) -> SurveyedFile:
+def surveyed_file(path: str, dialect: Optional[str] = None, format: Optional[Format] = None) -> SurveyedFile:
     """What there is of a file."""
-    start, size = time.perf_counter(), 0
+    start, size, named = time.perf_counter(), 0, format_of_name(path)
     try:
         size = os.stat(path).st_size
-        found = _of_text(path, read(path, None))
+        found = _of_text(path, read(path, named or format), dialect)
     except (OSError, ImportError, MemoryError, ValueError) as error:
         found = _unreadable(path, error)
-    return replace(found, format=format_of_name(path), bytes=size, seconds=round(time.perf_counter() - start, 6))
+    return replace(found, format=named or format, bytes=size, seconds=round(time.perf_counter() - start, 6))
 
 
 def _unreadable(path: str, error: Exception) -> SurveyedFile:
@@ -220,28 +207,30 @@ def _unreadable(path: str, error: Exception) -> SurveyedFile:
     return SurveyedFile(path, "unreadable", reason=reason)
 
 
-def _of_text(path: str, text: Text) -> SurveyedFile:
+def _of_text(path: str, text: Text, dialect: Optional[str]) -> SurveyedFile:
     try:
-        return SurveyedFile(path, "accepted", **_model(text.content, text.format))
+        model = _model(text.content, text.format)
     except ModelFileError as error:
-        return _adapted(path, text, error)
+        return _adapted(path, text, dialect, error)
+    return SurveyedFile(path, "accepted", **model) if dialect in (None, NO_DIALECT) else _adapted(path, text, dialect, None)
 
 
-def _adapted(path: str, text: Text, error: ModelFileError) -> SurveyedFile:
-    """What there is of a file that is rejected: the model that adapt makes of it, or why there is none."""
+def _adapted(path: str, text: Text, dialect: Optional[str], error: Optional[ModelFileError]) -> SurveyedFile:
+    """What there is of a file that is rejected, or of a dialect: the model that adapt makes of it, or why there is none."""
+    found: dict[str, Any] = {} if error is None else {"error": error.kind, "line": error.line}
     try:
-        done = adapt_text(text.content, "lp" if text.format == _mpslp.LP else "mps")
+        done = adapt_text(text.content, "lp" if text.format == _mpslp.LP else "mps", dialect)
         model = _model(done.text, text.format)
     except AdaptError as left:
-        return SurveyedFile(path, "rejected", error=error.kind, line=error.line, reason=_reason(left, error))
+        return SurveyedFile(path, "rejected", **found, reason=_reason(left, error))
     changes = Counter(change.kind for change in done.changes)
-    return SurveyedFile(path, "adapted", error=error.kind, line=error.line, changes=dict(changes), **model)
+    return SurveyedFile(path, "adapted" if changes else "accepted", **found, changes=dict(changes), **model)
 
 
-def _reason(left: AdaptError, error: ModelFileError) -> str:
+def _reason(left: AdaptError, error: Optional[ModelFileError]) -> str:
     """Why adapt leaves a file, or nothing if it is the error of the file."""
     again = left.rejection
-    if again is not None and (again.kind, left.line, again.name) == (error.kind, error.line, error.name):
+    if again is not None and error is not None and (again.kind, left.line, again.name) == (error.kind, error.line, error.name):
         return ""
     return left.reason if left.line is None else f"line {left.line}: {left.reason}"
 

@@ -4,24 +4,20 @@ This is a step of its own before the library, which reads what is written here a
 """
 
 from collections.abc import Sequence
-from typing import Any
 
 from mpslp._adapt._call import adapt
 from mpslp._adapt._changes import DIALECTS, AdaptError, Change, Note
 from mpslp._adapt._texts import Adapted, adapt_text
 
-__all__ = ["DIALECTS", "AdaptError", "Adapted", "Change", "Note", "adapt", "adapt_text", "add_to", "command"]
+__all__ = ["DIALECTS", "AdaptError", "Adapted", "Change", "Note", "adapt", "adapt_text", "command"]
 
 
 def command(arguments: Sequence[str]) -> int:
-    """Runs the command with its arguments, and returns its exit status."""
-    from mpslp._adapt._command import command as run  # with argparse, which the calls do not need
+    """Runs the command adapt with its arguments, and returns its exit status."""
+    from mpslp._main import main  # with argparse, which the calls do not need
+    from mpslp._output import OutputError
 
-    return run(arguments)
-
-
-def add_to(commands: Any) -> None:
-    """Adds the command to the subparsers of another parser; its default ``run`` takes the options and returns a status."""
-    from mpslp._adapt._command import add_to as add
-
-    add(commands)
+    try:
+        return main(["adapt", *arguments], "python3 -m mpslp")
+    except OutputError:
+        return 4

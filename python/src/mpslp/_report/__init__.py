@@ -6,6 +6,7 @@ It has everything within it: no network, no script, and it opens from the disk.
 from __future__ import annotations
 
 from collections.abc import Sequence
+from typing import Any
 
 import mpslp
 from mpslp._report import _sections
@@ -13,26 +14,27 @@ from mpslp._report._differences import differences
 from mpslp._report._markup import Markup, element, joined, link, section
 from mpslp._report._sections import HEADINGS
 from mpslp._report._style import STYLE
-from mpslp._report._subjects import subjects_of
-from mpslp._sources import Path
+from mpslp._report._record import record_of_subjects
+from mpslp._report._subjects import Subject, subjects_of
+from mpslp._sources import Path, Text
 
-__all__ = ["page"]
+__all__ = ["page", "record"]
 
 # Nothing is fetched, whatever a name may contain: images are within the page.
 _POLICY = "default-src 'none'; img-src data:; style-src 'unsafe-inline'"
 
 
-def page(paths: Sequence[Path], *, digits: int | None = None, by_position: bool = False) -> str:
+def page(paths: Sequence[Path | Text], *, digits: int | None = None, by_position: bool = False) -> str:
     """Returns a page of HTML about the model of a file, or about the models of two files and their differences.
+
+    A file is given by its path, or by its text, which has a path.
 
     ``digits`` and ``by_position`` are those of :func:`mpslp.diff`. The page depends only on the files, their paths and the version.
 
     Raises ModelFileError where a file declares no model, OSError where it does not open or read, and ValueError where a
     path ends in no format, or where there are not one or two paths.
     """
-    if len(paths) not in (1, 2):
-        raise ValueError(f"a page is about one file or two, not {len(paths)}")
-    subjects = subjects_of(paths)
+    subjects = _subjects(paths)
     sections = {
         "remarks": _sections.remark_list(subjects),
         "counts": _sections.counts(subjects),
@@ -64,3 +66,14 @@ def page(paths: Sequence[Path], *, digits: int | None = None, by_position: bool 
         ),
     )
     return f'<!DOCTYPE html>\n<html lang="en">\n{head}\n{body}\n</html>\n'
+
+
+def record(paths: Sequence[Path | Text], *, digits: int | None = None, by_position: bool = False) -> dict[str, Any]:
+    """Returns what the page of these files has, without the picture, as JSON has it; raises what :func:`page` raises."""
+    return record_of_subjects(_subjects(paths), digits, by_position)
+
+
+def _subjects(paths: Sequence[Path | Text]) -> list[Subject]:
+    if len(paths) not in (1, 2):
+        raise ValueError(f"a page is about one file or two, not {len(paths)}")
+    return subjects_of(paths)

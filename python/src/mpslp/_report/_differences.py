@@ -33,7 +33,7 @@ def differences(first: Subject, second: Subject, digits: int | None, by_position
         return element("p", "The files define the same model.")
     sorts: Counter[str] = Counter()
     shown: list[Markup] = []
-    for each in _found(first, second, digits, by_position):
+    for each in found_differences(first, second, digits, by_position):
         sorts[type(each).__name__] += 1
         if len(shown) < _MOST_SHOWN:
             shown.append(element("li", code(str(each))))
@@ -52,7 +52,8 @@ def differences(first: Subject, second: Subject, digits: int | None, by_position
     )
 
 
-def _found(first: Subject, second: Subject, digits: int | None, by_position: bool) -> Iterable[object]:
+def found_differences(first: Subject, second: Subject, digits: int | None, by_position: bool) -> Iterable[object]:
+    """The differences of two models."""
     if not by_position:
         return mpslp.diff(first.model, second.model, digits=digits)
     # Positions are those of the texts.

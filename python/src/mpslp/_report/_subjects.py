@@ -30,15 +30,16 @@ class Subject(NamedTuple):
     declared: Declared
 
 
-def subjects_of(paths: Sequence[Path]) -> list[Subject]:
-    """Reads files; raises ModelFileError, ValueError or OSError as ``mpslp.load`` does."""
-    return [_subject(path, label) for path, label in zip(paths, _labels(paths))]
+def subjects_of(sources: Sequence[Path | Text]) -> list[Subject]:
+    """Reads files, or takes their texts; raises ModelFileError, ValueError or OSError as ``mpslp.load`` does."""
+    paths = [str(each.filename) if isinstance(each, Text) else each for each in sources]
+    return [_subject(source, path, label) for source, path, label in zip(sources, paths, _labels(paths))]
 
 
-def _subject(path: Path, label: str) -> Subject:
+def _subject(source: Path | Text, path: Path, label: str) -> Subject:
     import hashlib  # as in mpslp._models
 
-    text = read(path, None)
+    text = source if isinstance(source, Text) else read(source, None)
     with naming(text):
         model = model_of(_mpslp.load(text.content, text.format))
         digest = hashlib.sha256(_mpslp.canonical(text.content, text.format, _mpslp.MPS)).hexdigest()

@@ -1,0 +1,42 @@
+"""The command survey."""
+
+from __future__ import annotations
+
+import argparse
+import sys
+
+from mpslp._commands import _options
+from mpslp._commands._inputs import STANDARD_INPUT
+from mpslp._commands._options import add_files, add_one_of, add_options, flag
+from mpslp._commands._outcomes import Status, UsageError
+from mpslp._commands._progress import Progress
+from mpslp._output import write_all, write_line
+from mpslp._survey import survey_of
+
+USAGE = "[OPTION].. FILE.."
+DESCRIPTION = """\
+Print a table of model files: which are accepted, accepted after adapt, or
+rejected, how large they are, and which define one model. Nothing is written.
+The exit status is 0 also if files are rejected."""
+DETAILS = """\
+The table has a line for each file, and a summary at the end: kinds of errors and of changes, and groups of files that define one
+model. The exit status is 4 if a file cannot be read. With --from, each file is read as one that this program wrote."""
+
+
+def add(parser: argparse.ArgumentParser) -> None:
+    add_files(parser, "a directory or a model file")
+    add_one_of(parser, _options.JSON, flag("--csv", help="print comma-separated values, a line for each file"))
+    add_options(parser, _options.DIALECT, _options.JOBS, _options.QUIET)
+
+
+def run(options: argparse.Namespace) -> Status:
+    if STANDARD_INPUT in options.files:
+        raise UsageError("survey reads files and directories, not standard input")
+    try:
+        with Progress(0, not options.quiet) as progress:
+            found = survey_of(options.files, options.jobs, progress.set, options.dialect, options.format)
+    except ChildProcessError as error:
+        write_line(sys.stderr, str(error))
+        return Status.FAILED
+    write_all(sys.stdout, found.csv() if options.csv else found.json() if options.json else f"{found}\n")
+    return Status.FAILED if found.results["unreadable"] else Status.DONE
