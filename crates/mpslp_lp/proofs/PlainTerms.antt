@@ -32,7 +32,7 @@ use Rattle.mpslp_lp.proofs.LineTokens.{tokens-next, tokens-own, tokens-refused}
 use Rattle.mpslp_lp_grammar.proofs.TokenAnswers.{one-parsed}
 
 -- a terminal that is accepted
-step : (context after : Context) (state next : State) (found more : List Token) (terminal : Terminal) → Begins found terminal more → take context state terminal ≡ Goes after next
+pub step : (context after : Context) (state next : State) (found more : List Token) (terminal : Terminal) → Begins found terminal more → take context state terminal ≡ Goes after next
     → take_tokens context state found ≡ take_tokens after next more
 step context after state next found more terminal b goes =
     ap (take_tokens context state) b.tokens ∙ tokens-next context after state next b.token more b.sound (ap (take context state) b.is ∙ goes)

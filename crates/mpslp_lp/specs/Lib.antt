@@ -8,3 +8,4 @@ pub mod Fed
 pub mod FedLaws
 -- ---- what only the code cites
 pub mod PlainTerm
+pub mod PlainPhrase

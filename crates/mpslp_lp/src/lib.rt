@@ -4,13 +4,18 @@
 //! `specs/` are those of a whole text (`LpText`, `FirstFault`), of lines read one after another (`LineByLine`), and of what was
 //! read of a text that comes in pieces (`Fed`).
 //!
-//! [`LpReader`] reads text in pieces: it takes the tokens of each line, going from state to state, and takes plain terms of rows
-//! at once (`plain_terms`). [`read_lp`] reads a whole text. [`tokens_of`] divides a line into tokens.
+//! [`LpReader`] reads text in pieces: it takes the tokens of each line, going from state to state, and takes plain
+//! phrases at once (`plain_phrases`). [`read_lp`] reads a whole text. [`tokens_of`] divides a line into tokens.
 #![tactic(auto)]
 
 pub mod laws;
 mod line_reader;
+mod plain_bounds;
+mod plain_names;
+mod plain_phrases;
+mod plain_rows;
 mod plain_terms;
+mod plain_tokens;
 mod read_line;
 mod reader;
 mod reading;

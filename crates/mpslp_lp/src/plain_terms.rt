@@ -4,14 +4,15 @@
 ghost use Rattle.std.specs.Prelude.{◌≡◌, ◌≤◌, ℕ, List, Ok, Err, None, IfSome, MatchResult, length};
 ghost use Rattle.mpslp_types.specs.Name.{IsMpsName};
 ghost use Rattle.mpslp_lp_grammar.specs.Declares.{TakesToken};
-ghost use Rattle.mpslp_lp.specs.PlainTerm.{Begins, IsUnsignedTerm, IsPlainTerm, TakesInRow};
+ghost use Rattle.mpslp_lp.specs.PlainTerm.{IsUnsignedTerm, IsPlainTerm, TakesInRow};
+ghost use Rattle.mpslp_lp.specs.PlainPhrase.{TakesSome};
 ghost use Rattle.mpslp_lp.specs.LineByLine.{take_tokens};
-ghost use Rattle.mpslp_lp_grammar.specs.Terminal.{Terminal};
 ghost use Rattle.mpslp_lp_grammar.specs.Rows.{without_terms};
 ghost use Rattle.mpslp_lp_tokens.specs.Token.{Token};
 ghost use Rattle.mpslp_lp_grammar.specs.declared.states.Place.{Place};
 ghost use Rattle.mpslp_lp_grammar.specs.declared.states.State.{State};
 
+use crate::plain_tokens::{next_name, next_sign};
 use crate::read_line::{error_before, least_error};
 use mpslp_lines::{LineError, value_of};
 use mpslp_lp_grammar::{
@@ -37,31 +38,6 @@ pub(crate) fn set_state(state: &mut State, next: State)
     ensures { state.new ≡ next }
 {
     *state = next;
-}
-
-/// The next token, if it is a sign.
-#[inline(always)]
-fn next_sign(tokens: &mut Tokens<'_>) -> Option<Sign>
-    ensures { IfSome result (λ sign. Begins tokens.old (Terminal.Sign sign) tokens.new) }
-{
-    let token = tokens.next()?;
-    match classify(token.kind, token.text) {
-        Ok(TerminalKind::Sign(sign)) => Some(sign),
-        _ => None,
-    }
-}
-
-/// The next token, if it is a name.
-#[inline(always)]
-fn next_name<'a>(tokens: &mut Tokens<'a>) -> Option<&'a [u8]>
-    ensures next { IfSome result (λ name. Begins tokens.old (Terminal.Name name.now) tokens.new) }
-    ensures legal { IfSome result (λ name. IsMpsName name.now) }
-{
-    let token = tokens.next()?;
-    match classify(token.kind, token.text) {
-        Ok(TerminalKind::Name) => Some(token.text),
-        _ => None,
-    }
 }
 
 /// The text of the number (`1` if the term has none) and the name that come next.
@@ -145,28 +121,48 @@ fn take_plain_terms<'a>(
     }
 }
 
-/// Takes the plain terms of a row that come next, of which the first is that after its label. Returns the tokens after them.
+/// Takes the first term of a row, which comes after its label, and the plain terms after it. `left` are the tokens after the first
+/// term. Returns the tokens after the terms.
 #[inline(never)]
 fn take_first_terms<'a>(
     context: &mut Context,
     name: Name,
     state: &mut State,
-    tokens: Tokens<'a>,
+    term: PlainTerm<'a>,
+    left: Tokens<'a>,
 ) -> Result<Tokens<'a>, LineError>
-    ensures { MatchResult result
-        (λ left. (take_tokens context.new state.new left ≡ take_tokens context.old (State.RowLabel name) tokens.entry) × (length left ≤ length tokens.entry))
-        (λ error. TakesToken (take_tokens context.old (State.RowLabel name) tokens.entry) (Err error) context.new) }
+    requires { IsMpsName term.column.now }
+    ensures { (found : List Token) → IsPlainTerm found term.entry.sign term.entry.literal.now term.entry.column.now left.entry
+        → TakesSome context.old (State.RowLabel name) found result context.new state.new }
 {
-    let mut left = tokens.again();
-    let Some(term) = plain_term(&mut left) else {
-        set_state(state, State::RowLabel(name));
-        return Ok(tokens);
-    };
     let mut row = row_without_terms(context, name)?;
     take_plain_term(context, &mut row, term, left.again())?;
     let rest = take_plain_terms(context, &mut row, left)?;
     set_state(state, State::Between(Place::InRow(row)));
     Ok(rest)
+}
+
+/// Takes the plain terms of a row that come next, if the first of them comes after the label of the row. Returns the tokens after
+/// them.
+#[inline(always)]
+fn take_terms_after_label<'a>(
+    context: &mut Context,
+    state: &mut State,
+    tokens: Tokens<'a>,
+) -> Result<Tokens<'a>, LineError>
+    ensures { TakesSome context.old state.old tokens.entry result context.new state.new }
+{
+    let mut after_term = tokens.again();
+    let Some(term) = plain_term(&mut after_term) else {
+        return Ok(tokens);
+    };
+    match replace(state, State::AfterEnd) {
+        State::RowLabel(name) => take_first_terms(context, name, state, term, after_term),
+        other => {
+            set_state(state, other);
+            Ok(tokens)
+        }
+    }
 }
 
 /// Takes a term of the objective. `left` are the tokens after it on its line: their lexical errors are reported before the
@@ -231,13 +227,7 @@ pub(crate) fn take_terms<'a>(
     match state {
         State::Between(Place::InRow(row)) => take_plain_terms(context, row, tokens),
         State::Between(Place::InObjective(name)) => take_objective_terms(context, name, tokens),
-        State::RowLabel(_) => match replace(state, State::AfterEnd) {
-            State::RowLabel(name) => take_first_terms(context, name, state, tokens),
-            other => {
-                set_state(state, other);
-                Ok(tokens)
-            }
-        },
+        State::RowLabel(_) => take_terms_after_label(context, state, tokens),
         _ => Ok(tokens),
     }
 }

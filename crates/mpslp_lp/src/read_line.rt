@@ -10,7 +10,8 @@ ghost use Rattle.mpslp_lp_grammar.specs.Declares.{error_before, lesser_of, IsLea
 ghost use Rattle.mpslp_lp.specs.LineByLine.{token_faults, take_tokens, take_line};
 ghost use Rattle.mpslp_lp.specs.Laws.{has_legal_bytes};
 
-use crate::plain_terms::{set_state, take_terms};
+use crate::plain_phrases::take_phrases;
+use crate::plain_terms::set_state;
 use bstr::ByteSlice;
 use mpslp_lines::{LineError, are_legal_bytes, has_legal_length, lesser_kind};
 use mpslp_lp_grammar::{Context, State, TerminalToken, classify, take};
@@ -64,7 +65,7 @@ pub(crate) fn least_error(kind: FaultKind, tokens: Tokens<'_>) -> LineError
     }
 }
 
-/// Takes a token and the plain terms after it on its line. Returns the tokens after them. After a token with an error, only the
+/// Takes a token and the plain phrases after it on its line. Returns the tokens after them. After a token with an error, only the
 /// lexical errors of the others matter.
 #[inline(always)]
 fn take_token<'a>(
@@ -89,10 +90,10 @@ fn take_token<'a>(
         Ok(next) => set_state(state, next),
         Err(error) => return Err(error_before(error, left)),
     }
-    take_terms(context, state, left)
+    take_phrases(context, state, left)
 }
 
-/// Takes a token and the tokens after it on its line. Each is classified once, except where a plain term could begin but does
+/// Takes a token and the tokens after it on its line. Each is classified once, except where a plain phrase could begin but does
 /// not.
 #[inline(never)]
 fn take_others<'a>(
@@ -116,13 +117,13 @@ fn take_others<'a>(
     }
 }
 
-/// Takes the tokens of a line. Most lines of a row or the objective have only plain terms, for which the state is not moved.
+/// Takes the tokens of a line. Most lines have only plain phrases, for which no state is moved with each token.
 fn take_tokens(context: &mut Context, state: &mut State, line: &[u8]) -> Result<(), LineError>
     ensures { MatchResult result
         (λ _. take_tokens context.old state.old (tokens line.now) ≡ Goes context.new state.new)
         (λ error. TakesToken (take_tokens context.old state.old (tokens line.now)) (Err error) context.new) }
 {
-    let mut left = take_terms(context, state, tokens_of(line))?;
+    let mut left = take_phrases(context, state, tokens_of(line))?;
     match left.next() {
         Some(first) => take_others(context, state, first, left),
         None => Ok(()),

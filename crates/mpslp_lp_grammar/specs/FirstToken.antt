@@ -15,6 +15,8 @@ use Rattle.mpslp_lp_grammar.specs.declared.states.LastWord.TheVariants.{To, That
 use Rattle.mpslp_lp_grammar.specs.Items.{fits_second, one}
 use Rattle.mpslp_lp_grammar.specs.Rows.{default_row, without_terms, fits_left}
 use Rattle.mpslp_lp_grammar.specs.Grammar.{may_begin_section}
+use Rattle.mpslp_lp_grammar.specs.declared.states.ListSection.{ListSection}
+use Rattle.mpslp_lp_grammar.specs.declared.states.ListSection.TheVariants as lists
 use Rattle.mpslp_lp_grammar.specs.declared.states.ItemOwner.TheVariants.{OfObjective, OfRow}
 use Rattle.mpslp_lp_grammar.specs.declared.states.SideOwner.TheVariants.{SideOfRow, SideOfBound}
 use Rattle.mpslp_lp_grammar.specs.declared.states.State.TheVariants.{Between, AtObjective, AtLastWord, AtSemi, Signs, RowName, RowSign, RowNumber, RowLeft, BoundName, BoundSign, BoundLeft, AtSide, AfterEnd}
@@ -72,6 +74,17 @@ name_taken place kind_declared context terminal = elim terminal as (λ _. AfterT
   | Terminal.Name column ↦ declare_at context terminal place (declare_column column ∷ kind_declared column ∷ [])
   | _ ↦ refuse context terminal BadToken
 ]
+
+-- where the names of a section are listed, and the kind that it gives their columns
+abbrev pub listed_at : ListSection → Place
+listed_at lists.Generals = InGenerals
+listed_at lists.Binaries = InBinaries
+listed_at lists.Semis = InSemis
+
+abbrev pub kind_declared : ListSection → List ℕ → Declaration
+kind_declared lists.Generals = declare_integer
+kind_declared lists.Binaries = declare_binary
+kind_declared lists.Semis = declare_semi
 
 abbrev pub begin_phrase : Place → Context → Terminal → AfterToken
 begin_phrase AtStart context terminal = refuse context terminal BadToken

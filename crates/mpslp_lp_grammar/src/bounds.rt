@@ -9,7 +9,7 @@ ghost use Rattle.mpslp_lp_grammar.specs.Items.{limits_by, flip};
 ghost use Rattle.mpslp_lp_grammar.specs.Grammar.{no_limits};
 ghost use Rattle.mpslp_lp_grammar.specs.TokenByToken.{new_column};
 ghost use Rattle.mpslp_lp_grammar.specs.TerminalToken.{HasLegalName, terminal_of_token};
-ghost use Rattle.mpslp_lp_grammar.specs.Declares.{DeclaresSides, TakesToken};
+ghost use Rattle.mpslp_lp_grammar.specs.Declares.{TakesToken, answer_at};
 ghost use Rattle.mpslp_lp_grammar.specs.Phrase.{terminal_fault};
 ghost use Rattle.mpslp_lp_grammar.specs.Terminal.{Terminal};
 ghost use Rattle.mpslp_lp_grammar.specs.declared.states.Place.{Place};
@@ -68,6 +68,42 @@ pub(crate) fn take_second_relation(
     }
 }
 
+/// Declares the limits that a relation and its right-hand side give a column, and first the column if it is new.
+///
+/// # Errors
+///
+/// `Fault` if the builder rejects it, with the first error; `OutOfMemory` if an allocation fails. After an error nothing is
+/// known of the context.
+pub fn declare_bound(
+    context: &mut Context,
+    is_new: bool,
+    column: &[u8],
+    relation: Relation,
+    limit: &GivenLimit,
+) -> Result<(), LineError>
+    requires { IsMpsName column.now }
+    ensures { (terminal : Terminal) (place : Place) → terminal_fault context.old terminal ≡ None
+        → TakesToken (take_bound context.old (new_column is_new column.now) column.now (limits_by relation limit.now) terminal place) (answer_at place result) context.new }
+{
+    context
+        .earlier
+        .declare_bound_by(is_new, column, relation, limit)
+}
+
+/// Declares that a column has no limits, and first the column if it is new.
+///
+/// # Errors
+///
+/// Those of [`declare_bound`].
+pub fn declare_free(context: &mut Context, column: &[u8]) -> Result<(), LineError>
+    requires { IsMpsName column.now }
+    ensures { TakesToken (take_bound context.old (declare_column column.now ∷ []) column.now no_limits Terminal.Free (Place.InBounds None)) (answer_at (Place.InBounds None) result) context.new }
+{
+    context
+        .earlier
+        .declare_bound(true, column, Some(Limit::MinusInf), Some(Limit::PlusInf))
+}
+
 /// Takes a token that completes the right-hand side of a bound, and declares the bound.
 pub(crate) fn take_bound(
     context: &mut Context,
@@ -81,12 +117,8 @@ pub(crate) fn take_bound(
     ensures { TakesToken (take_bound context.old (new_column is_new column) column (limits_by relation limit.now) (terminal_of_token token.now) (Place.InBounds None)) result context.new }
 {
     each_name_is_legal(&column);
-    at_place(
-        context
-            .earlier
-            .declare_bound_by(is_new, column.as_bytes(), relation, limit),
-        Place::InBounds(None),
-    )
+    let answer = declare_bound(context, is_new, column.as_bytes(), relation, limit);
+    at_place(answer, Place::InBounds(None))
 }
 
 /// Takes `free` after the column of a bound.
@@ -94,15 +126,8 @@ pub(crate) fn take_free(context: &mut Context, column: Name) -> Result<State, Li
     ensures { TakesToken (take_bound context.old (declare_column column ∷ []) column no_limits Terminal.Free (Place.InBounds None)) result context.new }
 {
     each_name_is_legal(&column);
-    at_place(
-        context.earlier.declare_bound(
-            true,
-            column.as_bytes(),
-            Some(Limit::MinusInf),
-            Some(Limit::PlusInf),
-        ),
-        Place::InBounds(None),
-    )
+    let answer = declare_free(context, column.as_bytes());
+    at_place(answer, Place::InBounds(None))
 }
 
 /// Takes the column of a bound after its left-hand side.
@@ -116,12 +141,8 @@ pub(crate) fn take_bound_column(
     ensures { TakesToken (take_bound context.old (declare_column column.now ∷ []) column.now (limits_by (flip relation) limit.now) (Terminal.Name column.now) (Place.InBounds (Some (column.now, relation)))) result context.new }
 {
     let name = context.earlier.copied(column)?;
-    at_place(
-        context
-            .earlier
-            .declare_bound_by(true, column, flip(relation), limit),
-        Place::InBounds(Some((name, relation))),
-    )
+    let answer = declare_bound(context, true, column, flip(relation), limit);
+    at_place(answer, Place::InBounds(Some((name, relation))))
 }
 
 /// Takes a token that completes the right-hand side of a row or a bound.

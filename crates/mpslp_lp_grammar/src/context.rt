@@ -1,11 +1,14 @@
 //! The context of a phrase: what earlier tokens mean for it.
 
-ghost use Rattle.std.specs.Prelude.{◌≡◌};
+ghost use Rattle.std.specs.Prelude.{◌≡◌, MatchResult};
+ghost use Rattle.mpslp_types.specs.Name.{IsMpsName};
+ghost use Rattle.mpslp_lines.specs.declared.errors.LineError.{LineError};
 ghost use Rattle.mpslp_lp_grammar.specs.Phrase.{start};
 
 use crate::lp_builder::LpBuilder;
 use crate::sections_seen::SectionsSeen;
-use mpslp_model::{Builder, HashSeed};
+use mpslp_lines::LineError;
+use mpslp_model::{Builder, HashSeed, Name};
 use std::alloc::Global;
 
 /// The context of a phrase: what earlier tokens mean for it.
@@ -34,6 +37,18 @@ impl Context {
             },
             earlier: LpBuilder::new(alloc, seed),
         }
+    }
+
+    /// A copy of a name.
+    ///
+    /// # Errors
+    ///
+    /// `OutOfMemory` if an allocation fails.
+    pub fn copied(&self, name: &[u8]) -> Result<Name, LineError>
+        requires { IsMpsName name.now }
+        ensures { MatchResult result (λ copy. copy ≡ name.now) (λ error. error ≡ LineError.OutOfMemory) }
+    {
+        self.earlier.copied(name)
     }
 
     /// The builder that all was declared to.

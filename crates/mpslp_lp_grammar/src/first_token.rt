@@ -9,9 +9,10 @@ ghost use Rattle.mpslp_lp_grammar.specs.declared.states.Place.{Place};
 ghost use Rattle.mpslp_lp_grammar.specs.Grammar.{may_begin_section};
 ghost use Rattle.mpslp_lp_grammar.specs.Rows.{default_row};
 ghost use Rattle.mpslp_lp_grammar.specs.TerminalToken.{HasLegalName, terminal_of_token};
-ghost use Rattle.mpslp_lp_grammar.specs.Declares.{DeclaresUnless, TakesToken};
+ghost use Rattle.mpslp_lp_grammar.specs.Declares.{DeclaresUnless, TakesToken, answer_at};
 ghost use Rattle.mpslp_lp_grammar.specs.AfterToken.{Goes, take_after_declarations, with_made};
-ghost use Rattle.mpslp_lp_grammar.specs.FirstToken.{after_section_word, open_section, begin_phrase, begin};
+ghost use Rattle.mpslp_lp_grammar.specs.FirstToken.{after_section_word, open_section, name_taken, listed_at, kind_declared, begin_phrase, begin};
+ghost use Rattle.mpslp_lp_grammar.specs.Terminal.{Terminal};
 
 use crate::answers::{at_place, refuse};
 use crate::bounds::{begin_bound, take_second_relation};
@@ -19,7 +20,7 @@ use crate::context::Context;
 use crate::items::begin_item;
 use crate::relations::Relation;
 use crate::rows::{begin_row, fits_left};
-use crate::states::{ItemOwner, LastWord, PartialRow, Place, SideOwner, State};
+use crate::states::{ItemOwner, LastWord, ListSection, PartialRow, Place, SideOwner, State};
 use crate::terminals::{TerminalKind, TerminalToken};
 use mpslp_lines::LineError;
 use mpslp_lp_tokens::SectionWord;
@@ -117,41 +118,37 @@ fn go_on_in_row(
     }
 }
 
-/// Takes a name in the Generals section.
-fn take_general(context: &mut Context, token: &TerminalToken<'_>) -> Result<State, LineError>
-    requires { HasLegalName token.now }
-    ensures { TakesToken (begin_phrase Place.InGenerals context.old (terminal_of_token token.now)) result context.new }
+/// Declares a column that a section lists, and its kind.
+///
+/// # Errors
+///
+/// `Fault` if the builder rejects it, with the first error; `OutOfMemory` if an allocation fails. After an error nothing is
+/// known of the context.
+pub fn declare_listed(
+    context: &mut Context,
+    section: ListSection,
+    column: &[u8],
+) -> Result<(), LineError>
+    requires { IsMpsName column.now }
+    ensures { TakesToken (name_taken (listed_at section) (kind_declared section) context.old (Terminal.Name column.now)) (answer_at (listed_at section) result) context.new }
 {
-    match token.kind {
-        TerminalKind::Name => at_place(
-            context.earlier.declare_integer(token.text),
-            Place::InGenerals,
-        ),
-        _ => refuse(context, token, FaultKind::BadToken),
-    }
+    context.earlier.declare_listed(section, column)
 }
 
-/// Takes a name in the Binaries section.
-fn take_binary(context: &mut Context, token: &TerminalToken<'_>) -> Result<State, LineError>
+/// Takes a token in a section that lists names of columns.
+fn take_listed(
+    context: &mut Context,
+    section: ListSection,
+    token: &TerminalToken<'_>,
+) -> Result<State, LineError>
     requires { HasLegalName token.now }
-    ensures { TakesToken (begin_phrase Place.InBinaries context.old (terminal_of_token token.now)) result context.new }
+    ensures { TakesToken (name_taken (listed_at section) (kind_declared section) context.old (terminal_of_token token.now)) result context.new }
 {
     match token.kind {
-        TerminalKind::Name => at_place(
-            context.earlier.declare_binary(token.text),
-            Place::InBinaries,
-        ),
-        _ => refuse(context, token, FaultKind::BadToken),
-    }
-}
-
-/// Takes a name in the semi-continuous section.
-fn take_semi(context: &mut Context, token: &TerminalToken<'_>) -> Result<State, LineError>
-    requires { HasLegalName token.now }
-    ensures { TakesToken (begin_phrase Place.InSemis context.old (terminal_of_token token.now)) result context.new }
-{
-    match token.kind {
-        TerminalKind::Name => at_place(context.earlier.declare_semi(token.text), Place::InSemis),
+        TerminalKind::Name => {
+            let answer = declare_listed(context, section, token.text);
+            at_place(answer, section.place())
+        }
         _ => refuse(context, token, FaultKind::BadToken),
     }
 }
@@ -187,9 +184,9 @@ fn begin_phrase(
         Place::BetweenRows => begin_labelled(context, token),
         Place::InRow(row) => go_on_in_row(context, row, token),
         Place::InBounds(left) => begin_in_bounds(context, left, token),
-        Place::InGenerals => take_general(context, token),
-        Place::InBinaries => take_binary(context, token),
-        Place::InSemis => take_semi(context, token),
+        Place::InGenerals => take_listed(context, ListSection::Generals, token),
+        Place::InBinaries => take_listed(context, ListSection::Binaries, token),
+        Place::InSemis => take_listed(context, ListSection::Semis, token),
     }
 }
 

@@ -27,10 +27,15 @@ mod states;
 mod terminals;
 mod token_step;
 
+pub use bounds::{declare_bound, declare_free};
 pub use context::Context;
+pub use first_token::declare_listed;
+pub use given_limit::GivenLimit;
 pub use items::declare_objective_term;
-pub use rows::row_without_terms;
+pub use relations::Relation;
+pub use rows::{declare_row, fits_left, fits_second, row_without_terms};
+pub use sides::{flip, limit_of_terminal};
 pub use signs::Sign;
-pub use states::{PartialRow, Place, State};
+pub use states::{ListSection, PartialRow, Place, State};
 pub use terminals::{TerminalKind, TerminalToken, classify};
 pub use token_step::take;

@@ -11,11 +11,12 @@ ghost use Rattle.std.specs.List.{flat_map};
 ghost use Rattle.mpslp_lp_grammar.specs.TokenByToken.{new_column};
 ghost use Rattle.mpslp_lp_grammar.specs.Items.{limits_by};
 ghost use Rattle.mpslp_lp_grammar.specs.Declares.{Declares, DeclaresBounds, DeclaresSides};
+ghost use Rattle.mpslp_lp_grammar.specs.FirstToken.{kind_declared};
 
 use crate::given_limit::GivenLimit;
 use crate::items::one;
 use crate::relations::Relation;
-use crate::states::{PartialParts, PartialRow};
+use crate::states::{ListSection, PartialParts, PartialRow};
 use itoa::Buffer;
 use mpslp_builder::{ReaderBuilder, RowTerms};
 use mpslp_decimal::Decimal;
@@ -232,7 +233,7 @@ impl LpBuilder {
     }
 
     /// Declares a column and that it is integer.
-    pub(crate) fn declare_integer(&mut self, column: &[u8]) -> Result<(), LineError>
+    fn declare_integer(&mut self, column: &[u8]) -> Result<(), LineError>
         requires { IsMpsName column.now }
         ensures { Declares self.old (declare_column column.now ∷ declare_integer column.now ∷ []) result self.new }
     {
@@ -241,7 +242,7 @@ impl LpBuilder {
     }
 
     /// Declares a column and that it is binary.
-    pub(crate) fn declare_binary(&mut self, column: &[u8]) -> Result<(), LineError>
+    fn declare_binary(&mut self, column: &[u8]) -> Result<(), LineError>
         requires { IsMpsName column.now }
         ensures { Declares self.old (declare_column column.now ∷ declare_binary column.now ∷ []) result self.new }
     {
@@ -250,12 +251,28 @@ impl LpBuilder {
     }
 
     /// Declares a column and that it is semi-continuous.
-    pub(crate) fn declare_semi(&mut self, column: &[u8]) -> Result<(), LineError>
+    fn declare_semi(&mut self, column: &[u8]) -> Result<(), LineError>
         requires { IsMpsName column.now }
         ensures { Declares self.old (declare_column column.now ∷ declare_semi column.now ∷ []) result self.new }
     {
         self.declare_column(column)?;
         self.make_semi(column)
+    }
+
+    /// Declares a column and the kind that a section which lists it gives it.
+    pub(crate) fn declare_listed(
+        &mut self,
+        section: ListSection,
+        column: &[u8],
+    ) -> Result<(), LineError>
+        requires { IsMpsName column.now }
+        ensures { Declares self.old (declare_column column.now ∷ kind_declared section column.now ∷ []) result self.new }
+    {
+        match section {
+            ListSection::Generals => self.declare_integer(column),
+            ListSection::Binaries => self.declare_binary(column),
+            ListSection::Semis => self.declare_semi(column),
+        }
     }
 
     /// Declares that an existing column is integer.

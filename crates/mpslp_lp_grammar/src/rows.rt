@@ -5,7 +5,8 @@ ghost use Rattle.mpslp_lp_grammar.specs.Rows.{fits_left, row_limits, row_declare
 ghost use Rattle.mpslp_lines.specs.declared.errors.LineError.{LineError};
 ghost use Rattle.mpslp_lp_grammar.specs.Items.{fits_second};
 ghost use Rattle.mpslp_lp_grammar.specs.TerminalToken.{HasLegalName, terminal_of_token};
-ghost use Rattle.mpslp_lp_grammar.specs.Declares.{TakesToken};
+ghost use Rattle.mpslp_lp_grammar.specs.Declares.{TakesToken, answer_at};
+ghost use Rattle.mpslp_lp_grammar.specs.Terminal.{Terminal};
 ghost use Rattle.mpslp_types.specs.Limit.{is_given};
 ghost use Rattle.mpslp_types.specs.declared.kinds.Limit.{Limit};
 ghost use Rattle.mpslp_lp_grammar.specs.Phrase.{terminal_fault};
@@ -25,7 +26,7 @@ use mpslp_lines::LineError;
 use mpslp_model::{FaultKind, Limit, Name};
 
 /// Whether the relations on both sides of a row or column agree: both are `<` or both are `>`.
-pub(crate) fn fits_second(first: Relation, second: Relation) -> bool
+pub fn fits_second(first: Relation, second: Relation) -> bool
     ensures { result ≡ fits_second first second }
 {
     match first {
@@ -36,7 +37,7 @@ pub(crate) fn fits_second(first: Relation, second: Relation) -> bool
 }
 
 /// Whether the relation agrees with that of the row's left-hand side, if it has one.
-pub(crate) fn fits_left(row: &PartialRow, relation: Relation) -> bool
+pub fn fits_left(row: &PartialRow, relation: Relation) -> bool
     ensures { result ≡ fits_left row.now.left relation }
 {
     match &row.parts.left {
@@ -113,6 +114,28 @@ fn upper_limit(row: &PartialRow, relation: Relation, right: &GivenLimit) -> Limi
     }
 }
 
+/// Declares a row that its right-hand side completes.
+///
+/// # Errors
+///
+/// `Fault` if the builder rejects it, with the first error; `OutOfMemory` if an allocation fails. After an error nothing is
+/// known of the context.
+pub fn declare_row(
+    context: &mut Context,
+    row: PartialRow,
+    relation: Relation,
+    right: &GivenLimit,
+) -> Result<(), LineError>
+    ensures { (terminal : Terminal) → terminal_fault context.old terminal ≡ None
+        → TakesToken (declare_at context.old terminal Place.BetweenRows (row_declared row (row_limits row.left relation right.now))) (answer_at Place.BetweenRows result) context.new }
+{
+    let lower = lower_limit(&row, relation, right);
+    let upper = upper_limit(&row, relation, right);
+    let answer = context.earlier.declare_partial(&row, lower, upper);
+    context.earlier.keep_parts(row);
+    answer
+}
+
 /// Completes a row with its right-hand side, and declares it.
 pub(crate) fn end_row(
     context: &mut Context,
@@ -124,9 +147,6 @@ pub(crate) fn end_row(
     requires { terminal_fault context.old (terminal_of_token token.now) ≡ None }
     ensures { TakesToken (declare_at context.old (terminal_of_token token.now) Place.BetweenRows (row_declared row (row_limits row.left relation right.now))) result context.new }
 {
-    let lower = lower_limit(&row, relation, right);
-    let upper = upper_limit(&row, relation, right);
-    let answer = context.earlier.declare_partial(&row, lower, upper);
-    context.earlier.keep_parts(row);
+    let answer = declare_row(context, row, relation, right);
     at_place(answer, Place::BetweenRows)
 }

@@ -12,7 +12,7 @@ use crate::terminals::{TerminalKind, TerminalToken};
 use mpslp_model::Limit;
 
 /// The limit that a number or an infinity gives after the signs before it; `None` for any other token.
-pub(crate) fn limit_of_terminal(sign: Sign, token: &TerminalToken<'_>) -> Option<GivenLimit>
+pub fn limit_of_terminal(sign: Sign, token: &TerminalToken<'_>) -> Option<GivenLimit>
     ensures { result ≡ limit_of_terminal sign (terminal_of_token token.now) }
 {
     match token.kind {
@@ -23,7 +23,7 @@ pub(crate) fn limit_of_terminal(sign: Sign, token: &TerminalToken<'_>) -> Option
 }
 
 /// The relation as seen from the column, if the value is on its left.
-pub(crate) fn flip(relation: Relation) -> Relation
+pub fn flip(relation: Relation) -> Relation
     ensures { result ≡ flip relation }
 {
     match relation {

@@ -4,6 +4,7 @@ ghost use Rattle.std.specs.Prelude.{◌≡◌, Ok, Err, MatchResult};
 ghost use Rattle.mpslp_types.specs.Name.{IsMpsName};
 ghost use Rattle.mpslp_lp_grammar.specs.Declares.{AddsTerm, AddsTo};
 ghost use Rattle.mpslp_lp_grammar.specs.Grammar.{last_word_text, opened_by};
+ghost use Rattle.mpslp_lp_grammar.specs.FirstToken.{listed_at};
 ghost use Rattle.mpslp_lp_grammar.specs.TokenStep.{is_at_end};
 
 use crate::context::Context;
@@ -173,6 +174,30 @@ impl LastWord {
         match self {
             LastWord::To | LastWord::That => Place::BetweenRows,
             LastWord::Continuous => Place::InSemis,
+        }
+    }
+}
+
+/// A section that lists names of columns.
+#[derive(Clone, Copy)]
+pub enum ListSection {
+    /// The Generals section.
+    Generals,
+    /// The Binaries section.
+    Binaries,
+    /// The semi-continuous section.
+    Semis,
+}
+
+impl ListSection {
+    /// The place of each of its names.
+    pub(crate) fn place(self) -> Place
+        ensures { result ≡ listed_at self }
+    {
+        match self {
+            ListSection::Generals => Place::InGenerals,
+            ListSection::Binaries => Place::InBinaries,
+            ListSection::Semis => Place::InSemis,
         }
     }
 }

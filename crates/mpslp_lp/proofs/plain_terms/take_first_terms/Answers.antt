@@ -1,4 +1,4 @@
-use Rattle.std.proofs.Common.{rules, ◌≡◌, ◌≤◌, sym, ap, ◌∙◌, arith, ℕ, suc, List, length, inl, inr}
+use Rattle.std.proofs.Common.{rules, ◌≡◌, ◌≤◌, sym, ap, ◌∙◌, subst, arith, ℕ, suc, List, length, inl, inr}
 use Rattle.std.specs.Prelude.{None}
 use Rattle.mpslp_lp_grammar.specs.declared.signs.Sign.{Sign}
 use Rattle.mpslp_lp_grammar.specs.Rows.{without_terms}
@@ -22,17 +22,18 @@ term_shortens found first literal column more term =
     ]
 
 pub returns : goal.returns
-returns c =
-    let term = c.in-Some.term in
-    let plain : IsPlainTerm c.args.tokens term.sign term.literal.now term.column.now c.again.result = search rules in
+returns c = λ found plain.
+    let term = c.args.term in
     let row : c.in_ok-row.row ≡ without_terms c.args.name None = search rules in
     let same : c.row_without_terms.new.context ≡ c.args.context.now = search rules in
-    let left : c.again.result ≡ c.plain_term.new.tokens = search rules in
-    let fewer = term_shortens c.args.tokens term.sign term.literal.now term.column.now c.again.result plain in (
-      ap (λ (state : State). take_tokens c.row_without_terms.new.context state c.in_ok-rest.rest) c.set_state-2.ensures
+    let left : c.again.result ≡ c.args.left = search rules in
+    let again : IsPlainTerm found term.sign term.literal.now term.column.now c.again.result =
+    subst (λ (more : List Token). IsPlainTerm found term.sign term.literal.now term.column.now more) (sym left) plain in
+    let fewer = term_shortens found term.sign term.literal.now term.column.now c.args.left plain in (
+      ap (λ (state : State). take_tokens c.row_without_terms.new.context state c.in_ok-rest.rest) c.set_state.ensures
           ∙ c.in_ok-rest.ensures.0
           ∙ ap (λ (tokens : List Token). take_tokens c.row_without_terms.new.context (Between (InRow c.take_plain_term.new.row)) tokens) (sym left)
-          ∙ c.in_ok-take_plain_term.ensures.first c.args.tokens c.args.name plain row
-          ∙ ap (λ (context : Context). take_tokens context (RowLabel c.args.name) c.args.tokens) same,
-      omega (arith, c.in_ok-rest.ensures.1, fewer, ap length left),
+          ∙ c.in_ok-take_plain_term.ensures.first found c.args.name again row
+          ∙ ap (λ (context : Context). take_tokens context (RowLabel c.args.name) found) same,
+      omega (arith, c.in_ok-rest.ensures.1, fewer),
     )

@@ -1,25 +1,24 @@
-use Rattle.std.proofs.Common.{refl, subst, ap, ◌∙◌, ℕ, List, [], ◌∷◌, ◌++◌, true}
+use Rattle.std.proofs.Common.{refl, sym, subst, ap, ◌∙◌, ℕ, List, [], ◌∷◌}
 use Rattle.std.specs.Prelude.{Some}
-use Rattle.mpslp_builder.specs.Declaration.{declare_column, with_declarations, bounds_declared}
-use Rattle.mpslp_builder.specs.Refusal.{bounds_refusals}
-use Rattle.mpslp_lp_grammar.specs.TokenByToken.{new_column}
+use Rattle.mpslp_builder.specs.Declaration.{declare_column}
 use Rattle.mpslp_lp_grammar.specs.Terminal.{Terminal}
 use Rattle.mpslp_lp_grammar.specs.Items.{limits_by, flip}
-use Rattle.mpslp_lp_grammar.specs.Declares.{DeclaresSides, answer_at}
+use Rattle.mpslp_lp_grammar.specs.AfterToken.{take_bound}
+use Rattle.mpslp_lp_grammar.specs.Declares.{TokenResult, TakesToken, answer_at}
 use Rattle.mpslp_lp_grammar.specs.declared.relations.Relation.{Relation}
 use Rattle.mpslp_lp_grammar.specs.declared.states.Place.TheVariants.{InBounds}
-use Rattle.mpslp_lp_grammar.proofs.TokenAnswers.{completes}
 use Rattle.mpslp_lp_grammar.proofs.bounds.take_bound_column.Goals as goal
 
 pub returns : goal.returns
 returns c =
     let context = c.args.context.now in
-    let later = c.declare_bound_by.new.self in
+    let after = c.declare_bound-answer.new.context in
+    let answer = c.declare_bound-answer.result in
     let column = c.args.column.now in
-    let front = declare_column column ∷ [] in
-    let limits = limits_by (flip c.args.relation) c.args.limit.now in
-    completes context later (Terminal.Name column) (bounds_refusals (with_declarations context.earlier front) column limits.lower limits.upper) (InBounds (Some (column, c.args.relation)))
-    (front ++ bounds_declared column limits.lower limits.upper) c.declare_bound_by.result c.at_place.result refl
-    (c.at_place.ensures ∙ ap (λ (name : List ℕ). answer_at (InBounds (Some (name, c.args.relation))) c.declare_bound_by.result) c.in_ok-name.ensures)
-    (subst (λ (r : Relation). DeclaresSides context.earlier (new_column true column) column (limits_by r c.args.limit.now).lower (limits_by r c.args.limit.now).upper c.declare_bound_by.result later)
-    c.flip.ensures c.declare_bound_by.ensures)
+    let relation = c.args.relation in
+    let limit = c.args.limit.now in
+    let place = InBounds (Some (column, relation)) in
+    subst (λ (r : TokenResult). TakesToken (take_bound context (declare_column column ∷ []) column (limits_by (flip relation) limit) (Terminal.Name column) place) r after)
+    (sym (c.at_place.ensures ∙ ap (λ (name : List ℕ). answer_at (InBounds (Some (name, relation))) answer) c.in_ok-name.ensures))
+    (subst (λ (r : Relation). TakesToken (take_bound context (declare_column column ∷ []) column (limits_by r limit) (Terminal.Name column) place) (answer_at place answer) after)
+    c.flip.ensures (c.declare_bound-answer.ensures (Terminal.Name column) place refl))

@@ -1,21 +1,20 @@
-use Rattle.std.proofs.Common.{subst, sym, ◌∷◌}
+use Rattle.std.proofs.Common.{refl, subst, sym, ◌∷◌}
 use Rattle.std.specs.List.{flat_map}
 use Rattle.mpslp_builder.specs.Declaration.{Declarations, Draft, by_limits, declare_row}
 use Rattle.mpslp_builder.specs.Refusal.{refusals_in_turn}
 use Rattle.mpslp_lp_grammar.specs.Rows.{term_declared, row_limits, row_declared}
-use Rattle.mpslp_lp_grammar.specs.TerminalToken.{terminal_of_token}
-use Rattle.mpslp_lp_grammar.specs.Declares.{Declares}
+use Rattle.mpslp_lp_grammar.specs.Declares.{Declares, answer_at}
 use Rattle.mpslp_lp_grammar.specs.declared.states.Place.TheVariants.{BetweenRows}
 use Rattle.mpslp_lp_grammar.proofs.TokenAnswers.{completes}
-use Rattle.mpslp_lp_grammar.proofs.rows.end_row.Goals as goal
+use Rattle.mpslp_lp_grammar.proofs.rows.declare_row.Goals as goal
 
 pub returns : goal.returns
-returns c =
+returns c = λ terminal unopened.
     let context = c.args.context.now in
     let later = c.keep_parts.new.self in
     let row = c.args.row in
     let made = row_declared row (row_limits row.left c.args.relation c.args.right.now) in
-    completes context later (terminal_of_token c.args.token.now) (refusals_in_turn context.earlier made) BetweenRows made c.declare_partial-answer.result c.at_place.result c.requires c.at_place.ensures
+    completes context later terminal (refusals_in_turn context.earlier made) BetweenRows made c.declare_partial-answer.result (answer_at BetweenRows c.declare_partial-answer.result) unopened refl
     (subst (λ (draft : Draft). Declares context.earlier made c.declare_partial-answer.result draft) (sym c.keep_parts.ensures)
     (subst (λ (ds : Declarations). Declares context.earlier ds c.declare_partial-answer.result c.declare_partial-answer.new.self)
     (λ i. declare_row row.name (by_limits (c.lower_limit-lower.ensures.value i) (c.upper_limit-upper.ensures.value i)) ∷ flat_map (term_declared row.name) row.terms) c.declare_partial-answer.ensures))

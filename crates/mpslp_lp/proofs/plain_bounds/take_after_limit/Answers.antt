@@ -1,0 +1,50 @@
+use Rattle.std.proofs.Common.{sym, subst, [], ◌∷◌}
+use Rattle.std.specs.Prelude.{Some, Ok, Err}
+use Rattle.mpslp_builder.specs.Declaration.{declare_column}
+use Rattle.mpslp_lp_grammar.specs.Items.{limits_by}
+use Rattle.mpslp_lp_grammar.specs.AfterToken.{take_bound}
+use Rattle.mpslp_lp_grammar.specs.Declares.{TakesToken}
+use Rattle.mpslp_lp_grammar.specs.declared.relations.Relation.{Relation}
+use Rattle.mpslp_lp_grammar.specs.declared.states.Place.TheVariants.{InBounds}
+use Rattle.mpslp_lp_grammar.specs.declared.states.State.{State}
+use Rattle.mpslp_lp_grammar.specs.declared.states.State.TheVariants.{Between}
+use Rattle.mpslp_lp.specs.PlainPhrase.{TakesSome}
+use Rattle.mpslp_lp.proofs.PlainPhrases.{phrase-goes, phrase-refused, left-last, some-after}
+use Rattle.mpslp_lp.proofs.plain_bounds.take_after_limit.Goals as goal
+
+pub returns-in-Ok : goal.returns-in-Ok
+returns-in-Ok c = λ before is side.
+    let context = c.args.context.now in
+    let after = c.declare_bound.new.context in
+    let tokens = c.args.tokens in
+    let relation = c.in-Some.relation in
+    let column = c.in-Some-next_name.column.now in
+    let limit = c.args.limit.now in
+    let place = InBounds (Some (column, relation)) in
+    let rest = c.next_name.new.tokens in
+    let same = phrase-goes context (Between (InBounds before)) tokens rest _
+    (left-last context before tokens c.args.left c.next_relation.new.tokens rest limit relation column side c.in-Some.ensures c.in-Some-next_name.ensures.next) after (Between place)
+    (λ terminal unopened.
+    subst (λ (r : Relation). TakesToken (take_bound context (declare_column column ∷ []) column (limits_by r limit) terminal place) (Ok (Between place)) after) c.flip.ensures
+    (c.in-Ok.ensures terminal place unopened)) in
+    subst (λ (start : State). TakesSome context start tokens c.take_second_side.result c.take_second_side.new.context c.take_second_side.new.state) (sym is)
+    (some-after context after c.take_second_side.new.context (Between (InBounds before)) (Between place) c.take_second_side.new.state tokens rest c.take_second_side.result same.0 same.1
+    c.take_second_side.ensures)
+
+pub returns-in-Err : goal.returns-in-Err
+returns-in-Err c = λ before is side.
+    let context = c.args.context.now in
+    let after = c.declare_bound.new.context in
+    let tokens = c.args.tokens in
+    let relation = c.in-Some.relation in
+    let column = c.in-Some-next_name.column.now in
+    let limit = c.args.limit.now in
+    let place = InBounds (Some (column, relation)) in
+    let rest = c.next_name.new.tokens in
+    subst (λ (start : State). TakesSome context start tokens (Err c.error_before.result) after c.args.state.now) (sym is)
+    (phrase-refused context (Between (InBounds before)) tokens rest _
+    (left-last context before tokens c.args.left c.next_relation.new.tokens rest limit relation column side c.in-Some.ensures c.in-Some-next_name.ensures.next) after c.args.state.now c.in-Err.error
+    c.error_before.result
+    (λ terminal unopened.
+    subst (λ (r : Relation). TakesToken (take_bound context (declare_column column ∷ []) column (limits_by r limit) terminal place) (Err c.in-Err.error) after) c.flip.ensures
+    (c.in-Err.ensures terminal place unopened)) c.error_before.ensures)

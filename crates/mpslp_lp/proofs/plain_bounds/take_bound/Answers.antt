@@ -1,0 +1,21 @@
+use Rattle.std.proofs.Common.{subst, List}
+use Rattle.mpslp_lp_tokens.specs.Token.{Token}
+use Rattle.mpslp_lp_grammar.specs.TerminalToken.{terminal_with_text, terminal_of_token}
+use Rattle.mpslp_lp_grammar.specs.declared.terminals.TerminalKind.{TerminalKind}
+use Rattle.mpslp_lp.specs.PlainTerm.{Begins}
+use Rattle.mpslp_lp.proofs.plain_bounds.take_bound.Goals as goal
+
+pub returns-in-Name : goal.returns-in-Name
+returns-in-Name c = λ before is.
+    let first = c.in-Some.first in
+    let rest = c.next_terminal.new.tokens in
+    c.take_after_column.ensures before is
+    (subst (λ (kind : TerminalKind). Begins c.args.tokens (terminal_with_text kind first.text.now) rest) c.in-Name.is
+    (subst (λ (found : List Token). Begins found (terminal_of_token first) rest) c.again-left.ensures c.in-Some.ensures.next))
+
+pub returns-in-Some-limit_from : goal.returns-in-Some-limit_from
+returns-in-Some-limit_from c = λ before is.
+    let first = c.in-Some.first in
+    c.take_after_limit.ensures before is
+    (c.in-Some-limit_from.ensures c.args.tokens
+    (subst (λ (found : List Token). Begins found (terminal_of_token first) c.next_terminal.new.tokens) c.again-left.ensures c.in-Some.ensures.next))

@@ -1,0 +1,29 @@
+use Rattle.std.proofs.Common.{subst, ap, ◌∙◌, arith, ℕ, List}
+use Rattle.std.specs.Prelude.{Some}
+use Rattle.mpslp_lp_tokens.specs.Token.{Token}
+use Rattle.mpslp_lp_grammar.specs.declared.states.Place.TheVariants.{InBounds}
+use Rattle.mpslp_lp_grammar.specs.declared.states.State.{State}
+use Rattle.mpslp_lp_grammar.specs.declared.states.State.TheVariants.{Between}
+use Rattle.mpslp_lp.specs.LineByLine.{take_tokens}
+use Rattle.mpslp_lp.specs.PlainPhrase.{TakesSome}
+use Rattle.mpslp_lp.proofs.PlainPhrases.{bound-compared}
+use Rattle.mpslp_lp.proofs.plain_bounds.take_second_side.Goals as goal
+
+pub returns-in-Some : goal.returns-in-Some
+returns-in-Some c =
+    let context = c.args.context.now in
+    let column = c.args.column.now in
+    let relation = c.args.relation in
+    let right = c.in-Some.right in
+    let start = Between (InBounds (Some (column, relation))) in
+    subst (λ (found : List Token). TakesSome context start found c.take_right_side.result c.take_right_side.new.context c.take_right_side.new.state) c.again-left.ensures
+    (c.take_right_side.ensures start c.again-left.result (bound-compared context column relation right.relation c.in-Some.ensures.agrees) c.in-Some.ensures.begins)
+
+pub returns-in_ok-name-in-None : goal.returns-in_ok-name-in-None
+returns-in_ok-name-in-None c =
+    let context = c.args.context.now in
+    let tokens = c.args.tokens in (
+      ap (λ (next : State). take_tokens context next tokens) c.set_state.ensures
+          ∙ ap (λ (name : List ℕ). take_tokens context (Between (InBounds (Some (name, c.args.relation)))) tokens) c.in_ok-name-in-None.ensures,
+      omega arith,
+    )

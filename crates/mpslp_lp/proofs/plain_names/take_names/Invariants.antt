@@ -1,0 +1,15 @@
+use Rattle.std.proofs.Common.{◌≡◌, ◌≤◌, length}
+use Rattle.mpslp_lp.specs.LineByLine.{take_tokens}
+use Rattle.mpslp_lp_grammar.specs.FirstToken.{listed_at}
+use Rattle.mpslp_lp_grammar.specs.declared.states.State.TheVariants.{Between}
+use Rattle.mpslp_lp.proofs.plain_names.take_names.Given as goal
+
+-- the result depends on the tokens that are left
+abbrev pub invariant-names : goal.invariant-names
+invariant-names l = record {
+  left : take_tokens l.context (Between (listed_at l.section)) l.tokens ≡ take_tokens l.fn.context (Between (listed_at l.section)) l.fn.tokens;
+  fewer : length l.tokens ≤ length l.fn.tokens;
+}
+
+abbrev pub decreases-names : goal.decreases-names
+decreases-names l = length l.tokens

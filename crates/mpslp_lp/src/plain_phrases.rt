@@ -1,0 +1,37 @@
+//! Phrases that are taken as a whole and not token by token: terms, labels and right-hand sides of rows, bounds, and names that a
+//! section lists.
+
+ghost use Rattle.std.specs.Prelude.{◌≡◌, ◌≤◌, Err, MatchResult, length};
+ghost use Rattle.mpslp_lp_grammar.specs.Declares.{TakesToken};
+ghost use Rattle.mpslp_lp.specs.LineByLine.{take_tokens};
+
+use crate::plain_bounds::take_bound;
+use crate::plain_names::take_names;
+use crate::plain_rows::{take_label, take_row};
+use mpslp_lines::LineError;
+use mpslp_lp_grammar::{Context, ListSection, Place, State};
+use mpslp_lp_tokens::Tokens;
+
+/// Takes the plain phrases that come next, as far as the state allows. Returns the tokens after them.
+#[inline(never)]
+pub(crate) fn take_phrases<'a>(
+    context: &mut Context,
+    state: &mut State,
+    tokens: Tokens<'a>,
+) -> Result<Tokens<'a>, LineError>
+    ensures { MatchResult result
+        (λ left. (take_tokens context.new state.new left ≡ take_tokens context.old state.old tokens.entry) × (length left ≤ length tokens.entry))
+        (λ error. TakesToken (take_tokens context.old state.old tokens.entry) (Err error) context.new) }
+{
+    match state {
+        State::Between(Place::BetweenRows) => {
+            let left = take_label(context, state, tokens)?;
+            take_row(context, state, left)
+        }
+        State::Between(Place::InBounds(_)) => take_bound(context, state, tokens),
+        State::Between(Place::InGenerals) => take_names(context, ListSection::Generals, tokens),
+        State::Between(Place::InBinaries) => take_names(context, ListSection::Binaries, tokens),
+        State::Between(Place::InSemis) => take_names(context, ListSection::Semis, tokens),
+        _ => take_row(context, state, tokens),
+    }
+}

@@ -1,0 +1,17 @@
+use Rattle.std.proofs.Common.{refl, ◌++◌}
+use Rattle.mpslp_builder.specs.Declaration.{with_declarations, bounds_declared}
+use Rattle.mpslp_builder.specs.Refusal.{bounds_refusals}
+use Rattle.mpslp_lp_grammar.specs.TokenByToken.{new_column}
+use Rattle.mpslp_lp_grammar.specs.Items.{limits_by}
+use Rattle.mpslp_lp_grammar.specs.Declares.{answer_at}
+use Rattle.mpslp_lp_grammar.proofs.TokenAnswers.{completes}
+use Rattle.mpslp_lp_grammar.proofs.bounds.declare_bound.Goals as goal
+
+pub returns : goal.returns
+returns c = λ terminal place unopened.
+    let context = c.args.context.now in
+    let column = c.args.column.now in
+    let front = new_column c.args.is_new column in
+    let limits = limits_by c.args.relation c.args.limit.now in
+    completes context c.declare_bound_by.new.self terminal (bounds_refusals (with_declarations context.earlier front) column limits.lower limits.upper) place
+    (front ++ bounds_declared column limits.lower limits.upper) c.declare_bound_by.result (answer_at place c.declare_bound_by.result) unopened refl c.declare_bound_by.ensures
