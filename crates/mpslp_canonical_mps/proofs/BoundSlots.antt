@@ -32,7 +32,7 @@ bound_slots column = flat_map (made_of slots_of bound_decl) (bounds_in column)
 -- ---- these are the two bounds of the column
 
 each-form : (P : Slot → Type 0) (name : List ℕ) → P (lower_slot name) → P (upper_slot name) → (form : BoundForm) (value : Number) → Each P (flat_map slots_of (decl_at form name value))
-each-form v0 name l u v4 value = grind arith
+each-form P name l u form value = grind arith
 
 each-slot : (P : Slot → Type 0) (name : List ℕ) → P (lower_slot name) → P (upper_slot name) → (line_text : List PrintedBound) → Each P (slots_at name line_text)
 each-slot P name l u [] = tt
@@ -49,16 +49,16 @@ lower-once : (name : List ℕ) (a : Number) (rest : List PrintedBound) → are_d
 lower-once name a rest h k = elim (is_zero a) as (λ b. are_distinct same_slot (slots_at name (cond b [] (bound_with_value bounds.Lower a ∷ []) ++ rest)) ≡ true) [ true ↦ h | false ↦ k ]
 
 upper-once : (name : List ℕ) (kind : Kind) (b : Number) → are_distinct same_slot (slots_at name (printed_upper kind (Finite b))) ≡ true
-upper-once name v1 b = grind arith
+upper-once name kind b = grind arith
 
 no-lower-once : (name : List ℕ) (kind : Kind) (b : Number) → are_distinct same_slot (slots_at name (printed_lower MinusInf ++ printed_upper kind (Finite b))) ≡ true
-no-lower-once name v1 b = grind arith
+no-lower-once name kind b = grind arith
 
 both-once : (name : List ℕ) (kind : Kind) (a b : Number) → are_distinct same_slot (slots_at name (printed_lower (Finite a) ++ printed_upper kind (Finite b))) ≡ true
-both-once name v1 a b = grind arith
+both-once name kind a b = grind arith
 
 sides-once : (name : List ℕ) (kind : Kind) (l u : Limit) → are_distinct same_slot (slots_at name (printed_bounds kind l u)) ≡ true
-sides-once name v1 v2 v3 = grind arith
+sides-once name kind l u = grind arith
 
 -- ---- and no bound is that of another column
 

@@ -76,14 +76,14 @@ pub record InBounds (set : List ℕ) (rest : List Bound) (before : List LineCont
 
 pub bound_says : (set : List ℕ) (t : BoundForm) (x text : List ℕ) (v : Number) (context : Context) (earlier : Draft) → context.section ≡ Some Bounds → number_of text ≡ Ok v → limit_of v ≡ Finite v
     → line_declares context earlier (data_line (fields_at set t x text)) ≡ decl_at t x v
-bound_says set v1 x text v context earlier s n f = grind arith
+bound_says set t x text v context earlier s n f = grind arith
 
 set_at : (set : List ℕ) (t : BoundForm) (x text : List ℕ) → bound_set (fields_at set t x text) ≡ Some set
-set_at set v1 x text = grind arith
+set_at set t x text = grind arith
 
 pub bound_good : (set : List ℕ) (t : BoundForm) (x text : List ℕ) (v : Number) (context : Context) (earlier : Draft) → context.section ≡ Some Bounds → number_of text ≡ Ok v
     → those_of (set_tests context.bounds_set set) ≡ [] → form_faults context earlier (data_line (fields_at set t x text)) ≡ []
-bound_good set v1 x text v context earlier s n h = grind arith
+bound_good set t x text v context earlier s n h = grind arith
 
 pub bound_step : (set : List ℕ) (b : Bound) (rest : List Bound) (before : List LineContent) (earlier : Draft) → InBounds set (b ∷ rest) before earlier
     → Step (bound_item set) bound_decl (InBounds set) b rest before earlier

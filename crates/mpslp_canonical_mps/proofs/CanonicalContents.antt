@@ -144,4 +144,4 @@ under section [] = []
 under section (item ∷ items) = header_item section ∷ item ∷ items
 
 pub under-items : (section : Section) (lines : Lines) → items_in (under_header section lines) ≡ under section (items_in lines)
-under-items section v1 = grind arith
+under-items section lines = grind arith

@@ -9,7 +9,7 @@ use Rattle.mpslp_builder.specs.Declaration.{Declarations, Draft, is_free_row}
 use Rattle.mpslp_types.proofs.EachLemmas.{Each}
 use Rattle.mpslp_mps_fields.specs.Line.{LineContent, begins}
 use Rattle.mpslp_mps.specs.Context.{context_of, is_read, data_lines}
-use Rattle.mpslp_mps.specs.TextInWords.{has_section}
+use Rattle.mpslp_mps.specs.SeenSection.{has_section}
 use Rattle.mpslp_canonical_mps.proofs.HeaderWalk.{is_bare, wants_word, header_item, MayBegin, header-good, header-says, current-header, no-lines, settled-after}
 use Rattle.mpslp_mps_fields.specs.declared.sections.Section.{Section}
 use Rattle.mpslp_mps_fields.specs.declared.sections.Section.TheVariants.{Columns, Rhs, Ranges, Bounds, EndData}
@@ -28,7 +28,7 @@ pub record IsLate (before : List LineContent) (earlier : Draft) : Type 0 where
   pub objective : is_none earlier.objective ≡ false
 
 or_false : (b : Bool) → (b || false) ≡ b
-or_false v0 = grind arith
+or_false b = grind arith
 
 or_true : (b : Bool) → (true || b) ≡ true
 or_true b = refl
@@ -66,7 +66,7 @@ late-header section s before earlier h = grind (arith, settled-after, header_ite
 -- A section that is printed only if it has lines: its lines follow its header.
 under-walk : {X : Type 0} (section : Section) → IsLateSection section → (item : X → LineContent) (decl : X → Declarations) (xs : List X) (before : List LineContent) (earlier : Draft) → IsLate before earlier
     → has_section before section ≡ false → Walk (before ++ header_item section ∷ []) earlier (map item xs) (flat_map decl xs) → Walk before earlier (under section (map item xs)) (flat_map decl xs)
-under-walk section s item decl v4 before earlier h f w = grind arith
+under-walk section s item decl xs before earlier h f w = grind arith
 
 -- the lines of a section that has not begun
 pub none-yet : (section : Section) (before : List LineContent) → begins section (header_item section) ≡ true → has_section before section ≡ false → data_lines section (before ++ header_item section ∷ []) ≡ []

@@ -43,7 +43,7 @@ cells-true coefficients column kept [] = tt
 cells-true coefficients column kept (row ∷ rows) = grind (arith, cells-true coefficients column kept rows)
 
 none-first : (row : List ℕ) (o : Option Number) (cells : List (List ℕ × Number)) → cons_option (option_map (λ (value : Number). (row, value)) o) cells ≡ [] → o ≡ None
-none-first row v1 cells h = grind arith
+none-first row o cells h = grind arith
 
 line_text-true : (m : Listing) (column : List ℕ) → AllKept m.coefficients → Each (IsTrueCell m.coefficients column) (printed_coefficients m.objective (column_coefficients m column))
 line_text-true m column kept = grind (arith, cells-true, none-first)
@@ -89,7 +89,7 @@ row-hit coefficients row column value is (x ∷ rows) h =
 
 line_text-hit : (key : CoefficientKey) (column objective : List ℕ) (cells : List (List ℕ × Number)) → SomeAt key (flat_map own_coefficient (map (to_cell column) cells))
     → SomeAt key (flat_map own_coefficient (map (to_cell column) (printed_coefficients objective cells)))
-line_text-hit key column objective v3 h = grind arith
+line_text-hit key column objective cells h = grind arith
 
 join-some : (key : CoefficientKey) (left right : List (CoefficientKey × Number)) → (is_some (find key_cmp key left) || is_some (find key_cmp key right)) ≡ true → SomeAt key (left ++ right)
 join-some key left right h = grind (arith, some_append_left, key_total, same_key, some_append_right)

@@ -130,7 +130,7 @@ marker_lines : (opens : Bool) (before : List LineContent) → current_section be
 marker_lines opens before s = lines-push Columns (marker_fields opens) before (Some Columns) s
 
 last_word : (opens : Bool) (lines : List Fields) → opens_last (filter_map marker_word (lines ++ marker_fields opens ∷ [])) ≡ opens
-last_word v0 lines = grind (arith, filter_map-append, last_push)
+last_word opens lines = grind (arith, filter_map-append, last_push)
 
 pub marker_part : (opens : Bool) (before : List LineContent) → current_section before ≡ Some Columns → in_integer_part (before ++ data_line (marker_fields opens) ∷ []) ≡ opens
 marker_part opens before s = ap (λ (lines : List Fields). opens_last (filter_map marker_word lines)) (marker_lines opens before s) ∙ last_word opens (data_lines Columns before)
@@ -140,11 +140,11 @@ pub marker_last : (opens : Bool) (before : List LineContent) → current_section
 marker_last opens before s = grind (arith, marker_lines, last_push)
 
 pub marker_says : (opens : Bool) (context : Context) (earlier : Draft) → context.section ≡ Some Columns → line_declares context earlier (data_line (marker_fields opens)) ≡ []
-marker_says v0 context earlier s = grind arith
+marker_says opens context earlier s = grind arith
 
 pub marker_good : (opens : Bool) (context : Context) (earlier : Draft) → context.section ≡ Some Columns → context.in_integer_part ≡ not opens
     → form_faults context earlier (data_line (marker_fields opens)) ≡ []
-marker_good v0 context earlier s p = grind arith
+marker_good opens context earlier s p = grind arith
 
 -- ---- columns one after another
 
@@ -188,7 +188,7 @@ AreAbsent earlier groups = Each (λ (group : Group). has_column earlier group.0 
 -- a cell declares only its own column
 cell-column : (marked : Bool) (cell : Cell) (earlier : Draft) (n : List ℕ) → same_bytes n cell.column ≡ false → has_column earlier n ≡ false
     → has_column (with_declarations earlier (cell_decl marked cell)) n ≡ false
-cell-column v0 cell earlier n apart absent = grind (arith, has-put, both_false)
+cell-column marked cell earlier n apart absent = grind (arith, has-put, both_false)
 
 cells-column : (marked : Bool) (column : List ℕ) (cells : List Cell) (earlier : Draft) (n : List ℕ) → AreOf column cells → same_bytes n column ≡ false → has_column earlier n ≡ false
     → has_column (with_declarations earlier (flat_map (cell_decl marked) cells)) n ≡ false

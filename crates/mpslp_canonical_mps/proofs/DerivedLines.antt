@@ -40,7 +40,7 @@ columns-derived context earlier section = grind (arith, good-cell, cell_says, to
 -- ---- right-hand sides, ranges and bounds
 
 set-derived : (first : Option (List ℕ)) (set : List ℕ) → is_set_of first set ≡ true → those_of (set_tests first set) ≡ []
-set-derived v0 set h = grind arith
+set-derived first set h = grind arith
 
 pub rhs-derived : DeriveRhs
 rhs-derived context earlier row value section set bound decimal = grind (arith, side_says, to_side, number-text, side_good, set-derived)

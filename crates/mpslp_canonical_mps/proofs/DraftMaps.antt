@@ -53,7 +53,7 @@ drafted m = draft_of (listed_decl m)
 -- ---- small facts on entries
 
 pub none_is : {X : Type 0} (o : Option X) → is_some o ≡ false → o ≡ None
-none_is v0 h = grind arith
+none_is o h = grind arith
 
 -- ---- rows
 
@@ -66,7 +66,7 @@ pub row-at : (m : Listing) → IsSoundListing m → (q : List ℕ) → at_name (
 row-at m h q = ap (λ (es : List (List ℕ × RowDefinition)). at_name es q) (rows-drafted m h) ∙ at-mapped form_stated q m.rows
 
 puts-stated : (q : List ℕ) (o : Option Number) → puts bytes_cmp (stated q o) [] ≡ stated q o
-puts-stated q v1 = grind arith
+puts-stated q o = grind arith
 
 pub right_side-at : (m : Listing) → IsSoundListing m → (q : List ℕ)
     → at_name (drafted m).rhs_values q ≡ first_there (then_stated side_stated (at_name m.rows q)) (at_name (stated m.objective (value_stated (negated m.constant))) q)
@@ -88,7 +88,7 @@ semi-at m h q = grind (arith, semis-all, listed_decl, puts, semis-part, puts-own
 
 -- a semi-continuous column of a well-formed listing has a finite upper bound, whose line declares its type
 semi-suited : (kind : Kind) (l u : Limit) → suits kind l u ≡ true → is_some (semi_stated kind u) ≡ is_semi_kind kind
-semi-suited v0 l v2 h = grind arith
+semi-suited kind l u h = grind arith
 
 pub semis-at : (m : Listing) → IsSoundListing m → (q : List ℕ) (column : Column) → suits column.kind column.lower column.upper ≡ true → at_name m.columns q ≡ Some column
     → has_name (drafted m).semis q ≡ is_semi_kind column.kind
@@ -100,7 +100,7 @@ own-all name [] = tt
 own-all name (cell ∷ cells) = (refl, own-all name cells)
 
 own-some : (name objective : List ℕ) (cells : List (List ℕ × Number)) → is_some (at_name (flat_map own_column (map (to_cell name) (printed_coefficients objective cells))) name) ≡ true
-own-some name objective v2 = grind (arith, find-front, bytes_total, tied_names, own_column, to_cell)
+own-some name objective cells = grind (arith, find-front, bytes_total, tied_names, own_column, to_cell)
 
 abbrev names_of_cells : Listing → List ℕ × Column → List (List ℕ × Unit {0})
 names_of_cells m column = flat_map own_column (cells_in m column)

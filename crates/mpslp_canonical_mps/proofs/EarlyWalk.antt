@@ -36,15 +36,15 @@ sense_decl Minimize = []
 sense_decl Maximize = declare_sense Maximize ∷ []
 
 pub start-walk : (sense : Sense) → Walk [] empty_draft (header_item Name ∷ sense_items sense) (sense_decl sense)
-start-walk v0 = grind arith
+start-walk sense = grind arith
 
 -- ROWS may come next
 pub rows-may : (sense : Sense) → MayBegin Rows (header_item Name ∷ sense_items sense)
-rows-may v0 = grind arith
+rows-may sense = grind arith
 
 -- and there is no OBJNAME
 pub start-unnamed : (sense : Sense) → objname (header_item Name ∷ sense_items sense) ≡ None
-start-unnamed v0 = grind arith
+start-unnamed sense = grind arith
 
 -- ---- ROWS
 

@@ -66,7 +66,7 @@ abbrev sense_slots : Sense → List Slot
 sense_slots sense = flat_map slots_of (sense_decl sense)
 
 sense-section : (sense : Sense) → Section 0 (sense_slots sense)
-sense-section v0 = grind arith
+sense-section sense = grind arith
 
 -- ---- COLUMNS: the columns outside the integer block, then those in it
 

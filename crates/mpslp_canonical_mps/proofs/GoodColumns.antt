@@ -44,7 +44,7 @@ group-own name [] = tt
 group-own name (cell ∷ cells) = (refl, group-own name cells)
 
 group-some : (name objective : List ℕ) (cells : List (List ℕ × Number)) → is_nonempty (map (to_cell name) (printed_coefficients objective cells)) ≡ true
-group-some name objective v2 = grind arith
+group-some name objective cells = grind arith
 
 pub groups-good : (m : Listing) (columns : List (List ℕ × Column)) → Each IsGroup (map (group_in m) columns)
 groups-good m columns =
@@ -73,7 +73,7 @@ pairs-good coefficients column h (row ∷ rows) names = by (find key_cmp (place_
     by (Some d) is more = ((names.0, found-each key_cmp key_total same_key (λ _ x. IsDecimal x) coefficients h (place_at row column) d is), more)
 
 line_text-good : (objective : List ℕ) (cells : List (List ℕ × Number)) → same_bytes objective marker ≡ false → Each IsGoodPair cells → Each IsGoodPair (printed_coefficients objective cells)
-line_text-good objective v1 o h = grind arith
+line_text-good objective cells o h = grind arith
 
 cells-good : (m : Listing) → IsSoundListing m → (column : List ℕ × Column) → is_sound_column column ≡ true → Each GoodCell (cells_in m column)
 cells-good m h column sound =

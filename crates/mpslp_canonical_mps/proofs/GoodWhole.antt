@@ -95,7 +95,7 @@ free-at m h q =
 
 -- an N row has no right-hand side
 free-side : (l u : Limit) → is_free_definition (by_type (printed_type l u)) ≡ true → is_zero (printed_rhs l u) ≡ true
-free-side v0 v1 h = grind arith
+free-side l u h = grind arith
 
 pub objective-no-row : (m : Listing) → IsSoundListing m → at_name m.rows m.objective ≡ None
 objective-no-row m h = none_is (at_name m.rows m.objective) (sym (one_of-names m.objective m.rows) ∙ h.no_row)
@@ -130,13 +130,13 @@ abbrev IsBounded : PrintedBound → Type 0
 IsBounded bound = Holds (λ d. is_bounded_decimal d ≡ true) bound.value
 
 lower-bounded : (l : Limit) → is_lower_side l ≡ true → Each IsBounded (printed_lower l)
-lower-bounded v0 h = grind arith
+lower-bounded l h = grind arith
 
 upper-bounded : (kind : Kind) (u : Limit) → is_upper_side u ≡ true → Each IsBounded (printed_upper kind u)
-upper-bounded v0 v1 h = grind arith
+upper-bounded kind u h = grind arith
 
 all-bounded : (kind : Kind) (l u : Limit) → is_lower_side l ≡ true → is_upper_side u ≡ true → Each IsBounded (printed_bounds kind l u)
-all-bounded kind v1 v2 h k = grind arith
+all-bounded kind l u h k = grind arith
 
 good-bound : (name : List ℕ) (bound : PrintedBound) → IsBounded bound → GoodBound (to_bound name bound)
 good-bound name bound h = by bound.value h

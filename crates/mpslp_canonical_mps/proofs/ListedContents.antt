@@ -33,7 +33,7 @@ use Rattle.mpslp_canonical_mps.proofs.WholeWalk.{Whole, whole_items}
 
 fit-item : (column : List ℕ) (type : BoundType) (value : Option Number) → is_fit (record { type = type; value = value }) ≡ true
     → content_in (bound_line column (record { type = type; value = value })) ≡ bound_item (codes "BND") (to_bound column (record { type = type; value = value }))
-fit-item column v1 v2 h = grind arith
+fit-item column type value h = grind arith
 
 abbrev AllFit : List PrintedBound → Type 0
 AllFit bs = Each (λ (b : PrintedBound). is_fit b ≡ true) bs
@@ -43,16 +43,16 @@ fit-items column [] h = refl
 fit-items column (b ∷ bs) h = λ i. fit-item column b.type b.value h.0 i ∷ fit-items column bs h.1 i
 
 lower-fit : (lower : Limit) → AllFit (printed_lower lower)
-lower-fit v0 = grind arith
+lower-fit lower = grind arith
 
 upper-fit : (kind : Kind) (upper : Limit) → AllFit (printed_upper kind upper)
-upper-fit v0 v1 = grind arith
+upper-fit kind upper = grind arith
 
 both-fit : (kind : Kind) (lower upper : Limit) → AllFit (printed_lower lower ++ printed_upper kind upper)
 both-fit kind lower upper = Each-append (λ (b : PrintedBound). is_fit b ≡ true) (printed_lower lower) (printed_upper kind upper) (lower-fit lower) (upper-fit kind upper)
 
 bounds-fit : (kind : Kind) (lower upper : Limit) → AllFit (printed_bounds kind lower upper)
-bounds-fit kind v1 v2 = grind arith
+bounds-fit kind lower upper = grind arith
 
 bounds-items : (columns : List (List ℕ × Column)) → items_in (flat_map column_bound_lines columns) ≡ map (bound_item (codes "BND")) (flat_map bounds_in columns)
 bounds-items columns = grind (arith, flat-items, bound_item, bounds_in, fit-items, bounds-fit)
@@ -70,10 +70,10 @@ whole_of m = record {
 }
 
 sense-items : (sense : Sense) → items_in (sense_lines sense) ≡ sense_items sense
-sense-items v0 = grind arith
+sense-items sense = grind arith
 
 part-items : (lines : Lines) (cells : List Cell) → items_in lines ≡ map cell_item cells → items_in (integer_part lines) ≡ part_items cells
-part-items v0 v1 h = grind (arith, marker_item, map-append)
+part-items lines cells h = grind (arith, marker_item, map-append)
 
 -- the items of lines after others
 follow : (xs ys : Lines) (is js : List LineContent) → items_in xs ≡ is → items_in ys ≡ js → items_in (xs ++ ys) ≡ is ++ js

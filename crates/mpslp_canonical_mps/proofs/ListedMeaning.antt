@@ -85,7 +85,7 @@ each-kind P w sense h = each-whole P w (record {
     of_form semi_upper x v = (h.of_semi x, (h.of_upper x (Finite v), tt))
 
 sense-keeps : {X : Type 0} (part : Draft → X) (value : X) (s : Sense) → ((t : Sense) → Stays part value (declare_sense t)) → Each (Stays part value) (sense_decl s)
-sense-keeps part value v2 h = grind arith
+sense-keeps part value s h = grind arith
 
 pub constant-drafted : (m : Listing) → (drafted m).constant ≡ None
 constant-drafted m =
@@ -106,7 +106,7 @@ constant-drafted m =
 -- from the objective on
 first-named : (name : List ℕ) (s : Sense) (more : Declarations) → Each (Stays (λ d. d.objective) (Some name)) (sense_decl s ++ (declare_objective name ∷ more))
     → (with_declarations empty_draft (sense_decl s ++ (declare_objective name ∷ more))).objective ≡ Some name
-first-named name v1 more h = grind (arith, stays-all)
+first-named name s more h = grind (arith, stays-all)
 
 pub objective-drafted : (m : Listing) → (drafted m).objective ≡ Some m.objective
 objective-drafted m =
@@ -129,13 +129,13 @@ stated_sense Minimize = None
 stated_sense Maximize = Some Maximize
 
 first-sense : (s : Sense) (more : Declarations) → Each (Stays (λ d. d.sense) (stated_sense s)) (sense_decl s ++ more) → (with_declarations empty_draft (sense_decl s ++ more)).sense ≡ stated_sense s
-first-sense v0 more h = grind (arith, stays-all)
+first-sense s more h = grind (arith, stays-all)
 
 own_sense : (s : Sense) → Each (Stays (λ d. d.sense) (stated_sense s)) (sense_decl s)
-own_sense v0 = grind arith
+own_sense s = grind arith
 
 sense-back : (s : Sense) → unwrap_or (stated_sense s) Minimize ≡ s
-sense-back v0 = grind arith
+sense-back s = grind arith
 
 pub sense-drafted : (m : Listing) → unwrap_or (drafted m).sense Minimize ≡ m.sense
 sense-drafted m =
@@ -160,7 +160,7 @@ negated-twice : (d : Number) → negated (negated d) ≡ d
 negated-twice d = grind arith
 
 stated-own : (q : List ℕ) (o : Option Number) → at_name (stated q o) q ≡ o
-stated-own q v1 = grind (arith, bytes_total)
+stated-own q o = grind (arith, bytes_total)
 
 value-back : (d : Number) → IsDecimal d → unwrap_or (value_stated d) zero_number ≡ d
 value-back d h = side-stated d (zero-is d h)
@@ -171,10 +171,10 @@ constant-back m h = grind (arith, drafted, objective-drafted, value_stated, righ
 -- ---- rows
 
 stated-other : (q name : List ℕ) (o : Option Number) → eq_by_cmp bytes_cmp q name ≡ false → at_name (stated name o) q ≡ None
-stated-other q name v2 h = grind arith
+stated-other q name o h = grind arith
 
 first_none : {X : Type 0} (o : Option X) → first_there o None ≡ o
-first_none v0 = grind arith
+first_none o = grind arith
 
 no_some : {X : Type 0} (x : X) → ◌≡◌ {A = Option X} None (Some x) → ⊥
 no_some x e = cc
@@ -251,13 +251,13 @@ each-column_back m h = Each-weaker (IsOwnColumn m) (λ column. column_of (drafte
 -- ---- right-hand sides
 
 and_false : (a b : Bool) → a ≡ false → (a && b) ≡ false
-and_false v0 b h = grind arith
+and_false a b h = grind arith
 
 finite_size : (a : Number) → is_bounded_decimal a ≡ true → is_infinite_size a ≡ false
 finite_size a h = grind arith
 
 finite-side : (l u : Limit) → are_sides l u ≡ true → has_infinite_rhs (by_type (printed_type l u)) (printed_rhs l u) (printed_range l u) ≡ false
-finite-side v0 v1 h = grind (arith, and_false, finite_size)
+finite-side l u h = grind (arith, and_false, finite_size)
 
 finite-row : (m : Listing) → IsSoundListing m → (row : List ℕ × Row) → IsOwnRow m row → not (row_passes (drafted m) has_infinite_rhs (stated_row row)) ≡ true
 finite-row m h row k = grind (arith, so_not, drafted, form_stated, side-back, range-back, finite-side, row_sides)

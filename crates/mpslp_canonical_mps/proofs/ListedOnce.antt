@@ -38,7 +38,7 @@ column_slots m column = flat_map cell_slot (cells_in m column)
 
 line_text-distinct : (column objective : List ℕ) (cells : List (List ℕ × Number)) → are_distinct same_slot (flat_map cell_slot (map (to_cell column) cells)) ≡ true
     → are_distinct same_slot (flat_map cell_slot (map (to_cell column) (printed_coefficients objective cells))) ≡ true
-line_text-distinct column objective v2 h = grind arith
+line_text-distinct column objective cells h = grind arith
 
 own-distinct : (m : Listing) → IsSoundListing m → (column : List ℕ × Column) → are_distinct same_slot (column_slots m column) ≡ true
 own-distinct m h column = search (rules, line_text-distinct, column-distinct, rows-distinct)

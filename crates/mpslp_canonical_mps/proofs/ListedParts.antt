@@ -109,22 +109,22 @@ lower-front name a rest h = grind arith
 
 -- an upper bound puts nothing into the map of lower bounds
 no-lower : (name : List ℕ) (kind : Kind) (b : Number) → lowers_made name (printed_upper kind (Finite b)) ≡ []
-no-lower name v1 b = grind arith
+no-lower name kind b = grind arith
 
 as-fixed : (kind : Kind) (a b : Number) → is_fixed kind a b ≡ fixed kind have_same_value a b
-as-fixed v0 a b = grind arith
+as-fixed kind a b = grind arith
 
 pub lower-made : (name : List ℕ) (kind : Kind) (l u : Limit) → lowers_made name (printed_bounds kind l u) ≡ stated name (lower_stated kind l u have_same_value)
-lower-made name v1 v2 v3 = grind arith
+lower-made name kind l u = grind arith
 
 lower-silent : (name : List ℕ) (a : Number) (rest : List PrintedBound) → uppers_made name (printed_lower (Finite a) ++ rest) ≡ uppers_made name rest
 lower-silent name a rest = elim (is_zero a) as (λ b. uppers_made name (cond b [] (bound_with_value bounds.Lower a ∷ []) ++ rest) ≡ uppers_made name rest) [ true ↦ refl | false ↦ refl ]
 
 one-upper : (name : List ℕ) (kind : Kind) (b : Number) → uppers_made name (printed_upper kind (Finite b)) ≡ stated name (Some (Finite b))
-one-upper name v1 b = grind arith
+one-upper name kind b = grind arith
 
 pub upper-made : (name : List ℕ) (kind : Kind) (l u : Limit) → uppers_made name (printed_bounds kind l u) ≡ stated name (upper_stated kind l u)
-upper-made name v1 v2 v3 = grind arith
+upper-made name kind l u = grind arith
 
 -- ---- semi-continuous columns, by the type of their upper bounds
 
@@ -135,10 +135,10 @@ no-semi : (name : List ℕ) (a : Number) (rest : List PrintedBound) → semis_ma
 no-semi name a rest = elim (is_zero a) as (λ b. semis_made name (cond b [] (bound_with_value bounds.Lower a ∷ []) ++ rest) ≡ semis_made name rest) [ true ↦ refl | false ↦ refl ]
 
 one-semi : (name : List ℕ) (kind : Kind) (b : Number) → semis_made name (printed_upper kind (Finite b)) ≡ stated name (semi_stated kind (Finite b))
-one-semi name v1 b = grind arith
+one-semi name kind b = grind arith
 
 pub semi-made : (name : List ℕ) (kind : Kind) (l u : Limit) → semis_made name (printed_bounds kind l u) ≡ stated name (semi_stated kind u)
-semi-made name v1 v2 v3 = grind arith
+semi-made name kind l u = grind arith
 
 all-lowers : (columns : List (List ℕ × Column)) → flat_map (made_of lower_part bound_decl) (flat_map bounds_in columns) ≡ all_stated column_lower columns
 all-lowers columns = grind (arith, flat_map-flat_map, made_of, lower_part, bound_decl, bounds_in, flat-same, stated, lower-made)

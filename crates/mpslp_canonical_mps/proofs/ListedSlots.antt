@@ -38,7 +38,7 @@ rank (upper_slot _) = 5
 rank constant_slot = 6
 
 same-rank : (a b : Slot) → same_slot a b ≡ true → rank a ≡ rank b
-same-rank v0 v1 h = grind arith
+same-rank a b h = grind arith
 
 abbrev pub AllOf : ℕ → List Slot → Type 0
 AllOf n slots = Each (λ slot. rank slot ≡ n) slots
@@ -80,10 +80,10 @@ abbrev pub cell_slot : Cell → List Slot
 cell_slot cell = coefficient_slot (place_at cell.row cell.column) ∷ []
 
 and_none : (a b : Bool) → b ≡ false → (a && b) ≡ false
-and_none v0 b h = grind arith
+and_none a b h = grind arith
 
 none_and : (a b : Bool) → a ≡ false → (a && b) ≡ false
-none_and v0 b h = grind arith
+none_and a b h = grind arith
 
 -- a coefficient of another column is not one of this column
 pub column-new : (row column other : List ℕ) → same_bytes other column ≡ false → (cells : List (List ℕ × Number))

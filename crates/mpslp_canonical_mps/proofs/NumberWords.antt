@@ -50,7 +50,7 @@ around p sections_seen (x ∷ xs) h k =
     ] refl h k
 
 signed-visible : (xs : List ℕ) → Visible (without_sign xs) → Visible xs
-signed-visible v0 h = grind arith
+signed-visible xs h = grind arith
 
 digits-visible : (xs : List ℕ) → are_digits xs ≡ true → Visible xs
 digits-visible xs h = Each-weaker (λ b. is_digit b ≡ true) (λ b. is_visible b ≡ true) digit-visible xs (Each-from_list_all is_digit xs (second_so (nat_lt 0 (length xs)) (list_all is_digit xs) h))
@@ -75,7 +75,7 @@ literal-visible text h =
     around is_exponent_mark mark-visible text front (exponent-visible text (second_so (are_digits (mantissa_digits text)) exponent h))
 
 literal-some : (text : List ℕ) → is_literal text ≡ true → 0 < length text
-literal-some v0 h = grind arith
+literal-some text h = grind arith
 
 literal-read : (text : List ℕ) (d : Number) → number_of text ≡ Ok d → is_literal text ≡ true
 literal-read text d e = grind arith

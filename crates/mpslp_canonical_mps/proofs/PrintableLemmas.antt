@@ -54,19 +54,19 @@ words : (ws : Fields) → nat_lt 0 (length ws) ≡ true → nat_le (length ws) 4
 words ws some few each = record { some = ltb-true 0 (length ws) some; few = leb-true (length ws) 4 few; each = each }
 
 letter-word : (type : RowType) → Word (letter_of type)
-letter-word v0 = grind arith
+letter-word type = grind arith
 
 letters-word : (type : BoundType) → Word (letters_of type)
-letters-word v0 = grind arith
+letters-word type = grind arith
 
 header-printable : (section : Section) → IsPrintable (header_line section)
-header-printable v0 = grind arith
+header-printable section = grind arith
 
 abbrev pub AllPrintable : Lines → Type 0
 AllPrintable lines = Each IsPrintable lines
 
 under-printable : (section : Section) (lines : Lines) → AllPrintable lines → AllPrintable (under_header section lines)
-under-printable section v1 h = grind arith
+under-printable section lines h = grind arith
 
 -- ---- values that are decimals
 
@@ -93,10 +93,10 @@ lower-decimal : (a : Number) → is_lower_side (Finite a) ≡ true → IsDecimal
 lower-decimal a h = bounded-decimal a h
 
 pub side-decimal : (lower upper : Limit) → are_sides lower upper ≡ true → IsDecimal (printed_rhs lower upper)
-side-decimal v0 v1 h = grind arith
+side-decimal lower upper h = grind arith
 
 pub range-decimal : (lower upper : Limit) → has_bounded_distance lower upper ≡ true → Holds IsDecimal (printed_range lower upper)
-range-decimal v0 v1 h = grind arith
+range-decimal lower upper h = grind arith
 
 pub negated-decimal : (d : Number) → IsDecimal d → IsDecimal (negated d)
 negated-decimal d h = grind arith
@@ -104,7 +104,7 @@ negated-decimal d h = grind arith
 -- ---- the lines of each section
 
 sense-printable : (sense : Sense) → AllPrintable (sense_lines sense)
-sense-printable v0 = grind arith
+sense-printable sense = grind arith
 
 row-printable : (row : List ℕ × Row) → is_sound_row row ≡ true → IsPrintable (row_line row)
 row-printable row h = grind (arith, words, letter-word, name-word)
@@ -131,7 +131,7 @@ cell-found coefficients column row h w = by (find key_cmp (record { row = row; c
     by (Some d) k = (w, k)
 
 some-cell : (objective : List ℕ) (cells : List (List ℕ × Number)) → Word objective → Each IsCell cells → Each IsCell (printed_coefficients objective cells)
-some-cell objective v1 w h = grind arith
+some-cell objective cells w h = grind arith
 
 -- what is needed of a listing
 pub record IsListed (m : Listing) : Type 0 where
@@ -202,13 +202,13 @@ abbrev IsBound : PrintedBound → Type 0
 IsBound bound = Holds IsDecimal bound.value
 
 lower-bounds : (kind : Kind) (lower : Limit) → is_lower_side lower ≡ true → Each IsBound (printed_lower lower)
-lower-bounds kind v1 h = grind arith
+lower-bounds kind lower h = grind arith
 
 upper-bounds : (kind : Kind) (upper : Limit) → is_upper_side upper ≡ true → Each IsBound (printed_upper kind upper)
-upper-bounds v0 v1 h = grind arith
+upper-bounds kind upper h = grind arith
 
 all-bounds : (kind : Kind) (lower upper : Limit) → is_lower_side lower ≡ true → is_upper_side upper ≡ true → Each IsBound (printed_bounds kind lower upper)
-all-bounds kind v1 v2 h k = grind (arith, bounded-decimal, lower-bounds, upper-bounds)
+all-bounds kind lower upper h k = grind (arith, bounded-decimal, lower-bounds, upper-bounds)
 
 bound-printable : (column : List ℕ) (bound : PrintedBound) → Word column → IsBound bound → IsPrintable (bound_line column bound)
 bound-printable column bound w h = grind (arith, words, letters-word, code-word, number-word)

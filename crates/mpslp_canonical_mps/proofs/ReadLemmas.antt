@@ -46,7 +46,7 @@ abbrev AllGoOn : Lines → Type 0
 AllGoOn ls = Each GoesOn ls
 
 under-goes : (section : Section) (ls : Lines) → GoesOn (header_line section) → AllGoOn ls → AllGoOn (under_header section ls)
-under-goes section v1 s h = grind arith
+under-goes section ls s h = grind arith
 
 in-turn : (xs ys : Lines) → AllGoOn xs → AllGoOn ys → AllGoOn (xs ++ ys)
 in-turn xs ys h k = Each-append GoesOn xs ys h k
@@ -58,10 +58,10 @@ flat-go : {X : Type 0} (f : X → Lines) → ((x : X) → AllGoOn (f x)) → (xs
 flat-go f h xs = Each-flat_map GoesOn f xs (Each-all (λ x. AllGoOn (f x)) h xs)
 
 sense-go : (sense : Sense) → AllGoOn (sense_lines sense)
-sense-go v0 = grind arith
+sense-go sense = grind arith
 
 part-go : (ls : Lines) → AllGoOn ls → AllGoOn (integer_part ls)
-part-go v0 h = grind (arith, in-turn)
+part-go ls h = grind (arith, in-turn)
 
 columns-go : (m : Listing) (columns : List (List ℕ × Column)) → AllGoOn (flat_map (column_lines m) columns)
 columns-go m columns = flat-go (column_lines m) (λ column. mapped-go (coefficient_line column.0) (λ _. refl) (printed_coefficients m.objective (column_coefficients m column.0))) columns

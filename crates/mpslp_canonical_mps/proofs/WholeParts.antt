@@ -81,7 +81,7 @@ whole-parts part w =
 -- ---- parts that are empty, and those that are not
 
 pub sense-none : {Y : Type 0} (part : Declaration → List Y) → ((s : Sense) → part (declare_sense s) ≡ []) → (s : Sense) → flat_map part (sense_decl s) ≡ []
-sense-none part h v2 = grind arith
+sense-none part h s = grind arith
 
 pub bound-none : {Y : Type 0} (part : Declaration → List Y) → ((x : List ℕ) (l : Limit) → part (declare_lower x l) ≡ []) → ((x : List ℕ) (l : Limit) → part (declare_upper x l) ≡ [])
     → ((x : List ℕ) → part (declare_semi x) ≡ []) → (b : Bound) → made_of part bound_decl b ≡ []

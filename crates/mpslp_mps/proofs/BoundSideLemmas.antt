@@ -50,23 +50,23 @@ upper_fault : (all : Draft) (column : List ℕ) (side : Limit)
 upper_fault all column side = grind arith
 
 or_none : (b : Bool) → b ≡ (b || false)
-or_none v0 = grind arith
+or_none b = grind arith
 
 both_sides : (a b c d e : Bool) → earlier_of (side_kind a b c) (side_kind a d e) ≡ side_kind a (b || d) (c || e)
-both_sides v0 v1 v2 v3 v4 = grind arith
+both_sides a b c d e = grind arith
 
 -- over the bounds that are given, at least one
 sides_fault : (all : Draft) (column : List ℕ) (lower upper : Option Limit) → (is_some lower || is_some upper) ≡ true
     → declared_fault all (bounds_declared column lower upper) ≡ first_held (kind_tests (bounds_tests all column lower upper))
-sides_fault all column v2 v3 h = grind (arith, lower_fault, or_none, upper_fault, declared-append, earlier_of, both_sides)
+sides_fault all column lower upper h = grind (arith, lower_fault, or_none, upper_fault, declared-append, earlier_of, both_sides)
 
 pub sides-refused : (all : Draft) (column : List ℕ) (lower upper : Option Limit) (fault : BuildFault) (P Q : Type 0) → (is_some lower || is_some upper) ≡ true
     → Answers (bounds_refusals all column lower upper) (Err fault) P Q → IsErrorOf (declared_fault all (bounds_declared column lower upper)) (error_of_build fault)
-sides-refused all column lower upper fault v5 v6 h answer = search (rules, sides_fault, call-refused)
+sides-refused all column lower upper fault P Q h answer = search (rules, sides_fault, call-refused)
 
 -- and nothing has changed
 pub sides-unchanged : (faults : List BuildFault) (fault : BuildFault) (P Q : Type 0) (answer : LineResult) → Answers faults (Err fault) P Q → IfFault answer Q
-sides-unchanged faults fault v2 v3 answer h = grind arith
+sides-unchanged faults fault P Q answer h = grind arith
 
 -- bounds that are checked
 pub sides-none : (all : Draft) (column : List ℕ) (lower upper : Option Limit) → (is_some lower || is_some upper) ≡ true → Ok tt ≡ first_refusal (bounds_refusals all column lower upper)
@@ -90,7 +90,7 @@ kind_stated all d column other is apart = grind arith
 -- the only error that is left is that of the call
 kind_error : (all : Draft) (d : Declaration) (column : List ℕ) (other : Bool) (fault : BuildFault) (P Q : Type 0) → refusals all d ≡ those_of (one_kind all column other) → other ≡ false
     → Answers (refusals all d) (Err fault) P Q → IsErrorOf (declared_fault all (d ∷ [])) (error_of_build fault)
-kind_error all d column other fault v5 v6 is apart answer = grind arith
+kind_error all d column other fault P Q is apart answer = grind arith
 
 pub integer-error : (all : Draft) (column : List ℕ) (fault : BuildFault) (P Q : Type 0) → is_semi all column ≡ false → Answers (refusals all (declare_integer column)) (Err fault) P Q
     → IsErrorOf (declared_fault all (declare_integer column ∷ [])) (error_of_build fault)
@@ -110,7 +110,7 @@ semi-none all column none = ap (λ (faults : List BuildFault). least_kind (map k
 -- ---- by the type of a bound
 
 pub integer-kind : (type : BoundType) (column : List ℕ) → is_integer_type type ≡ true → kind_declared type column ≡ declare_integer column ∷ []
-integer-kind v0 column h = grind arith
+integer-kind type column h = grind arith
 
 pub semi-kind : (type : BoundType) (column : List ℕ) → is_integer_type type ≡ false → is_semi_type type ≡ true → kind_declared type column ≡ declare_semi column ∷ []
 semi-kind type column h k = λ i. when (h i) (declare_integer column) ++ when (k i) (declare_semi column)
@@ -120,7 +120,7 @@ no-kind type column h k = λ i. when (h i) (declare_integer column) ++ when (k i
 
 -- at least one bound is given
 pub some-side : (type : BoundType) (value : Limit) → (is_some (lower_given type value) || is_some (upper_given type value)) ≡ true
-some-side v0 value = grind arith
+some-side type value = grind arith
 
 -- the first error of the bounds is the first of all, also if the column does not exist
 kind_sides : (all : Draft) (d : Declaration) (column : List ℕ) (lower upper : Option Limit) → bounds_tests (with_declaration all d) column lower upper ≡ bounds_tests all column lower upper
@@ -171,7 +171,7 @@ bound-stated all bounds.SemiUpper column value apart =
 -- the type that is declared does not matter for the bounds
 same_sides : (all : Draft) (type : BoundType) (column : List ℕ) (lower upper : Option Limit)
     → bounds_tests (with_declarations all (kind_declared type column)) column lower upper ≡ bounds_tests all column lower upper
-same_sides all v1 column lower upper = grind arith
+same_sides all type column lower upper = grind arith
 
 -- so their check returns the first error of all before the type is declared
 pub bound-asked : (all : Draft) (type : BoundType) (column : List ℕ) (value : Limit) (lower upper : Option Limit) → type_clash all type column ≡ false
@@ -208,7 +208,7 @@ kind-refused all bounds.SemiUpper column value (Fault kind) apart fault_is =
 -- the value of a line, if it has a literal
 value-is : (o : Option (List ℕ)) (value : Option Number) → value ≡ option_map value_of o
     → option_map_or (λ literal. limit_of (value_of literal)) o zero_limit ≡ option_map_or limit_of value zero_limit
-value-is v0 value h = grind arith
+value-is o value h = grind arith
 
 pub bound-is : (letters : List ℕ) (more : Fields) (type : BoundType) (line : BoundLine) (value : Option Number) → bound_type letters ≡ Some type → bound_shape type more ≡ Some line
     → value ≡ option_map value_of line.literal → bound_line_declared (letters ∷ more) ≡ bound_declared type line.column (option_map_or limit_of value zero_limit)

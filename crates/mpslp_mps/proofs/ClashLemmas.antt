@@ -41,7 +41,7 @@ is_clash_answer (Err fault) = is_kind_clash fault
 
 stated_so : (known other : Bool) → (other ≡ true → known ≡ true)
     → is_clash_answer (first_refusal (those_of ((not known, builds.UnknownColumn) ∷ (other, builds.SemiContinuous) ∷ []))) ≡ other
-stated_so v0 v1 h = grind arith
+stated_so known other h = grind arith
 
 pub integer-answered : (all : Draft) (c : List ℕ) (answer : Answer) → IsMade all → answer ≡ first_refusal (refusals all (declare_integer c)) → is_clash_answer answer ≡ is_semi all c
 integer-answered all c answer made is = ap is_clash_answer is ∙ stated_so (has_column all c) (is_semi all c) ((declared_names-from_made all made).semis c)
@@ -53,17 +53,17 @@ semi-answered all c answer made is = ap is_clash_answer is ∙ stated_so (has_co
 
 -- declaring the type of a column clashes if the column is of the other type
 kind_clash : (unknown other : Bool) → list_any is_kind_clash (those_of ((unknown, builds.UnknownColumn) ∷ (other, builds.SemiContinuous) ∷ [])) ≡ other
-kind_clash v0 v1 = grind arith
+kind_clash unknown other = grind arith
 
 then_none : (earlier : Draft) (d : Declaration) (more : Declarations) (other : Bool) → list_any is_kind_clash (refusals earlier d) ≡ other → list_all says_no_kind more ≡ true
     → has_kind_clash earlier (d ∷ more) ≡ (other || false)
 then_none earlier d more other is none = grind (arith, list_any-append, no-clash)
 
 and_none : (b : Bool) → (b && false) ≡ false
-and_none v0 = grind arith
+and_none b = grind arith
 
 or_none : (b : Bool) → (b || false) ≡ b
-or_none v0 = grind arith
+or_none b = grind arith
 
 -- of COLUMNS
 pub column-clashes : (context : Context) (earlier : Draft) (fields : Fields) → is_marker_line fields ≡ false
@@ -96,7 +96,7 @@ column-apart context earlier fields column values is apart = grind arith
 
 -- of BOUNDS
 type-clashes : (earlier : Draft) (type : BoundType) (c : List ℕ) (v : Limit) → has_kind_clash earlier (bound_declared type c v) ≡ type_clash earlier type c
-type-clashes earlier v1 c v = grind arith
+type-clashes earlier type c v = grind arith
 
 pub bound-clashes : (earlier : Draft) (fields : Fields) → has_kind_clash earlier (bound_line_declared fields) ≡ bound_clash earlier fields
 bound-clashes earlier [] = refl
@@ -132,4 +132,4 @@ pub ranges-apart : (context : Context) (earlier : Draft) (fields : Fields) → h
 ranges-apart context earlier fields = no-clash (data_declared context earlier fields (Some Ranges)) earlier (ranges-passes says_no_kind (λ r v. refl) fields)
 
 pub header-apart : (context : Context) (earlier : Draft) (more : Fields) (section : Option Section) → has_kind_clash earlier (header_declared context earlier more section) ≡ false
-header-apart context earlier more v3 = grind arith
+header-apart context earlier more section = grind arith

@@ -58,7 +58,7 @@ held_fields context earlier None kind h = h
 held_fields context earlier (Some line) kind h = grind (arith, held-third)
 
 early_fields : (parts : Option ValuesLine) → list_all is_early (judged_by field_tests parts) ≡ true
-early_fields v0 = grind arith
+early_fields parts = grind arith
 
 abbrev fault_under : Context → Draft → Fields → Option Section → Option FaultKind
 fault_under context earlier fields section = least_kind (those_of (data_tests context earlier fields section) ++ declaring_faults earlier (data_declared context earlier fields section))
@@ -82,7 +82,7 @@ column-judged context earlier fields errors.OutOfMemory here plain apart held = 
 
 -- a clash of column types, which is reported before all errors of the fields
 after_fields : (context : Context) (earlier : Draft) (parts : Option ValuesLine) → list_all (λ test. is_after_clash test.1) (judged_by (column_tests context earlier) parts) ≡ true
-after_fields context earlier v2 = grind arith
+after_fields context earlier parts = grind arith
 
 pub column-clash-reported : (context : Context) (earlier : Draft) (fields : Fields) → context.section ≡ Some Columns → is_marker_line fields ≡ false
     → column_clash context earlier fields ≡ true → item_fault context earlier (data_line fields) ≡ Some kinds.SemiContinuous
@@ -103,7 +103,7 @@ values_declared column (pair ∷ pairs) = ap (λ (ds : Declarations). value_decl
 
 line_declared : (context : Context) (parts : Option ValuesLine) (column : List ℕ) (values : List (List ℕ × Number)) → option_map named_values parts ≡ Some (column, values)
     → declared_if_some (column_declared context) parts ≡ front_declared context.in_integer_part column ++ flat_map (value_declared column) values
-line_declared context v1 column values is = grind (arith, values_declared)
+line_declared context parts column values is = grind (arith, values_declared)
 
 pub column-declares : (context : Context) (earlier : Draft) (fields : Fields) (column : List ℕ) (values : List (List ℕ × Number)) → is_marker_line fields ≡ false
     → option_map named_values (column_shape fields) ≡ Some (column, values)
@@ -140,7 +140,7 @@ abbrev pub place_tests : Context → Draft → List ℕ → List (List ℕ × Nu
 place_tests context earlier column values = (not (are_rows earlier values), kinds.UnknownRow) ∷ split_test context earlier column
 
 late_enough : (o : Option FaultKind) → are_from kinds.DuplicateEntry o ≡ true → are_from kinds.ColumnSplit o ≡ true
-late_enough v0 h = grind arith
+late_enough o h = grind arith
 
 pub place-fault : (context : Context) (earlier : Draft) (fields : Fields) (column : List ℕ) (values : List (List ℕ × Number)) (kind : FaultKind) → context.section ≡ Some Columns
     → is_marker_line fields ≡ false → column_clash context earlier fields ≡ false → first_held (judged_by field_tests (column_shape fields)) ≡ None
@@ -199,4 +199,4 @@ double-fault context earlier fields column values here plain apart held is in_or
 
 pub column-named : (parts : Option ValuesLine) (column : List ℕ) (values : List (List ℕ × Number)) → first_held (judged_by field_tests parts) ≡ None
     → option_map named_values parts ≡ Some (column, values) → is_mps_name column ≡ true
-column-named v0 column values h is = grind arith
+column-named parts column values h is = grind arith

@@ -57,17 +57,17 @@ column-there earlier column = grind (arith, has-put, itself_named)
 
 -- the column has no error, because it may be declared again, unless it is marked and semi-continuous
 pub front-none : (earlier : Draft) (marked : Bool) (column : List ℕ) → (marked && is_semi earlier column) ≡ false → declared_fault earlier (front_declared marked column) ≡ None
-front-none earlier v1 column apart = grind (arith, column-there)
+front-none earlier marked column apart = grind (arith, column-there)
 
 pub front-there : (earlier : Draft) (marked : Bool) (column : List ℕ) → has_column (with_declarations earlier (front_declared marked column)) column ≡ true
-front-there earlier v1 column = grind (arith, column-there)
+front-there earlier marked column = grind (arith, column-there)
 
 abbrev pub are_rows : Draft → List (List ℕ × Number) → Bool
 are_rows earlier values = list_all (λ value. has_row earlier value.0) values
 
 pub front-rows : (earlier : Draft) (marked : Bool) (column : List ℕ) (values : List (List ℕ × Number))
     → are_rows (with_declarations earlier (front_declared marked column)) values ≡ are_rows earlier values
-front-rows earlier v1 column values = grind arith
+front-rows earlier marked column values = grind arith
 
 -- one value in a column that exists
 pub value-fault : (earlier : Draft) (column : List ℕ) (value : List ℕ × Number) → has_column earlier column ≡ true
@@ -76,7 +76,7 @@ pub value-fault : (earlier : Draft) (column : List ℕ) (value : List ℕ × Num
 value-fault earlier column value there = grind arith
 
 entry-late : (b : Bool) → are_from kinds.DuplicateEntry (cond b (Some kinds.DuplicateEntry) None) ≡ true
-entry-late v0 = grind arith
+entry-late b = grind arith
 
 value-late : (earlier : Draft) (column : List ℕ) (value : List ℕ × Number) → has_column earlier column ≡ true → has_row earlier value.0 ≡ true
     → are_from kinds.DuplicateEntry (declared_fault earlier (value_declared column value)) ≡ true
@@ -124,7 +124,7 @@ same_double (value ∷ values) before after column same =
 
 pub front-double : (earlier : Draft) (marked : Bool) (column : List ℕ) (values : List (List ℕ × Number))
     → has_duplicate (with_declarations earlier (front_declared marked column)) column values ≡ has_duplicate earlier column values
-front-double earlier v1 column values = grind (arith, same_double)
+front-double earlier marked column values = grind (arith, same_double)
 
 -- two values: the second is for the same row, or its coefficient is declared
 pub two-double : (earlier : Draft) (column : List ℕ) (value other : List ℕ × Number)
@@ -133,7 +133,7 @@ pub two-double : (earlier : Draft) (column : List ℕ) (value other : List ℕ �
 two-double earlier column value other = grind (arith, has-put_key, itself_named)
 
 pub one-double : (b : Bool) → b ≡ (b || false)
-one-double v0 = grind arith
+one-double b = grind arith
 
 -- the first value is rejected
 pub values-refused : (earlier : Draft) (column : List ℕ) (value : List ℕ × Number) (values : List (List ℕ × Number)) (error : LineError)

@@ -36,7 +36,7 @@ are_well_formed before earlier (item ∷ items) =
     not (is_nonempty (form_faults (context_of before) earlier item)) && are_well_formed (before ++ item ∷ []) (with_declarations earlier (line_declares (context_of before) earlier item)) items
 
 pub no_faults : (faults : List FaultKind) → not (is_nonempty faults) ≡ true → faults ≡ []
-no_faults v0 h = grind arith
+no_faults faults h = grind arith
 
 -- ---- lines and their contents
 

@@ -29,7 +29,7 @@ use Rattle.mpslp_mps.proofs.ReadingLemmas.{fault_from-is}
 -- ---- lines after others
 
 or-after : (a b c : Option Fault) → option_or (option_or a b) c ≡ option_or a (option_or b c)
-or-after v0 b c = grind arith
+or-after a b c = grind arith
 
 fault_from-append : (xs ys : List (List ℕ)) (n : ℕ) (context : Context) (earlier : Draft)
     → fault_from n context earlier (xs ++ ys) ≡ option_or (fault_from n context earlier xs) (fault_from (n + length xs) (context_from context xs) (draft_from context earlier xs) ys)
@@ -55,10 +55,10 @@ draft_from-append (line ∷ xs) ys context earlier = draft_from-append xs ys (co
 -- ---- up to that of ENDATA
 
 first_none : (a b : Bool) → (a || b) ≡ false → a ≡ false
-first_none v0 b h = grind arith
+first_none a b h = grind arith
 
 rest_none : (a b : Bool) → (a || b) ≡ false → b ≡ false
-rest_none v0 b h = grind arith
+rest_none a b h = grind arith
 
 -- without a line of ENDATA all lines are read, and so are those after them
 unended-more : (xs ys : List (List ℕ)) → list_any is_end xs ≡ false → lines_to_end (xs ++ ys) ≡ xs ++ lines_to_end ys

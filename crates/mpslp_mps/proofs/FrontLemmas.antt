@@ -27,11 +27,11 @@ by-front g h (a ∷ b ∷ c ∷ d ∷ e ∷ x ∷ y ∷ more) = h a b c d e x y 
 
 pub data_tests-front : (context : Context) (earlier : Draft) (section : Option Section) (fields : Fields)
     → data_tests context earlier (take 6 fields) section ≡ data_tests context earlier fields section
-data_tests-front context earlier v2 fields = grind arith
+data_tests-front context earlier section fields = grind arith
 
 pub data_declared-front : (context : Context) (earlier : Draft) (section : Option Section) (fields : Fields)
     → data_declared context earlier (take 6 fields) section ≡ data_declared context earlier fields section
-data_declared-front context earlier v2 fields = grind arith
+data_declared-front context earlier section fields = grind arith
 
 pub next_context-front : (context : Context) (fields : Fields) → next_context context (data_line (take 6 fields)) ≡ next_context context (data_line fields)
 next_context-front context fields = by-front (λ f. next_context context (data_line f)) (λ a b c d e x y more. refl) fields
@@ -40,15 +40,15 @@ next_context-front context fields = by-front (λ f. next_context context (data_l
 
 short-tests : (context : Context) (earlier : Draft) (keyword : List ℕ) (section : Section) (b c d e x y : List ℕ) (more : Fields)
     → header_tests context earlier keyword (b ∷ c ∷ d ∷ e ∷ x ∷ []) (Some section) ≡ header_tests context earlier keyword (b ∷ c ∷ d ∷ e ∷ x ∷ y ∷ more) (Some section)
-short-tests context earlier keyword v3 b c d e x y more = grind arith
+short-tests context earlier keyword section b c d e x y more = grind arith
 
 pub header_tests-front : (context : Context) (earlier : Draft) (keyword : List ℕ) (section : Option Section) (more : Fields)
     → header_tests context earlier keyword (take 5 more) section ≡ header_tests context earlier keyword more section
-header_tests-front context earlier keyword v3 v4 = grind arith
+header_tests-front context earlier keyword section more = grind arith
 
 short-declared : (context : Context) (earlier : Draft) (section : Section) (b c d e x y : List ℕ) (more : Fields)
     → header_declared context earlier (b ∷ c ∷ d ∷ e ∷ x ∷ []) (Some section) ≡ header_declared context earlier (b ∷ c ∷ d ∷ e ∷ x ∷ y ∷ more) (Some section)
-short-declared context earlier v2 b c d e x y more = grind arith
+short-declared context earlier section b c d e x y more = grind arith
 
 pub header_declared-front : (context : Context) (earlier : Draft) (section : Option Section) (more : Fields) → header_declared context earlier (take 5 more) section ≡ header_declared context earlier more section
-header_declared-front context earlier v2 v3 = grind arith
+header_declared-front context earlier section more = grind arith

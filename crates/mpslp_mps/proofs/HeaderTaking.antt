@@ -28,7 +28,7 @@ unknown_early : (keyword : List ℕ) → list_all is_early ((true, unknown_secti
 unknown_early keyword = grind arith
 
 header-early : (context : Context) (earlier : Draft) (keyword : List ℕ) (more : Fields) (section : Option Section) → list_all is_early (header_tests context earlier keyword more section) ≡ true
-header-early context earlier keyword v3 v4 = grind arith
+header-early context earlier keyword more section = grind arith
 
 pub header-form : (context : Context) (earlier : Draft) (keyword : List ℕ) (more : Fields) (kind : FaultKind)
     → first_held (header_tests context earlier keyword more (section_named keyword)) ≡ Some kind

@@ -21,7 +21,7 @@ use Rattle.mpslp_builder.proofs.SlotLemmas.{has-put}
 use Rattle.mpslp_mps_fields.specs.Line.{Fields, LineContent, skipped, header, data_line, has, section_named, begins, is_section}
 use Rattle.mpslp_mps_fields.specs.DataLine.{RowLine, Pair, ValuesLine, word_shape, sense_of, row_shape, row_type, column_shape, is_marker_line, vector_shape, BoundLine, bound_type, bound_shape}
 use Rattle.mpslp_mps.specs.Context.{Context, context_of, current_section}
-use Rattle.mpslp_mps.specs.TextInWords.{has_section}
+use Rattle.mpslp_mps.specs.SeenSection.{has_section}
 use Rattle.mpslp_mps.specs.LineDeclarations.{declared_if_some, sense_declared, is_new_objective, row_of_type, row_declared, coefficient_declared, column_declared, columns_line_declared, rhs_line_declared, ranges_declared, bound_declared, bound_value, bound_line_declared, data_declared, header_declared, line_declares}
 use Rattle.mpslp_lines.specs.FaultTests.{value_of}
 use Rattle.mpslp_mps.specs.LineFault.{header_tests}
@@ -32,32 +32,23 @@ use Rattle.mpslp_mps_fields.specs.declared.bound_types.BoundType.{BoundType}
 use Rattle.mpslp_mps_fields.specs.declared.bound_types.BoundType.TheVariants as bounds
 use Rattle.mpslp_builder.proofs.MadeDrafts.{with_declarations-append}
 use Rattle.mpslp_mps.proofs.SectionLemmas.{has_section-push}
-use Rattle.mpslp_mps.proofs.OrderLemmas.{header-fresh, Past, past-rows, past-columns, never, IsGood, is_late, Ordered, ordered-push, declares_row, declares_column, no_rows, no_columns, rows-kept, columns-kept, each-declared, sense-passes, sides-passes, ranges-passes, bounds-passes, columns-line-no-rows, passes-no_rows, passes-no_columns}
+use Rattle.mpslp_mps.proofs.OrderLemmas.{header-fresh, Past, past-rows, past-columns, never, IsGood, is_late, Ordered, ordered-push, declares_row, declares_column, no_rows, no_columns, rows-kept, columns-kept, each-declared, sense-passes, sides-passes, ranges-passes}
 
 -- ---- no rows are declared after ROWS, and no columns after COLUMNS
 
 no-rows-header : (context : Context) (earlier : Draft) (keyword : List ℕ) (more : Fields) (o : Option Section) → those_of (header_tests context earlier keyword more o) ≡ [] → has context.sections_seen Columns ≡ true
     → no_rows (header_declared context earlier more o) ≡ true
-no-rows-header context earlier keyword more v4 h c = grind arith
+no-rows-header context earlier keyword more o h c = grind arith
 
 pub no-rows-data : (context : Context) (earlier : Draft) (fields : Fields) (o : Option Section) → is_section Rows o ≡ false → no_rows (data_declared context earlier fields o) ≡ true
-no-rows-data context earlier fields v3 h = grind arith
+no-rows-data context earlier fields o h = grind arith
 
 no-rows-line : (before : List LineContent) (earlier : Draft) (item : LineContent) → IsGood before earlier item → Past Rows before → has_section before Columns ≡ true
     → no_rows (line_declares (context_of before) earlier item) ≡ true
-no-rows-line before earlier v2 h past columns = grind (arith, no-rows-header, no-rows-data)
-
-pub no-columns-header : (context : Context) (earlier : Draft) (more : Fields) (o : Option Section) → no_columns (header_declared context earlier more o) ≡ true
-no-columns-header context earlier more v3 = grind arith
-
-row-no-columns : (context : Context) (earlier : Draft) (name : List ℕ) (type : RowType) → no_columns (row_of_type context earlier name type) ≡ true
-row-no-columns context earlier name v3 = grind arith
-
-pub no-columns-data : (context : Context) (earlier : Draft) (fields : Fields) (o : Option Section) → is_section Columns o ≡ false → no_columns (data_declared context earlier fields o) ≡ true
-no-columns-data context earlier fields v3 h = grind arith
+no-rows-line before earlier item h past columns = grind (arith, no-rows-header, no-rows-data)
 
 no-columns-line : (before : List LineContent) (earlier : Draft) (item : LineContent) → Past Columns before → no_columns (line_declares (context_of before) earlier item) ≡ true
-no-columns-line before earlier v2 past = grind arith
+no-columns-line before earlier item past = grind arith
 
 -- the first of some well-formed lines, and the rest
 pub good-first : (before : List LineContent) (earlier : Draft) (item : LineContent) (items : List LineContent) → are_well_formed before earlier (item ∷ items) ≡ true → IsGood before earlier item
@@ -207,7 +198,7 @@ rows-known : (context : Context) (earlier before : Draft) (fields : Fields) → 
 rows-known context earlier before fields = grind arith
 
 header-known : (context : Context) (earlier : Draft) (more : Fields) (o : Option Section) → are_known_in_turn earlier (header_declared context earlier more o) ≡ true
-header-known context earlier more v3 = grind arith
+header-known context earlier more o = grind arith
 
 data-known : (context : Context) (final earlier : Draft) (fields : Fields) (o : Option Section) → (is_rowed o ≡ true → HasRowsOf final earlier) → (is_section Bounds o ≡ true → HasColumnsOf final earlier)
     → AreKnown final (data_declared context earlier fields o) → are_known_in_turn earlier (data_declared context earlier fields o) ≡ true
@@ -246,10 +237,10 @@ same-columns : (before : List LineContent) (earlier : Draft) (items : List LineC
 same-columns before earlier items h past c known = sym (columns-kept (declared_items before earlier items) earlier c (no-columns-later items before earlier h past)) ∙ known
 
 rowed-late : (o : Option Section) → is_rowed o ≡ true → (is_late o ≡ true) × (is_section Rows o ≡ false)
-rowed-late v0 h = grind arith
+rowed-late o h = grind arith
 
 bounds-late : (o : Option Section) → is_section Bounds o ≡ true → (is_late o ≡ true) × (is_section Columns o ≡ false)
-bounds-late v0 h = grind arith
+bounds-late o h = grind arith
 
 line-known : (before : List LineContent) (earlier : Draft) (item : LineContent) (items : List LineContent) → are_well_formed before earlier (item ∷ items) ≡ true → Ordered before
     → AreKnown (with_declarations earlier (declared_items before earlier (item ∷ items))) (line_declares (context_of before) earlier item)

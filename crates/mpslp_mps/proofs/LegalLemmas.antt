@@ -39,17 +39,17 @@ sense-legal : (fields : Fields) → list_all is_legal (declared_if_some sense_de
 sense-legal fields = grind arith
 
 row-type-legal : (context : Context) (earlier : Draft) (name : List ℕ) (type : RowType) → is_mps_name name ≡ true → list_all is_legal (row_of_type context earlier name type) ≡ true
-row-type-legal context earlier name v3 h = grind arith
+row-type-legal context earlier name type h = grind arith
 
 row-legal : (context : Context) (earlier : Draft) (o : Option RowLine) → those_of (judged_by row_line_tests o) ≡ [] → list_all is_legal (declared_if_some (row_declared context earlier) o) ≡ true
-row-legal context earlier v2 h = grind arith
+row-legal context earlier o h = grind arith
 
 cells-legal : (column : List ℕ) (pairs : List Pair) → list_all is_legal (flat_map (coefficient_declared column) pairs) ≡ true
 cells-legal column pairs = each-flat is_legal (coefficient_declared column) pairs (λ pair. rw (value-decimal pair.literal) refl)
 
 column-legal : (context : Context) (earlier : Draft) (o : Option ValuesLine) → those_of (judged_by (column_tests context earlier) o) ≡ []
     → list_all is_legal (declared_if_some (column_declared context) o) ≡ true
-column-legal context earlier v2 h = grind (arith, both_so, name-legal, cells-legal)
+column-legal context earlier o h = grind (arith, both_so, name-legal, cells-legal)
 
 columns-legal : (context : Context) (earlier : Draft) (fields : Fields) → those_of (columns_line_tests context earlier fields) ≡ []
     → list_all is_legal (columns_line_declared context fields) ≡ true
@@ -68,7 +68,7 @@ ranges-legal : (fields : Fields) → list_all is_legal (declared_if_some ranges_
 ranges-legal fields = grind (arith, each-declared, each-mapped, value-decimal)
 
 bound-legal : (type : BoundType) (c : List ℕ) (v : Limit) → is_given v ≡ true → list_all is_legal (bound_declared type c v) ≡ true
-bound-legal v0 c v h = grind arith
+bound-legal type c v h = grind arith
 
 bound-value-given : (line : BoundLine) → is_given (bound_value line) ≡ true
 bound-value-given line = grind (arith, limit-given, value-decimal)
@@ -81,7 +81,7 @@ bounds-legal (letters ∷ more) =
     (λ line. bound-legal type line.column (bound_value line) (bound-value-given line)))
 
 header-legal : (context : Context) (earlier : Draft) (more : Fields) (o : Option Section) → list_all is_legal (header_declared context earlier more o) ≡ true
-header-legal context earlier more v3 = grind arith
+header-legal context earlier more o = grind arith
 
 data-legal : (context : Context) (earlier : Draft) (fields : Fields) (o : Option Section) → those_of (data_tests context earlier fields o) ≡ []
     → list_all is_legal (data_declared context earlier fields o) ≡ true

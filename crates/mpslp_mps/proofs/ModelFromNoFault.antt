@@ -34,10 +34,10 @@ use Rattle.mpslp_mps.proofs.ObjectiveLemmas.{named-lines}
 -- ---- lines without an error
 
 or-none : {X : Type 0} (o p : Option X) → option_or o p ≡ None → (o ≡ None) × (p ≡ None)
-or-none v0 p h = grind arith
+or-none o p h = grind arith
 
 mapped-none : {X Y : Type 0} (f : X → Y) (o : Option X) → option_map f o ≡ None → o ≡ None
-mapped-none f v1 h = grind arith
+mapped-none f o h = grind arith
 
 pub record AreFaultless (lines : List (List ℕ)) (before : List LineContent) (earlier : Draft) : Type 0 where
   pub good : list_all is_well_formed (lines_in_context_after before earlier lines) ≡ true

@@ -40,7 +40,7 @@ pub empty_sides : HasMpsSides empty_draft
 empty_sides = record { known = λ row h. absurd cc; limited = λ row h. refl; constant = refl }
 
 both_none : (o p : Option FaultKind) → earlier_of o p ≡ None → (o ≡ None) × (p ≡ None)
-both_none v0 p h = grind arith
+both_none o p h = grind arith
 
 -- ---- declarations that do not concern rows, right-hand sides, the objective and the constant
 
@@ -52,7 +52,7 @@ stays (declare_rhs row value) = false
 stays _ = true
 
 stays-one : (all : Draft) (d : Declaration) → stays d ≡ true → HasMpsSides all → HasMpsSides (with_declaration all d)
-stays-one all v1 h sides = grind arith
+stays-one all d h sides = grind arith
 
 stays-kept : (ds : Declarations) (all : Draft) → list_all stays ds ≡ true → HasMpsSides all → HasMpsSides (with_declarations all ds)
 stays-kept [] all h sides = sides
@@ -68,10 +68,10 @@ ranges-stay : (fields : Fields) → list_all stays (declared_if_some ranges_decl
 ranges-stay fields = grind arith
 
 bound-stays : (type : BoundType) (column : List ℕ) (value : Limit) → list_all stays (bound_declared type column value) ≡ true
-bound-stays v0 column value = grind arith
+bound-stays type column value = grind arith
 
 bounds-stay : (fields : Fields) → list_all stays (bound_line_declared fields) ≡ true
-bounds-stay v0 = grind arith
+bounds-stay fields = grind arith
 
 -- ---- the objective and rows
 
@@ -84,7 +84,7 @@ row-kept : (all : Draft) (name : List ℕ) (form : RowDefinition) → has_row al
 row-kept all name form new sides = search (rules, limited, has-put, at-put, same_name)
 
 none_so : (o : Option (List ℕ)) → is_none o ≡ true → o ≡ None
-none_so v0 h = grind arith
+none_so o h = grind arith
 
 new_row : (all : Draft) (name : List ℕ) (type : RowType) → declared_fault all (declare_row name (by_type type) ∷ []) ≡ None → has_row all name ≡ false
 new_row all name type fault_is = grind arith
@@ -118,7 +118,7 @@ default-kept context all sides = grind arith
 -- ---- right-hand sides
 
 there_so : (there sided : Bool) → side_kind there sided ≡ None → there ≡ true
-there_so v0 sided h = grind arith
+there_so there sided h = grind arith
 
 -- in terms of the rows before the line, which are those after each of its right-hand sides
 pairs-kept : (pairs : List Pair) (earlier all : Draft) → ((row : List ℕ) → is_free_row all row ≡ is_free_row earlier row) → HasMpsSides all
@@ -148,7 +148,7 @@ rhs_values-kept all fields fault_is sides = lined (vector_shape fields) fault_is
 -- ---- a line
 
 header-kept : (context : Context) (earlier : Draft) (more : Fields) (o : Option Section) → HasMpsSides earlier → HasMpsSides (with_declarations earlier (header_declared context earlier more o))
-header-kept context earlier more v3 sides = grind arith
+header-kept context earlier more o sides = grind arith
 
 data-kept : (context : Context) (earlier : Draft) (fields : Fields) (o : Option Section) → declared_fault earlier (data_declared context earlier fields o) ≡ None → HasMpsSides earlier
     → HasMpsSides (with_declarations earlier (data_declared context earlier fields o))

@@ -41,7 +41,7 @@ header_good context earlier keyword more none = grind (arith, left_none, least-n
 
 named_begun : (context : Context) (earlier : Draft) (item : LineContent) → item_fault context earlier item ≡ None → begins Columns item ≡ true
     → is_some (with_declarations earlier (line_declares context earlier item)).objective ≡ true
-named_begun context earlier v2 none h = grind arith
+named_begun context earlier item none h = grind arith
 
 named_next : (context : Context) (earlier : Draft) (item : LineContent) → item_fault context earlier item ≡ None → HasName context earlier
     → HasName (next_context context item) (with_declarations earlier (line_declares context earlier item))
@@ -50,15 +50,15 @@ named_next context earlier item none named h = grind (arith, has-more, named-aft
 -- ENDATA comes after COLUMNS
 ended_columns : (context : Context) (earlier : Draft) (item : LineContent) → item_fault context earlier item ≡ None → begins EndData item ≡ true
     → has context.sections_seen Columns ≡ true
-ended_columns context earlier v2 none h = grind arith
+ended_columns context earlier item none h = grind arith
 
 -- ---- lines
 
 first_none : (n : ℕ) (o : Option FaultKind) (rest : Option Fault) → option_or (option_map (fault_on_line n) o) rest ≡ None → o ≡ None
-first_none n v1 rest h = grind arith
+first_none n o rest h = grind arith
 
 rest_none : (n : ℕ) (o : Option FaultKind) (rest : Option Fault) → option_or (option_map (fault_on_line n) o) rest ≡ None → rest ≡ None
-rest_none n v1 rest h = grind arith
+rest_none n o rest h = grind arith
 
 pub named-lines_to_end : (text : List (List ℕ)) (n : ℕ) (context : Context) (earlier : Draft) → HasName context earlier
     → fault_from n context earlier (lines_to_end text) ≡ None → list_any is_end text ≡ true → is_some (draft_from context earlier (lines_to_end text)).objective ≡ true

@@ -17,7 +17,7 @@ use Rattle.mpslp_lines.proofs.HeldLemmas.{first_test, later_tests}
 use Rattle.mpslp_mps_fields.specs.Line.{Fields, LineContent, skipped, header, data_line, has, section_named, section_of_header, begins, is_section, may_follow}
 use Rattle.mpslp_mps_fields.specs.DataLine.{Pair, ValuesLine, word_shape, sense_of, column_shape, is_marker_line, vector_shape, BoundLine, bound_type, bound_shape}
 use Rattle.mpslp_mps.specs.Context.{Context, context_of, current_section}
-use Rattle.mpslp_mps.specs.TextInWords.{has_section}
+use Rattle.mpslp_mps.specs.SeenSection.{has_section}
 use Rattle.mpslp_mps.specs.LineDeclarations.{declared_if_some, sense_declared, coefficient_declared, column_declared, columns_line_declared, rhs_line_declared, ranges_declared, bound_declared, bound_value, bound_line_declared}
 use Rattle.mpslp_lines.specs.FaultTests.{value_of, FaultTests}
 use Rattle.mpslp_mps.specs.LineFault.{may_begin, is_out_of_order, lacks_objective, section_tests, header_tests}
@@ -274,13 +274,6 @@ pub each-mapped : {X : Type 0} (p : Declaration → Bool) (f : X → Declaration
 each-mapped p f [] h = refl
 each-mapped p f (x ∷ xs) h = both_so (p (f x)) (list_all p (map f xs)) (h x) (each-mapped p f xs h)
 
--- the test passes for whatever BOUNDS declares
-pub record Passes (p : Declaration → Bool) : Type 0 where
-  pub lower : (c : List ℕ) (l : Limit) → p (declare_lower c l) ≡ true
-  pub upper : (c : List ℕ) (l : Limit) → p (declare_upper c l) ≡ true
-  pub integer : (c : List ℕ) → p (declare_integer c) ≡ true
-  pub semi : (c : List ℕ) → p (declare_semi c) ≡ true
-
 -- a sense that is declared
 pub sense-passes : (p : Declaration → Bool) → ((s : Sense) → p (declare_sense s) ≡ true) → (fields : Fields) → list_all p (declared_if_some sense_declared (word_shape fields)) ≡ true
 sense-passes p h fields =
@@ -303,46 +296,3 @@ pub ranges-passes : (p : Declaration → Bool) → ((r : List ℕ) (v : Number) 
 ranges-passes p h fields =
     each-declared p ranges_declared (vector_shape fields)
     (λ line. each-mapped p (λ (pair : Pair). declare_range pair.row (value_of pair.literal)) line.pairs (λ pair. h pair.row (value_of pair.literal)))
-
-module _ (p : Declaration → Bool) (passes : Passes p) where
-  bound-passes : (type : BoundType) (c : List ℕ) (v : Limit) → list_all p (bound_declared type c v) ≡ true
-  bound-passes bounds.Lower c v = rw (passes.lower c v) refl
-  bound-passes bounds.Upper c v = rw (passes.upper c v) refl
-  bound-passes bounds.Fixed c v = rw (passes.lower c v, passes.upper c v) refl
-  bound-passes bounds.Free c v = rw (passes.lower c, passes.upper c) refl
-  bound-passes bounds.NoLower c v = rw (passes.lower c) refl
-  bound-passes bounds.NoUpper c v = rw (passes.upper c) refl
-  bound-passes bounds.Binary c v = rw (passes.integer c, passes.lower c, passes.upper c) refl
-  bound-passes bounds.IntegerLower c v = rw (passes.integer c, passes.lower c v) refl
-  bound-passes bounds.IntegerUpper c v = rw (passes.integer c, passes.upper c v) refl
-  bound-passes bounds.SemiUpper c v = rw (passes.semi c, passes.upper c v) refl
-
-  pub bounds-passes : (fields : Fields) → list_all p (bound_line_declared fields) ≡ true
-  bounds-passes [] = refl
-  bounds-passes (letters ∷ more) =
-      each-declared p (λ type. declared_if_some (λ (line : BoundLine). bound_declared type line.column (bound_value line)) (bound_shape type more)) (bound_type letters)
-      (λ type. each-declared p (λ (line : BoundLine). bound_declared type line.column (bound_value line)) (bound_shape type more) (λ line. bound-passes type line.column (bound_value line)))
-
--- the lines of COLUMNS declare no rows
-pub columns-line-no-rows : (context : Context) (fields : Fields) → no_rows (columns_line_declared context fields) ≡ true
-columns-line-no-rows context fields = by (is_marker_line fields)
-  where
-    cells : (column : List ℕ) (pairs : List Pair) → no_rows (flat_map (coefficient_declared column) pairs) ≡ true
-    cells column pairs = each-flat (λ d. not (declares_row d)) (coefficient_declared column) pairs (λ pair. refl)
-
-    line-no-rows : (line : ValuesLine) → no_rows (column_declared context line) ≡ true
-    line-no-rows line = marked context.in_integer_part
-      where
-        marked : (b : Bool) → no_rows (cond b (declare_marked line.name ∷ []) [] ++ flat_map (coefficient_declared line.name) line.pairs) ≡ true
-        marked true = cells line.name line.pairs
-        marked false = cells line.name line.pairs
-
-    by : (b : Bool) → no_rows (cond b [] (declared_if_some (column_declared context) (column_shape fields))) ≡ true
-    by true = refl
-    by false = each-declared (λ d. not (declares_row d)) (column_declared context) (column_shape fields) line-no-rows
-
-pub passes-no_rows : Passes (λ d. not (declares_row d))
-passes-no_rows = record { lower = λ _ _. refl; upper = λ _ _. refl; integer = λ _. refl; semi = λ _. refl }
-
-pub passes-no_columns : Passes (λ d. not (declares_column d))
-passes-no_columns = record { lower = λ _ _. refl; upper = λ _ _. refl; integer = λ _. refl; semi = λ _. refl }

@@ -31,16 +31,16 @@ abbrev pub side_kind : Bool → Bool → Option FaultKind
 side_kind there sided = cond (not there) (Some kinds.UnknownRow) (cond sided (Some kinds.DuplicateRhs) None)
 
 free_there : (o : Option RowDefinition) → option_map_or is_free_definition o false ≡ true → is_some o ≡ true
-free_there v0 h = grind arith
+free_there o h = grind arith
 
 free_unlimited : (o : Option RowDefinition) → option_map_or is_free_definition o false ≡ true → option_map_or is_definition_by_limits o false ≡ false
-free_unlimited v0 h = grind arith
+free_unlimited o h = grind arith
 
 free_row : (all : Draft) (row : List ℕ) → is_free_row all row ≡ true → has_row all row ≡ true
 free_row all row h = or_right (is_objective all row) (has_name all.rows row) (free_there (at_name all.rows row) h)
 
 none_so : (b : Bool) (o : Option Number) → o ≡ None → (b && is_some o) ≡ false
-none_so v0 o h = grind arith
+none_so b o h = grind arith
 
 -- N rows have no right-hand sides
 abbrev pub AreLimited : Draft → Type 0

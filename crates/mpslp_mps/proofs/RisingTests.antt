@@ -30,26 +30,26 @@ rising-only tests h = grind arith
 -- ---- by the shape of a line
 
 judged-rising : {X : Type 0} (tests : X → FaultTests) (o : Option X) → ((x : X) → AreRising (tests x)) → AreRising (judged_by tests o)
-judged-rising tests v1 h = grind arith
+judged-rising tests o h = grind arith
 
 bound-rising : (context : Context) (line : BoundLine) → AreRising (bound_tests context line)
 bound-rising context line = grind arith
 
 typed-rising : (context : Context) (more : Fields) (o : Option BoundType)
     → AreRising (typed_bound_tests context more o)
-typed-rising context more v2 = grind arith
+typed-rising context more o = grind arith
 
 rising-if : (b : Bool) (x y : FaultTests) → AreRising x → AreRising y → AreRising (cond b x y)
-rising-if v0 x y h k = grind arith
+rising-if b x y h k = grind arith
 
 sense-rising : (b : Bool) (o : Option (List ℕ)) → AreRising ((b, kinds.SectionOrder) ∷ judged_by word_tests o)
-sense-rising b v1 = grind arith
+sense-rising b o = grind arith
 
 judged-after-order : (b : Bool) (o : Option (List ℕ)) → AreRising ((b, kinds.SectionOrder) ∷ judged_by (λ _. []) o)
-judged-after-order b v1 = grind arith
+judged-after-order b o = grind arith
 
 marker-rising : (b : Bool) (context : Context) (o : Option (List ℕ)) → AreRising ((b, kinds.Sos) ∷ judged_by (marker_word_tests context) o)
-marker-rising b context v2 = grind arith
+marker-rising b context o = grind arith
 
 data-after : (context : Context) (earlier : Draft) (fields : Fields) (section : Option Section) → AreRising (data_tests context earlier fields section)
 data-after context earlier fields None = refl
@@ -68,13 +68,13 @@ data-after context earlier fields (Some EndData) = refl
 -- all kinds of unknown sections
 unknown-after : (quadratic sos indicator : Bool)
     → AreRising ((true, cond quadratic kinds.Quadratic (cond sos kinds.Sos (cond indicator kinds.Indicator kinds.UnknownSection))) ∷ [])
-unknown-after v0 v1 v2 = grind arith
+unknown-after quadratic sos indicator = grind arith
 
 header-after : (context : Context) (earlier : Draft) (keyword : List ℕ) (more : Fields) (section : Option Section) → AreRising (header_tests context earlier keyword more section)
-header-after context earlier keyword v3 v4 = grind arith
+header-after context earlier keyword more section = grind arith
 
 pub item-rising : (context : Context) (earlier : Draft) (item : LineContent) → AreRising (item_tests context earlier item)
-item-rising context earlier v2 = grind (arith, header-after)
+item-rising context earlier item = grind (arith, header-after)
 
 pub data-rising : (context : Context) (earlier : Draft) (fields : Fields) (section : Option Section) → are_rising (data_tests context earlier fields section) ≡ true
 data-rising context earlier fields section = rising-only (data_tests context earlier fields section) (data-after context earlier fields section)

@@ -11,10 +11,10 @@ use Rattle.mpslp_mps.specs.LineFault.{word_tests, row_line_tests}
 use Rattle.mpslp_mps.proofs.TakingLemmas.{is_early}
 
 pub sense-early : (b : Bool) (o : Option (List ℕ)) → list_all is_early ((b, kinds.SectionOrder) ∷ judged_by word_tests o) ≡ true
-sense-early b v1 = grind arith
+sense-early b o = grind arith
 
 pub objective-name-early : (b : Bool) (o : Option (List ℕ)) → list_all is_early ((b, kinds.SectionOrder) ∷ judged_by (λ _. []) o) ≡ true
-objective-name-early b v1 = grind arith
+objective-name-early b o = grind arith
 
 pub row-early : (o : Option RowLine) → list_all is_early (judged_by row_line_tests o) ≡ true
-row-early v0 = grind arith
+row-early o = grind arith

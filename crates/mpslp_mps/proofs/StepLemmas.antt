@@ -21,7 +21,7 @@ use Rattle.mpslp_mps_fields.specs.declared.sections.Section.TheVariants.{ObjSens
 
 -- a line that gives nothing leaves what is known unchanged
 same-option : {X : Type 0} (o : Option X) → option_or o None ≡ o
-same-option v0 = grind arith
+same-option o = grind arith
 
 pub step-skipped : (c : Context) → next_context c skipped ≡ c
 step-skipped c = λ i. record c { sections_seen = append-nil c.sections_seen i; objname = same-option c.objname i }

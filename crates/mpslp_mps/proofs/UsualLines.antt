@@ -67,16 +67,16 @@ usual-taken earlier later marked column values false taken made = taken
 -- a legal name has no error
 fields-held : (parts : Option ValuesLine) (column : List ℕ) (values : List (List ℕ × Number)) → is_mps_name column ≡ true → option_map named_values parts ≡ Some (column, values)
     → first_held (judged_by (λ line. number_tests (literals_of line.pairs)) parts) ≡ None → first_held (judged_by field_tests parts) ≡ None
-fields-held v0 column values legal is held = grind arith
+fields-held parts column values legal is held = grind arith
 
 -- a column that is declared marked is not semi-continuous
 semi-apart : (earlier : Draft) (marked : Bool) (column : List ℕ) (values : List (List ℕ × Number)) → refusals_in_turn earlier (usual_declared marked column values) ≡ []
     → (marked && is_semi earlier column) ≡ false
-semi-apart earlier v1 column values free = grind arith
+semi-apart earlier marked column values free = grind arith
 
 clash-apart : (context : Context) (earlier : Draft) (parts : Option ValuesLine) (column : List ℕ) (values : List (List ℕ × Number)) → option_map named_values parts ≡ Some (column, values)
     → (context.in_integer_part && is_semi earlier column) ≡ false → (context.in_integer_part && option_map_or (λ line. is_semi earlier line.name) parts false) ≡ false
-clash-apart context earlier v2 column values is apart = grind arith
+clash-apart context earlier parts column values is apart = grind arith
 
 -- ---- the line
 
@@ -110,7 +110,7 @@ usual-passed context earlier fields column values here plain held is (Err error)
 -- ---- the last column
 
 not-split : (there last : Bool) → last ≡ true → (there && not last) ≡ false
-not-split v0 last h = grind arith
+not-split there last h = grind arith
 
 pub last-is : (o : Option (List ℕ)) (column : List ℕ) → option_map_or (same_bytes column) o false ≡ true → o ≡ Some column
 last-is None column h = cc

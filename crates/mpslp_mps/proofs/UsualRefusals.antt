@@ -30,14 +30,14 @@ use Rattle.mpslp_mps.proofs.ColumnLine.{plain-tests, column-declares}
 -- ---- tests
 
 by_test : {X : Type 0} (b : Bool) (x : X) (xs : List X) (o : Option X) → (xs ≡ [] → o ≡ None) → cond b (x ∷ xs) xs ≡ [] → cond b (Some x) o ≡ None
-by_test v0 x xs o rest h = grind arith
+by_test b x xs o rest h = grind arith
 
 held-none : (tests : FaultTests) → those_of tests ≡ [] → first_held tests ≡ None
 held-none [] h = refl
 held-none (test ∷ more) h = by_test test.0 test.1 (those_of more) (first_held more) (held-none more) h
 
 none-both : {X : Type 0} (o p : Option X) → option_or o p ≡ None → (o ≡ None) × (p ≡ None)
-none-both v0 p h = grind arith
+none-both o p h = grind arith
 
 -- the name, the numbers and the place of a line without an error of its form
 fields-fine : (context : Context) (earlier : Draft) (line : ValuesLine) → first_held (column_tests context earlier line) ≡ None
@@ -46,11 +46,11 @@ fields-fine context earlier line h = grind arith
 
 numbers-fine : (context : Context) (earlier : Draft) (parts : Option ValuesLine) → first_held (judged_by (column_tests context earlier) parts) ≡ None
     → first_held (judged_by (λ line. number_tests (literals_of line.pairs)) parts) ≡ None
-numbers-fine context earlier v2 h = grind arith
+numbers-fine context earlier parts h = grind arith
 
 column-fine : (context : Context) (earlier : Draft) (parts : Option ValuesLine) (column : List ℕ) (values : List (List ℕ × Number)) → option_map named_values parts ≡ Some (column, values)
     → first_held (judged_by (column_tests context earlier) parts) ≡ None → (name_refusal column ≡ None) × (is_split context earlier column ≡ false)
-column-fine context earlier v2 column values is h = grind arith
+column-fine context earlier parts column values is h = grind arith
 
 -- ---- the line
 

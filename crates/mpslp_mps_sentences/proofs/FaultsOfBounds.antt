@@ -1,0 +1,276 @@
+-- Lines of BOUNDS with a rejected bound or type are as `ValueFaultsInWords` defines the kind of their error.
+use Rattle.std.proofs.Common.{◌≡◌, refl, ap, ◌∙◌, List, [], ◌∷◌, ◌++◌, ℕ, Bool, true, false, cond}
+use Rattle.std.specs.Prelude.{Option, Some, None, not, ◌||◌, ◌&&◌, nat_le}
+use Rattle.std.specs.List.{list_any, list_all, flat_map}
+use Rattle.std.specs.Option.{option_map_or}
+use Rattle.std.specs.Cmp.{first_so, second_so}
+use Rattle.mpslp_types.specs.Name.{same_bytes}
+use Rattle.mpslp_types.specs.declared.kinds.Limit.{Limit}
+use Rattle.mpslp_types.specs.declared.faults.FaultKind.{FaultKind}
+use Rattle.mpslp_types.specs.declared.faults.FaultKind.TheVariants as kinds
+use Rattle.mpslp_types.proofs.BoolLemmas.{both_false, either, either_more}
+use Rattle.mpslp_builder.specs.Declaration.{Declaration, declare_sense, declare_objective, declare_column, declare_coefficient, declare_lower, declare_upper, declare_marked, declare_row, declare_rhs, declare_range, Draft, with_declaration, has_name, is_integer, is_semi}
+use Rattle.mpslp_lines.specs.FaultTests.{value_of}
+use Rattle.mpslp_mps_fields.specs.Line.{Fields, LineContent, skipped, header, data_line, has, section_named, is_section}
+use Rattle.mpslp_mps_fields.specs.DataLine.{Pair, ValuesLine, column_shape, is_marker_line, BoundLine, bound_type, bound_shape, is_integer_type, is_semi_type}
+use Rattle.mpslp_mps.specs.Context.{Context, context_of, current_section, seen_sections, data_lines}
+use Rattle.mpslp_mps.specs.SeenSection.{has_section}
+use Rattle.mpslp_mps_sentences.specs.TextInWords.{section_rank}
+use Rattle.mpslp_mps.specs.LineDeclarations.{declared_if_some, coefficient_declared, column_declared, columns_line_declared, bound_declared, bound_value, bound_line_declared, data_declared, line_declares}
+use Rattle.mpslp_mps.specs.LineFault.{item_tests, header_tests, data_tests}
+use Rattle.mpslp_mps_sentences.specs.FaultsInWords.{IsInWords}
+use Rattle.mpslp_mps_sentences.specs.ValueFaultsInWords.{gives_lower, gives_upper, is_such_bound, has_bound, repeats_bound_of, repeats_bound, is_in_block, is_integer_column, clashes_with, makes_both_kinds}
+use Rattle.mpslp_mps_fields.specs.declared.bound_types.BoundType.{BoundType}
+use Rattle.mpslp_mps_fields.specs.declared.bound_types.BoundType.TheVariants as bounds
+use Rattle.mpslp_mps_fields.specs.declared.sections.Section.{Section}
+use Rattle.mpslp_mps_fields.specs.declared.sections.Section.TheVariants.{Name, ObjSense, ObjName, Rows, Columns, Rhs, Ranges, Bounds, EndData}
+use Rattle.mpslp_mps.proofs.OrderLemmas.{never}
+use Rattle.mpslp_mps_sentences.proofs.ObjNameOfWords.{no-more-lines}
+use Rattle.mpslp_mps_sentences.proofs.FaultedLines.{holds_of, refuses, IsFirst, in-words-by}
+use Rattle.mpslp_mps_sentences.proofs.KindsOfLines.{is_among, none-holds, right_only, header_kinds, kinds_in, data-among, header-among}
+use Rattle.mpslp_mps_sentences.proofs.FaultsOfNames.{may_refuse}
+use Rattle.mpslp_mps_sentences.proofs.RepeatsOfNames.{last-place, below-all}
+use Rattle.mpslp_mps_sentences.proofs.DeclaredByLines.{is_of_header, is_at_home, is_elsewhere, IsErrorOfSection, line-of, unrefused-header, unrefused-at}
+use Rattle.mpslp_mps_sentences.proofs.FaultsOfValues.{AreValuesStated, values-stated, rejected}
+
+-- ---- a line of BOUNDS
+
+-- if each rejected bound passes the test, each such line does
+bounds-so : (kind : FaultKind) (earlier : Draft) (test : BoundType → List ℕ → Bool) → ((type : BoundType) (column : List ℕ) (value : Limit) → refuses kind earlier (bound_declared type column value) ≡ true → test type column ≡ true)
+    → (fields : Fields) → refuses kind earlier (bound_line_declared fields) ≡ true → is_such_bound test fields ≡ true
+bounds-so kind earlier test each [] h = h
+bounds-so kind earlier test each (letters ∷ more) h = typed (bound_type letters) h
+  where
+    lined : (type : BoundType) (o : Option BoundLine) → refuses kind earlier (declared_if_some (λ (line : BoundLine). bound_declared type line.column (bound_value line)) o) ≡ true
+        → option_map_or (λ (line : BoundLine). test type line.column) o false ≡ true
+    lined type None k = k
+    lined type (Some line) k = each type line.column (bound_value line) k
+
+    typed : (o : Option BoundType) → refuses kind earlier (declared_if_some (λ (type : BoundType). declared_if_some (λ (line : BoundLine). bound_declared type line.column (bound_value line)) (bound_shape type more)) o) ≡ true
+        → option_map_or (λ (type : BoundType). option_map_or (λ (line : BoundLine). test type line.column) (bound_shape type more) false) o false ≡ true
+    typed None k = k
+    typed (Some type) k = lined type (bound_shape type more) k
+
+-- ---- DuplicateBound
+
+bound-again : IsErrorOfSection Bounds kinds.DuplicateBound
+bound-again = record { header = headed; other = by }
+  where
+    headed : (d : Declaration) → is_of_header d ≡ true → not (may_refuse kinds.DuplicateBound d) ≡ true
+    headed (declare_sense _) h = refl
+    headed (declare_objective _) h = refl
+    headed _ h = cc
+
+    by : (d : Declaration) → is_elsewhere Bounds d ≡ true → not (may_refuse kinds.DuplicateBound d) ≡ true
+    by (declare_lower _ _) h = cc
+    by (declare_upper _ _) h = cc
+    by _ h = refl
+
+bounds-again : (type : BoundType) (column : List ℕ) (value : Limit) (all : Draft) → refuses kinds.DuplicateBound all (bound_declared type column value) ≡ true
+    → ((gives_lower type && has_name all.lowers column) || (gives_upper type && has_name all.uppers column)) ≡ true
+bounds-again type column value all h = by type h
+  where
+    lower : (a : Bool) → ((a || false) || false) ≡ true → (a || false) ≡ true
+    lower true k = refl
+    lower false k = k
+
+    upper : (a : Bool) → ((a || false) || false) ≡ true → a ≡ true
+    upper true k = refl
+    upper false k = k
+
+    both : (a b : Bool) → ((a || false) || ((b || false) || false)) ≡ true → (a || b) ≡ true
+    both true b k = refl
+    both false true k = refl
+    both false false k = k
+
+    by : (t : BoundType) → refuses kinds.DuplicateBound all (bound_declared t column value) ≡ true → ((gives_lower t && has_name all.lowers column) || (gives_upper t && has_name all.uppers column)) ≡ true
+    by bounds.Lower k = lower (has_name all.lowers column) k
+    by bounds.Upper k = upper (has_name all.uppers column) k
+    by bounds.Fixed k = both (has_name all.lowers column) (has_name all.uppers column) k
+    by bounds.Free k = both (has_name all.lowers column) (has_name all.uppers column) k
+    by bounds.NoLower k = lower (has_name all.lowers column) k
+    by bounds.NoUpper k = upper (has_name all.uppers column) k
+    by bounds.Binary k = both (has_name all.lowers column) (has_name all.uppers column) k
+    by bounds.IntegerLower k = lower (has_name all.lowers column) k
+    by bounds.IntegerUpper k = upper (has_name all.uppers column) k
+    by bounds.SemiUpper k = upper (has_name all.uppers column) k
+
+repeated-bound : (before : List LineContent) (earlier : Draft) (item : LineContent) → AreValuesStated before earlier → IsFirst kinds.DuplicateBound before earlier item → repeats_bound before item ≡ true
+repeated-bound before earlier item stated first =
+    line-of Bounds kinds.DuplicateBound bound-again (is_such_bound (repeats_bound_of before)) before earlier (λ fields h. bounds-so kinds.DuplicateBound earlier (repeats_bound_of before) each fields h) item
+    (rejected kinds.DuplicateBound before earlier item refl refl refl (below-all kinds.DuplicateBound refl refl refl refl) first)
+  where
+    within : (a b c : Bool) → (b ≡ true → c ≡ true) → (a && b) ≡ true → (a && c) ≡ true
+    within true b c f k = f k
+    within false b c f k = k
+
+    each : (type : BoundType) (column : List ℕ) (value : Limit) → refuses kinds.DuplicateBound earlier (bound_declared type column value) ≡ true → repeats_bound_of before type column ≡ true
+    each type column value h =
+        either_more (gives_lower type && has_name earlier.lowers column) (gives_upper type && has_name earlier.uppers column) (gives_lower type && has_bound before gives_lower column) (gives_upper type && has_bound before gives_upper column)
+        (within (gives_lower type) (has_name earlier.lowers column) (has_bound before gives_lower column) (stated.lowers column))
+        (within (gives_upper type) (has_name earlier.uppers column) (has_bound before gives_upper column) (stated.uppers column)) (bounds-again type column value earlier h)
+
+pub repeated-bounds : IsInWords kinds.DuplicateBound repeats_bound
+repeated-bounds = in-words-by AreValuesStated values-stated kinds.DuplicateBound repeats_bound refl refl refl repeated-bound
+
+-- ---- SemiContinuous
+
+-- no test of the form of a line is of this kind
+semi-refused : (before : List LineContent) (earlier : Draft) (item : LineContent) → IsFirst kinds.SemiContinuous before earlier item → refuses kinds.SemiContinuous earlier (line_declares (context_of before) earlier item) ≡ true
+semi-refused before earlier item first = right_only (holds_of kinds.SemiContinuous (item_tests (context_of before) earlier item)) (refuses kinds.SemiContinuous earlier (line_declares (context_of before) earlier item)) (none item) first.stated
+  where
+    other : (o : Option Section) → is_among (kinds_in o) kinds.SemiContinuous ≡ false
+    other None = refl
+    other (Some Name) = refl
+    other (Some ObjSense) = refl
+    other (Some ObjName) = refl
+    other (Some Rows) = refl
+    other (Some Columns) = refl
+    other (Some Rhs) = refl
+    other (Some Ranges) = refl
+    other (Some Bounds) = refl
+    other (Some EndData) = refl
+
+    none : (x : LineContent) → holds_of kinds.SemiContinuous (item_tests (context_of before) earlier x) ≡ false
+    none skipped = refl
+    none (header keyword more) = none-holds header_kinds kinds.SemiContinuous (header_tests (context_of before) earlier keyword more (section_named keyword)) (header-among (context_of before) earlier keyword more (section_named keyword)) refl
+    none (data_line fields) = none-holds (kinds_in (current_section before)) kinds.SemiContinuous (data_tests (context_of before) earlier fields (current_section before)) (data-among (context_of before) earlier fields (current_section before)) (other (current_section before))
+
+-- in COLUMNS no column is semi-continuous yet: BOUNDS comes after COLUMNS
+bounds-out : (sections_seen : List Section) → list_all (λ (x : Section). nat_le (section_rank x) 3) sections_seen ≡ true → has sections_seen Bounds ≡ false
+bounds-out [] h = refl
+bounds-out (x ∷ sections_seen) h =
+    both_false (is_section Bounds (Some x)) (has sections_seen Bounds) (by x (first_so (nat_le (section_rank x) 3) (list_all (λ (y : Section). nat_le (section_rank y) 3) sections_seen) h))
+    (bounds-out sections_seen (second_so (nat_le (section_rank x) 3) (list_all (λ (y : Section). nat_le (section_rank y) 3) sections_seen) h))
+  where
+    by : (s : Section) → nat_le (section_rank s) 3 ≡ true → is_section Bounds (Some s) ≡ false
+    by Name e = refl
+    by ObjSense e = refl
+    by ObjName e = refl
+    by Rows e = refl
+    by Columns e = refl
+    by Rhs e = cc
+    by Ranges e = cc
+    by Bounds e = cc
+    by EndData e = cc
+
+none-semi : (before : List LineContent) (earlier : Draft) (column : List ℕ) → AreValuesStated before earlier → current_section before ≡ Some Columns → is_semi earlier column ≡ false
+none-semi before earlier column stated here = by (is_semi earlier column) refl
+  where
+    out : has_section before Bounds ≡ false
+    out = bounds-out (seen_sections before) (last-place (seen_sections before) Columns stated.stated.known.words.ordered.order here)
+
+    none : has_bound before is_semi_type column ≡ false
+    none = ap (list_any (is_such_bound (λ type name. is_semi_type type && same_bytes column name))) (no-more-lines Bounds None before refl out)
+
+    by : (b : Bool) → is_semi earlier column ≡ b → b ≡ false
+    by true e = absurd (never (has_bound before is_semi_type column) (stated.semis column e) none)
+    by false e = refl
+
+-- so no line of COLUMNS has the error
+cells-unrefused : (column : List ℕ) (pairs : List Pair) (all : Draft) → refuses kinds.SemiContinuous all (flat_map (coefficient_declared column) pairs) ≡ false
+cells-unrefused column [] all = refl
+cells-unrefused column (pair ∷ pairs) all = cells-unrefused column pairs (with_declaration all (declare_coefficient (record { row = pair.row; column = column }) (value_of pair.literal)))
+
+column-unrefused : (context : Context) (earlier : Draft) (fields : Fields) → ((column : List ℕ) → is_semi earlier column ≡ false) → refuses kinds.SemiContinuous earlier (columns_line_declared context fields) ≡ false
+column-unrefused context earlier fields none = by (is_marker_line fields)
+  where
+    front : (line : ValuesLine) (b : Bool) → refuses kinds.SemiContinuous (with_declaration earlier (declare_column line.name)) (cond b (declare_marked line.name ∷ []) [] ++ flat_map (coefficient_declared line.name) line.pairs) ≡ false
+    front line true =
+        ap (λ (b : Bool). (b || false) || refuses kinds.SemiContinuous (with_declaration (with_declaration earlier (declare_column line.name)) (declare_marked line.name)) (flat_map (coefficient_declared line.name) line.pairs)) (none line.name)
+        ∙ cells-unrefused line.name line.pairs (with_declaration (with_declaration earlier (declare_column line.name)) (declare_marked line.name))
+    front line false = cells-unrefused line.name line.pairs (with_declaration earlier (declare_column line.name))
+
+    shaped : (o : Option ValuesLine) → refuses kinds.SemiContinuous earlier (declared_if_some (column_declared context) o) ≡ false
+    shaped None = refl
+    shaped (Some line) = front line context.in_integer_part
+
+    by : (b : Bool) → refuses kinds.SemiContinuous earlier (cond b [] (declared_if_some (column_declared context) (column_shape fields))) ≡ false
+    by true = refl
+    by false = shaped (column_shape fields)
+
+clash-reported : (type : BoundType) (column : List ℕ) (value : Limit) (all : Draft) → refuses kinds.SemiContinuous all (bound_declared type column value) ≡ true
+    → ((is_semi_type type && is_integer all column) || (is_integer_type type && is_semi all column)) ≡ true
+clash-reported type column value all h = by type h
+  where
+    integer : (a : Bool) → ((a || false) || false) ≡ true → a ≡ true
+    integer true k = refl
+    integer false k = k
+
+    semi : (a : Bool) → ((a || false) || false) ≡ true → (a || false) ≡ true
+    semi true k = refl
+    semi false k = k
+
+    by : (t : BoundType) → refuses kinds.SemiContinuous all (bound_declared t column value) ≡ true → ((is_semi_type t && is_integer all column) || (is_integer_type t && is_semi all column)) ≡ true
+    by bounds.Lower k = k
+    by bounds.Upper k = k
+    by bounds.Fixed k = k
+    by bounds.Free k = k
+    by bounds.NoLower k = k
+    by bounds.NoUpper k = k
+    by bounds.Binary k = integer (is_semi all column) k
+    by bounds.IntegerLower k = integer (is_semi all column) k
+    by bounds.IntegerUpper k = integer (is_semi all column) k
+    by bounds.SemiUpper k = semi (is_integer all column) k
+
+both-kinds : (before : List LineContent) (earlier : Draft) (item : LineContent) → AreValuesStated before earlier → IsFirst kinds.SemiContinuous before earlier item → makes_both_kinds before item ≡ true
+both-kinds before earlier item stated first = by item (semi-refused before earlier item first)
+  where
+    headed : (d : Declaration) → is_of_header d ≡ true → not (may_refuse kinds.SemiContinuous d) ≡ true
+    headed (declare_sense _) h = refl
+    headed (declare_objective _) h = refl
+    headed _ h = cc
+
+    in_sense : (d : Declaration) → is_at_home ObjSense d ≡ true → not (may_refuse kinds.SemiContinuous d) ≡ true
+    in_sense (declare_sense _) h = refl
+    in_sense _ h = cc
+
+    in_rows : (d : Declaration) → is_at_home Rows d ≡ true → not (may_refuse kinds.SemiContinuous d) ≡ true
+    in_rows (declare_objective _) h = refl
+    in_rows (declare_row _ _) h = refl
+    in_rows _ h = cc
+
+    in_sides : (d : Declaration) → is_at_home Rhs d ≡ true → not (may_refuse kinds.SemiContinuous d) ≡ true
+    in_sides (declare_rhs _ _) h = refl
+    in_sides _ h = cc
+
+    in_ranges : (d : Declaration) → is_at_home Ranges d ≡ true → not (may_refuse kinds.SemiContinuous d) ≡ true
+    in_ranges (declare_range _ _) h = refl
+    in_ranges _ h = cc
+
+    integer_column : (column : List ℕ) → is_integer earlier column ≡ true → is_integer_column before column ≡ true
+    integer_column column k =
+        either_more (has_name earlier.marked column) (has_name earlier.integers column || has_name earlier.binaries column) (is_in_block column (data_lines Columns before)) (has_bound before is_integer_type column) (stated.marked column)
+        (either (has_name earlier.integers column) (has_name earlier.binaries column) (has_bound before is_integer_type column) (stated.integers column)
+        (λ e. absurd (never (has_name earlier.binaries column) e (stated.plain.binaries column)))) k
+
+    within : (a b c : Bool) → (b ≡ true → c ≡ true) → (a && b) ≡ true → (a && c) ≡ true
+    within true b c f k = f k
+    within false b c f k = k
+
+    each : (type : BoundType) (column : List ℕ) (value : Limit) → refuses kinds.SemiContinuous earlier (bound_declared type column value) ≡ true → clashes_with before type column ≡ true
+    each type column value k =
+        either_more (is_semi_type type && is_integer earlier column) (is_integer_type type && is_semi earlier column) (is_semi_type type && is_integer_column before column) (is_integer_type type && has_bound before is_semi_type column)
+        (within (is_semi_type type) (is_integer earlier column) (is_integer_column before column) (integer_column column))
+        (within (is_integer_type type) (is_semi earlier column) (has_bound before is_semi_type column) (stated.semis column)) (clash-reported type column value earlier k)
+
+    of_section : (fields : Fields) (o : Option Section) → current_section before ≡ o → refuses kinds.SemiContinuous earlier (data_declared (context_of before) earlier fields o) ≡ true → (is_section Bounds o && is_such_bound (clashes_with before) fields) ≡ true
+    of_section fields (Some Bounds) e k = bounds-so kinds.SemiContinuous earlier (clashes_with before) each fields k
+    of_section fields (Some Columns) e k =
+        absurd (never (refuses kinds.SemiContinuous earlier (columns_line_declared (context_of before) fields)) k (column-unrefused (context_of before) earlier fields (λ column. none-semi before earlier column stated e)))
+    of_section fields None e k = k
+    of_section fields (Some Name) e k = k
+    of_section fields (Some ObjName) e k = k
+    of_section fields (Some EndData) e k = k
+    of_section fields (Some ObjSense) e k = unrefused-at ObjSense kinds.SemiContinuous in_sense (context_of before) earlier fields k
+    of_section fields (Some Rows) e k = unrefused-at Rows kinds.SemiContinuous in_rows (context_of before) earlier fields k
+    of_section fields (Some Rhs) e k = unrefused-at Rhs kinds.SemiContinuous in_sides (context_of before) earlier fields k
+    of_section fields (Some Ranges) e k = unrefused-at Ranges kinds.SemiContinuous in_ranges (context_of before) earlier fields k
+
+    by : (x : LineContent) → refuses kinds.SemiContinuous earlier (line_declares (context_of before) earlier x) ≡ true → makes_both_kinds before x ≡ true
+    by skipped k = k
+    by (header keyword more) k = unrefused-header kinds.SemiContinuous headed (context_of before) earlier more (section_named keyword) k
+    by (data_line fields) k = of_section fields (current_section before) refl k
+
+pub both-kinds-in_words : IsInWords kinds.SemiContinuous makes_both_kinds
+both-kinds-in_words = in-words-by AreValuesStated values-stated kinds.SemiContinuous makes_both_kinds refl refl refl both-kinds

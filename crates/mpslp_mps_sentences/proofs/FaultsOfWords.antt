@@ -1,0 +1,304 @@
+-- Each error that depends on other lines is as `FaultsInWords` defines its kind.
+use Rattle.std.proofs.Common.{arith}
+use Rattle.std.proofs.Common.{rules}
+use Rattle.std.proofs.lemmas.Bool.{false≢true, true≢false}
+use Rattle.std.proofs.Common.{◌≡◌, refl, sym, ap, ◌∙◌, List, [], ◌∷◌, ◌++◌, ℕ, Bool, true, false, cond, map}
+use Rattle.std.specs.Prelude.{Option, Some, None, is_none, is_some, not, filter_map, nat_lt, ◌||◌, ◌&&◌, codes}
+use Rattle.std.specs.List.{list_any, last_or, flat_map}
+use Rattle.std.specs.Option.{option_map, option_map_or}
+use Rattle.mpslp_types.specs.Name.{same_bytes, is_one_of}
+use Rattle.mpslp_types.specs.declared.faults.FaultKind.TheVariants as kinds
+use Rattle.mpslp_types.proofs.BoolLemmas.{both_so, or_left, or_right, nor, so_not}
+use Rattle.mpslp_types.specs.Lists.{head_of, is_nonempty}
+use Rattle.mpslp_builder.specs.Declaration.{Draft}
+use Rattle.mpslp_lines.specs.FaultTests.{number_tests, judged_by}
+use Rattle.mpslp_mps_fields.specs.Line.{Fields, LineContent, skipped, header, data_line, has, section_named, is_section, takes_word}
+use Rattle.mpslp_mps_fields.specs.DataLine.{word_shape, ValuesLine, column_shape, is_marker_line, marker_shape, opening_word, closing_word, vector_shape, BoundLine, bound_type, bound_shape}
+use Rattle.mpslp_mps.specs.Context.{context_of, current_section, seen_sections, data_lines, word_due, marker_word, line_column, vector_set, bound_set}
+use Rattle.mpslp_mps.specs.SeenSection.{has_section}
+use Rattle.mpslp_mps_sentences.specs.TextInWords.{section_rank, is_sense, words_in, is_one_word, alternate, are_together}
+use Rattle.mpslp_mps.specs.LineFault.{set_tests, may_begin, is_out_of_order, word_tests, section_tests, header_tests, marker_word_tests, marker_tests, is_split, column_tests, vector_tests, bound_tests, typed_bound_tests, bound_line_tests, data_tests, item_tests}
+use Rattle.mpslp_mps_fields.specs.declared.bound_types.BoundType.{BoundType}
+use Rattle.mpslp_mps_fields.specs.declared.sections.Section.{Section}
+use Rattle.mpslp_mps_fields.specs.declared.sections.Section.TheVariants.{Name, ObjSense, ObjName, Rows, Columns, Rhs, Ranges, Bounds, EndData}
+use Rattle.mpslp_mps_sentences.specs.FaultsInWords.{IsInWords, repeats_section, comes_early, comes_late, has_its_word, is_without_word, is_closed, occurs_out_of_order, breaks_turn, is_wrong_marker, differs_from, has_second_set, is_of_second_set, splits_column}
+use Rattle.mpslp_mps.proofs.OrderLemmas.{never}
+use Rattle.mpslp_mps_sentences.proofs.WordsOfColumns.{columns_of}
+use Rattle.mpslp_mps_sentences.proofs.WordsOfOneWord.{missing, without_word, with_word, IsUnderway}
+use Rattle.mpslp_mps_sentences.proofs.SectionsOfWords.{marker-follows, together-apart}
+use Rattle.mpslp_mps_sentences.proofs.ColumnsOfWords.{not-split}
+use Rattle.mpslp_mps_sentences.proofs.NamesOfWords.{Stated}
+use Rattle.mpslp_mps_sentences.proofs.KindsOfLines.{none-holds, left_only, column_kinds, unknown_kinds, unknown-among, section-among, column-among, no-data, no-header, by-form}
+use Rattle.mpslp_mps_sentences.proofs.FaultedLines.{holds_of, in-words}
+
+-- ---- SectionRepeated
+
+repeated : (before : List LineContent) (earlier : Draft) (item : LineContent) → Stated before earlier → holds_of kinds.SectionRepeated (item_tests (context_of before) earlier item) ≡ true → repeats_section before item ≡ true
+repeated before earlier skipped known h = absurd (false≢true h)
+repeated before earlier (header keyword more) known h = by (section_named keyword) h
+  where
+    by : (o : Option Section) → holds_of kinds.SectionRepeated (header_tests (context_of before) earlier keyword more o) ≡ true → option_map_or (has_section before) o false ≡ true
+    by None k =
+        absurd (never (holds_of kinds.SectionRepeated (header_tests (context_of before) earlier keyword more None)) k
+        (none-holds unknown_kinds kinds.SectionRepeated (header_tests (context_of before) earlier keyword more None)
+        (unknown-among (is_one_of (codes "QSECTION" ∷ codes "QMATRIX" ∷ codes "QUADOBJ" ∷ codes "QCMATRIX" ∷ codes "CSECTION" ∷ []) keyword)
+        (is_one_of (codes "SOS" ∷ codes "SOS1" ∷ codes "SOS2" ∷ []) keyword) (is_one_of (codes "INDICATORS" ∷ []) keyword)) refl))
+    by (Some s) k =
+        left_only (has_section before s) (holds_of kinds.SectionRepeated (section_tests (context_of before) earlier s more))
+        (none-holds (kinds.BadType ∷ kinds.UnknownRow ∷ []) kinds.SectionRepeated (section_tests (context_of before) earlier s more) (section-among (context_of before) earlier s more) refl) k
+repeated before earlier (data_line fields) known h = grind (arith, holds_of, no-data)
+
+pub section-repeated : IsInWords kinds.SectionRepeated repeats_section
+section-repeated = in-words kinds.SectionRepeated repeats_section refl refl refl (by-form kinds.SectionRepeated repeats_section refl repeated)
+
+-- ---- BadMarker
+
+wrong-marker : (before : List LineContent) (earlier : Draft) (item : LineContent) → Stated before earlier → holds_of kinds.BadMarker (item_tests (context_of before) earlier item) ≡ true → is_wrong_marker before item ≡ true
+wrong-marker before earlier skipped known h = absurd (false≢true h)
+wrong-marker before earlier (header keyword more) known h = no-header kinds.BadMarker (context_of before) earlier keyword more (section_named keyword) refl h
+wrong-marker before earlier (data_line fields) known h = by (current_section before) h
+  where
+    words : List (List ℕ)
+    words = filter_map marker_word (data_lines Columns before)
+
+    due : List ℕ
+    due = cond (context_of before).in_integer_part closing_word opening_word
+
+    of : (word : List ℕ) → not (same_bytes word due) ≡ true → (b : Bool) → alternate opening_word closing_word (words ++ word ∷ []) ≡ b → not b ≡ true
+    of word k true e = absurd (turn (same_bytes word due) k (marker-follows words None word [] false refl e))
+      where
+        turn : (b : Bool) → not b ≡ true → b ≡ true → ⊥
+        turn true p q = cc
+        turn false p q = absurd (false≢true q)
+    of word k false e = refl
+
+    line : (b : Bool) → holds_of kinds.BadMarker (cond b (marker_tests (context_of before) fields) (judged_by (column_tests (context_of before) earlier) (column_shape fields))) ≡ true
+        → option_map_or (λ word. not (alternate opening_word closing_word (words ++ word ∷ []))) (cond b (marker_shape fields) None) false ≡ true
+    line true k = marker (marker_shape fields) k
+      where
+        marker : (o : Option (List ℕ)) → holds_of kinds.BadMarker (judged_by (marker_word_tests (context_of before)) o) ≡ true
+            → option_map_or (λ word. not (alternate opening_word closing_word (words ++ word ∷ []))) o false ≡ true
+        marker None e = absurd (false≢true e)
+        marker (Some word) e = of word (left_only (not (same_bytes word due)) false refl e) (alternate opening_word closing_word (words ++ word ∷ [])) refl
+    line false k =
+        absurd (never (holds_of kinds.BadMarker (judged_by (column_tests (context_of before) earlier) (column_shape fields))) k
+        (none-holds column_kinds kinds.BadMarker (judged_by (column_tests (context_of before) earlier) (column_shape fields)) (column-among (context_of before) earlier fields) refl))
+
+    by : (o : Option Section) → holds_of kinds.BadMarker (data_tests (context_of before) earlier fields o) ≡ true → (is_section Columns o && breaks_turn before fields) ≡ true
+    by None k = no-data kinds.BadMarker (context_of before) earlier fields None refl k
+    by (Some Name) k = no-data kinds.BadMarker (context_of before) earlier fields (Some Name) refl k
+    by (Some ObjSense) k = no-data kinds.BadMarker (context_of before) earlier fields (Some ObjSense) refl k
+    by (Some ObjName) k = no-data kinds.BadMarker (context_of before) earlier fields (Some ObjName) refl k
+    by (Some Rows) k = no-data kinds.BadMarker (context_of before) earlier fields (Some Rows) refl k
+    by (Some Columns) k = line (is_marker_line fields) k
+    by (Some Rhs) k = no-data kinds.BadMarker (context_of before) earlier fields (Some Rhs) refl k
+    by (Some Ranges) k = no-data kinds.BadMarker (context_of before) earlier fields (Some Ranges) refl k
+    by (Some Bounds) k = no-data kinds.BadMarker (context_of before) earlier fields (Some Bounds) refl k
+    by (Some EndData) k = no-data kinds.BadMarker (context_of before) earlier fields (Some EndData) refl k
+
+pub bad-marker : IsInWords kinds.BadMarker is_wrong_marker
+bad-marker = in-words kinds.BadMarker is_wrong_marker refl refl refl (by-form kinds.BadMarker is_wrong_marker refl wrong-marker)
+
+-- ---- ColumnSplit
+
+split : (before : List LineContent) (earlier : Draft) (item : LineContent) → Stated before earlier → holds_of kinds.ColumnSplit (item_tests (context_of before) earlier item) ≡ true → splits_column before item ≡ true
+split before earlier skipped known h = absurd (false≢true h)
+split before earlier (header keyword more) known h = no-header kinds.ColumnSplit (context_of before) earlier keyword more (section_named keyword) refl h
+split before earlier (data_line fields) known h = by (current_section before) h
+  where
+    of : (name : List ℕ) → is_split (context_of before) earlier name ≡ true → (b : Bool) → are_together (columns_of before ++ Some name ∷ []) ≡ b → not b ≡ true
+    of name k true e = absurd (never (is_split (context_of before) earlier name) k (not-split before earlier name known.known.lines (together-apart (Some name) (columns_of before) [] e)))
+    of name k false e = refl
+
+    line : (b : Bool) → holds_of kinds.ColumnSplit (cond b (marker_tests (context_of before) fields) (judged_by (column_tests (context_of before) earlier) (column_shape fields))) ≡ true
+        → not (are_together (columns_of before ++ cond b None (option_map (λ (l : ValuesLine). l.name) (column_shape fields)) ∷ [])) ≡ true
+    line true k = marker (marker_shape fields) k
+      where
+        marker : {X : Type 0} (o : Option (List ℕ)) → holds_of kinds.ColumnSplit (judged_by (marker_word_tests (context_of before)) o) ≡ true → X
+        marker None e = absurd cc
+        marker (Some word) e = absurd cc
+    line false k = column (column_shape fields) k
+      where
+        column : (o : Option ValuesLine) → holds_of kinds.ColumnSplit (judged_by (column_tests (context_of before) earlier) o) ≡ true
+            → not (are_together (columns_of before ++ option_map (λ (l : ValuesLine). l.name) o ∷ [])) ≡ true
+        column None e = absurd (false≢true e)
+        column (Some l) e = of l.name (left_only (is_split (context_of before) earlier l.name) false refl e) (are_together (columns_of before ++ Some l.name ∷ [])) refl
+
+    by : (o : Option Section) → holds_of kinds.ColumnSplit (data_tests (context_of before) earlier fields o) ≡ true
+        → (is_section Columns o && not (are_together (map line_column (data_lines Columns before) ++ line_column fields ∷ []))) ≡ true
+    by None k = no-data kinds.ColumnSplit (context_of before) earlier fields None refl k
+    by (Some Name) k = no-data kinds.ColumnSplit (context_of before) earlier fields (Some Name) refl k
+    by (Some ObjSense) k = no-data kinds.ColumnSplit (context_of before) earlier fields (Some ObjSense) refl k
+    by (Some ObjName) k = no-data kinds.ColumnSplit (context_of before) earlier fields (Some ObjName) refl k
+    by (Some Rows) k = no-data kinds.ColumnSplit (context_of before) earlier fields (Some Rows) refl k
+    by (Some Columns) k = line (is_marker_line fields) k
+    by (Some Rhs) k = no-data kinds.ColumnSplit (context_of before) earlier fields (Some Rhs) refl k
+    by (Some Ranges) k = no-data kinds.ColumnSplit (context_of before) earlier fields (Some Ranges) refl k
+    by (Some Bounds) k = no-data kinds.ColumnSplit (context_of before) earlier fields (Some Bounds) refl k
+    by (Some EndData) k = no-data kinds.ColumnSplit (context_of before) earlier fields (Some EndData) refl k
+
+pub column-split : IsInWords kinds.ColumnSplit splits_column
+column-split = in-words kinds.ColumnSplit splits_column refl refl refl (by-form kinds.ColumnSplit splits_column refl split)
+
+-- ---- SecondSet
+
+-- a name other than the first one
+other-first : (sets : List (List ℕ)) (set : List ℕ) → option_map_or (λ name. not (same_bytes name set)) (head_of sets) false ≡ true → differs_from sets set ≡ true
+other-first sets set h = grind arith
+
+second : (before : List LineContent) (earlier : Draft) (item : LineContent) → Stated before earlier → holds_of kinds.SecondSet (item_tests (context_of before) earlier item) ≡ true → is_of_second_set before item ≡ true
+second before earlier skipped known h = absurd (false≢true h)
+second before earlier (header keyword more) known h = no-header kinds.SecondSet (context_of before) earlier keyword more (section_named keyword) refl h
+second before earlier (data_line fields) known h = by (current_section before) h
+  where
+    vector : (sets : List (List ℕ)) (o : Option ValuesLine) → holds_of kinds.SecondSet (judged_by (vector_tests (head_of sets)) o) ≡ true → option_map_or (differs_from sets) (option_map (λ (l : ValuesLine). l.name) o) false ≡ true
+    vector sets None k = absurd (false≢true k)
+    vector sets (Some line) k = other-first sets line.name (left_only (option_map_or (λ name. not (same_bytes name line.name)) (head_of sets) false) false refl k)
+
+    sets_before : List (List ℕ)
+    sets_before = filter_map bound_set (data_lines Bounds before)
+
+    literal : (line : BoundLine) (o : Option (List ℕ)) → holds_of kinds.SecondSet (option_map_or (λ literal. number_tests (literal ∷ [])) o [] ++ set_tests (context_of before).bounds_set line.set) ≡ true
+        → differs_from sets_before line.set ≡ true
+    literal line None k = other-first sets_before line.set (left_only (option_map_or (λ name. not (same_bytes name line.set)) (head_of sets_before) false) false refl k)
+    literal line (Some text) k = other-first sets_before line.set (left_only (option_map_or (λ name. not (same_bytes name line.set)) (head_of sets_before) false) false refl k)
+
+    shape : (o : Option BoundLine) → holds_of kinds.SecondSet (judged_by (bound_tests (context_of before)) o) ≡ true → option_map_or (differs_from sets_before) (option_map (λ (l : BoundLine). l.set) o) false ≡ true
+    shape None k = absurd (false≢true k)
+    shape (Some line) k = literal line line.literal k
+
+    bound : (fs : Fields) → holds_of kinds.SecondSet (bound_line_tests (context_of before) fs) ≡ true → option_map_or (differs_from sets_before) (bound_set fs) false ≡ true
+    bound [] k = absurd (false≢true k)
+    bound (letters ∷ more) k = typed (bound_type letters) k
+      where
+        typed : (o : Option BoundType) → holds_of kinds.SecondSet (typed_bound_tests (context_of before) more o) ≡ true
+            → option_map_or (differs_from sets_before) (option_map_or (λ type. option_map (λ (l : BoundLine). l.set) (bound_shape type more)) o None) false ≡ true
+        typed None e = absurd (false≢true e)
+        typed (Some type) e = shape (bound_shape type more) e
+
+    by : (o : Option Section) → holds_of kinds.SecondSet (data_tests (context_of before) earlier fields o) ≡ true → has_second_set before fields o ≡ true
+    by None k = no-data kinds.SecondSet (context_of before) earlier fields None refl k
+    by (Some Name) k = no-data kinds.SecondSet (context_of before) earlier fields (Some Name) refl k
+    by (Some ObjSense) k = no-data kinds.SecondSet (context_of before) earlier fields (Some ObjSense) refl k
+    by (Some ObjName) k = no-data kinds.SecondSet (context_of before) earlier fields (Some ObjName) refl k
+    by (Some Rows) k = no-data kinds.SecondSet (context_of before) earlier fields (Some Rows) refl k
+    by (Some Columns) k = no-data kinds.SecondSet (context_of before) earlier fields (Some Columns) refl k
+    by (Some Rhs) k = vector (filter_map vector_set (data_lines Rhs before)) (vector_shape fields) k
+    by (Some Ranges) k = vector (filter_map vector_set (data_lines Ranges before)) (vector_shape fields) k
+    by (Some Bounds) k = bound fields k
+    by (Some EndData) k = no-data kinds.SecondSet (context_of before) earlier fields (Some EndData) refl k
+
+pub second-set : IsInWords kinds.SecondSet is_of_second_set
+second-set = in-words kinds.SecondSet is_of_second_set refl refl refl (by-form kinds.SecondSet is_of_second_set refl second)
+
+-- ---- SectionOrder
+
+-- a word is missing: the current section has none
+without-word : (section : Section) (test : List ℕ → Bool) (before : List LineContent) → takes_word section ≡ true → IsUnderway section test before → current_section before ≡ Some section → is_section section (Some section) ≡ true
+    → is_some (word_due before) ≡ true → is_without_word before section ≡ true
+without-word section test before takes h here own w = grind arith
+
+-- no word is missing: the section has it
+with-its_word : (section : Section) (test : List ℕ → Bool) (before : List LineContent) → takes_word section ≡ true → IsUnderway section test before → current_section before ≡ Some section → is_section section (Some section) ≡ true
+    → is_some (word_due before) ≡ false → (takes_word section && has_its_word before section) ≡ true
+with-its_word section test before takes h here own w = grind arith
+
+-- a section that has begun has a later place
+later-place : (p q : Section → Bool) (sections_seen : List Section) → ((x : Section) → p x ≡ true → q x ≡ true) → list_any p sections_seen ≡ true → list_any q sections_seen ≡ true
+later-place p q [] h k = k
+later-place p q (x ∷ sections_seen) h k = by (λ e. later-place p q sections_seen h e) (p x) refl k
+  where
+    by : (list_any p sections_seen ≡ true → list_any q sections_seen ≡ true) → (b : Bool) → p x ≡ b → (b || list_any p sections_seen) ≡ true → (q x || list_any q sections_seen) ≡ true
+    by rest true e l = or_left (q x) (list_any q sections_seen) (h x e)
+    by rest false e l = or_right (q x) (list_any q sections_seen) (rest l)
+
+rows-later : (x : Section) → is_section Rows (Some x) ≡ true → nat_lt 1 (section_rank x) ≡ true
+rows-later x h = grind arith
+
+-- any section that has begun, and is not NAME, has a later place than NAME
+first-later : (sections_seen : List Section) → is_none (last_or None sections_seen) ≡ false → has sections_seen Name ≡ false → list_any (λ other. nat_lt 0 (section_rank other)) sections_seen ≡ true
+first-later [] h k = cc
+first-later (x ∷ sections_seen) h k = grind (arith, or_left, nor)
+
+turned : (b : Bool) → not b ≡ false → b ≡ true
+turned b h = grind arith
+
+misplaced : (before : List LineContent) (s : Section) → has_section before s ≡ false → may_begin (context_of before) s ≡ false → (comes_early before s || comes_late before s) ≡ true
+misplaced before Name f g = first-later (seen_sections before) g f
+misplaced before ObjSense f g = later-place (λ x. is_section Rows (Some x)) (λ other. nat_lt 1 (section_rank other)) (seen_sections before) rows-later (turned (has_section before Rows) g)
+misplaced before ObjName f g = later-place (λ x. is_section Rows (Some x)) (λ other. nat_lt 1 (section_rank other)) (seen_sections before) rows-later (turned (has_section before Rows) g)
+misplaced before Rows f g = absurd (true≢false g)
+misplaced before Columns f g = or_left (not (has_section before Rows)) (comes_late before Columns) (so_not (has_section before Rows) g)
+misplaced before Rhs f g = or_left (not (has_section before Columns)) (comes_late before Rhs) (so_not (has_section before Columns) g)
+misplaced before Ranges f g = or_left (not (has_section before Columns)) (comes_late before Ranges) (so_not (has_section before Columns) g)
+misplaced before Bounds f g = or_left (not (has_section before Columns)) (comes_late before Bounds) (so_not (has_section before Columns) g)
+misplaced before EndData f g = or_left (not (has_section before Columns)) (comes_late before EndData) (so_not (has_section before Columns) g)
+
+out-of-place : (before : List LineContent) (earlier : Draft) (item : LineContent) → Stated before earlier → holds_of kinds.SectionOrder (item_tests (context_of before) earlier item) ≡ true → occurs_out_of_order before item ≡ true
+out-of-place before earlier skipped known h = absurd (false≢true h)
+out-of-place before earlier (header keyword more) known h = by (section_named keyword) h
+  where
+    word_due_after : (o : Option Section) → current_section before ≡ o → is_some (word_due before) ≡ true → option_map_or (is_without_word before) o false ≡ true
+    word_due_after None e w = let no : false ≡ true = sym (ap (λ (o : Option Section). is_section ObjSense o || is_section ObjName o) e) ∙ known.known.there w in absurd (false≢true no)
+    word_due_after (Some ObjSense) e w = without-word ObjSense is_sense before refl known.known.words.sense e refl w
+    word_due_after (Some ObjName) e w = without-word ObjName (λ _. true) before refl known.known.words.name e refl w
+    word_due_after (Some Name) e w = let no : false ≡ true = sym (ap (λ (o : Option Section). is_section ObjSense o || is_section ObjName o) e) ∙ known.known.there w in absurd (false≢true no)
+    word_due_after (Some Rows) e w = let no : false ≡ true = sym (ap (λ (o : Option Section). is_section ObjSense o || is_section ObjName o) e) ∙ known.known.there w in absurd (false≢true no)
+    word_due_after (Some Columns) e w = let no : false ≡ true = sym (ap (λ (o : Option Section). is_section ObjSense o || is_section ObjName o) e) ∙ known.known.there w in absurd (false≢true no)
+    word_due_after (Some Rhs) e w = let no : false ≡ true = sym (ap (λ (o : Option Section). is_section ObjSense o || is_section ObjName o) e) ∙ known.known.there w in absurd (false≢true no)
+    word_due_after (Some Ranges) e w = let no : false ≡ true = sym (ap (λ (o : Option Section). is_section ObjSense o || is_section ObjName o) e) ∙ known.known.there w in absurd (false≢true no)
+    word_due_after (Some Bounds) e w = let no : false ≡ true = sym (ap (λ (o : Option Section). is_section ObjSense o || is_section ObjName o) e) ∙ known.known.there w in absurd (false≢true no)
+    word_due_after (Some EndData) e w = let no : false ≡ true = sym (ap (λ (o : Option Section). is_section ObjSense o || is_section ObjName o) e) ∙ known.known.there w in absurd (false≢true no)
+
+    idle : Bool
+    idle = option_map_or (is_without_word before) (current_section before) false
+
+    of : (s : Section) (w f g : Bool) → is_some (word_due before) ≡ w → has_section before s ≡ f → may_begin (context_of before) s ≡ g → (w || not (f || g)) ≡ true
+        → (idle || (not (has_section before s) && (comes_early before s || comes_late before s))) ≡ true
+    of s true f g p q r k = or_left idle (not (has_section before s) && (comes_early before s || comes_late before s)) (word_due_after (current_section before) refl p)
+    of s false true g p q r k = absurd (false≢true k)
+    of s false false true p q r k = absurd (false≢true k)
+    of s false false false p q r k =
+        or_right idle (not (has_section before s) && (comes_early before s || comes_late before s))
+        (both_so (not (has_section before s)) (comes_early before s || comes_late before s) (so_not (has_section before s) q) (misplaced before s q r))
+
+    by : (o : Option Section) → holds_of kinds.SectionOrder (header_tests (context_of before) earlier keyword more o) ≡ true
+        → (idle || option_map_or (λ section. not (has_section before section) && (comes_early before section || comes_late before section)) o false) ≡ true
+    by None k =
+        absurd (never (holds_of kinds.SectionOrder (header_tests (context_of before) earlier keyword more None)) k
+        (none-holds unknown_kinds kinds.SectionOrder (header_tests (context_of before) earlier keyword more None)
+        (unknown-among (is_one_of (codes "QSECTION" ∷ codes "QMATRIX" ∷ codes "QUADOBJ" ∷ codes "QCMATRIX" ∷ codes "CSECTION" ∷ []) keyword)
+        (is_one_of (codes "SOS" ∷ codes "SOS1" ∷ codes "SOS2" ∷ []) keyword) (is_one_of (codes "INDICATORS" ∷ []) keyword)) refl))
+    by (Some s) k =
+        of s (is_some (word_due before)) (has_section before s) (may_begin (context_of before) s) refl refl refl
+        (left_only (is_out_of_order (context_of before) s) (holds_of kinds.SectionOrder (section_tests (context_of before) earlier s more))
+        (none-holds (kinds.BadType ∷ kinds.UnknownRow ∷ []) kinds.SectionOrder (section_tests (context_of before) earlier s more) (section-among (context_of before) earlier s more) refl) k)
+out-of-place before earlier (data_line fields) known h = by (current_section before) refl h
+  where
+    occurs : (s : Section) → holds_of kinds.SectionOrder (data_tests (context_of before) earlier fields (Some s)) ≡ true → current_section before ≡ Some s → is_closed before s ≡ true
+    occurs Name k e = refl
+    occurs ObjSense k e = with-its_word ObjSense is_sense before refl known.known.words.sense e refl (word (is_some (word_due before)) (word_shape fields) k)
+      where
+        word : (b : Bool) (o : Option (List ℕ)) → holds_of kinds.SectionOrder ((not b, kinds.SectionOrder) ∷ judged_by word_tests o) ≡ true → b ≡ false
+        word false o l = refl
+        word true None l = absurd (false≢true l)
+        word true (Some x) l = absurd (false≢true l)
+    occurs ObjName k e = with-its_word ObjName (λ _. true) before refl known.known.words.name e refl (word (is_some (word_due before)) (word_shape fields) k)
+      where
+        word : (b : Bool) (o : Option (List ℕ)) → holds_of kinds.SectionOrder ((not b, kinds.SectionOrder) ∷ judged_by (λ _. []) o) ≡ true → b ≡ false
+        word false o l = refl
+        word true None l = absurd (false≢true l)
+        word true (Some x) l = absurd (false≢true l)
+    occurs Rows k e = no-data kinds.SectionOrder (context_of before) earlier fields (Some Rows) refl k
+    occurs Columns k e = no-data kinds.SectionOrder (context_of before) earlier fields (Some Columns) refl k
+    occurs Rhs k e = no-data kinds.SectionOrder (context_of before) earlier fields (Some Rhs) refl k
+    occurs Ranges k e = no-data kinds.SectionOrder (context_of before) earlier fields (Some Ranges) refl k
+    occurs Bounds k e = no-data kinds.SectionOrder (context_of before) earlier fields (Some Bounds) refl k
+    occurs EndData k e = refl
+
+    by : (o : Option Section) → current_section before ≡ o → holds_of kinds.SectionOrder (data_tests (context_of before) earlier fields o) ≡ true → option_map_or (is_closed before) o true ≡ true
+    by None e k = refl
+    by (Some s) e k = occurs s k e
+
+pub section-order : IsInWords kinds.SectionOrder occurs_out_of_order
+section-order = in-words kinds.SectionOrder occurs_out_of_order refl refl refl (by-form kinds.SectionOrder occurs_out_of_order refl out-of-place)

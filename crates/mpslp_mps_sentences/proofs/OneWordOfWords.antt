@@ -1,0 +1,68 @@
+-- If OBJSENSE and OBJNAME each have one word, their headers and data lines are well-formed.
+use Rattle.std.proofs.Common.{arith}
+use Rattle.std.proofs.Common.{rules}
+use Rattle.std.proofs.Common.{◌≡◌, refl, sym, ap, ◌∙◌, List, [], ◌∷◌, ◌++◌, ℕ, Bool, true, false, cond}
+use Rattle.std.specs.Prelude.{Option, Some, None, is_some, ◌||◌}
+use Rattle.std.specs.List.{cons_option}
+use Rattle.std.specs.Option.{option_map_or, option_or}
+use Rattle.mpslp_types.proofs.BoolLemmas.{nor}
+use Rattle.mpslp_types.specs.Lists.{when}
+use Rattle.mpslp_mps_fields.specs.Line.{Fields, LineContent, skipped, header, data_line, has, section_named, section_of_header, is_section, section_of_word_due}
+use Rattle.mpslp_mps.specs.Context.{seen_sections, current_section, said_after, is_read, word_due_after, word_due}
+use Rattle.mpslp_mps.specs.SeenSection.{has_section}
+use Rattle.mpslp_mps_sentences.specs.TextInWords.{word_fields, words_in, is_one_word, has_word_at_most}
+use Rattle.mpslp_mps_fields.specs.declared.sections.Section.{Section}
+use Rattle.mpslp_mps_fields.specs.declared.sections.Section.TheVariants.{Name, ObjSense, ObjName, Rows, Columns, Rhs, Ranges, Bounds, EndData}
+use Rattle.mpslp_mps.proofs.OrderLemmas.{never}
+use Rattle.mpslp_mps.proofs.SectionLemmas.{current_section-push}
+use Rattle.mpslp_mps.proofs.ContextLemmas.{word_due-push}
+use Rattle.mpslp_mps_sentences.proofs.WordsOfOneWord.{fits_word, is_single, missing, without_word, with_word, IsUnderway}
+use Rattle.mpslp_mps_sentences.proofs.WordsOfObjName.{none-word_due}
+
+-- ---- a word is required only under OBJSENSE or OBJNAME
+
+abbrev pub IsWantedThere : List LineContent → Type 0
+IsWantedThere before = is_some (word_due before) ≡ true → (is_section ObjSense (current_section before) || is_section ObjName (current_section before)) ≡ true
+
+pub wanted_there-kept : (before : List LineContent) (item : LineContent) → IsWantedThere before → IsWantedThere (before ++ item ∷ [])
+wanted_there-kept before item there h = grind (arith, current_section-push, word_due-push, none-word_due)
+
+-- ---- what the whole text implies for one line
+
+too-many : (test : List ℕ → Bool) (words : List Fields) (fields : Fields) (more : List Fields) → is_one_word test words ≡ true → has_word_at_most test (words ++ fields ∷ more) ≡ true → ⊥
+too-many test words fields more h k = grind arith
+
+-- a data line of the section has its word, which was missing
+pub line-single : (section : Section) (test : List ℕ → Bool) (before : List LineContent) (fields : Fields) (more : List Fields) → IsUnderway section test before → is_section section (current_section before) ≡ true
+    → has_word_at_most test (words_in section before ++ fields ∷ more) ≡ true → (is_some (word_due before) ≡ true) × (is_single test fields ≡ true)
+line-single section test before fields more k here h = grind arith
+
+-- its header has its word, or nothing
+pub header-fits : (section : Section) (test : List ℕ → Bool) (before : List LineContent) (fields : Fields) (more : List Fields) → IsUnderway section test before → has_section before section ≡ false
+    → has_word_at_most test (words_in section before ++ fields ∷ more) ≡ true → fits_word test fields ≡ true
+header-fits section test before fields more k fresh h = grind arith
+
+-- a section that is complete has no more words
+pub no-more-words : (section : Section) (current : Option Section) (items : List LineContent) → is_section section current ≡ false → has_section items section ≡ false → said_after (word_fields section) current items ≡ []
+no-more-words section current [] h k = refl
+no-more-words section current (item ∷ items) h k = by item k (λ c e f. no-more-words section c items e f)
+  where
+    of : (o : Option Section) (more : Fields) → has (cons_option o (seen_sections items)) section ≡ false
+        → ((c : Option Section) → is_section section c ≡ false → has_section items section ≡ false → said_after (word_fields section) c items ≡ [])
+        → when (is_section section o) more ++ said_after (word_fields section) (option_or o current) items ≡ []
+    of None more e rest = rest current h e
+    of (Some s) more e rest =
+        let parts = nor (is_section section (Some s)) (has_section items section) e in
+        ap (λ (b : Bool). when b more ++ said_after (word_fields section) (Some s) items) parts.0 ∙ rest (Some s) parts.0 parts.1
+
+    by : (x : LineContent) → has_section (x ∷ items) section ≡ false
+        → ((c : Option Section) → is_section section c ≡ false → has_section items section ≡ false → said_after (word_fields section) c items ≡ [])
+        → word_fields section current x ++ said_after (word_fields section) (option_or (section_of_header x) current) items ≡ []
+    by skipped e rest = rest current h e
+    by (header keyword more) e rest = of (section_named keyword) more e rest
+    by (data_line fields) e rest = ap (λ (b : Bool). when b fields ++ said_after (word_fields section) current items) h ∙ rest current h e
+
+-- no header comes before the missing word of a section
+pub not-left : (section : Section) (test : List ℕ → Bool) (before : List LineContent) → IsUnderway section test before → is_section section (current_section before) ≡ true → is_some (word_due before) ≡ true
+    → has_word_at_most test (words_in section before) ≡ true → ⊥
+not-left section test before k here there h = grind arith
