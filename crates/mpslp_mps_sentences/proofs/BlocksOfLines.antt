@@ -1,27 +1,19 @@
 -- A column that a draft has marked has a line in an integer block.
-use Rattle.std.proofs.Common.{arith}
-use Rattle.std.proofs.Common.{rules}
-use Rattle.std.proofs.Common.{◌≡◌, refl, sym, ap, ◌∙◌, subst, List, [], ◌∷◌, ◌++◌, ℕ, Bool, true, false, cond}
-use Rattle.std.proofs.lemmas.List.{append-nil}
-use Rattle.std.specs.Prelude.{Option, Some, None, is_some, filter_map, ◌||◌, ◌&&◌}
-use Rattle.std.specs.List.{list_any, last_or, flat_map, cons_option}
-use Rattle.std.specs.Option.{option_map, option_map_or}
-use Rattle.mpslp_types.specs.Name.{same_bytes}
-use Rattle.mpslp_types.proofs.BoolLemmas.{or_left, or_right}
-use Rattle.mpslp_types.specs.Lists.{when}
-use Rattle.mpslp_builder.specs.Declaration.{Declaration, declare_column, declare_marked, declare_coefficient, Draft, with_declaration, with_declarations, has_name}
-use Rattle.mpslp_builder.proofs.SlotLemmas.{has-put}
+use Rattle.std.proofs.Common.{arith, ◌≡◌, refl, sym, ap, ◌∙◌, subst, List, [], ◌∷◌, ◌++◌, ℕ, Bool, true, false, cond}
+use Rattle.std.{proofs.lemmas.List.append-nil, specs.{Prelude.{Option, Some, None, is_some, filter_map, ◌||◌, ◌&&◌}, List.list_any}}
+use Rattle.std.specs.{List.{last_or, flat_map, cons_option}, Option.{option_map, option_map_or}}
+use Rattle.mpslp_types.{specs.{Name.same_bytes, Lists.when}, proofs.BoolLemmas.{or_left, or_right}}
+use Rattle.mpslp_builder.specs.Declaration.{declare_column, declare_marked, declare_coefficient, Draft, with_declaration, with_declarations}
+use Rattle.mpslp_builder.{specs.Declaration.has_name, proofs.SlotLemmas.has-put}
 use Rattle.mpslp_lines.specs.FaultTests.{value_of}
-use Rattle.mpslp_mps_fields.specs.Line.{Fields, LineContent, skipped, header, data_line, section_named, is_section}
-use Rattle.mpslp_mps_fields.specs.DataLine.{Pair, ValuesLine, column_shape, is_marker_line, marker_shape, opening_word}
+use Rattle.mpslp_mps_fields.specs.{Line.{Fields, LineContent, skipped, header, data_line, section_named, is_section}, DataLine.Pair}
+use Rattle.mpslp_mps_fields.specs.DataLine.{ValuesLine, column_shape, is_marker_line, opening_word}
+use Rattle.mpslp_mps_fields.specs.declared.sections.Section.TheVariants.{Columns}
 use Rattle.mpslp_mps.specs.Context.{context_of, current_section, fields_under, data_lines, marker_word, line_column}
 use Rattle.mpslp_mps.specs.LineDeclarations.{declared_if_some, coefficient_declared, column_declared, data_declared, line_declares}
-use Rattle.mpslp_mps_sentences.specs.TextInWords.{same_column}
-use Rattle.mpslp_mps_sentences.specs.ValueFaultsInWords.{opens_block, block_lines, is_in_block}
-use Rattle.mpslp_mps_fields.specs.declared.sections.Section.TheVariants.{Columns}
 use Rattle.mpslp_mps.proofs.SectionLemmas.{data_lines-push}
-use Rattle.mpslp_mps_sentences.proofs.WordsOfFields.{section-is}
-use Rattle.mpslp_mps_sentences.proofs.DeclaredByLines.{is_elsewhere, IsPartOf, header-kept, data-kept}
+use Rattle.mpslp_mps_sentences.specs.{TextInWords.same_column, ValueFaultsInWords.{opens_block, block_lines, is_in_block}}
+use Rattle.mpslp_mps_sentences.proofs.{WordsOfFields.section-is, DeclaredByLines.{IsPartOf, header-kept, data-kept}}
 
 -- ---- lists of lines
 
@@ -67,13 +59,7 @@ last-block column fields plain of (x ∷ lines) word h = by (marker_word x) h (�
     by : (o : Option (List ℕ)) → is_opening (last_or word (cons_option o (filter_map marker_word lines))) ≡ true
         → ((w : Option (List ℕ)) → is_opening (last_or w (filter_map marker_word lines)) ≡ true → ((is_opening w && list_any (is_of column) (block_lines more)) || is_in_block column more) ≡ true)
         → ((is_opening word && list_any (is_of column) (cond (is_some o) [] (x ∷ block_lines more))) || ((is_opening o && list_any (is_of column) (block_lines more)) || is_in_block column more)) ≡ true
-    by (Some w) k rest = or_right (is_opening word && false) ((same_bytes opening_word w && list_any (is_of column) (block_lines more)) || is_in_block column more) (rest (Some w) k)
-    by None k rest = wider (is_opening word) (is_of column x) (list_any (is_of column) (block_lines more)) (is_in_block column more) (rest word k)
-      where
-        wider : (o a b c : Bool) → ((o && b) || c) ≡ true → ((o && (a || b)) || c) ≡ true
-        wider true true b c e = refl
-        wider true false b c e = e
-        wider false a b c e = e
+    by o k rest = grind (arith, or_right, more)
 
 -- ---- the columns that are marked
 
@@ -108,15 +94,7 @@ marked_lines-kept before earlier item have column h = ap (is_in_block column) (d
     front : (fields : Fields) → is_marker_line fields ≡ false → (line : ValuesLine) → column_shape fields ≡ Some line → (b : Bool) → (context_of before).in_integer_part ≡ b
         → has_name (with_declarations earlier (declare_column line.name ∷ (cond b (declare_marked line.name ∷ []) [] ++ flat_map (coefficient_declared line.name) line.pairs))).marked column ≡ true
         → is_in_block column (lines ++ fields ∷ []) ≡ true
-    front fields plain line shape true inside k =
-        either (same_bytes column line.name) refl
-        (sym (has-put column line.name tt earlier.marked) ∙ (sym (cells-same column line.name line.pairs (with_declaration (with_declaration earlier (declare_column line.name)) (declare_marked line.name))) ∙ k))
-      where
-        either : (b : Bool) → same_bytes column line.name ≡ b → (b || has_name earlier.marked column) ≡ true → is_in_block column (lines ++ fields ∷ []) ≡ true
-        either true e l = new fields plain line shape e inside
-        either false e l = in_block-more column lines fields (have column l)
-    front fields plain line shape false inside k =
-        in_block-more column lines fields (have column (sym (cells-same column line.name line.pairs (with_declaration earlier (declare_column line.name))) ∙ k))
+    front fields plain line shape b inside k = grind (arith, has-put, cells-same, in_block-more, lines, new)
 
     shaped : (fields : Fields) → is_marker_line fields ≡ false → (o : Option ValuesLine) → column_shape fields ≡ o → has_name (with_declarations earlier (declared_if_some (column_declared (context_of before)) o)).marked column ≡ true
         → is_in_block column (lines ++ fields ∷ []) ≡ true

@@ -1,11 +1,8 @@
 -- A test of declarations that passes for whatever a line of BOUNDS declares.
-use Rattle.std.proofs.Common.{◌≡◌, refl, List, [], ◌∷◌, ℕ, Bool, true}
-use Rattle.std.specs.List.{list_all}
+use Rattle.std.{proofs.Common.{◌≡◌, refl, List, [], ◌∷◌, ℕ, Bool, true}, specs.List.list_all}
 use Rattle.mpslp_builder.specs.Declaration.{Declaration, declare_lower, declare_upper, declare_integer, declare_semi}
 use Rattle.mpslp_types.specs.declared.kinds.Limit.{Limit}
-use Rattle.mpslp_mps_fields.specs.Line.{Fields}
-use Rattle.mpslp_mps_fields.specs.DataLine.{BoundLine, bound_type, bound_shape}
-use Rattle.mpslp_mps_fields.specs.declared.bound_types.BoundType.{BoundType}
+use Rattle.mpslp_mps_fields.specs.{Line.Fields, DataLine.{BoundLine, bound_type, bound_shape}, declared.bound_types.BoundType.BoundType}
 use Rattle.mpslp_mps_fields.specs.declared.bound_types.BoundType.TheVariants as bounds
 use Rattle.mpslp_mps.specs.LineDeclarations.{declared_if_some, bound_declared, bound_value, bound_line_declared}
 use Rattle.mpslp_mps.proofs.OrderLemmas.{each-declared}

@@ -1,28 +1,15 @@
 -- A column of a draft is that of an earlier line of COLUMNS, so a column with contiguous lines is not split.
-use Rattle.std.proofs.Common.{arith}
-use Rattle.std.proofs.Common.{◌≡◌, refl, sym, ap, ◌∙◌, subst, List, [], ◌∷◌, ◌++◌, ℕ, Bool, true, false, cond, map}
-use Rattle.std.specs.Prelude.{Option, Some, None, not, ◌&&◌, ◌||◌}
-use Rattle.std.specs.List.{list_any, flat_map}
-use Rattle.std.specs.Option.{option_map, option_map_or}
-use Rattle.std.proofs.lemmas.List.{map-append}
-use Rattle.std.proofs.lemmas.List.Folds.{list_any-append}
-use Rattle.mpslp_types.specs.Name.{same_bytes}
+use Rattle.std.proofs.{Common.{arith, ◌≡◌, List, [], ◌∷◌, ◌++◌, ℕ, Bool, true, false, cond}, lemmas.List.map-append}
+use Rattle.std.{proofs.lemmas.List.Folds.list_any-append, specs.{Prelude.{Option, Some, ◌||◌}, List.{list_any, flat_map}}}
 use Rattle.mpslp_types.proofs.BoolLemmas.{or_left, or_right}
-use Rattle.mpslp_builder.specs.Declaration.{declare_column, declare_marked, Draft, with_declaration, with_declarations, has_column}
-use Rattle.mpslp_types.specs.Lists.{when}
-use Rattle.mpslp_builder.proofs.SlotLemmas.{has-put}
-use Rattle.mpslp_mps_fields.specs.Line.{Fields, LineContent, skipped, header, data_line, section_named, is_section}
-use Rattle.mpslp_mps_fields.specs.DataLine.{ValuesLine, column_shape, is_marker_line}
-use Rattle.mpslp_mps.specs.Context.{Context, context_of, current_section, fields_under, data_lines, line_column, last_column}
-use Rattle.mpslp_mps.specs.LineDeclarations.{declared_if_some, coefficient_declared, column_declared, columns_line_declared, data_declared, header_declared, line_declares}
-use Rattle.mpslp_mps.specs.LineFault.{is_split}
-use Rattle.mpslp_mps_sentences.specs.TextInWords.{same_column}
-use Rattle.mpslp_mps_fields.specs.declared.sections.Section.{Section}
+use Rattle.mpslp_builder.{specs.Declaration.{declare_marked, Draft, with_declarations, has_column}, proofs.SlotLemmas.has-put}
+use Rattle.mpslp_mps_fields.specs.{Line.{Fields, LineContent, is_section}, DataLine.ValuesLine, declared.sections.Section.Section}
 use Rattle.mpslp_mps_fields.specs.declared.sections.Section.TheVariants.{Columns}
-use Rattle.mpslp_mps.proofs.OrderLemmas.{declares_column, no_columns, columns-kept, each-flat}
-use Rattle.mpslp_mps.proofs.SectionLemmas.{data_lines-push}
-use Rattle.mpslp_mps_sentences.proofs.WordsOfFields.{section-is}
-use Rattle.mpslp_mps_sentences.proofs.WordsOfColumns.{Column, last_of, comes_again, columns_of, last-line}
+use Rattle.mpslp_mps.specs.{Context.{Context, context_of, line_column}, LineDeclarations.{coefficient_declared, columns_line_declared}}
+use Rattle.mpslp_mps.specs.{LineDeclarations.{data_declared, header_declared, line_declares}, LineFault.is_split}
+use Rattle.mpslp_mps.proofs.{OrderLemmas.{declares_column, no_columns, columns-kept, each-flat}, SectionLemmas.data_lines-push}
+use Rattle.mpslp_mps_sentences.{specs.TextInWords.same_column, proofs.{WordsOfFields.section-is, WordsOfColumns.{last_of, comes_again}}}
+use Rattle.mpslp_mps_sentences.proofs.WordsOfColumns.{columns_of, last-line}
 
 -- ---- the columns of a draft
 

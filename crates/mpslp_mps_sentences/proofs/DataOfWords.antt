@@ -1,31 +1,21 @@
 -- If the lines of each section are good together, each data line is well-formed after those before it.
-use Rattle.std.proofs.Common.{arith}
-use Rattle.std.proofs.Common.{◌≡◌, refl, sym, ap, ◌∙◌, subst, List, [], ◌∷◌, ◌++◌, ℕ, Bool, true, false, cond, map}
-use Rattle.std.specs.Prelude.{Option, Some, None, is_some, is_none, not, filter_map}
-use Rattle.std.specs.List.{list_all, cons_option}
-use Rattle.std.specs.Option.{option_map_or}
-use Rattle.std.proofs.lemmas.List.{map-append}
-use Rattle.std.proofs.lemmas.List.Elements.{filter_map-append}
-use Rattle.mpslp_types.specs.Name.{same_bytes}
-use Rattle.mpslp_types.specs.declared.kinds.Sense.{Sense}
+use Rattle.std.proofs.Common.{arith, ◌≡◌, refl, sym, ap, ◌∙◌, subst, List, [], ◌∷◌, ◌++◌, ℕ, Bool, true, false, cond}
+use Rattle.std.{proofs.lemmas.List.{map-append, Elements.filter_map-append}, specs.Prelude.{Option, Some, None, is_some, not, filter_map}}
+use Rattle.std.specs.{List.{list_all, cons_option}, Option.option_map_or}
+use Rattle.mpslp_types.specs.{Name.same_bytes, Lists.{those_of, is_nonempty, when, head_of}}
 use Rattle.mpslp_types.specs.declared.faults.FaultKind.TheVariants as kinds
 use Rattle.mpslp_builder.specs.Declaration.{Draft}
-use Rattle.mpslp_types.specs.Lists.{those_of, is_nonempty, when, head_of}
-use Rattle.mpslp_mps_fields.specs.Line.{Fields, LineContent, data_line, is_section}
-use Rattle.mpslp_mps_fields.specs.DataLine.{opening_word, closing_word, sense_of}
-use Rattle.mpslp_mps.specs.Context.{context_of, current_section, said_after, data_lines, fields_under, marker_word, line_column, vector_set, bound_set, word_due}
-use Rattle.mpslp_mps.specs.LineFault.{data_tests, is_split}
-use Rattle.mpslp_mps_sentences.specs.TextInWords.{strays, stray_lines, takes_data, word_fields, words_in, has_word_at_most, is_sense, is_row_line, is_columns_line, is_vector_line, is_bound_line, alternate, are_together, is_one_set}
-use Rattle.mpslp_mps_fields.specs.declared.sections.Section.{Section}
-use Rattle.mpslp_mps_fields.specs.declared.sections.Section.TheVariants.{Name, ObjSense, ObjName, Rows, Columns, Rhs, Ranges, Bounds, EndData}
-use Rattle.mpslp_mps.proofs.OrderLemmas.{IsGood, never}
-use Rattle.mpslp_mps_sentences.proofs.WordsOfFields.{is_other_set}
-use Rattle.mpslp_mps_sentences.proofs.WordsOfColumns.{Column, columns_of}
-use Rattle.mpslp_mps_sentences.proofs.WordsOfOneWord.{is_single, IsUnderway}
-use Rattle.mpslp_mps_sentences.proofs.FieldsOfWords.{row-good, columns-good, vector-good, bound-good}
-use Rattle.mpslp_mps_sentences.proofs.SectionsOfWords.{said_after-append, data-occurs, passes-all, set-fits, marker-follows, together-apart}
-use Rattle.mpslp_mps_sentences.proofs.OneWordOfWords.{line-single}
-use Rattle.mpslp_mps_sentences.proofs.ColumnsOfWords.{HaveLines, not-split}
+use Rattle.mpslp_mps_fields.specs.{Line.{Fields, LineContent, data_line, is_section}, DataLine.{opening_word, closing_word}}
+use Rattle.mpslp_mps_fields.specs.declared.sections.Section.{Section, TheVariants.{Name, ObjSense, ObjName, Rows, Columns, Rhs, Ranges}}
+use Rattle.mpslp_mps_fields.specs.declared.sections.Section.TheVariants.{Bounds, EndData}
+use Rattle.mpslp_mps.specs.Context.{context_of, current_section, said_after, data_lines, fields_under, marker_word, line_column, vector_set}
+use Rattle.mpslp_mps.{specs.{Context.{bound_set, word_due}, LineFault.{data_tests, is_split}}, proofs.OrderLemmas.{IsGood, never}}
+use Rattle.mpslp_mps_sentences.specs.TextInWords.{strays, stray_lines, takes_data, words_in, has_word_at_most, is_sense, is_row_line}
+use Rattle.mpslp_mps_sentences.specs.TextInWords.{is_columns_line, is_vector_line, is_bound_line, alternate, are_together, is_one_set}
+use Rattle.mpslp_mps_sentences.proofs.{WordsOfFields.is_other_set, WordsOfColumns.columns_of, WordsOfOneWord.{is_single, IsUnderway}}
+use Rattle.mpslp_mps_sentences.proofs.{FieldsOfWords.{row-good, columns-good, vector-good, bound-good}, SectionsOfWords.said_after-append}
+use Rattle.mpslp_mps_sentences.proofs.SectionsOfWords.{data-occurs, passes-all, set-fits, marker-follows, together-apart}
+use Rattle.mpslp_mps_sentences.proofs.{OneWordOfWords.line-single, ColumnsOfWords.{HaveLines, not-split}}
 
 -- ---- data lines
 
@@ -83,20 +73,11 @@ data-good before earlier fields rest sense name have h = by (current_section bef
         ∙ ap (λ (o : Option (List ℕ)). filter_map marker_word (data_lines Columns before) ++ cons_option o (filter_map marker_word (later Columns))) m)) ∙ h.markers)
 
     continues_column : is_section Columns (current_section before) ≡ true → (column : List ℕ) → line_column fields ≡ Some column → is_split (context_of before) earlier column ≡ false
-    continues_column e column c =
-        not-split before earlier column have
-        (together-apart (Some column) (columns_of before) (map line_column (later Columns))
-        (sym (ap are_together
-        (ap (map line_column) (occurs Columns e) ∙ map-append line_column (data_lines Columns before) (fields ∷ later Columns)
-        ∙ ap (λ (x : Column). columns_of before ++ x ∷ map line_column (later Columns)) c)) ∙ h.together))
+    continues_column e column c = grind (arith, not-split, together-apart, columns_of, map-append, later, occurs)
 
     single : (section : Section) (test : List ℕ → Bool) → IsUnderway section test before → is_section section (current_section before) ≡ true → has_word_at_most test (words_in section full) ≡ true
         → (is_some (word_due before) ≡ true) × (is_single test fields ≡ true)
-    single section test under e k =
-        line-single section test before fields (said_after (word_fields section) (current_section before) rest) under e
-        (sym (ap (has_word_at_most test)
-        (said_after-append (word_fields section) None before (data_line fields ∷ rest)
-        ∙ ap (λ (b : Bool). words_in section before ++ (when b fields ++ said_after (word_fields section) (current_section before) rest)) e)) ∙ k)
+    single section test under e k = grind (arith, line-single, said_after-append)
 
     stray : (o : Option Section) → current_section before ≡ o → not (option_map_or takes_data o false) ≡ false
     stray o e =
@@ -105,14 +86,7 @@ data-good before earlier fields rest sense name have h = by (current_section bef
         (sym (ap (λ (lines : List Fields). not (is_nonempty lines)) (said_after-append strays None before (data_line fields ∷ rest))) ∙ h.strays)
 
     sense_good : (fs : Fields) → is_some (word_due before) ≡ true → is_single is_sense fs ≡ true → those_of (data_tests (context_of before) earlier fs (Some ObjSense)) ≡ []
-    sense_good [] w k = cc
-    sense_good (word ∷ []) w k = of (is_some (word_due before)) w (sense_of word) k
-      where
-        of : (c : Bool) → c ≡ true → (o : Option Sense) → is_some o ≡ true → those_of ((not c, kinds.SectionOrder) ∷ (is_none o, kinds.BadType) ∷ []) ≡ []
-        of true e (Some x) l = refl
-        of true e None l = cc
-        of false e o l = cc
-    sense_good (word ∷ other ∷ more) w k = cc
+    sense_good fs w k = grind arith
 
     name_good : (fs : Fields) → is_some (word_due before) ≡ true → is_single (λ _. true) fs ≡ true → those_of (data_tests (context_of before) earlier fs (Some ObjName)) ≡ []
     name_good [] w k = cc

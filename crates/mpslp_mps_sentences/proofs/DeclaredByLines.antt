@@ -1,34 +1,20 @@
 -- What a line may change in a draft: each section declares its own, and a header only a sense or an objective.
-use Rattle.std.proofs.Common.{arith}
-use Rattle.std.proofs.Common.{rules}
-use Rattle.std.proofs.Common.{◌≡◌, refl, sym, ap, ◌∙◌, subst, List, [], ◌∷◌, ◌++◌, ℕ, Bool, true, false, cond}
-use Rattle.std.specs.Prelude.{Option, Some, None, is_none, not, ◌||◌, ◌&&◌, codes}
-use Rattle.std.specs.List.{list_any, list_all, flat_map}
-use Rattle.std.specs.Option.{option_map_or}
-use Rattle.std.specs.Cmp.{first_so, second_so}
-use Rattle.std.proofs.lemmas.List.Folds.{list_any-append}
+use Rattle.std.proofs.{Common.{arith, ◌≡◌, refl, ◌∙◌, subst, List, [], ◌∷◌, ◌++◌, ℕ, Bool, true, false}, lemmas.List.Folds.list_any-append}
+use Rattle.std.specs.{Prelude.{Option, Some, not, ◌||◌, ◌&&◌}, List.{list_any, list_all}, Option.option_map_or, Cmp.{first_so, second_so}}
 use Rattle.mpslp_decimal.specs.Decimal.{Number}
-use Rattle.mpslp_types.specs.declared.kinds.Sense.{Sense}
-use Rattle.mpslp_types.specs.declared.kinds.RowType.{RowType}
-use Rattle.mpslp_types.specs.declared.kinds.RowType.TheVariants.{Free, AtMost, AtLeast, Equal}
-use Rattle.mpslp_types.specs.declared.faults.FaultKind.{FaultKind}
-use Rattle.mpslp_types.proofs.BoolLemmas.{both_so, or_left, or_right}
+use Rattle.mpslp_types.{specs.declared.{kinds.{Sense.Sense, RowType.RowType}, faults.FaultKind.FaultKind}, proofs.BoolLemmas.both_so}
+use Rattle.mpslp_types.proofs.BoolLemmas.{or_left, or_right}
 use Rattle.mpslp_model_core.specs.Model.{CoefficientKey}
-use Rattle.mpslp_types.specs.Lists.{when}
-use Rattle.mpslp_builder.specs.Declaration.{by_type, Declaration, declare_sense, declare_objective, declare_constant, declare_row, declare_rhs, declare_range, declare_column, declare_coefficient, declare_lower, declare_upper, declare_marked, declare_integer, declare_binary, declare_semi, Declarations, Draft, with_declaration, with_declarations}
+use Rattle.mpslp_builder.specs.Declaration.{by_type, Declaration, declare_sense, declare_objective, declare_constant, declare_row}
+use Rattle.mpslp_builder.specs.Declaration.{declare_rhs, declare_range, declare_column, declare_coefficient, declare_lower, declare_upper}
+use Rattle.mpslp_builder.specs.Declaration.{declare_marked, declare_integer, declare_binary, declare_semi, Declarations, Draft}
+use Rattle.mpslp_builder.specs.Declaration.{with_declaration, with_declarations}
 use Rattle.mpslp_mps_fields.specs.Line.{Fields, LineContent, skipped, header, data_line, section_named, is_section}
-use Rattle.mpslp_mps_fields.specs.DataLine.{ValuesLine, row_shape, row_type, column_shape, is_marker_line}
-use Rattle.mpslp_mps.specs.Context.{Context, context_of, current_section, fields_under, data_lines}
-use Rattle.mpslp_mps.specs.LineDeclarations.{declared_if_some, is_new_objective, row_of_type, row_declared, coefficient_declared, column_declared, data_declared, header_declared, line_declares}
-use Rattle.mpslp_mps_sentences.specs.ValueFaultsInWords.{is_line_of}
-use Rattle.mpslp_mps_fields.specs.declared.sections.Section.{Section}
-use Rattle.mpslp_mps_fields.specs.declared.sections.Section.TheVariants.{Name, ObjSense, ObjName, Rows, Columns, Rhs, Ranges, Bounds, EndData}
-use Rattle.mpslp_mps.proofs.OrderLemmas.{each-declared, each-flat, sense-passes, sides-passes, ranges-passes}
-use Rattle.mpslp_mps_sentences.proofs.BoundsPasses.{Passes, bounds-passes}
-use Rattle.mpslp_mps.proofs.SectionLemmas.{data_lines-push}
-use Rattle.mpslp_mps_sentences.proofs.WordsOfFields.{section-is}
-use Rattle.mpslp_mps_sentences.proofs.FaultedLines.{refuses}
-use Rattle.mpslp_mps_sentences.proofs.FaultsOfNames.{may_refuse, no-one}
+use Rattle.mpslp_mps_fields.specs.declared.sections.Section.{Section, TheVariants.{Name, ObjSense, Rows, Columns, Rhs, Ranges, Bounds}}
+use Rattle.mpslp_mps.specs.{Context.{Context, context_of, current_section, data_lines}, LineDeclarations.{data_declared, header_declared}}
+use Rattle.mpslp_mps.{specs.LineDeclarations.line_declares, proofs.SectionLemmas.data_lines-push}
+use Rattle.mpslp_mps_sentences.{specs.ValueFaultsInWords.is_line_of, proofs.{BoundsPasses.Passes, WordsOfFields.section-is}}
+use Rattle.mpslp_mps_sentences.proofs.{FaultedLines.refuses, FaultsOfNames.{may_refuse, no-one}}
 
 -- ---- tests of declarations, section by section
 
@@ -47,12 +33,6 @@ abbrev pub holds_in : (Section → Declaration → Bool) → Option Section → 
 holds_in p o d = option_map_or (λ section. p section d) o false
 
 module _ (p : Section → Declaration → Bool) (holds : HoldsInSections p) where
-  row-each : (context : Context) (earlier : Draft) (name : List ℕ) (type : RowType) → list_all (λ d. p Rows d) (row_of_type context earlier name type) ≡ true
-  row-each context earlier name type = grind arith
-
-  column-each : (context : Context) (line : ValuesLine) → list_all (λ d. p Columns d) (column_declared context line) ≡ true
-  column-each context line = grind (arith, both_so, each-flat)
-
   pub data-each : (context : Context) (earlier : Draft) (fields : Fields) (o : Option Section) → list_all (λ d. holds_in p o d) (data_declared context earlier fields o) ≡ true
   data-each context earlier fields o = grind arith
 

@@ -1,38 +1,24 @@
 -- The first line of a text with an error: its kind is that of one of its tests, or of a rejected declaration.
-use Rattle.std.proofs.Common.{rules}
-use Rattle.std.proofs.Common.{◌≡◌, refl, sym, ap, ◌∙◌, subst, List, [], ◌∷◌, ◌++◌, append_assoc, ℕ, suc, ◌+◌, ◌-◌, ◌^◌, Bool, true, false, cond, map, arith}
-use Rattle.std.specs.Prelude.{Option, Some, None, ◌||◌, ◌&&◌, ◌==◌, nat_le, nat_lt, not, filter_map, min, length, if◌then◌else◌}
-use Rattle.std.specs.List.{list_any, list_all, cons_option}
-use Rattle.std.specs.Option.{option_map, option_map_or, option_or}
-use Rattle.std.specs.Cmp.{first_so, second_so}
-use Rattle.std.proofs.lemmas.Bool.Decides.{nat_tests}
-use Rattle.std.proofs.Math.Dec.{eqb_refl}
-use Rattle.std.proofs.lemmas.List.{append-nil, map-append}
-use Rattle.std.proofs.lemmas.List.Folds.{list_any-append}
-use Rattle.mpslp_types.specs.FaultOrder.{kind_rank, least_kind}
-use Rattle.mpslp_types.specs.declared.faults.BuildFault.{BuildFault}
-use Rattle.mpslp_types.specs.declared.faults.Fault.{Fault}
-use Rattle.mpslp_types.specs.declared.faults.FaultKind.{FaultKind}
-use Rattle.mpslp_types.specs.declared.faults.FaultKind.TheVariants.{LineTooLong, BadByte, MissingEnd, NoColumns}
-use Rattle.mpslp_types.proofs.BoolLemmas.{true_from, both_so, or_left, or_right}
-use Rattle.mpslp_types.specs.Lists.{is_nonempty, head_of, those_of}
+use Rattle.std.proofs.Common.{◌≡◌, refl, sym, ap, ◌∙◌, subst, List, [], ◌∷◌, ◌++◌, append_assoc, ℕ, suc, ◌+◌, ◌-◌, ◌^◌, Bool, true, false}
+use Rattle.std.proofs.{Common.{cond, map, arith}, lemmas.{Bool.Decides.nat_tests, List.{append-nil, map-append}}, Math.Dec.eqb_refl}
+use Rattle.std.{proofs.lemmas.List.Folds.list_any-append, specs.Prelude.{Option, Some, None, ◌||◌, ◌&&◌, ◌==◌, nat_le, nat_lt, not}}
+use Rattle.std.specs.{Prelude.{filter_map, min, length, if◌then◌else◌}, List.{list_any, list_all}, Option.{option_map, option_map_or}}
+use Rattle.std.specs.{Option.option_or, Cmp.second_so}
+use Rattle.mpslp_types.specs.{FaultOrder.{kind_rank, least_kind}, declared.faults.{BuildFault.BuildFault, Fault.Fault, FaultKind.FaultKind}}
+use Rattle.mpslp_types.specs.{declared.faults.FaultKind.TheVariants.{LineTooLong, BadByte, MissingEnd, NoColumns}, Lists.is_nonempty}
+use Rattle.mpslp_types.{specs.Lists.{head_of, those_of}, proofs.BoolLemmas.{true_from, both_so, or_left, or_right}}
 use Rattle.mpslp_builder.specs.Declaration.{Declarations, Draft, with_declaration, with_declarations, empty_draft, draft_of}
-use Rattle.mpslp_builder.specs.FileFault.{named_kinds, whole_fault, names_with, named_faults, file_fault}
-use Rattle.mpslp_builder.specs.Refusal.{refusal_tests, refusals, refusals_in_turn}
-use Rattle.mpslp_lines.specs.Declaring.{declaring_faults, first_fault}
-use Rattle.mpslp_lines.specs.FaultTests.{kind_of_build_fault, fault_on_line, is_kind, has_legal_length, is_legal_byte, FaultTests}
-use Rattle.mpslp_lines.proofs.LeastLemmas.{lesser, earlier_of, least-append, least-none}
-use Rattle.mpslp_lines.proofs.FirstFaultLemmas.{faultless}
+use Rattle.mpslp_builder.specs.{FileFault.{named_kinds, whole_fault, names_with, named_faults, file_fault}, Refusal.refusal_tests}
+use Rattle.mpslp_builder.specs.Refusal.{refusals_in_turn}
+use Rattle.mpslp_lines.specs.{Declaring.{declaring_faults, first_fault}, FaultTests.{kind_of_build_fault, fault_on_line, is_kind}}
+use Rattle.mpslp_lines.{specs.FaultTests.{has_legal_length, is_legal_byte, FaultTests}, proofs.LeastLemmas.{lesser, earlier_of}}
+use Rattle.mpslp_lines.proofs.{LeastLemmas.{least-append, least-none}, FirstFaultLemmas.faultless}
 use Rattle.mpslp_mps_fields.specs.Line.{LineContent, content_of, outside_comment}
-use Rattle.mpslp_mps.specs.Context.{context_of}
-use Rattle.mpslp_mps.specs.LineDeclarations.{line_declares}
-use Rattle.mpslp_mps.specs.LineFault.{item_tests, line_tests}
-use Rattle.mpslp_mps.specs.MpsText.{LineInContext, read_lines, has_end, declared_at, tests_at, lines_in_context_after, lines_in_context, declarations_of}
-use Rattle.mpslp_mps.specs.FirstFault.{line_fault, first_line_fault, whole_mps_fault}
-use Rattle.mpslp_mps_sentences.specs.FaultsInWords.{IsFaultOfLine, IsInWords}
-use Rattle.mpslp_mps.proofs.OrderLemmas.{IsGood, never}
+use Rattle.mpslp_mps.specs.{Context.context_of, LineDeclarations.line_declares, LineFault.{item_tests, line_tests}, MpsText.LineInContext}
+use Rattle.mpslp_mps.specs.MpsText.{read_lines, has_end, declared_at, tests_at, lines_in_context_after, lines_in_context, declarations_of}
+use Rattle.mpslp_mps.{specs.FirstFault.{line_fault, first_line_fault, whole_mps_fault}, proofs.OrderLemmas.{IsGood, never}}
 use Rattle.mpslp_mps.proofs.ContextLineLemmas.{item-form}
-use Rattle.mpslp_mps_sentences.proofs.NamesOfWords.{Stated, none-stated, stated-kept}
+use Rattle.mpslp_mps_sentences.{specs.FaultsInWords.{IsFaultOfLine, IsInWords}, proofs.NamesOfWords.{Stated, none-stated, stated-kept}}
 
 -- ---- which tests a kind has
 

@@ -1,37 +1,28 @@
 -- Lines of BOUNDS with a rejected bound or type are as `ValueFaultsInWords` defines the kind of their error.
-use Rattle.std.proofs.Common.{◌≡◌, refl, ap, ◌∙◌, List, [], ◌∷◌, ◌++◌, ℕ, Bool, true, false, cond}
-use Rattle.std.specs.Prelude.{Option, Some, None, not, ◌||◌, ◌&&◌, nat_le}
-use Rattle.std.specs.List.{list_any, list_all, flat_map}
-use Rattle.std.specs.Option.{option_map_or}
-use Rattle.std.specs.Cmp.{first_so, second_so}
-use Rattle.mpslp_types.specs.Name.{same_bytes}
-use Rattle.mpslp_types.specs.declared.kinds.Limit.{Limit}
-use Rattle.mpslp_types.specs.declared.faults.FaultKind.{FaultKind}
+use Rattle.std.{proofs.Common.{arith, ◌≡◌, refl, ap, ◌∙◌, List, [], ◌∷◌, ◌++◌, ℕ, Bool, true, false, cond}, specs.Prelude.{Option, Some}}
+use Rattle.std.specs.{Prelude.{None, not, ◌||◌, ◌&&◌, nat_le}, List.{list_any, list_all, flat_map}, Option.option_map_or, Cmp.second_so}
+use Rattle.mpslp_types.{specs.{Name.same_bytes, declared.{kinds.Limit.Limit, faults.FaultKind.FaultKind}}, proofs.BoolLemmas.both_false}
+use Rattle.mpslp_types.proofs.BoolLemmas.{either, either_more}
 use Rattle.mpslp_types.specs.declared.faults.FaultKind.TheVariants as kinds
-use Rattle.mpslp_types.proofs.BoolLemmas.{both_false, either, either_more}
-use Rattle.mpslp_builder.specs.Declaration.{Declaration, declare_sense, declare_objective, declare_column, declare_coefficient, declare_lower, declare_upper, declare_marked, declare_row, declare_rhs, declare_range, Draft, with_declaration, has_name, is_integer, is_semi}
+use Rattle.mpslp_builder.specs.Declaration.{Declaration, declare_sense, declare_objective, declare_column, declare_coefficient}
+use Rattle.mpslp_builder.specs.Declaration.{declare_marked, declare_row, declare_rhs, declare_range, Draft, with_declaration, has_name}
+use Rattle.mpslp_builder.specs.Declaration.{is_integer, is_semi}
 use Rattle.mpslp_lines.specs.FaultTests.{value_of}
-use Rattle.mpslp_mps_fields.specs.Line.{Fields, LineContent, skipped, header, data_line, has, section_named, is_section}
-use Rattle.mpslp_mps_fields.specs.DataLine.{Pair, ValuesLine, column_shape, is_marker_line, BoundLine, bound_type, bound_shape, is_integer_type, is_semi_type}
-use Rattle.mpslp_mps.specs.Context.{Context, context_of, current_section, seen_sections, data_lines}
-use Rattle.mpslp_mps.specs.SeenSection.{has_section}
-use Rattle.mpslp_mps_sentences.specs.TextInWords.{section_rank}
-use Rattle.mpslp_mps.specs.LineDeclarations.{declared_if_some, coefficient_declared, column_declared, columns_line_declared, bound_declared, bound_value, bound_line_declared, data_declared, line_declares}
-use Rattle.mpslp_mps.specs.LineFault.{item_tests, header_tests, data_tests}
-use Rattle.mpslp_mps_sentences.specs.FaultsInWords.{IsInWords}
-use Rattle.mpslp_mps_sentences.specs.ValueFaultsInWords.{gives_lower, gives_upper, is_such_bound, has_bound, repeats_bound_of, repeats_bound, is_in_block, is_integer_column, clashes_with, makes_both_kinds}
-use Rattle.mpslp_mps_fields.specs.declared.bound_types.BoundType.{BoundType}
-use Rattle.mpslp_mps_fields.specs.declared.bound_types.BoundType.TheVariants as bounds
-use Rattle.mpslp_mps_fields.specs.declared.sections.Section.{Section}
-use Rattle.mpslp_mps_fields.specs.declared.sections.Section.TheVariants.{Name, ObjSense, ObjName, Rows, Columns, Rhs, Ranges, Bounds, EndData}
-use Rattle.mpslp_mps.proofs.OrderLemmas.{never}
-use Rattle.mpslp_mps_sentences.proofs.ObjNameOfWords.{no-more-lines}
-use Rattle.mpslp_mps_sentences.proofs.FaultedLines.{holds_of, refuses, IsFirst, in-words-by}
-use Rattle.mpslp_mps_sentences.proofs.KindsOfLines.{is_among, none-holds, right_only, header_kinds, kinds_in, data-among, header-among}
-use Rattle.mpslp_mps_sentences.proofs.FaultsOfNames.{may_refuse}
-use Rattle.mpslp_mps_sentences.proofs.RepeatsOfNames.{last-place, below-all}
-use Rattle.mpslp_mps_sentences.proofs.DeclaredByLines.{is_of_header, is_at_home, is_elsewhere, IsErrorOfSection, line-of, unrefused-header, unrefused-at}
-use Rattle.mpslp_mps_sentences.proofs.FaultsOfValues.{AreValuesStated, values-stated, rejected}
+use Rattle.mpslp_mps_fields.specs.{Line.{Fields, LineContent, skipped, header, data_line, has, section_named, is_section}, DataLine.Pair}
+use Rattle.mpslp_mps_fields.specs.DataLine.{ValuesLine, column_shape, is_marker_line, BoundLine, bound_type, bound_shape, is_integer_type}
+use Rattle.mpslp_mps_fields.specs.{DataLine.is_semi_type, declared.{bound_types.BoundType.BoundType, sections.Section.Section}}
+use Rattle.mpslp_mps_fields.specs.declared.sections.Section.TheVariants.{Name, ObjSense, ObjName, Rows, Columns, Rhs, Ranges, Bounds}
+use Rattle.mpslp_mps_fields.specs.declared.sections.Section.TheVariants.{EndData}
+use Rattle.mpslp_mps.specs.{Context.{Context, context_of, current_section, seen_sections, data_lines}, SeenSection.has_section}
+use Rattle.mpslp_mps.specs.LineDeclarations.{declared_if_some, coefficient_declared, column_declared, columns_line_declared, bound_declared}
+use Rattle.mpslp_mps.{specs.LineDeclarations.{bound_value, bound_line_declared, data_declared, line_declares}, proofs.OrderLemmas.never}
+use Rattle.mpslp_mps_sentences.specs.{TextInWords.section_rank, FaultsInWords.IsInWords, ValueFaultsInWords.{gives_lower, gives_upper}}
+use Rattle.mpslp_mps_sentences.specs.ValueFaultsInWords.{is_such_bound, has_bound, repeats_bound_of, repeats_bound, is_in_block}
+use Rattle.mpslp_mps_sentences.specs.ValueFaultsInWords.{is_integer_column, clashes_with, makes_both_kinds}
+use Rattle.mpslp_mps_sentences.proofs.{ObjNameOfWords.no-more-lines, FaultedLines.{refuses, IsFirst, in-words-by}, FaultsOfNames.may_refuse}
+use Rattle.mpslp_mps_sentences.proofs.{RepeatsOfNames.{last-place, below-all}, DeclaredByLines.{is_of_header, is_at_home, IsErrorOfSection}}
+use Rattle.mpslp_mps_sentences.proofs.{DeclaredByLines.{line-of, unrefused-header, unrefused-at}, FaultsOfValues.AreValuesStated}
+use Rattle.mpslp_mps_sentences.proofs.FaultsOfValues.{values-stated, rejected}
 
 -- ---- a line of BOUNDS
 
@@ -54,46 +45,11 @@ bounds-so kind earlier test each (letters ∷ more) h = typed (bound_type letter
 -- ---- DuplicateBound
 
 bound-again : IsErrorOfSection Bounds kinds.DuplicateBound
-bound-again = record { header = headed; other = by }
-  where
-    headed : (d : Declaration) → is_of_header d ≡ true → not (may_refuse kinds.DuplicateBound d) ≡ true
-    headed (declare_sense _) h = refl
-    headed (declare_objective _) h = refl
-    headed _ h = cc
-
-    by : (d : Declaration) → is_elsewhere Bounds d ≡ true → not (may_refuse kinds.DuplicateBound d) ≡ true
-    by (declare_lower _ _) h = cc
-    by (declare_upper _ _) h = cc
-    by _ h = refl
+bound-again = grind arith
 
 bounds-again : (type : BoundType) (column : List ℕ) (value : Limit) (all : Draft) → refuses kinds.DuplicateBound all (bound_declared type column value) ≡ true
     → ((gives_lower type && has_name all.lowers column) || (gives_upper type && has_name all.uppers column)) ≡ true
-bounds-again type column value all h = by type h
-  where
-    lower : (a : Bool) → ((a || false) || false) ≡ true → (a || false) ≡ true
-    lower true k = refl
-    lower false k = k
-
-    upper : (a : Bool) → ((a || false) || false) ≡ true → a ≡ true
-    upper true k = refl
-    upper false k = k
-
-    both : (a b : Bool) → ((a || false) || ((b || false) || false)) ≡ true → (a || b) ≡ true
-    both true b k = refl
-    both false true k = refl
-    both false false k = k
-
-    by : (t : BoundType) → refuses kinds.DuplicateBound all (bound_declared t column value) ≡ true → ((gives_lower t && has_name all.lowers column) || (gives_upper t && has_name all.uppers column)) ≡ true
-    by bounds.Lower k = lower (has_name all.lowers column) k
-    by bounds.Upper k = upper (has_name all.uppers column) k
-    by bounds.Fixed k = both (has_name all.lowers column) (has_name all.uppers column) k
-    by bounds.Free k = both (has_name all.lowers column) (has_name all.uppers column) k
-    by bounds.NoLower k = lower (has_name all.lowers column) k
-    by bounds.NoUpper k = upper (has_name all.uppers column) k
-    by bounds.Binary k = both (has_name all.lowers column) (has_name all.uppers column) k
-    by bounds.IntegerLower k = lower (has_name all.lowers column) k
-    by bounds.IntegerUpper k = upper (has_name all.uppers column) k
-    by bounds.SemiUpper k = upper (has_name all.uppers column) k
+bounds-again type column value all h = grind arith
 
 repeated-bound : (before : List LineContent) (earlier : Draft) (item : LineContent) → AreValuesStated before earlier → IsFirst kinds.DuplicateBound before earlier item → repeats_bound before item ≡ true
 repeated-bound before earlier item stated first =
@@ -117,42 +73,12 @@ repeated-bounds = in-words-by AreValuesStated values-stated kinds.DuplicateBound
 
 -- no test of the form of a line is of this kind
 semi-refused : (before : List LineContent) (earlier : Draft) (item : LineContent) → IsFirst kinds.SemiContinuous before earlier item → refuses kinds.SemiContinuous earlier (line_declares (context_of before) earlier item) ≡ true
-semi-refused before earlier item first = right_only (holds_of kinds.SemiContinuous (item_tests (context_of before) earlier item)) (refuses kinds.SemiContinuous earlier (line_declares (context_of before) earlier item)) (none item) first.stated
-  where
-    other : (o : Option Section) → is_among (kinds_in o) kinds.SemiContinuous ≡ false
-    other None = refl
-    other (Some Name) = refl
-    other (Some ObjSense) = refl
-    other (Some ObjName) = refl
-    other (Some Rows) = refl
-    other (Some Columns) = refl
-    other (Some Rhs) = refl
-    other (Some Ranges) = refl
-    other (Some Bounds) = refl
-    other (Some EndData) = refl
-
-    none : (x : LineContent) → holds_of kinds.SemiContinuous (item_tests (context_of before) earlier x) ≡ false
-    none skipped = refl
-    none (header keyword more) = none-holds header_kinds kinds.SemiContinuous (header_tests (context_of before) earlier keyword more (section_named keyword)) (header-among (context_of before) earlier keyword more (section_named keyword)) refl
-    none (data_line fields) = none-holds (kinds_in (current_section before)) kinds.SemiContinuous (data_tests (context_of before) earlier fields (current_section before)) (data-among (context_of before) earlier fields (current_section before)) (other (current_section before))
+semi-refused before earlier item first = grind arith
 
 -- in COLUMNS no column is semi-continuous yet: BOUNDS comes after COLUMNS
 bounds-out : (sections_seen : List Section) → list_all (λ (x : Section). nat_le (section_rank x) 3) sections_seen ≡ true → has sections_seen Bounds ≡ false
 bounds-out [] h = refl
-bounds-out (x ∷ sections_seen) h =
-    both_false (is_section Bounds (Some x)) (has sections_seen Bounds) (by x (first_so (nat_le (section_rank x) 3) (list_all (λ (y : Section). nat_le (section_rank y) 3) sections_seen) h))
-    (bounds-out sections_seen (second_so (nat_le (section_rank x) 3) (list_all (λ (y : Section). nat_le (section_rank y) 3) sections_seen) h))
-  where
-    by : (s : Section) → nat_le (section_rank s) 3 ≡ true → is_section Bounds (Some s) ≡ false
-    by Name e = refl
-    by ObjSense e = refl
-    by ObjName e = refl
-    by Rows e = refl
-    by Columns e = refl
-    by Rhs e = cc
-    by Ranges e = cc
-    by Bounds e = cc
-    by EndData e = cc
+bounds-out (x ∷ sections_seen) h = grind (arith, both_false, bounds-out sections_seen (second_so (nat_le (section_rank x) 3) (list_all (λ (y : Section). nat_le (section_rank y) 3) sections_seen) h))
 
 none-semi : (before : List LineContent) (earlier : Draft) (column : List ℕ) → AreValuesStated before earlier → current_section before ≡ Some Columns → is_semi earlier column ≡ false
 none-semi before earlier column stated here = by (is_semi earlier column) refl
@@ -191,27 +117,7 @@ column-unrefused context earlier fields none = by (is_marker_line fields)
 
 clash-reported : (type : BoundType) (column : List ℕ) (value : Limit) (all : Draft) → refuses kinds.SemiContinuous all (bound_declared type column value) ≡ true
     → ((is_semi_type type && is_integer all column) || (is_integer_type type && is_semi all column)) ≡ true
-clash-reported type column value all h = by type h
-  where
-    integer : (a : Bool) → ((a || false) || false) ≡ true → a ≡ true
-    integer true k = refl
-    integer false k = k
-
-    semi : (a : Bool) → ((a || false) || false) ≡ true → (a || false) ≡ true
-    semi true k = refl
-    semi false k = k
-
-    by : (t : BoundType) → refuses kinds.SemiContinuous all (bound_declared t column value) ≡ true → ((is_semi_type t && is_integer all column) || (is_integer_type t && is_semi all column)) ≡ true
-    by bounds.Lower k = k
-    by bounds.Upper k = k
-    by bounds.Fixed k = k
-    by bounds.Free k = k
-    by bounds.NoLower k = k
-    by bounds.NoUpper k = k
-    by bounds.Binary k = integer (is_semi all column) k
-    by bounds.IntegerLower k = integer (is_semi all column) k
-    by bounds.IntegerUpper k = integer (is_semi all column) k
-    by bounds.SemiUpper k = semi (is_integer all column) k
+clash-reported type column value all h = grind arith
 
 both-kinds : (before : List LineContent) (earlier : Draft) (item : LineContent) → AreValuesStated before earlier → IsFirst kinds.SemiContinuous before earlier item → makes_both_kinds before item ≡ true
 both-kinds before earlier item stated first = by item (semi-refused before earlier item first)

@@ -1,61 +1,40 @@
 -- Rows and columns that a line names and the draft does not have are unknown in the sense of `FaultsInWords`.
-use Rattle.std.proofs.Common.{arith}
-use Rattle.std.proofs.Common.{rules}
-use Rattle.std.proofs.Common.{◌≡◌, refl, ap, ◌∙◌, List, [], ◌∷◌, ◌++◌, ℕ, Bool, true, false, cond, map}
-use Rattle.std.specs.Prelude.{Option, Some, None, is_none, is_some, not, filter_map, nat_lt, nat_le, ◌||◌, ◌&&◌, codes}
-use Rattle.std.specs.List.{list_any, list_all, last_or, flat_map}
-use Rattle.std.specs.Option.{option_map, option_map_or}
-use Rattle.std.specs.Cmp.{first_so, second_so}
-use Rattle.std.proofs.lemmas.List.Folds.{list_all-append}
-use Rattle.mpslp_types.specs.Name.{same_bytes, is_one_of}
-use Rattle.mpslp_types.specs.FaultOrder.{kind_rank}
-use Rattle.mpslp_types.specs.declared.faults.BuildFault.{BuildFault}
-use Rattle.mpslp_types.specs.declared.faults.FaultKind.{FaultKind}
+use Rattle.std.proofs.Common.{arith, ◌≡◌, refl, ap, ◌∙◌, List, [], ◌∷◌, ◌++◌, ℕ, Bool, true, false, cond, map}
+use Rattle.std.{proofs.lemmas.List.Folds.list_all-append, specs.Prelude.{Option, Some, None, not, filter_map, nat_lt, nat_le, ◌||◌, ◌&&◌}}
+use Rattle.std.specs.{Prelude.codes, List.{list_any, list_all, last_or, flat_map}, Option.{option_map, option_map_or}, Cmp.first_so}
+use Rattle.std.specs.Cmp.{second_so}
+use Rattle.mpslp_types.specs.{Name.{same_bytes, is_one_of}, FaultOrder.kind_rank, declared.{faults.FaultKind.FaultKind, kinds.Limit.Limit}}
+use Rattle.mpslp_types.{specs.{declared.kinds.RowType.RowType, Lists.head_of}, proofs.BoolLemmas.{both_so, or_left, or_right, so_not}}
 use Rattle.mpslp_types.specs.declared.faults.FaultKind.TheVariants as kinds
-use Rattle.mpslp_types.specs.declared.kinds.Limit.{Limit}
-use Rattle.mpslp_types.specs.declared.kinds.RowType.{RowType}
-use Rattle.mpslp_types.specs.declared.kinds.RowType.TheVariants.{Free, AtMost, AtLeast, Equal}
-use Rattle.mpslp_types.proofs.BoolLemmas.{both_so, or_left, or_right, not_so, so_not}
-use Rattle.mpslp_types.specs.Lists.{head_of}
-use Rattle.mpslp_builder.specs.Declaration.{by_type, Declaration, declare_sense, declare_objective, declare_constant, declare_row, declare_rhs, declare_range, declare_column, declare_coefficient, declare_lower, declare_upper, declare_marked, declare_integer, declare_binary, declare_semi, Declarations, Draft, with_declaration, empty_draft, has_row, has_column, is_free_row, rhs_declared}
-use Rattle.mpslp_builder.specs.Refusal.{refusal_tests}
-use Rattle.mpslp_builder.proofs.LaterDrafts.{itself_named}
-use Rattle.mpslp_builder.proofs.SlotLemmas.{same_name, has-put}
+use Rattle.mpslp_builder.specs.Declaration.{Declaration, declare_rhs, declare_range, declare_column, declare_coefficient, declare_marked}
+use Rattle.mpslp_builder.specs.Declaration.{Declarations, Draft, with_declaration, empty_draft, has_row, has_column, is_free_row}
+use Rattle.mpslp_builder.{specs.{Declaration.rhs_declared, Refusal.refusal_tests}, proofs.{LaterDrafts.itself_named, SlotLemmas.same_name}}
+use Rattle.mpslp_builder.proofs.SlotLemmas.{has-put}
 use Rattle.mpslp_lines.specs.FaultTests.{kind_of_build_fault, is_kind, value_of, FaultTests}
-use Rattle.mpslp_mps_fields.specs.Line.{Fields, LineContent, skipped, header, data_line, section_named, is_section}
-use Rattle.mpslp_mps_fields.specs.DataLine.{Pair, ValuesLine, word_shape, row_shape, row_type, column_shape, is_marker_line, vector_shape, BoundLine, bound_type, bound_shape}
-use Rattle.mpslp_mps.specs.Context.{Context, context_of, current_section, seen_sections, objname}
-use Rattle.mpslp_mps.specs.SeenSection.{has_section}
-use Rattle.mpslp_mps_sentences.specs.TextInWords.{section_rank, words_in, has_free_row, has_named_objective}
+use Rattle.mpslp_mps_fields.specs.{Line.{Fields, LineContent, skipped, header, data_line, section_named, is_section}, DataLine.Pair}
+use Rattle.mpslp_mps_fields.specs.DataLine.{ValuesLine, word_shape, row_shape, row_type, column_shape, is_marker_line, vector_shape}
+use Rattle.mpslp_mps_fields.specs.{DataLine.{BoundLine, bound_type, bound_shape}, declared.bound_types.BoundType.BoundType}
+use Rattle.mpslp_mps_fields.specs.declared.sections.Section.{Section, TheVariants.{Name, ObjSense, ObjName, Rows, Columns, Rhs, Ranges}}
+use Rattle.mpslp_mps_fields.specs.declared.sections.Section.TheVariants.{Bounds, EndData}
+use Rattle.mpslp_mps.specs.{Context.{Context, context_of, current_section, seen_sections}, SeenSection.has_section}
 use Rattle.mpslp_mps.specs.LineFault.{lacks_objective, section_tests, header_tests, data_tests, item_tests}
-use Rattle.mpslp_mps.specs.LineDeclarations.{declared_if_some, is_new_objective, row_of_type, row_declared, coefficient_declared, column_declared, columns_line_declared, rhs_line_declared, ranges_declared, bound_declared, bound_value, bound_line_declared, data_declared, header_declared}
-use Rattle.mpslp_mps_sentences.specs.FaultsInWords.{IsInWords, names_row, has_default_objective, is_row, pairs_in, names_unknown_row, bound_column, names_column, names_unknown_column}
-use Rattle.mpslp_mps_fields.specs.declared.bound_types.BoundType.{BoundType}
-use Rattle.mpslp_mps_fields.specs.declared.bound_types.BoundType.TheVariants as bounds
-use Rattle.mpslp_mps_fields.specs.declared.sections.Section.{Section}
-use Rattle.mpslp_mps_fields.specs.declared.sections.Section.TheVariants.{Name, ObjSense, ObjName, Rows, Columns, Rhs, Ranges, Bounds, EndData}
-use Rattle.mpslp_mps.proofs.OrderLemmas.{IsGood, never, each-declared, sense-passes, sides-passes, ranges-passes}
-use Rattle.mpslp_mps_sentences.proofs.BoundsPasses.{Passes, bounds-passes}
-use Rattle.mpslp_mps_sentences.proofs.WordsOfHeaders.{AreOrdered}
-use Rattle.mpslp_mps_sentences.proofs.WordsOfObjName.{stated-words}
-use Rattle.mpslp_mps_sentences.proofs.NamesOfWords.{Stated}
-use Rattle.mpslp_mps_sentences.proofs.FaultedLines.{holds_of, refused_as, refuses, is_below, IsFirst, in-words}
-use Rattle.mpslp_mps_sentences.proofs.KindsOfLines.{is_among, none-holds, left_only, right_only, header_kinds, kinds_in, same-rank, unknown_kinds, unknown-among, data-among, header-among}
+use Rattle.mpslp_mps.specs.LineDeclarations.{declared_if_some, row_of_type, row_declared, coefficient_declared, column_declared}
+use Rattle.mpslp_mps.specs.LineDeclarations.{columns_line_declared, rhs_line_declared, ranges_declared, bound_declared, bound_value}
+use Rattle.mpslp_mps.{specs.LineDeclarations.{bound_line_declared, data_declared, header_declared}, proofs.OrderLemmas.{IsGood, never}}
+use Rattle.mpslp_mps.proofs.OrderLemmas.{each-declared, sense-passes, sides-passes, ranges-passes}
+use Rattle.mpslp_mps_sentences.specs.{TextInWords.{section_rank, has_named_objective}, FaultsInWords.{IsInWords, names_row}}
+use Rattle.mpslp_mps_sentences.specs.FaultsInWords.{has_default_objective, is_row, pairs_in, names_unknown_row, bound_column, names_column}
+use Rattle.mpslp_mps_sentences.{specs.FaultsInWords.names_unknown_column, proofs.BoundsPasses.{Passes, bounds-passes}}
+use Rattle.mpslp_mps_sentences.proofs.{WordsOfHeaders.AreOrdered, WordsOfObjName.stated-words, NamesOfWords.Stated, FaultedLines.holds_of}
+use Rattle.mpslp_mps_sentences.proofs.{FaultedLines.{refused_as, refuses, is_below, IsFirst, in-words}, KindsOfLines.{is_among, none-holds}}
+use Rattle.mpslp_mps_sentences.proofs.KindsOfLines.{left_only, right_only, header_kinds, kinds_in, same-rank, unknown_kinds, unknown-among}
+use Rattle.mpslp_mps_sentences.proofs.KindsOfLines.{data-among, header-among}
 
 -- ---- declarations that are not rejected with a kind
 
 -- an error of this kind may reject such declarations
 abbrev pub may_refuse : FaultKind → Declaration → Bool
 may_refuse kind d = list_any (λ test. is_kind kind (kind_of_build_fault test.1)) (refusal_tests empty_draft d)
-
-none-so : (kind : FaultKind) (tests : List (Bool × BuildFault)) → list_any (λ test. is_kind kind (kind_of_build_fault test.1)) tests ≡ false → refused_as kind tests ≡ false
-none-so kind [] h = refl
-none-so kind ((held, fault) ∷ more) h = by (is_kind kind (kind_of_build_fault fault)) h (λ e. none-so kind more e)
-  where
-    by : (b : Bool) → (b || list_any (λ test. is_kind kind (kind_of_build_fault test.1)) more) ≡ false → (list_any (λ test. is_kind kind (kind_of_build_fault test.1)) more ≡ false → refused_as kind more ≡ false)
-        → cond b (held || refused_as kind more) (refused_as kind more) ≡ false
-    by true e rest = cc
-    by false e rest = rest e
 
 -- the kinds of the tests of a declaration do not depend on the draft
 not-refused : (kind : FaultKind) (all : Draft) (d : Declaration) → not (may_refuse kind d) ≡ true → refused_as kind (refusal_tests all d) ≡ false
@@ -120,13 +99,7 @@ column-known : (context : Context) (earlier : Draft) (fields : Fields) → refus
 column-known context earlier fields = by (is_marker_line fields)
   where
     line : (l : ValuesLine) (b : Bool) → refuses kinds.UnknownColumn (with_declaration earlier (declare_column l.name)) (cond b (declare_marked l.name ∷ []) [] ++ flat_map (coefficient_declared l.name) l.pairs) ≡ false
-    line l true =
-        ap (λ (b : Bool). (not b || false) || refuses kinds.UnknownColumn (with_declaration (with_declaration earlier (declare_column l.name)) (declare_marked l.name)) (flat_map (coefficient_declared l.name) l.pairs)) (there l)
-        ∙ cells-known l.name l.pairs (with_declaration (with_declaration earlier (declare_column l.name)) (declare_marked l.name)) (there l)
-      where
-        there : (v : ValuesLine) → has_column (with_declaration earlier (declare_column v.name)) v.name ≡ true
-        there v = has-put v.name v.name tt earlier.columns ∙ or_left (same_bytes v.name v.name) (has_column earlier v.name) (itself_named v.name)
-    line l false = cells-known l.name l.pairs (with_declaration earlier (declare_column l.name)) (has-put l.name l.name tt earlier.columns ∙ or_left (same_bytes l.name l.name) (has_column earlier l.name) (itself_named l.name))
+    line l b = grind (arith, refuses, cells-known, has-put, or_left, itself_named)
 
     of : (o : Option ValuesLine) → refuses kinds.UnknownColumn earlier (declared_if_some (column_declared context) o) ≡ false
     of None = refl
@@ -144,43 +117,17 @@ unknown-column before earlier (header keyword more) stated h = by (section_named
     tests = header_tests (context_of before) earlier keyword more (section_named keyword)
 
     by : (o : Option Section) → refuses kinds.UnknownColumn earlier (header_declared (context_of before) earlier more o) ≡ true → false ≡ true
-    by o k = no-one kinds.UnknownColumn (header_declared (context_of before) earlier more o) earlier (none o) k
-      where
-        none : (s : Option Section) → list_all (λ d. not (may_refuse kinds.UnknownColumn d)) (header_declared (context_of before) earlier more s) ≡ true
-        none None = refl
-        none (Some Name) = refl
-        none (Some ObjSense) = sense-passes (λ d. not (may_refuse kinds.UnknownColumn d)) (λ _. refl) more
-        none (Some ObjName) = refl
-        none (Some Rows) = refl
-        none (Some Columns) =
-            elim (is_none earlier.objective && is_none (context_of before).objname) as (λ b. list_all (λ d. not (may_refuse kinds.UnknownColumn d)) (cond b (declare_objective (codes "obj") ∷ []) []) ≡ true) [ true ↦ refl | false ↦ refl ]
-        none (Some Rhs) = refl
-        none (Some Ranges) = refl
-        none (Some Bounds) = refl
-        none (Some EndData) = refl
+    by o k = grind (arith, no-one, sense-passes)
 unknown-column before earlier (data_line fields) stated h =
     by (current_section before)
     (right_only (holds_of kinds.UnknownColumn (data_tests (context_of before) earlier fields (current_section before))) (refuses kinds.UnknownColumn earlier (data_declared (context_of before) earlier fields (current_section before)))
     (none-holds (kinds_in (current_section before)) kinds.UnknownColumn (data_tests (context_of before) earlier fields (current_section before)) (data-among (context_of before) earlier fields (current_section before)) (other (current_section before))) h.stated)
   where
     other : (o : Option Section) → is_among (kinds_in o) kinds.UnknownColumn ≡ false
-    other None = refl
-    other (Some Name) = refl
-    other (Some ObjSense) = refl
-    other (Some ObjName) = refl
-    other (Some Rows) = refl
-    other (Some Columns) = refl
-    other (Some Rhs) = refl
-    other (Some Ranges) = refl
-    other (Some Bounds) = refl
-    other (Some EndData) = refl
+    other o = grind arith
 
     rows : (name : List ℕ) (type : RowType) → list_all (λ d. not (may_refuse kinds.UnknownColumn d)) (row_of_type (context_of before) earlier name type) ≡ true
-    rows name Free =
-        elim (is_new_objective (context_of before) earlier name) as (λ b. list_all (λ d. not (may_refuse kinds.UnknownColumn d)) (cond b (declare_objective name ∷ []) (declare_row name (by_type Free) ∷ [])) ≡ true) [ true ↦ refl | false ↦ refl ]
-    rows name AtMost = refl
-    rows name AtLeast = refl
-    rows name Equal = refl
+    rows name type = grind arith
 
     bound : (fs : Fields) → refuses kinds.UnknownColumn earlier (bound_line_declared fs) ≡ true → option_map_or (λ name. not (names_column before name)) (bound_column fs) false ≡ true
     bound [] k = cc
@@ -283,17 +230,7 @@ unknown-row before earlier skipped stated h = let no = h.stated in cc
 unknown-row before earlier (header keyword more) stated h = by (section_named keyword) h.stated
   where
     unrefused : (s : Option Section) → list_all (λ d. not (may_refuse kinds.UnknownRow d)) (header_declared (context_of before) earlier more s) ≡ true
-    unrefused None = refl
-    unrefused (Some Name) = refl
-    unrefused (Some ObjSense) = sense-passes (λ d. not (may_refuse kinds.UnknownRow d)) (λ _. refl) more
-    unrefused (Some ObjName) = refl
-    unrefused (Some Rows) = refl
-    unrefused (Some Columns) =
-        elim (is_none earlier.objective && is_none (context_of before).objname) as (λ b. list_all (λ d. not (may_refuse kinds.UnknownRow d)) (cond b (declare_objective (codes "obj") ∷ []) []) ≡ true) [ true ↦ refl | false ↦ refl ]
-    unrefused (Some Rhs) = refl
-    unrefused (Some Ranges) = refl
-    unrefused (Some Bounds) = refl
-    unrefused (Some EndData) = refl
+    unrefused s = grind (arith, sense-passes)
 
     form : (o : Option Section) → (holds_of kinds.UnknownRow (header_tests (context_of before) earlier keyword more o) || refuses kinds.UnknownRow earlier (header_declared (context_of before) earlier more o)) ≡ true
         → holds_of kinds.UnknownRow (header_tests (context_of before) earlier keyword more o) ≡ true
@@ -306,15 +243,7 @@ unknown-row before earlier (header keyword more) stated h = by (section_named ke
     sense (word ∷ rest) k = k
 
     of : (s : Section) → holds_of kinds.UnknownRow (section_tests (context_of before) earlier s more) ≡ true → (is_section Columns (Some s) && not (has_named_objective before)) ≡ true
-    of Name k = cc
-    of ObjSense k = sense more k
-    of ObjName k = cc
-    of Rows k = cc
-    of Columns k = objective-missing before earlier stated (left_only (lacks_objective (context_of before) earlier) false refl k)
-    of Rhs k = cc
-    of Ranges k = cc
-    of Bounds k = cc
-    of EndData k = cc
+    of s k = grind (arith, objective-missing, left_only, sense)
 
     by : (o : Option Section) → (holds_of kinds.UnknownRow (header_tests (context_of before) earlier keyword more o) || refuses kinds.UnknownRow earlier (header_declared (context_of before) earlier more o)) ≡ true
         → (is_section Columns o && not (has_named_objective before)) ≡ true
@@ -330,23 +259,10 @@ unknown-row before earlier (data_line fields) stated h =
     (none-holds (kinds_in (current_section before)) kinds.UnknownRow (data_tests (context_of before) earlier fields (current_section before)) (data-among (context_of before) earlier fields (current_section before)) (other (current_section before))) h.stated)
   where
     other : (o : Option Section) → is_among (kinds_in o) kinds.UnknownRow ≡ false
-    other None = refl
-    other (Some Name) = refl
-    other (Some ObjSense) = refl
-    other (Some ObjName) = refl
-    other (Some Rows) = refl
-    other (Some Columns) = refl
-    other (Some Rhs) = refl
-    other (Some Ranges) = refl
-    other (Some Bounds) = refl
-    other (Some EndData) = refl
+    other o = grind arith
 
     rows : (name : List ℕ) (type : RowType) → list_all (λ d. not (may_refuse kinds.UnknownRow d)) (row_of_type (context_of before) earlier name type) ≡ true
-    rows name Free =
-        elim (is_new_objective (context_of before) earlier name) as (λ b. list_all (λ d. not (may_refuse kinds.UnknownRow d)) (cond b (declare_objective name ∷ []) (declare_row name (by_type Free) ∷ [])) ≡ true) [ true ↦ refl | false ↦ refl ]
-    rows name AtMost = refl
-    rows name AtLeast = refl
-    rows name Equal = refl
+    rows name type = grind arith
 
     marks : (line : ValuesLine) (b : Bool) → refuses kinds.UnknownRow (with_declaration earlier (declare_column line.name)) (cond b (declare_marked line.name ∷ []) [] ++ flat_map (coefficient_declared line.name) line.pairs) ≡ true
         → list_any (λ pair. not (has_row earlier pair.row)) line.pairs ≡ true

@@ -1,39 +1,29 @@
 -- Lines of RHS, RANGES and BOUNDS with a rejected value are as `ValueFaultsInWords` defines the kind of their error.
-use Rattle.std.proofs.Common.{◌≡◌, refl, sym, ap, ◌∙◌, List, [], ◌∷◌, ◌++◌, ℕ, Bool, true, false, cond, map}
-use Rattle.std.specs.Prelude.{Option, Some, None, is_some, not, ◌||◌, ◌&&◌, filter}
-use Rattle.std.specs.List.{list_any, list_all, flat_map}
-use Rattle.std.specs.Option.{option_map_or}
+use Rattle.std.{proofs.Common.{arith, ◌≡◌, refl, sym, ap, ◌∙◌, List, [], ◌∷◌, ◌++◌, ℕ, Bool, true, false, cond, map}, specs.Prelude.Option}
+use Rattle.std.specs.{Prelude.{Some, None, is_some, ◌||◌, ◌&&◌, filter}, List.{list_any, list_all, flat_map}, Option.option_map_or}
 use Rattle.mpslp_decimal.specs.Decimal.{Number}
-use Rattle.mpslp_types.specs.Name.{same_bytes}
-use Rattle.mpslp_types.specs.declared.faults.FaultKind.{FaultKind}
+use Rattle.mpslp_types.{specs.{Name.same_bytes, declared.faults.FaultKind.FaultKind}, proofs.BoolLemmas.{or_left, or_right, either_more}}
 use Rattle.mpslp_types.specs.declared.faults.FaultKind.TheVariants as kinds
-use Rattle.mpslp_types.proofs.BoolLemmas.{or_left, or_right, either_more}
-use Rattle.mpslp_builder.specs.Declaration.{Declaration, declare_sense, declare_objective, declare_constant, declare_rhs, declare_range, Declarations, Draft, with_declaration, with_declarations, has_name, is_objective, is_free_row, is_row_by_limits, rhs_declared}
-use Rattle.mpslp_builder.specs.Consistency.{has_one_constant}
-use Rattle.mpslp_builder.specs.Refusal.{refusals_in_turn}
-use Rattle.mpslp_builder.proofs.LaterDrafts.{extends-in_turn}
-use Rattle.mpslp_builder.proofs.RefusalLemmas.{HasDeclaredNames, HasKindsApart, none-fine, empty_declared_names, empty_kinds_apart}
-use Rattle.mpslp_builder.proofs.SlotLemmas.{has-put}
+use Rattle.mpslp_builder.specs.Declaration.{declare_rhs, declare_range, Declarations, Draft, with_declaration, with_declarations, has_name}
+use Rattle.mpslp_builder.specs.{Declaration.{is_objective, is_free_row, is_row_by_limits, rhs_declared}, Consistency.has_one_constant}
+use Rattle.mpslp_builder.{specs.Refusal.refusals_in_turn, proofs.{LaterDrafts.extends-in_turn, RefusalLemmas.HasDeclaredNames}}
+use Rattle.mpslp_builder.proofs.{RefusalLemmas.{HasKindsApart, none-fine, empty_declared_names, empty_kinds_apart}, SlotLemmas.has-put}
 use Rattle.mpslp_lines.specs.FaultTests.{value_of}
-use Rattle.mpslp_mps_fields.specs.Line.{Fields, LineContent}
-use Rattle.mpslp_mps_fields.specs.DataLine.{Pair, ValuesLine, vector_shape, is_integer_type, is_semi_type}
-use Rattle.mpslp_mps.specs.Context.{context_of, data_lines}
-use Rattle.mpslp_mps.specs.LineDeclarations.{declared_if_some, rhs_line_declared, ranges_declared, line_declares}
-use Rattle.mpslp_mps_sentences.specs.FaultsInWords.{IsInWords, has_row_twice}
-use Rattle.mpslp_mps_sentences.specs.TextInWords.{has_free_row}
-use Rattle.mpslp_mps_sentences.specs.ValueFaultsInWords.{is_without_limits, ranges_free_row, vector_pairs, has_value_of, repeats_row_of, repeats_range, takes_side, repeats_side, names_objective, gives_lower, gives_upper}
-use Rattle.mpslp_mps_fields.specs.declared.sections.Section.{Section}
-use Rattle.mpslp_mps_fields.specs.declared.sections.Section.TheVariants.{Rhs, Ranges}
-use Rattle.mpslp_mps.proofs.OrderLemmas.{IsGood}
-use Rattle.mpslp_mps_sentences.proofs.NamesOfWords.{Stated, none-stated, stated-kept}
-use Rattle.mpslp_mps_sentences.proofs.FaultedLines.{refuses, is_below, IsKept, IsFirst, in-words-by}
-use Rattle.mpslp_mps_sentences.proofs.KindsOfLines.{kinds_in, header_kinds}
-use Rattle.mpslp_mps_sentences.proofs.FaultsOfNames.{may_refuse, form-good, some}
-use Rattle.mpslp_mps_sentences.proofs.RepeatsOfNames.{below-all, good-refused}
-use Rattle.mpslp_mps_sentences.proofs.DeclaredByLines.{is_of_header, is_elsewhere, IsErrorOfSection, line-of}
-use Rattle.mpslp_mps_sentences.proofs.ValuesDeclared.{IsPlain, none-plain, plain-kept, HaveRangeLines, range_lines-kept, HaveSideLines, side_lines-kept, HaveBoundLines, lower_of, upper_of, integer_of, semi_of, lower_lines-kept, upper_lines-kept, integer_lines-kept, semi_lines-kept}
-use Rattle.mpslp_mps_sentences.proofs.ObjectiveOfLines.{HaveFreeLines, free_lines-kept, AreRowsFree, rows_free-kept, IsFirstNamed, first_named-kept}
-use Rattle.mpslp_mps_sentences.proofs.BlocksOfLines.{HaveMarkedLines, marked_lines-kept}
+use Rattle.mpslp_mps_fields.specs.{Line.{Fields, LineContent}, DataLine.{Pair, ValuesLine, vector_shape, is_integer_type, is_semi_type}}
+use Rattle.mpslp_mps_fields.specs.declared.sections.Section.{Section, TheVariants.{Rhs, Ranges}}
+use Rattle.mpslp_mps.specs.{Context.{context_of, data_lines}, LineDeclarations.{declared_if_some, rhs_line_declared, ranges_declared}}
+use Rattle.mpslp_mps.{specs.LineDeclarations.line_declares, proofs.OrderLemmas.IsGood}
+use Rattle.mpslp_mps_sentences.specs.{FaultsInWords.{IsInWords, has_row_twice}, ValueFaultsInWords.{is_without_limits, ranges_free_row}}
+use Rattle.mpslp_mps_sentences.specs.ValueFaultsInWords.{vector_pairs, has_value_of, repeats_row_of, repeats_range, takes_side}
+use Rattle.mpslp_mps_sentences.{specs.ValueFaultsInWords.{repeats_side, gives_lower, gives_upper}, proofs.NamesOfWords.Stated}
+use Rattle.mpslp_mps_sentences.proofs.{NamesOfWords.{none-stated, stated-kept}, FaultedLines.{refuses, is_below, IsKept, IsFirst}}
+use Rattle.mpslp_mps_sentences.proofs.{FaultedLines.in-words-by, KindsOfLines.{kinds_in, header_kinds}, FaultsOfNames.{form-good, some}}
+use Rattle.mpslp_mps_sentences.proofs.{RepeatsOfNames.{below-all, good-refused}, DeclaredByLines.{IsErrorOfSection, line-of}}
+use Rattle.mpslp_mps_sentences.proofs.ValuesDeclared.{IsPlain, none-plain, plain-kept, HaveRangeLines, range_lines-kept, HaveSideLines}
+use Rattle.mpslp_mps_sentences.proofs.ValuesDeclared.{side_lines-kept, HaveBoundLines, lower_of, upper_of, integer_of, semi_of}
+use Rattle.mpslp_mps_sentences.proofs.ValuesDeclared.{lower_lines-kept, upper_lines-kept, integer_lines-kept, semi_lines-kept}
+use Rattle.mpslp_mps_sentences.proofs.ObjectiveOfLines.{HaveFreeLines, free_lines-kept, AreRowsFree, rows_free-kept, IsFirstNamed}
+use Rattle.mpslp_mps_sentences.proofs.{ObjectiveOfLines.first_named-kept, BlocksOfLines.{HaveMarkedLines, marked_lines-kept}}
 
 -- ---- what the lines before declare, if none of them has an error
 
@@ -78,26 +68,7 @@ values-kept before earlier item good free h =
     }
 
 pub values-stated : IsKept AreValuesStated
-values-stated = record {
-  none = record {
-    stated = none-stated;
-    names = empty_declared_names;
-    apart = empty_kinds_apart;
-    one_constant = refl;
-    plain = none-plain;
-    free_lines = λ row h. cc;
-    rows_free = λ row h. cc;
-    first_named = λ name h. cc;
-    sides = λ row h. cc;
-    ranges = λ row h. cc;
-    lowers = λ column h. cc;
-    uppers = λ column h. cc;
-    integers = λ column h. cc;
-    semis = λ column h. cc;
-    marked = λ column h. cc;
-  };
-  kept = values-kept;
-}
+values-stated = grind (arith, none-stated, empty_declared_names, empty_kinds_apart, none-plain, values-kept)
 
 -- a kind after those of all forms: one of the declarations of the line is rejected with it
 pub rejected : (kind : FaultKind) (before : List LineContent) (earlier : Draft) (item : LineContent) → is_below kind kinds.LineTooLong ≡ true → is_below kind kinds.BadByte ≡ true → list_all (is_below kind) header_kinds ≡ true
@@ -107,26 +78,11 @@ rejected kind before earlier item long byte heads lines first = good-refused kin
 -- ---- RangeOnFree
 
 of-ranges : IsErrorOfSection Ranges kinds.RangeOnFree
-of-ranges = record { header = headed; other = by }
-  where
-    headed : (d : Declaration) → is_of_header d ≡ true → not (may_refuse kinds.RangeOnFree d) ≡ true
-    headed (declare_sense _) h = refl
-    headed (declare_objective _) h = refl
-    headed _ h = cc
-
-    by : (d : Declaration) → is_elsewhere Ranges d ≡ true → not (may_refuse kinds.RangeOnFree d) ≡ true
-    by (declare_range _ _) h = cc
-    by _ h = refl
+of-ranges = grind arith
 
 ranges-free : (pairs : List Pair) (all : Draft) → refuses kinds.RangeOnFree all (map (λ (pair : Pair). declare_range pair.row (value_of pair.literal)) pairs) ≡ true → list_any (λ pair. is_objective all pair.row || is_free_row all pair.row) pairs ≡ true
 ranges-free [] all h = h
-ranges-free (pair ∷ pairs) all h = by (is_objective all pair.row || is_free_row all pair.row) h (ranges-free pairs (with_declaration all (declare_range pair.row (value_of pair.literal))))
-  where
-    by : (b : Bool) → ((b || false) || refuses kinds.RangeOnFree (with_declaration all (declare_range pair.row (value_of pair.literal))) (map (λ (pair : Pair). declare_range pair.row (value_of pair.literal)) pairs)) ≡ true
-        → (refuses kinds.RangeOnFree (with_declaration all (declare_range pair.row (value_of pair.literal))) (map (λ (pair : Pair). declare_range pair.row (value_of pair.literal)) pairs) ≡ true → list_any (λ pair. is_objective all pair.row || is_free_row all pair.row) pairs ≡ true)
-        → (b || list_any (λ pair. is_objective all pair.row || is_free_row all pair.row) pairs) ≡ true
-    by true k rest = refl
-    by false k rest = rest k
+ranges-free (pair ∷ pairs) all h = grind (arith, refuses, ranges-free pairs (with_declaration all (declare_range pair.row (value_of pair.literal))))
 
 free-range : (before : List LineContent) (earlier : Draft) (item : LineContent) → AreValuesStated before earlier → IsFirst kinds.RangeOnFree before earlier item → ranges_free_row before item ≡ true
 free-range before earlier item stated first =
@@ -134,11 +90,7 @@ free-range before earlier item stated first =
     (rejected kinds.RangeOnFree before earlier item refl refl refl (below-all kinds.RangeOnFree refl refl refl refl) first)
   where
     without : (row : List ℕ) → (is_objective earlier row || is_free_row earlier row) ≡ true → is_without_limits before row ≡ true
-    without row k = by (is_objective earlier row) refl k
-      where
-        by : (b : Bool) → is_objective earlier row ≡ b → (b || is_free_row earlier row) ≡ true → is_without_limits before row ≡ true
-        by true e l = or_right _ _ (stated.first_named row e)
-        by false e l = or_left _ _ (stated.free_lines row l)
+    without row k = grind (arith, or_right, or_left)
 
     of : (o : Option ValuesLine) → refuses kinds.RangeOnFree earlier (declared_if_some ranges_declared o) ≡ true → list_any (λ pair. is_without_limits before pair.row) (option_map_or (λ (line : ValuesLine). line.pairs) o []) ≡ true
     of None h = h
@@ -163,13 +115,7 @@ again-more p q h (pair ∷ pairs) k =
 
 some-either : (p q : Pair → Bool) (pairs : List Pair) → list_any (λ pair. p pair || q pair) pairs ≡ (list_any p pairs || list_any q pairs)
 some-either p q [] = refl
-some-either p q (pair ∷ pairs) = ap (λ (b : Bool). (p pair || q pair) || b) (some-either p q pairs) ∙ mix (p pair) (q pair) (list_any p pairs) (list_any q pairs)
-  where
-    mix : (a b c d : Bool) → ((a || b) || (c || d)) ≡ ((a || c) || (b || d))
-    mix true b c d = refl
-    mix false true true d = refl
-    mix false true false d = refl
-    mix false false c d = refl
+some-either p q (pair ∷ pairs) = grind (arith, some-either p q pairs)
 
 -- so a row is twice among the pairs, or one of them is there
 twice-or_there : (there : List ℕ → Bool) (pairs : List Pair) → again there pairs ≡ true → (has_row_twice pairs || list_any (λ pair. there pair.row) pairs) ≡ true
@@ -202,16 +148,7 @@ repeats-from_again lines there have pairs h =
 -- ---- DuplicateRange
 
 range-again : IsErrorOfSection Ranges kinds.DuplicateRange
-range-again = record { header = headed; other = by }
-  where
-    headed : (d : Declaration) → is_of_header d ≡ true → not (may_refuse kinds.DuplicateRange d) ≡ true
-    headed (declare_sense _) h = refl
-    headed (declare_objective _) h = refl
-    headed _ h = cc
-
-    by : (d : Declaration) → is_elsewhere Ranges d ≡ true → not (may_refuse kinds.DuplicateRange d) ≡ true
-    by (declare_range _ _) h = cc
-    by _ h = refl
+range-again = grind arith
 
 ranges-again : (pairs : List Pair) (all : Draft) → ((row : List ℕ) → is_row_by_limits all row ≡ false) → refuses kinds.DuplicateRange all (map (λ (pair : Pair). declare_range pair.row (value_of pair.literal)) pairs) ≡ true
     → again (has_name all.ranges) pairs ≡ true
@@ -224,11 +161,7 @@ ranges-again (pair ∷ pairs) all limits h = by (has_name all.ranges pair.row) (
     by : (b l : Bool) → l ≡ false → (((b || l) || false) || refuses kinds.DuplicateRange next (map (λ (p : Pair). declare_range p.row (value_of p.literal)) pairs)) ≡ true
         → (refuses kinds.DuplicateRange next (map (λ (p : Pair). declare_range p.row (value_of p.literal)) pairs) ≡ true → again (has_name next.ranges) pairs ≡ true)
         → (b || again (λ row. same_bytes row pair.row || has_name all.ranges row) pairs) ≡ true
-    by true l e k rest = refl
-    by false true e k rest = cc
-    by false false e k rest =
-        again-more (has_name next.ranges) (λ row. same_bytes row pair.row || has_name all.ranges row)
-        (λ row f. sym (has-put row pair.row (value_of pair.literal) all.ranges) ∙ f) pairs (rest k)
+    by b l e k rest = grind (arith, again-more, has-put, next)
 
 repeated-range : (before : List LineContent) (earlier : Draft) (item : LineContent) → AreValuesStated before earlier → IsFirst kinds.DuplicateRange before earlier item → repeats_range before item ≡ true
 repeated-range before earlier item stated first =
@@ -245,17 +178,7 @@ repeated-ranges = in-words-by AreValuesStated values-stated kinds.DuplicateRange
 -- ---- DuplicateRhs
 
 side-again : IsErrorOfSection Rhs kinds.DuplicateRhs
-side-again = record { header = headed; other = by }
-  where
-    headed : (d : Declaration) → is_of_header d ≡ true → not (may_refuse kinds.DuplicateRhs d) ≡ true
-    headed (declare_sense _) h = refl
-    headed (declare_objective _) h = refl
-    headed _ h = cc
-
-    by : (d : Declaration) → is_elsewhere Rhs d ≡ true → not (may_refuse kinds.DuplicateRhs d) ≡ true
-    by (declare_rhs r v) h = cc
-    by (declare_constant v) h = cc
-    by _ h = refl
+side-again = grind arith
 
 module _ (earlier : Draft) (takes : List ℕ → Bool) (limited : (row : List ℕ) → is_free_row earlier row ≡ false → takes row ≡ true) where
   sides-again : (pairs : List Pair) (all : Draft) → ((row : List ℕ) → is_row_by_limits all row ≡ false) → all.constant ≡ None
@@ -283,12 +206,7 @@ module _ (earlier : Draft) (takes : List ℕ → Bool) (limited : (row : List �
 
       counts : (b l c : Bool) → l ≡ false → c ≡ false → (((b || (l || c)) || false) || refuses kinds.DuplicateRhs next more) ≡ true
           → (refuses kinds.DuplicateRhs next more ≡ true → again (has_name next.rhs_values) rest ≡ true) → (b || again (λ row. same_bytes row pair.row || has_name all.rhs_values row) rest) ≡ true
-      counts true l c e f k step = refl
-      counts false true c e f k step = cc
-      counts false false true e f k step = cc
-      counts false false false e f k step =
-          again-more (has_name next.rhs_values) (λ row. same_bytes row pair.row || has_name all.rhs_values row)
-          (λ row g. sym (has-put row pair.row (value_of pair.literal) all.rhs_values) ∙ g) rest (step k)
+      counts b l c e f k step = grind (arith, again-more, has-put, next, rest)
 
       constant_none : (b : Bool) (o : Option Number) → o ≡ None → (b && is_some o) ≡ false
       constant_none true None e = refl
@@ -310,15 +228,7 @@ repeated-side before earlier item stated first =
   where
     -- a row of type N that has no limits is not the objective
     limited : (row : List ℕ) → is_free_row earlier row ≡ false → takes_side before row ≡ true
-    limited row e = by (has_free_row before row) refl
-      where
-        right : (a b : Bool) → a ≡ false → (a || b) ≡ true → b ≡ true
-        right true b f k = cc
-        right false b f k = k
-
-        by : (b : Bool) → has_free_row before row ≡ b → (not b || names_objective before row) ≡ true
-        by true f = stated.first_named row (right (is_free_row earlier row) (is_objective earlier row) e (stated.rows_free row f))
-        by false f = refl
+    limited row e = grind arith
 
     of : (o : Option ValuesLine) → refuses kinds.DuplicateRhs earlier (declared_if_some (rhs_line_declared earlier) o) ≡ true
         → repeats_row_of (data_lines Rhs before) (filter (λ pair. takes_side before pair.row) (option_map_or (λ (line : ValuesLine). line.pairs) o [])) ≡ true

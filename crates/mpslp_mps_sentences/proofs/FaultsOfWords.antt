@@ -1,35 +1,25 @@
 -- Each error that depends on other lines is as `FaultsInWords` defines its kind.
-use Rattle.std.proofs.Common.{arith}
-use Rattle.std.proofs.Common.{rules}
-use Rattle.std.proofs.lemmas.Bool.{false≢true, true≢false}
-use Rattle.std.proofs.Common.{◌≡◌, refl, sym, ap, ◌∙◌, List, [], ◌∷◌, ◌++◌, ℕ, Bool, true, false, cond, map}
-use Rattle.std.specs.Prelude.{Option, Some, None, is_none, is_some, not, filter_map, nat_lt, ◌||◌, ◌&&◌, codes}
-use Rattle.std.specs.List.{list_any, last_or, flat_map}
-use Rattle.std.specs.Option.{option_map, option_map_or}
-use Rattle.mpslp_types.specs.Name.{same_bytes, is_one_of}
+use Rattle.std.proofs.{Common.{arith, ◌≡◌, refl, List, [], ◌∷◌, ◌++◌, ℕ, Bool, true, false, cond, map}, lemmas.Bool.false≢true}
+use Rattle.std.{proofs.lemmas.Bool.true≢false, specs.Prelude.{Option, Some, None, is_none, is_some, not, filter_map, nat_lt, ◌||◌, ◌&&◌}}
+use Rattle.std.specs.{List.{list_any, last_or}, Option.{option_map, option_map_or}}
+use Rattle.mpslp_types.{specs.{Name.same_bytes, Lists.head_of}, proofs.BoolLemmas.{both_so, or_left, or_right, nor, so_not}}
 use Rattle.mpslp_types.specs.declared.faults.FaultKind.TheVariants as kinds
-use Rattle.mpslp_types.proofs.BoolLemmas.{both_so, or_left, or_right, nor, so_not}
-use Rattle.mpslp_types.specs.Lists.{head_of, is_nonempty}
 use Rattle.mpslp_builder.specs.Declaration.{Draft}
 use Rattle.mpslp_lines.specs.FaultTests.{number_tests, judged_by}
 use Rattle.mpslp_mps_fields.specs.Line.{Fields, LineContent, skipped, header, data_line, has, section_named, is_section, takes_word}
-use Rattle.mpslp_mps_fields.specs.DataLine.{word_shape, ValuesLine, column_shape, is_marker_line, marker_shape, opening_word, closing_word, vector_shape, BoundLine, bound_type, bound_shape}
-use Rattle.mpslp_mps.specs.Context.{context_of, current_section, seen_sections, data_lines, word_due, marker_word, line_column, vector_set, bound_set}
-use Rattle.mpslp_mps.specs.SeenSection.{has_section}
-use Rattle.mpslp_mps_sentences.specs.TextInWords.{section_rank, is_sense, words_in, is_one_word, alternate, are_together}
-use Rattle.mpslp_mps.specs.LineFault.{set_tests, may_begin, is_out_of_order, word_tests, section_tests, header_tests, marker_word_tests, marker_tests, is_split, column_tests, vector_tests, bound_tests, typed_bound_tests, bound_line_tests, data_tests, item_tests}
-use Rattle.mpslp_mps_fields.specs.declared.bound_types.BoundType.{BoundType}
-use Rattle.mpslp_mps_fields.specs.declared.sections.Section.{Section}
-use Rattle.mpslp_mps_fields.specs.declared.sections.Section.TheVariants.{Name, ObjSense, ObjName, Rows, Columns, Rhs, Ranges, Bounds, EndData}
-use Rattle.mpslp_mps_sentences.specs.FaultsInWords.{IsInWords, repeats_section, comes_early, comes_late, has_its_word, is_without_word, is_closed, occurs_out_of_order, breaks_turn, is_wrong_marker, differs_from, has_second_set, is_of_second_set, splits_column}
-use Rattle.mpslp_mps.proofs.OrderLemmas.{never}
-use Rattle.mpslp_mps_sentences.proofs.WordsOfColumns.{columns_of}
-use Rattle.mpslp_mps_sentences.proofs.WordsOfOneWord.{missing, without_word, with_word, IsUnderway}
-use Rattle.mpslp_mps_sentences.proofs.SectionsOfWords.{marker-follows, together-apart}
-use Rattle.mpslp_mps_sentences.proofs.ColumnsOfWords.{not-split}
-use Rattle.mpslp_mps_sentences.proofs.NamesOfWords.{Stated}
-use Rattle.mpslp_mps_sentences.proofs.KindsOfLines.{none-holds, left_only, column_kinds, unknown_kinds, unknown-among, section-among, column-among, no-data, no-header, by-form}
-use Rattle.mpslp_mps_sentences.proofs.FaultedLines.{holds_of, in-words}
+use Rattle.mpslp_mps_fields.specs.DataLine.{ValuesLine, column_shape, marker_shape, opening_word, closing_word, BoundLine}
+use Rattle.mpslp_mps_fields.specs.declared.sections.Section.{Section, TheVariants.{Name, ObjSense, ObjName, Rows, Columns, Rhs, Ranges}}
+use Rattle.mpslp_mps_fields.specs.declared.sections.Section.TheVariants.{Bounds, EndData}
+use Rattle.mpslp_mps.specs.Context.{context_of, current_section, seen_sections, data_lines, word_due, marker_word, line_column, bound_set}
+use Rattle.mpslp_mps.specs.{SeenSection.has_section, LineFault.{set_tests, may_begin, header_tests, marker_tests, is_split, column_tests}}
+use Rattle.mpslp_mps.{specs.LineFault.{vector_tests, bound_tests, bound_line_tests, data_tests, item_tests}, proofs.OrderLemmas.never}
+use Rattle.mpslp_mps_sentences.specs.{TextInWords.{section_rank, alternate, are_together}, FaultsInWords.{IsInWords, repeats_section}}
+use Rattle.mpslp_mps_sentences.specs.FaultsInWords.{comes_early, comes_late, has_its_word, is_without_word, is_closed, occurs_out_of_order}
+use Rattle.mpslp_mps_sentences.specs.FaultsInWords.{breaks_turn, is_wrong_marker, differs_from, has_second_set, is_of_second_set}
+use Rattle.mpslp_mps_sentences.{specs.FaultsInWords.splits_column, proofs.{WordsOfColumns.columns_of, WordsOfOneWord.IsUnderway}}
+use Rattle.mpslp_mps_sentences.proofs.{SectionsOfWords.{marker-follows, together-apart}, ColumnsOfWords.not-split, NamesOfWords.Stated}
+use Rattle.mpslp_mps_sentences.proofs.KindsOfLines.{none-holds, left_only, column_kinds, unknown_kinds, unknown-among, section-among}
+use Rattle.mpslp_mps_sentences.proofs.{KindsOfLines.{column-among, no-data, no-header, by-form}, FaultedLines.{holds_of, in-words}}
 
 -- ---- SectionRepeated
 
@@ -38,14 +28,7 @@ repeated before earlier skipped known h = absurd (false≢true h)
 repeated before earlier (header keyword more) known h = by (section_named keyword) h
   where
     by : (o : Option Section) → holds_of kinds.SectionRepeated (header_tests (context_of before) earlier keyword more o) ≡ true → option_map_or (has_section before) o false ≡ true
-    by None k =
-        absurd (never (holds_of kinds.SectionRepeated (header_tests (context_of before) earlier keyword more None)) k
-        (none-holds unknown_kinds kinds.SectionRepeated (header_tests (context_of before) earlier keyword more None)
-        (unknown-among (is_one_of (codes "QSECTION" ∷ codes "QMATRIX" ∷ codes "QUADOBJ" ∷ codes "QCMATRIX" ∷ codes "CSECTION" ∷ []) keyword)
-        (is_one_of (codes "SOS" ∷ codes "SOS1" ∷ codes "SOS2" ∷ []) keyword) (is_one_of (codes "INDICATORS" ∷ []) keyword)) refl))
-    by (Some s) k =
-        left_only (has_section before s) (holds_of kinds.SectionRepeated (section_tests (context_of before) earlier s more))
-        (none-holds (kinds.BadType ∷ kinds.UnknownRow ∷ []) kinds.SectionRepeated (section_tests (context_of before) earlier s more) (section-among (context_of before) earlier s more) refl) k
+    by o k = grind (arith, never, holds_of, none-holds, unknown_kinds, unknown-among, left_only, section-among)
 repeated before earlier (data_line fields) known h = grind (arith, holds_of, no-data)
 
 pub section-repeated : IsInWords kinds.SectionRepeated repeats_section
@@ -74,27 +57,10 @@ wrong-marker before earlier (data_line fields) known h = by (current_section bef
 
     line : (b : Bool) → holds_of kinds.BadMarker (cond b (marker_tests (context_of before) fields) (judged_by (column_tests (context_of before) earlier) (column_shape fields))) ≡ true
         → option_map_or (λ word. not (alternate opening_word closing_word (words ++ word ∷ []))) (cond b (marker_shape fields) None) false ≡ true
-    line true k = marker (marker_shape fields) k
-      where
-        marker : (o : Option (List ℕ)) → holds_of kinds.BadMarker (judged_by (marker_word_tests (context_of before)) o) ≡ true
-            → option_map_or (λ word. not (alternate opening_word closing_word (words ++ word ∷ []))) o false ≡ true
-        marker None e = absurd (false≢true e)
-        marker (Some word) e = of word (left_only (not (same_bytes word due)) false refl e) (alternate opening_word closing_word (words ++ word ∷ [])) refl
-    line false k =
-        absurd (never (holds_of kinds.BadMarker (judged_by (column_tests (context_of before) earlier) (column_shape fields))) k
-        (none-holds column_kinds kinds.BadMarker (judged_by (column_tests (context_of before) earlier) (column_shape fields)) (column-among (context_of before) earlier fields) refl))
+    line b k = grind (arith, holds_of, false≢true, left_only, never, none-holds, column_kinds, column-among, words, of, due)
 
     by : (o : Option Section) → holds_of kinds.BadMarker (data_tests (context_of before) earlier fields o) ≡ true → (is_section Columns o && breaks_turn before fields) ≡ true
-    by None k = no-data kinds.BadMarker (context_of before) earlier fields None refl k
-    by (Some Name) k = no-data kinds.BadMarker (context_of before) earlier fields (Some Name) refl k
-    by (Some ObjSense) k = no-data kinds.BadMarker (context_of before) earlier fields (Some ObjSense) refl k
-    by (Some ObjName) k = no-data kinds.BadMarker (context_of before) earlier fields (Some ObjName) refl k
-    by (Some Rows) k = no-data kinds.BadMarker (context_of before) earlier fields (Some Rows) refl k
-    by (Some Columns) k = line (is_marker_line fields) k
-    by (Some Rhs) k = no-data kinds.BadMarker (context_of before) earlier fields (Some Rhs) refl k
-    by (Some Ranges) k = no-data kinds.BadMarker (context_of before) earlier fields (Some Ranges) refl k
-    by (Some Bounds) k = no-data kinds.BadMarker (context_of before) earlier fields (Some Bounds) refl k
-    by (Some EndData) k = no-data kinds.BadMarker (context_of before) earlier fields (Some EndData) refl k
+    by o k = grind (arith, no-data, line)
 
 pub bad-marker : IsInWords kinds.BadMarker is_wrong_marker
 bad-marker = in-words kinds.BadMarker is_wrong_marker refl refl refl (by-form kinds.BadMarker is_wrong_marker refl wrong-marker)
@@ -112,30 +78,11 @@ split before earlier (data_line fields) known h = by (current_section before) h
 
     line : (b : Bool) → holds_of kinds.ColumnSplit (cond b (marker_tests (context_of before) fields) (judged_by (column_tests (context_of before) earlier) (column_shape fields))) ≡ true
         → not (are_together (columns_of before ++ cond b None (option_map (λ (l : ValuesLine). l.name) (column_shape fields)) ∷ [])) ≡ true
-    line true k = marker (marker_shape fields) k
-      where
-        marker : {X : Type 0} (o : Option (List ℕ)) → holds_of kinds.ColumnSplit (judged_by (marker_word_tests (context_of before)) o) ≡ true → X
-        marker None e = absurd cc
-        marker (Some word) e = absurd cc
-    line false k = column (column_shape fields) k
-      where
-        column : (o : Option ValuesLine) → holds_of kinds.ColumnSplit (judged_by (column_tests (context_of before) earlier) o) ≡ true
-            → not (are_together (columns_of before ++ option_map (λ (l : ValuesLine). l.name) o ∷ [])) ≡ true
-        column None e = absurd (false≢true e)
-        column (Some l) e = of l.name (left_only (is_split (context_of before) earlier l.name) false refl e) (are_together (columns_of before ++ Some l.name ∷ [])) refl
+    line b k = grind (arith, holds_of, columns_of, false≢true, left_only, of)
 
     by : (o : Option Section) → holds_of kinds.ColumnSplit (data_tests (context_of before) earlier fields o) ≡ true
         → (is_section Columns o && not (are_together (map line_column (data_lines Columns before) ++ line_column fields ∷ []))) ≡ true
-    by None k = no-data kinds.ColumnSplit (context_of before) earlier fields None refl k
-    by (Some Name) k = no-data kinds.ColumnSplit (context_of before) earlier fields (Some Name) refl k
-    by (Some ObjSense) k = no-data kinds.ColumnSplit (context_of before) earlier fields (Some ObjSense) refl k
-    by (Some ObjName) k = no-data kinds.ColumnSplit (context_of before) earlier fields (Some ObjName) refl k
-    by (Some Rows) k = no-data kinds.ColumnSplit (context_of before) earlier fields (Some Rows) refl k
-    by (Some Columns) k = line (is_marker_line fields) k
-    by (Some Rhs) k = no-data kinds.ColumnSplit (context_of before) earlier fields (Some Rhs) refl k
-    by (Some Ranges) k = no-data kinds.ColumnSplit (context_of before) earlier fields (Some Ranges) refl k
-    by (Some Bounds) k = no-data kinds.ColumnSplit (context_of before) earlier fields (Some Bounds) refl k
-    by (Some EndData) k = no-data kinds.ColumnSplit (context_of before) earlier fields (Some EndData) refl k
+    by o k = grind (arith, no-data, line)
 
 pub column-split : IsInWords kinds.ColumnSplit splits_column
 column-split = in-words kinds.ColumnSplit splits_column refl refl refl (by-form kinds.ColumnSplit splits_column refl split)
@@ -168,25 +115,10 @@ second before earlier (data_line fields) known h = by (current_section before) h
     shape (Some line) k = literal line line.literal k
 
     bound : (fs : Fields) → holds_of kinds.SecondSet (bound_line_tests (context_of before) fs) ≡ true → option_map_or (differs_from sets_before) (bound_set fs) false ≡ true
-    bound [] k = absurd (false≢true k)
-    bound (letters ∷ more) k = typed (bound_type letters) k
-      where
-        typed : (o : Option BoundType) → holds_of kinds.SecondSet (typed_bound_tests (context_of before) more o) ≡ true
-            → option_map_or (differs_from sets_before) (option_map_or (λ type. option_map (λ (l : BoundLine). l.set) (bound_shape type more)) o None) false ≡ true
-        typed None e = absurd (false≢true e)
-        typed (Some type) e = shape (bound_shape type more) e
+    bound fs k = grind (arith, false≢true, holds_of, sets_before, shape)
 
     by : (o : Option Section) → holds_of kinds.SecondSet (data_tests (context_of before) earlier fields o) ≡ true → has_second_set before fields o ≡ true
-    by None k = no-data kinds.SecondSet (context_of before) earlier fields None refl k
-    by (Some Name) k = no-data kinds.SecondSet (context_of before) earlier fields (Some Name) refl k
-    by (Some ObjSense) k = no-data kinds.SecondSet (context_of before) earlier fields (Some ObjSense) refl k
-    by (Some ObjName) k = no-data kinds.SecondSet (context_of before) earlier fields (Some ObjName) refl k
-    by (Some Rows) k = no-data kinds.SecondSet (context_of before) earlier fields (Some Rows) refl k
-    by (Some Columns) k = no-data kinds.SecondSet (context_of before) earlier fields (Some Columns) refl k
-    by (Some Rhs) k = vector (filter_map vector_set (data_lines Rhs before)) (vector_shape fields) k
-    by (Some Ranges) k = vector (filter_map vector_set (data_lines Ranges before)) (vector_shape fields) k
-    by (Some Bounds) k = bound fields k
-    by (Some EndData) k = no-data kinds.SecondSet (context_of before) earlier fields (Some EndData) refl k
+    by o k = grind (arith, no-data, vector, bound)
 
 pub second-set : IsInWords kinds.SecondSet is_of_second_set
 second-set = in-words kinds.SecondSet is_of_second_set refl refl refl (by-form kinds.SecondSet is_of_second_set refl second)
@@ -239,62 +171,22 @@ out-of-place before earlier skipped known h = absurd (false≢true h)
 out-of-place before earlier (header keyword more) known h = by (section_named keyword) h
   where
     word_due_after : (o : Option Section) → current_section before ≡ o → is_some (word_due before) ≡ true → option_map_or (is_without_word before) o false ≡ true
-    word_due_after None e w = let no : false ≡ true = sym (ap (λ (o : Option Section). is_section ObjSense o || is_section ObjName o) e) ∙ known.known.there w in absurd (false≢true no)
-    word_due_after (Some ObjSense) e w = without-word ObjSense is_sense before refl known.known.words.sense e refl w
-    word_due_after (Some ObjName) e w = without-word ObjName (λ _. true) before refl known.known.words.name e refl w
-    word_due_after (Some Name) e w = let no : false ≡ true = sym (ap (λ (o : Option Section). is_section ObjSense o || is_section ObjName o) e) ∙ known.known.there w in absurd (false≢true no)
-    word_due_after (Some Rows) e w = let no : false ≡ true = sym (ap (λ (o : Option Section). is_section ObjSense o || is_section ObjName o) e) ∙ known.known.there w in absurd (false≢true no)
-    word_due_after (Some Columns) e w = let no : false ≡ true = sym (ap (λ (o : Option Section). is_section ObjSense o || is_section ObjName o) e) ∙ known.known.there w in absurd (false≢true no)
-    word_due_after (Some Rhs) e w = let no : false ≡ true = sym (ap (λ (o : Option Section). is_section ObjSense o || is_section ObjName o) e) ∙ known.known.there w in absurd (false≢true no)
-    word_due_after (Some Ranges) e w = let no : false ≡ true = sym (ap (λ (o : Option Section). is_section ObjSense o || is_section ObjName o) e) ∙ known.known.there w in absurd (false≢true no)
-    word_due_after (Some Bounds) e w = let no : false ≡ true = sym (ap (λ (o : Option Section). is_section ObjSense o || is_section ObjName o) e) ∙ known.known.there w in absurd (false≢true no)
-    word_due_after (Some EndData) e w = let no : false ≡ true = sym (ap (λ (o : Option Section). is_section ObjSense o || is_section ObjName o) e) ∙ known.known.there w in absurd (false≢true no)
+    word_due_after o e w = grind (arith, false≢true, without-word)
 
     idle : Bool
     idle = option_map_or (is_without_word before) (current_section before) false
 
     of : (s : Section) (w f g : Bool) → is_some (word_due before) ≡ w → has_section before s ≡ f → may_begin (context_of before) s ≡ g → (w || not (f || g)) ≡ true
         → (idle || (not (has_section before s) && (comes_early before s || comes_late before s))) ≡ true
-    of s true f g p q r k = or_left idle (not (has_section before s) && (comes_early before s || comes_late before s)) (word_due_after (current_section before) refl p)
-    of s false true g p q r k = absurd (false≢true k)
-    of s false false true p q r k = absurd (false≢true k)
-    of s false false false p q r k =
-        or_right idle (not (has_section before s) && (comes_early before s || comes_late before s))
-        (both_so (not (has_section before s)) (comes_early before s || comes_late before s) (so_not (has_section before s) q) (misplaced before s q r))
+    of s w f g p q r k = grind (arith, or_left, false≢true, or_right, both_so, so_not, misplaced, idle, word_due_after)
 
     by : (o : Option Section) → holds_of kinds.SectionOrder (header_tests (context_of before) earlier keyword more o) ≡ true
         → (idle || option_map_or (λ section. not (has_section before section) && (comes_early before section || comes_late before section)) o false) ≡ true
-    by None k =
-        absurd (never (holds_of kinds.SectionOrder (header_tests (context_of before) earlier keyword more None)) k
-        (none-holds unknown_kinds kinds.SectionOrder (header_tests (context_of before) earlier keyword more None)
-        (unknown-among (is_one_of (codes "QSECTION" ∷ codes "QMATRIX" ∷ codes "QUADOBJ" ∷ codes "QCMATRIX" ∷ codes "CSECTION" ∷ []) keyword)
-        (is_one_of (codes "SOS" ∷ codes "SOS1" ∷ codes "SOS2" ∷ []) keyword) (is_one_of (codes "INDICATORS" ∷ []) keyword)) refl))
-    by (Some s) k =
-        of s (is_some (word_due before)) (has_section before s) (may_begin (context_of before) s) refl refl refl
-        (left_only (is_out_of_order (context_of before) s) (holds_of kinds.SectionOrder (section_tests (context_of before) earlier s more))
-        (none-holds (kinds.BadType ∷ kinds.UnknownRow ∷ []) kinds.SectionOrder (section_tests (context_of before) earlier s more) (section-among (context_of before) earlier s more) refl) k)
+    by o k = grind (arith, never, holds_of, none-holds, unknown_kinds, unknown-among, left_only, section-among, of)
 out-of-place before earlier (data_line fields) known h = by (current_section before) refl h
   where
     occurs : (s : Section) → holds_of kinds.SectionOrder (data_tests (context_of before) earlier fields (Some s)) ≡ true → current_section before ≡ Some s → is_closed before s ≡ true
-    occurs Name k e = refl
-    occurs ObjSense k e = with-its_word ObjSense is_sense before refl known.known.words.sense e refl (word (is_some (word_due before)) (word_shape fields) k)
-      where
-        word : (b : Bool) (o : Option (List ℕ)) → holds_of kinds.SectionOrder ((not b, kinds.SectionOrder) ∷ judged_by word_tests o) ≡ true → b ≡ false
-        word false o l = refl
-        word true None l = absurd (false≢true l)
-        word true (Some x) l = absurd (false≢true l)
-    occurs ObjName k e = with-its_word ObjName (λ _. true) before refl known.known.words.name e refl (word (is_some (word_due before)) (word_shape fields) k)
-      where
-        word : (b : Bool) (o : Option (List ℕ)) → holds_of kinds.SectionOrder ((not b, kinds.SectionOrder) ∷ judged_by (λ _. []) o) ≡ true → b ≡ false
-        word false o l = refl
-        word true None l = absurd (false≢true l)
-        word true (Some x) l = absurd (false≢true l)
-    occurs Rows k e = no-data kinds.SectionOrder (context_of before) earlier fields (Some Rows) refl k
-    occurs Columns k e = no-data kinds.SectionOrder (context_of before) earlier fields (Some Columns) refl k
-    occurs Rhs k e = no-data kinds.SectionOrder (context_of before) earlier fields (Some Rhs) refl k
-    occurs Ranges k e = no-data kinds.SectionOrder (context_of before) earlier fields (Some Ranges) refl k
-    occurs Bounds k e = no-data kinds.SectionOrder (context_of before) earlier fields (Some Bounds) refl k
-    occurs EndData k e = refl
+    occurs s k e = grind (arith, with-its_word, holds_of, false≢true, no-data)
 
     by : (o : Option Section) → current_section before ≡ o → holds_of kinds.SectionOrder (data_tests (context_of before) earlier fields o) ≡ true → option_map_or (is_closed before) o true ≡ true
     by None e k = refl

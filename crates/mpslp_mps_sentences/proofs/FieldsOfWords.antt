@@ -1,37 +1,25 @@
 -- A data line with the fields that its section requires is well-formed, if its marker, its column and its set fit.
-use Rattle.std.proofs.Common.{◌≡◌, refl, ap, ◌∙◌, List, [], ◌∷◌, ◌++◌, ℕ, Bool, true, false, cond}
-use Rattle.std.specs.Prelude.{Option, Some, None, is_some, is_none, is_ok, not, ◌&&◌, Result, Ok, Err, filter_map, codes}
-use Rattle.std.specs.List.{list_all, list_any, cons_option}
-use Rattle.std.specs.Option.{option_map, option_map_or}
+use Rattle.std.{proofs.Common.{arith, rules, ◌≡◌, refl, ap, ◌∙◌, List, [], ◌∷◌, ◌++◌, ℕ, Bool, true, false, cond}, specs.Prelude.Option}
+use Rattle.std.specs.{Prelude.{Some, None, is_some, ◌&&◌, filter_map}, List.{list_any, cons_option}, Option.{option_map, option_map_or}}
 use Rattle.std.specs.Cmp.{first_so, second_so}
-use Rattle.mpslp_decimal.specs.Decimal.{Number}
-use Rattle.mpslp_decimal.specs.Literal.{number_of}
-use Rattle.mpslp_decimal.specs.declared.literal.NumberFault.{NumberFault}
-use Rattle.mpslp_types.specs.Name.{same_bytes, is_one_of, is_mps_name, has_name_length, is_visible, marker}
-use Rattle.mpslp_types.specs.declared.kinds.RowType.{RowType}
-use Rattle.mpslp_types.specs.declared.faults.FaultKind.{FaultKind}
-use Rattle.mpslp_types.specs.declared.faults.FaultKind.TheVariants as kinds
+use Rattle.mpslp_types.specs.{Name.{same_bytes, is_mps_name}, declared.faults.FaultKind.FaultKind, Lists.those_of}
 use Rattle.mpslp_types.proofs.BoolLemmas.{both_so}
-use Rattle.mpslp_builder.specs.Declaration.{Draft}
-use Rattle.mpslp_types.specs.Lists.{those_of}
-use Rattle.mpslp_builder.proofs.SlotLemmas.{same_name}
+use Rattle.mpslp_types.specs.declared.faults.FaultKind.TheVariants as kinds
+use Rattle.mpslp_builder.{specs.Declaration.Draft, proofs.SlotLemmas.same_name}
 use Rattle.mpslp_lines.specs.FaultTests.{FaultTests, judged_by, name_tests, number_fault, is_kind, number_tests}
-use Rattle.mpslp_mps_fields.specs.Line.{Fields}
-use Rattle.mpslp_mps_fields.specs.DataLine.{Pair, RowLine, ValuesLine, row_shape, row_type, column_shape, is_marker_line, marker_shape, opening_word, closing_word, vector_shape, BoundLine, bound_type, bound_shape}
-use Rattle.mpslp_mps.specs.Context.{Context, marker_word, line_column, vector_set, bound_set}
-use Rattle.mpslp_mps.specs.LineFault.{literals_of, set_tests, row_line_tests, is_sos_marker, marker_word_tests, marker_tests, is_split, column_tests, columns_line_tests, vector_tests, bound_tests, typed_bound_tests, bound_line_tests}
-use Rattle.mpslp_mps_sentences.specs.TextInWords.{is_number, have_numbers, is_row_line, is_columns_line, is_vector_line, is_bound_line}
+use Rattle.mpslp_mps_fields.specs.{Line.Fields, DataLine.{Pair, ValuesLine, row_shape, column_shape, is_marker_line, marker_shape}}
+use Rattle.mpslp_mps_fields.specs.DataLine.{opening_word, closing_word, vector_shape, BoundLine, bound_type, bound_shape}
 use Rattle.mpslp_mps_fields.specs.declared.bound_types.BoundType.{BoundType}
+use Rattle.mpslp_mps.specs.{Context.{Context, marker_word, line_column, vector_set, bound_set}, LineFault.{literals_of, set_tests}}
+use Rattle.mpslp_mps.specs.LineFault.{row_line_tests, is_sos_marker, marker_word_tests, marker_tests, is_split, column_tests}
+use Rattle.mpslp_mps.specs.LineFault.{columns_line_tests, vector_tests, bound_tests, typed_bound_tests, bound_line_tests}
+use Rattle.mpslp_mps_sentences.specs.TextInWords.{is_number, have_numbers, is_row_line, is_columns_line, is_vector_line, is_bound_line}
 use Rattle.mpslp_mps_sentences.proofs.WordsOfFields.{is_other_set}
 
 -- ---- names and numbers
 
 no-fault : (literal : List ℕ) → is_number literal ≡ true → number_fault literal ≡ None
-no-fault literal h = by (number_of literal) refl
-  where
-    by : (r : Result Number NumberFault) → number_of literal ≡ r → number_fault literal ≡ None
-    by (Ok n) e = rw e refl
-    by (Err f) e = let g : is_ok (number_of literal) ≡ false = ap is_ok e in cc
+no-fault literal h = grind arith
 
 no-faults : (pairs : List Pair) → have_numbers pairs ≡ true → filter_map number_fault (literals_of pairs) ≡ []
 no-faults [] h = refl
@@ -46,13 +34,7 @@ numbers-pass pairs more h =
     (no-faults pairs h)
 
 name-passes : (name : List ℕ) (more : FaultTests) → is_mps_name name ≡ true → those_of (name_tests name ++ more) ≡ those_of more
-name-passes name more h = by (has_name_length name) (list_all is_visible name) (same_bytes name marker) h
-  where
-    by : (a b c : Bool) → (a && (b && not c)) ≡ true → those_of ((not a, kinds.NameLength) ∷ (not b, kinds.NameByte) ∷ (c, kinds.NameMarker) ∷ more) ≡ those_of more
-    by true true false k = refl
-    by true true true k = cc
-    by true false c k = cc
-    by false b c k = cc
+name-passes name more h = grind arith
 
 -- a test that passes
 passes : (b : Bool) (kind : FaultKind) (more : FaultTests) → b ≡ false → those_of ((b, kind) ∷ more) ≡ those_of more
@@ -62,29 +44,11 @@ passes false kind more h = refl
 -- ---- data lines by section
 
 pub row-good : (fields : Fields) → is_row_line fields ≡ true → those_of (judged_by row_line_tests (row_shape fields)) ≡ []
-row-good fields h = by (row_shape fields) h
-  where
-    there : (line : RowLine) (o : Option RowType) → is_some o ≡ true → is_none o ≡ false
-    there line None k = cc
-    there line (Some x) k = refl
-
-    by : (o : Option RowLine) → option_map_or (λ (line : RowLine). is_some (row_type line.letter) && is_mps_name line.name) o false ≡ true → those_of (judged_by row_line_tests o) ≡ []
-    by None k = cc
-    by (Some line) k =
-        passes (is_none (row_type line.letter)) kinds.BadType (name_tests line.name) (there line (row_type line.letter) (first_so (is_some (row_type line.letter)) (is_mps_name line.name) k))
-        ∙ name-passes line.name [] (second_so (is_some (row_type line.letter)) (is_mps_name line.name) k)
+row-good fields h = grind arith
 
 -- the word that opens or closes an integer block is not that of a special ordered set
 no-sos : (fields : Fields) (b : Bool) (word : List ℕ) → marker_shape fields ≡ Some word → same_bytes word (cond b closing_word opening_word) ≡ true → is_sos_marker fields ≡ false
-no-sos [] b word e h = cc
-no-sos (first ∷ []) b word e h = cc
-no-sos (first ∷ second ∷ []) b word e h = cc
-no-sos (first ∷ second ∷ third ∷ []) b word e h = let same : third ≡ word = cc in of b (ap (λ (w : List ℕ). same_bytes w (cond b closing_word opening_word)) same ∙ h)
-  where
-    of : (c : Bool) → same_bytes third (cond c closing_word opening_word) ≡ true → is_one_of (codes "'SOSORG'" ∷ codes "'SOSEND'" ∷ []) third ≡ false
-    of true k = ap (is_one_of (codes "'SOSORG'" ∷ codes "'SOSEND'" ∷ [])) (same_name third closing_word k)
-    of false k = ap (is_one_of (codes "'SOSORG'" ∷ codes "'SOSEND'" ∷ [])) (same_name third opening_word k)
-no-sos (first ∷ second ∷ third ∷ other ∷ more) b word e h = cc
+no-sos fields b word e h = search (rules, same_name)
 
 pub columns-good : (context : Context) (earlier : Draft) (fields : Fields) → is_columns_line fields ≡ true
     → ((word : List ℕ) → marker_word fields ≡ Some word → same_bytes word (cond context.in_integer_part closing_word opening_word) ≡ true)
@@ -94,11 +58,7 @@ columns-good context earlier fields h = by (is_marker_line fields) h
   where
     fits : (o : Option (List ℕ)) → marker_shape fields ≡ o → is_some o ≡ true → ((word : List ℕ) → o ≡ Some word → same_bytes word (cond context.in_integer_part closing_word opening_word) ≡ true)
         → those_of ((is_sos_marker fields, kinds.Sos) ∷ judged_by (marker_word_tests context) o) ≡ []
-    fits None e k m = cc
-    fits (Some word) e k m =
-        let word_due = cond context.in_integer_part closing_word opening_word in
-        passes (is_sos_marker fields) kinds.Sos (marker_word_tests context word) (no-sos fields context.in_integer_part word e (m word refl))
-        ∙ passes (not (same_bytes word word_due)) kinds.BadMarker [] (ap not (m word refl))
+    fits o e k m = grind (arith, passes, no-sos)
 
     of : (o : Option ValuesLine) → option_map_or (λ (line : ValuesLine). is_mps_name line.name && have_numbers line.pairs) o false ≡ true
         → ((name : List ℕ) → option_map (λ (line : ValuesLine). line.name) o ≡ Some name → is_split context earlier name ≡ false) → those_of (judged_by (column_tests context earlier) o) ≡ []

@@ -1,23 +1,15 @@
 -- Headers in the order of the format are well-formed.
-use Rattle.std.proofs.Common.{arith}
-use Rattle.std.proofs.Common.{rules}
-use Rattle.std.proofs.Common.{◌≡◌, refl, sym, ap, ◌∙◌, List, [], ◌∷◌, ◌++◌, ℕ, Bool, true, false}
-use Rattle.std.specs.Prelude.{Some, None, is_some, is_none, not, ◌||◌, nat_le}
-use Rattle.std.specs.List.{list_all, list_any, last_or}
-use Rattle.std.specs.Cmp.{first_so, second_so}
-use Rattle.std.proofs.lemmas.List.Folds.{list_any-append}
-use Rattle.mpslp_types.specs.declared.faults.FaultKind.{FaultKind}
-use Rattle.mpslp_types.specs.declared.faults.FaultKind.TheVariants as kinds
-use Rattle.mpslp_types.proofs.BoolLemmas.{both_so, both_false, nor, not_so, so_not}
+use Rattle.std.proofs.{Common.{arith, ◌≡◌, refl, List, [], ◌∷◌, ◌++◌, ℕ, Bool, true, false}, lemmas.List.Folds.list_any-append}
+use Rattle.std.specs.{Prelude.{Some, None, is_some, is_none, not, nat_le}, List.{list_all, list_any, last_or}, Cmp.{first_so, second_so}}
+use Rattle.mpslp_types.{specs.{declared.faults.FaultKind.FaultKind, Lists.{those_of, are_distinct}}, proofs.BoolLemmas.both_so}
+use Rattle.mpslp_types.proofs.BoolLemmas.{both_false, nor, not_so, so_not}
 use Rattle.mpslp_builder.specs.Declaration.{Draft}
-use Rattle.mpslp_types.specs.Lists.{those_of, are_distinct}
 use Rattle.mpslp_lines.specs.FaultTests.{FaultTests}
-use Rattle.mpslp_mps_fields.specs.Line.{Fields, LineContent, has, is_section, may_follow}
-use Rattle.mpslp_mps.specs.Context.{Context, context_of, seen_sections}
-use Rattle.mpslp_mps.specs.LineFault.{may_begin, is_out_of_order, section_tests, header_tests}
+use Rattle.mpslp_mps_fields.specs.{Line.{Fields, LineContent, has, is_section, may_follow}, declared.sections.Section.Section}
+use Rattle.mpslp_mps_fields.specs.declared.sections.Section.TheVariants.{Name, ObjSense, ObjName, Rows, Columns, Rhs, Ranges, Bounds}
+use Rattle.mpslp_mps_fields.specs.declared.sections.Section.TheVariants.{EndData}
+use Rattle.mpslp_mps.specs.{Context.{Context, context_of, seen_sections}, LineFault.{may_begin, section_tests, header_tests}}
 use Rattle.mpslp_mps_sentences.specs.TextInWords.{section_rank, in_order, same_section, are_good_sections}
-use Rattle.mpslp_mps_fields.specs.declared.sections.Section.{Section}
-use Rattle.mpslp_mps_fields.specs.declared.sections.Section.TheVariants.{Name, ObjSense, ObjName, Rows, Columns, Rhs, Ranges, Bounds, EndData}
 
 -- ---- one section among those of the whole
 

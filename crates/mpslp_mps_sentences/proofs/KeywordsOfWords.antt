@@ -1,33 +1,23 @@
 -- If headers are good together, each is well-formed after the lines before it.
-use Rattle.std.proofs.Common.{arith}
-use Rattle.std.proofs.Common.{rules}
-use Rattle.std.proofs.Common.{◌≡◌, refl, sym, ap, ◌∙◌, subst, List, [], ◌∷◌, ◌++◌, ℕ, Bool, true, false}
-use Rattle.std.specs.Prelude.{Option, Some, None, is_some, is_none, not, ◌&&◌, ◌||◌}
-use Rattle.std.specs.List.{list_all, list_any, cons_option}
-use Rattle.std.specs.Option.{option_map_or, option_or}
-use Rattle.std.specs.Cmp.{first_so, second_so}
-use Rattle.std.proofs.lemmas.List.{append-nil}
-use Rattle.std.proofs.lemmas.List.Elements.{filter_map-append}
-use Rattle.mpslp_types.specs.declared.kinds.Sense.{Sense}
-use Rattle.mpslp_types.specs.declared.faults.FaultKind.TheVariants as kinds
+use Rattle.std.proofs.{Common.{arith, ◌≡◌, refl, sym, ap, ◌∙◌, subst, List, [], ◌∷◌, ◌++◌, ℕ, Bool, true, false}, lemmas.List.append-nil}
+use Rattle.std.{proofs.lemmas.List.Elements.filter_map-append, specs.Prelude.{Option, Some, None, is_some, is_none, not, ◌&&◌, ◌||◌}}
+use Rattle.std.specs.{List.{list_all, list_any, cons_option}, Option.{option_map_or, option_or}, Cmp.{first_so, second_so}}
+use Rattle.mpslp_types.specs.{declared.kinds.Sense.Sense, Lists.{those_of, is_nonempty, are_distinct, head_of, when}}
 use Rattle.mpslp_types.proofs.BoolLemmas.{both_false, nor, not_so}
+use Rattle.mpslp_types.specs.declared.faults.FaultKind.TheVariants as kinds
 use Rattle.mpslp_builder.specs.Declaration.{Draft}
-use Rattle.mpslp_types.specs.Lists.{those_of, is_nonempty, are_distinct, head_of, when}
 use Rattle.mpslp_mps_fields.specs.Line.{Fields, LineContent, header, has, section_named, section_of_header, is_section, may_follow}
-use Rattle.mpslp_mps_fields.specs.DataLine.{sense_of}
-use Rattle.mpslp_mps.specs.Context.{context_of, seen_sections, current_section, said_after, fields_under, data_lines, data_lines_after, objname_word, objname, word_due}
-use Rattle.mpslp_mps.specs.SeenSection.{has_section}
-use Rattle.mpslp_mps_sentences.specs.TextInWords.{in_order, same_section, are_good_sections, may_have_more, is_good_header, word_fields, words_in, has_word_at_most, is_sense, is_free_row_named, has_free_row, has_named_objective}
-use Rattle.mpslp_mps.specs.LineFault.{may_begin, lacks_objective, section_tests, header_tests}
-use Rattle.mpslp_mps_fields.specs.declared.sections.Section.{Section}
-use Rattle.mpslp_mps_fields.specs.declared.sections.Section.TheVariants.{Name, ObjSense, ObjName, Rows, Columns, Rhs, Ranges, Bounds, EndData}
-use Rattle.mpslp_mps.proofs.OrderLemmas.{IsGood, never}
-use Rattle.mpslp_mps_sentences.proofs.WordsOfFields.{section-is}
-use Rattle.mpslp_mps_sentences.proofs.WordsOfOneWord.{fits_word, IsUnderway}
-use Rattle.mpslp_mps_sentences.proofs.WordsOfObjName.{section-begun, named-in_words}
-use Rattle.mpslp_mps_sentences.proofs.SectionsOfWords.{said_after-append, passes-all}
-use Rattle.mpslp_mps_sentences.proofs.HeadersOfWords.{distinct-before, begins-so, header-good}
-use Rattle.mpslp_mps_sentences.proofs.OneWordOfWords.{IsWantedThere, header-fits, no-more-words, not-left}
+use Rattle.mpslp_mps_fields.specs.{DataLine.sense_of, declared.sections.Section.{Section, TheVariants.{Name, ObjSense, ObjName, Rows}}}
+use Rattle.mpslp_mps_fields.specs.declared.sections.Section.TheVariants.{Columns}
+use Rattle.mpslp_mps.specs.Context.{context_of, seen_sections, current_section, said_after, fields_under, data_lines, data_lines_after}
+use Rattle.mpslp_mps.specs.{Context.{objname_word, objname, word_due}, SeenSection.has_section, LineFault.{may_begin, lacks_objective}}
+use Rattle.mpslp_mps.{specs.LineFault.{section_tests, header_tests}, proofs.OrderLemmas.{IsGood, never}}
+use Rattle.mpslp_mps_sentences.specs.TextInWords.{in_order, same_section, are_good_sections, may_have_more, is_good_header, word_fields}
+use Rattle.mpslp_mps_sentences.specs.TextInWords.{words_in, has_word_at_most, is_sense, is_free_row_named, has_free_row}
+use Rattle.mpslp_mps_sentences.{specs.TextInWords.has_named_objective, proofs.{WordsOfFields.section-is, WordsOfOneWord.fits_word}}
+use Rattle.mpslp_mps_sentences.proofs.{WordsOfOneWord.IsUnderway, WordsOfObjName.{section-begun, named-in_words}}
+use Rattle.mpslp_mps_sentences.proofs.{SectionsOfWords.{said_after-append, passes-all}, HeadersOfWords.{distinct-before, begins-so}}
+use Rattle.mpslp_mps_sentences.proofs.{HeadersOfWords.header-good, OneWordOfWords.{IsWantedThere, header-fits, no-more-words, not-left}}
 use Rattle.mpslp_mps_sentences.proofs.ObjNameOfWords.{IsDeclared, no-more-lines}
 
 -- no section after this one is one of those before it
@@ -41,21 +31,7 @@ distinct-after s (x ∷ sections_seen) t later h k =
     all = list_any (λ (l : Section). same_section l x) (sections_seen ++ t ∷ later)
 
     alike : (l : Section) → is_section s (Some x) ≡ true → same_section l x ≡ false → (b : Bool) → is_section s (Some l) ≡ b → b ≡ false
-    alike l e f true g =
-        let same : Some l ≡ Some x = section-is s (Some l) g ∙ sym (section-is s (Some x) e) in
-        sym (itself x) ∙ (sym (ap (λ (o : Option Section). option_map_or (λ (m : Section). is_section m (Some x)) o false) same) ∙ f)
-      where
-        itself : (m : Section) → is_section m (Some m) ≡ true
-        itself Name = refl
-        itself ObjSense = refl
-        itself ObjName = refl
-        itself Rows = refl
-        itself Columns = refl
-        itself Rhs = refl
-        itself Ranges = refl
-        itself Bounds = refl
-        itself EndData = refl
-    alike l e f false g = refl
+    alike l e f b g = grind (arith, section-is)
 
     none : is_section s (Some x) ≡ true → (ls : List Section) → list_any (λ (l : Section). same_section l x) ls ≡ false → has ls s ≡ false
     none e [] f = refl
@@ -162,12 +138,7 @@ keyword-good before earlier keyword more rest sense name there stated h = by (se
         of [] f = refl
         of (word ∷ []) f = refl
         of (word ∷ second ∷ others) f = cc
-    follows Rows e k = k
-    follows Columns e k = k
-    follows Rhs e k = k
-    follows Ranges e k = k
-    follows Bounds e k = k
-    follows EndData e k = k
+    follows t e k = grind arith
 
     -- the N row with the name is before COLUMNS
     complete : section_named keyword ≡ Some Columns → lacks_objective (context_of before) earlier ≡ false
@@ -200,7 +171,6 @@ keyword-good before earlier keyword more rest sense name there stated h = by (se
         of (Some word) f = none_of earlier.objective (is_some (objname before)) (stated word f (row word f))
 
     tests : (t : Section) → section_named keyword ≡ Some t → those_of (section_tests (context_of before) earlier t more) ≡ []
-    tests Name e = refl
     tests ObjSense e = of more (fits ObjSense is_sense e refl sense h.sense)
       where
         known : (o : Option Sense) → is_some o ≡ true → those_of ((is_none o, kinds.BadType) ∷ []) ≡ []
@@ -211,13 +181,8 @@ keyword-good before earlier keyword more rest sense name there stated h = by (se
         of [] f = refl
         of (word ∷ []) f = known (sense_of word) f
         of (word ∷ second ∷ others) f = cc
-    tests ObjName e = refl
-    tests Rows e = refl
     tests Columns e = ap (λ (b : Bool). those_of ((b, kinds.UnknownRow) ∷ [])) (complete e)
-    tests Rhs e = refl
-    tests Ranges e = refl
-    tests Bounds e = refl
-    tests EndData e = refl
+    tests t e = refl
 
     by : (o : Option Section) → section_named keyword ≡ o → option_map_or (λ (t : Section). may_have_more t || not (is_nonempty more)) (section_named keyword) false ≡ true
         → those_of (header_tests (context_of before) earlier keyword more (section_named keyword)) ≡ []

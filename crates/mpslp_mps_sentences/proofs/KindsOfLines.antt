@@ -1,32 +1,15 @@
 -- The kinds of errors for which each line is tested, so that a kind determines the tests.
-use Rattle.std.proofs.Common.{arith}
-use Rattle.std.proofs.Common.{rules}
-use Rattle.std.proofs.Common.{◌≡◌, refl, sym, ap, ◌∙◌, List, [], ◌∷◌, ◌++◌, ℕ, Bool, true, false, cond}
-use Rattle.std.specs.Prelude.{Option, Some, None, ◌||◌, ◌&&◌, ◌==◌, codes}
-use Rattle.std.specs.List.{list_any, list_all}
-use Rattle.std.specs.Option.{option_map_or}
-use Rattle.std.specs.Cmp.{first_so, second_so}
-use Rattle.std.proofs.lemmas.Bool.Decides.{Decides-eqb}
-use Rattle.mpslp_types.specs.Name.{is_one_of}
-use Rattle.mpslp_types.specs.FaultOrder.{kind_rank}
-use Rattle.mpslp_types.specs.declared.faults.BuildFault.{BuildFault}
-use Rattle.mpslp_types.specs.declared.faults.BuildFault.TheVariants as builds
-use Rattle.mpslp_types.specs.declared.faults.FaultKind.{FaultKind}
+use Rattle.std.proofs.{Common.{arith, ◌≡◌, refl, sym, ap, ◌∙◌, List, [], ◌∷◌, ℕ, Bool, true, false, cond}, lemmas.Bool.Decides.Decides-eqb}
+use Rattle.std.specs.{Prelude.{Option, Some, ◌||◌, ◌==◌}, List.{list_any, list_all}, Cmp.{first_so, second_so}}
+use Rattle.mpslp_types.specs.{FaultOrder.kind_rank, declared.faults.{BuildFault.BuildFault, FaultKind.FaultKind}}
 use Rattle.mpslp_types.specs.declared.faults.FaultKind.TheVariants as kinds
-use Rattle.mpslp_builder.specs.Declaration.{Declarations, Draft, with_declaration}
-use Rattle.mpslp_builder.specs.Refusal.{refusal_tests}
-use Rattle.mpslp_lines.specs.FaultTests.{kind_of_build_fault, is_kind, number_tests, FaultTests, judged_by}
-use Rattle.mpslp_mps_fields.specs.Line.{Fields, LineContent}
-use Rattle.mpslp_mps_fields.specs.DataLine.{word_shape, row_shape, column_shape, is_marker_line, marker_shape, vector_shape, BoundLine, bound_type, bound_shape}
-use Rattle.mpslp_mps.specs.Context.{Context, context_of}
-use Rattle.mpslp_mps.specs.LineFault.{set_tests, word_tests, section_tests, header_tests, row_line_tests, marker_word_tests, marker_tests, column_tests, vector_tests, bound_tests, typed_bound_tests, bound_line_tests, data_tests, item_tests}
-use Rattle.mpslp_mps.specs.LineDeclarations.{line_declares}
-use Rattle.mpslp_mps_fields.specs.declared.bound_types.BoundType.{BoundType}
-use Rattle.mpslp_mps_fields.specs.declared.sections.Section.{Section}
-use Rattle.mpslp_mps_fields.specs.declared.sections.Section.TheVariants.{Name, ObjSense, ObjName, Rows, Columns, Rhs, Ranges, Bounds, EndData}
+use Rattle.mpslp_builder.specs.{Declaration.{Declarations, Draft, with_declaration}, Refusal.refusal_tests}
+use Rattle.mpslp_lines.specs.FaultTests.{kind_of_build_fault, is_kind, FaultTests, judged_by}
+use Rattle.mpslp_mps_fields.specs.{Line.{Fields, LineContent}, DataLine.column_shape, declared.sections.Section.{Section, TheVariants.Rows}}
+use Rattle.mpslp_mps_fields.specs.declared.sections.Section.TheVariants.{Columns, Rhs, Ranges, Bounds}
+use Rattle.mpslp_mps.specs.{Context.{Context, context_of}, LineFault.{section_tests, header_tests, column_tests, data_tests, item_tests}}
 use Rattle.mpslp_mps.proofs.OrderLemmas.{never}
-use Rattle.mpslp_mps_sentences.proofs.NamesOfWords.{Stated}
-use Rattle.mpslp_mps_sentences.proofs.FaultedLines.{holds_of, refused_as, refuses, IsFirst}
+use Rattle.mpslp_mps_sentences.proofs.{NamesOfWords.Stated, FaultedLines.{holds_of, refused_as, refuses, IsFirst}}
 
 -- ---- tests of other kinds
 
@@ -107,20 +90,11 @@ unknown-among quadratic sos indicator = grind arith
 pub section-among : (context : Context) (earlier : Draft) (section : Section) (more : Fields) → AreAmong (kinds.BadType ∷ kinds.UnknownRow ∷ []) (section_tests context earlier section more)
 section-among context earlier section more = grind arith
 
-bound-among : (context : Context) (line : BoundLine) → AreAmong number_kinds (bound_tests context line)
-bound-among context line = grind arith
-
 pub column-among : (context : Context) (earlier : Draft) (fields : Fields) → AreAmong column_kinds (judged_by (column_tests context earlier) (column_shape fields))
 column-among context earlier fields = judged-among column_kinds (column_tests context earlier) (column_shape fields) refl (λ _. refl)
 
-bounds-among : (context : Context) (fields : Fields) → AreAmong number_kinds (bound_line_tests context fields)
-bounds-among context fields = grind arith
-
 pub data-among : (context : Context) (earlier : Draft) (fields : Fields) (o : Option Section) → AreAmong (kinds_in o) (data_tests context earlier fields o)
 data-among context earlier fields o = grind arith
-
-unknown-header : (quadratic sos indicator : Bool) → AreAmong header_kinds ((true, cond quadratic kinds.Quadratic (cond sos kinds.Sos (cond indicator kinds.Indicator kinds.UnknownSection))) ∷ [])
-unknown-header quadratic sos indicator = grind arith
 
 pub header-among : (context : Context) (earlier : Draft) (keyword : List ℕ) (more : Fields) (o : Option Section) → AreAmong header_kinds (header_tests context earlier keyword more o)
 header-among context earlier keyword more o = grind arith

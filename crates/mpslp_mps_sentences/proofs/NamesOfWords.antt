@@ -1,44 +1,29 @@
 -- A draft has the rows, coefficients and sense of the lines before by `TextInWords`; each row that they name exists.
-use Rattle.std.proofs.Common.{arith}
-use Rattle.std.proofs.Common.{rules}
-use Rattle.std.proofs.lemmas.Bool.{false≢true, true≢false}
-use Rattle.std.proofs.Common.{◌≡◌, refl, sym, ap, ◌∙◌, subst, List, [], ◌∷◌, ◌++◌, ℕ, Bool, true, false, cond}
-use Rattle.std.specs.Prelude.{Option, Some, None, is_none, is_some, not, filter_map, ◌||◌, ◌&&◌, codes}
-use Rattle.std.specs.List.{list_any, list_all, flat_map, cons_option}
-use Rattle.std.specs.Option.{option_map, option_map_or, option_or}
-use Rattle.std.specs.Cmp.{first_so, second_so}
-use Rattle.std.proofs.lemmas.List.Elements.{filter_map-append}
-use Rattle.std.proofs.lemmas.List.Concat.{flat_map-append}
-use Rattle.std.proofs.lemmas.List.Folds.{list_any-append}
-use Rattle.mpslp_types.specs.Name.{same_bytes, is_mps_name}
-use Rattle.mpslp_types.specs.declared.kinds.RowType.{RowType}
-use Rattle.mpslp_types.specs.declared.kinds.RowType.TheVariants.{Free, AtMost, AtLeast, Equal}
+use Rattle.std.proofs.Common.{arith, rules, ◌≡◌, refl, sym, ap, ◌∙◌, subst, List, [], ◌∷◌, ◌++◌, ℕ, Bool, true, false, cond}
+use Rattle.std.proofs.lemmas.{Bool.{false≢true, true≢false}, List.{Elements.filter_map-append, Concat.flat_map-append}}
+use Rattle.std.{proofs.lemmas.List.Folds.list_any-append, specs.Prelude.{Option, Some, None, is_none, is_some, not, filter_map, ◌||◌, ◌&&◌}}
+use Rattle.std.specs.{Prelude.codes, List.{list_any, list_all, flat_map, cons_option}, Option.{option_map, option_map_or}, Cmp.first_so}
+use Rattle.std.specs.Cmp.{second_so}
+use Rattle.mpslp_types.specs.{Name.{same_bytes, is_mps_name}, declared.kinds.RowType.RowType, Lists.{when, head_of, is_nonempty}}
 use Rattle.mpslp_types.proofs.BoolLemmas.{or_left, or_right, both_so, both_false, nor, not_so, so_not}
-use Rattle.mpslp_types.specs.Lists.{when, head_of, is_nonempty, those_of}
 use Rattle.mpslp_model_core.specs.Model.{CoefficientKey}
-use Rattle.mpslp_builder.specs.Declaration.{by_type, RowDefinition, Declaration, declare_sense, declare_objective, declare_constant, declare_row, declare_rhs, declare_range, declare_column, declare_coefficient, declare_lower, declare_upper, declare_marked, declare_integer, declare_binary, declare_semi, Declarations, Draft, with_declaration, with_declarations, empty_draft, has_name, is_objective, has_row, has_coefficient}
-use Rattle.mpslp_builder.proofs.LaterDrafts.{more_entries}
-use Rattle.mpslp_builder.proofs.SlotLemmas.{has-put, has-put_key}
-use Rattle.mpslp_lines.specs.FaultTests.{value_of}
-use Rattle.mpslp_lines.proofs.ObjectiveLemmas.{named-after}
-use Rattle.mpslp_mps_fields.specs.Line.{Fields, LineContent, skipped, header, data_line, section_named, begins, is_section}
-use Rattle.mpslp_mps_fields.specs.DataLine.{RowLine, Pair, ValuesLine, word_shape, row_shape, row_type, column_shape, is_marker_line}
-use Rattle.mpslp_mps.specs.Context.{Context, context_of, current_section, objname, objname_word, fields_under, data_lines}
-use Rattle.mpslp_mps.specs.SeenSection.{has_section}
-use Rattle.mpslp_mps_sentences.specs.TextInWords.{is_free, word_fields, words_in}
-use Rattle.mpslp_mps.specs.LineDeclarations.{declared_if_some, sense_declared, is_new_objective, row_of_type, row_declared, coefficient_declared, column_declared, columns_line_declared, data_declared, header_declared, line_declares}
-use Rattle.mpslp_mps.specs.LineFault.{data_tests}
-use Rattle.mpslp_mps_sentences.specs.FaultsInWords.{row_name, is_named, names_row, is_free_row_line, has_default_objective, has_entry_of, has_its_word}
-use Rattle.mpslp_mps_fields.specs.declared.sections.Section.{Section}
-use Rattle.mpslp_mps_fields.specs.declared.sections.Section.TheVariants.{Name, ObjSense, ObjName, Rows, Columns, Rhs, Ranges, Bounds, EndData}
-use Rattle.mpslp_mps.proofs.OrderLemmas.{never, IsGood, no_rows, rows-kept, each-declared, each-flat, sense-passes, sides-passes, ranges-passes}
-use Rattle.mpslp_mps_sentences.proofs.BoundsPasses.{Passes, bounds-passes}
-use Rattle.mpslp_mps.proofs.KnownLemmas.{no-rows-data}
-use Rattle.mpslp_mps.proofs.SectionLemmas.{data_lines-push, has_section-push, said_after-push}
-use Rattle.mpslp_mps_sentences.proofs.WordsOfFields.{section-is, row-fields}
-use Rattle.mpslp_mps.proofs.ContextLemmas.{objname-push}
-use Rattle.mpslp_mps_sentences.proofs.WordsOfObjName.{are_unnamed, objective-kept, header-unnamed, data-unnamed, stated-words}
-use Rattle.mpslp_mps_sentences.proofs.TextOfWords.{Known, none-known, known-kept}
+use Rattle.mpslp_builder.specs.Declaration.{RowDefinition, Declaration, declare_sense, declare_objective, declare_row, declare_column}
+use Rattle.mpslp_builder.specs.Declaration.{declare_coefficient, declare_marked, Declarations, Draft, with_declaration, with_declarations}
+use Rattle.mpslp_builder.{specs.Declaration.{empty_draft, has_row, has_coefficient}, proofs.{LaterDrafts.more_entries, SlotLemmas.has-put}}
+use Rattle.mpslp_builder.proofs.SlotLemmas.{has-put_key}
+use Rattle.mpslp_lines.{specs.FaultTests.value_of, proofs.ObjectiveLemmas.named-after}
+use Rattle.mpslp_mps_fields.specs.{Line.{Fields, LineContent, skipped, header, data_line, begins, is_section}, DataLine.{RowLine, Pair}}
+use Rattle.mpslp_mps_fields.specs.DataLine.{ValuesLine, word_shape, row_type, column_shape, is_marker_line}
+use Rattle.mpslp_mps_fields.specs.declared.sections.Section.{Section, TheVariants.{ObjSense, ObjName, Rows, Columns}}
+use Rattle.mpslp_mps.specs.{Context.{Context, context_of, current_section, objname, fields_under, data_lines}, SeenSection.has_section}
+use Rattle.mpslp_mps.specs.LineDeclarations.{declared_if_some, row_of_type, row_declared, coefficient_declared, column_declared}
+use Rattle.mpslp_mps.{specs.LineDeclarations.{data_declared, header_declared, line_declares}, proofs.OrderLemmas.{never, IsGood, no_rows}}
+use Rattle.mpslp_mps.proofs.{OrderLemmas.rows-kept, KnownLemmas.no-rows-data, SectionLemmas.{data_lines-push, has_section-push}}
+use Rattle.mpslp_mps.proofs.{SectionLemmas.said_after-push, ContextLemmas.objname-push}
+use Rattle.mpslp_mps_sentences.specs.{TextInWords.words_in, FaultsInWords.{row_name, is_named, names_row, is_free_row_line}}
+use Rattle.mpslp_mps_sentences.{specs.FaultsInWords.{has_default_objective, has_entry_of, has_its_word}, proofs.WordsOfFields.section-is}
+use Rattle.mpslp_mps_sentences.proofs.{WordsOfFields.row-fields, WordsOfObjName.{are_unnamed, objective-kept, header-unnamed, data-unnamed}}
+use Rattle.mpslp_mps_sentences.proofs.{WordsOfObjName.stated-words, TextOfWords.{Known, none-known, known-kept}}
 
 -- ---- one line more
 
@@ -85,11 +70,7 @@ rows_there-kept before earlier item good there name h = by (names_row before nam
 
     under : (fields : Fields) → IsGood before earlier (data_line fields) → (b : Bool) → is_section Rows (current_section before) ≡ b → is_named name (filter_map row_name (when b fields)) ≡ true
         → has_row (with_declarations earlier (line_declares (context_of before) earlier (data_line fields))) name ≡ true
-    under fields g true e k =
-        let here = section-is Rows (current_section before) e in
-        subst (λ o. has_row (with_declarations earlier (data_declared (context_of before) earlier fields o)) name ≡ true) (sym here)
-        (row (row_shape fields) (row-fields fields (subst (λ o. those_of (data_tests (context_of before) earlier fields o) ≡ []) here g)) k)
-    under fields g false e k = absurd (false≢true k)
+    under fields g b e k = grind (arith, section-is, row-fields, false≢true, row)
 
     new : (x : LineContent) → IsGood before earlier x → is_named name (filter_map row_name (fields_under Rows (current_section before) x)) ≡ true → has_row (with_declarations earlier (line_declares (context_of before) earlier x)) name ≡ true
     new skipped g k = absurd (false≢true k)
@@ -122,14 +103,8 @@ entries-kept : (ds : Declarations) (all : Draft) (key : CoefficientKey) → list
 entries-kept [] all key h = refl
 entries-kept (d ∷ ds) all key h = grind (arith, entry-kept, entries-kept ds (with_declaration all d) key (second_so (not (declares_entry d)) (list_all (λ d. not (declares_entry d)) ds) h))
 
-passes-entries : Passes (λ d. not (declares_entry d))
-passes-entries = record { lower = λ _ _. refl; upper = λ _ _. refl; integer = λ _. refl; semi = λ _. refl }
-
 no-entries-header : (context : Context) (earlier : Draft) (more : Fields) (o : Option Section) → list_all (λ d. not (declares_entry d)) (header_declared context earlier more o) ≡ true
 no-entries-header context earlier more o = grind arith
-
-no-entries-row : (context : Context) (earlier : Draft) (name : List ℕ) (type : RowType) → list_all (λ d. not (declares_entry d)) (row_of_type context earlier name type) ≡ true
-no-entries-row context earlier name type = grind arith
 
 no-entries-data : (context : Context) (earlier : Draft) (fields : Fields) (o : Option Section) → is_section Columns o ≡ false → list_all (λ d. not (declares_entry d)) (data_declared context earlier fields o) ≡ true
 no-entries-data context earlier fields o h = grind arith
@@ -177,17 +152,7 @@ entry_lines-kept before earlier item have key h =
     either false k = old false k
 
     by : (x : LineContent) → has_coefficient (with_declarations earlier (line_declares (context_of before) earlier x)) key ≡ true → (list_any test lines || list_any test (fields_under Columns (current_section before) x)) ≡ true
-    by skipped k = old false k
-    by (header keyword more) k = old false (sym (entries-kept (header_declared (context_of before) earlier more (section_named keyword)) earlier key (no-entries-header (context_of before) earlier more (section_named keyword))) ∙ k)
-    by (data_line fields) k = under (is_section Columns (current_section before)) refl
-      where
-        under : (b : Bool) → is_section Columns (current_section before) ≡ b → (list_any test lines || list_any test (when b fields)) ≡ true
-        under true e =
-            either (test fields)
-            (line fields (is_marker_line fields) refl (subst (λ o. has_coefficient (with_declarations earlier (data_declared (context_of before) earlier fields o)) key ≡ true) (section-is Columns (current_section before) e) k))
-        under false e =
-            old false
-            (sym (entries-kept (data_declared (context_of before) earlier fields (current_section before)) earlier key (no-entries-data (context_of before) earlier fields (current_section before) e)) ∙ k)
+    by x k = grind (arith, entries-kept, no-entries-header, section-is, no-entries-data, old, test, lines, either, line)
 
 -- ---- a sense that exists is a word of OBJSENSE
 
@@ -205,17 +170,8 @@ senses-kept : (ds : Declarations) (all : Draft) → list_all (λ d. not (declare
 senses-kept [] all h = refl
 senses-kept (d ∷ ds) all h = grind (arith, sense-kept, senses-kept ds (with_declaration all d) (second_so (not (declares_sense d)) (list_all (λ d. not (declares_sense d)) ds) h))
 
-passes-senses : Passes (λ d. not (declares_sense d))
-passes-senses = record { lower = λ _ _. refl; upper = λ _ _. refl; integer = λ _. refl; semi = λ _. refl }
-
 no-senses-header : (context : Context) (earlier : Draft) (more : Fields) (o : Option Section) → is_section ObjSense o ≡ false → list_all (λ d. not (declares_sense d)) (header_declared context earlier more o) ≡ true
 no-senses-header context earlier more o h = grind arith
-
-no-senses-row : (context : Context) (earlier : Draft) (name : List ℕ) (type : RowType) → list_all (λ d. not (declares_sense d)) (row_of_type context earlier name type) ≡ true
-no-senses-row context earlier name type = grind arith
-
-no-senses-column : (context : Context) (fields : Fields) → list_all (λ d. not (declares_sense d)) (columns_line_declared context fields) ≡ true
-no-senses-column context fields = grind arith
 
 no-senses-data : (context : Context) (earlier : Draft) (fields : Fields) (o : Option Section) → is_section ObjSense o ≡ false → list_all (λ d. not (declares_sense d)) (data_declared context earlier fields o) ≡ true
 no-senses-data context earlier fields o h = grind arith
@@ -272,11 +228,7 @@ default_there-kept before earlier item free there begun default = by (has_sectio
     word_after = not_so (has_its_word (before ++ item ∷ []) ObjName) (second_so (not (has_free_line (before ++ item ∷ []))) (not (has_its_word (before ++ item ∷ []) ObjName)) default)
 
     no_word : (x : LineContent) → has_its_word (before ++ x ∷ []) ObjName ≡ false → has_its_word before ObjName ≡ false
-    no_word x e = of (has_its_word before ObjName) refl
-      where
-        of : (b : Bool) → has_its_word before ObjName ≡ b → b ≡ false
-        of true f = absurd (never (has_its_word (before ++ x ∷ []) ObjName) (word-push ObjName before x f) e)
-        of false f = refl
+    no_word x e = grind (arith, never, word-push)
 
     none_yet : (b : Bool) → is_some earlier.objective ≡ b → has_free_line before ≡ false → has_section before Columns ≡ false → is_none earlier.objective ≡ true
     none_yet true e f g = absurd (never (has_free_line before || has_section before Columns) (free e) (both_false (has_free_line before) (has_section before Columns) f g))
@@ -293,13 +245,7 @@ default_there-kept before earlier item free there begun default = by (has_sectio
 
     by : (b : Bool) → has_section before Columns ≡ b → (x : LineContent) → (b || begins Columns x) ≡ true → has_free_line before ≡ false → has_its_word before ObjName ≡ false
         → has_row (with_declarations earlier (line_declares (context_of before) earlier x)) (codes "obj") ≡ true
-    by true e x k f w =
-        rows-stay (context_of before) earlier x (codes "obj")
-        (there e (both_so (not (has_free_line before)) (not (has_its_word before ObjName)) (so_not (has_free_line before) f) (so_not (has_its_word before ObjName) w)))
-    by false e skipped k f w = cc
-    by false e (data_line fields) k f w = cc
-    by false e (header keyword more) k f w =
-        declares (section_named keyword) more k (none_yet (is_some earlier.objective) refl f e) (ap (λ (o : Option (List ℕ)). is_none o) (no-word before w))
+    by b e x k f w = grind (arith, rows-stay, both_so, so_not, no-word, declares, none_yet)
 
 -- ---- all of it
 

@@ -1,28 +1,16 @@
 -- If an N row has the name that OBJNAME gives, the header of COLUMNS finds the objective declared.
-use Rattle.std.proofs.Common.{arith}
-use Rattle.std.proofs.Common.{◌≡◌, refl, sym, ap, ◌∙◌, subst, List, [], ◌∷◌, ◌++◌, ℕ, Bool, true, false, cond}
-use Rattle.std.specs.Prelude.{Option, Some, None, is_some, is_none, ◌&&◌, ◌||◌}
-use Rattle.std.specs.List.{list_any, cons_option}
-use Rattle.std.specs.Option.{option_map_or, option_or}
-use Rattle.std.proofs.lemmas.List.Folds.{list_any-append}
-use Rattle.mpslp_types.specs.Name.{same_bytes}
-use Rattle.mpslp_types.specs.declared.kinds.RowType.{RowType}
-use Rattle.mpslp_types.specs.declared.kinds.RowType.TheVariants.{Free, AtMost, AtLeast, Equal}
-use Rattle.mpslp_types.proofs.BoolLemmas.{nor}
-use Rattle.mpslp_builder.specs.Declaration.{by_type, declare_objective, declare_row, Draft, with_declarations}
-use Rattle.mpslp_types.specs.Lists.{when}
+use Rattle.std.proofs.Common.{arith, ◌≡◌, refl, sym, ap, ◌∙◌, subst, List, [], ◌∷◌, ◌++◌, ℕ, Bool, true, false}
+use Rattle.std.{proofs.lemmas.List.Folds.list_any-append, specs.{Prelude.{Option, Some, None, is_some, ◌&&◌, ◌||◌}, List.list_any}}
+use Rattle.std.specs.{List.cons_option, Option.{option_map_or, option_or}}
+use Rattle.mpslp_types.{specs.{Name.same_bytes, declared.kinds.RowType.{RowType, TheVariants.Free}, Lists.when}, proofs.BoolLemmas.nor}
+use Rattle.mpslp_builder.specs.Declaration.{Draft, with_declarations}
 use Rattle.mpslp_lines.proofs.ObjectiveLemmas.{named-after}
 use Rattle.mpslp_mps_fields.specs.Line.{Fields, LineContent, skipped, header, data_line, has, section_named, section_of_header, is_section}
-use Rattle.mpslp_mps_fields.specs.DataLine.{RowLine, row_shape, row_type}
+use Rattle.mpslp_mps_fields.specs.{DataLine.{RowLine, row_shape, row_type}, declared.sections.Section.{Section, TheVariants.Rows}}
 use Rattle.mpslp_mps.specs.Context.{context_of, seen_sections, current_section, fields_under, data_lines, data_lines_after, objname}
-use Rattle.mpslp_mps.specs.SeenSection.{has_section}
-use Rattle.mpslp_mps_sentences.specs.TextInWords.{is_free, is_free_row_named, has_free_row}
-use Rattle.mpslp_mps.specs.LineDeclarations.{declared_if_some, row_of_type, row_declared, data_declared, line_declares}
-use Rattle.mpslp_mps_fields.specs.declared.sections.Section.{Section}
-use Rattle.mpslp_mps_fields.specs.declared.sections.Section.TheVariants.{Rows}
-use Rattle.mpslp_mps.proofs.OrderLemmas.{IsGood}
-use Rattle.mpslp_mps.proofs.SectionLemmas.{data_lines-push}
-use Rattle.mpslp_mps_sentences.proofs.WordsOfFields.{section-is}
+use Rattle.mpslp_mps.specs.{SeenSection.has_section, LineDeclarations.{declared_if_some, row_declared, data_declared, line_declares}}
+use Rattle.mpslp_mps.proofs.{OrderLemmas.IsGood, SectionLemmas.data_lines-push}
+use Rattle.mpslp_mps_sentences.{specs.TextInWords.{is_free, is_free_row_named, has_free_row}, proofs.WordsOfFields.section-is}
 use Rattle.mpslp_mps_sentences.proofs.WordsOfObjName.{IsWantedEarly, same-name, section-begun}
 
 -- a section that has not begun, or is complete, has no more lines
@@ -73,20 +61,11 @@ declared-kept before earlier item good early there stated name row = by item goo
     -- the first row with this name is declared here, if none was before
     new_row : (line : RowLine) (o : Option (List ℕ)) → earlier.objective ≡ o → objname before ≡ Some stated → row_type line.letter ≡ Some Free → same_bytes line.name stated ≡ true
         → is_some (with_declarations earlier (row_declared (context_of before) earlier line)).objective ≡ true
-    new_row line (Some other) e n t s = named-after (row_declared (context_of before) earlier line) earlier (ap (λ (o : Option (List ℕ)). is_some o) e)
-    new_row line None e n t s =
-        let new : (is_none earlier.objective && option_map_or (same_bytes line.name) (objname before) true) ≡ true =
-        ap (λ (o : Option (List ℕ)). is_none o && option_map_or (same_bytes line.name) (objname before) true) e ∙ ap (λ (o : Option (List ℕ)). option_map_or (same_bytes line.name) o true) n ∙ s in
-        ap (λ (o : Option RowType). is_some (with_declarations earlier (declared_if_some (row_of_type (context_of before) earlier line.name) o)).objective) t
-        ∙ ap (λ (b : Bool). is_some (with_declarations earlier (cond b (declare_objective line.name ∷ []) (declare_row line.name (by_type Free) ∷ []))).objective) new
+    new_row line o e n t s = grind (arith, named-after)
 
     of_type : (line : RowLine) → objname before ≡ Some stated → (o : Option RowType) → row_type line.letter ≡ o → (is_free o && same_bytes line.name stated) ≡ true
         → is_some (with_declarations earlier (row_declared (context_of before) earlier line)).objective ≡ true
-    of_type line n None t k = cc
-    of_type line n (Some Free) t k = new_row line earlier.objective refl n t k
-    of_type line n (Some AtMost) t k = cc
-    of_type line n (Some AtLeast) t k = cc
-    of_type line n (Some Equal) t k = cc
+    of_type line n o t k = grind (arith, new_row)
 
     of_row : (o : Option RowLine) → objname before ≡ Some stated → option_map_or (λ (line : RowLine). is_free (row_type line.letter) && same_bytes line.name stated) o false ≡ true
         → is_some (with_declarations earlier (declared_if_some (row_declared (context_of before) earlier) o)).objective ≡ true

@@ -1,43 +1,26 @@
 -- The objective of a draft and its rows without limits are those that the lines before name as such.
-use Rattle.std.proofs.Common.{arith}
-use Rattle.std.proofs.Common.{rules}
-use Rattle.std.proofs.lemmas.Bool.{false≢true}
-use Rattle.std.proofs.Common.{◌≡◌, refl, sym, ap, ◌∙◌, subst, List, [], ◌∷◌, ◌++◌, ℕ, Bool, true, false, cond}
-use Rattle.std.specs.Prelude.{Option, Some, None, is_none, is_some, filter_map, ◌||◌, ◌&&◌, codes}
-use Rattle.std.specs.List.{list_any, flat_map, cons_option}
-use Rattle.std.specs.Option.{option_map, option_map_or}
-use Rattle.std.specs.Cmp.{second_so}
-use Rattle.std.proofs.lemmas.List.{append-nil}
-use Rattle.std.proofs.lemmas.List.Elements.{filter_map-append}
-use Rattle.std.proofs.lemmas.List.Concat.{flat_map-append}
-use Rattle.std.proofs.lemmas.List.Folds.{list_any-append}
-use Rattle.mpslp_types.specs.Name.{same_bytes}
-use Rattle.mpslp_types.specs.declared.kinds.RowType.{RowType}
-use Rattle.mpslp_types.specs.declared.kinds.RowType.TheVariants.{Free, AtMost, AtLeast, Equal}
-use Rattle.mpslp_types.proofs.BoolLemmas.{or_left, or_right, not_so}
-use Rattle.mpslp_types.specs.Lists.{when, head_of, is_nonempty, those_of}
-use Rattle.mpslp_builder.specs.Declaration.{by_type, RowDefinition, Declaration, declare_objective, declare_row, Draft, with_declaration, with_declarations, at_name, is_objective, is_free_definition, is_free_row}
-use Rattle.mpslp_builder.proofs.LaterDrafts.{Extends, value_in, itself_named, is_objective-after}
-use Rattle.mpslp_builder.proofs.SlotLemmas.{at-put, same_name}
-use Rattle.mpslp_mps_fields.specs.Line.{Fields, LineContent, skipped, header, data_line, section_named, is_section}
-use Rattle.mpslp_mps_fields.specs.DataLine.{RowLine, word_shape, row_shape, row_type}
+use Rattle.std.proofs.Common.{arith, ◌≡◌, refl, sym, ap, ◌∙◌, subst, List, [], ◌∷◌, ◌++◌, ℕ, Bool, true, false, cond}
+use Rattle.std.proofs.lemmas.{Bool.false≢true, List.{append-nil, Elements.filter_map-append, Concat.flat_map-append, Folds.list_any-append}}
+use Rattle.std.specs.{Prelude.{Option, Some, None, is_none, is_some, filter_map, ◌||◌, ◌&&◌, codes}, List.{list_any, flat_map, cons_option}}
+use Rattle.std.specs.{Option.{option_map, option_map_or}, Cmp.second_so}
+use Rattle.mpslp_types.specs.{Name.same_bytes, declared.kinds.RowType.{RowType, TheVariants.Free}, Lists.{when, head_of, is_nonempty}}
+use Rattle.mpslp_types.proofs.BoolLemmas.{or_left, or_right}
+use Rattle.mpslp_builder.specs.Declaration.{by_type, declare_objective, declare_row, Draft, with_declaration, with_declarations}
+use Rattle.mpslp_builder.{specs.Declaration.{is_objective, is_free_definition, is_free_row}, proofs.LaterDrafts.{Extends, itself_named}}
+use Rattle.mpslp_builder.proofs.{LaterDrafts.is_objective-after, SlotLemmas.{at-put, same_name}}
+use Rattle.mpslp_mps_fields.specs.{Line.{Fields, LineContent, skipped, header, data_line, section_named, is_section}, DataLine.RowLine}
+use Rattle.mpslp_mps_fields.specs.{DataLine.{row_shape, row_type}, declared.sections.Section.{Section, TheVariants.{ObjName, Rows}}}
+use Rattle.mpslp_mps_fields.specs.declared.sections.Section.TheVariants.{Columns}
 use Rattle.mpslp_mps.specs.Context.{Context, context_of, current_section, seen_sections, fields_under, data_lines, objname}
-use Rattle.mpslp_mps.specs.SeenSection.{has_section}
-use Rattle.mpslp_mps_sentences.specs.TextInWords.{is_free, is_free_row_named, has_free_row, is_one_word, word_fields, words_in}
-use Rattle.mpslp_mps.specs.LineDeclarations.{declared_if_some, is_new_objective, row_of_type, row_declared, data_declared, header_declared, line_declares}
-use Rattle.mpslp_mps.specs.LineFault.{header_tests, data_tests}
-use Rattle.mpslp_mps_sentences.specs.FaultsInWords.{is_free_row_line}
-use Rattle.mpslp_mps_sentences.specs.ValueFaultsInWords.{free_row_name, names_objective}
-use Rattle.mpslp_mps_fields.specs.declared.sections.Section.{Section}
-use Rattle.mpslp_mps_fields.specs.declared.sections.Section.TheVariants.{Name, ObjSense, ObjName, Rows, Columns, Rhs, Ranges, Bounds, EndData}
-use Rattle.mpslp_mps.proofs.OrderLemmas.{IsGood, never, header-begins}
+use Rattle.mpslp_mps.specs.{SeenSection.has_section, LineDeclarations.{declared_if_some, row_of_type, row_declared, data_declared}}
+use Rattle.mpslp_mps.{specs.LineDeclarations.{header_declared, line_declares}, proofs.OrderLemmas.{IsGood, never}}
 use Rattle.mpslp_mps.proofs.SectionLemmas.{data_lines-push, said_after-push}
-use Rattle.mpslp_mps_sentences.proofs.WordsOfFields.{section-is}
-use Rattle.mpslp_mps_sentences.proofs.WordsOfOneWord.{missing, without_word, with_word, IsUnderway, name-word}
+use Rattle.mpslp_mps_sentences.specs.TextInWords.{is_free, is_free_row_named, has_free_row, word_fields, words_in}
+use Rattle.mpslp_mps_sentences.specs.{FaultsInWords.is_free_row_line, ValueFaultsInWords.{free_row_name, names_objective}}
+use Rattle.mpslp_mps_sentences.proofs.{WordsOfFields.section-is, WordsOfOneWord.{missing, without_word, with_word, IsUnderway}}
 use Rattle.mpslp_mps_sentences.proofs.WordsOfObjName.{IsWantedEarly, objective-kept, header-unnamed, data-unnamed, stated-words}
-use Rattle.mpslp_mps_sentences.proofs.NamesOfWords.{Stated}
-use Rattle.mpslp_mps_sentences.proofs.RepeatsOfNames.{last-place, columns-out}
-use Rattle.mpslp_mps_sentences.proofs.DeclaredByLines.{is_elsewhere, IsPartOf, lines-kept}
+use Rattle.mpslp_mps_sentences.proofs.{NamesOfWords.Stated, RepeatsOfNames.{last-place, columns-out}, DeclaredByLines.IsPartOf}
+use Rattle.mpslp_mps_sentences.proofs.DeclaredByLines.{lines-kept}
 
 -- ---- a row without limits has a line of type N
 
@@ -58,11 +41,7 @@ pub free_lines-kept : (before : List LineContent) (earlier : Draft) (item : Line
 free_lines-kept before earlier item have row h = lines-kept Rows (λ all. is_free_row all row) (free-part row) (is_free_row_named row) own before earlier item (have row) h
   where
     limited : (all : Draft) (name : List ℕ) (type : RowType) → is_free_definition (by_type type) ≡ false → is_free_row (with_declaration all (declare_row name (by_type type))) row ≡ true → is_free_row all row ≡ true
-    limited all name type e k = by (same_bytes row name) (sym (row-after all name row type) ∙ k)
-      where
-        by : (b : Bool) → cond b (is_free_definition (by_type type)) (is_free_row all row) ≡ true → is_free_row all row ≡ true
-        by true f = absurd (never (is_free_definition (by_type type)) f e)
-        by false f = f
+    limited all name type e k = grind (arith, row-after, never)
 
     free : (all : Draft) (name : List ℕ) (b : Bool) → is_free_row (with_declarations all (cond b (declare_objective name ∷ []) (declare_row name (by_type Free) ∷ []))) row ≡ true
         → (same_bytes name row || is_free_row all row) ≡ true
@@ -75,11 +54,7 @@ free_lines-kept before earlier item have row h = lines-kept Rows (λ all. is_fre
 
     typed : (context : Context) (all : Draft) (line : RowLine) (o : Option RowType) → is_free_row (with_declarations all (declared_if_some (row_of_type context all line.name) o)) row ≡ true
         → ((is_free o && same_bytes line.name row) || is_free_row all row) ≡ true
-    typed context all line None k = k
-    typed context all line (Some Free) k = free all line.name (is_new_objective context all line.name) k
-    typed context all line (Some AtMost) k = limited all line.name AtMost refl k
-    typed context all line (Some AtLeast) k = limited all line.name AtLeast refl k
-    typed context all line (Some Equal) k = limited all line.name Equal refl k
+    typed context all line o k = grind (arith, free, limited)
 
     of : (context : Context) (all : Draft) (o : Option RowLine) → is_free_row (with_declarations all (declared_if_some (row_declared context all) o)) row ≡ true
         → (option_map_or (λ (line : RowLine). is_free (row_type line.letter) && same_bytes line.name row) o false || is_free_row all row) ≡ true
@@ -108,11 +83,7 @@ rows_free-kept before earlier item e have row h =
     next x = with_declarations earlier (line_declares (context_of before) earlier x)
 
     old : (x : LineContent) → Extends earlier (next x) → (is_free_row earlier row || is_objective earlier row) ≡ true → (is_free_row (next x) row || is_objective (next x) row) ≡ true
-    old x f k = of (is_free_row earlier row) refl k
-      where
-        of : (b : Bool) → is_free_row earlier row ≡ b → (b || is_objective earlier row) ≡ true → (is_free_row (next x) row || is_objective (next x) row) ≡ true
-        of true g l = or_left (is_free_row (next x) row) (is_objective (next x) row) (free-after earlier (next x) row f g)
-        of false g l = or_right (is_free_row (next x) row) (is_objective (next x) row) (is_objective-after earlier (next x) row f l)
+    old x f k = grind (arith, or_left, free-after, or_right, is_objective-after, next)
 
     new : (line : RowLine) (b : Bool) → same_bytes line.name row ≡ true
         → (is_free_row (with_declarations earlier (cond b (declare_objective line.name ∷ []) (declare_row line.name (by_type Free) ∷ []))) row || is_objective (with_declarations earlier (cond b (declare_objective line.name ∷ []) (declare_row line.name (by_type Free) ∷ []))) row) ≡ true
@@ -123,11 +94,7 @@ rows_free-kept before earlier item e have row h =
 
     typed : (line : RowLine) (o : Option RowType) → (is_free o && same_bytes line.name row) ≡ true
         → (is_free_row (with_declarations earlier (declared_if_some (row_of_type (context_of before) earlier line.name) o)) row || is_objective (with_declarations earlier (declared_if_some (row_of_type (context_of before) earlier line.name) o)) row) ≡ true
-    typed line None k = absurd (false≢true k)
-    typed line (Some Free) k = new line (is_new_objective (context_of before) earlier line.name) k
-    typed line (Some AtMost) k = absurd (false≢true k)
-    typed line (Some AtLeast) k = absurd (false≢true k)
-    typed line (Some Equal) k = absurd (false≢true k)
+    typed line o k = grind (arith, false≢true, new)
 
     shaped : (o : Option RowLine) → option_map_or (λ (line : RowLine). is_free (row_type line.letter) && same_bytes line.name row) o false ≡ true
         → (is_free_row (with_declarations earlier (declared_if_some (row_declared (context_of before) earlier) o)) row || is_objective (with_declarations earlier (declared_if_some (row_declared (context_of before) earlier) o)) row) ≡ true
@@ -253,11 +220,7 @@ first_named-kept before earlier item good stated extends have name h =
         some = ap is_some e
 
         begun : has_section before Rows ≡ true
-        begun = of_rows (has_section before Rows) refl
-          where
-            of_rows : (b : Bool) → has_section before Rows ≡ b → b ≡ true
-            of_rows true f = refl
-            of_rows false f = absurd (never (is_some earlier.objective) some (stated.known.words.named.none f))
+        begun = grind (arith, never, some)
 
         of : (words : List Fields) → words ≡ [] → (b : Bool) → is_nonempty (free_names before) ≡ b → is_first (stated_names before ++ flat_map (λ fields. fields) words) (free_names before ++ filter_map free_row_name (fields_under Rows (current_section before) item)) ≡ true
         of [] w true f = longer (stated_names before) (free_names before) (filter_map free_row_name (fields_under Rows (current_section before) item)) f k
@@ -265,11 +228,7 @@ first_named-kept before earlier item good stated extends have name h =
             subst (λ (lines : List Fields). is_first (stated_names before ++ []) (free_names before ++ filter_map free_row_name lines) ≡ true) (sym (no-later-rows before earlier item stated columns)) (same (stated_names before) (free_names before) k)
           where
             columns : has_section before Columns ≡ true
-            columns = right (list_any is_free_row_line (data_lines Rows before)) (has_section before Columns) (none-free (data_lines Rows before) f) (stated.free_line some)
-              where
-                right : (a b : Bool) → a ≡ false → (a || b) ≡ true → b ≡ true
-                right true b g l = cc
-                right false b g l = l
+            columns = grind (arith, none-free, some)
         of (fields ∷ words) w b f = cc
 
     -- a new objective, where there was none
@@ -316,11 +275,7 @@ first_named-kept before earlier item good stated extends have name h =
             ap (λ (n : List ℕ). same_bytes n x) (same_name name line.name k) ∙ alike
 
     unchanged : (x : LineContent) → is_none earlier.objective ≡ true → (next x).objective ≡ earlier.objective → is_objective (next x) name ≡ true → Goal x
-    unchanged x e f k = absurd (nobody (next x).objective (ap is_none f ∙ e) k)
-      where
-        nobody : (o : Option (List ℕ)) → is_none o ≡ true → option_map_or (same_bytes name) o false ≡ true → ⊥
-        nobody None g l = absurd (false≢true l)
-        nobody (Some y) g l = cc
+    unchanged x e f k = grind (arith, false≢true, next)
 
     at_header : (keyword : List ℕ) (more : Fields) → is_none earlier.objective ≡ true → (o : Option Section) → section_named keyword ≡ o → is_objective (with_declarations earlier (header_declared (context_of before) earlier more o)) name ≡ true → Goal (header keyword more)
     at_header keyword more e o s k = of (is_section Columns o) refl
@@ -359,16 +314,7 @@ first_named-kept before earlier item good stated extends have name h =
 
         typed : (line : RowLine) (t : Option RowType) → row_type line.letter ≡ t → is_objective (with_declarations earlier (declared_if_some (row_of_type (context_of before) earlier line.name) t)) name ≡ true
             → is_first (stated_names before ++ []) (rest ++ cons_option (cond (is_free t) (Some line.name) None) []) ≡ true
-        typed line None r l = absurd (nobody_here e l)
-        typed line (Some AtMost) r l = absurd (nobody_here e l)
-        typed line (Some AtLeast) r l = absurd (nobody_here e l)
-        typed line (Some Equal) r l = absurd (nobody_here e l)
-        typed line (Some Free) r l = new (is_new_objective (context_of before) earlier line.name) refl l
-          where
-            new : (b : Bool) → is_new_objective (context_of before) earlier line.name ≡ b → is_objective (with_declarations earlier (cond b (declare_objective line.name ∷ []) (declare_row line.name (by_type Free) ∷ []))) name ≡ true
-                → is_first (stated_names before ++ []) (rest ++ line.name ∷ []) ≡ true
-            new true f m = line_named line e (second_so (is_none earlier.objective) (option_map_or (same_bytes line.name) (objname before) true) f) m
-            new false f m = absurd (nobody_here e m)
+        typed line t r l = grind (arith, nobody_here, is_first, rest, line_named)
 
         shaped : (o : Option RowLine) → row_shape fields ≡ o → is_objective (with_declarations earlier (declared_if_some (row_declared (context_of before) earlier) o)) name ≡ true
             → is_first (stated_names before ++ []) (rest ++ filter_map free_row_name (fields ∷ [])) ≡ true
@@ -395,8 +341,4 @@ first_named-kept before earlier item good stated extends have name h =
     fresh (data_line fields) e k = at_data fields e k
 
     by : (o : Option (List ℕ)) → earlier.objective ≡ o → Goal item
-    by (Some x) e =
-        stays x e
-        (have name
-        (ap (λ (o : Option (List ℕ)). option_map_or (same_bytes name) o false) (e ∙ sym (extends.objective x e)) ∙ h))
-    by None e = fresh item (ap is_none e) h
+    by o e = grind (arith, stays, fresh)

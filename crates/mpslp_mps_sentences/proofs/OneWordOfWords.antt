@@ -1,23 +1,13 @@
 -- If OBJSENSE and OBJNAME each have one word, their headers and data lines are well-formed.
-use Rattle.std.proofs.Common.{arith}
-use Rattle.std.proofs.Common.{rules}
-use Rattle.std.proofs.Common.{◌≡◌, refl, sym, ap, ◌∙◌, List, [], ◌∷◌, ◌++◌, ℕ, Bool, true, false, cond}
-use Rattle.std.specs.Prelude.{Option, Some, None, is_some, ◌||◌}
-use Rattle.std.specs.List.{cons_option}
-use Rattle.std.specs.Option.{option_map_or, option_or}
-use Rattle.mpslp_types.proofs.BoolLemmas.{nor}
-use Rattle.mpslp_types.specs.Lists.{when}
-use Rattle.mpslp_mps_fields.specs.Line.{Fields, LineContent, skipped, header, data_line, has, section_named, section_of_header, is_section, section_of_word_due}
-use Rattle.mpslp_mps.specs.Context.{seen_sections, current_section, said_after, is_read, word_due_after, word_due}
-use Rattle.mpslp_mps.specs.SeenSection.{has_section}
-use Rattle.mpslp_mps_sentences.specs.TextInWords.{word_fields, words_in, is_one_word, has_word_at_most}
-use Rattle.mpslp_mps_fields.specs.declared.sections.Section.{Section}
-use Rattle.mpslp_mps_fields.specs.declared.sections.Section.TheVariants.{Name, ObjSense, ObjName, Rows, Columns, Rhs, Ranges, Bounds, EndData}
-use Rattle.mpslp_mps.proofs.OrderLemmas.{never}
-use Rattle.mpslp_mps.proofs.SectionLemmas.{current_section-push}
-use Rattle.mpslp_mps.proofs.ContextLemmas.{word_due-push}
-use Rattle.mpslp_mps_sentences.proofs.WordsOfOneWord.{fits_word, is_single, missing, without_word, with_word, IsUnderway}
-use Rattle.mpslp_mps_sentences.proofs.WordsOfObjName.{none-word_due}
+use Rattle.std.{proofs.Common.{arith, ◌≡◌, refl, ap, ◌∙◌, List, [], ◌∷◌, ◌++◌, ℕ, Bool, true, false}, specs.Prelude.{Option, Some, None}}
+use Rattle.std.specs.{Prelude.{is_some, ◌||◌}, List.cons_option, Option.option_or}
+use Rattle.mpslp_types.{proofs.BoolLemmas.nor, specs.Lists.when}
+use Rattle.mpslp_mps_fields.specs.Line.{Fields, LineContent, skipped, header, data_line, has, section_named, section_of_header, is_section}
+use Rattle.mpslp_mps_fields.specs.declared.sections.Section.{Section, TheVariants.{ObjSense, ObjName}}
+use Rattle.mpslp_mps.specs.{Context.{seen_sections, current_section, said_after, word_due}, SeenSection.has_section}
+use Rattle.mpslp_mps.proofs.{SectionLemmas.current_section-push, ContextLemmas.word_due-push}
+use Rattle.mpslp_mps_sentences.{specs.TextInWords.{word_fields, words_in, has_word_at_most}, proofs.WordsOfOneWord.{fits_word, is_single}}
+use Rattle.mpslp_mps_sentences.proofs.{WordsOfOneWord.IsUnderway, WordsOfObjName.none-word_due}
 
 -- ---- a word is required only under OBJSENSE or OBJNAME
 
@@ -28,9 +18,6 @@ pub wanted_there-kept : (before : List LineContent) (item : LineContent) → IsW
 wanted_there-kept before item there h = grind (arith, current_section-push, word_due-push, none-word_due)
 
 -- ---- what the whole text implies for one line
-
-too-many : (test : List ℕ → Bool) (words : List Fields) (fields : Fields) (more : List Fields) → is_one_word test words ≡ true → has_word_at_most test (words ++ fields ∷ more) ≡ true → ⊥
-too-many test words fields more h k = grind arith
 
 -- a data line of the section has its word, which was missing
 pub line-single : (section : Section) (test : List ℕ → Bool) (before : List LineContent) (fields : Fields) (more : List Fields) → IsUnderway section test before → is_section section (current_section before) ≡ true

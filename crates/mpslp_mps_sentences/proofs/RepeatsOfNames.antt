@@ -1,41 +1,30 @@
 -- Rows and coefficients that a line names again are repeated in the sense of `FaultsInWords`.
-use Rattle.std.proofs.Common.{rules}
 use Rattle.std.proofs.Common.{◌≡◌, refl, sym, ap, ◌∙◌, List, [], ◌∷◌, ◌++◌, ℕ, Bool, true, false, cond, arith}
-use Rattle.std.specs.Prelude.{Option, Some, None, is_none, is_some, not, filter_map, nat_le, ◌||◌, ◌&&◌, codes}
-use Rattle.std.specs.List.{list_any, list_all, last_or, flat_map}
-use Rattle.std.specs.Option.{option_map, option_map_or}
-use Rattle.std.specs.Cmp.{first_so, second_so}
-use Rattle.std.proofs.lemmas.Bool.Decides.{nat_tests}
-use Rattle.mpslp_types.specs.Name.{same_bytes}
-use Rattle.mpslp_types.specs.declared.faults.FaultKind.{FaultKind}
-use Rattle.mpslp_types.specs.declared.faults.FaultKind.TheVariants as kinds
-use Rattle.mpslp_types.specs.declared.kinds.RowType.{RowType}
-use Rattle.mpslp_types.specs.declared.kinds.RowType.TheVariants.{Free, AtMost, AtLeast, Equal}
-use Rattle.mpslp_types.specs.declared.kinds.Sense.{Sense}
+use Rattle.std.{proofs.lemmas.Bool.Decides.nat_tests, specs.Prelude.{Option, Some, None, is_none, is_some, not, nat_le, ◌||◌, ◌&&◌, codes}}
+use Rattle.std.specs.{List.{list_any, list_all, last_or, flat_map}, Option.{option_map, option_map_or}, Cmp.{first_so, second_so}}
+use Rattle.mpslp_types.specs.{Name.same_bytes, declared.{faults.FaultKind.FaultKind, kinds.RowType.RowType}, Lists.{is_nonempty, those_of}}
 use Rattle.mpslp_types.proofs.BoolLemmas.{both_so, both_false, or_left, or_right, so_not}
-use Rattle.mpslp_types.specs.Lists.{head_of, is_nonempty, those_of}
+use Rattle.mpslp_types.specs.declared.faults.FaultKind.TheVariants as kinds
 use Rattle.mpslp_model_core.specs.Model.{CoefficientKey}
-use Rattle.mpslp_builder.specs.Declaration.{by_type, declare_sense, declare_objective, declare_row, declare_column, declare_coefficient, declare_marked, Draft, with_declaration, has_row, has_coefficient}
-use Rattle.mpslp_builder.proofs.SlotLemmas.{has-put_key}
+use Rattle.mpslp_builder.specs.Declaration.{declare_objective, declare_column, declare_coefficient, declare_marked, Draft, with_declaration}
+use Rattle.mpslp_builder.{specs.Declaration.{has_row, has_coefficient}, proofs.SlotLemmas.has-put_key}
 use Rattle.mpslp_lines.specs.FaultTests.{is_kind, value_of, FaultTests}
-use Rattle.mpslp_mps_fields.specs.Line.{Fields, LineContent, skipped, header, data_line, has, section_named, is_section}
-use Rattle.mpslp_mps_fields.specs.DataLine.{RowLine, Pair, ValuesLine, word_shape, sense_of, row_shape, row_type, column_shape, is_marker_line}
-use Rattle.mpslp_mps.specs.Context.{context_of, current_section, seen_sections, data_lines, objname, word_due}
-use Rattle.mpslp_mps.specs.SeenSection.{has_section}
-use Rattle.mpslp_mps_sentences.specs.TextInWords.{section_rank, is_sense, is_one_word, in_order, words_in}
-use Rattle.mpslp_mps.specs.LineFault.{header_tests, data_tests, item_tests}
-use Rattle.mpslp_mps.specs.LineDeclarations.{declared_if_some, sense_declared, is_new_objective, row_of_type, row_declared, coefficient_declared, column_declared, data_declared, header_declared, line_declares}
-use Rattle.mpslp_mps_sentences.specs.FaultsInWords.{IsInWords, has_its_word, names_row, row_name, is_free_row_line, has_default_objective, repeats_row, column_line, has_row_twice, has_entry_of, repeats_entry_of, repeats_entry}
-use Rattle.mpslp_mps_fields.specs.declared.sections.Section.{Section}
-use Rattle.mpslp_mps_fields.specs.declared.sections.Section.TheVariants.{Name, ObjSense, ObjName, Rows, Columns, Rhs, Ranges, Bounds, EndData}
-use Rattle.mpslp_mps.proofs.OrderLemmas.{IsGood, never, header-fresh, each-declared, each-flat, sense-passes, sides-passes, ranges-passes}
-use Rattle.mpslp_mps_sentences.proofs.BoundsPasses.{Passes, bounds-passes}
-use Rattle.mpslp_mps_sentences.proofs.WordsOfObjName.{stated-words}
-use Rattle.mpslp_mps_sentences.proofs.WordsOfOneWord.{missing, without_word, with_word, IsUnderway, sense-word}
-use Rattle.mpslp_mps_sentences.proofs.NamesOfWords.{Stated}
-use Rattle.mpslp_mps_sentences.proofs.FaultedLines.{holds_of, refuses, is_below, IsFirst, in-words}
-use Rattle.mpslp_mps_sentences.proofs.KindsOfLines.{left_only, right_only, kinds_in}
-use Rattle.mpslp_mps_sentences.proofs.FaultsOfNames.{may_refuse, no-one, form-good, some}
+use Rattle.mpslp_mps_fields.specs.{Line.{Fields, LineContent, skipped, header, data_line, has, section_named, is_section}, DataLine.RowLine}
+use Rattle.mpslp_mps_fields.specs.DataLine.{Pair, ValuesLine, word_shape, row_shape, row_type, column_shape, is_marker_line}
+use Rattle.mpslp_mps_fields.specs.declared.sections.Section.{Section, TheVariants.{Name, ObjSense, ObjName, Rows, Columns, Rhs, Ranges}}
+use Rattle.mpslp_mps_fields.specs.declared.sections.Section.TheVariants.{Bounds, EndData}
+use Rattle.mpslp_mps.specs.{Context.{context_of, current_section, seen_sections, data_lines, objname, word_due}, SeenSection.has_section}
+use Rattle.mpslp_mps.specs.{LineFault.{header_tests, data_tests}, LineDeclarations.{declared_if_some, sense_declared, row_of_type}}
+use Rattle.mpslp_mps.specs.LineDeclarations.{row_declared, coefficient_declared, column_declared, data_declared, header_declared}
+use Rattle.mpslp_mps.{specs.LineDeclarations.line_declares, proofs.OrderLemmas.{IsGood, never, header-fresh, each-declared, each-flat}}
+use Rattle.mpslp_mps.proofs.OrderLemmas.{sense-passes, sides-passes, ranges-passes}
+use Rattle.mpslp_mps_sentences.specs.{TextInWords.{section_rank, is_sense, in_order, words_in}, FaultsInWords.{IsInWords, names_row}}
+use Rattle.mpslp_mps_sentences.specs.FaultsInWords.{row_name, has_default_objective, repeats_row, column_line, has_row_twice, has_entry_of}
+use Rattle.mpslp_mps_sentences.{specs.FaultsInWords.{repeats_entry_of, repeats_entry}, proofs.BoundsPasses.{Passes, bounds-passes}}
+use Rattle.mpslp_mps_sentences.proofs.{WordsOfObjName.stated-words, WordsOfOneWord.{missing, without_word, with_word, IsUnderway}}
+use Rattle.mpslp_mps_sentences.proofs.{WordsOfOneWord.sense-word, NamesOfWords.Stated, FaultedLines.{holds_of, refuses, is_below, IsFirst}}
+use Rattle.mpslp_mps_sentences.proofs.{FaultedLines.in-words, KindsOfLines.{left_only, right_only, kinds_in}, FaultsOfNames.may_refuse}
+use Rattle.mpslp_mps_sentences.proofs.FaultsOfNames.{no-one, form-good, some}
 
 -- ---- DuplicateRow
 
@@ -85,62 +74,16 @@ repeated-row before earlier item stated first =
   where
     head : (keyword : List ℕ) (more : Fields) (o : Option Section) → those_of (header_tests (context_of before) earlier keyword more o) ≡ [] → refuses kinds.DuplicateRow earlier (header_declared (context_of before) earlier more o) ≡ true
         → (is_section Columns o && (has_default_objective before && names_row before (codes "obj"))) ≡ true
-    head keyword more None g k = cc
-    head keyword more (Some Name) g k = cc
-    head keyword more (Some ObjSense) g k = no-one kinds.DuplicateRow (header_declared (context_of before) earlier more (Some ObjSense)) earlier (sense-passes (λ d. not (may_refuse kinds.DuplicateRow d)) (λ _. refl) more) k
-    head keyword more (Some ObjName) g k = cc
-    head keyword more (Some Rows) g k = cc
-    head keyword more (Some Columns) g k =
-        default (is_none earlier.objective && is_none (objname before)) refl k
-      where
-        fresh : has_section before Columns ≡ false
-        fresh = header-fresh (context_of before) earlier keyword more Columns g
-
-        default : (b : Bool) → (is_none earlier.objective && is_none (objname before)) ≡ b → refuses kinds.DuplicateRow earlier (cond b (declare_objective (codes "obj") ∷ []) []) ≡ true
-            → (has_default_objective before && names_row before (codes "obj")) ≡ true
-        default true e f =
-            both_so (has_default_objective before) (names_row before (codes "obj"))
-            (default-in_words before earlier stated (first_so (is_none earlier.objective) (is_none (objname before)) e) (second_so (is_none earlier.objective) (is_none (objname before)) e))
-            (row-named before earlier (codes "obj") stated fresh (left_only (has_row earlier (codes "obj")) false refl (left_only (has_row earlier (codes "obj") || false) false refl f)))
-        default false e f = cc
-    head keyword more (Some Rhs) g k = cc
-    head keyword more (Some Ranges) g k = cc
-    head keyword more (Some Bounds) g k = cc
-    head keyword more (Some EndData) g k = cc
+    head keyword more o g k = grind (arith, no-one, sense-passes, may_refuse, header-fresh, refuses, both_so, default-in_words, row-named, left_only)
 
     passes : Passes (λ d. not (may_refuse kinds.DuplicateRow d))
     passes = record { lower = λ _ _. refl; upper = λ _ _. refl; integer = λ _. refl; semi = λ _. refl }
 
     column : (fields : Fields) (b : Bool) → list_all (λ d. not (may_refuse kinds.DuplicateRow d)) (cond b [] (declared_if_some (column_declared (context_of before)) (column_shape fields))) ≡ true
-    column fields true = refl
-    column fields false = each-declared (λ d. not (may_refuse kinds.DuplicateRow d)) (column_declared (context_of before)) (column_shape fields) line
-      where
-        cells : (l : ValuesLine) → list_all (λ d. not (may_refuse kinds.DuplicateRow d)) (flat_map (coefficient_declared l.name) l.pairs) ≡ true
-        cells l = each-flat (λ d. not (may_refuse kinds.DuplicateRow d)) (coefficient_declared l.name) l.pairs (λ pair. refl)
-
-        line : (l : ValuesLine) → list_all (λ d. not (may_refuse kinds.DuplicateRow d)) (column_declared (context_of before) l) ≡ true
-        line l = marks (context_of before).in_integer_part
-          where
-            marks : (b : Bool) → list_all (λ d. not (may_refuse kinds.DuplicateRow d)) (cond b (declare_marked l.name ∷ []) [] ++ flat_map (coefficient_declared l.name) l.pairs) ≡ true
-            marks true = cells l
-            marks false = cells l
+    column fields b = grind (arith, each-declared, may_refuse, each-flat)
 
     typed : (name : List ℕ) (type : RowType) → refuses kinds.DuplicateRow earlier (row_of_type (context_of before) earlier name type) ≡ true → has_row earlier name ≡ true
-    typed name type k = of type k
-      where
-        one : (b : Bool) → ((b || false) || false) ≡ true → b ≡ true
-        one true e = refl
-        one false e = e
-
-        free : (b : Bool) → refuses kinds.DuplicateRow earlier (cond b (declare_objective name ∷ []) (declare_row name (by_type Free) ∷ [])) ≡ true → has_row earlier name ≡ true
-        free true e = one (has_row earlier name) e
-        free false e = one (has_row earlier name) e
-
-        of : (t : RowType) → refuses kinds.DuplicateRow earlier (row_of_type (context_of before) earlier name t) ≡ true → has_row earlier name ≡ true
-        of Free e = free (is_new_objective (context_of before) earlier name) e
-        of AtMost e = one (has_row earlier name) e
-        of AtLeast e = one (has_row earlier name) e
-        of Equal e = one (has_row earlier name) e
+    typed name type k = grind (arith, refuses)
 
     row : (o : Option RowLine) → has_section before Columns ≡ false → refuses kinds.DuplicateRow earlier (declared_if_some (row_declared (context_of before) earlier) o) ≡ true → option_map_or (names_row before) (option_map (λ (line : RowLine). line.name) o) false ≡ true
     row None out k = cc
@@ -232,12 +175,7 @@ repeated-entry before earlier item stated first =
     by item good (good-refused kinds.DuplicateEntry before earlier item good first)
   where
     not_begun : has_section before ObjSense ≡ false → is_some earlier.sense ≡ false
-    not_begun out = stage stated.known.words.sense
-      where
-        stage : IsUnderway ObjSense is_sense before → is_some earlier.sense ≡ false
-        stage (missing, (a, b, c)) = fresh-sense before earlier stated (ap (λ (words : List Fields). is_nonempty (flat_map (λ fields. fields) words)) a)
-        stage (without_word, (a, b, c, d)) = absurd (never (has_section before ObjSense) b out)
-        stage (with_word, (a, b, c)) = absurd (never (has_section before ObjSense) b out)
+    not_begun out = grind (arith, missing, fresh-sense, without_word, never, with_word)
 
     no_word : current_section before ≡ Some ObjSense → is_some (word_due before) ≡ true → is_some earlier.sense ≡ false
     no_word e w = stage stated.known.words.sense
@@ -248,46 +186,16 @@ repeated-entry before earlier item stated first =
         stage (with_word, (a, b, c)) = absurd (never (is_some (word_due before)) w (c (ap (is_section ObjSense) e)))
 
     head : (keyword : List ℕ) (more : Fields) (o : Option Section) → those_of (header_tests (context_of before) earlier keyword more o) ≡ [] → refuses kinds.DuplicateEntry earlier (header_declared (context_of before) earlier more o) ≡ true → false ≡ true
-    head keyword more None g k = k
-    head keyword more (Some Name) g k = k
-    head keyword more (Some ObjSense) g k =
-        absurd (never (refuses kinds.DuplicateEntry earlier (declared_if_some sense_declared (word_shape more))) k (sense-once more earlier (not_begun (header-fresh (context_of before) earlier keyword more ObjSense g))))
-    head keyword more (Some ObjName) g k = k
-    head keyword more (Some Rows) g k = k
-    head keyword more (Some Columns) g k = default (is_none earlier.objective && is_none (context_of before).objname) refl k
-      where
-        default : (b : Bool) → (is_none earlier.objective && is_none (context_of before).objname) ≡ b → refuses kinds.DuplicateEntry earlier (cond b (declare_objective (codes "obj") ∷ []) []) ≡ true → false ≡ true
-        default true e f =
-            absurd (never (refuses kinds.DuplicateEntry earlier (declare_objective (codes "obj") ∷ [])) f
-            (objective-once earlier (codes "obj") (first_so (is_none earlier.objective) (is_none (context_of before).objname) e)))
-        default false e f = f
-    head keyword more (Some Rhs) g k = k
-    head keyword more (Some Ranges) g k = k
-    head keyword more (Some Bounds) g k = k
-    head keyword more (Some EndData) g k = k
+    head keyword more o g k = grind (arith, never, refuses, sense-once, header-fresh, objective-once, not_begun)
 
     passes : Passes (λ d. not (may_refuse kinds.DuplicateEntry d))
     passes = record { lower = λ _ _. refl; upper = λ _ _. refl; integer = λ _. refl; semi = λ _. refl }
 
     row : (name : List ℕ) (type : RowType) → refuses kinds.DuplicateEntry earlier (row_of_type (context_of before) earlier name type) ≡ true → false ≡ true
-    row name Free k = free (is_new_objective (context_of before) earlier name) refl k
-      where
-        free : (b : Bool) → is_new_objective (context_of before) earlier name ≡ b → refuses kinds.DuplicateEntry earlier (cond b (declare_objective name ∷ []) (declare_row name (by_type Free) ∷ [])) ≡ true → false ≡ true
-        free true e f =
-            absurd (never (refuses kinds.DuplicateEntry earlier (declare_objective name ∷ [])) f
-            (objective-once earlier name (first_so (is_none earlier.objective) (option_map_or (same_bytes name) (context_of before).objname true) e)))
-        free false e f = f
-    row name AtMost k = k
-    row name AtLeast k = k
-    row name Equal k = k
+    row name type k = grind (arith, refuses, never, objective-once)
 
     rows : (o : Option RowLine) → refuses kinds.DuplicateEntry earlier (declared_if_some (row_declared (context_of before) earlier) o) ≡ true → false ≡ true
-    rows None k = k
-    rows (Some line) k = of (row_type line.letter) k
-      where
-        of : (t : Option RowType) → refuses kinds.DuplicateEntry earlier (declared_if_some (row_of_type (context_of before) earlier line.name) t) ≡ true → false ≡ true
-        of None e = e
-        of (Some type) e = row line.name type e
+    rows o k = grind (arith, refuses, row)
 
     -- each coefficient that exists has a line
     lines : (line : ValuesLine) (all : Draft) → ((key : CoefficientKey) → has_coefficient all key ≡ has_coefficient earlier key) → refuses kinds.DuplicateEntry all (flat_map (coefficient_declared line.name) line.pairs) ≡ true → repeats_entry_of before line ≡ true

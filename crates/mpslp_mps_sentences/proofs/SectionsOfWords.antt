@@ -1,23 +1,14 @@
 -- What the data lines of a section are together implies their fields, set names and markers, and that columns continue.
-use Rattle.std.proofs.Common.{arith}
-use Rattle.std.proofs.Common.{rules}
-use Rattle.std.proofs.Common.{◌≡◌, refl, sym, ap, ◌∙◌, List, [], ◌∷◌, ◌++◌, append_assoc, ℕ, Bool, true, false, cond}
-use Rattle.std.specs.Prelude.{Option, Some, None, not, ◌&&◌, ◌||◌}
-use Rattle.std.specs.List.{list_all, list_any, last_or, cons_option}
-use Rattle.std.specs.Option.{option_or}
-use Rattle.std.specs.Cmp.{first_so, second_so}
-use Rattle.std.proofs.lemmas.List.Folds.{list_all-append, list_any-append}
-use Rattle.mpslp_types.specs.Name.{same_bytes}
-use Rattle.mpslp_types.proofs.BoolLemmas.{or_left, or_right, not_so}
-use Rattle.mpslp_types.specs.Lists.{head_of, when}
-use Rattle.mpslp_mps_fields.specs.Line.{Fields, LineContent, data_line, section_of_header, is_section}
-use Rattle.mpslp_mps_fields.specs.DataLine.{opening_word, closing_word}
-use Rattle.mpslp_mps.specs.Context.{seen_sections, section_after, current_section, fields_under, said_after, data_lines}
+use Rattle.std.proofs.Common.{arith, ◌≡◌, refl, sym, ap, ◌∙◌, List, [], ◌∷◌, ◌++◌, append_assoc, ℕ, Bool, true, false}
+use Rattle.std.{proofs.lemmas.List.Folds.{list_all-append, list_any-append}, specs.Prelude.{Option, Some, None, not, ◌&&◌, ◌||◌}}
+use Rattle.std.specs.{List.{list_all, list_any, last_or}, Option.option_or, Cmp.{first_so, second_so}}
+use Rattle.mpslp_types.{specs.{Name.same_bytes, Lists.{head_of, when}}, proofs.BoolLemmas.{or_left, or_right, not_so}}
+use Rattle.mpslp_mps_fields.specs.{Line.{Fields, LineContent, data_line, section_of_header, is_section}, DataLine.opening_word}
+use Rattle.mpslp_mps_fields.specs.{DataLine.closing_word, declared.sections.Section.Section}
+use Rattle.mpslp_mps.specs.Context.{section_after, current_section, fields_under, said_after, data_lines}
 use Rattle.mpslp_mps_sentences.specs.TextInWords.{alternate, is_one_set, same_column, entries_after, are_together}
-use Rattle.mpslp_mps_fields.specs.declared.sections.Section.{Section}
-use Rattle.mpslp_mps_sentences.proofs.WordsOfFields.{is_other_set}
-use Rattle.mpslp_mps_sentences.proofs.WordsOfSections.{next_word, opens, opens-next}
-use Rattle.mpslp_mps_sentences.proofs.WordsOfColumns.{Column, last_of, comes_again, one_column, turned}
+use Rattle.mpslp_mps_sentences.proofs.{WordsOfFields.is_other_set, WordsOfSections.{next_word, opens, opens-next}, WordsOfColumns.Column}
+use Rattle.mpslp_mps_sentences.proofs.WordsOfColumns.{last_of, comes_again, one_column, turned}
 
 -- ---- lines, and those after them
 

@@ -1,26 +1,15 @@
 -- Text in the sense of `TextInWords` is MPS text.
-use Rattle.std.proofs.Common.{arith}
-use Rattle.std.proofs.Common.{rules}
-use Rattle.std.proofs.Common.{◌≡◌, refl, sym, ap, subst, List, [], ◌∷◌, ◌++◌, append_assoc, ℕ, Bool, true, false, map}
+use Rattle.std.proofs.Common.{arith, rules, ◌≡◌, refl, sym, ap, subst, List, [], ◌∷◌, ◌++◌, append_assoc, ℕ, Bool, true}
 use Rattle.std.specs.Prelude.{not, ◌&&◌}
-use Rattle.std.specs.List.{list_all}
-use Rattle.mpslp_types.proofs.BoolLemmas.{both_so}
+use Rattle.mpslp_types.{proofs.BoolLemmas.both_so, specs.Lists.is_nonempty}
 use Rattle.mpslp_builder.specs.Declaration.{Draft, empty_draft, with_declarations}
-use Rattle.mpslp_types.specs.Lists.{is_nonempty}
-use Rattle.mpslp_mps_fields.specs.Line.{LineContent, skipped, header, data_line, content_of}
-use Rattle.mpslp_mps.specs.Context.{context_of}
-use Rattle.mpslp_mps.specs.LineDeclarations.{line_declares}
-use Rattle.mpslp_mps.specs.MpsText.{is_mps_text, read_lines, has_end, is_well_formed, lines_in_context}
-use Rattle.mpslp_mps_sentences.specs.TextInWords.{is_text_in_words}
-use Rattle.mpslp_mps.proofs.OrderLemmas.{IsGood}
+use Rattle.mpslp_mps_fields.specs.Line.{LineContent, skipped, header, data_line}
+use Rattle.mpslp_mps.{specs.{Context.context_of, LineDeclarations.line_declares, MpsText.is_mps_text}, proofs.OrderLemmas.IsGood}
 use Rattle.mpslp_mps.proofs.ContextLineLemmas.{form_faults, are_well_formed, lines-good}
-use Rattle.mpslp_mps_sentences.specs.Laws.{TextIsInWords}
-use Rattle.mpslp_mps_sentences.proofs.WordsOfText.{AreInWords, none-yet, one-more, text-in_words}
-use Rattle.mpslp_mps_sentences.proofs.ColumnsOfWords.{HaveLines, lines-push}
-use Rattle.mpslp_mps_sentences.proofs.ObjNameOfWords.{IsDeclared, declared-kept}
-use Rattle.mpslp_mps_sentences.proofs.OneWordOfWords.{IsWantedThere, wanted_there-kept}
-use Rattle.mpslp_mps_sentences.proofs.DataOfWords.{AreGoodLines, data-good}
-use Rattle.mpslp_mps_sentences.proofs.KeywordsOfWords.{AreGoodHeaders, keyword-good}
+use Rattle.mpslp_mps_sentences.{specs.{TextInWords.is_text_in_words, Laws.TextIsInWords}, proofs.WordsOfText.{AreInWords, none-yet}}
+use Rattle.mpslp_mps_sentences.proofs.{WordsOfText.{one-more, text-in_words}, ColumnsOfWords.{HaveLines, lines-push}}
+use Rattle.mpslp_mps_sentences.proofs.{ObjNameOfWords.{IsDeclared, declared-kept}, OneWordOfWords.{IsWantedThere, wanted_there-kept}}
+use Rattle.mpslp_mps_sentences.proofs.{DataOfWords.{AreGoodLines, data-good}, KeywordsOfWords.{AreGoodHeaders, keyword-good}}
 
 both : (a b : Bool) → (a && b) ≡ true → (a ≡ true) × (b ≡ true)
 both a b h = grind arith

@@ -1,27 +1,22 @@
 -- Right-hand sides, ranges and bounds that a draft has are on lines before; MPS text declares no constant and no row by its limits.
-use Rattle.std.proofs.Common.{arith}
-use Rattle.std.proofs.Common.{rules}
-use Rattle.std.proofs.Common.{◌≡◌, refl, sym, ap, ◌∙◌, List, [], ◌∷◌, ◌++◌, ℕ, Bool, true, false, cond, map}
-use Rattle.std.specs.Prelude.{Option, Some, None, not, ◌||◌, ◌&&◌}
-use Rattle.std.specs.List.{list_any, list_all, flat_map}
-use Rattle.std.specs.Option.{option_map_or}
-use Rattle.std.specs.Cmp.{first_so, second_so}
-use Rattle.mpslp_types.specs.Name.{same_bytes}
-use Rattle.mpslp_types.specs.declared.kinds.Limit.{Limit}
-use Rattle.mpslp_types.proofs.BoolLemmas.{or_right, not_so}
-use Rattle.mpslp_builder.specs.Declaration.{RowDefinition, Declaration, declare_constant, declare_row, declare_rhs, declare_range, declare_lower, declare_upper, declare_integer, declare_binary, declare_semi, Declarations, Draft, empty_draft, with_declaration, with_declarations, at_name, has_name, is_free_row, is_row_by_limits, is_definition_by_limits, rhs_declared}
-use Rattle.mpslp_builder.proofs.SlotLemmas.{at-put, has-put}
+use Rattle.std.{proofs.Common.{arith, ◌≡◌, refl, sym, ◌∙◌, List, [], ◌∷◌, ◌++◌, ℕ, Bool, true, false, cond, map}, specs.Prelude.Option}
+use Rattle.std.specs.{Prelude.{Some, None, not, ◌||◌, ◌&&◌}, List.{list_any, list_all, flat_map}, Option.option_map_or, Cmp.first_so}
+use Rattle.std.specs.Cmp.{second_so}
+use Rattle.mpslp_types.{specs.{Name.same_bytes, declared.kinds.Limit.Limit}, proofs.BoolLemmas.{or_right, not_so}}
+use Rattle.mpslp_builder.specs.Declaration.{Declaration, declare_constant, declare_row, declare_rhs, declare_range, declare_lower}
+use Rattle.mpslp_builder.specs.Declaration.{declare_upper, declare_integer, declare_binary, declare_semi, Declarations, Draft, empty_draft}
+use Rattle.mpslp_builder.specs.Declaration.{with_declaration, with_declarations, has_name, is_free_row, is_row_by_limits}
+use Rattle.mpslp_builder.{specs.Declaration.{is_definition_by_limits, rhs_declared}, proofs.SlotLemmas.{at-put, has-put}}
 use Rattle.mpslp_lines.specs.FaultTests.{value_of}
-use Rattle.mpslp_mps_fields.specs.Line.{Fields, LineContent, skipped, header, data_line, section_named}
-use Rattle.mpslp_mps_fields.specs.DataLine.{Pair, ValuesLine, vector_shape, BoundLine, bound_type, bound_shape, is_integer_type, is_semi_type}
-use Rattle.mpslp_mps.specs.Context.{Context, context_of, data_lines}
-use Rattle.mpslp_mps.specs.LineDeclarations.{declared_if_some, rhs_line_declared, ranges_declared, bound_declared, bound_value, bound_line_declared, data_declared, header_declared, line_declares}
+use Rattle.mpslp_mps_fields.specs.{Line.{Fields, LineContent, skipped, header, data_line}, DataLine.{Pair, ValuesLine, vector_shape}}
+use Rattle.mpslp_mps_fields.specs.DataLine.{BoundLine, bound_type, bound_shape, is_integer_type, is_semi_type}
+use Rattle.mpslp_mps_fields.specs.declared.{bound_types.BoundType.BoundType, sections.Section.{Section, TheVariants.{Rhs, Ranges, Bounds}}}
+use Rattle.mpslp_mps.specs.{Context.{Context, context_of, data_lines}, LineDeclarations.{declared_if_some, rhs_line_declared}}
+use Rattle.mpslp_mps.specs.LineDeclarations.{ranges_declared, bound_declared, bound_value, bound_line_declared, data_declared}
+use Rattle.mpslp_mps.specs.LineDeclarations.{line_declares}
 use Rattle.mpslp_mps_sentences.specs.ValueFaultsInWords.{has_value_of, gives_lower, gives_upper, is_such_bound, has_bound}
-use Rattle.mpslp_mps_fields.specs.declared.bound_types.BoundType.{BoundType}
-use Rattle.mpslp_mps_fields.specs.declared.bound_types.BoundType.TheVariants as bounds
-use Rattle.mpslp_mps_fields.specs.declared.sections.Section.{Section}
-use Rattle.mpslp_mps_fields.specs.declared.sections.Section.TheVariants.{Rhs, Ranges, Bounds}
-use Rattle.mpslp_mps_sentences.proofs.DeclaredByLines.{all-so, HoldsInSections, holds_in, data-each, is_of_header, header-each, is_elsewhere, IsPartOf, lines-kept}
+use Rattle.mpslp_mps_sentences.proofs.DeclaredByLines.{all-so, HoldsInSections, holds_in, data-each, is_of_header, header-each, IsPartOf}
+use Rattle.mpslp_mps_sentences.proofs.DeclaredByLines.{lines-kept}
 
 -- ---- no constant, no row by its limits, no binary column
 
@@ -108,17 +103,7 @@ own-sides earlier row (pair ∷ pairs) all h = by (is_free_row earlier pair.row)
     by : (b : Bool) → has_name (with_declarations all (cond b [] (declare_rhs pair.row (value_of pair.literal) ∷ []) ++ more)).rhs_values row ≡ true
         → ((next : Draft) → has_name (with_declarations next more).rhs_values row ≡ true → (list_any (λ p. same_bytes row p.row) pairs || has_name next.rhs_values row) ≡ true)
         → ((same_bytes row pair.row || list_any (λ p. same_bytes row p.row) pairs) || has_name all.rhs_values row) ≡ true
-    by true k rest =
-        turned (same_bytes row pair.row) (list_any (λ p. same_bytes row p.row) pairs) (has_name all.rhs_values row)
-        (wider (list_any (λ p. same_bytes row p.row) pairs) (same_bytes row pair.row) (has_name all.rhs_values row) (rest all k))
-      where
-        wider : (a b c : Bool) → (a || c) ≡ true → (a || (b || c)) ≡ true
-        wider true b c e = refl
-        wider false b c e = or_right b c e
-    by false k rest =
-        turned (same_bytes row pair.row) (list_any (λ p. same_bytes row p.row) pairs) (has_name all.rhs_values row)
-        (sym (ap (λ (b : Bool). list_any (λ p. same_bytes row p.row) pairs || b) (has-put row pair.row (value_of pair.literal) all.rhs_values))
-        ∙ rest (with_declaration all (declare_rhs pair.row (value_of pair.literal))) k)
+    by b k rest = grind (arith, turned, or_right, has-put)
 
 abbrev pub HaveSideLines : List LineContent → Draft → Type 0
 HaveSideLines before earlier = (row : List ℕ) → has_name earlier.rhs_values row ≡ true → list_any (has_value_of row) (data_lines Rhs before) ≡ true
@@ -196,16 +181,7 @@ lower_lines-kept = bound_lines-kept lower_of gives_lower lowers-part each
     put column c v all h = sym (has-put column c v all.lowers) ∙ h
 
     each : (column : List ℕ) (type : BoundType) (c : List ℕ) (v : Limit) (all : Draft) → has_name (with_declarations all (bound_declared type c v)).lowers column ≡ true → ((gives_lower type && same_bytes column c) || has_name all.lowers column) ≡ true
-    each column bounds.Lower c v all h = put column c v all h
-    each column bounds.Upper c v all h = h
-    each column bounds.Fixed c v all h = put column c v all h
-    each column bounds.Free c v all h = put column c _ all h
-    each column bounds.NoLower c v all h = put column c _ all h
-    each column bounds.NoUpper c v all h = h
-    each column bounds.Binary c v all h = put column c _ all h
-    each column bounds.IntegerLower c v all h = put column c v all h
-    each column bounds.IntegerUpper c v all h = h
-    each column bounds.SemiUpper c v all h = h
+    each column type c v all h = grind (arith, put)
 
 pub upper_lines-kept : (before : List LineContent) (earlier : Draft) (item : LineContent) → HaveBoundLines upper_of gives_upper before earlier
     → HaveBoundLines upper_of gives_upper (before ++ item ∷ []) (with_declarations earlier (line_declares (context_of before) earlier item))
@@ -215,16 +191,7 @@ upper_lines-kept = bound_lines-kept upper_of gives_upper uppers-part each
     put column c v all h = sym (has-put column c v all.uppers) ∙ h
 
     each : (column : List ℕ) (type : BoundType) (c : List ℕ) (v : Limit) (all : Draft) → has_name (with_declarations all (bound_declared type c v)).uppers column ≡ true → ((gives_upper type && same_bytes column c) || has_name all.uppers column) ≡ true
-    each column bounds.Lower c v all h = h
-    each column bounds.Upper c v all h = put column c v all h
-    each column bounds.Fixed c v all h = put column c v all h
-    each column bounds.Free c v all h = put column c _ all h
-    each column bounds.NoLower c v all h = h
-    each column bounds.NoUpper c v all h = put column c _ all h
-    each column bounds.Binary c v all h = put column c _ all h
-    each column bounds.IntegerLower c v all h = h
-    each column bounds.IntegerUpper c v all h = put column c v all h
-    each column bounds.SemiUpper c v all h = put column c v all h
+    each column type c v all h = grind (arith, put)
 
 pub integer_lines-kept : (before : List LineContent) (earlier : Draft) (item : LineContent) → HaveBoundLines integer_of is_integer_type before earlier
     → HaveBoundLines integer_of is_integer_type (before ++ item ∷ []) (with_declarations earlier (line_declares (context_of before) earlier item))
@@ -234,16 +201,7 @@ integer_lines-kept = bound_lines-kept integer_of is_integer_type integers-part e
     put column c all h = sym (has-put column c tt all.integers) ∙ h
 
     each : (column : List ℕ) (type : BoundType) (c : List ℕ) (v : Limit) (all : Draft) → has_name (with_declarations all (bound_declared type c v)).integers column ≡ true → ((is_integer_type type && same_bytes column c) || has_name all.integers column) ≡ true
-    each column bounds.Lower c v all h = h
-    each column bounds.Upper c v all h = h
-    each column bounds.Fixed c v all h = h
-    each column bounds.Free c v all h = h
-    each column bounds.NoLower c v all h = h
-    each column bounds.NoUpper c v all h = h
-    each column bounds.Binary c v all h = put column c all h
-    each column bounds.IntegerLower c v all h = put column c all h
-    each column bounds.IntegerUpper c v all h = put column c all h
-    each column bounds.SemiUpper c v all h = h
+    each column type c v all h = grind (arith, put)
 
 pub semi_lines-kept : (before : List LineContent) (earlier : Draft) (item : LineContent) → HaveBoundLines semi_of is_semi_type before earlier
     → HaveBoundLines semi_of is_semi_type (before ++ item ∷ []) (with_declarations earlier (line_declares (context_of before) earlier item))
@@ -253,13 +211,4 @@ semi_lines-kept = bound_lines-kept semi_of is_semi_type semis-part each
     put column c all h = sym (has-put column c tt all.semis) ∙ h
 
     each : (column : List ℕ) (type : BoundType) (c : List ℕ) (v : Limit) (all : Draft) → has_name (with_declarations all (bound_declared type c v)).semis column ≡ true → ((is_semi_type type && same_bytes column c) || has_name all.semis column) ≡ true
-    each column bounds.Lower c v all h = h
-    each column bounds.Upper c v all h = h
-    each column bounds.Fixed c v all h = h
-    each column bounds.Free c v all h = h
-    each column bounds.NoLower c v all h = h
-    each column bounds.NoUpper c v all h = h
-    each column bounds.Binary c v all h = h
-    each column bounds.IntegerLower c v all h = h
-    each column bounds.IntegerUpper c v all h = h
-    each column bounds.SemiUpper c v all h = put column c all h
+    each column type c v all h = grind (arith, put)

@@ -1,30 +1,16 @@
 -- If each line of COLUMNS is well-formed, the lines of each column are contiguous.
-use Rattle.std.proofs.Common.{arith}
-use Rattle.std.proofs.Common.{rules}
-use Rattle.std.proofs.Common.{◌≡◌, refl, sym, ap, ◌∙◌, subst, List, [], ◌∷◌, ◌++◌, ℕ, Bool, true, false, cond, map}
-use Rattle.std.specs.Prelude.{Option, Some, None, not, ◌&&◌, ◌||◌}
-use Rattle.std.specs.List.{list_any, last_or, flat_map}
-use Rattle.std.specs.Option.{option_map, option_map_or}
-use Rattle.std.specs.Cmp.{first_so, second_so}
-use Rattle.std.proofs.lemmas.List.{append-nil, map-append}
-use Rattle.std.proofs.lemmas.List.Folds.{list_any-append}
-use Rattle.mpslp_types.specs.Name.{same_bytes}
-use Rattle.mpslp_types.proofs.BoolLemmas.{both_so, or_left, not_so, so_not}
-use Rattle.mpslp_builder.specs.Declaration.{Declaration, declare_sense, declare_objective, declare_constant, declare_row, declare_rhs, declare_range, declare_column, declare_coefficient, declare_lower, declare_upper, declare_marked, declare_integer, declare_binary, declare_semi, Declarations, Draft, with_declaration, with_declarations, has_column}
-use Rattle.mpslp_types.specs.Lists.{is_nonempty, when}
-use Rattle.mpslp_builder.proofs.LaterDrafts.{more_entries, itself_named}
-use Rattle.mpslp_builder.proofs.SlotLemmas.{same_name, has-put}
-use Rattle.mpslp_mps_fields.specs.Line.{Fields, LineContent, skipped, header, data_line, is_section}
-use Rattle.mpslp_mps_fields.specs.DataLine.{ValuesLine, is_marker_line, column_shape}
-use Rattle.mpslp_mps.specs.Context.{Context, context_of, current_section, fields_under, data_lines, line_column, last_column}
-use Rattle.mpslp_mps.specs.LineDeclarations.{declared_if_some, coefficient_declared, column_declared, columns_line_declared, data_declared, line_declares}
-use Rattle.mpslp_mps.specs.LineFault.{is_split}
-use Rattle.mpslp_mps_sentences.specs.TextInWords.{same_column, entries_after, are_together}
-use Rattle.mpslp_mps_fields.specs.declared.sections.Section.TheVariants.{Columns}
-use Rattle.mpslp_mps.proofs.OrderLemmas.{IsGood}
+use Rattle.std.proofs.Common.{arith, rules, ◌≡◌, refl, sym, ap, ◌∙◌, List, [], ◌∷◌, ◌++◌, ℕ, Bool, true, false, cond, map}
+use Rattle.std.{proofs.lemmas.List.{append-nil, map-append, Folds.list_any-append}, specs.Prelude.{Option, Some, None, not, ◌&&◌, ◌||◌}}
+use Rattle.std.specs.{List.{list_any, last_or}, Option.option_map_or, Cmp.{first_so, second_so}}
+use Rattle.mpslp_types.{specs.{Name.same_bytes, Lists.is_nonempty}, proofs.BoolLemmas.{both_so, or_left, not_so, so_not}}
+use Rattle.mpslp_builder.specs.Declaration.{Declaration, Declarations, Draft, with_declaration, with_declarations, has_column}
+use Rattle.mpslp_builder.proofs.{LaterDrafts.{more_entries, itself_named}, SlotLemmas.{same_name, has-put}}
+use Rattle.mpslp_mps_fields.specs.{Line.{Fields, LineContent}, declared.sections.Section.TheVariants.Columns}
+use Rattle.mpslp_mps.specs.{Context.{Context, context_of, data_lines, line_column, last_column}, LineDeclarations.columns_line_declared}
+use Rattle.mpslp_mps.{specs.{LineDeclarations.line_declares, LineFault.is_split}, proofs.OrderLemmas.IsGood}
 use Rattle.mpslp_mps.proofs.SectionLemmas.{data_lines-push}
-use Rattle.mpslp_mps_sentences.proofs.WordsOfFields.{section-is, column-continues_column}
-use Rattle.mpslp_mps_sentences.proofs.WordsOfSections.{section-kept}
+use Rattle.mpslp_mps_sentences.{specs.TextInWords.{same_column, entries_after, are_together}, proofs.WordsOfFields.section-is}
+use Rattle.mpslp_mps_sentences.proofs.{WordsOfFields.column-continues_column, WordsOfSections.section-kept}
 
 -- the column of a line, if it has one
 abbrev pub Column : Type 0
@@ -101,12 +87,7 @@ together-more x (c ∷ columns) h k =
         nothing-after c c columns none (ap (λ (z : Column). same_column z (last_of c columns)) (one_column c x e) ∙ end)
 
     last : (b : Bool) → same_column c x ≡ b → (is_nonempty (entries_after c columns) && b) ≡ false
-    last true e = ap (λ (a : Bool). a && true) (nothing e)
-    last false e = nowhere (is_nonempty (entries_after c columns))
-      where
-        nowhere : (a : Bool) → (a && false) ≡ false
-        nowhere true = refl
-        nowhere false = refl
+    last b e = grind (arith, nothing)
 
 -- ---- the columns of a draft
 

@@ -1,38 +1,23 @@
 -- A well-formed data line has the fields that its section requires.
-use Rattle.std.proofs.Common.{arith}
-use Rattle.std.proofs.Common.{rules}
-use Rattle.std.proofs.Common.{◌≡◌, refl, sym, ap, ◌∙◌, List, [], ◌∷◌, ◌++◌, ℕ, Bool, true, false, cond}
-use Rattle.std.specs.Prelude.{Option, Some, None, is_some, is_none, is_ok, not, ◌&&◌, ◌||◌, Result, Ok, Err}
-use Rattle.std.specs.List.{list_all}
-use Rattle.std.specs.Option.{option_map, option_map_or}
+use Rattle.std.{proofs.Common.{arith, ◌≡◌, refl, sym, ap, ◌∙◌, List, [], ◌∷◌, ◌++◌, ℕ, Bool, true, false, cond}, specs.Prelude.Option}
+use Rattle.std.specs.{Prelude.{Some, None, is_some, is_none, not, ◌&&◌, ◌||◌}, List.list_all, Option.{option_map, option_map_or}}
 use Rattle.std.specs.Cmp.{first_so}
-use Rattle.mpslp_decimal.specs.Decimal.{Number}
-use Rattle.mpslp_decimal.specs.Literal.{number_of}
-use Rattle.mpslp_decimal.specs.declared.literal.NumberFault.{NumberFault}
 use Rattle.mpslp_decimal.specs.declared.literal.NumberFault.TheVariants.{BadNumber, LongNumber, TooManyDigits, ExponentRange}
-use Rattle.mpslp_types.specs.Name.{same_bytes, is_mps_name, has_name_length, is_visible, marker}
+use Rattle.mpslp_types.specs.{Name.{same_bytes, is_mps_name}, declared.faults.FaultKind.FaultKind, Lists.those_of}
 use Rattle.mpslp_types.proofs.BoolLemmas.{both_so, nor}
-use Rattle.mpslp_types.specs.declared.faults.FaultKind.{FaultKind}
 use Rattle.mpslp_types.specs.declared.faults.FaultKind.TheVariants as kinds
 use Rattle.mpslp_builder.specs.Declaration.{Draft}
-use Rattle.mpslp_types.specs.Lists.{those_of}
-use Rattle.mpslp_builder.proofs.LaterDrafts.{objective_is}
 use Rattle.mpslp_lines.specs.FaultTests.{FaultTests, judged_by, name_tests, number_fault, is_kind, has_number_fault, number_tests}
-use Rattle.mpslp_lines.proofs.FieldLemmas.{name-legal}
-use Rattle.mpslp_lines.proofs.HeldLemmas.{first_test, later_tests}
-use Rattle.mpslp_mps_fields.specs.Line.{Fields, keyword_of, section_named, is_section}
-use Rattle.mpslp_mps_fields.specs.DataLine.{Pair, RowLine, ValuesLine, row_shape, row_type, column_shape, is_marker_line, marker_shape, opening_word, closing_word, vector_shape, BoundLine, bound_type, bound_shape}
-use Rattle.mpslp_mps.specs.Context.{Context, marker_word, line_column, vector_set, bound_set}
-use Rattle.mpslp_mps.specs.LineFault.{literals_of, set_tests, row_line_tests, is_sos_marker, marker_word_tests, marker_tests, is_split, column_tests, columns_line_tests, vector_tests, bound_tests, typed_bound_tests, bound_line_tests}
+use Rattle.mpslp_lines.proofs.{FieldLemmas.name-legal, HeldLemmas.{first_test, later_tests}}
+use Rattle.mpslp_mps_fields.specs.{Line.{Fields, is_section}, DataLine.{Pair, ValuesLine, row_shape, column_shape, is_marker_line}}
+use Rattle.mpslp_mps_fields.specs.DataLine.{marker_shape, opening_word, closing_word, vector_shape, BoundLine, bound_type, bound_shape}
+use Rattle.mpslp_mps_fields.specs.declared.{sections.Section.Section, bound_types.BoundType.BoundType}
+use Rattle.mpslp_mps.specs.{Context.{Context, marker_word, line_column, vector_set, bound_set}, LineFault.{literals_of, set_tests}}
+use Rattle.mpslp_mps.specs.LineFault.{row_line_tests, is_sos_marker, marker_word_tests, marker_tests, is_split, column_tests}
+use Rattle.mpslp_mps.specs.LineFault.{columns_line_tests, vector_tests, bound_tests, typed_bound_tests, bound_line_tests}
 use Rattle.mpslp_mps_sentences.specs.TextInWords.{is_number, have_numbers, is_row_line, is_columns_line, is_vector_line, is_bound_line}
-use Rattle.mpslp_mps_fields.specs.declared.sections.Section.{Section}
-use Rattle.mpslp_mps_fields.specs.declared.sections.Section.TheVariants.{Name, ObjSense, ObjName, Rows, Columns, Rhs, Ranges, Bounds, EndData}
-use Rattle.mpslp_mps_fields.specs.declared.bound_types.BoundType.{BoundType}
 
 -- ---- a section is determined by its keyword
-
-named-itself : (section : Section) → section_named (keyword_of section) ≡ Some section
-named-itself section = grind arith
 
 some-word : (a b : List ℕ) → Some a ≡ Some b → a ≡ b
 some-word a b h = cc

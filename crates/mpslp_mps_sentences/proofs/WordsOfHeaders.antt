@@ -1,28 +1,16 @@
 -- Well-formed headers are in the order of the format, each at most once; data lines are only in sections that take data.
-use Rattle.std.proofs.Common.{arith}
-use Rattle.std.proofs.Common.{rules}
-use Rattle.std.proofs.Common.{◌≡◌, refl, sym, ap, ◌∙◌, subst, List, [], ◌∷◌, ◌++◌, ℕ, Bool, true, false}
-use Rattle.std.specs.Prelude.{Option, Some, None, is_none, not, ◌&&◌, ◌||◌, nat_le}
-use Rattle.std.specs.List.{list_all, list_any, last_or, cons_option}
-use Rattle.std.specs.Option.{option_map_or}
-use Rattle.std.specs.Cmp.{first_so, second_so}
-use Rattle.std.proofs.lemmas.List.{append-nil}
-use Rattle.std.proofs.lemmas.List.Folds.{list_all-append, list_any-append}
-use Rattle.std.proofs.lemmas.List.Elements.{filter_map-append}
-use Rattle.mpslp_types.specs.declared.faults.FaultKind.TheVariants as kinds
-use Rattle.mpslp_types.proofs.BoolLemmas.{both_so, or_left, or_right, back, nor, not_so, so_not}
+use Rattle.std.proofs.{Common.{arith, ◌≡◌, refl, sym, ap, ◌∙◌, subst, List, [], ◌∷◌, ◌++◌, ℕ, Bool, true, false}, lemmas.List.append-nil}
+use Rattle.std.{proofs.lemmas.List.{Folds.{list_all-append, list_any-append}, Elements.filter_map-append}, specs.Prelude.{Option, Some}}
+use Rattle.std.specs.{Prelude.{None, is_none, not, ◌&&◌, ◌||◌, nat_le}, List.{list_all, list_any, last_or, cons_option}, Cmp.first_so}
+use Rattle.std.specs.Cmp.{second_so}
+use Rattle.mpslp_types.{proofs.BoolLemmas.{both_so, or_left, or_right, back, nor, not_so, so_not}, specs.Lists.{those_of, is_nonempty}}
+use Rattle.mpslp_types.specs.Lists.{are_distinct}
 use Rattle.mpslp_builder.specs.Declaration.{Draft}
-use Rattle.mpslp_types.specs.Lists.{those_of, is_nonempty, are_distinct}
-use Rattle.mpslp_lines.specs.FaultTests.{FaultTests}
-use Rattle.mpslp_lines.proofs.HeldLemmas.{first_test, later_tests}
-use Rattle.mpslp_mps_fields.specs.Line.{Fields, LineContent, skipped, header, data_line, has, section_named, section_of_header, is_section, may_follow}
-use Rattle.mpslp_mps.specs.Context.{Context, context_of, seen_sections, current_section}
-use Rattle.mpslp_mps.specs.LineFault.{may_begin, is_out_of_order, section_tests, header_tests, data_tests}
-use Rattle.mpslp_mps_sentences.specs.TextInWords.{section_rank, in_order, same_section, may_have_more, is_good_header, strays, stray_lines}
-use Rattle.mpslp_mps_fields.specs.declared.sections.Section.{Section}
-use Rattle.mpslp_mps_fields.specs.declared.sections.Section.TheVariants.{Name, ObjSense, ObjName, Rows, Columns, Rhs, Ranges, Bounds, EndData}
-use Rattle.mpslp_mps.proofs.OrderLemmas.{IsGood, header-fresh, header-begins}
-use Rattle.mpslp_mps.proofs.SectionLemmas.{said_after-push}
+use Rattle.mpslp_mps_fields.specs.Line.{Fields, LineContent, skipped, header, data_line, has, section_named, section_of_header, is_section}
+use Rattle.mpslp_mps_fields.specs.{Line.may_follow, declared.sections.Section.{Section, TheVariants.{Rows, Columns, EndData}}}
+use Rattle.mpslp_mps.specs.{Context.{Context, context_of, seen_sections}, LineFault.{may_begin, section_tests, header_tests}}
+use Rattle.mpslp_mps.proofs.{OrderLemmas.{IsGood, header-fresh, header-begins}, SectionLemmas.said_after-push}
+use Rattle.mpslp_mps_sentences.specs.TextInWords.{section_rank, in_order, same_section, may_have_more, is_good_header, stray_lines}
 
 -- ---- lists of sections
 

@@ -1,36 +1,22 @@
 -- If well-formed lines have COLUMNS, and OBJNAME gives a name, an N row has it.
-use Rattle.std.proofs.Common.{arith}
-use Rattle.std.proofs.Common.{rules}
-use Rattle.std.proofs.Common.{◌≡◌, refl, sym, ap, ◌∙◌, subst, List, [], ◌∷◌, ◌++◌, ℕ, Bool, true, false, cond}
-use Rattle.std.specs.Prelude.{Option, Some, None, is_some, is_none, not, ◌&&◌, ◌||◌, filter_map}
-use Rattle.std.specs.List.{list_all, list_any, last_or, cons_option, flat_map}
-use Rattle.std.specs.Option.{option_map_or, option_or}
-use Rattle.std.specs.Cmp.{first_so, second_so}
-use Rattle.std.proofs.lemmas.List.Folds.{list_any-append}
-use Rattle.std.proofs.lemmas.List.Elements.{filter_map-append}
-use Rattle.mpslp_types.specs.Name.{same_bytes}
-use Rattle.mpslp_types.specs.declared.kinds.RowType.{RowType}
-use Rattle.mpslp_types.specs.declared.kinds.RowType.TheVariants.{Free, AtMost, AtLeast, Equal}
-use Rattle.mpslp_types.proofs.BoolLemmas.{both_so, or_left, or_right, nor, not_so}
-use Rattle.mpslp_builder.specs.Declaration.{by_type, Declaration, declare_sense, declare_objective, declare_constant, declare_row, declare_rhs, declare_range, declare_column, declare_coefficient, declare_lower, declare_upper, declare_marked, declare_integer, declare_binary, declare_semi, Declarations, Draft, with_declaration, with_declarations}
+use Rattle.std.proofs.Common.{arith, ◌≡◌, refl, sym, ap, ◌∙◌, subst, List, [], ◌∷◌, ◌++◌, ℕ, Bool, true, false, cond}
+use Rattle.std.{proofs.lemmas.List.{Folds.list_any-append, Elements.filter_map-append}, specs.Prelude.{Option, Some, None, is_some}}
+use Rattle.std.specs.{Prelude.{is_none, not, ◌||◌, filter_map}, List.{list_all, list_any, last_or, cons_option, flat_map}}
+use Rattle.std.specs.{Option.{option_map_or, option_or}, Cmp.second_so}
+use Rattle.mpslp_types.{specs.{Name.same_bytes, Lists.{those_of, head_of, when}}, proofs.BoolLemmas.{both_so, or_left, or_right, nor}}
+use Rattle.mpslp_types.proofs.BoolLemmas.{not_so}
+use Rattle.mpslp_builder.specs.Declaration.{Declaration, Declarations, Draft, with_declaration, with_declarations}
 use Rattle.mpslp_builder.specs.Consistency.{declares_objective}
-use Rattle.mpslp_types.specs.Lists.{those_of, head_of, when}
-use Rattle.mpslp_mps_fields.specs.Line.{Fields, LineContent, skipped, header, data_line, has, section_named, section_of_header, begins, is_section, takes_word, section_of_word_due}
-use Rattle.mpslp_mps_fields.specs.DataLine.{RowLine, ValuesLine, word_shape, row_shape, row_type, is_marker_line, column_shape}
-use Rattle.mpslp_mps.specs.Context.{Context, context_of, seen_sections, current_section, fields_under, said_after, data_lines, is_read, word_due_after, word_due, objname_word, objname}
-use Rattle.mpslp_mps.specs.SeenSection.{has_section}
-use Rattle.mpslp_mps_sentences.specs.TextInWords.{word_fields, words_in, has_word_at_most, is_free, is_free_row_named, has_free_row, has_named_objective}
-use Rattle.mpslp_mps.specs.LineDeclarations.{declared_if_some, is_new_objective, row_of_type, row_declared, coefficient_declared, column_declared, columns_line_declared, data_declared, header_declared, line_declares}
-use Rattle.mpslp_mps.specs.LineFault.{lacks_objective, header_tests, data_tests}
-use Rattle.mpslp_mps_fields.specs.declared.sections.Section.{Section}
-use Rattle.mpslp_mps_fields.specs.declared.sections.Section.TheVariants.{Name, ObjSense, ObjName, Rows, Columns, Rhs, Ranges, Bounds, EndData}
-use Rattle.mpslp_mps.proofs.OrderLemmas.{IsGood, never, header-begins, header-complete, each-declared, each-flat, sense-passes, sides-passes, ranges-passes}
-use Rattle.mpslp_mps_sentences.proofs.BoundsPasses.{bounds-passes, Passes}
-use Rattle.mpslp_mps.proofs.SectionLemmas.{has_section-push, data_lines-push}
-use Rattle.mpslp_mps.proofs.ContextLemmas.{word_due-push, objname-push}
-use Rattle.mpslp_mps_sentences.proofs.WordsOfFields.{section-is}
-use Rattle.mpslp_mps_sentences.proofs.WordsOfHeaders.{AreOrdered, rows-there}
-use Rattle.mpslp_mps_sentences.proofs.WordsOfOneWord.{name-word}
+use Rattle.mpslp_mps_fields.specs.Line.{Fields, LineContent, skipped, header, data_line, has, section_named, section_of_header, begins}
+use Rattle.mpslp_mps_fields.specs.{Line.{is_section, takes_word, section_of_word_due}, DataLine.word_shape}
+use Rattle.mpslp_mps_fields.specs.declared.sections.Section.{Section, TheVariants.{ObjName, Rows, Columns}}
+use Rattle.mpslp_mps.specs.Context.{Context, context_of, seen_sections, current_section, said_after, data_lines, word_due, objname_word}
+use Rattle.mpslp_mps.specs.{Context.objname, SeenSection.has_section, LineDeclarations.{data_declared, header_declared, line_declares}}
+use Rattle.mpslp_mps.{specs.LineFault.{lacks_objective, header_tests}, proofs.OrderLemmas.{IsGood, never, header-begins, header-complete}}
+use Rattle.mpslp_mps.proofs.{SectionLemmas.{has_section-push, data_lines-push}, ContextLemmas.{word_due-push, objname-push}}
+use Rattle.mpslp_mps_sentences.specs.TextInWords.{word_fields, words_in, has_word_at_most, is_free_row_named, has_free_row}
+use Rattle.mpslp_mps_sentences.{specs.TextInWords.has_named_objective, proofs.{WordsOfFields.section-is, WordsOfHeaders.AreOrdered}}
+use Rattle.mpslp_mps_sentences.proofs.WordsOfHeaders.{rows-there}
 
 -- ---- lines that declare no objective
 
@@ -43,12 +29,6 @@ objective-same all d h = grind arith
 pub objective-kept : (ds : Declarations) (all : Draft) → are_unnamed ds ≡ true → (with_declarations all ds).objective ≡ all.objective
 objective-kept [] all h = refl
 objective-kept (d ∷ ds) all h = grind (arith, objective-same, objective-kept ds (with_declaration all d) (second_so (not (declares_objective d)) (are_unnamed ds) h))
-
-unnamed-sides : Passes (λ d. not (declares_objective d))
-unnamed-sides = record { lower = λ _ _. refl; upper = λ _ _. refl; integer = λ _. refl; semi = λ _. refl }
-
-columns-line-unnamed : (context : Context) (fields : Fields) → are_unnamed (columns_line_declared context fields) ≡ true
-columns-line-unnamed context fields = grind arith
 
 pub data-unnamed : (context : Context) (earlier : Draft) (fields : Fields) (o : Option Section) → is_section Rows o ≡ false → are_unnamed (data_declared context earlier fields o) ≡ true
 data-unnamed context earlier fields o h = grind arith
@@ -123,17 +103,7 @@ named-kept before earlier item good ordered early n = record {
         header-begins (context_of before) earlier keyword more Columns (subst (λ o. those_of (header_tests (context_of before) earlier keyword more o) ≡ []) (section-is Columns (section_named keyword) e) g)
 
     none_yet : (x : LineContent) → IsGood before earlier x → has_section before Rows ≡ false → is_some (next x).objective ≡ false
-    none_yet skipped g h = n.none h
-    none_yet (header keyword more) g h = by (is_section Columns (section_named keyword)) refl
-      where
-        by : (b : Bool) → is_section Columns (section_named keyword) ≡ b → is_some (next (header keyword more)).objective ≡ false
-        by true e = absurd (never (has_section before Rows) (columns_after_rows keyword more g e) h)
-        by false e = unnamed (header keyword more) (header-unnamed (context_of before) earlier more (section_named keyword) e) ∙ n.none h
-    none_yet (data_line fields) g h = by (is_section Rows (current_section before)) refl
-      where
-        by : (b : Bool) → is_section Rows (current_section before) ≡ b → is_some (next (data_line fields)).objective ≡ false
-        by true e = absurd (never (has_section before Rows) (rows_begun e) h)
-        by false e = unnamed (data_line fields) (data-unnamed (context_of before) earlier fields (current_section before) e) ∙ n.none h
+    none_yet x g h = grind (arith, never, header-unnamed, data-unnamed, next, columns_after_rows, unnamed, rows_begun)
 
     -- an objective that exists was declared in ROWS
     begun : is_some earlier.objective ≡ true → has_section before Rows ≡ true
@@ -179,31 +149,7 @@ named-kept before earlier item good ordered early n = record {
 
     in_rows : (fields : Fields) → IsGood before earlier (data_line fields) → is_section Rows (current_section before) ≡ true → is_some (next (data_line fields)).objective ≡ true
         → has_named_row (before ++ data_line fields ∷ []) ≡ true
-    in_rows fields g here h =
-        of (row_shape fields) refl (subst (λ o. is_some (with_declarations earlier (data_declared (context_of before) earlier fields o)).objective ≡ true) (section-is Rows (current_section before) here) h)
-      where
-        free_so : (line : RowLine) → row_shape fields ≡ Some line → row_type line.letter ≡ Some Free → (stated : List ℕ) → same_bytes line.name stated ≡ true → is_free_row_named stated fields ≡ true
-        free_so line r t stated k =
-            ap (λ (o : Option RowLine). option_map_or (λ (l : RowLine). is_free (row_type l.letter) && same_bytes l.name stated) o false) r
-            ∙ both_so (is_free (row_type line.letter)) (same_bytes line.name stated) (ap is_free t) k
-
-        free : (line : RowLine) → row_shape fields ≡ Some line → row_type line.letter ≡ Some Free → (b : Bool) → is_new_objective (context_of before) earlier line.name ≡ b
-            → is_some (with_declarations earlier (cond b (declare_objective line.name ∷ []) (declare_row line.name (by_type Free) ∷ []))).objective ≡ true → has_named_row (before ++ data_line fields ∷ []) ≡ true
-        free line r t true e k =
-            new_row fields g here line.name (free_so line r t) (second_so (is_none earlier.objective) (option_map_or (same_bytes line.name) (objname before) true) e)
-        free line r t false e k = kept (data_line fields) g k
-
-        typed : (line : RowLine) → row_shape fields ≡ Some line → (o : Option RowType) → row_type line.letter ≡ o
-            → is_some (with_declarations earlier (declared_if_some (row_of_type (context_of before) earlier line.name) o)).objective ≡ true → has_named_row (before ++ data_line fields ∷ []) ≡ true
-        typed line r None t k = kept (data_line fields) g k
-        typed line r (Some Free) t k = free line r t (is_new_objective (context_of before) earlier line.name) refl k
-        typed line r (Some AtMost) t k = kept (data_line fields) g k
-        typed line r (Some AtLeast) t k = kept (data_line fields) g k
-        typed line r (Some Equal) t k = kept (data_line fields) g k
-
-        of : (o : Option RowLine) → row_shape fields ≡ o → is_some (with_declarations earlier (declared_if_some (row_declared (context_of before) earlier) o)).objective ≡ true → has_named_row (before ++ data_line fields ∷ []) ≡ true
-        of None r k = kept (data_line fields) g k
-        of (Some line) r k = typed line r (row_type line.letter) refl k
+    in_rows fields g here h = grind (arith, section-is, both_so, new_row, kept)
 
     later : (x : LineContent) → IsGood before earlier x → is_some (next x).objective ≡ true → has_named_row (before ++ x ∷ []) ≡ true
     later skipped g h = kept skipped g h

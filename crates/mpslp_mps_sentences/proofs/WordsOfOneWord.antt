@@ -1,29 +1,17 @@
 -- In well-formed lines OBJSENSE and OBJNAME each have one word: on the header, or on the one data line after it.
-use Rattle.std.proofs.Common.{arith}
-use Rattle.std.proofs.Common.{rules}
-use Rattle.std.proofs.Common.{◌≡◌, refl, sym, ap, ◌∙◌, subst, List, [], ◌∷◌, ◌++◌, ℕ, Bool, true, false, cond}
-use Rattle.std.specs.Prelude.{Option, Some, None, is_some, is_none, not, ◌||◌}
-use Rattle.std.specs.Option.{option_map_or, option_or}
-use Rattle.std.proofs.lemmas.List.{append-nil}
-use Rattle.mpslp_types.specs.declared.faults.FaultKind.TheVariants as kinds
-use Rattle.mpslp_types.proofs.BoolLemmas.{nor, or_right}
+use Rattle.std.proofs.{Common.{arith, ◌≡◌, refl, sym, subst, List, [], ◌∷◌, ◌++◌, ℕ, Bool, true, false, cond}, lemmas.List.append-nil}
+use Rattle.std.specs.{Prelude.{Option, Some, None, is_some, is_none, not, ◌||◌}, Option.{option_map_or, option_or}}
+use Rattle.mpslp_types.{proofs.BoolLemmas.nor, specs.Lists.{those_of, when}}
 use Rattle.mpslp_builder.specs.Declaration.{Draft}
-use Rattle.mpslp_types.specs.Lists.{those_of, is_nonempty, when}
-use Rattle.mpslp_lines.specs.FaultTests.{judged_by}
-use Rattle.mpslp_lines.proofs.HeldLemmas.{first_test, later_tests}
-use Rattle.mpslp_mps_fields.specs.Line.{Fields, LineContent, skipped, header, data_line, has, section_named, section_of_header, begins, is_section, takes_word, section_of_word_due, may_follow}
-use Rattle.mpslp_mps_fields.specs.DataLine.{sense_of, word_shape}
-use Rattle.mpslp_mps.specs.Context.{Context, context_of, seen_sections, current_section, is_read, word_due_after, word_due}
-use Rattle.mpslp_mps.specs.SeenSection.{has_section}
-use Rattle.mpslp_mps_sentences.specs.TextInWords.{word_fields, words_in, is_one_word, has_word_at_most, is_sense}
-use Rattle.mpslp_mps.specs.LineFault.{word_tests, may_begin, section_tests, header_tests, data_tests}
-use Rattle.mpslp_mps_fields.specs.declared.sections.Section.{Section}
+use Rattle.mpslp_mps_fields.specs.Line.{Fields, LineContent, skipped, header, data_line, has, section_named, section_of_header, begins}
+use Rattle.mpslp_mps_fields.specs.{Line.{is_section, takes_word, section_of_word_due}, declared.sections.Section.Section}
 use Rattle.mpslp_mps_fields.specs.declared.sections.Section.TheVariants.{ObjSense, ObjName}
-use Rattle.mpslp_mps.proofs.OrderLemmas.{IsGood, never, header-ordered, header-fresh}
-use Rattle.mpslp_mps.proofs.SectionLemmas.{has_section-push, current_section-push, said_after-push}
-use Rattle.mpslp_mps.proofs.ContextLemmas.{word_due-push}
+use Rattle.mpslp_mps.specs.Context.{Context, context_of, seen_sections, current_section, is_read, word_due_after, word_due}
+use Rattle.mpslp_mps.{specs.{SeenSection.has_section, LineFault.{may_begin, header_tests, data_tests}}, proofs.OrderLemmas.IsGood}
+use Rattle.mpslp_mps.proofs.{OrderLemmas.{header-ordered, header-fresh}, SectionLemmas.{has_section-push, current_section-push}}
+use Rattle.mpslp_mps.proofs.{SectionLemmas.said_after-push, ContextLemmas.word_due-push}
+use Rattle.mpslp_mps_sentences.specs.TextInWords.{word_fields, words_in, is_one_word, has_word_at_most, is_sense}
 use Rattle.mpslp_mps_sentences.proofs.WordsOfFields.{section-is}
-use Rattle.mpslp_mps_sentences.proofs.WordsOfHeaders.{header-follows}
 
 -- ---- a section of one word, and the test of its word
 
@@ -45,9 +33,6 @@ pub record IsOfOneWord (section : Section) (test : List ℕ → Bool) : Type 0 w
 
 something : {X : Type 0} (o : Option X) → is_none o ≡ false → is_some o ≡ true
 something o k = grind arith
-
-word_due-there : (b : Bool) → not b ≡ false → b ≡ true
-word_due-there b e = grind arith
 
 pub sense-word : IsOfOneWord ObjSense is_sense
 sense-word = grind arith

@@ -1,28 +1,13 @@
 -- What the data lines of a section are together, if each of them is well-formed: their fields, their sets, their markers.
-use Rattle.std.proofs.Common.{arith}
-use Rattle.std.proofs.Common.{rules}
-use Rattle.std.proofs.Common.{◌≡◌, refl, sym, ap, ◌∙◌, subst, List, [], ◌∷◌, ◌++◌, ℕ, Bool, true, false, cond}
-use Rattle.std.specs.Prelude.{Option, Some, None, not, ◌&&◌, filter_map}
-use Rattle.std.specs.List.{list_all, last_or, cons_option}
-use Rattle.std.specs.Option.{option_map_or}
-use Rattle.std.specs.Cmp.{first_so, second_so}
-use Rattle.std.proofs.lemmas.List.{append-nil}
-use Rattle.std.proofs.lemmas.List.Folds.{list_all-append}
-use Rattle.std.proofs.lemmas.List.Elements.{filter_map-append}
-use Rattle.mpslp_types.specs.Name.{same_bytes}
-use Rattle.mpslp_types.proofs.BoolLemmas.{both_so}
-use Rattle.mpslp_builder.specs.Declaration.{Draft}
-use Rattle.mpslp_types.specs.Lists.{those_of, head_of}
-use Rattle.mpslp_builder.proofs.SlotLemmas.{same_name}
-use Rattle.mpslp_mps_fields.specs.Line.{Fields, LineContent, skipped, header, data_line, is_section}
-use Rattle.mpslp_mps_fields.specs.DataLine.{opening_word, closing_word}
-use Rattle.mpslp_mps.specs.Context.{context_of, current_section, fields_under, data_lines, marker_word}
-use Rattle.mpslp_mps.specs.LineFault.{data_tests}
-use Rattle.mpslp_mps_sentences.specs.TextInWords.{alternate, is_one_set}
-use Rattle.mpslp_mps_fields.specs.declared.sections.Section.{Section}
-use Rattle.mpslp_mps.proofs.OrderLemmas.{IsGood}
+use Rattle.std.proofs.Common.{arith, rules, ◌≡◌, refl, sym, ap, ◌∙◌, List, [], ◌∷◌, ◌++◌, ℕ, Bool, true, false, cond}
+use Rattle.std.{proofs.lemmas.List.{append-nil, Folds.list_all-append, Elements.filter_map-append}, specs.Prelude.{Option, Some, None, not}}
+use Rattle.std.specs.{Prelude.filter_map, List.{list_all, last_or, cons_option}, Option.option_map_or, Cmp.{first_so, second_so}}
+use Rattle.mpslp_types.{specs.{Name.same_bytes, Lists.{those_of, head_of}}, proofs.BoolLemmas.both_so}
+use Rattle.mpslp_builder.{specs.Declaration.Draft, proofs.SlotLemmas.same_name}
+use Rattle.mpslp_mps_fields.specs.{Line.{Fields, LineContent}, DataLine.{opening_word, closing_word}, declared.sections.Section.Section}
+use Rattle.mpslp_mps.{specs.{Context.{context_of, data_lines, marker_word}, LineFault.data_tests}, proofs.OrderLemmas.IsGood}
 use Rattle.mpslp_mps.proofs.SectionLemmas.{data_lines-push}
-use Rattle.mpslp_mps_sentences.proofs.WordsOfFields.{section-is, is_other_set}
+use Rattle.mpslp_mps_sentences.{specs.TextInWords.{alternate, is_one_set}, proofs.WordsOfFields.{section-is, is_other_set}}
 
 -- the fields are well-formed in the section, after these lines
 abbrev pub IsGoodUnder : Section → List LineContent → Draft → Fields → Type 0

@@ -1,40 +1,29 @@
 -- MPS text is text in the sense of `TextInWords`.
-use Rattle.std.proofs.Common.{arith}
-use Rattle.std.proofs.Common.{rules}
-use Rattle.std.proofs.Common.{◌≡◌, refl, sym, ap, ◌∙◌, subst, List, [], ◌∷◌, ◌++◌, append_assoc, ℕ, Bool, true, false, map}
-use Rattle.std.specs.Prelude.{Option, Some, None, not, ◌&&◌, ◌||◌, filter_map}
-use Rattle.std.specs.List.{list_all, list_any, last_or, cons_option}
-use Rattle.std.specs.Option.{option_or}
-use Rattle.std.specs.Cmp.{first_so, second_so}
-use Rattle.std.specs.Str.Lines.{lines}
-use Rattle.mpslp_types.specs.declared.faults.FaultKind.TheVariants.{LineTooLong, BadByte}
+use Rattle.std.proofs.Common.{arith, ◌≡◌, refl, sym, subst, List, [], ◌∷◌, ◌++◌, append_assoc, ℕ, Bool, true, false, map}
+use Rattle.std.{proofs.lemmas.List.append-nil, specs.{Prelude.{Option, Some, None, not, ◌&&◌, ◌||◌, filter_map}, List.{list_all, list_any}}}
+use Rattle.std.specs.{List.{last_or, cons_option}, Option.option_or, Cmp.{first_so, second_so}, Str.Lines.lines}
+use Rattle.mpslp_types.specs.{declared.faults.FaultKind.TheVariants.{LineTooLong, BadByte}, Lists.{is_nonempty, those_of}}
 use Rattle.mpslp_types.proofs.BoolLemmas.{both_so}
 use Rattle.mpslp_builder.specs.Declaration.{Draft, empty_draft, with_declarations}
-use Rattle.mpslp_types.specs.Lists.{is_nonempty, those_of}
-use Rattle.mpslp_lines.specs.FaultTests.{has_legal_length, is_legal_byte, FaultTests}
-use Rattle.mpslp_lines.proofs.HeldLemmas.{first_test, later_tests}
-use Rattle.std.proofs.lemmas.List.{append-nil}
-use Rattle.mpslp_mps_fields.specs.Line.{Fields, LineContent, content_of, outside_comment, section_of_header, is_section}
-use Rattle.mpslp_mps.specs.LegalLine.{is_legal_line}
-use Rattle.mpslp_mps_fields.specs.DataLine.{opening_word, closing_word}
-use Rattle.mpslp_mps.specs.Context.{context_of, seen_sections, section_after, current_section, data_lines, marker_word, vector_set, bound_set}
-use Rattle.mpslp_mps.specs.SeenSection.{has_section}
-use Rattle.mpslp_mps_sentences.specs.TextInWords.{are_good_sections, is_good_header, has_good_headers, in_order, stray_lines, is_sense, words_in, has_word_at_most, has_good_words, has_named_objective, is_row_line, is_columns_line, is_vector_line, is_bound_line, have_good_fields, alternate, has_good_markers, are_together, has_whole_columns, is_one_set, has_single_sets, are_good_together, is_text_in_words}
-use Rattle.mpslp_mps.specs.LineDeclarations.{line_declares}
-use Rattle.mpslp_mps.specs.LineFault.{item_tests, line_tests}
-use Rattle.mpslp_mps.specs.MpsText.{is_end, read_lines, has_end, is_well_formed, lines_in_context_after, lines_in_context, is_mps_text}
-use Rattle.mpslp_mps_fields.specs.declared.sections.Section.{Section}
-use Rattle.mpslp_mps_fields.specs.declared.sections.Section.TheVariants.{ObjSense, ObjName, Rows, Columns, Rhs, Ranges, Bounds, EndData}
-use Rattle.mpslp_mps.proofs.OrderLemmas.{IsGood}
-use Rattle.mpslp_mps.proofs.ContextLineLemmas.{are_well_formed, no_faults, items-good}
-use Rattle.mpslp_mps.proofs.KnownLemmas.{good-first, good-rest}
-use Rattle.mpslp_mps.proofs.EndLemmas.{up_to_end, up_to_end-last, up_to_end-more}
-use Rattle.mpslp_mps_sentences.proofs.WordsOfFields.{section-is, row-fields, columns-fields, marker-fits, vector-fields, vector-set, bound-fields, bound-set}
-use Rattle.mpslp_mps_sentences.proofs.WordsOfSections.{fields-kept, set-kept, markers-kept}
-use Rattle.mpslp_mps_sentences.proofs.WordsOfColumns.{AreThere, columns_of, there-push, columns-kept}
-use Rattle.mpslp_mps_sentences.proofs.WordsOfHeaders.{AreOrdered, rows-there, columns-there, ordered-kept, headers-kept, strays-kept}
-use Rattle.mpslp_mps_sentences.proofs.WordsOfOneWord.{IsUnderway, missing, sense-word, name-word, word-kept, word-at_end}
-use Rattle.mpslp_mps_sentences.proofs.WordsOfObjName.{IsWantedEarly, wanted_early-kept, IsNamedSo, named-kept, section-begun, named-in_words}
+use Rattle.mpslp_lines.{specs.FaultTests.{has_legal_length, is_legal_byte, FaultTests}, proofs.HeldLemmas.{first_test, later_tests}}
+use Rattle.mpslp_mps_fields.specs.{Line.{LineContent, content_of, outside_comment, is_section}, DataLine.{opening_word, closing_word}}
+use Rattle.mpslp_mps_fields.specs.declared.sections.Section.{Section, TheVariants.{ObjSense, ObjName, Rows, Columns, Rhs, Ranges, Bounds}}
+use Rattle.mpslp_mps_fields.specs.declared.sections.Section.TheVariants.{EndData}
+use Rattle.mpslp_mps.specs.{LegalLine.is_legal_line, Context.{context_of, seen_sections, section_after, current_section, data_lines}}
+use Rattle.mpslp_mps.specs.{Context.{marker_word, vector_set, bound_set}, LineDeclarations.line_declares, LineFault.item_tests}
+use Rattle.mpslp_mps.specs.{LineFault.line_tests, MpsText.{is_end, read_lines, has_end, is_well_formed, lines_in_context_after}}
+use Rattle.mpslp_mps.{specs.MpsText.{lines_in_context, is_mps_text}, proofs.{OrderLemmas.IsGood, ContextLineLemmas.are_well_formed}}
+use Rattle.mpslp_mps.proofs.{ContextLineLemmas.{no_faults, items-good}, KnownLemmas.{good-first, good-rest}, EndLemmas.up_to_end}
+use Rattle.mpslp_mps.proofs.EndLemmas.{up_to_end-last, up_to_end-more}
+use Rattle.mpslp_mps_sentences.specs.TextInWords.{is_good_header, stray_lines, is_sense, is_row_line, is_columns_line, is_vector_line}
+use Rattle.mpslp_mps_sentences.specs.TextInWords.{is_bound_line, alternate, are_together, is_one_set, are_good_together, is_text_in_words}
+use Rattle.mpslp_mps_sentences.proofs.WordsOfFields.{section-is, row-fields, columns-fields, marker-fits, vector-fields, vector-set}
+use Rattle.mpslp_mps_sentences.proofs.{WordsOfFields.{bound-fields, bound-set}, WordsOfSections.{fields-kept, set-kept, markers-kept}}
+use Rattle.mpslp_mps_sentences.proofs.{WordsOfColumns.{AreThere, columns_of, there-push, columns-kept}, WordsOfHeaders.AreOrdered}
+use Rattle.mpslp_mps_sentences.proofs.WordsOfHeaders.{rows-there, columns-there, ordered-kept, headers-kept, strays-kept}
+use Rattle.mpslp_mps_sentences.proofs.WordsOfOneWord.{IsUnderway, sense-word, name-word, word-kept, word-at_end}
+use Rattle.mpslp_mps_sentences.proofs.WordsOfObjName.{IsWantedEarly, wanted_early-kept, IsNamedSo, named-kept, section-begun}
+use Rattle.mpslp_mps_sentences.proofs.WordsOfObjName.{named-in_words}
 
 -- ---- what well-formed lines are together
 
@@ -108,11 +97,7 @@ ends-last (line ∷ ls) current h = by (λ c k. ends-last ls c k) (is_end line) 
 
     by : ((c : Option Section) → list_any is_end ls ≡ true → is_section EndData (section_after c (map content_of (up_to_end ls))) ≡ true)
         → (b : Bool) → is_end line ≡ b → (b || list_any is_end ls) ≡ true → is_section EndData (section_after current (map content_of (up_to_end (line ∷ ls)))) ≡ true
-    by rest true e k = ap (λ (xs : List (List ℕ)). is_section EndData (section_after current (map content_of xs))) (up_to_end-last line ls e) ∙ last (section_of_header (content_of line)) e
-    by rest false e k =
-        ap (λ (xs : List (List ℕ)). is_section EndData (section_after current (map content_of xs))) (up_to_end-more line ls e)
-        ∙ ap (is_section EndData) (sym (passed (section_of_header (content_of line)) (map content_of (up_to_end ls))))
-        ∙ rest (option_or (section_of_header (content_of line)) current) k
+    by rest b e k = grind (arith, up_to_end-last, up_to_end-more, up_to_end, last, passed)
 
 legal-lines : (ls : List (List ℕ)) (before : List LineContent) (earlier : Draft) → list_all is_well_formed (lines_in_context_after before earlier ls) ≡ true → list_all is_legal_line ls ≡ true
 legal-lines [] before earlier h = refl

@@ -1,11 +1,10 @@
 -- `FaultsInWords` on worked lines, by computation: each definition holds for lines with its error, and for no correct line.
-use Rattle.std.proofs.Common.{◌≡◌, refl}
-use Rattle.std.specs.Prelude.{ℕ, Bool, true, false, ◌||◌, List, [], ◌∷◌, ◌++◌, map, codes}
-use Rattle.std.specs.List.{list_all, list_any}
+use Rattle.std.{proofs.Common.{◌≡◌, refl}, specs.{Prelude.{ℕ, Bool, true, false, ◌||◌, List, [], ◌∷◌, ◌++◌, map, codes}, List.list_all}}
+use Rattle.std.specs.List.{list_any}
 use Rattle.mpslp_mps_fields.specs.Line.{LineContent, content_of}
-use Rattle.mpslp_mps.specs.MpsText.{read_lines}
-use Rattle.mpslp_mps_sentences.specs.FaultsInWords.{repeats_section, occurs_out_of_order, is_wrong_marker, is_of_second_set, splits_column, repeats_row, names_unknown_row, names_unknown_column, repeats_entry}
-use Rattle.mpslp_mps.proofs.WorkedFiles.{small, ranges, semi_columns, maximized, integer_bounds}
+use Rattle.mpslp_mps.{specs.MpsText.read_lines, proofs.WorkedFiles.{small, ranges, semi_columns, maximized, integer_bounds}}
+use Rattle.mpslp_mps_sentences.specs.FaultsInWords.{repeats_section, occurs_out_of_order, is_wrong_marker, is_of_second_set, splits_column}
+use Rattle.mpslp_mps_sentences.specs.FaultsInWords.{repeats_row, names_unknown_row, names_unknown_column, repeats_entry}
 
 abbrev lines_before : List LineContent
 lines_before = map content_of

@@ -1,16 +1,15 @@
 -- `ValueFaultsInWords` on worked lines, by computation: each definition holds for lines with its error, and for no near miss.
-use Rattle.std.proofs.Common.{◌≡◌, refl}
-use Rattle.std.specs.Prelude.{ℕ, Bool, true, false, ◌||◌, List, [], ◌∷◌, ◌++◌, map, Option, Some, codes}
+use Rattle.std.{proofs.Common.{◌≡◌, refl}, specs.Prelude.{ℕ, Bool, true, false, ◌||◌, List, [], ◌∷◌, ◌++◌, map, Option, Some, codes}}
 use Rattle.std.specs.List.{list_any}
 use Rattle.mpslp_decimal.specs.Decimal.{trailing_zeros}
-use Rattle.mpslp_types.specs.declared.faults.Fault.{Fault}
-use Rattle.mpslp_types.specs.declared.faults.FaultKind.TheVariants.{DuplicateBound, DuplicateRange, DuplicateRhs, RangeOnFree, SemiContinuous}
+use Rattle.mpslp_types.specs.declared.faults.{Fault.Fault, FaultKind.TheVariants.{DuplicateBound, DuplicateRange, DuplicateRhs}}
+use Rattle.mpslp_types.specs.declared.faults.FaultKind.TheVariants.{RangeOnFree, SemiContinuous}
 use Rattle.mpslp_lines.specs.FaultTests.{fault_on_line}
 use Rattle.mpslp_mps_fields.specs.Line.{LineContent, content_of}
-use Rattle.mpslp_mps.specs.MpsText.{read_lines}
-use Rattle.mpslp_mps.specs.FirstFault.{first_mps_fault}
+use Rattle.mpslp_mps.{specs.{MpsText.read_lines, FirstFault.first_mps_fault}, proofs.WorkedFiles.{text, Passes, small, ranges}}
+use Rattle.mpslp_mps.proofs.WorkedFiles.{binary_bound, integer_without_upper, constant, negative_upper, infinite_bounds, integer_bounds}
+use Rattle.mpslp_mps.proofs.WorkedFiles.{semi_columns, maximized, named_on_header}
 use Rattle.mpslp_mps_sentences.specs.ValueFaultsInWords.{repeats_side, repeats_range, repeats_bound, ranges_free_row, makes_both_kinds}
-use Rattle.mpslp_mps.proofs.WorkedFiles.{text, Passes, small, ranges, binary_bound, integer_without_upper, constant, negative_upper, infinite_bounds, integer_bounds, semi_columns, maximized, named_on_header}
 
 abbrev is_it : (List LineContent → LineContent → Bool) → List (List ℕ) → List ℕ → Bool
 is_it is_such before line = is_such (map content_of before) (content_of line)

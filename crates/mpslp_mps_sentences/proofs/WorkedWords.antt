@@ -1,6 +1,5 @@
 -- Worked files satisfy `TextInWords` if they declare a model, and not if they have an error of form, by computation.
-use Rattle.std.proofs.Common.{◌≡◌, refl}
-use Rattle.std.specs.Prelude.{ℕ, ◌-◌, Bool, true, false, List, ◌∷◌, [], ◌++◌, map, take, drop, codes}
+use Rattle.std.{proofs.Common.{◌≡◌, refl}, specs.Prelude.{ℕ, ◌-◌, Bool, true, false, List, ◌∷◌, [], ◌++◌, map, take, drop, codes}}
 use Rattle.mpslp_decimal.specs.Decimal.{trailing_zeros}
 use Rattle.mpslp_mps_sentences.specs.TextInWords.{is_text_in_words}
 use Rattle.mpslp_mps.proofs.WorkedFiles.{text, small, small_with_returns, small_with_text_after_end, small_maximized, ranges}
