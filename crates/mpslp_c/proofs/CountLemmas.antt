@@ -1,21 +1,13 @@
 -- Each nonzero is in one column: the columns of a well-formed model together have all of them.
-use Rattle.std.proofs.Common.{◌≡◌, refl, sym, ap, ◌∙◌, subst, ℕ, ◌+◌, List, [], ◌∷◌, length, map, Bool, true, false, cond, not, filter, arith, zero-add}
-use Rattle.std.proofs.lemmas.List.{take_all}
-use Rattle.std.specs.Prelude.{sum_by, ◌&&◌, ◌||◌}
-use Rattle.std.specs.List.{list_all}
-use Rattle.std.specs.Ordering.{is_lt}
-use Rattle.std.specs.Cmp.{first_so, second_so, tied_itself}
-use Rattle.std.specs.Cmp.Lexicographic.{bytes_decides}
-use Rattle.std.specs.FinMap as maps
-use Rattle.std.specs.FinMap.{is_sorted}
+use Rattle.std.proofs.Common.{rules, ◌≡◌, refl, sym, ap, ◌∙◌, subst, ℕ, ◌+◌, List, [], ◌∷◌, length, map, Bool, true, false, cond, not}
+use Rattle.std.{proofs.{Common.{filter, arith, zero-add}, lemmas.List.{take_all, Sums.sum_by-cons}}, specs.Prelude.{sum_by, ◌&&◌, ◌||◌}}
+use Rattle.std.specs.{List.list_all, Ordering.is_lt, Cmp.{first_so, second_so, Lexicographic.bytes_decides}, FinMap.is_sorted}
 use Rattle.std.specs.FinMap.Entries.{below_all}
-use Rattle.std.proofs.lemmas.List.Sums.{sum_by-cons}
+use Rattle.std.specs.FinMap as maps
 use Rattle.mpslp_decimal.specs.Decimal.{Number, is_decimal, is_zero}
-use Rattle.mpslp_types.specs.Name.{same_bytes, bytes_cmp, is_one_of}
-use Rattle.mpslp_model_core.specs.Model.{LinearModel, CoefficientKey, IsSound, is_sound_coefficient}
-use Rattle.mpslp_model_core.specs.Views.{column_names, num_columns, num_elements, is_element}
-use Rattle.mpslp_model_core.proofs.KeyLemmas.{bytes_total}
-use Rattle.mpslp_types.proofs.BoolLemmas.{true_from}
+use Rattle.mpslp_types.{specs.Name.{same_bytes, bytes_cmp, is_one_of}, proofs.BoolLemmas.true_from}
+use Rattle.mpslp_model_core.specs.{Model.{LinearModel, CoefficientKey, IsSound, is_sound_coefficient}, Views.{column_names, num_columns}}
+use Rattle.mpslp_model_core.{specs.Views.{num_elements, is_element}, proofs.KeyLemmas.bytes_total}
 use Rattle.mpslp_c.specs.Arrays.{column_len, elements_before}
 
 -- ---- sums
@@ -32,15 +24,7 @@ sum-both {X} f g (x ∷ xs) =
 -- ---- a name occurs once among the keys of a map
 
 not_same : (n c : List ℕ) → is_lt (bytes_cmp c n) ≡ true → same_bytes n c ≡ false
-not_same n c below =
-    elim (same_bytes n c) as (λ b. same_bytes n c ≡ b → b ≡ false) [
-      | false ↦ λ _. refl
-      | true ↦ λ is.
-          let same : n ≡ c = (bytes_decides n c).0 is in
-          let tied : is_lt (bytes_cmp c c) ≡ false = ap is_lt (tied_itself bytes_total c) in
-          let less : is_lt (bytes_cmp c c) ≡ true = subst (λ (k : List ℕ). is_lt (bytes_cmp c k) ≡ true) same below in
-          absurd cc
-    ] refl
+not_same n c below = search (rules, bytes_total)
 
 is_name : List ℕ → List ℕ → ℕ
 is_name c n = cond (same_bytes n c) 1 0

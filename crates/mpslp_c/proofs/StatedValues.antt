@@ -1,27 +1,17 @@
 -- The numbers, limits and names in the arrays of a well-formed model are given back unchanged.
-use Rattle.std.proofs.Common.{◌≡◌, refl, sym, ap, ◌∙◌, ℕ, List, Bool, true, false, not, Result, Ok, Err, None, ◌*◌, ◌+◌, ◌^◌, length, arith, le-leb}
-use Rattle.std.specs.Prelude.{ℤ, pos, negsuc, ◌-ℤ◌, ◌&&◌, unsigned_abs, int_le, int_lt, nat_le, if◌then◌else◌}
-use Rattle.std.specs.List.{list_all}
-use Rattle.std.specs.Option.{option_map_or}
-use Rattle.std.specs.Ordering.{int_eq}
-use Rattle.std.specs.Cmp.{first_so, second_so}
-use Rattle.std.proofs.lemmas.Int.{ints}
+use Rattle.std.proofs.Common.{◌≡◌, refl, sym, ap, ◌∙◌, ℕ, List, Bool, true, false, not, Result, Ok, Err, None, ◌*◌, ◌+◌, ◌^◌, length, arith}
+use Rattle.std.{proofs.{Common.le-leb, lemmas.Int.ints}, specs.Prelude.{ℤ, pos, negsuc, ◌-ℤ◌, ◌&&◌, unsigned_abs, int_le, int_lt, nat_le}}
+use Rattle.std.specs.{Prelude.if◌then◌else◌, List.list_all, Option.option_map_or, Ordering.int_eq, Cmp.{first_so, second_so}}
 use Rattle.mpslp_decimal.specs.Decimal.{Number, IsDecimal, is_zero, is_normal, normal, has_few_digits, has_small_exponent}
-use Rattle.mpslp_decimal.specs.Literal.{to_signed}
-use Rattle.mpslp_decimal.proofs.NormalLemmas.{normal-tens}
-use Rattle.mpslp_decimal.proofs.NumberTextLemmas.{signed-size, nonzero-ends, zero-is}
-use Rattle.mpslp_types.specs.Limit.{is_given, is_lower_side, is_upper_side}
-use Rattle.mpslp_types.specs.Name.{is_mps_name, has_name_length, is_visible, same_bytes, marker}
-use Rattle.mpslp_types.specs.NameTests.{name_refusal}
-use Rattle.mpslp_types.specs.declared.faults.FaultKind.{FaultKind}
-use Rattle.mpslp_types.specs.declared.faults.FaultKind.TheVariants.{TooManyDigits, ExponentRange, BadNumber, NameLength}
-use Rattle.mpslp_types.specs.declared.kinds.Limit.{Limit}
+use Rattle.mpslp_decimal.{specs.Literal.to_signed, proofs.{NormalLemmas.normal-tens, NumberTextLemmas.{signed-size, nonzero-ends, zero-is}}}
+use Rattle.mpslp_types.specs.{Limit.{is_given, is_lower_side, is_upper_side}, Name.{is_mps_name, has_name_length, is_visible, same_bytes}}
+use Rattle.mpslp_types.specs.{Name.marker, NameTests.name_refusal, declared.faults.FaultKind.{FaultKind, TheVariants.TooManyDigits}}
+use Rattle.mpslp_types.specs.declared.{faults.FaultKind.TheVariants.{ExponentRange, BadNumber, NameLength}, kinds.Limit.Limit}
 use Rattle.mpslp_types.specs.declared.kinds.Limit.TheVariants.{MinusInf, Finite, PlusInf}
 use Rattle.mpslp_builder.proofs.SoundParts.{no_marker, bounded_so, bounded_finite}
-use Rattle.mpslp_c.specs.Arrays.{RepresentsNumber, RepresentsLimit, RepresentsName}
-use Rattle.mpslp_c.specs.Stored.{given_number, decimal_given, number_given, finite_limit, limit_given, kind_of_name_fault, bytes_at, name_given}
-use Rattle.mpslp_c.specs.declared.numbers.MpslpNumber.{MpslpNumber}
-use Rattle.mpslp_c.specs.declared.arrays.MpslpName.{MpslpName}
+use Rattle.mpslp_c.specs.{Arrays.{RepresentsNumber, RepresentsLimit, RepresentsName}, Stored.{given_number, decimal_given, number_given}}
+use Rattle.mpslp_c.specs.Stored.{finite_limit, limit_given, kind_of_name_fault, bytes_at, name_given}
+use Rattle.mpslp_c.specs.declared.{numbers.MpslpNumber.MpslpNumber, arrays.MpslpName.MpslpName}
 
 -- ---- numbers
 

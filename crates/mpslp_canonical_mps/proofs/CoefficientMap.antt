@@ -1,29 +1,17 @@
 -- The coefficients of the canonical declarations of a well-formed listing, without zeros, are those of the listing.
-use Rattle.std.proofs.Common.{arith}
-use Rattle.std.proofs.Common.{rules}
-use Rattle.std.proofs.Common.{◌≡◌, refl, sym, ap, ◌∙◌, List, [], ◌∷◌, ◌++◌, ℕ, Bool, true, false, not, cond, map}
-use Rattle.std.specs.Prelude.{Option, Some, None, is_some, filter, filter_map, ◌&&◌, ◌||◌}
-use Rattle.std.specs.List.{flat_map, cons_option}
-use Rattle.std.specs.Option.{option_map}
-use Rattle.std.specs.Cmp.{first_so, second_so}
-use Rattle.std.specs.FinMap.{find}
+use Rattle.std.proofs.Common.{arith, ◌≡◌, refl, sym, ap, ◌∙◌, List, [], ◌∷◌, ◌++◌, ℕ, Bool, true, false, not, cond, map}
+use Rattle.std.specs.{Prelude.{Option, Some, None, is_some, filter, filter_map, ◌&&◌, ◌||◌}, List.{flat_map, cons_option}}
+use Rattle.std.specs.{Option.option_map, Cmp.{first_so, second_so}, FinMap.find}
 use Rattle.mpslp_decimal.specs.Decimal.{Number, is_decimal, is_zero}
-use Rattle.mpslp_types.specs.Name.{same_bytes, is_one_of}
-use Rattle.mpslp_model_core.specs.Model.{Column, CoefficientKey, key_cmp, Listing}
-use Rattle.mpslp_builder.specs.Declaration.{empty_draft, names_in}
-use Rattle.mpslp_types.proofs.EachLemmas.{Each, Each-append, Each-flat_map, Each-all}
-use Rattle.mpslp_model_core.proofs.PutsLemmas.{puts, find-front, some_cons, some_append_left, some_append_right}
-use Rattle.mpslp_builder.proofs.DraftLemmas.{coefficients-all}
-use Rattle.mpslp_builder.proofs.DraftEntries.{same_key}
-use Rattle.mpslp_builder.proofs.LaterDrafts.{value_in}
-use Rattle.mpslp_builder.proofs.SlotLemmas.{same_name}
-use Rattle.mpslp_builder.proofs.SortedDrafts.{key_total}
-use Rattle.mpslp_builder.proofs.NamedEntries.{any-name}
-use Rattle.mpslp_canonical_mps.specs.CanonicalMps.{cell_at, column_coefficients, printed_coefficients, is_integer_column, is_plain_column}
-use Rattle.mpslp_canonical_mps.proofs.CanonicalContents.{to_cell, cells_in}
+use Rattle.mpslp_types.{specs.Name.{same_bytes, is_one_of}, proofs.EachLemmas.{Each, Each-append, Each-flat_map, Each-all}}
+use Rattle.mpslp_model_core.{specs.Model.{Column, CoefficientKey, key_cmp, Listing}, proofs.PutsLemmas.{puts, find-front, some_cons}}
+use Rattle.mpslp_model_core.proofs.PutsLemmas.{some_append_left, some_append_right}
+use Rattle.mpslp_builder.{specs.Declaration.{empty_draft, names_in}, proofs.{DraftLemmas.coefficients-all, DraftEntries.same_key}}
+use Rattle.mpslp_builder.proofs.{LaterDrafts.value_in, SlotLemmas.same_name, SortedDrafts.key_total, NamedEntries.any-name}
 use Rattle.mpslp_builder.proofs.EntryLemmas.{puts-kept, found-each, filter-not_not, found-either}
-use Rattle.mpslp_canonical_mps.proofs.ListedParts.{own_coefficient, listed_decl, from_cells, coefficients-part}
-use Rattle.mpslp_canonical_mps.proofs.DraftMaps.{is_sound_entry, IsSoundListing, drafted}
+use Rattle.mpslp_canonical_mps.specs.CanonicalMps.{cell_at, column_coefficients, printed_coefficients, is_integer_column, is_plain_column}
+use Rattle.mpslp_canonical_mps.proofs.{CanonicalContents.{to_cell, cells_in}, ListedParts.{own_coefficient, listed_decl, from_cells}}
+use Rattle.mpslp_canonical_mps.proofs.{ListedParts.coefficients-part, DraftMaps.{is_sound_entry, IsSoundListing, drafted}}
 
 abbrev pub is_kept : Number → Bool
 is_kept value = not (is_zero value)

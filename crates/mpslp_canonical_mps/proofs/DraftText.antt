@@ -1,21 +1,12 @@
 -- The canonical text of the model of a draft, from the draft's lists.
-use Rattle.std.proofs.Common.{◌≡◌, ◌∙◌, ap, List, [], ◌∷◌, ℕ, Bool, true, map, drop, get_or}
-use Rattle.std.specs.Prelude.{Option, None}
-use Rattle.mpslp_types.specs.declared.faults.Fault.{Fault}
-use Rattle.mpslp_types.specs.declared.faults.BuildFault.{BuildFault}
-use Rattle.mpslp_types.proofs.EachLemmas.{Each}
-use Rattle.std.specs.Prelude.{◌&&◌, not, filter, unwrap_or}
-use Rattle.std.specs.Cmp.{first_so, second_so}
-use Rattle.std.specs.FinMap.{is_sorted, entries-from_sorted}
+use Rattle.std.{proofs.Common.{◌≡◌, ◌∙◌, ap, List, [], ◌∷◌, ℕ, Bool, true, map, drop, get_or}, specs.Prelude.{Option, None, ◌&&◌, not}}
+use Rattle.std.specs.{Prelude.{filter, unwrap_or}, Cmp.{first_so, second_so}, FinMap.{is_sorted, entries-from_sorted}}
+use Rattle.mpslp_types.specs.{declared.{faults.{Fault.Fault, BuildFault.BuildFault}, kinds.Sense.TheVariants.Minimize}, Name.bytes_cmp}
+use Rattle.mpslp_types.proofs.{EachLemmas.Each, BoolLemmas.T_from}
 use Rattle.mpslp_decimal.specs.Decimal.{is_zero}
 use Rattle.mpslp_model_core.specs.Model.{LinearModel, key_cmp, Listing, listing_of}
-use Rattle.mpslp_types.specs.Name.{bytes_cmp}
-use Rattle.mpslp_builder.specs.Declaration.{Draft}
-use Rattle.mpslp_builder.specs.Meaning.{column_of, objective_name, constant_of, row_entry, model_of}
-use Rattle.mpslp_types.proofs.BoolLemmas.{T_from}
-use Rattle.mpslp_types.specs.declared.kinds.Sense.TheVariants.{Minimize}
-use Rattle.mpslp_mps.specs.MpsText.{DeclaresMps}
-use Rattle.mpslp_mps.proofs.WorkedFiles.{draft_in, Passes, declares-from_passes, tests, passes-from_tests}
+use Rattle.mpslp_builder.specs.{Declaration.Draft, Meaning.{column_of, objective_name, constant_of, row_entry, model_of}}
+use Rattle.mpslp_mps.{specs.MpsText.DeclaresMps, proofs.WorkedFiles.{draft_in, Passes, declares-from_passes, tests, passes-from_tests}}
 use Rattle.mpslp_canonical_mps.specs.CanonicalMps.{text_of, listed_lines, canonical_mps}
 
 -- the bytes declare a model whose canonical text is this

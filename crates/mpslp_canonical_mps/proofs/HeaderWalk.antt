@@ -1,22 +1,14 @@
 -- Headers: what each declares, that it is well-formed, and the context after it.
-use Rattle.std.proofs.Common.{arith}
-use Rattle.std.proofs.Common.{rules}
-use Rattle.std.proofs.Common.{◌≡◌, refl, sym, ap, ◌∙◌, List, [], ◌∷◌, ◌++◌, Bool, true, false, map, append_assoc}
-use Rattle.std.specs.Prelude.{Option, Some, None, is_some, is_none, ◌||◌, codes}
-use Rattle.std.specs.Option.{option_or}
-use Rattle.std.proofs.lemmas.List.{append-nil}
+use Rattle.std.{proofs.Common.{arith, ◌≡◌, refl, sym, ap, ◌∙◌, List, [], ◌∷◌, ◌++◌, Bool, true, false, map}, specs.Prelude.{Option, Some}}
+use Rattle.std.specs.{Prelude.{None, is_some, is_none, ◌||◌, codes}, Option.option_or}
 use Rattle.mpslp_builder.specs.Declaration.{declare_sense, Draft}
-use Rattle.mpslp_types.specs.declared.kinds.Sense.TheVariants.{Maximize}
-use Rattle.mpslp_types.proofs.BoolLemmas.{nor}
-use Rattle.mpslp_mps_fields.specs.Line.{Fields, LineContent, skipped, header, data_line, keyword_of, section_of_header, section_named, begins, is_section, has}
-use Rattle.mpslp_mps.specs.Context.{Context, context_of, current_section, fields_under, data_lines_after, data_lines, is_read, word_due_after, word_due}
-use Rattle.mpslp_mps.specs.SeenSection.{has_section}
-use Rattle.mpslp_mps.specs.LineDeclarations.{line_declares}
-use Rattle.mpslp_mps.specs.LineFault.{may_begin, is_out_of_order}
-use Rattle.mpslp_mps.proofs.ContextLineLemmas.{form_faults}
-use Rattle.mpslp_mps_fields.specs.declared.sections.Section.{Section}
-use Rattle.mpslp_mps_fields.specs.declared.sections.Section.TheVariants.{Name, ObjSense, ObjName, Rows, Columns, Rhs, Ranges, Bounds, EndData}
-use Rattle.mpslp_mps.proofs.SectionLemmas.{current_section-push, has_section-append, has_section-cons}
+use Rattle.mpslp_types.{specs.declared.kinds.Sense.TheVariants.Maximize, proofs.BoolLemmas.nor}
+use Rattle.mpslp_mps_fields.specs.Line.{Fields, LineContent, header, data_line, keyword_of, section_of_header, section_named, begins}
+use Rattle.mpslp_mps_fields.specs.{Line.{is_section, has}, declared.sections.Section.{Section, TheVariants.{ObjSense, Columns}}}
+use Rattle.mpslp_mps.specs.Context.{Context, context_of, current_section, fields_under, data_lines_after, data_lines, is_read}
+use Rattle.mpslp_mps.specs.{Context.{word_due_after, word_due}, SeenSection.has_section, LineDeclarations.line_declares}
+use Rattle.mpslp_mps.{specs.LineFault.{may_begin, is_out_of_order}, proofs.ContextLineLemmas.form_faults}
+use Rattle.mpslp_mps.proofs.SectionLemmas.{current_section-push, has_section-append, has_section-cons, or_false}
 use Rattle.mpslp_mps.proofs.ContextLemmas.{word_due-push}
 
 -- a header whose word must follow on a line of its own, and whether a word is missing
@@ -69,9 +61,6 @@ word-good context earlier s w = rw (s, w) refl
 
 -- ---- what has not begun
 
-or_false : (b : Bool) → (b || false) ≡ b
-or_false b = grind arith
-
 -- lines that are not headers begin no section
 pub has_section-data : {X : Type 0} (section : Section) (item : X → LineContent) → ((x : X) → section_of_header (item x) ≡ None) → (xs : List X) (before : List LineContent)
     → has_section (before ++ map item xs) section ≡ has_section before section
@@ -81,11 +70,6 @@ has_section-data section item none xs before =
     all : (ys : List _) → has_section (map item ys) section ≡ false
     all [] = refl
     all (y ∷ ys) = rw (none y) (all ys)
-
-pub current-data : {X : Type 0} (item : X → LineContent) → ((x : X) → section_of_header (item x) ≡ None) → (xs : List X) (before : List LineContent)
-    → current_section (before ++ map item xs) ≡ current_section before
-current-data item none [] before = ap current_section (append-nil before)
-current-data item none (x ∷ xs) before = grind (arith, append_assoc, current_section-push, current-data item none xs (before ++ item x ∷ []))
 
 other_section : (section : Section) (o current : Option Section) → is_section section current ≡ false → is_section section o ≡ false → is_section section (option_or o current) ≡ false
 other_section section o current h k = grind arith

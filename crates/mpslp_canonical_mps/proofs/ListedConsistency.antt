@@ -1,50 +1,31 @@
 -- The canonical declarations of a well-formed listing are consistent, if no slot is filled twice.
-use Rattle.std.proofs.Common.{arith}
-use Rattle.std.proofs.Common.{rules}
-use Rattle.std.proofs.Common.{◌≡◌, refl, ap, ◌∙◌, List, [], ◌∷◌, ◌++◌, ℕ, Bool, true, false, not, cond, map}
-use Rattle.std.specs.Prelude.{Option, Some, None, is_some, filter, filter_map, ◌&&◌, ◌||◌}
-use Rattle.std.specs.List.{flat_map, list_all, list_any, cons_option}
-use Rattle.std.specs.Option.{option_map, option_map_or}
-use Rattle.std.specs.Cmp.{second_so}
-use Rattle.std.specs.Cmp.Lexicographic.{texts_ties}
-use Rattle.std.specs.FinMap.{find}
-use Rattle.mpslp_decimal.specs.Decimal.{Number, is_decimal, is_zero, is_infinite_size, negated, difference_of, have_same_value}
-use Rattle.mpslp_types.specs.Name.{same_bytes}
-use Rattle.mpslp_model_core.specs.Model.{Row, Column, CoefficientKey, key_cmp, Listing}
-use Rattle.mpslp_types.specs.Limit.{is_bounded_decimal, has_bounded_distance}
-use Rattle.mpslp_builder.specs.Declaration.{RowDefinition, by_type, Declaration, declare_objective, Declarations, at_name, has_name, has_row, has_column, is_integer, is_semi, is_objective, is_free_definition, is_free_row}
-use Rattle.mpslp_types.specs.Lists.{are_distinct}
-use Rattle.mpslp_builder.specs.Consistency.{is_known, is_allowed, has_objective_rhs, declares_objective, same_slot, all_slots, AreConsistent}
-use Rattle.mpslp_types.specs.declared.kinds.Sense.{Sense}
-use Rattle.mpslp_types.specs.declared.kinds.Sense.TheVariants.{Minimize, Maximize}
-use Rattle.mpslp_types.specs.declared.kinds.Kind.{Kind}
-use Rattle.mpslp_types.specs.declared.kinds.Kind.TheVariants.{Continuous, Integer, Semi}
-use Rattle.mpslp_types.specs.declared.kinds.Limit.{Limit}
-use Rattle.mpslp_types.specs.declared.kinds.Limit.TheVariants.{MinusInf, Finite, PlusInf}
-use Rattle.mpslp_types.specs.declared.kinds.RowType.TheVariants.{AtLeast, Equal}
-use Rattle.mpslp_types.proofs.BoolLemmas.{both_so, so_not, or_left, or_right, both_false}
-use Rattle.mpslp_types.proofs.EachLemmas.{Each, Each-weaker, Each-append, Each-map, Each-flat_map, Each-filter, Each-all, list_all-from_Each}
-use Rattle.mpslp_builder.proofs.BoundsLemmas.{is_semi_kind}
-use Rattle.mpslp_builder.proofs.LaterDrafts.{itself_named}
-use Rattle.mpslp_mps_fields.specs.declared.bound_types.BoundType.TheVariants as bounds
-use Rattle.mpslp_canonical_mps.proofs.RowsWalk.{RowItem, row_decl, Side, side_decl, range_decl}
-use Rattle.mpslp_canonical_mps.proofs.ColumnsWalk.{Cell, cell_decl, Group, cells_of}
-use Rattle.mpslp_canonical_mps.proofs.BoundsWalk.{BoundForm, fixed, free, no_lower, no_upper, semi_upper, Bound, bound_decl, decl_at}
-use Rattle.mpslp_canonical_mps.proofs.BoundsWalk as forms
-use Rattle.mpslp_canonical_mps.specs.PrintedValues.{bound_with_value, printed_type, printed_rhs, printed_range, PrintedBound, printed_lower, printed_upper, printed_bounds}
-use Rattle.mpslp_canonical_mps.specs.CanonicalMps.{cell_at, column_coefficients, printed_coefficients, is_integer_column, is_plain_column}
-use Rattle.mpslp_canonical_mps.proofs.PrintableLemmas.{Holds}
-use Rattle.mpslp_canonical_mps.proofs.CanonicalContents.{to_cell, cells_in, group_in, to_side, side_unless_zero, row_side, sides_in, row_range, form_of, value_in, to_bound, bounds_in}
-use Rattle.mpslp_canonical_mps.proofs.EarlyWalk.{sense_decl}
-use Rattle.mpslp_canonical_mps.proofs.ListedContents.{whole_of}
-use Rattle.mpslp_builder.proofs.EntryLemmas.{then_stated}
-use Rattle.mpslp_canonical_mps.proofs.WholeParts.{each-whole}
-use Rattle.mpslp_canonical_mps.proofs.ListedParts.{form_stated, listed_decl}
-use Rattle.mpslp_builder.proofs.NamedEntries.{at-mapped}
-use Rattle.mpslp_canonical_mps.proofs.DraftMaps.{IsSoundListing, drafted, row-at, columns-drafted, marked-at, integers-drafted, binaries-drafted, semis-at}
-use Rattle.mpslp_canonical_mps.proofs.CoefficientMap.{place_at}
+use Rattle.std.{proofs.Common.{arith, ◌≡◌, refl, ap, ◌∙◌, List, [], ◌∷◌, ◌++◌, ℕ, Bool, true, false, not, cond, map}, specs.Prelude.Option}
+use Rattle.std.specs.{Prelude.{Some, None, is_some, filter, filter_map, ◌&&◌, ◌||◌}, List.{flat_map, list_all, list_any}}
+use Rattle.std.specs.{Option.option_map_or, Cmp.{second_so, Lexicographic.texts_ties}}
+use Rattle.mpslp_decimal.specs.Decimal.{Number, is_decimal, is_zero, is_infinite_size, negated}
+use Rattle.mpslp_types.specs.{Name.same_bytes, Limit.{is_bounded_decimal, has_bounded_distance}, Lists.are_distinct}
+use Rattle.mpslp_types.specs.declared.kinds.{Sense.Sense, Kind.{Kind, TheVariants.{Continuous, Integer, Semi}}, Limit.Limit}
+use Rattle.mpslp_types.{specs.declared.kinds.Limit.TheVariants.{MinusInf, Finite, PlusInf}, proofs.BoolLemmas.{both_so, so_not, or_left}}
+use Rattle.mpslp_types.proofs.{BoolLemmas.{or_right, both_false}, EachLemmas.{Each, Each-weaker, Each-append, Each-map, Each-flat_map}}
+use Rattle.mpslp_types.proofs.EachLemmas.{Each-filter, Each-all, list_all-from_Each}
+use Rattle.mpslp_model_core.specs.Model.{Row, Column, CoefficientKey, Listing}
+use Rattle.mpslp_builder.specs.Declaration.{RowDefinition, by_type, Declaration, declare_objective, Declarations, at_name, has_name}
+use Rattle.mpslp_builder.specs.Declaration.{has_row, has_column, is_integer, is_semi, is_objective, is_free_definition, is_free_row}
+use Rattle.mpslp_builder.specs.Consistency.{is_known, is_allowed, declares_objective, same_slot, all_slots, AreConsistent}
+use Rattle.mpslp_builder.proofs.{BoundsLemmas.is_semi_kind, LaterDrafts.itself_named, EntryLemmas.then_stated, NamedEntries.at-mapped}
 use Rattle.mpslp_builder.proofs.SoundParts.{row_distance, column_suited}
-use Rattle.mpslp_canonical_mps.proofs.ListedMeaning.{constant-drafted, objective-drafted, other-name, IsOwnRow, own-rows, IsOwnColumn, own-columns}
+use Rattle.mpslp_mps_fields.specs.declared.bound_types.BoundType.TheVariants as bounds
+use Rattle.mpslp_canonical_mps.proofs.{RowsWalk.{RowItem, row_decl, Side, side_decl, range_decl}, ColumnsWalk.{Cell, cell_decl, Group}}
+use Rattle.mpslp_canonical_mps.proofs.{ColumnsWalk.cells_of, BoundsWalk.{BoundForm, semi_upper, Bound, bound_decl, decl_at}}
+use Rattle.mpslp_canonical_mps.proofs.{PrintableLemmas.Holds, CanonicalContents.{to_cell, cells_in, group_in, to_side, side_unless_zero}}
+use Rattle.mpslp_canonical_mps.proofs.CanonicalContents.{row_side, sides_in, row_range, form_of, value_in, to_bound, bounds_in}
+use Rattle.mpslp_canonical_mps.proofs.{EarlyWalk.sense_decl, ListedContents.whole_of, WholeParts.each-whole, ListedParts.form_stated}
+use Rattle.mpslp_canonical_mps.proofs.{ListedParts.listed_decl, DraftMaps.{IsSoundListing, drafted, row-at, columns-drafted, marked-at}}
+use Rattle.mpslp_canonical_mps.proofs.{DraftMaps.{integers-drafted, binaries-drafted, semis-at}, CoefficientMap.place_at}
+use Rattle.mpslp_canonical_mps.proofs.ListedMeaning.{constant-drafted, objective-drafted, other-name, IsOwnRow, own-rows, IsOwnColumn}
+use Rattle.mpslp_canonical_mps.{proofs.ListedMeaning.own-columns, specs.PrintedValues.{printed_type, printed_rhs, printed_range}}
+use Rattle.mpslp_canonical_mps.specs.{PrintedValues.{PrintedBound, printed_bounds}, CanonicalMps.{cell_at, column_coefficients}}
+use Rattle.mpslp_canonical_mps.specs.CanonicalMps.{printed_coefficients, is_integer_column, is_plain_column}
 
 -- ---- what exists
 
@@ -210,9 +191,6 @@ allowed-line_text m name (bound ∷ line_text) h = (allowed-form m (form_of boun
 -- a bound that would declare an integer column semi-continuous is not printed
 abbrev HasNoSemi : PrintedBound → Type 0
 HasNoSemi bound = is_semi_form (form_of bound.type) ≡ false
-
-lower-plain : (l : Limit) → Each HasNoSemi (printed_lower l)
-lower-plain l = grind arith
 
 integer-plain : (l u : Limit) → Each HasNoSemi (printed_bounds Integer l u)
 integer-plain l u = grind arith

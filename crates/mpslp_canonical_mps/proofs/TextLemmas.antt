@@ -1,18 +1,12 @@
 -- Printed lines are read back unchanged.
-use Rattle.std.proofs.Common.{◌≡◌, refl, ap, ◌∙◌, List, [], ◌∷◌, ◌++◌, length, ℕ, zero, suc, Bool, true, false, cond, map, arith, ◌<◌, ◌≤◌, ◌*◌, length-append}
-use Rattle.std.specs.Prelude.{nat_lt, nat_le, ◌==◌, slice_index, filter, codes}
-use Rattle.std.specs.List.{slice_split, list_all, flat_map}
-use Rattle.std.specs.Str.Lines.{lines, lines_of_parts, strip_carriage_return}
-use Rattle.std.proofs.lemmas.Bool.{lt-ltb}
-use Rattle.std.proofs.lemmas.Bool.Decides.{nat_tests}
-use Rattle.std.proofs.lemmas.List.{append-nil}
-use Rattle.mpslp_types.specs.Name.{is_visible}
-use Rattle.mpslp_types.proofs.BoolLemmas.{both_so}
-use Rattle.mpslp_types.proofs.EachLemmas.{Each, Each-weaker, Each-append, list_all-from_Each}
-use Rattle.mpslp_mps_fields.specs.Line.{Fields, skipped, header, data_line, header_of, content_of, fields, is_blank, is_comment, is_skipped, is_data, outside_comment}
+use Rattle.std.proofs.Common.{◌≡◌, refl, ap, ◌∙◌, List, [], ◌∷◌, ◌++◌, length, ℕ, Bool, true, false, cond, map, arith, ◌<◌, ◌≤◌, ◌*◌}
+use Rattle.std.{proofs.{Common.length-append, lemmas.{Bool.{lt-ltb, Decides.nat_tests}, List.append-nil}}, specs.Prelude.{nat_lt, nat_le}}
+use Rattle.std.specs.{Prelude.{◌==◌, filter, codes}, List.{slice_split, list_all, flat_map}, Str.Lines.lines}
+use Rattle.mpslp_types.{specs.Name.is_visible, proofs.{BoolLemmas.both_so, EachLemmas.{Each, Each-weaker, Each-append, list_all-from_Each}}}
+use Rattle.mpslp_mps_fields.specs.Line.{Fields, skipped, header, data_line, header_of, content_of, fields, is_blank, is_comment}
+use Rattle.mpslp_mps_fields.specs.Line.{outside_comment}
 use Rattle.mpslp_mps.specs.LegalLine.{is_legal_line}
-use Rattle.mpslp_lines.specs.FaultTests.{is_legal_byte, has_legal_length}
-use Rattle.mpslp_lines.specs.declared.legal_line.TheConstants.{MAX_LINE_LEN}
+use Rattle.mpslp_lines.specs.{FaultTests.{is_legal_byte, has_legal_length}, declared.legal_line.TheConstants.MAX_LINE_LEN}
 use Rattle.mpslp_lines.proofs.WrittenLineLemmas.{IsPlain, lines-with_line_feeds}
 use Rattle.mpslp_canonical_mps.specs.CanonicalMps.{PrintedLine, heading, short_line, long_line, fields_text, line_text, text_of}
 use Rattle.mpslp_canonical_mps.specs.PrintedDeclarations.{content_in}
@@ -166,6 +160,3 @@ legal-lines (l ∷ ls) h = both_so (is_legal_line (line_text l)) (list_all is_le
 -- the lines of a text of printed lines are these, and its items are theirs
 pub lines-text : (ls : List PrintedLine) → Each IsPrintable ls → lines (text_of ls) ≡ map line_text ls
 lines-text ls h = lines-with_line_feeds (map line_text ls) (all_plain ls h)
-
-pub items-text : (ls : List PrintedLine) → Each IsPrintable ls → map content_of (lines (text_of ls)) ≡ map content_in ls
-items-text ls h = ap (map content_of) (lines-text ls h) ∙ items-line_text ls h

@@ -1,7 +1,5 @@
 -- The canonical texts of worked files, by computation.
-use Rattle.std.proofs.Common.{refl}
-use Rattle.std.specs.Prelude.{ℕ, List, ◌∷◌, [], take, drop, ◌++◌, codes}
-use Rattle.std.specs.Fmt.{digits}
+use Rattle.std.{proofs.Common.refl, specs.{Prelude.{ℕ, List, ◌∷◌, [], take, drop, ◌++◌, codes}, Fmt.digits}}
 use Rattle.mpslp_decimal.specs.Decimal.{trailing_zeros}
 use Rattle.mpslp_types.proofs.EachLemmas.{Each}
 use Rattle.mpslp_canonical_mps.proofs.DraftText.{IsPrinted, each-printed}
@@ -68,9 +66,11 @@ printed =
     (files.small_with_returns, files.text files.small_again_lines) ∷
     (files.small_without_last_feed, files.text files.small_again_lines) ∷
     (files.small_with_text_after_end, files.text files.small_again_lines) ∷
-    (files.small_again, files.text files.small_again_lines) ∷
-    (files.small_maximized, files.text (take 1 files.small_again_lines ++ codes "OBJSENSE" ∷ codes "    MAX"
-    ∷ drop 1 files.small_again_lines)) ∷
+    (files.small_again, files.text files.small_again_lines) ∷ (
+      files.small_maximized,
+      files.text (take 1 files.small_again_lines ++ codes "OBJSENSE" ∷ codes "    MAX"
+          ∷ drop 1 files.small_again_lines),
+    ) ∷
     (files.ranges, files.text ranges_lines) ∷
     (files.fixed_columns, files.text unit_integer_lines) ∷
     (files.binary_bound, files.text unit_integer_lines) ∷

@@ -1,30 +1,15 @@
 -- Lines that are read one after another, and the rest of a text that comes in pieces.
-use Rattle.std.proofs.Common.{rules}
-use Rattle.std.proofs.Common.{◌≡◌, refl, sym, ap, subst, ◌∙◌, ℕ, ◌+◌, ◌-◌, ◌^◌, min, List, [], ◌∷◌, ◌++◌, length, Bool, true, false, append-nil, arith}
-use Rattle.std.specs.Prelude.{◌||◌, Option, Some, None, is_some, if◌then◌else◌}
-use Rattle.std.specs.List.{list_any}
-use Rattle.std.specs.Option.{option_or, option_map}
-use Rattle.std.proofs.lemmas.List.{length-append}
-use Rattle.std.proofs.lemmas.List.Folds.{list_any-append}
+use Rattle.std.proofs.Common.{◌≡◌, refl, sym, ap, subst, ◌∙◌, ℕ, ◌+◌, ◌-◌, ◌^◌, min, List, [], ◌∷◌, ◌++◌, length, Bool, true, false}
+use Rattle.std.{proofs.{Common.{append-nil, arith}, lemmas.List.{length-append, Folds.list_any-append}}, specs.Prelude.{◌||◌, Option, Some}}
+use Rattle.std.specs.{Prelude.{None, is_some, if◌then◌else◌}, List.list_any, Option.{option_or, option_map}}
 use Rattle.mpslp_builder.specs.Declaration.{Draft, empty_draft}
-use Rattle.mpslp_types.specs.declared.faults.Fault.{Fault}
-use Rattle.mpslp_types.specs.declared.faults.FaultKind.{FaultKind}
+use Rattle.mpslp_types.specs.declared.faults.{Fault.Fault, FaultKind.FaultKind}
 use Rattle.mpslp_lines.specs.FaultTests.{fault_on_line}
-use Rattle.mpslp_mps_fields.specs.Line.{is_section, content_of}
-use Rattle.mpslp_mps.specs.Context.{Context, context_of}
-use Rattle.mpslp_mps.specs.NextContext.{without_names, kept_context}
-use Rattle.mpslp_mps.specs.MpsText.{is_end}
-use Rattle.mpslp_mps.specs.FirstFault.{line_fault}
+use Rattle.mpslp_mps_fields.specs.{Line.{is_section, content_of}, declared.sections.Section.TheVariants.EndData}
+use Rattle.mpslp_mps.specs.{Context.{Context, context_of}, NextContext.{without_names, kept_context}, MpsText.is_end, FirstFault.line_fault}
 use Rattle.mpslp_mps.specs.LineByLine.{placed_in, draft_after, context_after, fault_from, draft_from, context_from}
-use Rattle.mpslp_mps.specs.ReadAnswer.{lines_to_end}
-use Rattle.mpslp_mps.specs.Fed.{lines_fault, LedTo}
-use Rattle.mpslp_mps.specs.FedLaws.{to_end-last, to_end-more}
-use Rattle.mpslp_mps_fields.specs.declared.sections.Section.TheVariants.{EndData}
-use Rattle.mpslp_mps.specs.VectorDeclared.{HasMpsSides}
-use Rattle.mpslp_mps.proofs.EndLemmas.{at_end-after}
-use Rattle.mpslp_mps.proofs.LoopLemmas.{sides-next}
-use Rattle.mpslp_mps.proofs.NamedLemmas.{named-lines_to_end}
-use Rattle.mpslp_mps.proofs.ReadingLemmas.{fault_from-is}
+use Rattle.mpslp_mps.specs.{ReadAnswer.lines_to_end, Fed.{lines_fault, LedTo}, FedLaws.to_end-more, VectorDeclared.HasMpsSides}
+use Rattle.mpslp_mps.proofs.{EndLemmas.at_end-after, LoopLemmas.sides-next, NamedLemmas.named-lines_to_end, ReadingLemmas.fault_from-is}
 
 -- ---- lines after others
 

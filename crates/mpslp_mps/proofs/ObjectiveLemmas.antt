@@ -1,26 +1,14 @@
 -- By ENDATA the objective is declared: by an N row, or by the header of COLUMNS.
-use Rattle.std.proofs.Common.{arith}
-use Rattle.std.proofs.Common.{rules}
-use Rattle.std.proofs.lemmas.Bool.{false≢true, true≢false}
-use Rattle.std.proofs.Common.{◌≡◌, refl, sym, ap, ◌∙◌, List, [], ◌∷◌, ◌++◌, ℕ, Bool, true, false, cond, map}
-use Rattle.std.specs.Prelude.{Option, Some, None, is_some, is_none, ◌&&◌, ◌||◌, codes}
-use Rattle.std.specs.List.{list_any}
-use Rattle.mpslp_builder.specs.Declaration.{declare_objective, Draft, with_declarations}
+use Rattle.std.proofs.{Common.{arith, ◌≡◌, refl, ap, ◌∙◌, List, [], ◌∷◌, ◌++◌, ℕ, true, false, map}, lemmas.Bool.false≢true}
+use Rattle.std.specs.{Prelude.{Option, is_some, ◌||◌}, List.list_any}
+use Rattle.mpslp_builder.{specs.Declaration.{Draft, with_declarations}, proofs.MadeDrafts.with_declarations-append}
 use Rattle.mpslp_types.specs.Lists.{those_of}
-use Rattle.mpslp_builder.proofs.MadeDrafts.{with_declarations-append}
 use Rattle.mpslp_lines.proofs.ObjectiveLemmas.{named-after}
 use Rattle.mpslp_mps_fields.specs.Line.{Fields, LineContent, skipped, header, data_line, content_of, has, section_named, begins, is_section}
-use Rattle.mpslp_mps.specs.Context.{Context, context_of}
-use Rattle.mpslp_mps.specs.SeenSection.{has_section}
-use Rattle.mpslp_mps.specs.LineDeclarations.{header_declared, line_declares}
-use Rattle.mpslp_mps.specs.LineFault.{header_tests}
-use Rattle.mpslp_mps.specs.MpsText.{is_end}
-use Rattle.mpslp_mps_fields.specs.declared.sections.Section.{Section}
-use Rattle.mpslp_mps_fields.specs.declared.sections.Section.TheVariants.{Name, ObjSense, ObjName, Rows, Columns, Rhs, Ranges, Bounds, EndData}
-use Rattle.mpslp_mps.proofs.SectionLemmas.{has_section-push}
-use Rattle.mpslp_mps.proofs.ContextLineLemmas.{declared_items, are_well_formed}
-use Rattle.mpslp_mps.proofs.OrderLemmas.{header-begins, header-complete, IsGood}
-use Rattle.mpslp_mps.proofs.KnownLemmas.{good-first, good-rest}
+use Rattle.mpslp_mps_fields.specs.declared.sections.Section.{Section, TheVariants.{Columns, EndData}}
+use Rattle.mpslp_mps.specs.{Context.{Context, context_of}, SeenSection.has_section, LineDeclarations.{header_declared, line_declares}}
+use Rattle.mpslp_mps.{specs.{LineFault.header_tests, MpsText.is_end}, proofs.SectionLemmas.has_section-push}
+use Rattle.mpslp_mps.proofs.{ContextLineLemmas.{declared_items, are_well_formed}, OrderLemmas.IsGood, KnownLemmas.{good-first, good-rest}}
 
 -- once COLUMNS has begun, the objective exists
 abbrev pub IsNamed : List LineContent → Draft → Type 0

@@ -1,12 +1,15 @@
 -- The first errors of changed files, by computation.
-use Rattle.std.proofs.Common.{◌≡◌, refl}
-use Rattle.std.specs.Prelude.{ℕ, ◌-◌, Option, Some, None, List, ◌∷◌, [], ◌++◌, map, take, drop, codes}
+use Rattle.std.{proofs.Common.{◌≡◌, refl}, specs.Prelude.{ℕ, ◌-◌, Option, Some, None, List, ◌∷◌, [], ◌++◌, map, take, drop, codes}}
 use Rattle.std.specs.List.{flat_map}
 use Rattle.mpslp_decimal.specs.Decimal.{trailing_zeros}
 use Rattle.mpslp_builder.specs.FileFault.{whole_fault}
-use Rattle.mpslp_types.specs.declared.faults.Fault.{Fault}
-use Rattle.mpslp_types.specs.declared.faults.FaultKind.{FaultKind}
-use Rattle.mpslp_types.specs.declared.faults.FaultKind.TheVariants.{BadMarker, BadNumber, BadType, BoundsCrossed, ColumnSplit, DuplicateBound, DuplicateEntry, DuplicateRhs, DuplicateRow, FieldCount, Indicator, InfiniteLimit, InfiniteValue, LimitTooLarge, MissingEnd, NegativeUpper, NoColumns, Quadratic, RangeOnFree, SecondSet, SectionOrder, SectionRepeated, SemiBounds, SemiContinuous, Sos, UnknownColumn, UnknownRow, UnknownSection}
+use Rattle.mpslp_types.specs.declared.faults.{Fault.Fault, FaultKind.{FaultKind, TheVariants.{BadMarker, BadNumber, BadType}}}
+use Rattle.mpslp_types.specs.declared.faults.FaultKind.TheVariants.{BoundsCrossed, ColumnSplit, DuplicateBound, DuplicateEntry}
+use Rattle.mpslp_types.specs.declared.faults.FaultKind.TheVariants.{DuplicateRhs, DuplicateRow, FieldCount, Indicator, InfiniteLimit}
+use Rattle.mpslp_types.specs.declared.faults.FaultKind.TheVariants.{InfiniteValue, LimitTooLarge, MissingEnd, NegativeUpper, NoColumns}
+use Rattle.mpslp_types.specs.declared.faults.FaultKind.TheVariants.{Quadratic, RangeOnFree, SecondSet, SectionOrder, SectionRepeated}
+use Rattle.mpslp_types.specs.declared.faults.FaultKind.TheVariants.{SemiBounds, SemiContinuous, Sos, UnknownColumn, UnknownRow}
+use Rattle.mpslp_types.specs.declared.faults.FaultKind.TheVariants.{UnknownSection}
 use Rattle.mpslp_lines.specs.FaultTests.{fault_on_line}
 use Rattle.mpslp_mps.specs.FirstFault.{first_mps_fault}
 

@@ -1,17 +1,10 @@
 -- Worked files: each declares a model, by computation.
-use Rattle.std.proofs.Common.{◌≡◌, refl, ap}
-use Rattle.std.specs.Prelude.{ℕ, Bool, Option, Some, None, List, ◌∷◌, [], ◌++◌, map, take, drop, true, ◌==◌, if◌then◌else◌, codes}
-use Rattle.std.specs.List.{list_all, flat_map}
+use Rattle.std.{proofs.Common.{◌≡◌, refl, ap}, specs.Prelude.{ℕ, Bool, Option, Some, None, List, ◌∷◌, [], ◌++◌, map, take, drop, true}}
+use Rattle.std.specs.{Prelude.{◌==◌, if◌then◌else◌, codes}, List.{list_all, flat_map}}
 use Rattle.mpslp_decimal.specs.Decimal.{trailing_zeros}
-use Rattle.mpslp_builder.specs.Declaration.{Draft, empty_draft, draft_of}
-use Rattle.mpslp_builder.specs.Consistency.{has_objective}
-use Rattle.mpslp_builder.specs.Refusal.{refusals_in_turn}
-use Rattle.mpslp_builder.specs.Made.{is_legal}
-use Rattle.mpslp_builder.specs.Meaning.{model_of}
-use Rattle.mpslp_builder.specs.FileFault.{file_fault}
-use Rattle.mpslp_builder.proofs.Acceptance.{means-from_none}
-use Rattle.mpslp_types.specs.declared.faults.Fault.{Fault}
-use Rattle.mpslp_types.specs.declared.faults.BuildFault.{BuildFault}
+use Rattle.mpslp_builder.specs.{Declaration.{Draft, empty_draft, draft_of}, Consistency.has_objective, Refusal.refusals_in_turn}
+use Rattle.mpslp_builder.{specs.{Made.is_legal, Meaning.model_of, FileFault.file_fault}, proofs.Acceptance.means-from_none}
+use Rattle.mpslp_types.specs.declared.faults.{Fault.Fault, BuildFault.BuildFault}
 use Rattle.mpslp_mps.specs.MpsText.{is_mps_text, declarations_of, DeclaresMps}
 
 -- lines, each followed by a line feed
