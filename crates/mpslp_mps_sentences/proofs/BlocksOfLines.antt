@@ -1,7 +1,7 @@
 -- A column that a draft has marked has a line in an integer block.
-use Rattle.std.proofs.Common.{arith, ◌≡◌, refl, sym, ap, ◌∙◌, subst, List, [], ◌∷◌, ◌++◌, ℕ, Bool, true, false, cond}
-use Rattle.std.{proofs.lemmas.List.append-nil, specs.{Prelude.{Option, Some, None, is_some, filter_map, ◌||◌, ◌&&◌}, List.list_any}}
-use Rattle.std.specs.{List.{last_or, flat_map, cons_option}, Option.{option_map, option_map_or}}
+use Rattle.std.proofs.{Common.{arith, ◌≡◌, refl, sym, ap, ◌∙◌, List, [], ◌∷◌, ◌++◌, ℕ, Bool, true, false, cond}, lemmas.List.append-nil}
+use Rattle.std.specs.{Prelude.{Option, Some, None, is_some, filter_map, ◌||◌, ◌&&◌}, List.{list_any, last_or, flat_map, cons_option}}
+use Rattle.std.specs.Option.{option_map_or}
 use Rattle.mpslp_types.{specs.{Name.same_bytes, Lists.when}, proofs.BoolLemmas.{or_left, or_right}}
 use Rattle.mpslp_builder.specs.Declaration.{declare_column, declare_marked, declare_coefficient, Draft, with_declaration, with_declarations}
 use Rattle.mpslp_builder.{specs.Declaration.has_name, proofs.SlotLemmas.has-put}
@@ -10,7 +10,7 @@ use Rattle.mpslp_mps_fields.specs.{Line.{Fields, LineContent, skipped, header, d
 use Rattle.mpslp_mps_fields.specs.DataLine.{ValuesLine, column_shape, is_marker_line, opening_word}
 use Rattle.mpslp_mps_fields.specs.declared.sections.Section.TheVariants.{Columns}
 use Rattle.mpslp_mps.specs.Context.{context_of, current_section, fields_under, data_lines, marker_word, line_column}
-use Rattle.mpslp_mps.specs.LineDeclarations.{declared_if_some, coefficient_declared, column_declared, data_declared, line_declares}
+use Rattle.mpslp_mps.specs.LineDeclarations.{declared_if_some, coefficient_declared, column_declared, line_declares}
 use Rattle.mpslp_mps.proofs.SectionLemmas.{data_lines-push}
 use Rattle.mpslp_mps_sentences.specs.{TextInWords.same_column, ValueFaultsInWords.{opens_block, block_lines, is_in_block}}
 use Rattle.mpslp_mps_sentences.proofs.{WordsOfFields.section-is, DeclaredByLines.{IsPartOf, header-kept, data-kept}}
@@ -43,9 +43,7 @@ in_block-more column (x ∷ lines) fields h =
     (block-more column lines fields) (in_block-more column lines fields) h
   where
     by : (o a b c d : Bool) → (a ≡ true → c ≡ true) → (b ≡ true → d ≡ true) → ((o && a) || b) ≡ true → ((o && c) || d) ≡ true
-    by true true b c d f g k = or_left c d (f refl)
-    by true false b c d f g k = or_right c d (g k)
-    by false a b c d f g k = g k
+    by o a b c d f g k = grind (arith, or_left, or_right)
 
 -- if the last marker line, or the one before all these, opens a block, a line after them is in it
 last-block : (column : List ℕ) (fields : Fields) → is_marker_line fields ≡ false → is_of column fields ≡ true → (lines : List Fields) (word : Option (List ℕ)) → is_opening (last_or word (filter_map marker_word lines)) ≡ true
@@ -87,9 +85,7 @@ marked_lines-kept before earlier item have column h = ap (is_in_block column) (d
     new fields plain line shape same inside = last-block column fields plain here lines None inside
       where
         here : is_of column fields ≡ true
-        here =
-            ap (λ (b : Bool). same_column (Some column) (cond b None (option_map (λ (l : ValuesLine). l.name) (column_shape fields)))) plain
-            ∙ (ap (λ (o : Option ValuesLine). same_column (Some column) (option_map (λ (l : ValuesLine). l.name) o)) shape ∙ same)
+        here = grind arith
 
     front : (fields : Fields) → is_marker_line fields ≡ false → (line : ValuesLine) → column_shape fields ≡ Some line → (b : Bool) → (context_of before).in_integer_part ≡ b
         → has_name (with_declarations earlier (declare_column line.name ∷ (cond b (declare_marked line.name ∷ []) [] ++ flat_map (coefficient_declared line.name) line.pairs))).marked column ≡ true
@@ -112,7 +108,4 @@ marked_lines-kept before earlier item have column h = ap (is_in_block column) (d
     by (data_line fields) k = under (is_section Columns (current_section before)) refl
       where
         under : (b : Bool) → is_section Columns (current_section before) ≡ b → is_in_block column (lines ++ when b fields) ≡ true
-        under true e =
-            own fields (is_marker_line fields) refl
-            (subst (λ o. has_name (with_declarations earlier (data_declared (context_of before) earlier fields o)).marked column ≡ true) (section-is Columns (current_section before) e) k)
-        under false e = old (sym (data-kept Columns (λ all. has_name all.marked column) (marked-part column) (context_of before) earlier fields (current_section before) e) ∙ k)
+        under b e = grind (arith, section-is, data-kept, marked-part, own, old)

@@ -3,7 +3,6 @@ use Rattle.std.proofs.Common.{arith, ◌≡◌, refl, sym, ap, ◌∙◌, subst,
 use Rattle.std.{proofs.lemmas.List.{map-append, Elements.filter_map-append}, specs.Prelude.{Option, Some, None, is_some, not, filter_map}}
 use Rattle.std.specs.{List.{list_all, cons_option}, Option.option_map_or}
 use Rattle.mpslp_types.specs.{Name.same_bytes, Lists.{those_of, is_nonempty, when, head_of}}
-use Rattle.mpslp_types.specs.declared.faults.FaultKind.TheVariants as kinds
 use Rattle.mpslp_builder.specs.Declaration.{Draft}
 use Rattle.mpslp_mps_fields.specs.{Line.{Fields, LineContent, data_line, is_section}, DataLine.{opening_word, closing_word}}
 use Rattle.mpslp_mps_fields.specs.declared.sections.Section.{Section, TheVariants.{Name, ObjSense, ObjName, Rows, Columns, Rhs, Ranges}}
@@ -80,22 +79,13 @@ data-good before earlier fields rest sense name have h = by (current_section bef
     single section test under e k = grind (arith, line-single, said_after-append)
 
     stray : (o : Option Section) → current_section before ≡ o → not (option_map_or takes_data o false) ≡ false
-    stray o e =
-        ap (λ (c : Option Section). not (option_map_or takes_data c false)) (sym e)
-        ∙ none-strays (stray_lines before) (not (option_map_or takes_data (current_section before) false)) fields (said_after strays (current_section before) rest)
-        (sym (ap (λ (lines : List Fields). not (is_nonempty lines)) (said_after-append strays None before (data_line fields ∷ rest))) ∙ h.strays)
+    stray o e = grind (arith, none-strays, said_after-append)
 
     sense_good : (fs : Fields) → is_some (word_due before) ≡ true → is_single is_sense fs ≡ true → those_of (data_tests (context_of before) earlier fs (Some ObjSense)) ≡ []
     sense_good fs w k = grind arith
 
     name_good : (fs : Fields) → is_some (word_due before) ≡ true → is_single (λ _. true) fs ≡ true → those_of (data_tests (context_of before) earlier fs (Some ObjName)) ≡ []
-    name_good [] w k = cc
-    name_good (word ∷ []) w k = of (is_some (word_due before)) w
-      where
-        of : (c : Bool) → c ≡ true → those_of ((not c, kinds.SectionOrder) ∷ []) ≡ []
-        of true e = refl
-        of false e = cc
-    name_good (word ∷ other ∷ more) w k = cc
+    name_good fs w k = grind arith
 
     strayed : {X : Type 0} (o : Option Section) → current_section before ≡ o → not (option_map_or takes_data o false) ≡ true → X
     strayed o e k = absurd (never (not (option_map_or takes_data o false)) k (stray o e))

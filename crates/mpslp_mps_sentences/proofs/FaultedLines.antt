@@ -63,10 +63,7 @@ any-held kind ((held, other) ∷ more) = by (any-held kind more) held (is_kind k
   where
     by : list_any (is_kind kind) (those_of more) ≡ holds_of kind more → (b c : Bool) → is_kind kind other ≡ c
         → list_any (is_kind kind) (cond b (other ∷ those_of more) (those_of more)) ≡ cond c (b || holds_of kind more) (holds_of kind more)
-    by rest true true e = ap (λ (x : Bool). x || list_any (is_kind kind) (those_of more)) e
-    by rest true false e = ap (λ (x : Bool). x || list_any (is_kind kind) (those_of more)) e ∙ rest
-    by rest false true e = rest
-    by rest false false e = rest
+    by rest b c e = grind arith
 
 any-refused : (kind : FaultKind) (tests : List (Bool × BuildFault)) → list_any (is_kind kind) (map kind_of_build_fault (those_of tests)) ≡ refused_as kind tests
 any-refused kind [] = refl
@@ -74,10 +71,7 @@ any-refused kind ((held, other) ∷ more) = by (any-refused kind more) held (is_
   where
     by : list_any (is_kind kind) (map kind_of_build_fault (those_of more)) ≡ refused_as kind more → (b c : Bool) → is_kind kind (kind_of_build_fault other) ≡ c
         → list_any (is_kind kind) (map kind_of_build_fault (cond b (other ∷ those_of more) (those_of more))) ≡ cond c (b || refused_as kind more) (refused_as kind more)
-    by rest true true e = ap (λ (x : Bool). x || list_any (is_kind kind) (map kind_of_build_fault (those_of more))) e
-    by rest true false e = ap (λ (x : Bool). x || list_any (is_kind kind) (map kind_of_build_fault (those_of more))) e ∙ rest
-    by rest false true e = rest
-    by rest false false e = rest
+    by rest b c e = grind arith
 
 any-declaring : (kind : FaultKind) (earlier : Draft) (ds : Declarations) → list_any (is_kind kind) (declaring_faults earlier ds) ≡ refuses kind earlier ds
 any-declaring kind earlier [] = refl

@@ -1,28 +1,26 @@
 -- Lines of BOUNDS with a rejected bound or type are as `ValueFaultsInWords` defines the kind of their error.
-use Rattle.std.{proofs.Common.{arith, ◌≡◌, refl, ap, ◌∙◌, List, [], ◌∷◌, ◌++◌, ℕ, Bool, true, false, cond}, specs.Prelude.{Option, Some}}
-use Rattle.std.specs.{Prelude.{None, not, ◌||◌, ◌&&◌, nat_le}, List.{list_any, list_all, flat_map}, Option.option_map_or, Cmp.second_so}
+use Rattle.std.{proofs.Common.{arith, ◌≡◌, refl, ap, List, [], ◌∷◌, ◌++◌, ℕ, Bool, true, false, cond}, specs.Prelude.{Option, Some, None}}
+use Rattle.std.specs.{Prelude.{not, ◌||◌, ◌&&◌, nat_le}, List.{list_any, list_all, flat_map}, Option.option_map_or, Cmp.second_so}
 use Rattle.mpslp_types.{specs.{Name.same_bytes, declared.{kinds.Limit.Limit, faults.FaultKind.FaultKind}}, proofs.BoolLemmas.both_false}
 use Rattle.mpslp_types.proofs.BoolLemmas.{either, either_more}
 use Rattle.mpslp_types.specs.declared.faults.FaultKind.TheVariants as kinds
-use Rattle.mpslp_builder.specs.Declaration.{Declaration, declare_sense, declare_objective, declare_column, declare_coefficient}
-use Rattle.mpslp_builder.specs.Declaration.{declare_marked, declare_row, declare_rhs, declare_range, Draft, with_declaration, has_name}
-use Rattle.mpslp_builder.specs.Declaration.{is_integer, is_semi}
+use Rattle.mpslp_builder.specs.Declaration.{Declaration, declare_sense, declare_column, declare_coefficient, declare_marked, declare_rhs}
+use Rattle.mpslp_builder.specs.Declaration.{declare_range, Draft, with_declaration, has_name, is_integer, is_semi}
 use Rattle.mpslp_lines.specs.FaultTests.{value_of}
 use Rattle.mpslp_mps_fields.specs.{Line.{Fields, LineContent, skipped, header, data_line, has, section_named, is_section}, DataLine.Pair}
 use Rattle.mpslp_mps_fields.specs.DataLine.{ValuesLine, column_shape, is_marker_line, BoundLine, bound_type, bound_shape, is_integer_type}
 use Rattle.mpslp_mps_fields.specs.{DataLine.is_semi_type, declared.{bound_types.BoundType.BoundType, sections.Section.Section}}
-use Rattle.mpslp_mps_fields.specs.declared.sections.Section.TheVariants.{Name, ObjSense, ObjName, Rows, Columns, Rhs, Ranges, Bounds}
-use Rattle.mpslp_mps_fields.specs.declared.sections.Section.TheVariants.{EndData}
-use Rattle.mpslp_mps.specs.{Context.{Context, context_of, current_section, seen_sections, data_lines}, SeenSection.has_section}
+use Rattle.mpslp_mps_fields.specs.declared.sections.Section.TheVariants.{ObjSense, Rows, Columns, Rhs, Ranges, Bounds}
+use Rattle.mpslp_mps.specs.{Context.{Context, context_of, current_section, seen_sections}, SeenSection.has_section}
 use Rattle.mpslp_mps.specs.LineDeclarations.{declared_if_some, coefficient_declared, column_declared, columns_line_declared, bound_declared}
 use Rattle.mpslp_mps.{specs.LineDeclarations.{bound_value, bound_line_declared, data_declared, line_declares}, proofs.OrderLemmas.never}
 use Rattle.mpslp_mps_sentences.specs.{TextInWords.section_rank, FaultsInWords.IsInWords, ValueFaultsInWords.{gives_lower, gives_upper}}
-use Rattle.mpslp_mps_sentences.specs.ValueFaultsInWords.{is_such_bound, has_bound, repeats_bound_of, repeats_bound, is_in_block}
-use Rattle.mpslp_mps_sentences.specs.ValueFaultsInWords.{is_integer_column, clashes_with, makes_both_kinds}
-use Rattle.mpslp_mps_sentences.proofs.{ObjNameOfWords.no-more-lines, FaultedLines.{refuses, IsFirst, in-words-by}, FaultsOfNames.may_refuse}
-use Rattle.mpslp_mps_sentences.proofs.{RepeatsOfNames.{last-place, below-all}, DeclaredByLines.{is_of_header, is_at_home, IsErrorOfSection}}
-use Rattle.mpslp_mps_sentences.proofs.{DeclaredByLines.{line-of, unrefused-header, unrefused-at}, FaultsOfValues.AreValuesStated}
-use Rattle.mpslp_mps_sentences.proofs.FaultsOfValues.{values-stated, rejected}
+use Rattle.mpslp_mps_sentences.specs.ValueFaultsInWords.{is_such_bound, has_bound, repeats_bound_of, repeats_bound, is_integer_column}
+use Rattle.mpslp_mps_sentences.{specs.ValueFaultsInWords.{clashes_with, makes_both_kinds}, proofs.ObjNameOfWords.no-more-lines}
+use Rattle.mpslp_mps_sentences.proofs.{FaultedLines.{refuses, IsFirst, in-words-by}, FaultsOfNames.may_refuse, RepeatsOfNames.last-place}
+use Rattle.mpslp_mps_sentences.proofs.{RepeatsOfNames.below-all, DeclaredByLines.{is_of_header, is_at_home, IsErrorOfSection, line-of}}
+use Rattle.mpslp_mps_sentences.proofs.{DeclaredByLines.{unrefused-header, unrefused-at}, FaultsOfValues.{AreValuesStated, values-stated}}
+use Rattle.mpslp_mps_sentences.proofs.FaultsOfValues.{rejected}
 
 -- ---- a line of BOUNDS
 
@@ -102,10 +100,7 @@ column-unrefused : (context : Context) (earlier : Draft) (fields : Fields) → (
 column-unrefused context earlier fields none = by (is_marker_line fields)
   where
     front : (line : ValuesLine) (b : Bool) → refuses kinds.SemiContinuous (with_declaration earlier (declare_column line.name)) (cond b (declare_marked line.name ∷ []) [] ++ flat_map (coefficient_declared line.name) line.pairs) ≡ false
-    front line true =
-        ap (λ (b : Bool). (b || false) || refuses kinds.SemiContinuous (with_declaration (with_declaration earlier (declare_column line.name)) (declare_marked line.name)) (flat_map (coefficient_declared line.name) line.pairs)) (none line.name)
-        ∙ cells-unrefused line.name line.pairs (with_declaration (with_declaration earlier (declare_column line.name)) (declare_marked line.name))
-    front line false = cells-unrefused line.name line.pairs (with_declaration earlier (declare_column line.name))
+    front line b = grind (arith, refuses, cells-unrefused)
 
     shaped : (o : Option ValuesLine) → refuses kinds.SemiContinuous earlier (declared_if_some (column_declared context) o) ≡ false
     shaped None = refl
@@ -123,18 +118,14 @@ both-kinds : (before : List LineContent) (earlier : Draft) (item : LineContent) 
 both-kinds before earlier item stated first = by item (semi-refused before earlier item first)
   where
     headed : (d : Declaration) → is_of_header d ≡ true → not (may_refuse kinds.SemiContinuous d) ≡ true
-    headed (declare_sense _) h = refl
-    headed (declare_objective _) h = refl
-    headed _ h = cc
+    headed d h = grind arith
 
     in_sense : (d : Declaration) → is_at_home ObjSense d ≡ true → not (may_refuse kinds.SemiContinuous d) ≡ true
     in_sense (declare_sense _) h = refl
     in_sense _ h = cc
 
     in_rows : (d : Declaration) → is_at_home Rows d ≡ true → not (may_refuse kinds.SemiContinuous d) ≡ true
-    in_rows (declare_objective _) h = refl
-    in_rows (declare_row _ _) h = refl
-    in_rows _ h = cc
+    in_rows d h = grind arith
 
     in_sides : (d : Declaration) → is_at_home Rhs d ≡ true → not (may_refuse kinds.SemiContinuous d) ≡ true
     in_sides (declare_rhs _ _) h = refl
@@ -145,10 +136,7 @@ both-kinds before earlier item stated first = by item (semi-refused before earli
     in_ranges _ h = cc
 
     integer_column : (column : List ℕ) → is_integer earlier column ≡ true → is_integer_column before column ≡ true
-    integer_column column k =
-        either_more (has_name earlier.marked column) (has_name earlier.integers column || has_name earlier.binaries column) (is_in_block column (data_lines Columns before)) (has_bound before is_integer_type column) (stated.marked column)
-        (either (has_name earlier.integers column) (has_name earlier.binaries column) (has_bound before is_integer_type column) (stated.integers column)
-        (λ e. absurd (never (has_name earlier.binaries column) e (stated.plain.binaries column)))) k
+    integer_column column k = grind (arith, either_more, either, never)
 
     within : (a b c : Bool) → (b ≡ true → c ≡ true) → (a && b) ≡ true → (a && c) ≡ true
     within true b c f k = f k
@@ -164,14 +152,11 @@ both-kinds before earlier item stated first = by item (semi-refused before earli
     of_section fields (Some Bounds) e k = bounds-so kinds.SemiContinuous earlier (clashes_with before) each fields k
     of_section fields (Some Columns) e k =
         absurd (never (refuses kinds.SemiContinuous earlier (columns_line_declared (context_of before) fields)) k (column-unrefused (context_of before) earlier fields (λ column. none-semi before earlier column stated e)))
-    of_section fields None e k = k
-    of_section fields (Some Name) e k = k
-    of_section fields (Some ObjName) e k = k
-    of_section fields (Some EndData) e k = k
     of_section fields (Some ObjSense) e k = unrefused-at ObjSense kinds.SemiContinuous in_sense (context_of before) earlier fields k
     of_section fields (Some Rows) e k = unrefused-at Rows kinds.SemiContinuous in_rows (context_of before) earlier fields k
     of_section fields (Some Rhs) e k = unrefused-at Rhs kinds.SemiContinuous in_sides (context_of before) earlier fields k
     of_section fields (Some Ranges) e k = unrefused-at Ranges kinds.SemiContinuous in_ranges (context_of before) earlier fields k
+    of_section fields o e k = grind arith
 
     by : (x : LineContent) → refuses kinds.SemiContinuous earlier (line_declares (context_of before) earlier x) ≡ true → makes_both_kinds before x ≡ true
     by skipped k = k

@@ -195,10 +195,7 @@ sides-unknown earlier (pair ∷ pairs) all h = by (is_free_row earlier pair.row)
     by : (b : Bool) → ((next : Draft) → refuses kinds.UnknownRow next (flat_map (λ (pair : Pair). rhs_declared earlier pair.row (value_of pair.literal)) pairs) ≡ true → list_any (λ pair. not (has_row next pair.row)) pairs ≡ true)
         → refuses kinds.UnknownRow all (cond b [] (declare_rhs pair.row (value_of pair.literal) ∷ []) ++ flat_map (λ (pair : Pair). rhs_declared earlier pair.row (value_of pair.literal)) pairs) ≡ true
         → (not (has_row all pair.row) || list_any (λ p. not (has_row all p.row)) pairs) ≡ true
-    by true rest k = or_right (not (has_row all pair.row)) (list_any (λ p. not (has_row all p.row)) pairs) (rest all k)
-    by false rest k =
-        let next = with_declaration all (declare_rhs pair.row (value_of pair.literal)) in
-        either-pair (not (has_row all pair.row)) (refuses kinds.UnknownRow next (flat_map (λ (pair : Pair). rhs_declared earlier pair.row (value_of pair.literal)) pairs)) (list_any (λ p. not (has_row all p.row)) pairs) (rest next) k
+    by b rest k = grind (arith, or_right, either-pair, refuses)
 
 ranges-unknown : (pairs : List Pair) (all : Draft) → refuses kinds.UnknownRow all (map (λ (pair : Pair). declare_range pair.row (value_of pair.literal)) pairs) ≡ true → list_any (λ pair. not (has_row all pair.row)) pairs ≡ true
 ranges-unknown [] all h = cc
@@ -234,9 +231,7 @@ unknown-row before earlier (header keyword more) stated h = by (section_named ke
 
     form : (o : Option Section) → (holds_of kinds.UnknownRow (header_tests (context_of before) earlier keyword more o) || refuses kinds.UnknownRow earlier (header_declared (context_of before) earlier more o)) ≡ true
         → holds_of kinds.UnknownRow (header_tests (context_of before) earlier keyword more o) ≡ true
-    form o k =
-        left_only (holds_of kinds.UnknownRow (header_tests (context_of before) earlier keyword more o)) (refuses kinds.UnknownRow earlier (header_declared (context_of before) earlier more o))
-        (none-refuse kinds.UnknownRow (header_declared (context_of before) earlier more o) earlier (unrefused o)) k
+    form o k = grind (arith, left_only, holds_of, refuses, none-refuse, unrefused)
 
     sense : (fs : Fields) → holds_of kinds.UnknownRow (section_tests (context_of before) earlier ObjSense fs) ≡ true → false ≡ true
     sense [] k = k
@@ -296,10 +291,7 @@ unknown-row before earlier (data_line fields) stated h =
     begun_in s = columns-begun before s stated.known.words.ordered
 
     by : (o : Option Section) → current_section before ≡ o → refuses kinds.UnknownRow earlier (data_declared (context_of before) earlier fields o) ≡ true → list_any (λ pair. not (is_row before pair.row)) (pairs_in o fields) ≡ true
-    by None e k = k
-    by (Some Name) e k = k
     by (Some ObjSense) e k = no-one kinds.UnknownRow (data_declared (context_of before) earlier fields (Some ObjSense)) earlier (sense-passes (λ d. not (may_refuse kinds.UnknownRow d)) (λ _. refl) fields) k
-    by (Some ObjName) e k = k
     by (Some Rows) e k =
         no-one kinds.UnknownRow (data_declared (context_of before) earlier fields (Some Rows)) earlier
         (each-declared (λ d. not (may_refuse kinds.UnknownRow d)) (row_declared (context_of before) earlier) (row_shape fields)
@@ -308,7 +300,7 @@ unknown-row before earlier (data_line fields) stated h =
     by (Some Rhs) e k = sides (begun_in Rhs refl e) (vector_shape fields) k
     by (Some Ranges) e k = ranges (begun_in Ranges refl e) (vector_shape fields) k
     by (Some Bounds) e k = no-one kinds.UnknownRow (data_declared (context_of before) earlier fields (Some Bounds)) earlier (bounds-passes (λ d. not (may_refuse kinds.UnknownRow d)) passes fields) k
-    by (Some EndData) e k = k
+    by o e k = grind arith
 
 pub unknown-rows : IsInWords kinds.UnknownRow names_unknown_row
 unknown-rows = in-words kinds.UnknownRow names_unknown_row refl refl refl unknown-row

@@ -1,6 +1,6 @@
 -- Lines of RHS, RANGES and BOUNDS with a rejected value are as `ValueFaultsInWords` defines the kind of their error.
-use Rattle.std.{proofs.Common.{arith, ◌≡◌, refl, sym, ap, ◌∙◌, List, [], ◌∷◌, ◌++◌, ℕ, Bool, true, false, cond, map}, specs.Prelude.Option}
-use Rattle.std.specs.{Prelude.{Some, None, is_some, ◌||◌, ◌&&◌, filter}, List.{list_any, list_all, flat_map}, Option.option_map_or}
+use Rattle.std.{proofs.Common.{rules, arith, ◌≡◌, refl, List, [], ◌∷◌, ◌++◌, ℕ, Bool, true, false, cond, map}, specs.Prelude.{Option, Some}}
+use Rattle.std.specs.{Prelude.{None, is_some, ◌||◌, ◌&&◌, filter}, List.{list_any, list_all, flat_map}, Option.option_map_or}
 use Rattle.mpslp_decimal.specs.Decimal.{Number}
 use Rattle.mpslp_types.{specs.{Name.same_bytes, declared.faults.FaultKind.FaultKind}, proofs.BoolLemmas.{or_left, or_right, either_more}}
 use Rattle.mpslp_types.specs.declared.faults.FaultKind.TheVariants as kinds
@@ -108,10 +108,7 @@ again there (pair ∷ more) = there pair.row || again (λ row. same_bytes row pa
 
 again-more : (p q : List ℕ → Bool) → ((row : List ℕ) → p row ≡ true → q row ≡ true) → (pairs : List Pair) → again p pairs ≡ true → again q pairs ≡ true
 again-more p q h [] k = k
-again-more p q h (pair ∷ pairs) k =
-    either_more (p pair.row) (again (λ row. same_bytes row pair.row || p row) pairs) (q pair.row) (again (λ row. same_bytes row pair.row || q row) pairs) (h pair.row)
-    (again-more (λ row. same_bytes row pair.row || p row) (λ row. same_bytes row pair.row || q row)
-    (λ row e. either_more (same_bytes row pair.row) (p row) (same_bytes row pair.row) (q row) (λ f. f) (h row) e) pairs) k
+again-more p q h (pair ∷ pairs) k = grind (arith, either_more, again-more (λ row. same_bytes row pair.row || p row) (λ row. same_bytes row pair.row || q row) (λ row e. either_more (same_bytes row pair.row) (p row) (same_bytes row pair.row) (q row) (λ f. f) (h row) e) pairs)
 
 some-either : (p q : Pair → Bool) (pairs : List Pair) → list_any (λ pair. p pair || q pair) pairs ≡ (list_any p pairs || list_any q pairs)
 some-either p q [] = refl
@@ -126,24 +123,16 @@ twice-or_there there (pair ∷ pairs) h = by (there pair.row) h (λ k. twice-or_
     others = some-either (λ other. same_bytes other.row pair.row) (λ other. there other.row) pairs
 
     mix : (t a b : Bool) → (t || (a || b)) ≡ true → ((a || t) || b) ≡ true
-    mix true true b k = refl
-    mix true false b k = refl
-    mix false true b k = refl
-    mix false false b k = k
+    mix t a b k = grind arith
 
     by : (b : Bool) → (b || again (λ row. same_bytes row pair.row || there row) pairs) ≡ true
         → (again (λ row. same_bytes row pair.row || there row) pairs ≡ true → (has_row_twice pairs || list_any (λ other. same_bytes other.row pair.row || there other.row) pairs) ≡ true)
         → ((list_any (λ other. same_bytes other.row pair.row) pairs || has_row_twice pairs) || (b || list_any (λ other. there other.row) pairs)) ≡ true
-    by true k rest = or_right (list_any (λ other. same_bytes other.row pair.row) pairs || has_row_twice pairs) true refl
-    by false k rest =
-        mix (has_row_twice pairs) (list_any (λ other. same_bytes other.row pair.row) pairs) (list_any (λ other. there other.row) pairs)
-        (sym (ap (λ (b : Bool). has_row_twice pairs || b) others) ∙ rest k)
+    by b k rest = grind (arith, or_right, mix, others)
 
 -- each row that is there has a line
 repeats-from_again : (lines : List Fields) (there : List ℕ → Bool) → ((row : List ℕ) → there row ≡ true → list_any (has_value_of row) lines ≡ true) → (pairs : List Pair) → again there pairs ≡ true → repeats_row_of lines pairs ≡ true
-repeats-from_again lines there have pairs h =
-    either_more (has_row_twice pairs) (list_any (λ pair. there pair.row) pairs) (has_row_twice pairs) (list_any (λ pair. list_any (has_value_of pair.row) lines) pairs) (λ e. e)
-    (some (λ pair. there pair.row) (λ pair. list_any (has_value_of pair.row) lines) pairs (λ pair e. have pair.row e)) (twice-or_there there pairs h)
+repeats-from_again lines there have pairs h = search (rules, either_more, some, twice-or_there)
 
 -- ---- DuplicateRange
 
@@ -199,27 +188,19 @@ module _ (earlier : Draft) (takes : List ℕ → Bool) (limited : (row : List �
 
       -- one that is not declared
       skips : (b : Bool) → again (has_name all.rhs_values) rest ≡ true → again (has_name all.rhs_values) (cond b (pair ∷ rest) rest) ≡ true
-      skips true k =
-          or_right (has_name all.rhs_values pair.row) (again (λ row. same_bytes row pair.row || has_name all.rhs_values row) rest)
-          (again-more (has_name all.rhs_values) (λ row. same_bytes row pair.row || has_name all.rhs_values row) (λ row e. or_right (same_bytes row pair.row) (has_name all.rhs_values row) e) rest k)
-      skips false k = k
+      skips b k = grind (arith, or_right, again-more, rest)
 
       counts : (b l c : Bool) → l ≡ false → c ≡ false → (((b || (l || c)) || false) || refuses kinds.DuplicateRhs next more) ≡ true
           → (refuses kinds.DuplicateRhs next more ≡ true → again (has_name next.rhs_values) rest ≡ true) → (b || again (λ row. same_bytes row pair.row || has_name all.rhs_values row) rest) ≡ true
       counts b l c e f k step = grind (arith, again-more, has-put, next, rest)
 
       constant_none : (b : Bool) (o : Option Number) → o ≡ None → (b && is_some o) ≡ false
-      constant_none true None e = refl
-      constant_none false None e = refl
-      constant_none b (Some v) e = cc
+      constant_none b o e = grind arith
 
       by : (b : Bool) → is_free_row earlier pair.row ≡ b → refuses kinds.DuplicateRhs all (cond b [] (declare_rhs pair.row (value_of pair.literal) ∷ []) ++ more) ≡ true
           → (refuses kinds.DuplicateRhs all more ≡ true → again (has_name all.rhs_values) rest ≡ true) → (refuses kinds.DuplicateRhs next more ≡ true → again (has_name next.rhs_values) rest ≡ true)
           → again (has_name all.rhs_values) (filter (λ p. takes p.row) (pair ∷ pairs)) ≡ true
-      by true e k same step = skips (takes pair.row) (same k)
-      by false e k same step =
-          ap (λ (b : Bool). again (has_name all.rhs_values) (cond b (pair ∷ rest) rest)) (limited pair.row e)
-          ∙ counts (has_name all.rhs_values pair.row) (is_row_by_limits all pair.row) (is_objective all pair.row && is_some all.constant) (limits pair.row) (constant_none (is_objective all pair.row) all.constant constant) k step
+      by b e k same step = grind (arith, skips, rest, counts, constant_none)
 
 repeated-side : (before : List LineContent) (earlier : Draft) (item : LineContent) → AreValuesStated before earlier → IsFirst kinds.DuplicateRhs before earlier item → repeats_side before item ≡ true
 repeated-side before earlier item stated first =

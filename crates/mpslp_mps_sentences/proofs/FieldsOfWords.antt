@@ -1,12 +1,11 @@
 -- A data line with the fields that its section requires is well-formed, if its marker, its column and its set fit.
-use Rattle.std.{proofs.Common.{arith, rules, ◌≡◌, refl, ap, ◌∙◌, List, [], ◌∷◌, ◌++◌, ℕ, Bool, true, false, cond}, specs.Prelude.Option}
-use Rattle.std.specs.{Prelude.{Some, None, is_some, ◌&&◌, filter_map}, List.{list_any, cons_option}, Option.{option_map, option_map_or}}
-use Rattle.std.specs.Cmp.{first_so, second_so}
+use Rattle.std.{proofs.Common.{arith, rules, ◌≡◌, refl, ◌∙◌, List, [], ◌∷◌, ◌++◌, ℕ, Bool, true, false, cond}, specs.Prelude.{Option, Some}}
+use Rattle.std.specs.{Prelude.{None, is_some, ◌&&◌, filter_map}, Option.{option_map, option_map_or}, Cmp.{first_so, second_so}}
 use Rattle.mpslp_types.specs.{Name.{same_bytes, is_mps_name}, declared.faults.FaultKind.FaultKind, Lists.those_of}
 use Rattle.mpslp_types.proofs.BoolLemmas.{both_so}
 use Rattle.mpslp_types.specs.declared.faults.FaultKind.TheVariants as kinds
 use Rattle.mpslp_builder.{specs.Declaration.Draft, proofs.SlotLemmas.same_name}
-use Rattle.mpslp_lines.specs.FaultTests.{FaultTests, judged_by, name_tests, number_fault, is_kind, number_tests}
+use Rattle.mpslp_lines.specs.FaultTests.{FaultTests, judged_by, name_tests, number_fault, number_tests}
 use Rattle.mpslp_mps_fields.specs.{Line.Fields, DataLine.{Pair, ValuesLine, row_shape, column_shape, is_marker_line, marker_shape}}
 use Rattle.mpslp_mps_fields.specs.DataLine.{opening_word, closing_word, vector_shape, BoundLine, bound_type, bound_shape}
 use Rattle.mpslp_mps_fields.specs.declared.bound_types.BoundType.{BoundType}
@@ -23,15 +22,10 @@ no-fault literal h = grind arith
 
 no-faults : (pairs : List Pair) → have_numbers pairs ≡ true → filter_map number_fault (literals_of pairs) ≡ []
 no-faults [] h = refl
-no-faults (pair ∷ pairs) h =
-    ap (λ (o : Option FaultKind). cons_option o (filter_map number_fault (literals_of pairs))) (no-fault pair.literal (first_so (is_number pair.literal) (have_numbers pairs) h))
-    ∙ no-faults pairs (second_so (is_number pair.literal) (have_numbers pairs) h)
+no-faults (pair ∷ pairs) h = grind (arith, no-faults pairs (second_so (is_number pair.literal) (have_numbers pairs) h))
 
 numbers-pass : (pairs : List Pair) (more : FaultTests) → have_numbers pairs ≡ true → those_of (number_tests (literals_of pairs) ++ more) ≡ those_of more
-numbers-pass pairs more h =
-    ap (λ (faults : List FaultKind). those_of ((list_any (is_kind kinds.BadNumber) faults, kinds.BadNumber) ∷ (list_any (is_kind kinds.LongNumber) faults, kinds.LongNumber)
-    ∷ (list_any (is_kind kinds.TooManyDigits) faults, kinds.TooManyDigits) ∷ (list_any (is_kind kinds.ExponentRange) faults, kinds.ExponentRange) ∷ more))
-    (no-faults pairs h)
+numbers-pass pairs more h = grind (arith, no-faults)
 
 name-passes : (name : List ℕ) (more : FaultTests) → is_mps_name name ≡ true → those_of (name_tests name ++ more) ≡ those_of more
 name-passes name more h = grind arith

@@ -90,14 +90,10 @@ keyword-good before earlier keyword more rest sense name there stated h = by (se
         begins-so before t later (good t e) (sym (ap (λ (all : List Section). has all Rows) (begun t e)) ∙ h.rows) (sym (ap (λ (all : List Section). has all Columns) (begun t e)) ∙ h.columns)
 
     words : (s t : Section) → section_named keyword ≡ Some t → words_in s full ≡ words_in s before ++ (when (is_section s (Some t)) more ++ said_after (word_fields s) (Some t) rest)
-    words s t e =
-        said_after-append (word_fields s) None before (header keyword more ∷ rest)
-        ∙ ap (λ (o : Option Section). words_in s before ++ (when (is_section s o) more ++ said_after (word_fields s) (option_or o (current_section before)) rest)) e
+    words s t e = grind (arith, said_after-append)
 
     fits : (s : Section) (test : List ℕ → Bool) → section_named keyword ≡ Some s → is_section s (Some s) ≡ true → IsUnderway s test before → has_word_at_most test (words_in s full) ≡ true → fits_word test more ≡ true
-    fits s test e itself under k =
-        header-fits s test before more (said_after (word_fields s) (Some s) rest) under (fresh s e)
-        (sym (ap (has_word_at_most test) (words s s e ∙ ap (λ (b : Bool). words_in s before ++ (when b more ++ said_after (word_fields s) (Some s) rest)) itself)) ∙ k)
+    fits s test e itself under k = grind (arith, header-fits, fresh, words)
 
     idle : (t : Section) → section_named keyword ≡ Some t → is_some (word_due before) ≡ false
     idle t e = of (is_some (word_due before)) refl

@@ -1,5 +1,5 @@
 -- A draft has the rows, coefficients and sense of the lines before by `TextInWords`; each row that they name exists.
-use Rattle.std.proofs.Common.{arith, rules, ◌≡◌, refl, sym, ap, ◌∙◌, subst, List, [], ◌∷◌, ◌++◌, ℕ, Bool, true, false, cond}
+use Rattle.std.proofs.Common.{arith, rules, ◌≡◌, refl, sym, ap, ◌∙◌, List, [], ◌∷◌, ◌++◌, ℕ, Bool, true, false, cond}
 use Rattle.std.proofs.lemmas.{Bool.{false≢true, true≢false}, List.{Elements.filter_map-append, Concat.flat_map-append}}
 use Rattle.std.{proofs.lemmas.List.Folds.list_any-append, specs.Prelude.{Option, Some, None, is_none, is_some, not, filter_map, ◌||◌, ◌&&◌}}
 use Rattle.std.specs.{Prelude.codes, List.{list_any, list_all, flat_map, cons_option}, Option.{option_map, option_map_or}, Cmp.first_so}
@@ -12,9 +12,9 @@ use Rattle.mpslp_builder.specs.Declaration.{declare_coefficient, declare_marked,
 use Rattle.mpslp_builder.{specs.Declaration.{empty_draft, has_row, has_coefficient}, proofs.{LaterDrafts.more_entries, SlotLemmas.has-put}}
 use Rattle.mpslp_builder.proofs.SlotLemmas.{has-put_key}
 use Rattle.mpslp_lines.{specs.FaultTests.value_of, proofs.ObjectiveLemmas.named-after}
-use Rattle.mpslp_mps_fields.specs.{Line.{Fields, LineContent, skipped, header, data_line, begins, is_section}, DataLine.{RowLine, Pair}}
-use Rattle.mpslp_mps_fields.specs.DataLine.{ValuesLine, word_shape, row_type, column_shape, is_marker_line}
-use Rattle.mpslp_mps_fields.specs.declared.sections.Section.{Section, TheVariants.{ObjSense, ObjName, Rows, Columns}}
+use Rattle.mpslp_mps_fields.specs.{Line.{Fields, LineContent, data_line, begins, is_section}, DataLine.{RowLine, Pair, ValuesLine}}
+use Rattle.mpslp_mps_fields.specs.{DataLine.{word_shape, row_type, column_shape, is_marker_line}, declared.sections.Section.Section}
+use Rattle.mpslp_mps_fields.specs.declared.sections.Section.TheVariants.{ObjSense, ObjName, Rows, Columns}
 use Rattle.mpslp_mps.specs.{Context.{Context, context_of, current_section, objname, fields_under, data_lines}, SeenSection.has_section}
 use Rattle.mpslp_mps.specs.LineDeclarations.{declared_if_some, row_of_type, row_declared, coefficient_declared, column_declared}
 use Rattle.mpslp_mps.{specs.LineDeclarations.{data_declared, header_declared, line_declares}, proofs.OrderLemmas.{never, IsGood, no_rows}}
@@ -73,9 +73,7 @@ rows_there-kept before earlier item good there name h = by (names_row before nam
     under fields g b e k = grind (arith, section-is, row-fields, false≢true, row)
 
     new : (x : LineContent) → IsGood before earlier x → is_named name (filter_map row_name (fields_under Rows (current_section before) x)) ≡ true → has_row (with_declarations earlier (line_declares (context_of before) earlier x)) name ≡ true
-    new skipped g k = absurd (false≢true k)
-    new (header keyword more) g k = absurd (false≢true k)
-    new (data_line fields) g k = under fields g (is_section Rows (current_section before)) refl k
+    new x g k = grind (arith, false≢true, under)
 
     by : (b : Bool) → names_row before name ≡ b → (x : LineContent) → IsGood before earlier x → (b || is_named name (filter_map row_name (fields_under Rows (current_section before) x))) ≡ true
         → has_row (with_declarations earlier (line_declares (context_of before) earlier x)) name ≡ true
@@ -220,9 +218,7 @@ default_there-kept : (before : List LineContent) (earlier : Draft) (item : LineC
 default_there-kept before earlier item free there begun default = by (has_section before Columns) refl item (sym (has_section-push Columns before item) ∙ begun) free_before (no_word item word_after)
   where
     free_before : has_free_line before ≡ false
-    free_before =
-        (nor (has_free_line before) (list_any is_free_row_line (fields_under Rows (current_section before) item))
-        (sym (free_line-push before item) ∙ not_so (has_free_line (before ++ item ∷ [])) (first_so (not (has_free_line (before ++ item ∷ []))) (not (has_its_word (before ++ item ∷ []) ObjName)) default))).0
+    free_before = grind (arith, nor, free_line-push, not_so)
 
     word_after : has_its_word (before ++ item ∷ []) ObjName ≡ false
     word_after = not_so (has_its_word (before ++ item ∷ []) ObjName) (second_so (not (has_free_line (before ++ item ∷ []))) (not (has_its_word (before ++ item ∷ []) ObjName)) default)
@@ -231,17 +227,10 @@ default_there-kept before earlier item free there begun default = by (has_sectio
     no_word x e = grind (arith, never, word-push)
 
     none_yet : (b : Bool) → is_some earlier.objective ≡ b → has_free_line before ≡ false → has_section before Columns ≡ false → is_none earlier.objective ≡ true
-    none_yet true e f g = absurd (never (has_free_line before || has_section before Columns) (free e) (both_false (has_free_line before) (has_section before Columns) f g))
-    none_yet false e f g = of earlier.objective e
-      where
-        of : (o : Option (List ℕ)) → is_some o ≡ false → is_none o ≡ true
-        of None k = refl
-        of (Some y) k = absurd (true≢false k)
+    none_yet b e f g = grind (arith, never, both_false, true≢false)
 
     declares : (o : Option Section) (more : Fields) → is_section Columns o ≡ true → is_none earlier.objective ≡ true → is_none (objname before) ≡ true → has_row (with_declarations earlier (header_declared (context_of before) earlier more o)) (codes "obj") ≡ true
-    declares o more e f g =
-        subst (λ s. has_row (with_declarations earlier (header_declared (context_of before) earlier more s)) (codes "obj") ≡ true) (sym (section-is Columns o e))
-        (ap (λ (b : Bool). has_row (with_declarations earlier (cond b (declare_objective (codes "obj") ∷ []) [])) (codes "obj")) (both_so (is_none earlier.objective) (is_none (objname before)) f g))
+    declares o more e f g = grind (arith, section-is, both_so)
 
     by : (b : Bool) → has_section before Columns ≡ b → (x : LineContent) → (b || begins Columns x) ≡ true → has_free_line before ≡ false → has_its_word before ObjName ≡ false
         → has_row (with_declarations earlier (line_declares (context_of before) earlier x)) (codes "obj") ≡ true

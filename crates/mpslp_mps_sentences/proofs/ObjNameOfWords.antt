@@ -1,14 +1,14 @@
 -- If an N row has the name that OBJNAME gives, the header of COLUMNS finds the objective declared.
-use Rattle.std.proofs.Common.{arith, ◌≡◌, refl, sym, ap, ◌∙◌, subst, List, [], ◌∷◌, ◌++◌, ℕ, Bool, true, false}
+use Rattle.std.proofs.Common.{arith, ◌≡◌, refl, sym, ap, ◌∙◌, List, [], ◌∷◌, ◌++◌, ℕ, Bool, true, false}
 use Rattle.std.{proofs.lemmas.List.Folds.list_any-append, specs.{Prelude.{Option, Some, None, is_some, ◌&&◌, ◌||◌}, List.list_any}}
 use Rattle.std.specs.{List.cons_option, Option.{option_map_or, option_or}}
 use Rattle.mpslp_types.{specs.{Name.same_bytes, declared.kinds.RowType.{RowType, TheVariants.Free}, Lists.when}, proofs.BoolLemmas.nor}
 use Rattle.mpslp_builder.specs.Declaration.{Draft, with_declarations}
 use Rattle.mpslp_lines.proofs.ObjectiveLemmas.{named-after}
-use Rattle.mpslp_mps_fields.specs.Line.{Fields, LineContent, skipped, header, data_line, has, section_named, section_of_header, is_section}
-use Rattle.mpslp_mps_fields.specs.{DataLine.{RowLine, row_shape, row_type}, declared.sections.Section.{Section, TheVariants.Rows}}
+use Rattle.mpslp_mps_fields.specs.{Line.{Fields, LineContent, data_line, has, section_of_header, is_section}, DataLine.{RowLine, row_type}}
+use Rattle.mpslp_mps_fields.specs.declared.sections.Section.{Section, TheVariants.Rows}
 use Rattle.mpslp_mps.specs.Context.{context_of, seen_sections, current_section, fields_under, data_lines, data_lines_after, objname}
-use Rattle.mpslp_mps.specs.{SeenSection.has_section, LineDeclarations.{declared_if_some, row_declared, data_declared, line_declares}}
+use Rattle.mpslp_mps.specs.{SeenSection.has_section, LineDeclarations.{declared_if_some, row_declared, line_declares}}
 use Rattle.mpslp_mps.proofs.{OrderLemmas.IsGood, SectionLemmas.data_lines-push}
 use Rattle.mpslp_mps_sentences.{specs.TextInWords.{is_free, is_free_row_named, has_free_row}, proofs.WordsOfFields.section-is}
 use Rattle.mpslp_mps_sentences.proofs.WordsOfObjName.{IsWantedEarly, same-name, section-begun}
@@ -21,17 +21,12 @@ no-more-lines section current (item ∷ items) h k = by item k (λ c e f. no-mor
     of : (o : Option Section) → has (cons_option o (seen_sections items)) section ≡ false
         → ((c : Option Section) → is_section section c ≡ false → has_section items section ≡ false → data_lines_after section c items ≡ [])
         → data_lines_after section (option_or o current) items ≡ []
-    of None e rest = rest current h e
-    of (Some s) e rest =
-        let parts = nor (is_section section (Some s)) (has_section items section) e in
-        rest (Some s) parts.0 parts.1
+    of o e rest = grind (arith, nor)
 
     by : (x : LineContent) → has_section (x ∷ items) section ≡ false
         → ((c : Option Section) → is_section section c ≡ false → has_section items section ≡ false → data_lines_after section c items ≡ [])
         → fields_under section current x ++ data_lines_after section (option_or (section_of_header x) current) items ≡ []
-    by skipped e rest = rest current h e
-    by (header keyword more) e rest = of (section_named keyword) e rest
-    by (data_line fields) e rest = ap (λ (b : Bool). when b fields ++ data_lines_after section current items) h ∙ rest current h e
+    by x e rest = grind (arith, of)
 
 -- an N row with the name of OBJNAME is the objective
 abbrev pub IsDeclared : List LineContent → Draft → Type 0
@@ -50,9 +45,7 @@ declared-kept before earlier item good early there stated name row = by item goo
     next x = with_declarations earlier (line_declares (context_of before) earlier x)
 
     old : (x : LineContent) → IsGood before earlier x → objname (before ++ x ∷ []) ≡ Some stated → has_free_row before stated ≡ true → is_some (next x).objective ≡ true
-    old x g n r =
-        named-after (line_declares (context_of before) earlier x) earlier
-        (there stated (sym (same-name before earlier x g early (rows_begun before stated r)) ∙ n) r)
+    old x g n r = grind (arith, named-after, same-name, rows_begun)
 
     only : (b : Bool) → (b || false) ≡ true → b ≡ true
     only true e = refl
@@ -74,10 +67,7 @@ declared-kept before earlier item good early there stated name row = by item goo
 
     in_rows : (fields : Fields) → IsGood before earlier (data_line fields) → objname (before ++ data_line fields ∷ []) ≡ Some stated → is_section Rows (current_section before) ≡ true
         → (b : Bool) → has_free_row before stated ≡ b → (b || (is_free_row_named stated fields || false)) ≡ true → is_some (next (data_line fields)).objective ≡ true
-    in_rows fields g n here true e k = old (data_line fields) g n e
-    in_rows fields g n here false e k =
-        subst (λ o. is_some (with_declarations earlier (data_declared (context_of before) earlier fields o)).objective ≡ true) (sym (section-is Rows (current_section before) here))
-        (of_row (row_shape fields) (sym (same-name before earlier (data_line fields) g early (section-begun Rows (seen_sections before) here)) ∙ n) (only (is_free_row_named stated fields) k))
+    in_rows fields g n here b e k = grind (arith, section-is, same-name, section-begun, old, of_row, only)
 
     none_new : (x : LineContent) → IsGood before earlier x → objname (before ++ x ∷ []) ≡ Some stated → (has_free_row before stated || false) ≡ true → is_some (next x).objective ≡ true
     none_new x g n k = old x g n (only (has_free_row before stated) k)
@@ -89,6 +79,4 @@ declared-kept before earlier item good early there stated name row = by item goo
 
     by : (x : LineContent) → IsGood before earlier x → objname (before ++ x ∷ []) ≡ Some stated
         → (has_free_row before stated || list_any (is_free_row_named stated) (fields_under Rows (current_section before) x)) ≡ true → is_some (next x).objective ≡ true
-    by skipped g n k = none_new skipped g n k
-    by (header keyword more) g n k = none_new (header keyword more) g n k
-    by (data_line fields) g n k = under fields g n (is_section Rows (current_section before)) refl k
+    by x g n k = grind (arith, none_new, under)

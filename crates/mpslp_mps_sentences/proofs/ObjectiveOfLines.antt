@@ -2,15 +2,14 @@
 use Rattle.std.proofs.Common.{arith, ◌≡◌, refl, sym, ap, ◌∙◌, subst, List, [], ◌∷◌, ◌++◌, ℕ, Bool, true, false, cond}
 use Rattle.std.proofs.lemmas.{Bool.false≢true, List.{append-nil, Elements.filter_map-append, Concat.flat_map-append, Folds.list_any-append}}
 use Rattle.std.specs.{Prelude.{Option, Some, None, is_none, is_some, filter_map, ◌||◌, ◌&&◌, codes}, List.{list_any, flat_map, cons_option}}
-use Rattle.std.specs.{Option.{option_map, option_map_or}, Cmp.second_so}
+use Rattle.std.specs.Option.{option_map, option_map_or}
 use Rattle.mpslp_types.specs.{Name.same_bytes, declared.kinds.RowType.{RowType, TheVariants.Free}, Lists.{when, head_of, is_nonempty}}
 use Rattle.mpslp_types.proofs.BoolLemmas.{or_left, or_right}
 use Rattle.mpslp_builder.specs.Declaration.{by_type, declare_objective, declare_row, Draft, with_declaration, with_declarations}
 use Rattle.mpslp_builder.{specs.Declaration.{is_objective, is_free_definition, is_free_row}, proofs.LaterDrafts.{Extends, itself_named}}
 use Rattle.mpslp_builder.proofs.{LaterDrafts.is_objective-after, SlotLemmas.{at-put, same_name}}
-use Rattle.mpslp_mps_fields.specs.{Line.{Fields, LineContent, skipped, header, data_line, section_named, is_section}, DataLine.RowLine}
-use Rattle.mpslp_mps_fields.specs.{DataLine.{row_shape, row_type}, declared.sections.Section.{Section, TheVariants.{ObjName, Rows}}}
-use Rattle.mpslp_mps_fields.specs.declared.sections.Section.TheVariants.{Columns}
+use Rattle.mpslp_mps_fields.specs.{Line.{Fields, LineContent, header, data_line, section_named, is_section}, DataLine.{RowLine, row_shape}}
+use Rattle.mpslp_mps_fields.specs.{DataLine.row_type, declared.sections.Section.{Section, TheVariants.{ObjName, Rows, Columns}}}
 use Rattle.mpslp_mps.specs.Context.{Context, context_of, current_section, seen_sections, fields_under, data_lines, objname}
 use Rattle.mpslp_mps.specs.{SeenSection.has_section, LineDeclarations.{declared_if_some, row_of_type, row_declared, data_declared}}
 use Rattle.mpslp_mps.{specs.LineDeclarations.{header_declared, line_declares}, proofs.OrderLemmas.{IsGood, never}}
@@ -45,12 +44,7 @@ free_lines-kept before earlier item have row h = lines-kept Rows (λ all. is_fre
 
     free : (all : Draft) (name : List ℕ) (b : Bool) → is_free_row (with_declarations all (cond b (declare_objective name ∷ []) (declare_row name (by_type Free) ∷ []))) row ≡ true
         → (same_bytes name row || is_free_row all row) ≡ true
-    free all name true k = or_right (same_bytes name row) (is_free_row all row) k
-    free all name false k = by (same_bytes row name) refl (sym (row-after all name row Free) ∙ k)
-      where
-        by : (b : Bool) → same_bytes row name ≡ b → cond b true (is_free_row all row) ≡ true → (same_bytes name row || is_free_row all row) ≡ true
-        by true e f = or_left (same_bytes name row) (is_free_row all row) (same-back row name e)
-        by false e f = or_right (same_bytes name row) (is_free_row all row) f
+    free all name b k = grind (arith, or_right, row-after, or_left, same-back)
 
     typed : (context : Context) (all : Draft) (line : RowLine) (o : Option RowType) → is_free_row (with_declarations all (declared_if_some (row_of_type context all line.name) o)) row ≡ true
         → ((is_free o && same_bytes line.name row) || is_free_row all row) ≡ true
@@ -87,10 +81,7 @@ rows_free-kept before earlier item e have row h =
 
     new : (line : RowLine) (b : Bool) → same_bytes line.name row ≡ true
         → (is_free_row (with_declarations earlier (cond b (declare_objective line.name ∷ []) (declare_row line.name (by_type Free) ∷ []))) row || is_objective (with_declarations earlier (cond b (declare_objective line.name ∷ []) (declare_row line.name (by_type Free) ∷ []))) row) ≡ true
-    new line true s = or_right (is_free_row earlier row) (same_bytes row line.name) (same-back line.name row s)
-    new line false s =
-        or_left (is_free_row (with_declaration earlier (declare_row line.name (by_type Free))) row) (is_objective earlier row)
-        (row-after earlier line.name row Free ∙ ap (λ (b : Bool). cond b true (is_free_row earlier row)) (same-back line.name row s))
+    new line b s = grind (arith, or_right, same-back, or_left, row-after)
 
     typed : (line : RowLine) (o : Option RowType) → (is_free o && same_bytes line.name row) ≡ true
         → (is_free_row (with_declarations earlier (declared_if_some (row_of_type (context_of before) earlier line.name) o)) row || is_objective (with_declarations earlier (declared_if_some (row_of_type (context_of before) earlier line.name) o)) row) ≡ true
@@ -106,15 +97,10 @@ rows_free-kept before earlier item e have row h =
     one false k = k
 
     under : (fields : Fields) (b : Bool) → is_section Rows (current_section before) ≡ b → list_any (is_free_row_named row) (when b fields) ≡ true → (is_free_row (next (data_line fields)) row || is_objective (next (data_line fields)) row) ≡ true
-    under fields true s k =
-        subst (λ o. (is_free_row (with_declarations earlier (data_declared (context_of before) earlier fields o)) row || is_objective (with_declarations earlier (data_declared (context_of before) earlier fields o)) row) ≡ true)
-        (sym (section-is Rows (current_section before) s)) (shaped (row_shape fields) (one (is_free_row_named row fields) k))
-    under fields false s k = absurd (false≢true k)
+    under fields b s k = grind (arith, section-is, false≢true, shaped, one)
 
     here : (x : LineContent) → list_any (is_free_row_named row) (fields_under Rows (current_section before) x) ≡ true → (is_free_row (next x) row || is_objective (next x) row) ≡ true
-    here skipped k = absurd (false≢true k)
-    here (header keyword more) k = absurd (false≢true k)
-    here (data_line fields) k = under fields (is_section Rows (current_section before)) refl k
+    here x k = grind (arith, false≢true, under)
 
     by : (b : Bool) → has_free_row before row ≡ b → (x : LineContent) → Extends earlier (next x) → (b || list_any (is_free_row_named row) (fields_under Rows (current_section before) x)) ≡ true
         → (is_free_row (next x) row || is_objective (next x) row) ≡ true
@@ -150,9 +136,7 @@ none-free (fields ∷ lines) h = by (is_free_row_line fields) refl (free_row_nam
   where
     by : (b : Bool) → is_free_row_line fields ≡ b → (o : Option (List ℕ)) → free_row_name fields ≡ o → is_nonempty (cons_option o (filter_map free_row_name lines)) ≡ false
         → (is_nonempty (filter_map free_row_name lines) ≡ false → list_any is_free_row_line lines ≡ false) → (b || list_any is_free_row_line lines) ≡ false
-    by b e (Some name) f k rest = cc
-    by true e None f k rest = absurd (never (is_some (free_row_name fields)) (free-named fields e) (ap is_some f))
-    by false e None f k rest = rest k
+    by b e o f k rest = grind (arith, never, free-named)
 
 no-free : (lines : List Fields) → list_any is_free_row_line lines ≡ false → filter_map free_row_name lines ≡ []
 no-free [] h = refl
@@ -182,9 +166,7 @@ no-later-rows before earlier item stated begun = by item
     under fields false e = refl
 
     by : (x : LineContent) → fields_under Rows (current_section before) x ≡ []
-    by skipped = refl
-    by (header keyword more) = refl
-    by (data_line fields) = under fields (is_section Rows (current_section before)) refl
+    by x = grind (arith, under)
 
 pub first_named-kept : (before : List LineContent) (earlier : Draft) (item : LineContent) → IsGood before earlier item → Stated before earlier
     → Extends earlier (with_declarations earlier (line_declares (context_of before) earlier item)) → IsFirstNamed before earlier
@@ -236,9 +218,7 @@ first_named-kept before earlier item good stated extends have name h =
     no_free n e = no-free (data_lines Rows before) (of (list_any is_free_row_line (data_lines Rows before)) refl)
       where
         neither : (o p : Option (List ℕ)) → is_none o ≡ true → p ≡ None → (is_some o || is_some p) ≡ true → ⊥
-        neither None None f g k = absurd (false≢true k)
-        neither None (Some y) f g k = cc
-        neither (Some y) p f g k = cc
+        neither o p f g k = grind (arith, false≢true)
 
         of : (b : Bool) → list_any is_free_row_line (data_lines Rows before) ≡ b → b ≡ false
         of true f = absurd (neither earlier.objective (objname before) e n (stated.free_named f))
@@ -257,10 +237,7 @@ first_named-kept before earlier item good stated extends have name h =
 
     -- `obj` at the header of COLUMNS
     default : is_none earlier.objective ≡ true → is_none (objname before) ≡ true → same_bytes name (codes "obj") ≡ true → is_first (stated_names before ++ []) (free_names before ++ []) ≡ true
-    default e n k =
-        let none = unnamed_so (objname before) n in
-        subst (λ (names : List (List ℕ)). is_first (names ++ []) (free_names before ++ []) ≡ true) (sym (none_reported (stated_names before) (sym stated_head ∙ none)))
-        (subst (λ (names : List (List ℕ)). is_first [] (names ++ []) ≡ true) (sym (no_free none e)) k)
+    default e n k = grind (arith, unnamed_so, is_first, none_reported, stated_head, no_free)
 
     -- a line of type N
     line_named : (line : RowLine) → is_none earlier.objective ≡ true → option_map_or (same_bytes line.name) (objname before) true ≡ true → same_bytes name line.name ≡ true
@@ -281,12 +258,7 @@ first_named-kept before earlier item good stated extends have name h =
     at_header keyword more e o s k = of (is_section Columns o) refl
       where
         obj : (b : Bool) → (is_none earlier.objective && is_none (objname before)) ≡ b → is_objective (with_declarations earlier (cond b (declare_objective (codes "obj") ∷ []) [])) name ≡ true → is_first (stated_names before ++ []) (free_names before ++ []) ≡ true
-        obj true f l = default e (second_so (is_none earlier.objective) (is_none (objname before)) f) l
-        obj false f l = absurd (nobody earlier.objective e l)
-          where
-            nobody : (p : Option (List ℕ)) → is_none p ≡ true → option_map_or (same_bytes name) p false ≡ true → ⊥
-            nobody None g m = absurd (false≢true m)
-            nobody (Some y) g m = cc
+        obj b f l = grind (arith, false≢true, default)
 
         of : (b : Bool) → is_section Columns o ≡ b → Goal (header keyword more)
         of true f =
@@ -318,10 +290,7 @@ first_named-kept before earlier item good stated extends have name h =
 
         shaped : (o : Option RowLine) → row_shape fields ≡ o → is_objective (with_declarations earlier (declared_if_some (row_declared (context_of before) earlier) o)) name ≡ true
             → is_first (stated_names before ++ []) (rest ++ filter_map free_row_name (fields ∷ [])) ≡ true
-        shaped None r l = absurd (nobody_here e l)
-        shaped (Some line) r l =
-            ap (λ (o : Option RowLine). is_first (stated_names before ++ []) (rest ++ cons_option (cond (option_map_or (λ (line : RowLine). is_free (row_type line.letter)) o false) (option_map (λ (line : RowLine). line.name) o) None) [])) r
-            ∙ typed line (row_type line.letter) refl l
+        shaped o r l = grind (arith, nobody_here, is_first, rest, typed)
 
     at_data : (fields : Fields) → is_none earlier.objective ≡ true → is_objective (next (data_line fields)) name ≡ true → Goal (data_line fields)
     at_data fields e k = of (is_section Rows (current_section before)) refl
@@ -336,9 +305,7 @@ first_named-kept before earlier item good stated extends have name h =
             (objective-kept (data_declared (context_of before) earlier fields (current_section before)) earlier (data-unnamed (context_of before) earlier fields (current_section before) f)) k
 
     fresh : (x : LineContent) → is_none earlier.objective ≡ true → is_objective (next x) name ≡ true → Goal x
-    fresh skipped e k = absurd (nobody_here e k)
-    fresh (header keyword more) e k = at_header keyword more e (section_named keyword) refl k
-    fresh (data_line fields) e k = at_data fields e k
+    fresh x e k = grind (arith, nobody_here, at_header, at_data)
 
     by : (o : Option (List ℕ)) → earlier.objective ≡ o → Goal item
     by o e = grind (arith, stays, fresh)

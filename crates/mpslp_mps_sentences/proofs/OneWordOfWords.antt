@@ -1,9 +1,9 @@
 -- If OBJSENSE and OBJNAME each have one word, their headers and data lines are well-formed.
-use Rattle.std.{proofs.Common.{arith, ◌≡◌, refl, ap, ◌∙◌, List, [], ◌∷◌, ◌++◌, ℕ, Bool, true, false}, specs.Prelude.{Option, Some, None}}
-use Rattle.std.specs.{Prelude.{is_some, ◌||◌}, List.cons_option, Option.option_or}
+use Rattle.std.{proofs.Common.{arith, ◌≡◌, refl, List, [], ◌∷◌, ◌++◌, ℕ, Bool, true, false}, specs.Prelude.{Option, is_some, ◌||◌}}
+use Rattle.std.specs.{List.cons_option, Option.option_or}
 use Rattle.mpslp_types.{proofs.BoolLemmas.nor, specs.Lists.when}
-use Rattle.mpslp_mps_fields.specs.Line.{Fields, LineContent, skipped, header, data_line, has, section_named, section_of_header, is_section}
-use Rattle.mpslp_mps_fields.specs.declared.sections.Section.{Section, TheVariants.{ObjSense, ObjName}}
+use Rattle.mpslp_mps_fields.specs.{Line.{Fields, LineContent, has, section_of_header, is_section}, declared.sections.Section.Section}
+use Rattle.mpslp_mps_fields.specs.declared.sections.Section.TheVariants.{ObjSense, ObjName}
 use Rattle.mpslp_mps.specs.{Context.{seen_sections, current_section, said_after, word_due}, SeenSection.has_section}
 use Rattle.mpslp_mps.proofs.{SectionLemmas.current_section-push, ContextLemmas.word_due-push}
 use Rattle.mpslp_mps_sentences.{specs.TextInWords.{word_fields, words_in, has_word_at_most}, proofs.WordsOfOneWord.{fits_word, is_single}}
@@ -37,17 +37,12 @@ no-more-words section current (item ∷ items) h k = by item k (λ c e f. no-mor
     of : (o : Option Section) (more : Fields) → has (cons_option o (seen_sections items)) section ≡ false
         → ((c : Option Section) → is_section section c ≡ false → has_section items section ≡ false → said_after (word_fields section) c items ≡ [])
         → when (is_section section o) more ++ said_after (word_fields section) (option_or o current) items ≡ []
-    of None more e rest = rest current h e
-    of (Some s) more e rest =
-        let parts = nor (is_section section (Some s)) (has_section items section) e in
-        ap (λ (b : Bool). when b more ++ said_after (word_fields section) (Some s) items) parts.0 ∙ rest (Some s) parts.0 parts.1
+    of o more e rest = grind (arith, nor)
 
     by : (x : LineContent) → has_section (x ∷ items) section ≡ false
         → ((c : Option Section) → is_section section c ≡ false → has_section items section ≡ false → said_after (word_fields section) c items ≡ [])
         → word_fields section current x ++ said_after (word_fields section) (option_or (section_of_header x) current) items ≡ []
-    by skipped e rest = rest current h e
-    by (header keyword more) e rest = of (section_named keyword) more e rest
-    by (data_line fields) e rest = ap (λ (b : Bool). when b fields ++ said_after (word_fields section) current items) h ∙ rest current h e
+    by x e rest = grind (arith, of)
 
 -- no header comes before the missing word of a section
 pub not-left : (section : Section) (test : List ℕ → Bool) (before : List LineContent) → IsUnderway section test before → is_section section (current_section before) ≡ true → is_some (word_due before) ≡ true

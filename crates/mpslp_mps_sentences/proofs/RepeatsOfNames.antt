@@ -1,7 +1,7 @@
 -- Rows and coefficients that a line names again are repeated in the sense of `FaultsInWords`.
-use Rattle.std.proofs.Common.{◌≡◌, refl, sym, ap, ◌∙◌, List, [], ◌∷◌, ◌++◌, ℕ, Bool, true, false, cond, arith}
-use Rattle.std.{proofs.lemmas.Bool.Decides.nat_tests, specs.Prelude.{Option, Some, None, is_none, is_some, not, nat_le, ◌||◌, ◌&&◌, codes}}
-use Rattle.std.specs.{List.{list_any, list_all, last_or, flat_map}, Option.{option_map, option_map_or}, Cmp.{first_so, second_so}}
+use Rattle.std.proofs.{Common.{◌≡◌, refl, ap, ◌∙◌, List, [], ◌∷◌, ◌++◌, ℕ, Bool, true, false, cond, arith}, lemmas.Bool.Decides.nat_tests}
+use Rattle.std.specs.{Prelude.{Option, Some, None, is_none, is_some, not, nat_le, ◌||◌, ◌&&◌, codes}, List.{list_any, list_all, last_or}}
+use Rattle.std.specs.{List.flat_map, Option.{option_map, option_map_or}, Cmp.{first_so, second_so}}
 use Rattle.mpslp_types.specs.{Name.same_bytes, declared.{faults.FaultKind.FaultKind, kinds.RowType.RowType}, Lists.{is_nonempty, those_of}}
 use Rattle.mpslp_types.proofs.BoolLemmas.{both_so, both_false, or_left, or_right, so_not}
 use Rattle.mpslp_types.specs.declared.faults.FaultKind.TheVariants as kinds
@@ -18,13 +18,12 @@ use Rattle.mpslp_mps.specs.{LineFault.{header_tests, data_tests}, LineDeclaratio
 use Rattle.mpslp_mps.specs.LineDeclarations.{row_declared, coefficient_declared, column_declared, data_declared, header_declared}
 use Rattle.mpslp_mps.{specs.LineDeclarations.line_declares, proofs.OrderLemmas.{IsGood, never, header-fresh, each-declared, each-flat}}
 use Rattle.mpslp_mps.proofs.OrderLemmas.{sense-passes, sides-passes, ranges-passes}
-use Rattle.mpslp_mps_sentences.specs.{TextInWords.{section_rank, is_sense, in_order, words_in}, FaultsInWords.{IsInWords, names_row}}
-use Rattle.mpslp_mps_sentences.specs.FaultsInWords.{row_name, has_default_objective, repeats_row, column_line, has_row_twice, has_entry_of}
+use Rattle.mpslp_mps_sentences.specs.{TextInWords.{section_rank, in_order, words_in}, FaultsInWords.{IsInWords, names_row, row_name}}
+use Rattle.mpslp_mps_sentences.specs.FaultsInWords.{has_default_objective, repeats_row, column_line, has_row_twice, has_entry_of}
 use Rattle.mpslp_mps_sentences.{specs.FaultsInWords.{repeats_entry_of, repeats_entry}, proofs.BoundsPasses.{Passes, bounds-passes}}
-use Rattle.mpslp_mps_sentences.proofs.{WordsOfObjName.stated-words, WordsOfOneWord.{missing, without_word, with_word, IsUnderway}}
-use Rattle.mpslp_mps_sentences.proofs.{WordsOfOneWord.sense-word, NamesOfWords.Stated, FaultedLines.{holds_of, refuses, is_below, IsFirst}}
-use Rattle.mpslp_mps_sentences.proofs.{FaultedLines.in-words, KindsOfLines.{left_only, right_only, kinds_in}, FaultsOfNames.may_refuse}
-use Rattle.mpslp_mps_sentences.proofs.FaultsOfNames.{no-one, form-good, some}
+use Rattle.mpslp_mps_sentences.proofs.{WordsOfObjName.stated-words, WordsOfOneWord.{missing, without_word, with_word, sense-word}}
+use Rattle.mpslp_mps_sentences.proofs.{NamesOfWords.Stated, FaultedLines.{holds_of, refuses, is_below, IsFirst, in-words}}
+use Rattle.mpslp_mps_sentences.proofs.{KindsOfLines.{left_only, right_only, kinds_in}, FaultsOfNames.{may_refuse, no-one, form-good, some}}
 
 -- ---- DuplicateRow
 
@@ -146,17 +145,12 @@ cells-repeat column (pair ∷ pairs) all h = by (has_coefficient all (key pair))
     one_column e = some (λ other. same_bytes other.row pair.row && same_bytes column column) (λ other. same_bytes other.row pair.row) pairs (λ other f. first_so (same_bytes other.row pair.row) (same_bytes column column) f) e
 
     gather : (t a b : Bool) → a ≡ list_any (λ other. same_bytes other.row pair.row && same_bytes column column) pairs → (t || (a || b)) ≡ true → ((list_any (λ other. same_bytes other.row pair.row) pairs || t) || b) ≡ true
-    gather true a b e k = or_left (list_any (λ other. same_bytes other.row pair.row) pairs || true) b (or_right (list_any (λ other. same_bytes other.row pair.row) pairs) true refl)
-    gather false true b e k = or_left (list_any (λ other. same_bytes other.row pair.row) pairs || false) b (or_left (list_any (λ other. same_bytes other.row pair.row) pairs) false (one_column (sym e)))
-    gather false false b e k = or_right (list_any (λ other. same_bytes other.row pair.row) pairs || false) b k
+    gather t a b e k = grind (arith, or_left, or_right, one_column)
 
     by : (b : Bool) → has_coefficient all (record { row = pair.row; column = column }) ≡ b → ((b || false) || refuses kinds.DuplicateEntry next (flat_map (coefficient_declared column) pairs)) ≡ true
         → (refuses kinds.DuplicateEntry next (flat_map (coefficient_declared column) pairs) ≡ true → (has_row_twice pairs || list_any (λ p. has_coefficient next (record { row = p.row; column = column })) pairs) ≡ true)
         → ((list_any (λ other. same_bytes other.row pair.row) pairs || has_row_twice pairs) || (b || list_any (λ p. has_coefficient all (record { row = p.row; column = column })) pairs)) ≡ true
-    by true e k rest = or_right (list_any (λ other. same_bytes other.row pair.row) pairs || has_row_twice pairs) true refl
-    by false e k rest =
-        gather (has_row_twice pairs) (list_any (λ other. same_bytes other.row pair.row && same_bytes column column) pairs) (list_any (λ p. has_coefficient all (record { row = p.row; column = column })) pairs) refl
-        (sym (ap (λ (b : Bool). has_row_twice pairs || b) now) ∙ rest k)
+    by b e k rest = grind (arith, or_right, gather, now)
 
 -- a well-formed line does not declare a second sense: OBJSENSE has not begun, or has no word yet
 fresh-sense : (before : List LineContent) (earlier : Draft) → Stated before earlier → is_nonempty (flat_map (λ fields. fields) (words_in ObjSense before)) ≡ false → is_some earlier.sense ≡ false
@@ -178,12 +172,7 @@ repeated-entry before earlier item stated first =
     not_begun out = grind (arith, missing, fresh-sense, without_word, never, with_word)
 
     no_word : current_section before ≡ Some ObjSense → is_some (word_due before) ≡ true → is_some earlier.sense ≡ false
-    no_word e w = stage stated.known.words.sense
-      where
-        stage : IsUnderway ObjSense is_sense before → is_some earlier.sense ≡ false
-        stage (missing, (a, b, c)) = fresh-sense before earlier stated (ap (λ (words : List Fields). is_nonempty (flat_map (λ fields. fields) words)) a)
-        stage (without_word, (a, b, c, d)) = fresh-sense before earlier stated (ap (λ (words : List Fields). is_nonempty (flat_map (λ fields. fields) words)) a)
-        stage (with_word, (a, b, c)) = absurd (never (is_some (word_due before)) w (c (ap (is_section ObjSense) e)))
+    no_word e w = grind (arith, missing, fresh-sense, without_word, with_word, never)
 
     head : (keyword : List ℕ) (more : Fields) (o : Option Section) → those_of (header_tests (context_of before) earlier keyword more o) ≡ [] → refuses kinds.DuplicateEntry earlier (header_declared (context_of before) earlier more o) ≡ true → false ≡ true
     head keyword more o g k = grind (arith, never, refuses, sense-once, header-fresh, objective-once, not_begun)
@@ -202,10 +191,7 @@ repeated-entry before earlier item stated first =
     lines line all same k = of (has_row_twice line.pairs) (cells-repeat line.name line.pairs all k)
       where
         of : (b : Bool) → (b || list_any (λ pair. has_coefficient all (record { row = pair.row; column = line.name })) line.pairs) ≡ true → (b || list_any (λ pair. list_any (has_entry_of line.name pair.row) (data_lines Columns before)) line.pairs) ≡ true
-        of true e = refl
-        of false e =
-            some (λ pair. has_coefficient all (record { row = pair.row; column = line.name })) (λ pair. list_any (has_entry_of line.name pair.row) (data_lines Columns before)) line.pairs
-            (λ pair f. stated.entry_lines (record { row = pair.row; column = line.name }) (sym (same (record { row = pair.row; column = line.name })) ∙ f)) e
+        of b e = grind (arith, some, row)
 
     marks : (line : ValuesLine) (b : Bool) → refuses kinds.DuplicateEntry (with_declaration earlier (declare_column line.name)) (cond b (declare_marked line.name ∷ []) [] ++ flat_map (coefficient_declared line.name) line.pairs) ≡ true → repeats_entry_of before line ≡ true
     marks line true k = lines line (with_declaration (with_declaration earlier (declare_column line.name)) (declare_marked line.name)) (λ key. refl) k

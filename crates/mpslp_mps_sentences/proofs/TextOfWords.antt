@@ -3,7 +3,7 @@ use Rattle.std.proofs.Common.{arith, rules, ◌≡◌, refl, sym, ap, subst, Lis
 use Rattle.std.specs.Prelude.{not, ◌&&◌}
 use Rattle.mpslp_types.{proofs.BoolLemmas.both_so, specs.Lists.is_nonempty}
 use Rattle.mpslp_builder.specs.Declaration.{Draft, empty_draft, with_declarations}
-use Rattle.mpslp_mps_fields.specs.Line.{LineContent, skipped, header, data_line}
+use Rattle.mpslp_mps_fields.specs.Line.{LineContent}
 use Rattle.mpslp_mps.{specs.{Context.context_of, LineDeclarations.line_declares, MpsText.is_mps_text}, proofs.OrderLemmas.IsGood}
 use Rattle.mpslp_mps.proofs.ContextLineLemmas.{form_faults, are_well_formed, lines-good}
 use Rattle.mpslp_mps_sentences.{specs.{TextInWords.is_text_in_words, Laws.TextIsInWords}, proofs.WordsOfText.{AreInWords, none-yet}}
@@ -38,9 +38,7 @@ all-good (item ∷ items) before earlier known lines headers =
     (subst AreGoodLines (sym (append_assoc before (item ∷ []) items)) lines) (subst AreGoodHeaders (sym (append_assoc before (item ∷ []) items)) headers))
   where
     here : (x : LineContent) → AreGoodLines (before ++ x ∷ items) → AreGoodHeaders (before ++ x ∷ items) → IsGood before earlier x
-    here skipped l h = refl
-    here (header keyword more) l h = keyword-good before earlier keyword more items known.words.sense known.words.name known.there known.declares h
-    here (data_line fields) l h = data-good before earlier fields items known.words.sense known.words.name known.lines l
+    here x l h = grind (arith, keyword-good, data-good)
 
 text-of_words : (bytes : List ℕ) → is_text_in_words bytes ≡ true → is_mps_text bytes ≡ true
 text-of_words bytes h = grind (arith, both, both_so, lines-good, all-good, none-known)

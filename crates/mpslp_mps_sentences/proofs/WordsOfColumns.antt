@@ -76,9 +76,7 @@ together-more x (c ∷ columns) h k =
     later (d ∷ cs) e = fewer (same_column x c) (list_any (same_column x) (d ∷ cs)) (not (same_column x (last_of d cs))) e
 
     so : (a b n : Bool) → a ≡ true → ((a || b) && not n) ≡ false → n ≡ true
-    so true b true e f = refl
-    so true b false e f = sym f
-    so false b n e f = cc
+    so a b n e f = grind arith
 
     nothing : same_column c x ≡ true → is_nonempty (entries_after c columns) ≡ false
     nothing e =
@@ -139,10 +137,7 @@ columns-kept before earlier item good there h =
 
     apart : (name : List ℕ) (b : Bool) → list_any (same_column (Some name)) (columns_of before) ≡ b → is_split (context_of before) earlier name ≡ false
         → (b && not (same_column (Some name) (last_of None (columns_of before)))) ≡ false
-    apart name false e k = refl
-    apart name true e k =
-        sym (ap (λ (o : Column). not (option_map_or (same_bytes name) o false)) last ∙ ap not (same_test name (last_of None (columns_of before))))
-        ∙ sym (ap (λ (b : Bool). b && not (option_map_or (same_bytes name) (last_column before) false)) (there name e)) ∙ k
+    apart name b e k = grind (arith, last, same_test)
 
     by : (x : Column) → ((name : List ℕ) → x ≡ Some name → is_split (context_of before) earlier name ≡ false) → comes_again x (columns_of before) ≡ false
     by None k = ap (λ (b : Bool). b && not (same_column None (last_of None (columns_of before)))) (nowhere (columns_of before))

@@ -136,10 +136,7 @@ pub vector-set : (first : Option (List ℕ)) (fields : Fields) → those_of (jud
 vector-set first fields h name e = by (vector_shape fields) h e
   where
     by : (o : Option ValuesLine) → those_of (judged_by (vector_tests first) o) ≡ [] → option_map (λ (line : ValuesLine). line.name) o ≡ Some name → is_other_set first name ≡ false
-    by None k f = cc
-    by (Some line) k f =
-        ap (is_other_set first) (sym (some-word line.name name f))
-        ∙ first_test (is_other_set first line.name) kinds.SecondSet [] (after-numbers (literals_of line.pairs) (set_tests first line.name) k).1
+    by o k f = grind (arith, some-word, first_test, after-numbers)
 
 bound-parts : (context : Context) (line : BoundLine) → those_of (bound_tests context line) ≡ []
     → (option_map_or is_number line.literal true ≡ true) × (is_other_set context.bounds_set line.set ≡ false)

@@ -6,8 +6,8 @@ use Rattle.std.specs.Cmp.{second_so}
 use Rattle.mpslp_types.{proofs.BoolLemmas.{both_so, or_left, or_right, back, nor, not_so, so_not}, specs.Lists.{those_of, is_nonempty}}
 use Rattle.mpslp_types.specs.Lists.{are_distinct}
 use Rattle.mpslp_builder.specs.Declaration.{Draft}
-use Rattle.mpslp_mps_fields.specs.Line.{Fields, LineContent, skipped, header, data_line, has, section_named, section_of_header, is_section}
-use Rattle.mpslp_mps_fields.specs.{Line.may_follow, declared.sections.Section.{Section, TheVariants.{Rows, Columns, EndData}}}
+use Rattle.mpslp_mps_fields.specs.Line.{Fields, LineContent, has, section_of_header, is_section, may_follow}
+use Rattle.mpslp_mps_fields.specs.declared.sections.Section.{Section, TheVariants.{Rows, Columns, EndData}}
 use Rattle.mpslp_mps.specs.{Context.{Context, context_of, seen_sections}, LineFault.{may_begin, section_tests, header_tests}}
 use Rattle.mpslp_mps.proofs.{OrderLemmas.{IsGood, header-fresh, header-begins}, SectionLemmas.said_after-push}
 use Rattle.mpslp_mps_sentences.specs.TextInWords.{section_rank, in_order, same_section, may_have_more, is_good_header, stray_lines}
@@ -113,9 +113,7 @@ ordered-kept before earlier item good o = subst AreOrdered (sym (filter_map-appe
     of keyword more (Some s) g = ordered-more before s o (header-fresh (context_of before) earlier keyword more s g) (header-begins (context_of before) earlier keyword more s g)
 
     by : (x : LineContent) → IsGood before earlier x → AreOrdered (seen_sections before ++ cons_option (section_of_header x) [])
-    by skipped g = same
-    by (header keyword more) g = of keyword more (section_named keyword) g
-    by (data_line fields) g = same
+    by x g = grind (arith, same, of)
 
 -- ---- what follows a keyword
 

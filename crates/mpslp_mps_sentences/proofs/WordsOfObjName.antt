@@ -107,11 +107,7 @@ named-kept before earlier item good ordered early n = record {
 
     -- an objective that exists was declared in ROWS
     begun : is_some earlier.objective ≡ true → has_section before Rows ≡ true
-    begun h = by (has_section before Rows) refl
-      where
-        by : (b : Bool) → has_section before Rows ≡ b → has_section before Rows ≡ true
-        by true e = e
-        by false e = absurd (never (is_some earlier.objective) h (n.none e))
+    begun h = grind (arith, never)
 
     kept : (x : LineContent) → IsGood before earlier x → is_some earlier.objective ≡ true → has_named_row (before ++ x ∷ []) ≡ true
     kept x g h = row-kept before earlier x g early (begun h) (n.named h)
@@ -165,9 +161,7 @@ named-kept before earlier item good ordered early n = record {
         by false e = kept (data_line fields) g (sym (unnamed (data_line fields) (data-unnamed (context_of before) earlier fields (current_section before) e)) ∙ h)
 
     begins_columns : (x : LineContent) → IsGood before earlier x → begins Columns x ≡ true → has_named_row (before ++ x ∷ []) ≡ true
-    begins_columns skipped g e = cc
-    begins_columns (header keyword more) g e = at_columns keyword more g e
-    begins_columns (data_line fields) g e = cc
+    begins_columns x g e = grind (arith, at_columns)
 
     whole : (b : Bool) → has_section before Columns ≡ b → (b || begins Columns item) ≡ true → has_named_row (before ++ item ∷ []) ≡ true
     whole true e k = row-kept before earlier item good early (rows-there (seen_sections before) ordered e) (n.complete e)
@@ -189,9 +183,7 @@ stated-words current (item ∷ items) =
     when_so fields false = refl
 
     by : (x : LineContent) → filter_map word_shape (word_fields ObjName current x) ≡ cons_option (objname_word current x) []
-    by skipped = refl
-    by (header keyword more) = when_so more (is_section ObjName (section_named keyword))
-    by (data_line fields) = when_so fields (is_section ObjName current)
+    by x = grind (arith, when_so)
 
 words-named : (test : List ℕ → Bool) (words : List Fields) → has_word_at_most (λ _. true) words ≡ true → list_all test (flat_map (λ fields. fields) words) ≡ option_map_or test (head_of (filter_map word_shape words)) true
 words-named test words h = grind arith
