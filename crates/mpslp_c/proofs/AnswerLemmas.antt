@@ -108,10 +108,7 @@ stored_refused (Err found) why status out out' fault fault' (inr memory) returne
 
 -- each error of arrays has one status
 refused_as : (arrays : MpslpModel) (why : StoreFault) (status : ℕ) → HasFault arrays why → IsUnless (store_status why) status → IsUnless REFUSED status
-refused_as arrays (stored.Item fault) status has so = so
-refused_as arrays (stored.Whole fault) status has so = so
-refused_as arrays (stored.NotLp place) status has so = absurd has
-refused_as arrays stored.OutOfMemory status has so = absurd has
+refused_as arrays why status has so = grind arith
 
 pub stored_so : (unfit : Unfit) (text : TextOf) (arrays : MpslpModel) (answer : Result (Vec ℕ Global) StoreFault) (status : ℕ) (out out' : MpslpText) (fault fault' : MpslpFault)
     → IsStoring unfit text arrays answer

@@ -1,5 +1,5 @@
 -- What is true of rows, columns and elements stays true while more are appended.
-use Rattle.std.proofs.Common.{◌≡◌, refl, sym, ap, ◌∙◌, subst, ℕ, zero, suc, ◌<◌, ◌+◌, List, [], ◌∷◌, ◌++◌, length, None, Some, Option}
+use Rattle.std.proofs.Common.{arith, ◌≡◌, refl, sym, ◌∙◌, subst, ℕ, zero, suc, ◌<◌, ◌+◌, List, [], ◌∷◌, ◌++◌, length, None, Some, Option}
 use Rattle.std.{proofs.lemmas.List.Sums.sum_by_more, specs.Prelude.slice_get}
 use Rattle.mpslp_model_core.specs.{Model.LinearModel, Views.{num_columns, row_name, column_name, column_names, numbered_elements}}
 use Rattle.mpslp_decimal.specs.Decimal.{Number}
@@ -18,20 +18,12 @@ is_there : {X : Type 0} (xs : List X) (x : X) (i : ℕ) (y : X) → slice_get (x
 is_there [] x zero y h = last refl cc
 is_there [] x (suc i) y h = let no : ⊥ = cc in absurd no
 is_there (z ∷ xs) x zero y h = before h
-is_there {X} (z ∷ xs) x (suc i) y h =
-    elim (is_there xs x i y h) as (λ _. IsThere (z ∷ xs) x (suc i) y) [
-      | before b ↦ before b
-      | last e s ↦ last (ap (λ (n : ℕ). suc n) e) s
-    ]
+is_there {X} (z ∷ xs) x (suc i) y h = grind (arith, is_there xs x i y h)
 
 -- a fact of each, by its number
 pub each-more : {X : Type 0} (P : ℕ → X → Type 0) (xs : List X) (n : ℕ) (x : X) → length xs ≡ n
     → ((i : ℕ) (y : X) → slice_get xs i ≡ Some y → P i y) → P n x → (i : ℕ) (y : X) → slice_get (xs ++ x ∷ []) i ≡ Some y → P i y
-each-more {X} P xs n x counted each here i y h =
-    elim (is_there xs x i y h) as (λ _. P i y) [
-      | before b ↦ each i y b
-      | last e s ↦ subst (λ (z : X). P i z) s (subst (λ (k : ℕ). P k x) (sym counted ∙ sym e) here)
-    ]
+each-more {X} P xs n x counted each here i y h = grind (arith, is_there)
 
 -- ---- names that are kept
 

@@ -1,7 +1,6 @@
 -- Items without an error define a model, and the items of arrays that define a model have no error.
 use Rattle.std.proofs.Common.{arith, ◌≡◌, refl, sym, ap, ◌∙◌, subst, ℕ, List, [], ◌∷◌, ◌++◌, map, Bool, true, Option, None, Some}
-use Rattle.std.{proofs.lemmas.List.append-nil, specs.{Prelude.is_some, List.{list_all, flat_map}, Option.option_map_or, Cmp.first_so}}
-use Rattle.std.specs.Cmp.{second_so}
+use Rattle.std.specs.{Prelude.is_some, List.{list_all, flat_map}, Option.option_map_or, Cmp.{first_so, second_so}}
 use Rattle.mpslp_model_core.specs.Model.{LinearModel}
 use Rattle.mpslp_types.specs.{Lists.head_of, declared.{kinds.Limit.Limit, faults.{BuildFault.BuildFault, FaultKind.FaultKind}}}
 use Rattle.mpslp_types.proofs.BoolLemmas.{both_so}
@@ -9,7 +8,7 @@ use Rattle.mpslp_builder.specs.Declaration.{declare_objective, declare_lower, de
 use Rattle.mpslp_builder.specs.{Declaration.{with_declaration, with_declarations}, Refusal.{refusals, refusals_in_turn, bounds_refusals}}
 use Rattle.mpslp_builder.{specs.{Consistency.has_objective, Meaning.DraftMeans}, proofs.RefusalLemmas.{left_none, right_none, join_none}}
 use Rattle.mpslp_builder.proofs.RefusalLemmas.{are_known_in_turn, consistent-from_none, none-from_consistent}
-use Rattle.mpslp_builder.proofs.MadeDrafts.{with_declarations-append, refusals_in_turn-append, bounds-in_turn}
+use Rattle.mpslp_builder.proofs.MadeDrafts.{with_declarations-append, refusals_in_turn-append}
 use Rattle.mpslp_lines.{specs.FaultTests.kind_of_build_fault, proofs.ObjectiveLemmas.named-after}
 use Rattle.mpslp_c.specs.Stored.{Step, fails, declares, bounds, step_faults, step_declared, or_else, first_kind, after_steps}
 use Rattle.mpslp_c.specs.Stored.{objective_steps, Item, item_fault, items, first_item_fault, after_items, is_good, is_good_item}
@@ -22,22 +21,13 @@ steps-after [] all = refl
 steps-after (step ∷ more) all =
     steps-after more (with_declarations all (step_declared step)) ∙ sym (with_declarations-append (step_declared step) (flat_map step_declared more) all)
 
-no_head : (faults : List BuildFault) → head_of (map kind_of_build_fault faults) ≡ None → faults ≡ []
-no_head [] h = refl
-no_head (fault ∷ more) h = let no : ⊥ = cc in absurd no
-
 -- a step without an error is good, and nothing of it is rejected
 record IsFree (all : Draft) (step : Step) : Type 0 where
   good : is_good step ≡ true
   free : refusals_in_turn all (step_declared step) ≡ []
 
 step_free : (all : Draft) (step : Step) → head_of (step_faults all step) ≡ None → IsFree all step
-step_free all (fails kind) h = let no : ⊥ = cc in absurd no
-step_free all (declares d) h = record { good = refl; free = append-nil (refusals all d) ∙ no_head (refusals all d) h }
-step_free all (bounds column lower upper) h = record {
-  good = refl;
-  free = bounds-in_turn all column (Some lower) (Some upper) (no_head (bounds_refusals all column (Some lower) (Some upper)) h);
-}
+step_free all step h = grind arith
 
 first_none_of : (o p : Option FaultKind) → or_else o p ≡ None → (o ≡ None) × (p ≡ None)
 first_none_of None p h = (refl, h)
@@ -91,10 +81,7 @@ steps_none (step ∷ more) all good h =
 
 pub items-after : (all : List Item) (before : Draft) → after_items before all ≡ with_declarations before (flat_map declared_by all)
 items-after [] before = refl
-items-after (item ∷ more) before =
-    items-after more (after_steps before item.steps)
-    ∙ ap (λ (d : Draft). with_declarations d (flat_map declared_by more)) (steps-after item.steps before)
-    ∙ sym (with_declarations-append (declared_by item) (flat_map declared_by more) before)
+items-after (item ∷ more) before = grind (arith, steps-after, with_declarations-append, items-after more (after_steps before item.steps))
 
 no_item : (item : Item) (o : Option FaultKind) (p : Option ItemFault) → option_map_or (λ kind. Some (item_fault item kind)) o p ≡ None → (o ≡ None) × (p ≡ None)
 no_item item None p h = (refl, h)

@@ -1,17 +1,16 @@
 -- Each name is declared before it is used: the objective and the rows come first, and each column before its elements.
-use Rattle.std.proofs.Common.{arith, ◌≡◌, refl, sym, ap, ◌∙◌, ℕ, zero, suc, List, [], ◌∷◌, ◌++◌, Bool, true, false, Option, None, Some}
-use Rattle.std.{proofs.{Common.{Result, Ok, Err, cond, append_assoc}, lemmas.Grind.flat_map-append}, specs.Prelude.{◌&&◌, nat_le}}
-use Rattle.std.specs.{Prelude.{slice_get, slice_range, length}, List.{list_all, flat_map}, Cmp.{first_so, second_so}}
-use Rattle.std.specs.Cmp.Lexicographic.{bytes_decides}
+use Rattle.std.proofs.Common.{arith, ◌≡◌, refl, sym, ap, ◌∙◌, ℕ, zero, suc, List, [], ◌∷◌, ◌++◌, Bool, true, false, Option, Result, Ok, Err}
+use Rattle.std.{proofs.{Common.append_assoc, lemmas.Grind.flat_map-append}, specs.{Prelude.{◌&&◌, slice_get, length}, List.list_all}}
+use Rattle.std.specs.{List.flat_map, Cmp.{first_so, second_so, Lexicographic.bytes_decides}}
 use Rattle.mpslp_decimal.specs.Decimal.{Number}
 use Rattle.mpslp_model_core.specs.Model.{LinearModel}
-use Rattle.mpslp_types.specs.{declared.{kinds.Limit.Limit, faults.FaultKind.{FaultKind, TheVariants.ColumnSplit}}, Name.same_bytes}
-use Rattle.mpslp_types.proofs.BoolLemmas.{both_so, or_left}
-use Rattle.mpslp_c.specs.{declared.faults.TheConstants.AT_COLUMN, Stored.{Step, fails, declares, bounds, step_declared, steps_with}}
-use Rattle.mpslp_c.specs.Stored.{name_given, number_given, limit_given, bytes_at, sense_steps, objective_steps, row_steps, kind_steps}
-use Rattle.mpslp_c.specs.Stored.{column_steps, element_steps, Item, row_items, element_items, elements_end, own_items, column_items}
-use Rattle.mpslp_c.specs.Stored.{first_column_steps, items, is_good, is_good_item, declared_by, Defines}
-use Rattle.mpslp_c.specs.declared.arrays.{MpslpRow.MpslpRow, MpslpColumn.MpslpColumn, MpslpElement.MpslpElement, MpslpModel.MpslpModel}
+use Rattle.mpslp_types.{specs.{declared.{kinds.Limit.Limit, faults.FaultKind.FaultKind}, Name.same_bytes}, proofs.BoolLemmas.both_so}
+use Rattle.mpslp_types.proofs.BoolLemmas.{or_left}
+use Rattle.mpslp_c.specs.{declared.faults.TheConstants.AT_COLUMN, Stored.{Step, declares, bounds, step_declared, steps_with, name_given}}
+use Rattle.mpslp_c.specs.Stored.{number_given, limit_given, bytes_at, sense_steps, objective_steps, row_steps, kind_steps, column_steps}
+use Rattle.mpslp_c.specs.Stored.{element_steps, Item, row_items, element_items, elements_end, own_items, column_items, first_column_steps}
+use Rattle.mpslp_c.specs.{Stored.{items, is_good, is_good_item, declared_by, Defines}, declared.arrays.MpslpRow.MpslpRow}
+use Rattle.mpslp_c.specs.declared.arrays.{MpslpColumn.MpslpColumn, MpslpElement.MpslpElement, MpslpModel.MpslpModel}
 use Rattle.mpslp_c.proofs.StepLemmas.{given_bytes}
 use Rattle.mpslp_builder.specs.Declaration.{Declaration, declare_sense, declare_objective, declare_constant, declare_row, declare_column}
 use Rattle.mpslp_builder.specs.Declaration.{declare_coefficient, declare_lower, declare_upper, declare_integer, declare_semi, Declarations}
@@ -97,22 +96,10 @@ column_known : (name : List ℕ) (ds : Declarations) (before after : Draft) → 
     → list_all (is_known after) ds ≡ true → are_known_in_turn before ds ≡ true
 column_known name [] before after own there rows known = refl
 column_known name (declare_coefficient key value ∷ more) before after own there rows known = grind (arith, both_so, same_column, column_known name more (with_declaration before (declare_coefficient key value)) after (second_so (same_bytes key.column name) (list_all (is_of_column name) more) own) there rows (second_so (is_known after (declare_coefficient key value)) (list_all (is_known after) more) known))
-column_known name (declare_lower column limit ∷ more) before after own there rows known =
-    both_so (has_column before column) _ (same_column column name before (first_so (same_bytes column name) (list_all (is_of_column name) more) own) there)
-    (column_known name more (with_declaration before (declare_lower column limit)) after (second_so (same_bytes column name) (list_all (is_of_column name) more) own) there rows
-    (second_so (is_known after (declare_lower column limit)) (list_all (is_known after) more) known))
-column_known name (declare_upper column limit ∷ more) before after own there rows known =
-    both_so (has_column before column) _ (same_column column name before (first_so (same_bytes column name) (list_all (is_of_column name) more) own) there)
-    (column_known name more (with_declaration before (declare_upper column limit)) after (second_so (same_bytes column name) (list_all (is_of_column name) more) own) there rows
-    (second_so (is_known after (declare_upper column limit)) (list_all (is_known after) more) known))
-column_known name (declare_integer column ∷ more) before after own there rows known =
-    both_so (has_column before column) _ (same_column column name before (first_so (same_bytes column name) (list_all (is_of_column name) more) own) there)
-    (column_known name more (with_declaration before (declare_integer column)) after (second_so (same_bytes column name) (list_all (is_of_column name) more) own) there rows
-    (second_so (is_known after (declare_integer column)) (list_all (is_known after) more) known))
-column_known name (declare_semi column ∷ more) before after own there rows known =
-    both_so (has_column before column) _ (same_column column name before (first_so (same_bytes column name) (list_all (is_of_column name) more) own) there)
-    (column_known name more (with_declaration before (declare_semi column)) after (second_so (same_bytes column name) (list_all (is_of_column name) more) own) there rows
-    (second_so (is_known after (declare_semi column)) (list_all (is_known after) more) known))
+column_known name (declare_lower column limit ∷ more) before after own there rows known = grind (arith, both_so, same_column, column_known name more (with_declaration before (declare_lower column limit)) after (second_so (same_bytes column name) (list_all (is_of_column name) more) own) there rows (second_so (is_known after (declare_lower column limit)) (list_all (is_known after) more) known))
+column_known name (declare_upper column limit ∷ more) before after own there rows known = grind (arith, both_so, same_column, column_known name more (with_declaration before (declare_upper column limit)) after (second_so (same_bytes column name) (list_all (is_of_column name) more) own) there rows (second_so (is_known after (declare_upper column limit)) (list_all (is_known after) more) known))
+column_known name (declare_integer column ∷ more) before after own there rows known = grind (arith, both_so, same_column, column_known name more (with_declaration before (declare_integer column)) after (second_so (same_bytes column name) (list_all (is_of_column name) more) own) there rows (second_so (is_known after (declare_integer column)) (list_all (is_known after) more) known))
+column_known name (declare_semi column ∷ more) before after own there rows known = grind (arith, both_so, same_column, column_known name more (with_declaration before (declare_semi column)) after (second_so (same_bytes column name) (list_all (is_of_column name) more) own) there rows (second_so (is_known after (declare_semi column)) (list_all (is_known after) more) known))
 column_known name (d ∷ more) before after own there rows known = let no : ⊥ = cc in absurd no
 
 -- ---- what adds no row
@@ -140,18 +127,10 @@ no_row_of_column name (d ∷ more) h = let no : ⊥ = cc in absurd no
 -- ---- a column and its elements
 
 kinds_are_own : (name : List ℕ) (kind : ℕ) → list_all (is_of_column name) (steps_declare (kind_steps name kind)) ≡ true
-kinds_are_own name zero = refl
-kinds_are_own name (suc zero) = both_so (same_bytes name name) true (itself_named name) refl
-kinds_are_own name (suc (suc zero)) = both_so (same_bytes name name) true (itself_named name) refl
-kinds_are_own name (suc (suc (suc n))) = refl
+kinds_are_own name kind = grind (arith, both_so, itself_named)
 
 element_is_own : (all column : List ℕ) (row : Option MpslpRow) (element : MpslpElement) → list_all (is_of_column column) (steps_declare (element_steps all column row element)) ≡ true
-element_is_own all column None element = refl
-element_is_own all column (Some row) element =
-    elim (number_given element.value) as (λ r. list_all (is_of_column column) (steps_declare (steps_with r (λ value. declares (declare_coefficient (record { row = bytes_at all row.name; column = column }) value) ∷ []))) ≡ true) [
-      | Ok value ↦ both_so (same_bytes column column) true (itself_named column) refl
-      | Err kind ↦ refl
-    ]
+element_is_own all column row element = grind (arith, both_so, itself_named)
 
 elements_are_own : (all : List ℕ) (rows : List MpslpRow) (column : List ℕ) (k : ℕ) (elements : List MpslpElement)
     → list_all (is_of_column column) (flat_map declared_by (element_items all rows column k elements)) ≡ true
@@ -162,12 +141,7 @@ elements_are_own all rows column k (element ∷ elements) =
 
 own_are_own : (all : List ℕ) (rows : List MpslpRow) (elements : List MpslpElement) (j : ℕ) (column : MpslpColumn) (end : ℕ)
     → list_all (is_of_column (bytes_at all column.name)) (flat_map declared_by (own_items all rows elements j column end)) ≡ true
-own_are_own all rows elements j column end =
-    elim (nat_le column.first end && nat_le end (length elements)) as (λ b. list_all (is_of_column (bytes_at all column.name)) (flat_map declared_by
-    (cond b (element_items all rows (bytes_at all column.name) column.first (slice_range elements column.first end)) (record { place = AT_COLUMN; number = j; steps = fails ColumnSplit ∷ [] } ∷ []))) ≡ true) [
-      | true ↦ elements_are_own all rows (bytes_at all column.name) column.first (slice_range elements column.first end)
-      | false ↦ refl
-    ]
+own_are_own all rows elements j column end = grind (arith, elements_are_own)
 
 -- a column declares itself first, and then what is of it
 record BeginsColumn (name : List ℕ) (ds : Declarations) : Type 0 where
@@ -259,12 +233,7 @@ columns_known all objective rows elements j (column ∷ columns) before after go
 -- ---- all items
 
 none_declared : (columns : List MpslpColumn) → steps_declare (first_column_steps columns) ≡ []
-none_declared [] = refl
-none_declared (column ∷ columns) =
-    elim (nat_le column.first 0) as (λ b. steps_declare (cond b [] (fails ColumnSplit ∷ [])) ≡ []) [
-      | true ↦ refl
-      | false ↦ refl
-    ]
+none_declared columns = grind arith
 
 pub items-known : (arrays : MpslpModel) (m : LinearModel) → Defines arrays m → are_known_in_turn empty_draft (flat_map declared_by (items arrays)) ≡ true
 items-known arrays m defines =

@@ -5,7 +5,7 @@ use Rattle.std.specs.{Prelude.{pos, slice_get, slice_range, get_or, nat_le, IfNo
 use Rattle.mpslp_decimal.specs.Decimal.{Number}
 use Rattle.mpslp_types.specs.{Lists.head_of, NameTests.name_refusal, declared.{kinds.Limit.Limit, names.NameFault.NameFault}}
 use Rattle.mpslp_types.specs.declared.faults.{FaultKind.{FaultKind, TheVariants.NameLength}, BuildFault.BuildFault}
-use Rattle.mpslp_builder.specs.{Answer.{Answer, Answers}, Declaration.{declare_objective, declare_constant, declare_row, declare_column}}
+use Rattle.mpslp_builder.specs.{Answer.Answers, Declaration.{declare_objective, declare_constant, declare_row, declare_column}}
 use Rattle.mpslp_builder.specs.Declaration.{declare_coefficient, by_limits, Draft, with_declarations}
 use Rattle.mpslp_lines.specs.{FaultTests.kind_of_build_fault, ErrorOf.error_of_build, declared.errors.LineError.LineError}
 use Rattle.mpslp_lines.specs.declared.errors.LineError.TheVariants.{Fault, OutOfMemory}
@@ -16,7 +16,6 @@ use Rattle.mpslp_c.specs.Stored.{Item, item_fault, first_item_fault, after_items
 use Rattle.mpslp_c.specs.declared.{numbers.MpslpNumber.MpslpNumber, arrays.{MpslpName.MpslpName, MpslpRow.MpslpRow}}
 use Rattle.mpslp_c.specs.declared.arrays.{MpslpColumn.MpslpColumn, MpslpElement.MpslpElement, MpslpModel.MpslpModel}
 use Rattle.mpslp_c.specs.declared.faults.{ItemFault.ItemFault, TheConstants.{AT_COLUMN, AT_ELEMENT}, StoreFault.StoreFault}
-use Rattle.mpslp_c.specs.declared.faults.StoreFault.TheVariants as stored
 
 -- ---- a call of the builder that is a step
 
@@ -25,11 +24,7 @@ pub steps_are : (steps others : List Step) (old new : Draft) (answer : Result (U
 steps_are steps others old new answer h taken = subst (λ (s : List Step). TakesSteps s old new answer) (sym h) taken
 
 none_of : (faults : List BuildFault) (P Q : Type 0) → Answers faults (Ok tt) P Q → (head_of (map kind_of_build_fault faults) ≡ None) × P
-none_of [] P Q h = (refl, h)
-none_of (fault ∷ more) P Q h = let no : ⊥ = bad fault h.0 in absurd no
-  where
-    bad : (f : BuildFault) → ◌≡◌ {A = Answer} (Ok tt) (Err f) → ⊥
-    bad f e = cc
+none_of faults P Q h = grind arith
 
 -- a step that was rejected
 pub step_refused : (step : Step) (more : List Step) (old new : Draft) (faults : List BuildFault) (fault : BuildFault) (P Q : Type 0) → step_faults old step ≡ map kind_of_build_fault faults
@@ -99,17 +94,11 @@ after_append (x ∷ xs) ys all = after_append xs ys (after_steps all x.steps)
 
 -- items that were taken
 pub leads_then : (all xs ys : List Item) (old now new : Draft) → Leads all old (xs ++ ys) now → TakesItems xs now new (Ok tt) → Leads all old ys new
-leads_then all xs ys old now new l taken = record {
-  fault = l.fault ∙ fault_append xs ys now taken.0 ∙ ap (λ (d : Draft). first_item_fault d ys) (sym taken.1);
-  after = l.after ∙ after_append xs ys now ∙ ap (λ (d : Draft). after_items d ys) (sym taken.1);
-}
+leads_then all xs ys old now new l taken = grind (arith, fault_append, after_append)
 
 -- one that was not
 pub leads_err : (all xs ys : List Item) (old now new later : Draft) (why : StoreFault) → Leads all old (xs ++ ys) now → TakesItems xs now new (Err why) → TakesItems all old later (Err why)
-leads_err all xs ys old now new later (stored.Item fault) l taken = l.fault ∙ fault_first xs ys now fault taken
-leads_err all xs ys old now new later (stored.Whole fault) l taken = taken
-leads_err all xs ys old now new later (stored.NotLp place) l taken = taken
-leads_err all xs ys old now new later stored.OutOfMemory l taken = tt
+leads_err all xs ys old now new later why l taken = grind (arith, fault_first)
 
 -- its error is returned
 pub leads_reported : (all xs ys : List Item) (old now new later : Draft) (why : StoreFault) (answer : Result (Unit {0}) StoreFault) → Leads all old (xs ++ ys) now → TakesItems xs now new (Err why)
@@ -119,11 +108,7 @@ leads_reported all xs ys old now new later why (Err e) l taken stated = subst (�
 
 -- what is left
 pub leads_last : (all xs : List Item) (old now new : Draft) (answer : Result (Unit {0}) StoreFault) → Leads all old xs now → TakesItems xs now new answer → TakesItems all old new answer
-leads_last all xs old now new (Ok _) l taken = (l.fault ∙ taken.0, taken.1 ∙ sym l.after)
-leads_last all xs old now new (Err (stored.Item fault)) l taken = l.fault ∙ taken
-leads_last all xs old now new (Err (stored.Whole fault)) l taken = taken
-leads_last all xs old now new (Err (stored.NotLp place)) l taken = taken
-leads_last all xs old now new (Err stored.OutOfMemory) l taken = tt
+leads_last all xs old now new answer l taken = grind arith
 
 -- one item by its steps
 pub one_item : (item : Item) (old new : Draft) (answer : Result (Unit {0}) LineError) → TakesSteps item.steps old new answer → TakesItems (item ∷ []) old new (placed item.place item.number answer)
@@ -135,11 +120,7 @@ one_item item old new (Err OutOfMemory) taken = tt
 
 pub drop_next : {X : Type 0} (xs : List X) (i : ℕ) (x : X) → slice_get xs i ≡ Some x → drop i xs ≡ x ∷ drop (suc i) xs
 drop_next [] i x h = let no : ⊥ = cc in absurd no
-drop_next {X} (y ∷ xs) zero x h = let same : y ≡ x = cc in (λ j. same j ∷ whole xs j)
-  where
-    whole : (zs : List X) → zs ≡ drop 0 zs
-    whole [] = refl
-    whole (z ∷ zs) = refl
+drop_next {X} (y ∷ xs) zero x h = grind arith
 drop_next (y ∷ xs) (suc i) x h = drop_next xs i x h
 
 pub range_next : {X : Type 0} (xs : List X) (k end : ℕ) (x : X) → k < end → slice_get xs k ≡ Some x → slice_range xs k end ≡ x ∷ slice_range xs (suc k) end
@@ -181,10 +162,7 @@ legal_by false refusal bytes name h = let no : ⊥ = cc in absurd no
 
 -- so a name is made of its bytes, unless an allocation fails
 pub name_made : (all : List ℕ) (in_c : MpslpName) (name made : List ℕ) → name_given all in_c ≡ Ok name → IfNone (name_refusal name) (made ≡ name) → made ≡ name
-name_made all in_c name made h taken =
-    let legal = legal_by (nat_le (in_c.at + in_c.len) (length all)) (name_refusal (bytes_at all in_c)) (bytes_at all in_c) name h in
-    let none : name_refusal name ≡ None = ap name_refusal (sym legal.1) ∙ legal.0 in
-    subst (λ (o : Option NameFault). IfNone o (made ≡ name)) none taken
+name_made all in_c name made h taken = grind arith
 
 pub given_bytes : (all : List ℕ) (in_c : MpslpName) (name : List ℕ) → name_given all in_c ≡ Ok name → bytes_at all in_c ≡ name
 given_bytes all in_c name h = (legal_by (nat_le (in_c.at + in_c.len) (length all)) (name_refusal (bytes_at all in_c)) (bytes_at all in_c) name h).1
@@ -217,12 +195,7 @@ pub element_lead : (all : List ℕ) (rows : List MpslpRow) (column : List ℕ) (
     → element_items all rows column k (slice_range elements k end)
     ≡ (element_item all rows column k (element_at elements k) ∷ [])
     ++ element_items all rows column (k + 1) (slice_range elements (k + 1) end)
-element_lead all rows column elements k end below within =
-    let element = element_at elements k in
-    let there : slice_get elements k ≡ Some element = slice_get-get_or elements k element (omega (arith, below, within)) ∙ ap Some (get_or_same elements k _ (omega (arith, below, within))) in
-    ap (λ (es : List MpslpElement). element_items all rows column k es) (range_next elements k end element below there)
-    ∙ (λ i. record { place = AT_ELEMENT; number = k; steps = element_steps all column (slice_get rows element.row) element }
-    ∷ element_items all rows column (sym (add-one k) i) (slice_range elements (sym (add-one k) i) end))
+element_lead all rows column elements k end below within = grind (arith, slice_get-get_or, get_or_same, range_next, add-one)
 
 pub column_lead : (all objective : List ℕ) (rows : List MpslpRow) (elements : List MpslpElement) (columns : List MpslpColumn) (j : ℕ) → j < length columns
     → column_items all objective rows elements j (drop j columns)
