@@ -1,21 +1,16 @@
 -- What a status says of a result, and the contracts of the calls put together.
-use Rattle.std.proofs.Common.{◌≡◌, ℕ, List, Bool, true, false, ◌∙◌, ap, inl, inr, None, Some, Result, Ok, Err, Vec}
-use Rattle.std.specs.Prelude.{IsOkUnless}
-use Rattle.std.specs.declared.alloc.Global.{Global}
+use Rattle.std.proofs.Common.{arith, ◌≡◌, ℕ, List, Bool, true, false, ◌∙◌, ap, inl, inr, None, Some, Result, Ok, Err, Vec}
+use Rattle.std.specs.{Prelude.IsOkUnless, declared.alloc.Global.Global}
 use Rattle.mpslp_model_core.specs.Model.{LinearModel}
-use Rattle.mpslp_types.specs.declared.faults.Fault.{Fault}
-use Rattle.mpslp_types.specs.declared.faults.NameAt.{NameAt}
-use Rattle.mpslp_conversions.specs.Conversions.{HasFirstFault, IsConversion, IsComparison, IsTestOfText, IsErrUnless}
-use Rattle.mpslp_conversions.specs.Laws.{Declares, Unfit, TextOf}
-use Rattle.mpslp_conversions.specs.declared.faults.ConvertFault.{ConvertFault}
-use Rattle.mpslp_conversions.specs.declared.faults.ConvertFault.TheVariants.{First, Second, NotLp, OutOfMemory}
-use Rattle.mpslp_c.specs.Answers.{IsLoading, IsTextReturned, IsTruthReturned, IsModelReturned, IsUnless, IsTruthUnless, IsConverted, IsCompared, IsTested, IsLoaded, fault_status, HasFault, IsStoring, IsStoreReturned, IsStored, store_status, IsNormalizing, AreArraysReturned, IsNormalized}
-use Rattle.mpslp_c.specs.Stored.{Defines}
-use Rattle.mpslp_c.specs.declared.answers.TheConstants.{OK, REFUSED}
-use Rattle.mpslp_c.specs.declared.arrays.MpslpModel.{MpslpModel}
-use Rattle.mpslp_c.specs.declared.calls.MpslpText.{MpslpText}
-use Rattle.mpslp_c.specs.declared.faults.MpslpFault.{MpslpFault}
-use Rattle.mpslp_c.specs.declared.faults.StoreFault.{StoreFault}
+use Rattle.mpslp_types.specs.declared.faults.{Fault.Fault, NameAt.NameAt}
+use Rattle.mpslp_conversions.specs.{Conversions.{HasFirstFault, IsConversion, IsComparison, IsTestOfText, IsErrUnless}, Laws.Declares}
+use Rattle.mpslp_conversions.specs.{Laws.{Unfit, TextOf}, declared.faults.ConvertFault.{ConvertFault, TheVariants.{First, Second, NotLp}}}
+use Rattle.mpslp_conversions.specs.declared.faults.ConvertFault.TheVariants.{OutOfMemory}
+use Rattle.mpslp_c.specs.Answers.{IsLoading, IsTextReturned, IsTruthReturned, IsModelReturned, IsUnless, IsTruthUnless, IsConverted}
+use Rattle.mpslp_c.specs.Answers.{IsCompared, IsTested, IsLoaded, fault_status, HasFault, IsStoring, IsStoreReturned, IsStored}
+use Rattle.mpslp_c.specs.{Answers.{store_status, IsNormalizing, AreArraysReturned, IsNormalized}, Stored.Defines}
+use Rattle.mpslp_c.specs.declared.{answers.TheConstants.{OK, REFUSED}, arrays.MpslpModel.MpslpModel, calls.MpslpText.MpslpText}
+use Rattle.mpslp_c.specs.declared.faults.{MpslpFault.MpslpFault, StoreFault.StoreFault}
 use Rattle.mpslp_c.specs.declared.faults.StoreFault.TheVariants as stored
 
 -- a text that is not rejected is returned, unless an allocation failed
@@ -43,18 +38,6 @@ truth_refused : (answer : Result Bool ConvertFault) (why : ConvertFault) (status
 truth_refused (Ok is_true) why status fault fault' refused returned = absurd refused
 truth_refused (Err found) why status fault fault' (inl same) returned = inl (returned.0 ∙ ap fault_status same)
 truth_refused (Err found) why status fault fault' (inr memory) returned = inr (returned.0 ∙ ap fault_status memory)
-
--- the same of a model
-model_accepted : (answer : Result MpslpModel ConvertFault) (status : ℕ) (out out' : MpslpModel) (fault fault' : MpslpFault)
-    → IsOkUnless answer OutOfMemory → IsModelReturned answer status out out' fault fault' → IsUnless OK status
-model_accepted (Ok model) status out out' fault fault' accepted returned = inl returned.0
-model_accepted (Err why) status out out' fault fault' accepted returned = inr (returned.0 ∙ ap fault_status accepted)
-
-model_refused : (answer : Result MpslpModel ConvertFault) (why : ConvertFault) (status : ℕ) (out out' : MpslpModel) (fault fault' : MpslpFault)
-    → IsErrUnless answer why OutOfMemory → IsModelReturned answer status out out' fault fault' → IsUnless (fault_status why) status
-model_refused (Ok model) why status out out' fault fault' refused returned = absurd refused
-model_refused (Err found) why status out out' fault fault' (inl same) returned = inl (returned.0 ∙ ap fault_status same)
-model_refused (Err found) why status out out' fault fault' (inr memory) returned = inr (returned.0 ∙ ap fault_status memory)
 
 -- ---- the calls
 
@@ -99,13 +82,7 @@ pub tested : (declares : Declares) (first_fault : HasFirstFault) (text : TextOf)
     → ((found : Fault) → first_fault bytes found → IsErrUnless answer (First found) OutOfMemory)
     → IsTruthReturned answer status fault fault'
     → IsTested declares first_fault text bytes status fault fault'
-tested declares first_fault text bytes answer status fault fault' is accepts refuses returned = record {
-  answer = answer;
-  is = is;
-  returned = returned;
-  accepts = λ m declared. truth_accepted answer status fault fault' (accepts m declared) returned;
-  refuses = λ found has. truth_refused answer (First found) status fault fault' (refuses found has) returned;
-}
+tested declares first_fault text bytes answer status fault fault' is accepts refuses returned = grind arith
 
 pub loaded : (declares : Declares) (first_fault : HasFirstFault) (bytes : List ℕ)
     (answer : Result MpslpModel ConvertFault) (status : ℕ) (out out' : MpslpModel) (fault fault' : MpslpFault)
@@ -114,13 +91,7 @@ pub loaded : (declares : Declares) (first_fault : HasFirstFault) (bytes : List �
     → ((found : Fault) → first_fault bytes found → IsErrUnless answer (First found) OutOfMemory)
     → IsModelReturned answer status out out' fault fault'
     → IsLoaded declares first_fault bytes status out out' fault fault'
-loaded declares first_fault bytes answer status out out' fault fault' is accepts refuses returned = record {
-  answer = answer;
-  is = is;
-  returned = returned;
-  accepts = λ m declared. model_accepted answer status out out' fault fault' (accepts m declared) returned;
-  refuses = λ found has. model_refused answer (First found) status out out' fault fault' (refuses found has) returned;
-}
+loaded declares first_fault bytes answer status out out' fault fault' is accepts refuses returned = grind arith
 
 -- ---- a model that is stored
 
@@ -137,10 +108,7 @@ stored_refused (Err found) why status out out' fault fault' (inr memory) returne
 
 -- each error of arrays has one status
 refused_as : (arrays : MpslpModel) (why : StoreFault) (status : ℕ) → HasFault arrays why → IsUnless (store_status why) status → IsUnless REFUSED status
-refused_as arrays (stored.Item fault) status has so = so
-refused_as arrays (stored.Whole fault) status has so = so
-refused_as arrays (stored.NotLp place) status has so = absurd has
-refused_as arrays stored.OutOfMemory status has so = absurd has
+refused_as arrays why status has so = grind arith
 
 pub stored_so : (unfit : Unfit) (text : TextOf) (arrays : MpslpModel) (answer : Result (Vec ℕ Global) StoreFault) (status : ℕ) (out out' : MpslpText) (fault fault' : MpslpFault)
     → IsStoring unfit text arrays answer
@@ -160,27 +128,10 @@ stored_so unfit text arrays answer status out out' fault fault' is accepts refus
 
 -- ---- arrays that are normalized
 
-arrays_accepted : (answer : Result MpslpModel StoreFault) (status : ℕ) (out out' : MpslpModel) (fault fault' : MpslpFault)
-    → IsOkUnless answer stored.OutOfMemory → AreArraysReturned answer status out out' fault fault' → IsUnless OK status
-arrays_accepted (Ok model) status out out' fault fault' accepted returned = inl returned.0
-arrays_accepted (Err why) status out out' fault fault' accepted returned = inr (returned.0 ∙ ap store_status accepted)
-
-arrays_refused : (answer : Result MpslpModel StoreFault) (why : StoreFault) (status : ℕ) (out out' : MpslpModel) (fault fault' : MpslpFault)
-    → IsErrUnless answer why stored.OutOfMemory → AreArraysReturned answer status out out' fault fault' → IsUnless (store_status why) status
-arrays_refused (Ok model) why status out out' fault fault' refused returned = absurd refused
-arrays_refused (Err found) why status out out' fault fault' (inl same) returned = inl (returned.0 ∙ ap store_status same)
-arrays_refused (Err found) why status out out' fault fault' (inr memory) returned = inr (returned.0 ∙ ap store_status memory)
-
 pub normalized_so : (arrays : MpslpModel) (answer : Result MpslpModel StoreFault) (status : ℕ) (out out' : MpslpModel) (fault fault' : MpslpFault)
     → IsNormalizing arrays answer
     → ((m : LinearModel) → Defines arrays m → IsOkUnless answer stored.OutOfMemory)
     → ((why : StoreFault) → HasFault arrays why → IsErrUnless answer why stored.OutOfMemory)
     → AreArraysReturned answer status out out' fault fault'
     → IsNormalized arrays status out out' fault fault'
-normalized_so arrays answer status out out' fault fault' is accepts refuses returned = record {
-  answer = answer;
-  is = is;
-  returned = returned;
-  accepts = λ m defines. arrays_accepted answer status out out' fault fault' (accepts m defines) returned;
-  refuses = λ why has. refused_as arrays why status has (arrays_refused answer why status out out' fault fault' (refuses why has) returned);
-}
+normalized_so arrays answer status out out' fault fault' is accepts refuses returned = grind arith

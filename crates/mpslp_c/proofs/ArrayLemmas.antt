@@ -1,25 +1,13 @@
 -- What is true of rows, columns and elements stays true while more are appended.
-use Rattle.std.proofs.Common.{◌≡◌, refl, sym, ap, ◌∙◌, subst, ℕ, zero, suc, ◌<◌, ◌+◌, List, [], ◌∷◌, ◌++◌, length, None, Some, Option}
-use Rattle.std.specs.Prelude.{slice_get}
-use Rattle.std.proofs.lemmas.List.Sums.{sum_by_more}
-use Rattle.mpslp_model_core.specs.Model.{LinearModel}
-use Rattle.mpslp_model_core.specs.Views.{num_columns, row_name, column_name, column_names, numbered_elements}
+use Rattle.std.proofs.Common.{arith, ◌≡◌, refl, sym, ◌∙◌, subst, ℕ, zero, suc, ◌<◌, ◌+◌, List, [], ◌∷◌, ◌++◌, length, None, Some, Option}
+use Rattle.std.{proofs.lemmas.List.Sums.sum_by_more, specs.Prelude.slice_get}
+use Rattle.mpslp_model_core.specs.{Model.LinearModel, Views.{num_columns, row_name, column_name, column_names, numbered_elements}}
 use Rattle.mpslp_decimal.specs.Decimal.{Number}
-use Rattle.mpslp_c.specs.Arrays.{KeepsNames, RepresentsRow, RepresentsRows, KeepsElements, RepresentsElement, RepresentsElements, RepresentsColumnHead, RepresentsColumn, RepresentsColumns, column_len, elements_before}
-use Rattle.mpslp_c.specs.declared.arrays.MpslpColumn.{MpslpColumn}
-use Rattle.mpslp_c.specs.declared.arrays.MpslpElement.{MpslpElement}
-use Rattle.mpslp_c.specs.declared.arrays.MpslpRow.{MpslpRow}
+use Rattle.mpslp_c.specs.Arrays.{KeepsNames, RepresentsRow, RepresentsRows, KeepsElements, RepresentsElement, RepresentsElements}
+use Rattle.mpslp_c.specs.Arrays.{RepresentsColumnHead, RepresentsColumn, RepresentsColumns, column_len, elements_before}
+use Rattle.mpslp_c.specs.declared.arrays.{MpslpColumn.MpslpColumn, MpslpElement.MpslpElement, MpslpRow.MpslpRow}
 
 -- ---- one more in a list
-
-pub get-before : {X : Type 0} (xs ys : List X) (i : ℕ) (x : X) → slice_get xs i ≡ Some x → slice_get (xs ++ ys) i ≡ Some x
-get-before [] ys i x h = let no : ⊥ = cc in absurd no
-get-before (y ∷ xs) ys zero x h = h
-get-before (y ∷ xs) ys (suc i) x h = get-before xs ys i x h
-
-pub get-last : {X : Type 0} (xs : List X) (x : X) → slice_get (xs ++ x ∷ []) (length xs) ≡ Some x
-get-last [] x = refl
-get-last (y ∷ xs) x = get-last xs x
 
 -- what is at a number of a list with one more: it was there, or it is the last one
 data IsThere {X : Type 0} (xs : List X) (x : X) (i : ℕ) (y : X) : Type 0 where
@@ -30,25 +18,14 @@ is_there : {X : Type 0} (xs : List X) (x : X) (i : ℕ) (y : X) → slice_get (x
 is_there [] x zero y h = last refl cc
 is_there [] x (suc i) y h = let no : ⊥ = cc in absurd no
 is_there (z ∷ xs) x zero y h = before h
-is_there {X} (z ∷ xs) x (suc i) y h =
-    elim (is_there xs x i y h) as (λ _. IsThere (z ∷ xs) x (suc i) y) [
-      | before b ↦ before b
-      | last e s ↦ last (ap (λ (n : ℕ). suc n) e) s
-    ]
+is_there {X} (z ∷ xs) x (suc i) y h = grind (arith, is_there xs x i y h)
 
 -- a fact of each, by its number
 pub each-more : {X : Type 0} (P : ℕ → X → Type 0) (xs : List X) (n : ℕ) (x : X) → length xs ≡ n
     → ((i : ℕ) (y : X) → slice_get xs i ≡ Some y → P i y) → P n x → (i : ℕ) (y : X) → slice_get (xs ++ x ∷ []) i ≡ Some y → P i y
-each-more {X} P xs n x counted each here i y h =
-    elim (is_there xs x i y h) as (λ _. P i y) [
-      | before b ↦ each i y b
-      | last e s ↦ subst (λ (z : X). P i z) s (subst (λ (k : ℕ). P k x) (sym counted ∙ sym e) here)
-    ]
+each-more {X} P xs n x counted each here i y h = grind (arith, is_there)
 
 -- ---- names that are kept
-
-pub keeps_all : (names : List ℕ) → KeepsNames names names
-keeps_all names name in_c h = h
 
 pub keeps_then : {a b c : List ℕ} → KeepsNames a b → KeepsNames b c → KeepsNames a c
 keeps_then one other name in_c h = other name in_c (one name in_c h)

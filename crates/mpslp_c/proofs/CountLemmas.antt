@@ -1,21 +1,13 @@
 -- Each nonzero is in one column: the columns of a well-formed model together have all of them.
-use Rattle.std.proofs.Common.{◌≡◌, refl, sym, ap, ◌∙◌, subst, ℕ, ◌+◌, List, [], ◌∷◌, length, map, Bool, true, false, cond, not, filter, arith, zero-add}
-use Rattle.std.proofs.lemmas.List.{take_all}
-use Rattle.std.specs.Prelude.{sum_by, ◌&&◌, ◌||◌}
-use Rattle.std.specs.List.{list_all}
-use Rattle.std.specs.Ordering.{is_lt}
-use Rattle.std.specs.Cmp.{first_so, second_so, tied_itself}
-use Rattle.std.specs.Cmp.Lexicographic.{bytes_decides}
-use Rattle.std.specs.FinMap as maps
-use Rattle.std.specs.FinMap.{is_sorted}
+use Rattle.std.proofs.Common.{rules, ◌≡◌, refl, sym, ap, ◌∙◌, subst, ℕ, ◌+◌, List, [], ◌∷◌, length, map, Bool, true, false, cond, filter}
+use Rattle.std.{proofs.{Common.{arith, zero-add}, lemmas.List.{take_all, Sums.sum_by-cons}}, specs.Prelude.{sum_by, ◌&&◌, ◌||◌}}
+use Rattle.std.specs.{List.list_all, Ordering.is_lt, Cmp.{first_so, second_so, Lexicographic.bytes_decides}, FinMap.is_sorted}
 use Rattle.std.specs.FinMap.Entries.{below_all}
-use Rattle.std.proofs.lemmas.List.Sums.{sum_by-cons}
-use Rattle.mpslp_decimal.specs.Decimal.{Number, is_decimal, is_zero}
-use Rattle.mpslp_types.specs.Name.{same_bytes, bytes_cmp, is_one_of}
-use Rattle.mpslp_model_core.specs.Model.{LinearModel, CoefficientKey, IsSound, is_sound_coefficient}
-use Rattle.mpslp_model_core.specs.Views.{column_names, num_columns, num_elements, is_element}
-use Rattle.mpslp_model_core.proofs.KeyLemmas.{bytes_total}
-use Rattle.mpslp_types.proofs.BoolLemmas.{true_from}
+use Rattle.std.specs.FinMap as maps
+use Rattle.mpslp_decimal.specs.Decimal.{Number}
+use Rattle.mpslp_types.{specs.Name.{same_bytes, bytes_cmp, is_one_of}, proofs.BoolLemmas.true_from}
+use Rattle.mpslp_model_core.specs.{Model.{LinearModel, CoefficientKey, IsSound, is_sound_coefficient}, Views.{column_names, num_columns}}
+use Rattle.mpslp_model_core.{specs.Views.{num_elements, is_element}, proofs.KeyLemmas.bytes_total}
 use Rattle.mpslp_c.specs.Arrays.{column_len, elements_before}
 
 -- ---- sums
@@ -32,15 +24,7 @@ sum-both {X} f g (x ∷ xs) =
 -- ---- a name occurs once among the keys of a map
 
 not_same : (n c : List ℕ) → is_lt (bytes_cmp c n) ≡ true → same_bytes n c ≡ false
-not_same n c below =
-    elim (same_bytes n c) as (λ b. same_bytes n c ≡ b → b ≡ false) [
-      | false ↦ λ _. refl
-      | true ↦ λ is.
-          let same : n ≡ c = (bytes_decides n c).0 is in
-          let tied : is_lt (bytes_cmp c c) ≡ false = ap is_lt (tied_itself bytes_total c) in
-          let less : is_lt (bytes_cmp c c) ≡ true = subst (λ (k : List ℕ). is_lt (bytes_cmp c k) ≡ true) same below in
-          absurd cc
-    ] refl
+not_same n c below = search (rules, bytes_total)
 
 is_name : List ℕ → List ℕ → ℕ
 is_name c n = cond (same_bytes n c) 1 0
@@ -48,11 +32,7 @@ is_name c n = cond (same_bytes n c) 1 0
 none_above : {X : Type 0} (c : List ℕ) (es : List (List ℕ × X)) → below_all bytes_cmp c es ≡ true → sum_by (is_name c) (map (λ e. e.0) es) ≡ 0
 unfolding is_name
 none_above c [] h = refl
-none_above {X} c (e ∷ es) h =
-    let names = map (λ (d : List ℕ × X). d.0) es in
-    let other : same_bytes e.0 c ≡ false = not_same e.0 c (first_so (is_lt (bytes_cmp c e.0)) (below_all bytes_cmp c es) h) in
-    sum_by-cons (is_name c) e.0 names
-    ∙ (λ i. cond (other i) 1 0 + none_above c es (second_so (is_lt (bytes_cmp c e.0)) (below_all bytes_cmp c es) h) i)
+none_above {X} c (e ∷ es) h = grind (arith, not_same, sum_by-cons, none_above c es (second_so (is_lt (bytes_cmp c e.0)) (below_all bytes_cmp c es) h))
 
 one_of_rest : (c n : List ℕ) (names : List (List ℕ)) → same_bytes n c ≡ false → is_one_of (n ∷ names) c ≡ true → is_one_of names c ≡ true
 one_of_rest c n names other among =
@@ -79,11 +59,7 @@ once {X} c (e ∷ es) sorted among =
 -- ---- the coefficients of all columns
 
 one_more : {X : Type 0} (p : X → Bool) (x : X) (xs : List X) → length (filter p (x ∷ xs)) ≡ cond (p x) 1 0 + length (filter p xs)
-one_more p x xs =
-    elim (p x) as (λ b. length (cond b (x ∷ filter p xs) (filter p xs)) ≡ cond b 1 0 + length (filter p xs)) [
-      | true ↦ omega arith
-      | false ↦ sym (zero-add (length (filter p xs)))
-    ]
+one_more p x xs = grind arith
 
 module _ {X : Type 0} (columns : List (List ℕ × X)) (sorted : is_sorted bytes_cmp columns ≡ true) (is_row ok : CoefficientKey × Number → Bool)
     (known : (e : CoefficientKey × Number) → ok e ≡ true → is_one_of (map (λ c. c.0) columns) e.0.column ≡ true) where
@@ -110,10 +86,7 @@ module _ {X : Type 0} (columns : List (List ℕ × X)) (sorted : is_sorted bytes
       ∙ sym (one_more is_row e es)
 
 known_column : (m : LinearModel) (e : CoefficientKey × Number) → is_sound_coefficient m e ≡ true → is_one_of (column_names m) e.0.column ≡ true
-known_column m e h =
-    let places = is_one_of (column_names m) e.0.column && is_one_of (m.objective ∷ maps.keys m.rows) e.0.row in
-    let apart = second_so (is_decimal e.1) (not (is_zero e.1) && places) h in
-    first_so (is_one_of (column_names m) e.0.column) (is_one_of (m.objective ∷ maps.keys m.rows) e.0.row) (second_so (not (is_zero e.1)) places apart)
+known_column m e h = grind arith
 
 pub all_counted : (m : LinearModel) → IsSound m → elements_before m (num_columns m) ≡ num_elements m
 all_counted m sound =

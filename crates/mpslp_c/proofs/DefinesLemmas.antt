@@ -1,28 +1,18 @@
 -- Items without an error define a model, and the items of arrays that define a model have no error.
-use Rattle.std.proofs.Common.{◌≡◌, refl, sym, ap, ◌∙◌, subst, ℕ, List, [], ◌∷◌, ◌++◌, map, Bool, true, not, Option, None, Some, Ok, Err}
-use Rattle.std.specs.Prelude.{◌||◌, is_some}
-use Rattle.std.specs.List.{list_all, flat_map}
-use Rattle.std.specs.Option.{option_map_or}
-use Rattle.std.specs.Cmp.{first_so, second_so}
-use Rattle.std.proofs.lemmas.List.{append-nil}
+use Rattle.std.proofs.Common.{arith, ◌≡◌, refl, sym, ap, ◌∙◌, subst, ℕ, List, [], ◌∷◌, ◌++◌, map, Bool, true, Option, None, Some}
+use Rattle.std.specs.{Prelude.is_some, List.{list_all, flat_map}, Option.option_map_or, Cmp.{first_so, second_so}}
 use Rattle.mpslp_model_core.specs.Model.{LinearModel}
-use Rattle.mpslp_types.specs.Lists.{head_of}
-use Rattle.mpslp_types.proofs.BoolLemmas.{both_so, both_false}
-use Rattle.mpslp_types.specs.Limit.{is_plus_infinite, is_minus_infinite}
-use Rattle.mpslp_types.specs.declared.kinds.Limit.{Limit}
-use Rattle.mpslp_types.specs.declared.faults.BuildFault.{BuildFault}
-use Rattle.mpslp_types.specs.declared.faults.BuildFault.TheVariants as builds
-use Rattle.mpslp_types.specs.declared.faults.FaultKind.{FaultKind}
-use Rattle.mpslp_builder.specs.Declaration.{declare_objective, declare_constant, declare_lower, declare_upper, Declarations, Draft, empty_draft, with_declaration, with_declarations, has_column, has_name}
-use Rattle.mpslp_builder.specs.Refusal.{refusals, refusals_in_turn, bounds_refusals}
-use Rattle.mpslp_builder.specs.Consistency.{has_objective}
-use Rattle.mpslp_builder.specs.Meaning.{DraftMeans}
-use Rattle.mpslp_builder.proofs.RefusalLemmas.{left_none, right_none, join_none, first_none, rest_none, pass, are_known_in_turn, consistent-from_none, none-from_consistent}
-use Rattle.mpslp_builder.proofs.MadeDrafts.{with_declarations-append, refusals_in_turn-append, bounds-in_turn}
-use Rattle.mpslp_lines.specs.FaultTests.{kind_of_build_fault}
-use Rattle.mpslp_c.specs.Stored.{Step, fails, declares, bounds, step_faults, step_declared, or_else, first_kind, after_steps, steps_with, name_given, number_given, objective_steps, sense_steps, Item, item_fault, items, first_item_fault, after_items, is_good, is_good_item, declared_by, Defines}
-use Rattle.mpslp_c.specs.declared.arrays.MpslpModel.{MpslpModel}
-use Rattle.mpslp_c.specs.declared.faults.ItemFault.{ItemFault}
+use Rattle.mpslp_types.specs.{Lists.head_of, declared.{kinds.Limit.Limit, faults.{BuildFault.BuildFault, FaultKind.FaultKind}}}
+use Rattle.mpslp_types.proofs.BoolLemmas.{both_so}
+use Rattle.mpslp_builder.specs.Declaration.{declare_objective, declare_lower, declare_upper, Declarations, Draft, empty_draft}
+use Rattle.mpslp_builder.specs.{Declaration.{with_declaration, with_declarations}, Refusal.{refusals, refusals_in_turn, bounds_refusals}}
+use Rattle.mpslp_builder.{specs.{Consistency.has_objective, Meaning.DraftMeans}, proofs.RefusalLemmas.{left_none, right_none, join_none}}
+use Rattle.mpslp_builder.proofs.RefusalLemmas.{are_known_in_turn, consistent-from_none, none-from_consistent}
+use Rattle.mpslp_builder.proofs.MadeDrafts.{with_declarations-append, refusals_in_turn-append}
+use Rattle.mpslp_lines.{specs.FaultTests.kind_of_build_fault, proofs.ObjectiveLemmas.named-after}
+use Rattle.mpslp_c.specs.Stored.{Step, fails, declares, bounds, step_faults, step_declared, or_else, first_kind, after_steps}
+use Rattle.mpslp_c.specs.Stored.{objective_steps, Item, item_fault, items, first_item_fault, after_items, is_good, is_good_item}
+use Rattle.mpslp_c.specs.{Stored.{declared_by, Defines}, declared.{arrays.MpslpModel.MpslpModel, faults.ItemFault.ItemFault}}
 
 -- ---- steps
 
@@ -31,22 +21,13 @@ steps-after [] all = refl
 steps-after (step ∷ more) all =
     steps-after more (with_declarations all (step_declared step)) ∙ sym (with_declarations-append (step_declared step) (flat_map step_declared more) all)
 
-no_head : (faults : List BuildFault) → head_of (map kind_of_build_fault faults) ≡ None → faults ≡ []
-no_head [] h = refl
-no_head (fault ∷ more) h = let no : ⊥ = cc in absurd no
-
 -- a step without an error is good, and nothing of it is rejected
 record IsFree (all : Draft) (step : Step) : Type 0 where
   good : is_good step ≡ true
   free : refusals_in_turn all (step_declared step) ≡ []
 
 step_free : (all : Draft) (step : Step) → head_of (step_faults all step) ≡ None → IsFree all step
-step_free all (fails kind) h = let no : ⊥ = cc in absurd no
-step_free all (declares d) h = record { good = refl; free = append-nil (refusals all d) ∙ no_head (refusals all d) h }
-step_free all (bounds column lower upper) h = record {
-  good = refl;
-  free = bounds-in_turn all column (Some lower) (Some upper) (no_head (bounds_refusals all column (Some lower) (Some upper)) h);
-}
+step_free all step h = grind arith
 
 first_none_of : (o p : Option FaultKind) → or_else o p ≡ None → (o ≡ None) × (p ≡ None)
 first_none_of None p h = (refl, h)
@@ -82,27 +63,7 @@ no_kind faults h = ap (λ (f : List BuildFault). head_of (map kind_of_build_faul
 
 bounds_free : (all : Draft) (column : List ℕ) (lower upper : Limit) → refusals_in_turn all (declare_lower column lower ∷ declare_upper column upper ∷ []) ≡ []
     → bounds_refusals all column (Some lower) (Some upper) ≡ []
-bounds_free all column lower upper h =
-    let next = with_declaration all (declare_lower column lower) in
-    let low = left_none (refusals all (declare_lower column lower)) (refusals_in_turn next (declare_upper column upper ∷ [])) h in
-    let up = left_none (refusals next (declare_upper column upper)) [] (right_none (refusals all (declare_lower column lower)) (refusals_in_turn next (declare_upper column upper ∷ [])) h) in
-    let unknown = not (has_column all column) in
-    let low_infinite = (is_plus_infinite lower, builds.InfiniteValue) ∷ [] in
-    let up_infinite = (is_minus_infinite upper, builds.InfiniteValue) ∷ [] in
-    let low_filled = (has_name all.lowers column, builds.DuplicateBound) ∷ low_infinite in
-    let up_filled = (has_name all.uppers column, builds.DuplicateBound) ∷ up_infinite in
-    let low_rest = rest_none unknown builds.UnknownColumn low_filled low in
-    let up_rest = rest_none unknown builds.UnknownColumn up_filled up in
-    let filled = both_false (has_name all.lowers column) (has_name all.uppers column)
-    (first_none (has_name all.lowers column) builds.DuplicateBound low_infinite low_rest)
-    (first_none (has_name all.uppers column) builds.DuplicateBound up_infinite up_rest) in
-    let infinite = both_false (is_plus_infinite lower) (is_minus_infinite upper)
-    (first_none (is_plus_infinite lower) builds.InfiniteValue [] (rest_none (has_name all.lowers column) builds.DuplicateBound low_infinite low_rest))
-    (first_none (is_minus_infinite upper) builds.InfiniteValue [] (rest_none (has_name all.uppers column) builds.DuplicateBound up_infinite up_rest)) in
-    let last = (is_plus_infinite lower || is_minus_infinite upper, builds.InfiniteValue) ∷ [] in
-    pass unknown builds.UnknownColumn ((has_name all.lowers column || has_name all.uppers column, builds.DuplicateBound) ∷ last) (first_none unknown builds.UnknownColumn low_filled low)
-    (pass (has_name all.lowers column || has_name all.uppers column) builds.DuplicateBound last filled
-    (pass (is_plus_infinite lower || is_minus_infinite upper) builds.InfiniteValue [] infinite refl))
+bounds_free all column lower upper h = grind arith
 
 step_none : (all : Draft) (step : Step) → is_good step ≡ true → refusals_in_turn all (step_declared step) ≡ [] → head_of (step_faults all step) ≡ None
 step_none all (fails kind) good h = let no : ⊥ = cc in absurd no
@@ -120,10 +81,7 @@ steps_none (step ∷ more) all good h =
 
 pub items-after : (all : List Item) (before : Draft) → after_items before all ≡ with_declarations before (flat_map declared_by all)
 items-after [] before = refl
-items-after (item ∷ more) before =
-    items-after more (after_steps before item.steps)
-    ∙ ap (λ (d : Draft). with_declarations d (flat_map declared_by more)) (steps-after item.steps before)
-    ∙ sym (with_declarations-append (declared_by item) (flat_map declared_by more) before)
+items-after (item ∷ more) before = grind (arith, steps-after, with_declarations-append, items-after more (after_steps before item.steps))
 
 no_item : (item : Item) (o : Option FaultKind) (p : Option ItemFault) → option_map_or (λ kind. Some (item_fault item kind)) o p ≡ None → (o ≡ None) × (p ≡ None)
 no_item item None p h = (refl, h)
@@ -152,27 +110,13 @@ items_none (item ∷ more) before good h =
 
 -- ---- the objective
 
-objective_kept : (ds : Declarations) (before : Draft) → is_some before.objective ≡ true → is_some (with_declarations before ds).objective ≡ true
-objective_kept [] before h = h
-objective_kept (declare_objective name ∷ more) before h = objective_kept more (with_declaration before (declare_objective name)) refl
-objective_kept (d ∷ more) before h = objective_kept more (with_declaration before d) h
-
 pub objective_there : (ds : Declarations) (before : Draft) → has_objective ds ≡ true → is_some (with_declarations before ds).objective ≡ true
 objective_there [] before h = let no : ⊥ = cc in absurd no
-objective_there (declare_objective name ∷ more) before h = objective_kept more (with_declaration before (declare_objective name)) refl
+objective_there (declare_objective name ∷ more) before h = named-after more (with_declaration before (declare_objective name)) refl
 objective_there (d ∷ more) before h = objective_there more (with_declaration before d) h
 
 names_objective : (arrays : MpslpModel) → list_all is_good (objective_steps arrays) ≡ true → (more : Declarations) → has_objective (flat_map step_declared (objective_steps arrays) ++ more) ≡ true
-names_objective arrays good more =
-    elim (name_given arrays.names.now arrays.objective) as (λ r. list_all is_good (steps_with r (λ name. steps_with (number_given arrays.constant) (λ constant. declares (declare_objective name) ∷ declares (declare_constant constant) ∷ sense_steps arrays.sense))) ≡ true
-    → has_objective (flat_map step_declared (steps_with r (λ name. steps_with (number_given arrays.constant) (λ constant. declares (declare_objective name) ∷ declares (declare_constant constant) ∷ sense_steps arrays.sense))) ++ more) ≡ true) [
-      | Err kind ↦ λ bad. let no : ⊥ = cc in absurd no
-      | Ok name ↦ elim (number_given arrays.constant) as (λ r. list_all is_good (steps_with r (λ constant. declares (declare_objective name) ∷ declares (declare_constant constant) ∷ sense_steps arrays.sense)) ≡ true
-          → has_objective (flat_map step_declared (steps_with r (λ constant. declares (declare_objective name) ∷ declares (declare_constant constant) ∷ sense_steps arrays.sense)) ++ more) ≡ true) [
-            | Err kind ↦ λ bad. let no : ⊥ = cc in absurd no
-            | Ok constant ↦ λ _. refl
-          ]
-    ] good
+names_objective arrays good more = grind arith
 
 objective_of : (arrays : MpslpModel) → list_all is_good_item (items arrays) ≡ true → has_objective (flat_map declared_by (items arrays)) ≡ true
 objective_of arrays good = names_objective arrays (first_so (list_all is_good (objective_steps arrays)) _ good) _

@@ -1,30 +1,22 @@
 -- Each name is declared before it is used: the objective and the rows come first, and each column before its elements.
-use Rattle.std.proofs.Common.{◌≡◌, refl, sym, ap, ◌∙◌, subst, ℕ, zero, suc, List, [], ◌∷◌, ◌++◌, Bool, true, false, Option, None, Some, Result, Ok, Err, cond, append_assoc}
-use Rattle.std.specs.Prelude.{◌&&◌, nat_le, slice_get, slice_range, length}
-use Rattle.std.specs.List.{list_all, flat_map}
-use Rattle.std.specs.Cmp.{first_so, second_so}
-use Rattle.std.specs.Cmp.Lexicographic.{bytes_decides}
-use Rattle.std.proofs.lemmas.Grind.{flat_map-append}
+use Rattle.std.proofs.Common.{arith, ◌≡◌, refl, sym, ap, ◌∙◌, ℕ, zero, suc, List, [], ◌∷◌, ◌++◌, Bool, true, false, Option, Result, Ok, Err}
+use Rattle.std.{proofs.{Common.append_assoc, lemmas.Grind.flat_map-append}, specs.{Prelude.{◌&&◌, slice_get, length}, List.list_all}}
+use Rattle.std.specs.{List.flat_map, Cmp.{first_so, second_so, Lexicographic.bytes_decides}}
 use Rattle.mpslp_decimal.specs.Decimal.{Number}
 use Rattle.mpslp_model_core.specs.Model.{LinearModel}
-use Rattle.mpslp_types.specs.declared.kinds.Limit.{Limit}
-use Rattle.mpslp_types.proofs.BoolLemmas.{both_so, or_left}
-use Rattle.mpslp_types.specs.Name.{same_bytes}
-use Rattle.mpslp_types.specs.declared.faults.FaultKind.{FaultKind}
-use Rattle.mpslp_types.specs.declared.faults.FaultKind.TheVariants.{ColumnSplit}
-use Rattle.mpslp_c.specs.declared.faults.TheConstants.{AT_COLUMN}
-use Rattle.mpslp_builder.specs.Declaration.{Declaration, declare_sense, declare_objective, declare_constant, declare_row, declare_column, declare_coefficient, declare_lower, declare_upper, declare_integer, declare_semi, Declarations, Draft, empty_draft, with_declaration, with_declarations, draft_of, has_row, has_column, has_name}
-use Rattle.mpslp_builder.specs.Consistency.{is_known}
-use Rattle.mpslp_builder.proofs.RefusalLemmas.{are_known_in_turn}
-use Rattle.mpslp_builder.proofs.SlotLemmas.{has-put}
-use Rattle.mpslp_builder.proofs.LaterDrafts.{itself_named}
-use Rattle.mpslp_builder.proofs.MadeDrafts.{with_declarations-append}
-use Rattle.mpslp_c.specs.Stored.{Step, fails, declares, bounds, step_declared, steps_with, name_given, number_given, limit_given, bytes_at, sense_steps, objective_steps, row_steps, kind_steps, column_steps, element_steps, Item, row_items, element_items, elements_end, own_items, column_items, first_column_steps, items, is_good, is_good_item, declared_by, Defines}
+use Rattle.mpslp_types.{specs.{declared.{kinds.Limit.Limit, faults.FaultKind.FaultKind}, Name.same_bytes}, proofs.BoolLemmas.both_so}
+use Rattle.mpslp_types.proofs.BoolLemmas.{or_left}
+use Rattle.mpslp_c.specs.{declared.faults.TheConstants.AT_COLUMN, Stored.{Step, declares, bounds, step_declared, steps_with, name_given}}
+use Rattle.mpslp_c.specs.Stored.{number_given, limit_given, bytes_at, sense_steps, objective_steps, row_steps, kind_steps, column_steps}
+use Rattle.mpslp_c.specs.Stored.{element_steps, Item, row_items, element_items, elements_end, own_items, column_items, first_column_steps}
+use Rattle.mpslp_c.specs.{Stored.{items, is_good, is_good_item, declared_by, Defines}, declared.arrays.MpslpRow.MpslpRow}
+use Rattle.mpslp_c.specs.declared.arrays.{MpslpColumn.MpslpColumn, MpslpElement.MpslpElement, MpslpModel.MpslpModel}
 use Rattle.mpslp_c.proofs.StepLemmas.{given_bytes}
-use Rattle.mpslp_c.specs.declared.arrays.MpslpRow.{MpslpRow}
-use Rattle.mpslp_c.specs.declared.arrays.MpslpColumn.{MpslpColumn}
-use Rattle.mpslp_c.specs.declared.arrays.MpslpElement.{MpslpElement}
-use Rattle.mpslp_c.specs.declared.arrays.MpslpModel.{MpslpModel}
+use Rattle.mpslp_builder.specs.Declaration.{Declaration, declare_sense, declare_objective, declare_constant, declare_row, declare_column}
+use Rattle.mpslp_builder.specs.Declaration.{declare_coefficient, declare_lower, declare_upper, declare_integer, declare_semi, Declarations}
+use Rattle.mpslp_builder.specs.Declaration.{Draft, empty_draft, with_declaration, with_declarations, draft_of, has_row, has_column}
+use Rattle.mpslp_builder.{specs.{Declaration.has_name, Consistency.is_known}, proofs.{RefusalLemmas.are_known_in_turn, SlotLemmas.has-put}}
+use Rattle.mpslp_builder.proofs.{LaterDrafts.itself_named, MadeDrafts.with_declarations-append}
 
 pub all-append : {X : Type 0} (p : X → Bool) (xs ys : List X) → list_all p xs ≡ true → list_all p ys ≡ true → list_all p (xs ++ ys) ≡ true
 all-append p [] ys h k = k
@@ -103,29 +95,11 @@ same_column column name before same there = ap (has_column before) ((bytes_decid
 column_known : (name : List ℕ) (ds : Declarations) (before after : Draft) → list_all (is_of_column name) ds ≡ true → has_column before name ≡ true → HasRows before after
     → list_all (is_known after) ds ≡ true → are_known_in_turn before ds ≡ true
 column_known name [] before after own there rows known = refl
-column_known name (declare_coefficient key value ∷ more) before after own there rows known =
-    let here = first_so (same_bytes key.column name) (list_all (is_of_column name) more) own in
-    let row = first_so (has_row after key.row) (has_column after key.column) (first_so (is_known after (declare_coefficient key value)) (list_all (is_known after) more) known) in
-    both_so (has_row before key.row && has_column before key.column) _
-    (both_so (has_row before key.row) (has_column before key.column) (rows key.row row) (same_column key.column name before here there))
-    (column_known name more (with_declaration before (declare_coefficient key value)) after (second_so (same_bytes key.column name) (list_all (is_of_column name) more) own) there rows
-    (second_so (is_known after (declare_coefficient key value)) (list_all (is_known after) more) known))
-column_known name (declare_lower column limit ∷ more) before after own there rows known =
-    both_so (has_column before column) _ (same_column column name before (first_so (same_bytes column name) (list_all (is_of_column name) more) own) there)
-    (column_known name more (with_declaration before (declare_lower column limit)) after (second_so (same_bytes column name) (list_all (is_of_column name) more) own) there rows
-    (second_so (is_known after (declare_lower column limit)) (list_all (is_known after) more) known))
-column_known name (declare_upper column limit ∷ more) before after own there rows known =
-    both_so (has_column before column) _ (same_column column name before (first_so (same_bytes column name) (list_all (is_of_column name) more) own) there)
-    (column_known name more (with_declaration before (declare_upper column limit)) after (second_so (same_bytes column name) (list_all (is_of_column name) more) own) there rows
-    (second_so (is_known after (declare_upper column limit)) (list_all (is_known after) more) known))
-column_known name (declare_integer column ∷ more) before after own there rows known =
-    both_so (has_column before column) _ (same_column column name before (first_so (same_bytes column name) (list_all (is_of_column name) more) own) there)
-    (column_known name more (with_declaration before (declare_integer column)) after (second_so (same_bytes column name) (list_all (is_of_column name) more) own) there rows
-    (second_so (is_known after (declare_integer column)) (list_all (is_known after) more) known))
-column_known name (declare_semi column ∷ more) before after own there rows known =
-    both_so (has_column before column) _ (same_column column name before (first_so (same_bytes column name) (list_all (is_of_column name) more) own) there)
-    (column_known name more (with_declaration before (declare_semi column)) after (second_so (same_bytes column name) (list_all (is_of_column name) more) own) there rows
-    (second_so (is_known after (declare_semi column)) (list_all (is_known after) more) known))
+column_known name (declare_coefficient key value ∷ more) before after own there rows known = grind (arith, both_so, same_column, column_known name more (with_declaration before (declare_coefficient key value)) after (second_so (same_bytes key.column name) (list_all (is_of_column name) more) own) there rows (second_so (is_known after (declare_coefficient key value)) (list_all (is_known after) more) known))
+column_known name (declare_lower column limit ∷ more) before after own there rows known = grind (arith, both_so, same_column, column_known name more (with_declaration before (declare_lower column limit)) after (second_so (same_bytes column name) (list_all (is_of_column name) more) own) there rows (second_so (is_known after (declare_lower column limit)) (list_all (is_known after) more) known))
+column_known name (declare_upper column limit ∷ more) before after own there rows known = grind (arith, both_so, same_column, column_known name more (with_declaration before (declare_upper column limit)) after (second_so (same_bytes column name) (list_all (is_of_column name) more) own) there rows (second_so (is_known after (declare_upper column limit)) (list_all (is_known after) more) known))
+column_known name (declare_integer column ∷ more) before after own there rows known = grind (arith, both_so, same_column, column_known name more (with_declaration before (declare_integer column)) after (second_so (same_bytes column name) (list_all (is_of_column name) more) own) there rows (second_so (is_known after (declare_integer column)) (list_all (is_known after) more) known))
+column_known name (declare_semi column ∷ more) before after own there rows known = grind (arith, both_so, same_column, column_known name more (with_declaration before (declare_semi column)) after (second_so (same_bytes column name) (list_all (is_of_column name) more) own) there rows (second_so (is_known after (declare_semi column)) (list_all (is_known after) more) known))
 column_known name (d ∷ more) before after own there rows known = let no : ⊥ = cc in absurd no
 
 -- ---- what adds no row
@@ -153,18 +127,10 @@ no_row_of_column name (d ∷ more) h = let no : ⊥ = cc in absurd no
 -- ---- a column and its elements
 
 kinds_are_own : (name : List ℕ) (kind : ℕ) → list_all (is_of_column name) (steps_declare (kind_steps name kind)) ≡ true
-kinds_are_own name zero = refl
-kinds_are_own name (suc zero) = both_so (same_bytes name name) true (itself_named name) refl
-kinds_are_own name (suc (suc zero)) = both_so (same_bytes name name) true (itself_named name) refl
-kinds_are_own name (suc (suc (suc n))) = refl
+kinds_are_own name kind = grind (arith, both_so, itself_named)
 
 element_is_own : (all column : List ℕ) (row : Option MpslpRow) (element : MpslpElement) → list_all (is_of_column column) (steps_declare (element_steps all column row element)) ≡ true
-element_is_own all column None element = refl
-element_is_own all column (Some row) element =
-    elim (number_given element.value) as (λ r. list_all (is_of_column column) (steps_declare (steps_with r (λ value. declares (declare_coefficient (record { row = bytes_at all row.name; column = column }) value) ∷ []))) ≡ true) [
-      | Ok value ↦ both_so (same_bytes column column) true (itself_named column) refl
-      | Err kind ↦ refl
-    ]
+element_is_own all column row element = grind (arith, both_so, itself_named)
 
 elements_are_own : (all : List ℕ) (rows : List MpslpRow) (column : List ℕ) (k : ℕ) (elements : List MpslpElement)
     → list_all (is_of_column column) (flat_map declared_by (element_items all rows column k elements)) ≡ true
@@ -175,12 +141,7 @@ elements_are_own all rows column k (element ∷ elements) =
 
 own_are_own : (all : List ℕ) (rows : List MpslpRow) (elements : List MpslpElement) (j : ℕ) (column : MpslpColumn) (end : ℕ)
     → list_all (is_of_column (bytes_at all column.name)) (flat_map declared_by (own_items all rows elements j column end)) ≡ true
-own_are_own all rows elements j column end =
-    elim (nat_le column.first end && nat_le end (length elements)) as (λ b. list_all (is_of_column (bytes_at all column.name)) (flat_map declared_by
-    (cond b (element_items all rows (bytes_at all column.name) column.first (slice_range elements column.first end)) (record { place = AT_COLUMN; number = j; steps = fails ColumnSplit ∷ [] } ∷ []))) ≡ true) [
-      | true ↦ elements_are_own all rows (bytes_at all column.name) column.first (slice_range elements column.first end)
-      | false ↦ refl
-    ]
+own_are_own all rows elements j column end = grind (arith, elements_are_own)
 
 -- a column declares itself first, and then what is of it
 record BeginsColumn (name : List ℕ) (ds : Declarations) : Type 0 where
@@ -201,17 +162,7 @@ column_begins all objective column good =
         declares (declare_column name) ∷ bounds name lower upper ∷ declares (declare_coefficient (record { row = objective; column = name }) cost) ∷ kind_steps name column.kind))))) ≡ true
         → BeginsColumn (bytes_at all column.name) (steps_declare (steps_with n (λ name. steps_with l (λ lower. steps_with u (λ upper. steps_with v (λ cost.
         declares (declare_column name) ∷ bounds name lower upper ∷ declares (declare_coefficient (record { row = objective; column = name }) cost) ∷ kind_steps name column.kind))))))
-    by (Ok name) (Ok lower) (Ok upper) (Ok cost) is good =
-        let own : same_bytes name name ≡ true = itself_named name in
-        subst (λ (n : List ℕ). BeginsColumn n (declare_column name ∷ declare_lower name lower ∷ declare_upper name upper ∷ declare_coefficient (record { row = objective; column = name }) cost ∷ steps_declare (kind_steps name column.kind))) (sym (given_bytes all column.name name is)) (record {
-          rest = declare_lower name lower ∷ declare_upper name upper ∷ declare_coefficient (record { row = objective; column = name }) cost ∷ steps_declare (kind_steps name column.kind);
-          is = refl;
-          own = own_then name own _ (own_then name own _ (own_then name own _ (kinds_are_own name column.kind)));
-        })
-    by (Err kind) l u v is good = let no : ⊥ = cc in absurd no
-    by (Ok name) (Err kind) u v is good = let no : ⊥ = cc in absurd no
-    by (Ok name) (Ok lower) (Err kind) v is good = let no : ⊥ = cc in absurd no
-    by (Ok name) (Ok lower) (Ok upper) (Err kind) is good = let no : ⊥ = cc in absurd no
+    by n l u v is good = grind (arith, itself_named, given_bytes, own_then, kinds_are_own)
 
 column_there : (name : List ℕ) (before : Draft) → has_column (with_declaration before (declare_column name)) name ≡ true
 column_there name before = has-put name name tt before.columns ∙ or_left (same_bytes name name) (has_name before.columns name) (itself_named name)
@@ -282,12 +233,7 @@ columns_known all objective rows elements j (column ∷ columns) before after go
 -- ---- all items
 
 none_declared : (columns : List MpslpColumn) → steps_declare (first_column_steps columns) ≡ []
-none_declared [] = refl
-none_declared (column ∷ columns) =
-    elim (nat_le column.first 0) as (λ b. steps_declare (cond b [] (fails ColumnSplit ∷ [])) ≡ []) [
-      | true ↦ refl
-      | false ↦ refl
-    ]
+none_declared columns = grind arith
 
 pub items-known : (arrays : MpslpModel) (m : LinearModel) → Defines arrays m → are_known_in_turn empty_draft (flat_map declared_by (items arrays)) ≡ true
 items-known arrays m defines =

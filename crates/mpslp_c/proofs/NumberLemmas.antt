@@ -1,22 +1,18 @@
 -- The literal of a mantissa and an exponent is read as their value.
-use Rattle.std.proofs.Common.{◌≡◌, refl, sym, ap, subst, ◌∙◌, List, [], ◌∷◌, ◌++◌, length, ℕ, Bool, true, false, arith, ◌<◌, ◌≤◌, ◌^◌, length-append}
-use Rattle.std.specs.Prelude.{ℤ, pos, negsuc, ◌-ℤ◌, neg_ℤ, unsigned_abs, ◌&&◌, ◌||◌, not, if◌then◌else◌, Result, Ok, Err}
-use Rattle.std.specs.List.{before_first, after_first}
-use Rattle.std.specs.Fmt.{decimal, signed_decimal}
-use Rattle.std.proofs.lemmas.Fmt.{length-decimal-le_wide}
-use Rattle.std.proofs.lemmas.List.{append-nil}
-use Rattle.std.proofs.lemmas.Bool.{le-ltb}
-use Rattle.std.proofs.lemmas.Int.{ints}
-use lib.Signed.{mag}
-use Rattle.mpslp_decimal.specs.Decimal.{Number, normal, has_few_digits, has_small_exponent}
-use Rattle.mpslp_decimal.specs.Literal.{is_digit, is_minus, without_sign, is_point, is_exponent_mark, digits_sum, are_digits, to_signed, signed_value, unsigned_part, fraction_digits, mantissa_digits, exponent_part, is_literal, literal_value, number_of}
-use Rattle.mpslp_decimal.specs.declared.literal.NumberFault.{NumberFault}
-use Rattle.mpslp_decimal.specs.declared.literal.NumberFault.TheVariants.{BadNumber, LongNumber, TooManyDigits, ExponentRange}
-use Rattle.mpslp_decimal.proofs.CutLemmas.{Each, Each-weaker, before-at, after-at, after-none, before-none, AreDigits, digit-no_mark, digit-no_point, digit-no_sign, digit-no_minus, decimal-spells}
-use Rattle.mpslp_decimal.proofs.NumberTextLemmas.{are-digits}
-use Rattle.mpslp_types.specs.declared.faults.FaultKind.{FaultKind}
+use Rattle.std.proofs.Common.{◌≡◌, refl, sym, ap, subst, ◌∙◌, List, [], ◌∷◌, ◌++◌, length, ℕ, Bool, true, false, arith, ◌<◌, ◌≤◌, ◌^◌}
+use Rattle.std.{proofs.{Common.length-append, lemmas.{Fmt.length-decimal-le_wide, List.append-nil, Bool.le-ltb, Int.ints}}, specs.Prelude.ℤ}
+use Rattle.std.specs.{Prelude.{pos, negsuc, ◌-ℤ◌, neg_ℤ, unsigned_abs, not, if◌then◌else◌, Result, Ok, Err}, List.before_first}
+use Rattle.std.specs.{List.after_first, Fmt.{decimal, signed_decimal}}
+use Rattle.mpslp_decimal.specs.{Decimal.{Number, normal, has_few_digits, has_small_exponent}, Literal.{is_digit, is_minus, without_sign}}
+use Rattle.mpslp_decimal.specs.Literal.{is_point, is_exponent_mark, digits_sum, are_digits, to_signed, signed_value, unsigned_part}
+use Rattle.mpslp_decimal.specs.Literal.{fraction_digits, mantissa_digits, exponent_part, is_literal, literal_value, number_of}
+use Rattle.mpslp_decimal.specs.declared.literal.NumberFault.{NumberFault, TheVariants.{BadNumber, LongNumber, TooManyDigits, ExponentRange}}
+use Rattle.mpslp_decimal.proofs.CutLemmas.{Each, Each-weaker, before-at, after-at, after-none, before-none, AreDigits, digit-no_mark}
+use Rattle.mpslp_decimal.proofs.{CutLemmas.{digit-no_point, digit-no_sign, digit-no_minus, decimal-spells}, NumberTextLemmas.are-digits}
+use Rattle.mpslp_types.{specs.declared.faults.FaultKind.FaultKind, proofs.BoolLemmas.{both_so, or_right}}
 use Rattle.mpslp_lines.specs.FaultTests.{kind_of_number_fault}
 use Rattle.mpslp_c.specs.Stored.{decimal_given, literal_text}
+use lib.Signed.{mag}
 
 -- ---- a sign and digits
 
@@ -73,14 +69,6 @@ sign_len (negsuc n) = omega arith
 digits_len : (n : ℕ) → n < 10 ^ 60 → length (decimal n) ≤ 60
 digits_len n h = length-decimal-le_wide 60 n (omega arith) h (omega (arith, h))
 
-both : (a b : Bool) → a ≡ true → b ≡ true → (a && b) ≡ true
-both true b p q = q
-both false b p q = p
-
-or_second : (x y : Bool) → y ≡ true → (x || y) ≡ true
-or_second true y h = refl
-or_second false y h = h
-
 pub literal-read : (m e : ℤ) → unsigned_abs m < 10 ^ 60 → unsigned_abs e < 10 ^ 60 → IsRead m e
 literal-read m e few small =
     let ds = size_digits m in
@@ -104,7 +92,7 @@ literal-read m e few small =
     ∙ (λ i. to_signed (is_minus (sym (append-nil back) i)) (digits_sum (unsigned e es x.digits x.some i)))
     ∙ valued e es [] x.digits x.some x.value in
     let lit : is_literal (front ++ 101 ∷ back) ≡ true =
-    both (are_digits (mantissa_digits (front ++ 101 ∷ back))) _ (ap are_digits whole ∙ are-digits ds d.digits d.some) (or_second _ _ good) in
+    both_so (are_digits (mantissa_digits (front ++ 101 ∷ back))) _ (ap are_digits whole ∙ are-digits ds d.digits d.some) (or_right _ _ good) in
     let mantissa_value : to_signed (is_minus (front ++ 101 ∷ back)) (digits_sum (mantissa_digits (front ++ 101 ∷ back))) ≡ m =
     ap (λ (t : List ℕ). to_signed (is_minus (front ++ 101 ∷ back)) (digits_sum t)) whole ∙ valued m ds (101 ∷ back) d.digits d.some d.value in
     let none : e -ℤ pos 0 ≡ e = no_less e in

@@ -1,13 +1,12 @@
 -- What the arrays of a model declare, item by item: a list that depends only on the model.
-use Rattle.std.specs.Prelude.{ℕ, List, [], ◌∷◌, ◌++◌, map}
-use Rattle.std.specs.List.{flat_map}
+use Rattle.std.specs.{Prelude.{ℕ, List, [], ◌∷◌, ◌++◌, map}, List.flat_map}
 use Rattle.std.specs.FinMap as maps
 use Rattle.mpslp_decimal.specs.Decimal.{Number}
-use Rattle.mpslp_types.specs.declared.kinds.Kind.{Kind}
-use Rattle.mpslp_types.specs.declared.kinds.Kind.TheVariants.{Continuous, Integer, Semi}
-use Rattle.mpslp_model_core.specs.Model.{LinearModel, Row, Column, CoefficientKey}
-use Rattle.mpslp_model_core.specs.Views.{coefficient_at, column_elements}
-use Rattle.mpslp_builder.specs.Declaration.{Declaration, declare_sense, declare_objective, declare_constant, declare_row, declare_column, declare_coefficient, declare_lower, declare_upper, declare_integer, declare_semi, by_limits, Declarations}
+use Rattle.mpslp_types.specs.declared.kinds.Kind.{Kind, TheVariants.{Continuous, Integer, Semi}}
+use Rattle.mpslp_model_core.specs.{Model.{LinearModel, Row, Column, CoefficientKey}, Views.{coefficient_at, column_elements}}
+use Rattle.mpslp_builder.specs.Declaration.{Declaration, declare_sense, declare_objective, declare_constant, declare_row, declare_column}
+use Rattle.mpslp_builder.specs.Declaration.{declare_coefficient, declare_lower, declare_upper, declare_integer, declare_semi, by_limits}
+use Rattle.mpslp_builder.specs.Declaration.{Declarations}
 
 abbrev pub objective_stated : LinearModel → Declarations
 objective_stated m = declare_objective m.objective ∷ declare_constant m.constant ∷ declare_sense m.sense ∷ []

@@ -1,44 +1,34 @@
 -- The draft that the arrays of a well-formed model make: each of its maps is that of the model.
 use Rattle.std.proofs.Common.{◌≡◌, refl, sym, ap, ◌∙◌, ℕ, List, [], ◌∷◌, ◌++◌, map, Bool, true, false, not, cond}
-use Rattle.std.specs.Prelude.{◌&&◌, ◌||◌, Option, Some, None, is_some, is_none, unwrap_or, filter, if◌then◌else◌}
-use Rattle.std.specs.List.{list_all, flat_map}
-use Rattle.std.specs.Cmp.{first_so, second_so}
+use Rattle.std.{proofs.lemmas.{Grind.flat_map-append, List.{append-nil, Concat.flat_map_single}}, specs.Prelude.{◌&&◌, ◌||◌, Option, Some}}
+use Rattle.std.specs.{Prelude.{None, is_some, is_none, unwrap_or, filter, if◌then◌else◌}, List.{list_all, flat_map}, Cmp.first_so}
+use Rattle.std.specs.{Cmp.second_so, FinMap.{find, is_sorted}}
 use Rattle.std.specs.FinMap as maps
-use Rattle.std.specs.FinMap.{find, is_sorted}
-use Rattle.std.proofs.lemmas.Grind.{flat_map-append}
-use Rattle.std.proofs.lemmas.List.{append-nil}
-use Rattle.std.proofs.lemmas.List.Concat.{flat_map_single}
 use Rattle.mpslp_decimal.specs.Decimal.{Number, is_decimal, is_zero, zero_number, negated}
-use Rattle.mpslp_types.specs.Name.{same_bytes, bytes_cmp, is_one_of}
-use Rattle.mpslp_types.specs.Limit.{zero_limit}
-use Rattle.mpslp_types.specs.declared.kinds.Kind.{Kind}
-use Rattle.mpslp_types.specs.declared.kinds.Kind.TheVariants.{Continuous, Integer, Semi}
-use Rattle.mpslp_types.specs.declared.kinds.Limit.{Limit}
-use Rattle.mpslp_types.specs.declared.kinds.Limit.TheVariants.{PlusInf}
-use Rattle.mpslp_types.specs.declared.kinds.Sense.{Sense}
-use Rattle.mpslp_types.specs.declared.kinds.Sense.TheVariants.{Minimize}
-use Rattle.mpslp_types.proofs.BoolLemmas.{T_from, true_from, both_so}
-use Rattle.mpslp_types.proofs.EachLemmas.{Each, Each-both, Each-map, Each-all, Each-weaker, Each-append, Each-filter, Each-flat_map, Each-from_list_all, list_all-from_Each}
+use Rattle.mpslp_types.specs.{Name.{same_bytes, bytes_cmp, is_one_of}, Limit.zero_limit, declared.kinds.Kind.{Kind, TheVariants.Continuous}}
+use Rattle.mpslp_types.specs.declared.kinds.{Kind.TheVariants.{Integer, Semi}, Limit.{Limit, TheVariants.PlusInf}, Sense.Sense}
+use Rattle.mpslp_types.{specs.declared.kinds.Sense.TheVariants.Minimize, proofs.{BoolLemmas.{T_from, true_from, both_so}, EachLemmas.Each}}
+use Rattle.mpslp_types.proofs.EachLemmas.{Each-both, Each-map, Each-all, Each-weaker, Each-append, Each-filter, Each-flat_map}
+use Rattle.mpslp_types.proofs.EachLemmas.{Each-from_list_all, list_all-from_Each}
 use Rattle.mpslp_model_core.specs.Model.{LinearModel, Row, Column, CoefficientKey, key_cmp, IsSound, is_sound_column, is_sound_coefficient}
-use Rattle.mpslp_model_core.specs.Limits.{has_infinite_rhs}
-use Rattle.mpslp_model_core.specs.Views.{is_element, column_elements}
-use Rattle.mpslp_model_core.proofs.KeyLemmas.{bytes_total, key_total, same_key, tied_names}
-use Rattle.mpslp_model_core.proofs.PutsLemmas.{puts, finds_own, find-front, some_cons, some_append_left, some_append_right}
-use Rattle.mpslp_builder.specs.Declaration.{RowDefinition, by_limits, Declaration, declare_row, declare_column, declare_coefficient, declare_lower, declare_upper, declare_integer, declare_semi, Draft, empty_draft, draft_of, at_name, has_name, names_in, is_integer, is_semi}
-use Rattle.mpslp_builder.specs.Bounds.{one_limit}
-use Rattle.mpslp_builder.specs.Meaning.{column_of, objective_name, constant_of, row_limits, row_entry, row_passes, DraftMeans}
-use Rattle.mpslp_builder.proofs.BoundsLemmas.{is_integer_kind, is_semi_kind, column_of-is}
-use Rattle.mpslp_builder.proofs.CoefficientLemmas.{flat_map-flat_map, flat_map-none}
-use Rattle.mpslp_builder.proofs.DraftLemmas.{row_part, rhs_part, column_part, coefficient_part, lower_part, upper_part, marked_part, integer_part, binary_part, semi_part, rows-all, rhs_values-all, columns-all, coefficients-all, lowers-all, uppers-all, marked-all, integers-all, binaries-all, semis-all}
-use Rattle.mpslp_builder.proofs.EntryLemmas.{then_stated, stated, all_stated, puts-own, puts-kept, find-stated, found-each, sorted-stated}
-use Rattle.mpslp_builder.proofs.FlatLemmas.{flat-same}
-use Rattle.mpslp_builder.proofs.GivenBack.{model-back, columns-back, no-negative_upper, binary-within}
-use Rattle.mpslp_builder.proofs.KeptParts.{Stays, stays-all}
-use Rattle.mpslp_builder.proofs.LaterDrafts.{value_in, itself_named}
-use Rattle.mpslp_builder.proofs.MeaningFromNoFault.{sorted-mapped}
-use Rattle.mpslp_builder.proofs.NamedEntries.{named, own-found}
+use Rattle.mpslp_model_core.{specs.{Limits.has_infinite_rhs, Views.{is_element, column_elements}}, proofs.KeyLemmas.bytes_total}
+use Rattle.mpslp_model_core.proofs.{KeyLemmas.{key_total, same_key, tied_names}, PutsLemmas.{puts, finds_own, find-front, some_cons}}
+use Rattle.mpslp_model_core.proofs.PutsLemmas.{some_append_left, some_append_right}
+use Rattle.mpslp_builder.specs.Declaration.{RowDefinition, by_limits, Declaration, declare_row, declare_column, declare_coefficient}
+use Rattle.mpslp_builder.specs.Declaration.{declare_lower, declare_upper, declare_integer, declare_semi, Draft, empty_draft, draft_of}
+use Rattle.mpslp_builder.specs.{Declaration.{at_name, has_name, names_in, is_integer, is_semi}, Bounds.one_limit, Meaning.column_of}
+use Rattle.mpslp_builder.specs.Meaning.{objective_name, constant_of, row_limits, row_entry, row_passes, DraftMeans}
+use Rattle.mpslp_builder.proofs.{BoundsLemmas.{is_integer_kind, is_semi_kind, column_of-is}, CoefficientLemmas.flat_map-flat_map}
+use Rattle.mpslp_builder.proofs.{CoefficientLemmas.flat_map-none, DraftLemmas.{row_part, rhs_part, column_part, coefficient_part}}
+use Rattle.mpslp_builder.proofs.DraftLemmas.{lower_part, upper_part, marked_part, integer_part, binary_part, semi_part, rows-all}
+use Rattle.mpslp_builder.proofs.DraftLemmas.{rhs_values-all, columns-all, coefficients-all, lowers-all, uppers-all, marked-all}
+use Rattle.mpslp_builder.proofs.{DraftLemmas.{integers-all, binaries-all, semis-all}, EntryLemmas.{then_stated, stated, all_stated}}
+use Rattle.mpslp_builder.proofs.{EntryLemmas.{puts-own, puts-kept, find-stated, found-each, sorted-stated}, FlatLemmas.flat-same}
+use Rattle.mpslp_builder.proofs.{GivenBack.{model-back, columns-back, no-negative_upper, binary-within}, KeptParts.{Stays, stays-all}}
+use Rattle.mpslp_builder.proofs.{LaterDrafts.{value_in, itself_named}, MeaningFromNoFault.sorted-mapped, NamedEntries.{named, own-found}}
 use Rattle.mpslp_builder.proofs.SlotLemmas.{same_name}
-use Rattle.mpslp_c.proofs.StatedDeclarations.{objective_stated, row_stated, kind_stated, cost_key, cost_at, head_stated, cell_stated, column_stated, stated_declarations}
+use Rattle.mpslp_c.proofs.StatedDeclarations.{objective_stated, row_stated, kind_stated, cost_key, cost_at, head_stated, cell_stated}
+use Rattle.mpslp_c.proofs.StatedDeclarations.{column_stated, stated_declarations}
 
 -- ---- what a kind of declaration puts into a map
 

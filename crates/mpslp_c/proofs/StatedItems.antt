@@ -1,46 +1,32 @@
 -- The items of the arrays of a well-formed model have no error of their own, and declare what the model says.
-use Rattle.std.proofs.Common.{◌≡◌, refl, sym, ap, subst, ◌∙◌, ℕ, zero, suc, ◌+◌, ◌-◌, ◌<◌, ◌≤◌, List, [], ◌∷◌, ◌++◌, map, length, take, drop, get_or, Bool, true, false, Option, None, Some, Result, Ok, arith, le-leb}
-use Rattle.std.specs.Prelude.{◌&&◌, slice_get, slice_range, slice_index_or, sum_by, nat_le, unwrap_or, if◌then◌else◌}
-use Rattle.std.specs.List.{list_all, flat_map}
-use Rattle.std.specs.Option.{option_map}
-use Rattle.std.specs.Cmp.{first_so, second_so}
+use Rattle.std.proofs.Common.{rules, ◌≡◌, refl, sym, ap, subst, ◌∙◌, ℕ, zero, suc, ◌+◌, ◌-◌, ◌<◌, ◌≤◌, List, [], ◌∷◌, ◌++◌, map, length}
+use Rattle.std.proofs.Common.{take, drop, get_or, Bool, true, false, Option, None, Some, Result, Ok, arith, le-leb}
+use Rattle.std.proofs.lemmas.{Grind.flat_map-append, List.{length-map, length-take-le, length-drop, take_all, Sums.sum_by-cons}}
+use Rattle.std.{proofs.lemmas.{List.Quantifiers.position-Some, Option.{slice_get-map, slice_get_within}}, specs.Prelude.{◌&&◌, slice_get}}
+use Rattle.std.specs.{Prelude.{slice_range, slice_index_or, sum_by, nat_le, unwrap_or, if◌then◌else◌}, List.{list_all, flat_map}}
+use Rattle.std.specs.{Option.option_map, Cmp.{first_so, second_so}}
 use Rattle.std.specs.FinMap as maps
-use Rattle.std.proofs.lemmas.Grind.{flat_map-append}
-use Rattle.std.proofs.lemmas.List.{length-map, length-take-le, length-drop, take_all}
-use Rattle.std.proofs.lemmas.List.Sums.{sum_by-cons}
-use Rattle.std.proofs.lemmas.List.Quantifiers.{position-Some}
-use Rattle.std.proofs.lemmas.Option.{slice_get-map, slice_get_within}
 use Rattle.mpslp_decimal.specs.Decimal.{Number, IsDecimal, is_decimal, zero_number}
-use Rattle.mpslp_types.specs.Name.{same_bytes}
-use Rattle.mpslp_types.specs.declared.faults.FaultKind.{FaultKind}
-use Rattle.mpslp_types.specs.declared.faults.FaultKind.TheVariants.{ColumnSplit}
-use Rattle.mpslp_types.specs.declared.kinds.Kind.{Kind}
-use Rattle.mpslp_types.specs.declared.kinds.Kind.TheVariants.{Continuous, Integer, Semi}
-use Rattle.mpslp_types.specs.declared.kinds.Limit.{Limit}
-use Rattle.mpslp_types.specs.declared.kinds.Sense.{Sense}
-use Rattle.mpslp_types.specs.declared.kinds.Sense.TheVariants.{Minimize, Maximize}
-use Rattle.mpslp_types.proofs.BoolLemmas.{both_so}
-use Rattle.mpslp_types.proofs.EachLemmas.{Each, Each-from_list_all, Each-filter, Each-weaker}
-use Rattle.mpslp_model_core.specs.Model.{LinearModel, Row, Column, CoefficientKey, key_cmp, IsSound, is_sound_row, is_sound_column, is_sound_coefficient}
-use Rattle.mpslp_model_core.specs.Views.{num_columns, row_name, row_names, row_index, column_name, column_names, rows_of, columns_of, is_element, column_elements, numbered_elements}
-use Rattle.mpslp_model_core.proofs.KeyLemmas.{key_total, same_key}
-use Rattle.mpslp_builder.specs.Declaration.{declare_sense, declare_objective, declare_constant, declare_column, declare_coefficient, declare_lower, declare_upper, Declarations}
-use Rattle.mpslp_builder.proofs.EntryLemmas.{found-each}
-use Rattle.mpslp_builder.proofs.SlotLemmas.{same_name}
-use Rattle.mpslp_builder.proofs.SoundParts.{row_named, row_sides, column_named, column_sides, lower_of, upper_of}
-use Rattle.mpslp_c.specs.Arrays.{RepresentsNumber, RepresentsLimit, RepresentsSide, RepresentsName, RepresentsRow, RepresentsRows, RepresentsElement, RepresentsColumn, RepresentsModel, column_len, kind_number, sense_number}
-use Rattle.mpslp_c.specs.Stored.{Step, fails, step_declared, steps_with, bytes_at, sense_steps, objective_steps, row_steps, kind_steps, column_steps, element_steps, Item, row_items, element_items, elements_end, own_items, column_items, first_column_steps, items, is_good, is_good_item, declared_by}
-use Rattle.mpslp_c.specs.declared.faults.TheConstants.{AT_COLUMN}
-use Rattle.mpslp_c.specs.declared.numbers.MpslpNumber.{MpslpNumber}
-use Rattle.mpslp_c.specs.declared.arrays.MpslpRow.{MpslpRow}
-use Rattle.mpslp_c.specs.declared.arrays.MpslpColumn.{MpslpColumn}
-use Rattle.mpslp_c.specs.declared.arrays.MpslpElement.{MpslpElement}
-use Rattle.mpslp_c.specs.declared.arrays.MpslpModel.{MpslpModel}
-use Rattle.mpslp_c.proofs.CountLemmas.{all_counted}
-use Rattle.mpslp_c.proofs.KnownLemmas.{all-append}
-use Rattle.mpslp_c.proofs.StoredLemmas.{same_some}
-use Rattle.mpslp_c.proofs.StatedValues.{number-stated, limit-stated, lower-given, upper-given, name-stated}
-use Rattle.mpslp_c.proofs.StatedDeclarations.{objective_stated, row_stated, kind_stated, cost_key, cost_at, head_stated, cell_stated, column_stated, stated_declarations}
+use Rattle.mpslp_types.specs.{Name.same_bytes, declared.{faults.FaultKind.{FaultKind, TheVariants.ColumnSplit}, kinds.Kind.Kind}}
+use Rattle.mpslp_types.specs.declared.kinds.{Kind.TheVariants.{Continuous, Integer, Semi}, Limit.Limit, Sense.{Sense, TheVariants.Minimize}}
+use Rattle.mpslp_types.{specs.declared.kinds.Sense.TheVariants.Maximize, proofs.{BoolLemmas.both_so, EachLemmas.{Each, Each-from_list_all}}}
+use Rattle.mpslp_types.proofs.EachLemmas.{Each-filter, Each-weaker}
+use Rattle.mpslp_model_core.specs.Model.{LinearModel, Row, Column, CoefficientKey, key_cmp, IsSound, is_sound_row, is_sound_column}
+use Rattle.mpslp_model_core.specs.{Model.is_sound_coefficient, Views.{num_columns, row_name, row_names, row_index, column_names}}
+use Rattle.mpslp_model_core.{specs.Views.{is_element, column_elements, numbered_elements}, proofs.KeyLemmas.{key_total, same_key}}
+use Rattle.mpslp_builder.specs.Declaration.{declare_sense, declare_column, declare_coefficient, declare_lower, declare_upper, Declarations}
+use Rattle.mpslp_builder.proofs.{EntryLemmas.found-each, SlotLemmas.same_name, SoundParts.{row_named, row_sides, column_named}}
+use Rattle.mpslp_builder.proofs.SoundParts.{column_sides, lower_of, upper_of}
+use Rattle.mpslp_c.specs.Arrays.{RepresentsNumber, RepresentsLimit, RepresentsSide, RepresentsName, RepresentsRow, RepresentsRows}
+use Rattle.mpslp_c.specs.{Arrays.{RepresentsElement, RepresentsColumn, RepresentsModel, column_len, kind_number, sense_number}, Stored.Step}
+use Rattle.mpslp_c.specs.Stored.{fails, step_declared, steps_with, bytes_at, sense_steps, objective_steps, row_steps, kind_steps}
+use Rattle.mpslp_c.specs.Stored.{column_steps, element_steps, Item, row_items, element_items, elements_end, own_items, column_items}
+use Rattle.mpslp_c.specs.{Stored.{first_column_steps, items, is_good, is_good_item, declared_by}, declared.faults.TheConstants.AT_COLUMN}
+use Rattle.mpslp_c.specs.declared.{numbers.MpslpNumber.MpslpNumber, arrays.{MpslpRow.MpslpRow, MpslpColumn.MpslpColumn}}
+use Rattle.mpslp_c.{specs.declared.arrays.{MpslpElement.MpslpElement, MpslpModel.MpslpModel}, proofs.CountLemmas.all_counted}
+use Rattle.mpslp_c.proofs.{KnownLemmas.all-append, StoredLemmas.same_some, StatedValues.{number-stated, limit-stated, lower-given}}
+use Rattle.mpslp_c.proofs.{StatedValues.{upper-given, name-stated}, StatedDeclarations.{objective_stated, row_stated, kind_stated}}
+use Rattle.mpslp_c.proofs.StatedDeclarations.{cost_key, cost_at, head_stated, cell_stated, column_stated, stated_declarations}
 
 -- ---- steps and items that have no error, and what they declare
 
@@ -114,13 +100,7 @@ side-of : {X : Type 0} {at : Option X} {x : X} (side : X → Limit) (in_c : Mpsl
 side-of {X} side in_c is represents = subst (λ (o : Option X). RepresentsSide (option_map side o) in_c) is represents
 
 row-stated : (m : LinearModel) (names : List ℕ) (i : ℕ) (row : List ℕ × Row) (in_c : MpslpRow) → slice_get (maps.entries m.rows) i ≡ Some row → RepresentsRow m names i in_c → IsRowStated names row in_c
-row-stated m names i row in_c at represents =
-    let here : slice_get (rows_of m) i ≡ Some row.1 = value-at (maps.entries m.rows) i row at in
-    record {
-      name = subst (λ (name : List ℕ). RepresentsName names name in_c.name) (name-at (maps.entries m.rows) i row at) represents.name;
-      lower = side-of (λ (r : Row). r.lower) in_c.lower here represents.lower;
-      upper = side-of (λ (r : Row). r.upper) in_c.upper here represents.upper;
-    }
+row-stated m names i row in_c at represents = grind (arith, value-at, name-at, side-of)
 
 row-steps : (names : List ℕ) (row : List ℕ × Row) (in_c : MpslpRow) → is_sound_row row ≡ true → IsRowStated names row in_c → Give (row_steps names in_c) (row_stated row ∷ [])
 row-steps names row in_c sound represents =
@@ -143,13 +123,7 @@ sense-stated Minimize = record { good = refl; declared = refl }
 sense-stated Maximize = record { good = refl; declared = refl }
 
 objective-steps : (m : LinearModel) (in_c : MpslpModel) → IsSound m → RepresentsModel m in_c → Give (objective_steps in_c) (objective_stated m)
-objective-steps m in_c sound represents =
-    let sense = subst (λ (n : ℕ). Give (sense_steps n) (declare_sense m.sense ∷ [])) (sym represents.sense) (sense-stated m.sense) in
-    give_with _ (name-stated in_c.names.now m.objective in_c.objective sound.objective represents.objective)
-    (give_with _ (number-stated m.constant in_c.constant sound.constant represents.constant) (record {
-      good = sense.good;
-      declared = λ i. declare_objective m.objective ∷ declare_constant m.constant ∷ sense.declared i;
-    }))
+objective-steps m in_c sound represents = grind (arith, sense-stated, name-stated, number-stated)
 
 -- ---- elements
 
@@ -185,13 +159,7 @@ module _ (m : LinearModel) (sound : IsSound m) (names : List ℕ) (rows : List M
 
   element-steps : (column : List ℕ) (own : List ℕ) (cell : CoefficientKey × Number) (element : MpslpElement) → own ≡ column → IsElementStated column cell element
       → Give (element_steps names own (slice_get rows element.row) element) (cell_stated cell ∷ [])
-  element-steps column own cell element is represents =
-      let there = row-there cell.0.row element.row represents.row in
-      subst (λ (o : Option MpslpRow). Give (element_steps names own o element) (cell_stated cell ∷ [])) (sym there.1)
-      (give_with _ (number-stated cell.1 element.value represents.decimal represents.value) (record {
-        good = refl;
-        declared = λ i. declare_coefficient (record { row = there.2 i; column = (is ∙ same_name column cell.0.column represents.of_column) i }) cell.1 ∷ [];
-      }))
+  element-steps column own cell element is represents = search (rules, row-there, cell_stated, number-stated, same_name)
 
   elements-items : (column own : List ℕ) (k : ℕ) (cells : List (CoefficientKey × Number)) (elements : List MpslpElement) → own ≡ column → Pairs (IsElementStated column) cells elements
       → GiveItems (element_items names rows own k elements) (map cell_stated cells)
@@ -213,18 +181,7 @@ record IsColumnStated (m : LinearModel) (names : List ℕ) (all : List MpslpElem
 
 column-stated : (m : LinearModel) (names : List ℕ) (all : List MpslpElement) (j : ℕ) (column : List ℕ × Column) (in_c : MpslpColumn)
     → slice_get (maps.entries m.columns) j ≡ Some column → RepresentsColumn m names all j in_c → IsColumnStated m names all column in_c
-column-stated m names all j column in_c at represents =
-    let here : slice_get (columns_of m) j ≡ Some column.1 = value-at (maps.entries m.columns) j column at in
-    let named : column_name m j ≡ column.0 = name-at (maps.entries m.columns) j column at in
-    let head = represents.head in
-    record {
-      name = subst (λ (name : List ℕ). RepresentsName names name in_c.name) named head.name;
-      lower = side-of (λ (c : Column). c.lower) in_c.lower here head.lower;
-      upper = side-of (λ (c : Column). c.upper) in_c.upper here head.upper;
-      cost = subst (λ (name : List ℕ). RepresentsNumber (cost_at m name) in_c.cost) named head.cost;
-      kind = same_some (sym head.kind ∙ ap (option_map (λ (c : Column). kind_number c.kind)) here);
-      elements = subst (λ (name : List ℕ). (k : ℕ) → k < column_len m name → RepresentsElement (slice_get (numbered_elements m name) k) (slice_get all (in_c.first + k))) named represents.elements;
-    }
+column-stated m names all j column in_c at represents = grind (arith, value-at, name-at, side-of, cost_at, same_some)
 
 -- Where the elements of each column begin, from the first of these columns on, and where all end.
 abbrev Starts : LinearModel → ℕ → List (List ℕ × Column) → List MpslpColumn → ℕ → Type 0

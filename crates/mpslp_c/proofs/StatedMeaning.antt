@@ -1,45 +1,31 @@
 -- The arrays of a well-formed model define it: what they declare is consistent and means the model.
-use Rattle.std.proofs.Common.{◌≡◌, refl, sym, ap, subst, ◌∙◌, ℕ, List, [], ◌∷◌, ◌++◌, map, Bool, true, false, not, cond}
-use Rattle.std.specs.Prelude.{◌&&◌, ◌||◌, Option, Some, None, is_some}
-use Rattle.std.specs.List.{list_all, list_any, flat_map}
-use Rattle.std.specs.Option.{option_map_or}
-use Rattle.std.specs.Cmp.{first_so, second_so}
+use Rattle.std.proofs.Common.{arith, rules, ◌≡◌, refl, sym, ap, subst, ◌∙◌, ℕ, List, [], ◌∷◌, ◌++◌, map, Bool, true, false, not, cond}
+use Rattle.std.{proofs.lemmas.List.append-nil, specs.{Prelude.{◌&&◌, ◌||◌, Option, Some, None, is_some}, List.{list_all, list_any}}}
+use Rattle.std.specs.{List.flat_map, Option.option_map_or, Cmp.{first_so, second_so, Lexicographic.nat_list_eq_equiv}, FinMap.is_sorted}
 use Rattle.std.specs.FinMap as maps
-use Rattle.std.specs.FinMap.{is_sorted}
-use Rattle.std.specs.Cmp.Lexicographic.{nat_list_eq_equiv}
-use Rattle.std.proofs.lemmas.List.{append-nil}
 use Rattle.mpslp_decimal.specs.Decimal.{Number, is_decimal, is_zero}
-use Rattle.mpslp_types.specs.Name.{same_bytes, bytes_cmp, is_one_of}
-use Rattle.mpslp_types.specs.Limit.{is_plus_infinite, is_minus_infinite, is_lower_side, is_upper_side}
-use Rattle.mpslp_types.specs.declared.kinds.Kind.{Kind}
-use Rattle.mpslp_types.specs.declared.kinds.Kind.TheVariants.{Continuous, Integer, Semi}
-use Rattle.mpslp_types.specs.declared.kinds.Limit.{Limit}
-use Rattle.mpslp_types.specs.declared.kinds.Limit.TheVariants.{MinusInf, Finite, PlusInf}
-use Rattle.mpslp_types.proofs.BoolLemmas.{both_so, both_false, so_not, not_so, nor, or_left, true_from}
-use Rattle.mpslp_types.proofs.EachLemmas.{Each, Each-both, Each-map, Each-all, Each-weaker, Each-append, Each-filter, Each-flat_map, Each-from_list_all, list_all-from_Each}
-use Rattle.mpslp_model_core.specs.Model.{LinearModel, Row, Column, CoefficientKey, key_cmp, IsSound, is_sound_row, is_sound_column, is_sound_coefficient}
-use Rattle.mpslp_types.specs.Lists.{are_distinct}
-use Rattle.mpslp_model_core.specs.Views.{is_element, column_elements}
-use Rattle.mpslp_model_core.proofs.KeyLemmas.{key_total}
-use Rattle.mpslp_builder.specs.Declaration.{by_limits, Declaration, Declarations, at_name, has_name, has_row, has_column, names_in, is_integer, is_semi}
-use Rattle.mpslp_builder.specs.Consistency.{Slot, sense_slot, objective_slot, constant_slot, row_slot, rhs_slot, range_slot, coefficient_slot, lower_slot, upper_slot, same_slot, all_slots, is_known, is_allowed, has_objective_rhs, has_one_constant}
-use Rattle.mpslp_builder.specs.Meaning.{Means}
-use Rattle.mpslp_builder.proofs.BoundsLemmas.{is_integer_kind, is_semi_kind}
-use Rattle.mpslp_builder.proofs.DistinctLemmas.{IsNew, Apart, distinct-flat_map, distinct-sorted}
-use Rattle.mpslp_builder.proofs.EntryLemmas.{then_stated, sorted-kept}
-use Rattle.mpslp_builder.proofs.FlatLemmas.{flat-same}
-use Rattle.mpslp_builder.proofs.LaterDrafts.{itself_named}
-use Rattle.mpslp_builder.proofs.NamedEntries.{one_of-names, at-mapped}
-use Rattle.mpslp_builder.proofs.SlotLemmas.{same_name}
-use Rattle.mpslp_builder.proofs.SoundParts.{row_sides, column_sides, lower_of, upper_of}
-use Rattle.mpslp_canonical_lp.proofs.RankedSlots.{new-from_others, Section, joined-once, AreOther, other-from_sorted, slots-append, slots-flat}
-use Rattle.mpslp_c.specs.Arrays.{RepresentsModel}
-use Rattle.mpslp_c.specs.Stored.{Defines}
-use Rattle.mpslp_c.specs.declared.arrays.MpslpModel.{MpslpModel}
-use Rattle.mpslp_c.proofs.StoredLemmas.{same_some}
-use Rattle.mpslp_c.proofs.StatedDeclarations.{objective_stated, row_stated, kind_stated, cost_key, cell_stated, column_stated, stated_declarations}
-use Rattle.mpslp_c.proofs.StatedDraft.{drafted, rows-drafted, columns-drafted, rhs_values-none, IsOwn, own-columns, integer-at, semi-at, objective-drafted, draft-means}
-use Rattle.mpslp_c.proofs.StatedItems.{items-stated}
+use Rattle.mpslp_types.specs.{Name.{same_bytes, bytes_cmp, is_one_of}, Limit.{is_plus_infinite, is_minus_infinite, is_lower_side}}
+use Rattle.mpslp_types.specs.{Limit.is_upper_side, declared.kinds.{Kind.{Kind, TheVariants.{Continuous, Integer, Semi}}, Limit.Limit}}
+use Rattle.mpslp_types.{specs.{declared.kinds.Limit.TheVariants.{MinusInf, Finite, PlusInf}, Lists.are_distinct}, proofs.BoolLemmas.both_so}
+use Rattle.mpslp_types.proofs.{BoolLemmas.{both_false, so_not, not_so, nor, or_left, true_from}, EachLemmas.{Each, Each-both, Each-map}}
+use Rattle.mpslp_types.proofs.EachLemmas.{Each-all, Each-weaker, Each-append, Each-filter, Each-flat_map, Each-from_list_all}
+use Rattle.mpslp_types.proofs.EachLemmas.{list_all-from_Each}
+use Rattle.mpslp_model_core.specs.Model.{LinearModel, Row, Column, CoefficientKey, key_cmp, IsSound, is_sound_row, is_sound_column}
+use Rattle.mpslp_model_core.{specs.{Model.is_sound_coefficient, Views.{is_element, column_elements}}, proofs.KeyLemmas.key_total}
+use Rattle.mpslp_builder.specs.Declaration.{by_limits, Declaration, Declarations, at_name, has_name, has_row, has_column, names_in}
+use Rattle.mpslp_builder.specs.{Declaration.{is_integer, is_semi}, Consistency.{Slot, sense_slot, objective_slot, constant_slot, row_slot}}
+use Rattle.mpslp_builder.specs.Consistency.{rhs_slot, range_slot, coefficient_slot, lower_slot, upper_slot, same_slot, all_slots, is_known}
+use Rattle.mpslp_builder.{specs.{Consistency.{is_allowed, has_one_constant}, Meaning.Means}, proofs.BoundsLemmas.is_integer_kind}
+use Rattle.mpslp_builder.proofs.{BoundsLemmas.is_semi_kind, DistinctLemmas.{IsNew, Apart, distinct-flat_map, distinct-sorted}}
+use Rattle.mpslp_builder.proofs.{EntryLemmas.{then_stated, sorted-kept}, FlatLemmas.flat-same, LaterDrafts.itself_named}
+use Rattle.mpslp_builder.proofs.{NamedEntries.{one_of-names, at-mapped}, SlotLemmas.same_name, SoundParts.{row_sides, column_sides}}
+use Rattle.mpslp_builder.proofs.SoundParts.{lower_of, upper_of}
+use Rattle.mpslp_canonical_lp.proofs.RankedSlots.{new-from_others, Section, joined-once, AreOther, other-from_sorted, slots-append}
+use Rattle.mpslp_canonical_lp.proofs.RankedSlots.{slots-flat}
+use Rattle.mpslp_c.{specs.{Arrays.RepresentsModel, Stored.Defines, declared.arrays.MpslpModel.MpslpModel}, proofs.StoredLemmas.same_some}
+use Rattle.mpslp_c.proofs.StatedDeclarations.{objective_stated, row_stated, kind_stated, cost_key, cell_stated, column_stated}
+use Rattle.mpslp_c.proofs.{StatedDeclarations.stated_declarations, StatedDraft.{drafted, rows-drafted, columns-drafted, rhs_values-none}}
+use Rattle.mpslp_c.proofs.{StatedDraft.{IsOwn, own-columns, integer-at, semi-at, objective-drafted, draft-means}, StatedItems.items-stated}
 
 -- ---- each slot is filled once
 
@@ -101,14 +87,7 @@ cells-fill [] = refl
 cells-fill (cell ∷ cells) = ap (λ (slots : List Slot). cell_slot cell ∷ slots) (cells-fill cells)
 
 column-fills : (m : LinearModel) (column : List ℕ × Column) → all_slots (column_stated m column) ≡ column_slots m column
-column-fills m column =
-    ap (λ (slots : List Slot). lower_slot column.0 ∷ upper_slot column.0 ∷ coefficient_slot (cost_key m column.0) ∷ slots)
-    (no-slot column.0 column.1.kind (map cell_stated (column_elements m column.0)) ∙ cells-fill (column_elements m column.0))
-  where
-    no-slot : (name : List ℕ) (kind : Kind) (more : Declarations) → all_slots (kind_stated name kind ++ more) ≡ all_slots more
-    no-slot name Continuous more = refl
-    no-slot name Integer more = refl
-    no-slot name Semi more = refl
+column-fills m column = grind (arith, cost_key, cell_stated, cells-fill, kind_stated)
 
 -- no slot of a coefficient is this one
 no-cell : (slot : Slot) (cells : List (CoefficientKey × Number)) → Each (λ cell. same_slot (cell_slot cell) slot ≡ false) cells → list_any (λ later. same_slot later slot) (map cell_slot cells) ≡ false
@@ -334,25 +313,10 @@ module _ (m : LinearModel) (sound : IsSound m) where
           kinds Semi e = (so_not (is_integer (drafted m) c.0) (integer-at m c own ∙ ap is_integer_kind e), tt)
 
   one-constant : has_one_constant (drafted m) ≡ true
-  one-constant =
-      not-both (is_some (drafted m).constant) (has_objective_rhs (drafted m))
-      (λ i. option_map_or (λ name. has_name (rhs_values-none m i) name) (objective-drafted m i) false)
-    where
-      not-both : (a b : Bool) → b ≡ false → not (a && b) ≡ true
-      not-both true b h = so_not b h
-      not-both false b h = refl
+  one-constant = grind (arith, drafted, rhs_values-none, objective-drafted, so_not)
 
   stated-means : Means (stated_declarations m) m
-  stated-means = record {
-    consistent = record {
-      objective = refl;
-      once = stated-once;
-      one_constant = one-constant;
-      known = all-known;
-      allowed = all-allowed;
-    };
-    meant = draft-means m sound;
-  }
+  stated-means = search (rules, stated-once, one-constant, all-known, all-allowed, draft-means)
 
 -- The arrays of a well-formed model define it.
 pub arrays-define : (m : LinearModel) (arrays : MpslpModel) → IsSound m → RepresentsModel m arrays → Defines arrays m

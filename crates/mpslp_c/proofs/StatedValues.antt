@@ -1,27 +1,14 @@
 -- The numbers, limits and names in the arrays of a well-formed model are given back unchanged.
-use Rattle.std.proofs.Common.{◌≡◌, refl, sym, ap, ◌∙◌, ℕ, List, Bool, true, false, not, Result, Ok, Err, None, ◌*◌, ◌+◌, ◌^◌, length, arith, le-leb}
-use Rattle.std.specs.Prelude.{ℤ, pos, negsuc, ◌-ℤ◌, ◌&&◌, unsigned_abs, int_le, int_lt, nat_le, if◌then◌else◌}
-use Rattle.std.specs.List.{list_all}
-use Rattle.std.specs.Option.{option_map_or}
-use Rattle.std.specs.Ordering.{int_eq}
-use Rattle.std.specs.Cmp.{first_so, second_so}
-use Rattle.std.proofs.lemmas.Int.{ints}
-use Rattle.mpslp_decimal.specs.Decimal.{Number, IsDecimal, is_zero, is_normal, normal, has_few_digits, has_small_exponent}
-use Rattle.mpslp_decimal.specs.Literal.{to_signed}
-use Rattle.mpslp_decimal.proofs.NormalLemmas.{normal-tens}
-use Rattle.mpslp_decimal.proofs.NumberTextLemmas.{signed-size, nonzero-ends, zero-is}
-use Rattle.mpslp_types.specs.Limit.{is_given, is_lower_side, is_upper_side}
-use Rattle.mpslp_types.specs.Name.{is_mps_name, has_name_length, is_visible, same_bytes, marker}
-use Rattle.mpslp_types.specs.NameTests.{name_refusal}
-use Rattle.mpslp_types.specs.declared.faults.FaultKind.{FaultKind}
-use Rattle.mpslp_types.specs.declared.faults.FaultKind.TheVariants.{TooManyDigits, ExponentRange, BadNumber, NameLength}
-use Rattle.mpslp_types.specs.declared.kinds.Limit.{Limit}
+use Rattle.std.proofs.{Common.{◌≡◌, refl, sym, ap, ◌∙◌, ℕ, List, Bool, true, false, not, Result, Ok, Err, ◌*◌, ◌^◌, arith}, lemmas.Int.ints}
+use Rattle.std.specs.{Prelude.{ℤ, pos, negsuc, ◌-ℤ◌, unsigned_abs, int_le, if◌then◌else◌}, Ordering.int_eq}
+use Rattle.mpslp_decimal.specs.{Decimal.{Number, IsDecimal, is_zero, normal, has_few_digits, has_small_exponent}, Literal.to_signed}
+use Rattle.mpslp_decimal.proofs.{NormalLemmas.normal-tens, NumberTextLemmas.{signed-size, nonzero-ends, zero-is}}
+use Rattle.mpslp_types.specs.{Limit.{is_given, is_lower_side, is_upper_side}, Name.is_mps_name, declared.faults.FaultKind.FaultKind}
+use Rattle.mpslp_types.specs.declared.{faults.FaultKind.TheVariants.{TooManyDigits, ExponentRange, BadNumber}, kinds.Limit.Limit}
 use Rattle.mpslp_types.specs.declared.kinds.Limit.TheVariants.{MinusInf, Finite, PlusInf}
-use Rattle.mpslp_builder.proofs.SoundParts.{no_marker, bounded_so, bounded_finite}
-use Rattle.mpslp_c.specs.Arrays.{RepresentsNumber, RepresentsLimit, RepresentsName}
-use Rattle.mpslp_c.specs.Stored.{given_number, decimal_given, number_given, finite_limit, limit_given, kind_of_name_fault, bytes_at, name_given}
-use Rattle.mpslp_c.specs.declared.numbers.MpslpNumber.{MpslpNumber}
-use Rattle.mpslp_c.specs.declared.arrays.MpslpName.{MpslpName}
+use Rattle.mpslp_builder.proofs.SoundParts.{bounded_so, bounded_finite}
+use Rattle.mpslp_c.specs.{Arrays.{RepresentsNumber, RepresentsLimit, RepresentsName}, Stored.{given_number, decimal_given, number_given}}
+use Rattle.mpslp_c.specs.{Stored.{limit_given, name_given}, declared.{numbers.MpslpNumber.MpslpNumber, arrays.MpslpName.MpslpName}}
 
 -- ---- numbers
 
@@ -52,10 +39,7 @@ abbrev tested : Number → Result Number FaultKind
 tested value = if not (has_few_digits value) then Err TooManyDigits else (if not (has_small_exponent value) then Err ExponentRange else Ok value)
 
 decimal-own : (d : Number) → IsDecimal d → decimal_given d ≡ Ok d
-decimal-own d ok =
-    let few : has_few_digits d ≡ true = first_so (has_few_digits d) (has_small_exponent d && is_normal d) ok in
-    let small : has_small_exponent d ≡ true = first_so (has_small_exponent d) (is_normal d) (second_so (has_few_digits d) (has_small_exponent d && is_normal d) ok) in
-    ap tested (normal-own d ok) ∙ (λ i. if not (few i) then Err TooManyDigits else (if not (small i) then Err ExponentRange else Ok d))
+decimal-own d ok = grind (arith, normal-own)
 
 decimal-stated : (d : Number) (in_c : MpslpNumber) → IsDecimal d → RepresentsNumber d in_c → decimal_given (given_number in_c) ≡ Ok d
 decimal-stated d in_c ok represents = (λ i. decimal_given (record { mantissa = sym represents.mantissa i; exponent = represents.exponent i })) ∙ decimal-own d ok
@@ -67,11 +51,7 @@ number-stated d in_c ok represents =
 -- ---- limits and bounds
 
 pub limit-stated : (limit : Limit) (in_c : MpslpNumber) → is_given limit ≡ true → RepresentsLimit limit in_c → limit_given in_c ≡ Ok limit
-limit-stated MinusInf in_c given represents = ap limit_given represents
-limit-stated PlusInf in_c given represents = ap limit_given represents
-limit-stated (Finite d) in_c given represents =
-    (λ i. if int_lt (represents.infinity i) (pos 0) then Ok MinusInf else (if int_lt (pos 0) (represents.infinity i) then Ok PlusInf else finite_limit (decimal_given (given_number in_c))))
-    ∙ ap finite_limit (decimal-stated d in_c (bounded_so d given) represents) ∙ ap (λ (limit : Limit). Ok limit) (bounded_finite d given)
+limit-stated limit in_c given represents = grind (arith, decimal-stated, bounded_so, bounded_finite)
 
 pub lower-given : (limit : Limit) → is_lower_side limit ≡ true → is_given limit ≡ true
 lower-given MinusInf h = refl
@@ -85,15 +65,5 @@ upper-given PlusInf h = refl
 
 -- ---- names
 
-no-refusal : (name : List ℕ) → is_mps_name name ≡ true → name_refusal name ≡ None
-no-refusal name h =
-    let rest = list_all is_visible name && not (same_bytes name marker) in
-    let sized : has_name_length name ≡ true = first_so (has_name_length name) rest h in
-    let seen : list_all is_visible name ≡ true = first_so (list_all is_visible name) (not (same_bytes name marker)) (second_so (has_name_length name) rest h) in
-    rw (sized, seen, no_marker name h) refl
-
 pub name-stated : (all name : List ℕ) (in_c : MpslpName) → is_mps_name name ≡ true → RepresentsName all name in_c → name_given all in_c ≡ Ok name
-name-stated all name in_c legal represents =
-    let within : nat_le (in_c.at + in_c.len) (length all) ≡ true = le-leb (in_c.at + in_c.len) (length all) represents.within in
-    let none : name_refusal (bytes_at all in_c) ≡ None = ap name_refusal represents.bytes ∙ no-refusal name legal in
-    (λ i. if within i then option_map_or (λ fault. Err (kind_of_name_fault fault)) (none i) (Ok (represents.bytes i)) else Err NameLength)
+name-stated all name in_c legal represents = grind arith

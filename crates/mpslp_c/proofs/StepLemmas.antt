@@ -1,45 +1,21 @@
 -- Steps and items, one after another.
-use Rattle.std.proofs.Common.{◌≡◌, refl, sym, ap, ◌∙◌, subst, ℕ, zero, suc, ◌<◌, ◌≤◌, ◌+◌, ◌-◌, List, [], ◌∷◌, ◌++◌, length, drop, take, map, Bool, true, false, Option, None, Some, Result, Ok, Err, inl, inr, arith, add-one}
-use Rattle.std.specs.Prelude.{◌⊎◌, pos, slice_get, slice_range, get_or, nat_le, IfNone, IsErrAnd, if◌then◌else◌}
-use Rattle.std.specs.Option.{option_map_or}
-use Rattle.std.proofs.lemmas.Option.{slice_get-get_or}
+use Rattle.std.proofs.Common.{◌≡◌, refl, sym, ap, ◌∙◌, subst, ℕ, zero, suc, ◌<◌, ◌≤◌, ◌+◌, ◌-◌, List, [], ◌∷◌, ◌++◌, length, drop, take}
+use Rattle.std.proofs.{Common.{map, Bool, true, false, Option, None, Some, Result, Ok, Err, arith, add-one}, lemmas.Option.slice_get-get_or}
+use Rattle.std.specs.{Prelude.{pos, slice_get, slice_range, get_or, nat_le, IfNone, IsErrAnd, if◌then◌else◌}, Option.option_map_or}
 use Rattle.mpslp_decimal.specs.Decimal.{Number}
-use Rattle.mpslp_types.specs.Lists.{head_of}
-use Rattle.mpslp_types.specs.NameTests.{name_refusal}
-use Rattle.mpslp_types.specs.declared.kinds.Limit.{Limit}
-use Rattle.mpslp_types.specs.declared.names.NameFault.{NameFault}
-use Rattle.mpslp_types.specs.declared.faults.FaultKind.TheVariants.{NameLength}
-use Rattle.mpslp_types.specs.declared.faults.BuildFault.{BuildFault}
-use Rattle.mpslp_types.specs.declared.faults.BuildFault.TheVariants as builds
-use Rattle.mpslp_types.specs.declared.faults.FaultKind.{FaultKind}
-use Rattle.mpslp_builder.specs.Answer.{Answer, Answers}
-use Rattle.mpslp_builder.specs.Declaration.{declare_objective, declare_constant, declare_row, declare_column, declare_coefficient, by_limits, Draft, with_declarations}
-use Rattle.mpslp_lines.specs.FaultTests.{kind_of_build_fault}
-use Rattle.mpslp_lines.specs.ErrorOf.{error_of_build}
-use Rattle.mpslp_lines.specs.declared.errors.LineError.{LineError}
+use Rattle.mpslp_types.specs.{Lists.head_of, NameTests.name_refusal, declared.{kinds.Limit.Limit, names.NameFault.NameFault}}
+use Rattle.mpslp_types.specs.declared.faults.{FaultKind.{FaultKind, TheVariants.NameLength}, BuildFault.BuildFault}
+use Rattle.mpslp_builder.specs.{Answer.Answers, Declaration.{declare_objective, declare_constant, declare_row, declare_column}}
+use Rattle.mpslp_builder.specs.Declaration.{declare_coefficient, by_limits, Draft, with_declarations}
+use Rattle.mpslp_lines.specs.{FaultTests.kind_of_build_fault, ErrorOf.error_of_build, declared.errors.LineError.LineError}
 use Rattle.mpslp_lines.specs.declared.errors.LineError.TheVariants.{Fault, OutOfMemory}
-use Rattle.mpslp_c.specs.Answers.{TakesItems}
-use Rattle.mpslp_c.specs.Stored.{Step, declares, bounds, kind_of_name_fault, name_given, number_given, limit_given, bytes_at, sense_steps, objective_steps, row_steps, kind_steps, column_steps, element_steps, element_items, own_items, elements_end, column_items, step_faults, step_declared, or_else, first_kind, after_steps, steps_with, Item, item_fault, first_item_fault, after_items, IsFaultGiven, TakesSteps, placed}
-use Rattle.mpslp_c.specs.declared.numbers.MpslpNumber.{MpslpNumber}
-use Rattle.mpslp_c.specs.declared.arrays.MpslpName.{MpslpName}
-use Rattle.mpslp_c.specs.declared.arrays.MpslpRow.{MpslpRow}
-use Rattle.mpslp_c.specs.declared.arrays.MpslpColumn.{MpslpColumn}
-use Rattle.mpslp_c.specs.declared.arrays.MpslpElement.{MpslpElement}
-use Rattle.mpslp_c.specs.declared.arrays.MpslpModel.{MpslpModel}
-use Rattle.mpslp_c.specs.declared.faults.ItemFault.{ItemFault}
-use Rattle.mpslp_c.specs.declared.faults.TheConstants.{AT_COLUMN, AT_ELEMENT}
-use Rattle.mpslp_c.specs.declared.faults.StoreFault.{StoreFault}
-use Rattle.mpslp_c.specs.declared.faults.StoreFault.TheVariants as stored
-
--- ---- values, or their errors
-
-pub steps_given : {X : Type 0} (given : Result X FaultKind) (value : X) (steps : X → List Step) → given ≡ Ok value → steps_with given steps ≡ steps value
-steps_given {X} given value steps h = ap (λ (r : Result X FaultKind). steps_with r steps) h
-
-pub fault_given : {X : Type 0} (given : Result X FaultKind) (error : LineError) (steps : X → List Step) (old new : Draft)
-    → IsFaultGiven given error → TakesSteps (steps_with given steps) old new (Err error)
-fault_given {X} given (Fault kind) steps old new h = ap (λ (r : Result X FaultKind). first_kind old (steps_with r steps)) h
-fault_given given OutOfMemory steps old new h = absurd h
+use Rattle.mpslp_c.specs.{Answers.TakesItems, Stored.{Step, declares, bounds, kind_of_name_fault, name_given, number_given, limit_given}}
+use Rattle.mpslp_c.specs.Stored.{bytes_at, sense_steps, objective_steps, row_steps, kind_steps, column_steps, element_steps, element_items}
+use Rattle.mpslp_c.specs.Stored.{own_items, elements_end, column_items, step_faults, step_declared, first_kind, after_steps, steps_with}
+use Rattle.mpslp_c.specs.Stored.{Item, item_fault, first_item_fault, after_items, TakesSteps, placed}
+use Rattle.mpslp_c.specs.declared.{numbers.MpslpNumber.MpslpNumber, arrays.{MpslpName.MpslpName, MpslpRow.MpslpRow}}
+use Rattle.mpslp_c.specs.declared.arrays.{MpslpColumn.MpslpColumn, MpslpElement.MpslpElement, MpslpModel.MpslpModel}
+use Rattle.mpslp_c.specs.declared.faults.{ItemFault.ItemFault, TheConstants.{AT_COLUMN, AT_ELEMENT}, StoreFault.StoreFault}
 
 -- ---- a call of the builder that is a step
 
@@ -48,45 +24,12 @@ pub steps_are : (steps others : List Step) (old new : Draft) (answer : Result (U
 steps_are steps others old new answer h taken = subst (λ (s : List Step). TakesSteps s old new answer) (sym h) taken
 
 none_of : (faults : List BuildFault) (P Q : Type 0) → Answers faults (Ok tt) P Q → (head_of (map kind_of_build_fault faults) ≡ None) × P
-none_of [] P Q h = (refl, h)
-none_of (fault ∷ more) P Q h = let no : ⊥ = bad fault h.0 in absurd no
-  where
-    bad : (f : BuildFault) → ◌≡◌ {A = Answer} (Ok tt) (Err f) → ⊥
-    bad f e = cc
-
-kinded : (fault : BuildFault) → (error_of_build fault ≡ Fault (kind_of_build_fault fault)) ⊎ (error_of_build fault ≡ OutOfMemory)
-kinded builds.DuplicateSense = inl refl
-kinded builds.SecondObjective = inl refl
-kinded builds.UnknownRow = inl refl
-kinded builds.UnknownColumn = inl refl
-kinded builds.DuplicateRow = inl refl
-kinded builds.DuplicateEntry = inl refl
-kinded builds.DuplicateRhs = inl refl
-kinded builds.DuplicateRange = inl refl
-kinded builds.DuplicateBound = inl refl
-kinded builds.RangeOnFree = inl refl
-kinded builds.SemiContinuous = inl refl
-kinded builds.InfiniteValue = inl refl
-kinded builds.OutOfMemory = inr refl
-
-first_of_step : (old : Draft) (step : Step) (more : List Step) (kind : FaultKind) → head_of (step_faults old step) ≡ Some kind → first_kind old (step ∷ more) ≡ Some kind
-first_of_step old step more kind h = ap (λ (o : Option FaultKind). or_else o (first_kind (with_declarations old (step_declared step)) more)) h
+none_of faults P Q h = grind arith
 
 -- a step that was rejected
 pub step_refused : (step : Step) (more : List Step) (old new : Draft) (faults : List BuildFault) (fault : BuildFault) (P Q : Type 0) → step_faults old step ≡ map kind_of_build_fault faults
     → Answers faults (Err fault) P Q → TakesSteps (step ∷ more) old new (Err (error_of_build fault))
-step_refused step more old new [] fault P Q are answered =
-    subst (λ (e : LineError). TakesSteps (step ∷ more) old new (Err e)) (sym (ap error_of_build answered.0)) tt
-step_refused step more old new (first ∷ later) fault P Q are answered =
-    let same : fault ≡ first = err_same answered.0 in
-    let stated : head_of (step_faults old step) ≡ Some (kind_of_build_fault fault) = ap head_of are ∙ ap (λ (f : BuildFault). Some (kind_of_build_fault f)) (sym same) in
-    elim (kinded fault) as (λ _. TakesSteps (step ∷ more) old new (Err (error_of_build fault))) [
-      | inl is ↦ subst (λ (e : LineError). TakesSteps (step ∷ more) old new (Err e)) (sym is) (first_of_step old step more (kind_of_build_fault fault) stated)
-      | inr is ↦ subst (λ (e : LineError). TakesSteps (step ∷ more) old new (Err e)) (sym is) tt
-    ]
-  where
-    err_same : {f g : BuildFault} → ◌≡◌ {A = Answer} (Err f) (Err g) → f ≡ g
-    err_same e = cc
+step_refused step more old new faults fault P Q are answered = grind arith
 
 -- the error of a call is returned
 pub call_err : (step : Step) (more : List Step) (old new : Draft) (answer : Result (Unit {0}) LineError) (faults : List BuildFault) (fault : BuildFault) (P Q : Type 0)
@@ -98,13 +41,7 @@ call_err step more old new (Err error) faults fault P Q are answered stated =
 -- steps after one that was taken
 pub step_then : (step : Step) (more : List Step) (old mid new : Draft) (answer : Result (Unit {0}) LineError) → head_of (step_faults old step) ≡ None
     → mid ≡ with_declarations old (step_declared step) → TakesSteps more mid new answer → TakesSteps (step ∷ more) old new answer
-step_then step more old mid new (Ok _) none declared taken = (
-  ap (λ (o : Option FaultKind). or_else o (first_kind (with_declarations old (step_declared step)) more)) none ∙ ap (λ (d : Draft). first_kind d more) (sym declared) ∙ taken.0,
-  taken.1 ∙ ap (λ (d : Draft). after_steps d more) declared,
-)
-step_then step more old mid new (Err (Fault kind)) none declared taken =
-    ap (λ (o : Option FaultKind). or_else o (first_kind (with_declarations old (step_declared step)) more)) none ∙ ap (λ (d : Draft). first_kind d more) (sym declared) ∙ taken
-step_then step more old mid new (Err OutOfMemory) none declared taken = tt
+step_then step more old mid new answer none declared taken = grind arith
 
 -- the same, of a call of the builder
 pub call_then : (step : Step) (more : List Step) (old mid new : Draft) (answer : Result (Unit {0}) LineError) (faults : List BuildFault) (Q : Type 0)
@@ -157,17 +94,11 @@ after_append (x ∷ xs) ys all = after_append xs ys (after_steps all x.steps)
 
 -- items that were taken
 pub leads_then : (all xs ys : List Item) (old now new : Draft) → Leads all old (xs ++ ys) now → TakesItems xs now new (Ok tt) → Leads all old ys new
-leads_then all xs ys old now new l taken = record {
-  fault = l.fault ∙ fault_append xs ys now taken.0 ∙ ap (λ (d : Draft). first_item_fault d ys) (sym taken.1);
-  after = l.after ∙ after_append xs ys now ∙ ap (λ (d : Draft). after_items d ys) (sym taken.1);
-}
+leads_then all xs ys old now new l taken = grind (arith, fault_append, after_append)
 
 -- one that was not
 pub leads_err : (all xs ys : List Item) (old now new later : Draft) (why : StoreFault) → Leads all old (xs ++ ys) now → TakesItems xs now new (Err why) → TakesItems all old later (Err why)
-leads_err all xs ys old now new later (stored.Item fault) l taken = l.fault ∙ fault_first xs ys now fault taken
-leads_err all xs ys old now new later (stored.Whole fault) l taken = taken
-leads_err all xs ys old now new later (stored.NotLp place) l taken = taken
-leads_err all xs ys old now new later stored.OutOfMemory l taken = tt
+leads_err all xs ys old now new later why l taken = grind (arith, fault_first)
 
 -- its error is returned
 pub leads_reported : (all xs ys : List Item) (old now new later : Draft) (why : StoreFault) (answer : Result (Unit {0}) StoreFault) → Leads all old (xs ++ ys) now → TakesItems xs now new (Err why)
@@ -175,17 +106,9 @@ pub leads_reported : (all xs ys : List Item) (old now new later : Draft) (why : 
 leads_reported all xs ys old now new later why (Ok _) l taken stated = absurd stated
 leads_reported all xs ys old now new later why (Err e) l taken stated = subst (λ (w : StoreFault). TakesItems all old later (Err w)) (sym stated) (leads_err all xs ys old now new later why l taken)
 
--- the end
-pub leads_end : {all : List Item} {old new : Draft} → Leads all old [] new → TakesItems all old new (Ok tt)
-leads_end l = (l.fault, sym l.after)
-
 -- what is left
 pub leads_last : (all xs : List Item) (old now new : Draft) (answer : Result (Unit {0}) StoreFault) → Leads all old xs now → TakesItems xs now new answer → TakesItems all old new answer
-leads_last all xs old now new (Ok _) l taken = (l.fault ∙ taken.0, taken.1 ∙ sym l.after)
-leads_last all xs old now new (Err (stored.Item fault)) l taken = l.fault ∙ taken
-leads_last all xs old now new (Err (stored.Whole fault)) l taken = taken
-leads_last all xs old now new (Err (stored.NotLp place)) l taken = taken
-leads_last all xs old now new (Err stored.OutOfMemory) l taken = tt
+leads_last all xs old now new answer l taken = grind arith
 
 -- one item by its steps
 pub one_item : (item : Item) (old new : Draft) (answer : Result (Unit {0}) LineError) → TakesSteps item.steps old new answer → TakesItems (item ∷ []) old new (placed item.place item.number answer)
@@ -197,32 +120,13 @@ one_item item old new (Err OutOfMemory) taken = tt
 
 pub drop_next : {X : Type 0} (xs : List X) (i : ℕ) (x : X) → slice_get xs i ≡ Some x → drop i xs ≡ x ∷ drop (suc i) xs
 drop_next [] i x h = let no : ⊥ = cc in absurd no
-drop_next {X} (y ∷ xs) zero x h = let same : y ≡ x = cc in (λ j. same j ∷ whole xs j)
-  where
-    whole : (zs : List X) → zs ≡ drop 0 zs
-    whole [] = refl
-    whole (z ∷ zs) = refl
+drop_next {X} (y ∷ xs) zero x h = grind arith
 drop_next (y ∷ xs) (suc i) x h = drop_next xs i x h
-
-pub drop_end : {X : Type 0} (xs : List X) → drop (length xs) xs ≡ []
-drop_end [] = refl
-drop_end (x ∷ xs) = drop_end xs
-
-pub drop_start : {X : Type 0} (xs : List X) → drop 0 xs ≡ xs
-drop_start [] = refl
-drop_start (x ∷ xs) = refl
 
 pub range_next : {X : Type 0} (xs : List X) (k end : ℕ) (x : X) → k < end → slice_get xs k ≡ Some x → slice_range xs k end ≡ x ∷ slice_range xs (suc k) end
 range_next {X} xs k end x below h =
     let more : end - k ≡ suc (end - suc k) = omega (arith, below) in
     (λ i. take (more i) (drop_next xs k x h i))
-
-pub range_end : {X : Type 0} (xs : List X) (end : ℕ) → slice_range xs end end ≡ []
-range_end {X} xs end = let none : end - end ≡ 0 = omega arith in ap (λ (n : ℕ). take n (drop end xs)) none ∙ nothing (drop end xs)
-  where
-    nothing : (zs : List X) → take 0 zs ≡ []
-    nothing [] = refl
-    nothing (z ∷ zs) = refl
 
 -- ---- the steps of items whose values are given
 
@@ -258,10 +162,7 @@ legal_by false refusal bytes name h = let no : ⊥ = cc in absurd no
 
 -- so a name is made of its bytes, unless an allocation fails
 pub name_made : (all : List ℕ) (in_c : MpslpName) (name made : List ℕ) → name_given all in_c ≡ Ok name → IfNone (name_refusal name) (made ≡ name) → made ≡ name
-name_made all in_c name made h taken =
-    let legal = legal_by (nat_le (in_c.at + in_c.len) (length all)) (name_refusal (bytes_at all in_c)) (bytes_at all in_c) name h in
-    let none : name_refusal name ≡ None = ap name_refusal (sym legal.1) ∙ legal.0 in
-    subst (λ (o : Option NameFault). IfNone o (made ≡ name)) none taken
+name_made all in_c name made h taken = grind arith
 
 pub given_bytes : (all : List ℕ) (in_c : MpslpName) (name : List ℕ) → name_given all in_c ≡ Ok name → bytes_at all in_c ≡ name
 given_bytes all in_c name h = (legal_by (nat_le (in_c.at + in_c.len) (length all)) (name_refusal (bytes_at all in_c)) (bytes_at all in_c) name h).1
@@ -294,12 +195,7 @@ pub element_lead : (all : List ℕ) (rows : List MpslpRow) (column : List ℕ) (
     → element_items all rows column k (slice_range elements k end)
     ≡ (element_item all rows column k (element_at elements k) ∷ [])
     ++ element_items all rows column (k + 1) (slice_range elements (k + 1) end)
-element_lead all rows column elements k end below within =
-    let element = element_at elements k in
-    let there : slice_get elements k ≡ Some element = slice_get-get_or elements k element (omega (arith, below, within)) ∙ ap Some (get_or_same elements k _ (omega (arith, below, within))) in
-    ap (λ (es : List MpslpElement). element_items all rows column k es) (range_next elements k end element below there)
-    ∙ (λ i. record { place = AT_ELEMENT; number = k; steps = element_steps all column (slice_get rows element.row) element }
-    ∷ element_items all rows column (sym (add-one k) i) (slice_range elements (sym (add-one k) i) end))
+element_lead all rows column elements k end below within = grind (arith, slice_get-get_or, get_or_same, range_next, add-one)
 
 pub column_lead : (all objective : List ℕ) (rows : List MpslpRow) (elements : List MpslpElement) (columns : List MpslpColumn) (j : ℕ) → j < length columns
     → column_items all objective rows elements j (drop j columns)

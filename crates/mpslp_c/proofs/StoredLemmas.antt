@@ -1,20 +1,14 @@
 -- The result for arrays: they define a model, or have an error, and never both.
-use Rattle.std.proofs.Common.{◌≡◌, sym, ap, ◌∙◌, subst, None, Some, Option, Result, Ok, Err}
-use Rattle.std.specs.Prelude.{IsErrAnd, IsOkUnless, is_some}
+use Rattle.std.{proofs.Common.{◌≡◌, sym, ap, ◌∙◌, subst, None, Some, Option, Result, Ok, Err}, specs.Prelude.{IsErrAnd, IsOkUnless}}
+use Rattle.std.specs.Prelude.{is_some}
 use Rattle.mpslp_model_core.specs.Model.{LinearModel}
 use Rattle.mpslp_types.specs.declared.faults.Fault.{Fault}
-use Rattle.mpslp_builder.specs.Declaration.{Draft, empty_draft}
-use Rattle.mpslp_builder.specs.Made.{IsMade}
-use Rattle.mpslp_builder.specs.Meaning.{DraftMeans}
-use Rattle.mpslp_builder.specs.FileFault.{file_fault}
+use Rattle.mpslp_builder.specs.{Declaration.{Draft, empty_draft}, Made.IsMade, Meaning.DraftMeans, FileFault.file_fault}
 use Rattle.mpslp_builder.proofs.MadeDrafts.{no_fault-from_made}
-use Rattle.mpslp_c.specs.Answers.{TakesItems}
-use Rattle.mpslp_c.specs.Stored.{items, first_item_fault, after_items, Defines}
-use Rattle.mpslp_c.specs.declared.arrays.MpslpModel.{MpslpModel}
-use Rattle.mpslp_c.specs.declared.faults.StoreFault.{StoreFault}
+use Rattle.mpslp_c.specs.{Answers.TakesItems, Stored.{items, first_item_fault, after_items, Defines}, declared.arrays.MpslpModel.MpslpModel}
+use Rattle.mpslp_c.{specs.declared.faults.StoreFault.StoreFault, proofs.DefinesLemmas.{objective-declared, none-from_defines}}
+use Rattle.mpslp_c.proofs.{DefinesLemmas.meant-from_defines, KnownLemmas.items-known}
 use Rattle.mpslp_c.specs.declared.faults.StoreFault.TheVariants as stored
-use Rattle.mpslp_c.proofs.DefinesLemmas.{objective-declared, none-from_defines, meant-from_defines}
-use Rattle.mpslp_c.proofs.KnownLemmas.{items-known}
 
 pub some_none : {X : Type 0} (o : Option X) (x : X) → o ≡ None → o ≡ Some x → ⊥
 some_none {X} o x h k = let no : ◌≡◌ {A = Option X} None (Some x) = sym h ∙ k in cc

@@ -1,12 +1,9 @@
 -- A loaded model that is stored again has the canonical text of what was loaded.
 use Rattle.std.proofs.Common.{◌≡◌, ap, sym, ◌∙◌, List, ℕ}
 use Rattle.mpslp_model_core.specs.Model.{LinearModel, IsSound}
-use Rattle.mpslp_jobs.specs.declared.jobs.Form.{Form}
-use Rattle.mpslp_jobs.specs.declared.jobs.Form.TheVariants.{Mps, Lp}
+use Rattle.mpslp_jobs.specs.declared.jobs.Form.{Form, TheVariants.{Mps, Lp}}
 use Rattle.mpslp_convert.specs.Performed.{declares_in, text_in}
-use Rattle.mpslp_c.specs.Laws.{AreStoredAsTheirTexts}
-use Rattle.mpslp_c.proofs.DefinesLemmas.{one_model}
-use Rattle.mpslp_c.proofs.StatedMeaning.{arrays-define}
+use Rattle.mpslp_c.{specs.Laws.AreStoredAsTheirTexts, proofs.{DefinesLemmas.one_model, StatedMeaning.arrays-define}}
 
 declared-sound : (from : Form) (bytes : List ℕ) (m : LinearModel) → declares_in from bytes m → IsSound m
 declared-sound Mps bytes m declares = declares.means.meant.sound

@@ -1,26 +1,13 @@
 -- The bounds that are declared of different columns fill different slots.
-use Rattle.std.proofs.Common.{arith}
-use Rattle.std.proofs.Common.{rules}
-use Rattle.std.proofs.Common.{◌≡◌, refl, List, [], ◌∷◌, ◌++◌, ℕ, true, false, cond, map}
-use Rattle.std.specs.List.{flat_map}
-use Rattle.mpslp_decimal.specs.Decimal.{Number, is_zero}
-use Rattle.mpslp_types.specs.Name.{same_bytes}
+use Rattle.std.{proofs.Common.{arith, ◌≡◌, refl, List, [], ◌∷◌, ℕ, true, false, map}, specs.List.flat_map}
+use Rattle.mpslp_decimal.specs.Decimal.{Number}
+use Rattle.mpslp_types.{specs.{Name.same_bytes, Lists.are_distinct, declared.kinds.{Kind.Kind, Limit.Limit}}, proofs.BoolLemmas.both_false}
+use Rattle.mpslp_types.proofs.EachLemmas.{Each, Each-weaker, Each-all}
 use Rattle.mpslp_model_core.specs.Model.{Column}
-use Rattle.mpslp_types.specs.Lists.{are_distinct}
-use Rattle.mpslp_builder.specs.Consistency.{Slot, lower_slot, upper_slot, same_slot, slots_of}
-use Rattle.mpslp_types.specs.declared.kinds.Kind.{Kind}
-use Rattle.mpslp_types.specs.declared.kinds.Kind.TheVariants.{Continuous, Integer, Semi}
-use Rattle.mpslp_types.specs.declared.kinds.Limit.{Limit}
-use Rattle.mpslp_types.specs.declared.kinds.Limit.TheVariants.{MinusInf, Finite, PlusInf}
-use Rattle.mpslp_types.proofs.BoolLemmas.{both_false}
-use Rattle.mpslp_types.proofs.EachLemmas.{Each, Each-weaker, Each-append, Each-all}
-use Rattle.mpslp_builder.proofs.DistinctLemmas.{IsNew, Apart, distinct-flat_map}
-use Rattle.mpslp_mps_fields.specs.declared.bound_types.BoundType.TheVariants as bounds
-use Rattle.mpslp_canonical_mps.proofs.BoundsWalk.{BoundForm, fixed, lower, upper, free, no_lower, no_upper, semi_upper, bound_decl, decl_at}
-use Rattle.mpslp_canonical_mps.specs.PrintedValues.{is_fixed, bound_with_value, PrintedBound, printed_lower, printed_upper, printed_bounds}
-use Rattle.mpslp_canonical_mps.proofs.CanonicalContents.{to_bound, bounds_in}
-use Rattle.mpslp_canonical_mps.proofs.WholeParts.{made_of}
-use Rattle.mpslp_canonical_mps.proofs.ListedOnce.{AreOther}
+use Rattle.mpslp_builder.{specs.Consistency.{Slot, lower_slot, upper_slot, same_slot, slots_of}, proofs.DistinctLemmas.{IsNew, Apart}}
+use Rattle.mpslp_builder.proofs.DistinctLemmas.{distinct-flat_map}
+use Rattle.mpslp_canonical_mps.proofs.{BoundsWalk.{BoundForm, lower, upper, bound_decl, decl_at}, CanonicalContents.{to_bound, bounds_in}}
+use Rattle.mpslp_canonical_mps.{proofs.{WholeParts.made_of, ListedOnce.AreOther}, specs.PrintedValues.{PrintedBound, printed_bounds}}
 
 -- the slots that the bounds of a column fill
 abbrev slots_at : List ℕ → List PrintedBound → List Slot
@@ -32,7 +19,7 @@ bound_slots column = flat_map (made_of slots_of bound_decl) (bounds_in column)
 -- ---- these are the two bounds of the column
 
 each-form : (P : Slot → Type 0) (name : List ℕ) → P (lower_slot name) → P (upper_slot name) → (form : BoundForm) (value : Number) → Each P (flat_map slots_of (decl_at form name value))
-each-form v0 name l u v4 value = grind arith
+each-form P name l u form value = grind arith
 
 each-slot : (P : Slot → Type 0) (name : List ℕ) → P (lower_slot name) → P (upper_slot name) → (line_text : List PrintedBound) → Each P (slots_at name line_text)
 each-slot P name l u [] = tt
@@ -43,22 +30,8 @@ each-bound_slot P column l u = each-slot P column.0 l u (printed_bounds column.1
 
 -- ---- each bound is declared once
 
-lower-once : (name : List ℕ) (a : Number) (rest : List PrintedBound) → are_distinct same_slot (slots_at name rest) ≡ true
-    → are_distinct same_slot (slots_at name (bound_with_value bounds.Lower a ∷ rest)) ≡ true
-    → are_distinct same_slot (slots_at name (printed_lower (Finite a) ++ rest)) ≡ true
-lower-once name a rest h k = elim (is_zero a) as (λ b. are_distinct same_slot (slots_at name (cond b [] (bound_with_value bounds.Lower a ∷ []) ++ rest)) ≡ true) [ true ↦ h | false ↦ k ]
-
-upper-once : (name : List ℕ) (kind : Kind) (b : Number) → are_distinct same_slot (slots_at name (printed_upper kind (Finite b))) ≡ true
-upper-once name v1 b = grind arith
-
-no-lower-once : (name : List ℕ) (kind : Kind) (b : Number) → are_distinct same_slot (slots_at name (printed_lower MinusInf ++ printed_upper kind (Finite b))) ≡ true
-no-lower-once name v1 b = grind arith
-
-both-once : (name : List ℕ) (kind : Kind) (a b : Number) → are_distinct same_slot (slots_at name (printed_lower (Finite a) ++ printed_upper kind (Finite b))) ≡ true
-both-once name v1 a b = grind arith
-
 sides-once : (name : List ℕ) (kind : Kind) (l u : Limit) → are_distinct same_slot (slots_at name (printed_bounds kind l u)) ≡ true
-sides-once name v1 v2 v3 = grind arith
+sides-once name kind l u = grind arith
 
 -- ---- and no bound is that of another column
 

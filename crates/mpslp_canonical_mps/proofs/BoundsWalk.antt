@@ -1,25 +1,14 @@
 -- Printed lines of BOUNDS: what each declares, and that it is well-formed.
-use Rattle.std.proofs.Common.{arith}
-use Rattle.std.proofs.Common.{rules}
-use Rattle.std.proofs.Common.{◌≡◌, refl, List, [], ◌∷◌, ℕ}
-use Rattle.std.specs.Prelude.{Some, Ok}
-use Rattle.mpslp_decimal.specs.Decimal.{Number}
-use Rattle.mpslp_decimal.specs.Literal.{number_of}
-use Rattle.mpslp_types.specs.Limit.{limit_of}
-use Rattle.mpslp_builder.specs.Declaration.{declare_lower, declare_upper, declare_semi, Declarations, Draft}
-use Rattle.mpslp_types.specs.Lists.{those_of}
-use Rattle.mpslp_types.specs.declared.kinds.Limit.TheVariants.{MinusInf, Finite, PlusInf}
+use Rattle.std.{proofs.Common.{arith, ◌≡◌, List, [], ◌∷◌, ℕ}, specs.Prelude.{Some, Ok}}
+use Rattle.mpslp_decimal.specs.{Decimal.Number, Literal.number_of}
+use Rattle.mpslp_types.specs.{Limit.limit_of, Lists.those_of, declared.kinds.Limit.TheVariants.{MinusInf, Finite, PlusInf}}
 use Rattle.mpslp_types.proofs.EachLemmas.{Each, Each-append}
-use Rattle.mpslp_mps_fields.specs.Line.{Fields, LineContent, data_line}
-use Rattle.mpslp_mps_fields.specs.DataLine.{letters_of}
-use Rattle.mpslp_mps.specs.Context.{Context, context_of, current_section, data_lines, bound_set}
-use Rattle.mpslp_mps.specs.LineDeclarations.{line_declares}
-use Rattle.mpslp_mps.specs.LineFault.{set_tests}
-use Rattle.mpslp_mps.proofs.ContextLineLemmas.{form_faults}
+use Rattle.mpslp_builder.specs.Declaration.{declare_lower, declare_upper, declare_semi, Declarations, Draft}
+use Rattle.mpslp_mps_fields.specs.{Line.{Fields, LineContent, data_line}, DataLine.letters_of, declared.sections.Section.TheVariants.Bounds}
 use Rattle.mpslp_mps_fields.specs.declared.bound_types.BoundType.TheVariants as bounds
-use Rattle.mpslp_mps_fields.specs.declared.sections.Section.TheVariants.{Bounds}
-use Rattle.mpslp_canonical_mps.proofs.ContentsWalk.{Step}
-use Rattle.mpslp_canonical_mps.proofs.RowsWalk.{HaveSet, set-good, vector_good, stays, lines-push}
+use Rattle.mpslp_mps.specs.{Context.{Context, context_of, current_section, data_lines, bound_set}, LineDeclarations.line_declares}
+use Rattle.mpslp_mps.{specs.LineFault.set_tests, proofs.ContextLineLemmas.form_faults}
+use Rattle.mpslp_canonical_mps.proofs.{ContentsWalk.Step, RowsWalk.{HaveSet, set-good, stays, lines-push}}
 
 -- the bounds that are printed: with the text of a value and the number as which it is read, or without
 pub data BoundForm : Type 0 where
@@ -76,14 +65,14 @@ pub record InBounds (set : List ℕ) (rest : List Bound) (before : List LineCont
 
 pub bound_says : (set : List ℕ) (t : BoundForm) (x text : List ℕ) (v : Number) (context : Context) (earlier : Draft) → context.section ≡ Some Bounds → number_of text ≡ Ok v → limit_of v ≡ Finite v
     → line_declares context earlier (data_line (fields_at set t x text)) ≡ decl_at t x v
-bound_says set v1 x text v context earlier s n f = grind arith
+bound_says set t x text v context earlier s n f = grind arith
 
 set_at : (set : List ℕ) (t : BoundForm) (x text : List ℕ) → bound_set (fields_at set t x text) ≡ Some set
-set_at set v1 x text = grind arith
+set_at set t x text = grind arith
 
 pub bound_good : (set : List ℕ) (t : BoundForm) (x text : List ℕ) (v : Number) (context : Context) (earlier : Draft) → context.section ≡ Some Bounds → number_of text ≡ Ok v
     → those_of (set_tests context.bounds_set set) ≡ [] → form_faults context earlier (data_line (fields_at set t x text)) ≡ []
-bound_good set v1 x text v context earlier s n h = grind arith
+bound_good set t x text v context earlier s n h = grind arith
 
 pub bound_step : (set : List ℕ) (b : Bound) (rest : List Bound) (before : List LineContent) (earlier : Draft) → InBounds set (b ∷ rest) before earlier
     → Step (bound_item set) bound_decl (InBounds set) b rest before earlier

@@ -1,25 +1,16 @@
 -- The items that are read in canonical lines, in the form in which they are followed section by section.
-use Rattle.std.proofs.Common.{arith}
-use Rattle.std.proofs.Common.{rules}
-use Rattle.std.proofs.Common.{◌≡◌, refl, sym, ap, ◌∙◌, List, [], ◌∷◌, ◌++◌, ℕ, Bool, true, false, cond, map}
-use Rattle.std.specs.Prelude.{Option, Some, None, codes}
-use Rattle.std.specs.List.{flat_map}
-use Rattle.std.specs.Option.{option_map_or}
-use Rattle.std.proofs.lemmas.List.{map-append}
-use Rattle.mpslp_decimal.specs.Decimal.{Number, is_zero, negated, zero_number}
-use Rattle.mpslp_decimal.specs.NumberText.{number_text}
+use Rattle.std.proofs.Common.{arith, ◌≡◌, refl, sym, ap, ◌∙◌, List, [], ◌∷◌, ◌++◌, ℕ, Bool, true, false, cond, map}
+use Rattle.std.{proofs.lemmas.List.map-append, specs.{Prelude.{Option, Some, None, codes}, List.flat_map, Option.option_map_or}}
+use Rattle.mpslp_decimal.specs.{Decimal.{Number, is_zero, negated, zero_number}, NumberText.number_text}
 use Rattle.mpslp_model_core.specs.Model.{Row, Column, Listing}
-use Rattle.mpslp_mps_fields.specs.Line.{LineContent}
-use Rattle.mpslp_mps_fields.specs.declared.sections.Section.{Section}
-use Rattle.mpslp_mps_fields.specs.declared.bound_types.BoundType.{BoundType}
+use Rattle.mpslp_mps_fields.specs.{Line.LineContent, declared.{sections.Section.Section, bound_types.BoundType.BoundType}}
 use Rattle.mpslp_mps_fields.specs.declared.bound_types.BoundType.TheVariants as bounds
-use Rattle.mpslp_canonical_mps.proofs.RowsWalk.{RowItem, row_item, Side, side_item}
-use Rattle.mpslp_canonical_mps.proofs.ColumnsWalk.{Cell, cell_item, Group, cells_of}
+use Rattle.mpslp_canonical_mps.proofs.{RowsWalk.{RowItem, row_item, Side, side_item}, ColumnsWalk.{Cell, cell_item, Group, cells_of}}
 use Rattle.mpslp_canonical_mps.proofs.BoundsWalk.{BoundForm, fixed, lower, upper, free, no_lower, no_upper, semi_upper, Bound}
-use Rattle.mpslp_canonical_mps.proofs.HeaderWalk.{header_item}
-use Rattle.mpslp_canonical_mps.specs.PrintedDeclarations.{content_in}
-use Rattle.mpslp_canonical_mps.specs.PrintedValues.{printed_type, printed_rhs, printed_range, PrintedBound, printed_bounds}
-use Rattle.mpslp_canonical_mps.specs.CanonicalMps.{Lines, under_header, row_line, vector_line, coefficient_line, column_coefficients, printed_coefficients, column_lines, rhs_lines, row_rhs_lines, range_lines}
+use Rattle.mpslp_canonical_mps.{proofs.HeaderWalk.header_item, specs.{PrintedDeclarations.content_in, PrintedValues.printed_type}}
+use Rattle.mpslp_canonical_mps.specs.{PrintedValues.{printed_rhs, printed_range, PrintedBound, printed_bounds}, CanonicalMps.Lines}
+use Rattle.mpslp_canonical_mps.specs.CanonicalMps.{under_header, row_line, vector_line, coefficient_line, column_coefficients}
+use Rattle.mpslp_canonical_mps.specs.CanonicalMps.{printed_coefficients, column_lines, rhs_lines, row_rhs_lines, range_lines}
 
 abbrev pub items_in : Lines → List LineContent
 items_in lines = map content_in lines
@@ -144,4 +135,4 @@ under section [] = []
 under section (item ∷ items) = header_item section ∷ item ∷ items
 
 pub under-items : (section : Section) (lines : Lines) → items_in (under_header section lines) ≡ under section (items_in lines)
-under-items section v1 = grind arith
+under-items section lines = grind arith

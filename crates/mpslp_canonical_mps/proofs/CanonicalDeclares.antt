@@ -1,28 +1,16 @@
 -- The canonical text of a well-formed model declares it.
-use Rattle.std.proofs.Common.{◌≡◌, sym, ap, subst, ◌∙◌, List, [], ℕ, map}
-use Rattle.std.specs.List.{list_all}
+use Rattle.std.{proofs.Common.{◌≡◌, sym, ap, subst, ◌∙◌, List, [], ℕ, map}, specs.List.list_all}
 use Rattle.mpslp_model_core.specs.Model.{LinearModel, IsSound, listing_of}
-use Rattle.mpslp_builder.specs.Declaration.{Declarations, empty_draft}
-use Rattle.mpslp_builder.specs.Meaning.{Means}
-use Rattle.mpslp_builder.specs.Consistency.{AreConsistent}
+use Rattle.mpslp_builder.specs.{Declaration.{Declarations, empty_draft}, Meaning.Means, Consistency.AreConsistent}
 use Rattle.mpslp_types.proofs.BoolLemmas.{both_so}
 use Rattle.mpslp_mps_fields.specs.Line.{content_of}
-use Rattle.mpslp_mps.specs.LegalLine.{is_legal_line}
-use Rattle.mpslp_mps.specs.MpsText.{read_lines, has_end, declarations_of, DeclaresMps}
+use Rattle.mpslp_mps.specs.{LegalLine.is_legal_line, MpsText.{read_lines, has_end, declarations_of, DeclaresMps}}
 use Rattle.mpslp_mps.proofs.ContextLineLemmas.{declared_items, are_well_formed, lines-declare, lines-good}
-use Rattle.mpslp_canonical_mps.proofs.ContentsWalk.{Walk}
-use Rattle.mpslp_canonical_mps.specs.CanonicalMps.{canonical_mps}
+use Rattle.mpslp_canonical_mps.proofs.{ContentsWalk.Walk, ReadLemmas.read-as-line_text, WholeWalk.{whole_items, whole-walk}}
+use Rattle.mpslp_canonical_mps.proofs.{ListedContents.{whole_of, listed-items}, ListedParts.listed_decl, ListingFacts.sound-listing}
+use Rattle.mpslp_canonical_mps.proofs.{GoodWhole.good-whole, ListedMeaning.draft-means, ListedConsistency.consistent-if_once}
+use Rattle.mpslp_canonical_mps.{proofs.{FilledOnce.filled-once, OneAnswer.one-model}, specs.CanonicalMps.canonical_mps}
 use Rattle.mpslp_canonical_mps.specs.Laws.{IsReadAsPrinted, DeclareTheirModels, DistinguishModels}
-use Rattle.mpslp_canonical_mps.proofs.ReadLemmas.{read-as-line_text}
-use Rattle.mpslp_canonical_mps.proofs.WholeWalk.{whole_items, whole-walk}
-use Rattle.mpslp_canonical_mps.proofs.ListedContents.{whole_of, listed-items}
-use Rattle.mpslp_canonical_mps.proofs.ListedParts.{listed_decl}
-use Rattle.mpslp_canonical_mps.proofs.ListingFacts.{sound-listing}
-use Rattle.mpslp_canonical_mps.proofs.GoodWhole.{good-whole}
-use Rattle.mpslp_canonical_mps.proofs.ListedMeaning.{draft-means}
-use Rattle.mpslp_canonical_mps.proofs.ListedConsistency.{consistent-if_once}
-use Rattle.mpslp_canonical_mps.proofs.FilledOnce.{filled-once}
-use Rattle.mpslp_canonical_mps.proofs.OneAnswer.{one-model}
 
 pub canonical-walk : (m : LinearModel) → IsSound m → Walk [] empty_draft (whole_items (whole_of (listing_of m))) (listed_decl (listing_of m))
 canonical-walk m sound = whole-walk (whole_of (listing_of m)) (good-whole (listing_of m) (sound-listing m sound))

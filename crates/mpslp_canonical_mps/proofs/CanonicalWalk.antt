@@ -1,23 +1,15 @@
 -- What the sections of canonical text declare, each after the lines before it.
-use Rattle.std.proofs.Common.{arith}
-use Rattle.std.proofs.Common.{rules}
-use Rattle.std.proofs.Common.{◌≡◌, refl, sym, ap, ◌∙◌, List, [], ◌∷◌, ◌++◌, ℕ, Bool, true, false, map, append_assoc}
-use Rattle.std.specs.Prelude.{is_none, ◌||◌}
-use Rattle.std.specs.List.{flat_map}
-use Rattle.std.proofs.lemmas.List.{append-nil}
+use Rattle.std.proofs.Common.{arith, ◌≡◌, refl, ap, ◌∙◌, List, [], ◌∷◌, ◌++◌, ℕ, Bool, true, false, map, append_assoc}
+use Rattle.std.{proofs.lemmas.List.append-nil, specs.{Prelude.{is_none, ◌||◌}, List.flat_map}}
 use Rattle.mpslp_builder.specs.Declaration.{Declarations, Draft, is_free_row}
 use Rattle.mpslp_types.proofs.EachLemmas.{Each}
-use Rattle.mpslp_mps_fields.specs.Line.{LineContent, begins}
-use Rattle.mpslp_mps.specs.Context.{context_of, is_read, data_lines}
-use Rattle.mpslp_mps.specs.TextInWords.{has_section}
-use Rattle.mpslp_canonical_mps.proofs.HeaderWalk.{is_bare, wants_word, header_item, MayBegin, header-good, header-says, current-header, no-lines, settled-after}
-use Rattle.mpslp_mps_fields.specs.declared.sections.Section.{Section}
-use Rattle.mpslp_mps_fields.specs.declared.sections.Section.TheVariants.{Columns, Rhs, Ranges, Bounds, EndData}
-use Rattle.mpslp_mps.proofs.SectionLemmas.{has_section-push, data_lines-push}
-use Rattle.mpslp_canonical_mps.proofs.ContentsWalk.{Walk, walk-nil, walk-cons, section-walk}
-use Rattle.mpslp_canonical_mps.proofs.RowsWalk.{Side, side_item, side_decl, range_decl, ReadsAs, InSides, side_step, InRanges, range_step}
-use Rattle.mpslp_canonical_mps.proofs.BoundsWalk.{Bound, bound_item, bound_decl, GoodBound, InBounds, bound_step}
-use Rattle.mpslp_canonical_mps.proofs.CanonicalContents.{under}
+use Rattle.mpslp_mps_fields.specs.{Line.{LineContent, begins}, declared.sections.Section.{Section, TheVariants.{Columns, Rhs, Ranges}}}
+use Rattle.mpslp_mps_fields.specs.declared.sections.Section.TheVariants.{Bounds, EndData}
+use Rattle.mpslp_mps.{specs.{Context.{is_read, data_lines}, SeenSection.has_section}, proofs.SectionLemmas.data_lines-push}
+use Rattle.mpslp_canonical_mps.proofs.HeaderWalk.{is_bare, wants_word, header_item, MayBegin, current-header, no-lines, settled-after}
+use Rattle.mpslp_canonical_mps.proofs.{ContentsWalk.{Walk, section-walk}, RowsWalk.{Side, side_item, side_decl, range_decl, ReadsAs}}
+use Rattle.mpslp_canonical_mps.proofs.{RowsWalk.{InSides, side_step, InRanges, range_step}, BoundsWalk.{Bound, bound_item, bound_decl}}
+use Rattle.mpslp_canonical_mps.proofs.{BoundsWalk.{GoodBound, InBounds, bound_step}, CanonicalContents.under}
 
 -- ---- after COLUMNS: the sections that are printed only if they have lines
 
@@ -27,18 +19,8 @@ pub record IsLate (before : List LineContent) (earlier : Draft) : Type 0 where
   pub columns : has_section before Columns ≡ true
   pub objective : is_none earlier.objective ≡ false
 
-or_false : (b : Bool) → (b || false) ≡ b
-or_false v0 = grind arith
-
 or_true : (b : Bool) → (true || b) ≡ true
 or_true b = refl
-
--- a header of another section does not change the lines of a section
-other-header : (section other : Section) (before : List LineContent) → begins section (header_item other) ≡ false → has_section (before ++ header_item other ∷ []) section ≡ has_section before section
-other-header section other before h = has_section-push section before (header_item other) ∙ ap (λ (b : Bool). has_section before section || b) h ∙ or_false (has_section before section)
-
-still-begun : (section other : Section) (before : List LineContent) → has_section before section ≡ true → has_section (before ++ header_item other ∷ []) section ≡ true
-still-begun section other before h = has_section-push section before (header_item other) ∙ ap (λ (b : Bool). b || begins section (header_item other)) h
 
 -- data lines leave no word missing
 pub data-settled : {X : Type 0} (item : X → LineContent) → ((x : X) → is_read (item x) ≡ true) → ((x : X) → is_bare (item x) ≡ false) → (xs : List X) (before : List LineContent)
@@ -60,13 +42,10 @@ late-ranges = record { may_begin = λ before earlier h f. record { settled = h.s
 late-bounds : IsLateSection Bounds
 late-bounds = record { may_begin = λ before earlier h f. record { settled = h.settled; fresh = f; begins = h.columns }; bare = refl }
 
-late-header : (section : Section) → IsLateSection section → (before : List LineContent) (earlier : Draft) → IsLate before earlier → IsLate (before ++ header_item section ∷ []) earlier
-late-header section s before earlier h = grind (arith, settled-after, header_item, still-begun)
-
 -- A section that is printed only if it has lines: its lines follow its header.
 under-walk : {X : Type 0} (section : Section) → IsLateSection section → (item : X → LineContent) (decl : X → Declarations) (xs : List X) (before : List LineContent) (earlier : Draft) → IsLate before earlier
     → has_section before section ≡ false → Walk (before ++ header_item section ∷ []) earlier (map item xs) (flat_map decl xs) → Walk before earlier (under section (map item xs)) (flat_map decl xs)
-under-walk section s item decl v4 before earlier h f w = grind arith
+under-walk section s item decl xs before earlier h f w = grind arith
 
 -- the lines of a section that has not begun
 pub none-yet : (section : Section) (before : List LineContent) → begins section (header_item section) ≡ true → has_section before section ≡ false → data_lines section (before ++ header_item section ∷ []) ≡ []

@@ -1,29 +1,17 @@
 -- The coefficients of the canonical declarations of a well-formed listing, without zeros, are those of the listing.
-use Rattle.std.proofs.Common.{arith}
-use Rattle.std.proofs.Common.{rules}
-use Rattle.std.proofs.Common.{◌≡◌, refl, sym, ap, ◌∙◌, List, [], ◌∷◌, ◌++◌, ℕ, Bool, true, false, not, cond, map}
-use Rattle.std.specs.Prelude.{Option, Some, None, is_some, filter, filter_map, ◌&&◌, ◌||◌}
-use Rattle.std.specs.List.{flat_map, cons_option}
-use Rattle.std.specs.Option.{option_map}
-use Rattle.std.specs.Cmp.{first_so, second_so}
-use Rattle.std.specs.FinMap.{find}
+use Rattle.std.proofs.Common.{arith, ◌≡◌, refl, sym, ap, ◌∙◌, List, [], ◌∷◌, ◌++◌, ℕ, Bool, true, false, not, cond, map}
+use Rattle.std.specs.{Prelude.{Option, Some, None, is_some, filter, filter_map, ◌&&◌, ◌||◌}, List.{flat_map, cons_option}}
+use Rattle.std.specs.{Option.option_map, Cmp.{first_so, second_so}, FinMap.find}
 use Rattle.mpslp_decimal.specs.Decimal.{Number, is_decimal, is_zero}
-use Rattle.mpslp_types.specs.Name.{same_bytes, is_one_of}
-use Rattle.mpslp_model_core.specs.Model.{Column, CoefficientKey, key_cmp, Listing}
-use Rattle.mpslp_builder.specs.Declaration.{empty_draft, names_in}
-use Rattle.mpslp_types.proofs.EachLemmas.{Each, Each-append, Each-flat_map, Each-all}
-use Rattle.mpslp_model_core.proofs.PutsLemmas.{puts, find-front, some_cons, some_append_left, some_append_right}
-use Rattle.mpslp_builder.proofs.DraftLemmas.{coefficients-all}
-use Rattle.mpslp_builder.proofs.DraftEntries.{same_key}
-use Rattle.mpslp_builder.proofs.LaterDrafts.{value_in}
-use Rattle.mpslp_builder.proofs.SlotLemmas.{same_name}
-use Rattle.mpslp_builder.proofs.SortedDrafts.{key_total}
-use Rattle.mpslp_builder.proofs.NamedEntries.{any-name}
-use Rattle.mpslp_canonical_mps.specs.CanonicalMps.{cell_at, column_coefficients, printed_coefficients, is_integer_column, is_plain_column}
-use Rattle.mpslp_canonical_mps.proofs.CanonicalContents.{to_cell, cells_in}
+use Rattle.mpslp_types.{specs.Name.{same_bytes, is_one_of}, proofs.EachLemmas.{Each, Each-append, Each-flat_map, Each-all}}
+use Rattle.mpslp_model_core.{specs.Model.{Column, CoefficientKey, key_cmp, Listing}, proofs.PutsLemmas.{puts, find-front, some_cons}}
+use Rattle.mpslp_model_core.proofs.PutsLemmas.{some_append_left, some_append_right}
+use Rattle.mpslp_builder.{specs.Declaration.{empty_draft, names_in}, proofs.{DraftLemmas.coefficients-all, DraftEntries.same_key}}
+use Rattle.mpslp_builder.proofs.{LaterDrafts.value_in, SlotLemmas.same_name, SortedDrafts.key_total, NamedEntries.any-name}
 use Rattle.mpslp_builder.proofs.EntryLemmas.{puts-kept, found-each, filter-not_not, found-either}
-use Rattle.mpslp_canonical_mps.proofs.ListedParts.{own_coefficient, listed_decl, from_cells, coefficients-part}
-use Rattle.mpslp_canonical_mps.proofs.DraftMaps.{is_sound_entry, IsSoundListing, drafted}
+use Rattle.mpslp_canonical_mps.specs.CanonicalMps.{cell_at, column_coefficients, printed_coefficients, is_integer_column, is_plain_column}
+use Rattle.mpslp_canonical_mps.proofs.{CanonicalContents.{to_cell, cells_in}, ListedParts.{own_coefficient, listed_decl, from_cells}}
+use Rattle.mpslp_canonical_mps.proofs.{ListedParts.coefficients-part, DraftMaps.{is_sound_entry, IsSoundListing, drafted}}
 
 abbrev pub is_kept : Number → Bool
 is_kept value = not (is_zero value)
@@ -43,7 +31,7 @@ cells-true coefficients column kept [] = tt
 cells-true coefficients column kept (row ∷ rows) = grind (arith, cells-true coefficients column kept rows)
 
 none-first : (row : List ℕ) (o : Option Number) (cells : List (List ℕ × Number)) → cons_option (option_map (λ (value : Number). (row, value)) o) cells ≡ [] → o ≡ None
-none-first row v1 cells h = grind arith
+none-first row o cells h = grind arith
 
 line_text-true : (m : Listing) (column : List ℕ) → AllKept m.coefficients → Each (IsTrueCell m.coefficients column) (printed_coefficients m.objective (column_coefficients m column))
 line_text-true m column kept = grind (arith, cells-true, none-first)
@@ -89,7 +77,7 @@ row-hit coefficients row column value is (x ∷ rows) h =
 
 line_text-hit : (key : CoefficientKey) (column objective : List ℕ) (cells : List (List ℕ × Number)) → SomeAt key (flat_map own_coefficient (map (to_cell column) cells))
     → SomeAt key (flat_map own_coefficient (map (to_cell column) (printed_coefficients objective cells)))
-line_text-hit key column objective v3 h = grind arith
+line_text-hit key column objective cells h = grind arith
 
 join-some : (key : CoefficientKey) (left right : List (CoefficientKey × Number)) → (is_some (find key_cmp key left) || is_some (find key_cmp key right)) ≡ true → SomeAt key (left ++ right)
 join-some key left right h = grind (arith, some_append_left, key_total, same_key, some_append_right)

@@ -1,33 +1,20 @@
 -- Printed lines of COLUMNS: those of columns, and marker lines.
-use Rattle.std.proofs.Common.{arith}
-use Rattle.std.proofs.Common.{rules}
-use Rattle.std.proofs.Common.{◌≡◌, refl, sym, ap, subst, ◌∙◌, List, [], ◌∷◌, ◌++◌, ℕ, Bool, true, false, cond}
-use Rattle.std.specs.Prelude.{Option, Some, None, ◌&&◌, not, codes, Ok, filter_map}
-use Rattle.std.specs.List.{last_or, flat_map}
-use Rattle.std.specs.Option.{option_map_or}
-use Rattle.std.proofs.lemmas.List.{append-nil}
-use Rattle.std.proofs.lemmas.List.Elements.{filter_map-append}
-use Rattle.mpslp_decimal.specs.Decimal.{Number}
-use Rattle.mpslp_decimal.specs.Literal.{number_of}
-use Rattle.mpslp_types.specs.Name.{is_mps_name, same_bytes, marker}
-use Rattle.mpslp_builder.specs.Declaration.{declare_column, declare_marked, declare_coefficient, Declarations, Draft, with_declarations, has_column}
-use Rattle.mpslp_types.specs.Lists.{those_of, when, is_nonempty}
-use Rattle.mpslp_types.specs.declared.faults.FaultKind.TheVariants as kinds
-use Rattle.mpslp_types.proofs.BoolLemmas.{both_false}
-use Rattle.mpslp_builder.proofs.LaterDrafts.{itself_named}
-use Rattle.mpslp_builder.proofs.SlotLemmas.{has-put}
-use Rattle.mpslp_builder.proofs.MadeDrafts.{with_declarations-append}
+use Rattle.std.proofs.Common.{arith, rules, ◌≡◌, refl, ap, subst, ◌∙◌, List, [], ◌∷◌, ◌++◌, ℕ, Bool, true, false, cond}
+use Rattle.std.{proofs.lemmas.List.{append-nil, Elements.filter_map-append}, specs.Prelude.{Option, Some, None, ◌&&◌, not, codes, Ok}}
+use Rattle.std.specs.{Prelude.filter_map, List.{last_or, flat_map}, Option.option_map_or}
+use Rattle.mpslp_decimal.specs.{Decimal.Number, Literal.number_of}
+use Rattle.mpslp_types.{specs.{Name.{is_mps_name, same_bytes, marker}, Lists.{those_of, when, is_nonempty}}, proofs.BoolLemmas.both_false}
 use Rattle.mpslp_types.proofs.EachLemmas.{Each}
-use Rattle.mpslp_mps_fields.specs.Line.{Fields, LineContent, data_line}
-use Rattle.mpslp_mps_fields.specs.DataLine.{opening_word, closing_word}
-use Rattle.mpslp_mps.specs.Context.{Context, context_of, current_section, data_lines, marker_word, in_integer_part, line_column, last_column}
-use Rattle.mpslp_mps.specs.LineDeclarations.{line_declares}
-use Rattle.mpslp_lines.specs.FaultTests.{FaultTests, name_tests, number_tests}
-use Rattle.mpslp_mps.proofs.ContextLineLemmas.{form_faults}
+use Rattle.mpslp_types.specs.declared.faults.FaultKind.TheVariants as kinds
+use Rattle.mpslp_builder.specs.Declaration.{declare_column, declare_marked, declare_coefficient, Declarations, Draft, with_declarations}
+use Rattle.mpslp_builder.{specs.Declaration.has_column, proofs.{LaterDrafts.itself_named, SlotLemmas.has-put}}
+use Rattle.mpslp_builder.proofs.MadeDrafts.{with_declarations-append}
+use Rattle.mpslp_mps_fields.specs.{Line.{Fields, LineContent, data_line}, DataLine.{opening_word, closing_word}}
 use Rattle.mpslp_mps_fields.specs.declared.sections.Section.TheVariants.{Columns}
-use Rattle.mpslp_mps.proofs.SectionLemmas.{last_or-append}
-use Rattle.mpslp_canonical_mps.proofs.ContentsWalk.{Step}
-use Rattle.mpslp_canonical_mps.proofs.RowsWalk.{name-good, number-good, stays, lines-push}
+use Rattle.mpslp_mps.specs.Context.{Context, current_section, data_lines, marker_word, in_integer_part, line_column, last_column}
+use Rattle.mpslp_mps.{specs.LineDeclarations.line_declares, proofs.{ContextLineLemmas.form_faults, SectionLemmas.last_or-append}}
+use Rattle.mpslp_lines.specs.FaultTests.{FaultTests, name_tests, number_tests}
+use Rattle.mpslp_canonical_mps.proofs.{ContentsWalk.Step, RowsWalk.{stays, lines-push}}
 
 -- a column, a row, the text of a number and the number
 pub record Cell : Type 0 where
@@ -130,7 +117,7 @@ marker_lines : (opens : Bool) (before : List LineContent) → current_section be
 marker_lines opens before s = lines-push Columns (marker_fields opens) before (Some Columns) s
 
 last_word : (opens : Bool) (lines : List Fields) → opens_last (filter_map marker_word (lines ++ marker_fields opens ∷ [])) ≡ opens
-last_word v0 lines = grind (arith, filter_map-append, last_push)
+last_word opens lines = grind (arith, filter_map-append, last_push)
 
 pub marker_part : (opens : Bool) (before : List LineContent) → current_section before ≡ Some Columns → in_integer_part (before ++ data_line (marker_fields opens) ∷ []) ≡ opens
 marker_part opens before s = ap (λ (lines : List Fields). opens_last (filter_map marker_word lines)) (marker_lines opens before s) ∙ last_word opens (data_lines Columns before)
@@ -140,11 +127,11 @@ pub marker_last : (opens : Bool) (before : List LineContent) → current_section
 marker_last opens before s = grind (arith, marker_lines, last_push)
 
 pub marker_says : (opens : Bool) (context : Context) (earlier : Draft) → context.section ≡ Some Columns → line_declares context earlier (data_line (marker_fields opens)) ≡ []
-marker_says v0 context earlier s = grind arith
+marker_says opens context earlier s = grind arith
 
 pub marker_good : (opens : Bool) (context : Context) (earlier : Draft) → context.section ≡ Some Columns → context.in_integer_part ≡ not opens
     → form_faults context earlier (data_line (marker_fields opens)) ≡ []
-marker_good v0 context earlier s p = grind arith
+marker_good opens context earlier s p = grind arith
 
 -- ---- columns one after another
 
@@ -188,7 +175,7 @@ AreAbsent earlier groups = Each (λ (group : Group). has_column earlier group.0 
 -- a cell declares only its own column
 cell-column : (marked : Bool) (cell : Cell) (earlier : Draft) (n : List ℕ) → same_bytes n cell.column ≡ false → has_column earlier n ≡ false
     → has_column (with_declarations earlier (cell_decl marked cell)) n ≡ false
-cell-column v0 cell earlier n apart absent = grind (arith, has-put, both_false)
+cell-column marked cell earlier n apart absent = grind (arith, has-put, both_false)
 
 cells-column : (marked : Bool) (column : List ℕ) (cells : List Cell) (earlier : Draft) (n : List ℕ) → AreOf column cells → same_bytes n column ≡ false → has_column earlier n ≡ false
     → has_column (with_declarations earlier (flat_map (cell_decl marked) cells)) n ≡ false

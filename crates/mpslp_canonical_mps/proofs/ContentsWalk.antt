@@ -1,20 +1,12 @@
 -- Items one after another: what they declare, and that they are well-formed.
-use Rattle.std.proofs.Common.{arith}
-use Rattle.std.proofs.Common.{rules}
-use Rattle.std.proofs.Common.{◌≡◌, refl, sym, ap, subst, ◌∙◌, List, [], ◌∷◌, ◌++◌, true, map, append_assoc}
-use Rattle.std.specs.Prelude.{◌&&◌, not}
-use Rattle.std.specs.List.{flat_map}
-use Rattle.std.specs.Cmp.{first_so, second_so}
-use mathlib.Core.Path.{subst₂}
-use Rattle.std.proofs.lemmas.List.{append-nil}
-use Rattle.mpslp_builder.specs.Declaration.{Declarations, Draft, with_declarations}
-use Rattle.mpslp_types.specs.Lists.{is_nonempty}
-use Rattle.mpslp_types.proofs.BoolLemmas.{both_so}
-use Rattle.mpslp_builder.proofs.MadeDrafts.{with_declarations-append}
+use Rattle.std.proofs.{Common.{arith, ◌≡◌, refl, sym, ap, subst, ◌∙◌, List, [], ◌∷◌, ◌++◌, true, map, append_assoc}, lemmas.List.append-nil}
+use Rattle.std.specs.{Prelude.not, List.flat_map, Cmp.{first_so, second_so}}
+use Rattle.mpslp_builder.{specs.Declaration.{Declarations, Draft, with_declarations}, proofs.MadeDrafts.with_declarations-append}
+use Rattle.mpslp_types.{specs.Lists.is_nonempty, proofs.BoolLemmas.both_so}
 use Rattle.mpslp_mps_fields.specs.Line.{LineContent}
-use Rattle.mpslp_mps.specs.Context.{context_of}
-use Rattle.mpslp_mps.specs.LineDeclarations.{line_declares}
-use Rattle.mpslp_mps.proofs.ContextLineLemmas.{form_faults, declared_items, are_well_formed}
+use Rattle.mpslp_mps.{specs.{Context.context_of, LineDeclarations.line_declares}, proofs.ContextLineLemmas.{form_faults, declared_items}}
+use Rattle.mpslp_mps.proofs.ContextLineLemmas.{are_well_formed}
+use mathlib.Core.Path.{subst₂}
 
 -- after these items and this draft, the items are well-formed and declare these
 pub record Walk (before : List LineContent) (earlier : Draft) (items : List LineContent) (ds : Declarations) : Type 0 where

@@ -1,24 +1,14 @@
 -- Each printed line declares what it was printed from, whatever the lines before it are.
-use Rattle.std.proofs.Common.{arith}
-use Rattle.std.proofs.Common.{rules}
-use Rattle.std.proofs.Common.{◌≡◌, refl, ℕ, List, [], true, false}
-use Rattle.std.specs.Prelude.{Option, Some, None, codes}
-use Rattle.mpslp_decimal.specs.Decimal.{Number, IsDecimal, zero_number}
-use Rattle.mpslp_decimal.specs.NumberText.{number_text}
-use Rattle.mpslp_decimal.proofs.NumberTextLemmas.{number-text}
-use Rattle.mpslp_types.specs.Name.{same_bytes, is_mps_name, marker}
-use Rattle.mpslp_types.specs.Lists.{those_of}
-use Rattle.mpslp_mps.specs.LineFault.{set_tests}
-use Rattle.mpslp_mps_fields.specs.Line.{data_line}
-use Rattle.mpslp_mps.specs.LineDeclarations.{line_declares}
-use Rattle.mpslp_mps.proofs.ContextLineLemmas.{form_faults}
-use Rattle.mpslp_canonical_mps.specs.PrintedDeclarations.{DeriveHeaders, DeriveSense, DeriveAllRows, DeriveAllColumns, is_set_of, DeriveRhs, DeriveRanges, IsFiniteValue, DeriveAllBounds}
-use Rattle.mpslp_canonical_mps.proofs.HeaderWalk.{header-says, fresh-header-good, word-says, word-good}
-use Rattle.mpslp_canonical_mps.proofs.EarlyWalk.{objective-says, objective-good}
-use Rattle.mpslp_canonical_mps.proofs.RowsWalk.{row_says, row_good, side_says, side_good, range_says, range_good}
-use Rattle.mpslp_canonical_mps.proofs.ColumnsWalk.{GoodCell, cell_says, cell_good, marker_says, marker_good}
-use Rattle.mpslp_canonical_mps.proofs.BoundsWalk.{BoundForm, fixed, lower, upper, free, no_lower, no_upper, semi_upper, fields_at, decl_at, bound_says, bound_good}
-use Rattle.mpslp_canonical_mps.proofs.CanonicalContents.{to_row, to_cell, to_side}
+use Rattle.std.{proofs.Common.{arith, ◌≡◌, ℕ, List, [], true, false}, specs.Prelude.Option}
+use Rattle.mpslp_decimal.{specs.Decimal.{Number, IsDecimal}, proofs.NumberTextLemmas.number-text}
+use Rattle.mpslp_types.specs.{Name.{same_bytes, is_mps_name, marker}, Lists.those_of}
+use Rattle.mpslp_mps.{specs.LineFault.set_tests, proofs.ContextLineLemmas.form_faults}
+use Rattle.mpslp_canonical_mps.specs.PrintedDeclarations.{DeriveHeaders, DeriveSense, DeriveAllRows, DeriveAllColumns, is_set_of, DeriveRhs}
+use Rattle.mpslp_canonical_mps.{specs.PrintedDeclarations.{DeriveRanges, DeriveAllBounds}, proofs.HeaderWalk.{word-says, word-good}}
+use Rattle.mpslp_canonical_mps.proofs.{RowsWalk.{side_says, side_good, range_says, range_good}, ColumnsWalk.{GoodCell, cell_says}}
+use Rattle.mpslp_canonical_mps.proofs.{ColumnsWalk.{cell_good, marker_says, marker_good}, BoundsWalk.{fixed, lower, upper, free, no_lower}}
+use Rattle.mpslp_canonical_mps.proofs.BoundsWalk.{no_upper, semi_upper, fields_at, decl_at, bound_says, bound_good}
+use Rattle.mpslp_canonical_mps.proofs.CanonicalContents.{to_cell, to_side}
 
 pub headers-derived : DeriveHeaders
 headers-derived context earlier section in_order fresh named = grind arith
@@ -40,7 +30,7 @@ columns-derived context earlier section = grind (arith, good-cell, cell_says, to
 -- ---- right-hand sides, ranges and bounds
 
 set-derived : (first : Option (List ℕ)) (set : List ℕ) → is_set_of first set ≡ true → those_of (set_tests first set) ≡ []
-set-derived v0 set h = grind arith
+set-derived first set h = grind arith
 
 pub rhs-derived : DeriveRhs
 rhs-derived context earlier row value section set bound decimal = grind (arith, side_says, to_side, number-text, side_good, set-derived)

@@ -1,33 +1,24 @@
 -- The draft of the canonical declarations of a well-formed listing, map by map.
-use Rattle.std.proofs.Common.{arith}
-use Rattle.std.proofs.Common.{rules}
-use Rattle.std.proofs.Common.{◌≡◌, refl, sym, ap, ◌∙◌, List, [], ◌∷◌, ◌++◌, ℕ, Bool, true, false, not, cond, map, append_assoc}
-use Rattle.std.specs.Prelude.{Option, Some, None, is_some, filter, ◌&&◌}
-use Rattle.std.specs.List.{flat_map}
-use Rattle.std.specs.Cmp.{second_so}
-use Rattle.std.specs.FinMap.{is_sorted}
-use Rattle.std.proofs.lemmas.List.{append-nil}
+use Rattle.std.proofs.Common.{arith, ◌≡◌, refl, sym, ap, ◌∙◌, List, [], ◌∷◌, ◌++◌, ℕ, Bool, true, false, not, cond, map, append_assoc}
+use Rattle.std.{proofs.lemmas.List.append-nil, specs.{Prelude.{Option, Some, None, is_some, filter, ◌&&◌}, List.flat_map, FinMap.is_sorted}}
 use Rattle.mpslp_decimal.specs.Decimal.{Number, IsDecimal, is_decimal, is_zero, negated}
-use Rattle.mpslp_types.specs.Name.{is_mps_name, is_one_of, bytes_cmp}
-use Rattle.mpslp_model_core.specs.Model.{Column, CoefficientKey, key_cmp, suits, is_sound_row, is_sound_column, is_integer_column as has_integer_kind, Listing}
-use Rattle.mpslp_types.specs.Limit.{zero_limit, is_at_most}
-use Rattle.mpslp_types.specs.declared.kinds.Kind.{Kind}
-use Rattle.mpslp_types.specs.declared.kinds.Kind.TheVariants.{Continuous, Integer, Semi}
-use Rattle.mpslp_types.specs.declared.kinds.Limit.{Limit}
-use Rattle.mpslp_types.specs.declared.kinds.Limit.TheVariants.{MinusInf, Finite, PlusInf}
+use Rattle.mpslp_types.{specs.{Name.{is_mps_name, is_one_of, bytes_cmp}, declared.kinds.{Kind.Kind, Limit.Limit}}, proofs.EachLemmas.Each}
+use Rattle.mpslp_types.proofs.{EachLemmas.Each-all, BoolLemmas.T_from}
+use Rattle.mpslp_model_core.specs.Model.{Column, CoefficientKey, key_cmp, suits, is_sound_row, is_sound_column}
+use Rattle.mpslp_model_core.{specs.Model.{is_integer_column as has_integer_kind, Listing}, proofs.PutsLemmas.{puts, puts-append}}
+use Rattle.mpslp_model_core.proofs.PutsLemmas.{find-front}
 use Rattle.mpslp_builder.specs.Declaration.{RowDefinition, Draft, draft_of, empty_draft, at_name, has_name, names_in}
-use Rattle.mpslp_types.proofs.EachLemmas.{Each, Each-all}
-use Rattle.mpslp_types.proofs.BoolLemmas.{T_from}
-use Rattle.mpslp_model_core.proofs.PutsLemmas.{puts, puts-append, find-front}
-use Rattle.mpslp_builder.proofs.BoundsLemmas.{is_semi_kind}
-use Rattle.mpslp_builder.proofs.PartedLemmas.{parted-give}
-use Rattle.mpslp_builder.proofs.DraftLemmas.{rows-all, rhs_values-all, ranges-all, columns-all, lowers-all, uppers-all, marked-all, integers-all, binaries-all, semis-all}
-use Rattle.mpslp_builder.proofs.SortedDrafts.{bytes_total, tied_names}
-use Rattle.mpslp_builder.proofs.NamedEntries.{names_sorted, at-mapped, named}
+use Rattle.mpslp_builder.proofs.{BoundsLemmas.is_semi_kind, PartedLemmas.parted-give, DraftLemmas.{rows-all, rhs_values-all, ranges-all}}
+use Rattle.mpslp_builder.proofs.DraftLemmas.{columns-all, lowers-all, uppers-all, marked-all, integers-all, binaries-all, semis-all}
+use Rattle.mpslp_builder.proofs.{SortedDrafts.{bytes_total, tied_names}, NamedEntries.{names_sorted, at-mapped, named}}
+use Rattle.mpslp_builder.proofs.EntryLemmas.{first_there, then_stated, stated, all_stated, sorted-kept, find-puts, puts-own, find-kept}
+use Rattle.mpslp_builder.proofs.EntryLemmas.{sorted-stated, find-stated, filter-not_not}
 use Rattle.mpslp_canonical_mps.specs.CanonicalMps.{column_coefficients, printed_coefficients, is_integer_column, is_plain_column}
-use Rattle.mpslp_canonical_mps.proofs.CanonicalContents.{to_cell, cells_in}
-use Rattle.mpslp_builder.proofs.EntryLemmas.{first_there, then_stated, stated, all_stated, sorted-kept, find-puts, puts-own, find-kept, sorted-stated, find-stated, filter-not_not}
-use Rattle.mpslp_canonical_mps.proofs.ListedParts.{form_stated, value_stated, side_stated, range_stated, column_lower, column_upper, semi_stated, column_semi, row_forms, own_column, listed_decl, from_cells, rows-part, rhs_values-part, ranges-part, columns-part, marked-part, integers-part, binaries-part, lowers-part, uppers-part, semis-part}
+use Rattle.mpslp_canonical_mps.proofs.{CanonicalContents.{to_cell, cells_in}, ListedParts.{form_stated, value_stated, side_stated}}
+use Rattle.mpslp_canonical_mps.proofs.ListedParts.{range_stated, column_lower, column_upper, semi_stated, column_semi, row_forms}
+use Rattle.mpslp_canonical_mps.proofs.ListedParts.{own_column, listed_decl, from_cells, rows-part, rhs_values-part, ranges-part}
+use Rattle.mpslp_canonical_mps.proofs.ListedParts.{columns-part, marked-part, integers-part, binaries-part, lowers-part, uppers-part}
+use Rattle.mpslp_canonical_mps.proofs.ListedParts.{semis-part}
 
 -- ---- a well-formed listing
 
@@ -52,9 +43,6 @@ drafted m = draft_of (listed_decl m)
 
 -- ---- small facts on entries
 
-pub none_is : {X : Type 0} (o : Option X) → is_some o ≡ false → o ≡ None
-none_is v0 h = grind arith
-
 -- ---- rows
 
 pub rows-drafted : (m : Listing) → IsSoundListing m → (drafted m).rows ≡ row_forms m.rows
@@ -66,7 +54,7 @@ pub row-at : (m : Listing) → IsSoundListing m → (q : List ℕ) → at_name (
 row-at m h q = ap (λ (es : List (List ℕ × RowDefinition)). at_name es q) (rows-drafted m h) ∙ at-mapped form_stated q m.rows
 
 puts-stated : (q : List ℕ) (o : Option Number) → puts bytes_cmp (stated q o) [] ≡ stated q o
-puts-stated q v1 = grind arith
+puts-stated q o = grind arith
 
 pub right_side-at : (m : Listing) → IsSoundListing m → (q : List ℕ)
     → at_name (drafted m).rhs_values q ≡ first_there (then_stated side_stated (at_name m.rows q)) (at_name (stated m.objective (value_stated (negated m.constant))) q)
@@ -88,7 +76,7 @@ semi-at m h q = grind (arith, semis-all, listed_decl, puts, semis-part, puts-own
 
 -- a semi-continuous column of a well-formed listing has a finite upper bound, whose line declares its type
 semi-suited : (kind : Kind) (l u : Limit) → suits kind l u ≡ true → is_some (semi_stated kind u) ≡ is_semi_kind kind
-semi-suited v0 l v2 h = grind arith
+semi-suited kind l u h = grind arith
 
 pub semis-at : (m : Listing) → IsSoundListing m → (q : List ℕ) (column : Column) → suits column.kind column.lower column.upper ≡ true → at_name m.columns q ≡ Some column
     → has_name (drafted m).semis q ≡ is_semi_kind column.kind
@@ -100,7 +88,7 @@ own-all name [] = tt
 own-all name (cell ∷ cells) = (refl, own-all name cells)
 
 own-some : (name objective : List ℕ) (cells : List (List ℕ × Number)) → is_some (at_name (flat_map own_column (map (to_cell name) (printed_coefficients objective cells))) name) ≡ true
-own-some name objective v2 = grind (arith, find-front, bytes_total, tied_names, own_column, to_cell)
+own-some name objective cells = grind (arith, find-front, bytes_total, tied_names, own_column, to_cell)
 
 abbrev names_of_cells : Listing → List ℕ × Column → List (List ℕ × Unit {0})
 names_of_cells m column = flat_map own_column (cells_in m column)

@@ -1,17 +1,12 @@
 -- The canonical text of the model of a draft, from the draft's lists.
-use Rattle.std.proofs.Common.{◌≡◌, ◌∙◌, ap, List, ℕ, Bool, true, map}
-use Rattle.std.specs.Prelude.{◌&&◌, not, filter, unwrap_or}
-use Rattle.std.specs.Cmp.{first_so, second_so}
-use Rattle.std.specs.FinMap.{is_sorted, entries-from_sorted}
+use Rattle.std.{proofs.Common.{◌≡◌, ◌∙◌, ap, List, [], ◌∷◌, ℕ, Bool, true, map, drop, get_or}, specs.Prelude.{Option, None, ◌&&◌, not}}
+use Rattle.std.specs.{Prelude.{filter, unwrap_or}, Cmp.{first_so, second_so}, FinMap.{is_sorted, entries-from_sorted}}
+use Rattle.mpslp_types.specs.{declared.{faults.{Fault.Fault, BuildFault.BuildFault}, kinds.Sense.TheVariants.Minimize}, Name.bytes_cmp}
+use Rattle.mpslp_types.proofs.{EachLemmas.Each, BoolLemmas.T_from}
 use Rattle.mpslp_decimal.specs.Decimal.{is_zero}
 use Rattle.mpslp_model_core.specs.Model.{LinearModel, key_cmp, Listing, listing_of}
-use Rattle.mpslp_types.specs.Name.{bytes_cmp}
-use Rattle.mpslp_builder.specs.Declaration.{Draft}
-use Rattle.mpslp_builder.specs.Meaning.{column_of, objective_name, constant_of, row_entry, model_of}
-use Rattle.mpslp_types.proofs.BoolLemmas.{T_from}
-use Rattle.mpslp_types.specs.declared.kinds.Sense.TheVariants.{Minimize}
-use Rattle.mpslp_mps.specs.MpsText.{DeclaresMps}
-use Rattle.mpslp_mps.proofs.WorkedFiles.{draft_in, Passes, declares-from_passes}
+use Rattle.mpslp_builder.specs.{Declaration.Draft, Meaning.{column_of, objective_name, constant_of, row_entry, model_of}}
+use Rattle.mpslp_mps.{specs.MpsText.DeclaresMps, proofs.WorkedFiles.{draft_in, Passes, declares-from_passes, tests, passes-from_tests}}
 use Rattle.mpslp_canonical_mps.specs.CanonicalMps.{text_of, listed_lines, canonical_mps}
 
 -- the bytes declare a model whose canonical text is this
@@ -50,3 +45,16 @@ line_text-from_passes bytes output passes sorted text =
       declares = declares-from_passes bytes passes;
       prints = ap (λ (m : Listing). text_of (listed_lines m)) (listing_of-model (draft_in bytes) sorted) ∙ text;
     }
+
+-- what is computed of a file, and what each worked file has
+abbrev pub printed_of : List ℕ → (Bool × Bool × Bool × List BuildFault × Option Fault) × Bool × List ℕ
+printed_of bytes = (tests bytes, is_in_order (listing_in (draft_in bytes)), text_of (listed_lines (listing_in (draft_in bytes))))
+
+pub each-printed : (rows : List (List ℕ × List ℕ)) → map (λ row. printed_of row.0) rows ≡ map (λ row. ((true, true, true, [], None), true, row.1)) rows
+    → Each (λ row. IsPrinted row.0 row.1) rows
+each-printed [] h = tt
+each-printed (row ∷ rows) h =
+    let here = ap (λ its. get_or its 0 (printed_of row.0)) h in (
+      line_text-from_passes row.0 row.1 (passes-from_tests row.0 (ap (λ it. it.0) here)) (ap (λ it. it.1) here) (ap (λ it. it.2) here),
+      each-printed rows (ap (drop 1) h),
+    )

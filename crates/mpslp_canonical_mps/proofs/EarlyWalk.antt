@@ -1,29 +1,20 @@
 -- What NAME, OBJSENSE, ROWS and COLUMNS of canonical text declare.
-use Rattle.std.proofs.Common.{arith}
-use Rattle.std.proofs.Common.{rules}
-use Rattle.std.proofs.Common.{◌≡◌, refl, ap, subst, ◌∙◌, List, [], ◌∷◌, ◌++◌, ℕ, Bool, true, false, map}
-use Rattle.std.specs.Prelude.{Option, Some, None, is_none, codes, filter_map}
-use Rattle.std.specs.List.{flat_map, last_or}
-use Rattle.std.specs.Option.{option_map_or, option_or}
-use Rattle.std.proofs.lemmas.List.{append-nil}
-use Rattle.mpslp_types.specs.Name.{is_mps_name, same_bytes}
-use Rattle.mpslp_builder.specs.Declaration.{declare_sense, declare_objective, Declarations, Draft, empty_draft, with_declaration, with_declarations}
-use Rattle.mpslp_types.specs.declared.kinds.Sense.{Sense}
-use Rattle.mpslp_types.specs.declared.kinds.Sense.TheVariants.{Minimize, Maximize}
-use Rattle.mpslp_types.specs.declared.kinds.RowType.TheVariants.{Free}
-use Rattle.mpslp_types.proofs.EachLemmas.{Each}
-use Rattle.mpslp_mps_fields.specs.Line.{Fields, LineContent, data_line}
-use Rattle.mpslp_mps_fields.specs.DataLine.{letter_of, opening_word}
-use Rattle.mpslp_mps.specs.Context.{Context, context_of, current_section, objname, data_lines, marker_word, line_column, in_integer_part, last_column}
-use Rattle.mpslp_mps.specs.LineDeclarations.{line_declares}
-use Rattle.mpslp_mps.proofs.ContextLineLemmas.{form_faults}
-use Rattle.mpslp_mps.proofs.ContextLemmas.{objname-push}
+use Rattle.std.proofs.{Common.{arith, ◌≡◌, refl, ap, subst, ◌∙◌, List, [], ◌∷◌, ◌++◌, ℕ, Bool, true, false, map}, lemmas.List.append-nil}
+use Rattle.std.specs.{Prelude.{Option, Some, None, is_none, codes, filter_map}, List.{flat_map, last_or}, Option.{option_map_or, option_or}}
+use Rattle.mpslp_types.specs.{Name.{is_mps_name, same_bytes}, declared.kinds.Sense.{Sense, TheVariants.{Minimize, Maximize}}}
+use Rattle.mpslp_types.{specs.declared.kinds.RowType.TheVariants.Free, proofs.EachLemmas.Each}
+use Rattle.mpslp_builder.specs.Declaration.{declare_sense, declare_objective, Declarations, Draft, empty_draft, with_declaration}
+use Rattle.mpslp_builder.specs.Declaration.{with_declarations}
+use Rattle.mpslp_mps_fields.specs.{Line.{Fields, LineContent, data_line}, DataLine.{letter_of, opening_word}}
 use Rattle.mpslp_mps_fields.specs.declared.sections.Section.TheVariants.{Name, ObjSense, Rows, Columns}
-use Rattle.mpslp_canonical_mps.proofs.ContentsWalk.{Walk, walk-nil, walk-cons, walk-append, section-walk}
-use Rattle.mpslp_canonical_mps.proofs.RowsWalk.{RowItem, row_item, row_decl, InRows, row_step, name-good, stays}
-use Rattle.mpslp_canonical_mps.proofs.ColumnsWalk.{Cell, cell_item, cell_decl, GoodCell, InCells, cell_step, Unsplit, marker_fields, marker_part, marker_last, marker_says, marker_good, Group, cells_of, IsGroup, AreApart, AreAbsent, groups_unsplit}
-use Rattle.mpslp_canonical_mps.proofs.HeaderWalk.{header_item, MayBegin, header-good, header-says, current-header}
-use Rattle.mpslp_canonical_mps.proofs.CanonicalWalk.{none-yet}
+use Rattle.mpslp_mps.specs.Context.{Context, context_of, current_section, objname, data_lines, marker_word, line_column, in_integer_part}
+use Rattle.mpslp_mps.{specs.{Context.last_column, LineDeclarations.line_declares}, proofs.ContextLineLemmas.form_faults}
+use Rattle.mpslp_mps.proofs.ContextLemmas.{objname-push}
+use Rattle.mpslp_canonical_mps.proofs.{ContentsWalk.{Walk, walk-nil, walk-cons, walk-append, section-walk}, RowsWalk.{RowItem, row_item}}
+use Rattle.mpslp_canonical_mps.proofs.{RowsWalk.{row_decl, InRows, row_step, name-good, stays}, ColumnsWalk.{Cell, cell_item, cell_decl}}
+use Rattle.mpslp_canonical_mps.proofs.ColumnsWalk.{GoodCell, InCells, cell_step, Unsplit, marker_fields, marker_part, marker_last}
+use Rattle.mpslp_canonical_mps.proofs.ColumnsWalk.{marker_says, marker_good, Group, cells_of, IsGroup, AreApart, AreAbsent, groups_unsplit}
+use Rattle.mpslp_canonical_mps.proofs.{HeaderWalk.{header_item, MayBegin, header-good, header-says, current-header}, CanonicalWalk.none-yet}
 
 -- ---- NAME and OBJSENSE
 
@@ -36,15 +27,15 @@ sense_decl Minimize = []
 sense_decl Maximize = declare_sense Maximize ∷ []
 
 pub start-walk : (sense : Sense) → Walk [] empty_draft (header_item Name ∷ sense_items sense) (sense_decl sense)
-start-walk v0 = grind arith
+start-walk sense = grind arith
 
 -- ROWS may come next
 pub rows-may : (sense : Sense) → MayBegin Rows (header_item Name ∷ sense_items sense)
-rows-may v0 = grind arith
+rows-may sense = grind arith
 
 -- and there is no OBJNAME
 pub start-unnamed : (sense : Sense) → objname (header_item Name ∷ sense_items sense) ≡ None
-start-unnamed v0 = grind arith
+start-unnamed sense = grind arith
 
 -- ---- ROWS
 

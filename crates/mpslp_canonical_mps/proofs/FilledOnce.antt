@@ -1,38 +1,20 @@
 -- The canonical declarations of a well-formed listing fill no slot twice.
-use Rattle.std.proofs.Common.{rules}
-use Rattle.std.proofs.Common.{◌≡◌, refl, sym, ap, ◌∙◌, List, [], ◌∷◌, ◌++◌, ℕ, Bool, true, false, suc, ◌<◌, arith, map}
-use Rattle.std.specs.Prelude.{Option, Some, filter}
-use Rattle.std.specs.List.{flat_map}
-use Rattle.std.specs.Option.{option_map_or}
-use Rattle.std.proofs.lemmas.List.{append-nil}
-use Rattle.std.proofs.lemmas.List.Concat.{flat_map-append}
-use Rattle.mpslp_types.specs.Name.{same_bytes, bytes_cmp}
-use Rattle.mpslp_model_core.specs.Model.{Column, is_integer_column as has_integer_kind, Listing}
-use Rattle.mpslp_builder.specs.Declaration.{declare_objective, at_name, names_in}
-use Rattle.mpslp_types.specs.Lists.{are_distinct}
-use Rattle.mpslp_builder.specs.Consistency.{Slot, row_slot, rhs_slot, range_slot, same_slot, slots_of, all_slots}
-use Rattle.mpslp_types.specs.declared.kinds.Sense.{Sense}
-use Rattle.mpslp_types.specs.declared.kinds.Sense.TheVariants.{Minimize, Maximize}
-use Rattle.mpslp_types.proofs.BoolLemmas.{not_so}
+use Rattle.std.proofs.Common.{rules, ◌≡◌, refl, sym, ap, ◌∙◌, List, [], ◌∷◌, ◌++◌, ℕ, Bool, true, false, suc, ◌<◌, arith, map}
+use Rattle.std.{proofs.lemmas.List.{append-nil, Concat.flat_map-append}, specs.{Prelude.{Some, filter}, List.flat_map}}
+use Rattle.mpslp_types.{specs.{Name.same_bytes, Lists.are_distinct, declared.kinds.Sense.Sense}, proofs.BoolLemmas.not_so}
 use Rattle.mpslp_types.proofs.EachLemmas.{Each, Each-weaker, Each-append, Each-flat_map, Each-filter, Each-all}
-use Rattle.mpslp_builder.proofs.CoefficientLemmas.{flat_map-flat_map}
-use Rattle.mpslp_builder.proofs.SlotLemmas.{same_name}
-use Rattle.mpslp_canonical_mps.proofs.ColumnsWalk.{Cell, cell_decl, cells_of}
-use Rattle.mpslp_canonical_mps.proofs.BoundsWalk.{bound_decl}
-use Rattle.mpslp_canonical_mps.specs.CanonicalMps.{is_integer_column, is_plain_column}
-use Rattle.mpslp_canonical_mps.proofs.CanonicalContents.{group_in, cells_in, bounds_in}
-use Rattle.mpslp_canonical_mps.proofs.EarlyWalk.{sense_decl}
-use Rattle.mpslp_builder.proofs.EntryLemmas.{all_stated, sorted-kept}
-use Rattle.mpslp_canonical_mps.proofs.ListedContents.{whole_of}
-use Rattle.mpslp_builder.proofs.FlatLemmas.{flat-same}
-use Rattle.mpslp_canonical_mps.proofs.WholeParts.{made_of, whole-parts}
-use Rattle.mpslp_canonical_mps.proofs.ListedParts.{range_stated, listed_decl, cells-made}
-use Rattle.mpslp_builder.proofs.NamedEntries.{own-found}
-use Rattle.mpslp_canonical_mps.proofs.DraftMaps.{IsSoundListing}
-use Rattle.mpslp_canonical_mps.proofs.ListedSlots.{rank, AllOf, NoneOf, join-ranks, cell_slot, slots-flat}
+use Rattle.mpslp_model_core.specs.Model.{Column, Listing}
+use Rattle.mpslp_builder.specs.{Declaration.{declare_objective, at_name, names_in}, Consistency.{Slot, row_slot, rhs_slot, range_slot}}
+use Rattle.mpslp_builder.{specs.Consistency.{same_slot, slots_of, all_slots}, proofs.CoefficientLemmas.flat_map-flat_map}
+use Rattle.mpslp_builder.proofs.{SlotLemmas.same_name, EntryLemmas.{all_stated, sorted-kept}, FlatLemmas.flat-same, NamedEntries.own-found}
+use Rattle.mpslp_canonical_mps.proofs.{ColumnsWalk.{Cell, cell_decl, cells_of}, BoundsWalk.bound_decl, CanonicalContents.group_in}
+use Rattle.mpslp_canonical_mps.proofs.{CanonicalContents.{cells_in, bounds_in}, EarlyWalk.sense_decl, ListedContents.whole_of}
+use Rattle.mpslp_canonical_mps.proofs.{WholeParts.{made_of, whole-parts}, ListedParts.{range_stated, listed_decl, cells-made}}
+use Rattle.mpslp_canonical_mps.proofs.{DraftMaps.IsSoundListing, ListedSlots.{rank, AllOf, NoneOf, join-ranks, cell_slot, slots-flat}}
 use Rattle.mpslp_canonical_mps.proofs.ListedOnce.{AreOther, sorted-other, other-append, column_slots, coefficients-distinct}
-use Rattle.mpslp_canonical_mps.proofs.BoundSlots.{bound_slots, each-bound_slot, bounds-distinct}
-use Rattle.mpslp_canonical_mps.proofs.NamedSlots.{all-named, row_slots, rows-fill, row_slots-distinct, side_values, sides-fill, ranges-fill, side_slots-distinct, range_slots-distinct}
+use Rattle.mpslp_canonical_mps.proofs.{BoundSlots.{bound_slots, each-bound_slot, bounds-distinct}, NamedSlots.{all-named, row_slots}}
+use Rattle.mpslp_canonical_mps.proofs.NamedSlots.{rows-fill, row_slots-distinct, side_values, sides-fill, ranges-fill, side_slots-distinct}
+use Rattle.mpslp_canonical_mps.{proofs.NamedSlots.range_slots-distinct, specs.CanonicalMps.{is_integer_column, is_plain_column}}
 
 -- ---- sections, each of a higher rank than those before it
 
@@ -66,7 +48,7 @@ abbrev sense_slots : Sense → List Slot
 sense_slots sense = flat_map slots_of (sense_decl sense)
 
 sense-section : (sense : Sense) → Section 0 (sense_slots sense)
-sense-section v0 = grind arith
+sense-section sense = grind arith
 
 -- ---- COLUMNS: the columns outside the integer block, then those in it
 

@@ -1,41 +1,24 @@
 -- COLUMNS of a well-formed listing: the columns are separate, and each has good lines.
-use Rattle.std.proofs.Common.{arith}
-use Rattle.std.proofs.Common.{rules}
-use Rattle.std.proofs.Common.{◌≡◌, refl, ap, ◌∙◌, List, [], ◌∷◌, ℕ, Bool, true, false, not, cond, map}
-use Rattle.std.specs.Prelude.{Option, Some, None, is_some, filter, filter_map}
-use Rattle.std.specs.List.{flat_map, cons_option}
-use Rattle.std.specs.Option.{option_map}
-use Rattle.std.specs.Cmp.{first_so, second_so}
-use Rattle.std.specs.FinMap.{find, is_sorted}
-use Rattle.std.specs.FinMap.Entries.{below_all}
-use Rattle.mpslp_decimal.specs.Decimal.{Number, IsDecimal, is_decimal}
-use Rattle.mpslp_decimal.proofs.NumberTextLemmas.{number-text}
-use Rattle.mpslp_types.specs.Name.{same_bytes, marker, bytes_cmp}
-use Rattle.mpslp_model_core.specs.Model.{Column, CoefficientKey, key_cmp, is_sound_row, is_sound_column, is_integer_column as has_integer_kind, Listing}
-use Rattle.mpslp_builder.specs.Declaration.{Declaration, declare_objective, Draft, empty_draft, with_declaration, with_declarations, at_name, has_name, has_column}
-use Rattle.mpslp_types.specs.Lists.{is_nonempty}
-use Rattle.mpslp_types.specs.declared.kinds.Sense.{Sense}
-use Rattle.mpslp_types.specs.declared.kinds.Sense.TheVariants.{Minimize, Maximize}
-use Rattle.mpslp_types.proofs.EachLemmas.{Each, Each-weaker, Each-map, Each-flat_map, Each-filter, Each-all}
-use Rattle.mpslp_model_core.proofs.PutsLemmas.{puts}
-use Rattle.mpslp_builder.proofs.CoefficientLemmas.{flat_map-flat_map}
-use Rattle.mpslp_builder.proofs.DraftLemmas.{column_part, columns-all}
-use Rattle.mpslp_builder.proofs.DraftEntries.{same_key}
-use Rattle.mpslp_builder.proofs.SortedDrafts.{bytes_total, key_total, tied_names}
-use Rattle.mpslp_canonical_mps.proofs.RowsWalk.{row_decl}
-use Rattle.mpslp_canonical_mps.proofs.ColumnsWalk.{cell_decl, GoodCell, AreOf, Group, cells_of, IsGroup, AreApart, AreAbsent}
-use Rattle.mpslp_canonical_mps.specs.CanonicalMps.{cell_at, column_coefficients, printed_coefficients, is_integer_column, is_plain_column}
-use Rattle.mpslp_canonical_mps.proofs.CanonicalContents.{to_row, to_cell, cells_in, group_in}
-use Rattle.mpslp_canonical_mps.proofs.EarlyWalk.{sense_decl, AreColumns}
-use Rattle.mpslp_canonical_mps.proofs.WholeWalk.{draft_at_columns}
-use Rattle.mpslp_canonical_mps.proofs.ListedContents.{whole_of}
-use Rattle.mpslp_builder.proofs.EntryLemmas.{then_stated, find-kept, found-each, sorted-kept}
-use Rattle.mpslp_builder.proofs.KeptParts.{kept-all}
-use Rattle.mpslp_canonical_mps.proofs.ListedParts.{own_column, from_cells, cells-made}
-use Rattle.mpslp_builder.proofs.NamedEntries.{own-found, at-mapped, named}
-use Rattle.mpslp_canonical_mps.proofs.DraftMaps.{is_sound_entry, IsSoundListing, plain-only}
-use Rattle.mpslp_canonical_mps.proofs.CoefficientMap.{place_at}
-use Rattle.mpslp_builder.proofs.SoundParts.{row_named, column_named, no_marker, later_differ}
+use Rattle.std.{proofs.Common.{arith, ◌≡◌, refl, ap, ◌∙◌, List, [], ◌∷◌, ℕ, Bool, true, false, not, cond, map}, specs.Prelude.Option}
+use Rattle.std.specs.{Prelude.{Some, None, is_some, filter, filter_map}, List.{flat_map, cons_option}, Option.option_map, Cmp.first_so}
+use Rattle.std.specs.{Cmp.second_so, FinMap.{find, is_sorted, Entries.below_all}}
+use Rattle.mpslp_decimal.{specs.Decimal.{Number, IsDecimal, is_decimal}, proofs.NumberTextLemmas.number-text}
+use Rattle.mpslp_types.specs.{Name.{same_bytes, marker, bytes_cmp}, Lists.is_nonempty, declared.kinds.Sense.{Sense, TheVariants.Minimize}}
+use Rattle.mpslp_types.{specs.declared.kinds.Sense.TheVariants.Maximize, proofs.EachLemmas.{Each, Each-weaker, Each-map, Each-flat_map}}
+use Rattle.mpslp_types.proofs.EachLemmas.{Each-filter, Each-all}
+use Rattle.mpslp_model_core.specs.Model.{Column, CoefficientKey, key_cmp, is_sound_row, is_sound_column}
+use Rattle.mpslp_model_core.{specs.Model.{is_integer_column as has_integer_kind, Listing}, proofs.PutsLemmas.puts}
+use Rattle.mpslp_builder.specs.Declaration.{Declaration, declare_objective, Draft, empty_draft, with_declaration, with_declarations}
+use Rattle.mpslp_builder.{specs.Declaration.{at_name, has_name, has_column}, proofs.CoefficientLemmas.flat_map-flat_map}
+use Rattle.mpslp_builder.proofs.{DraftLemmas.{column_part, columns-all}, DraftEntries.same_key, SortedDrafts.{bytes_total, key_total}}
+use Rattle.mpslp_builder.proofs.{SortedDrafts.tied_names, EntryLemmas.{then_stated, find-kept, found-each, sorted-kept}, KeptParts.kept-all}
+use Rattle.mpslp_builder.proofs.{NamedEntries.{own-found, at-mapped, named}, SoundParts.{row_named, column_named, no_marker, later_differ}}
+use Rattle.mpslp_canonical_mps.proofs.{RowsWalk.row_decl, ColumnsWalk.{cell_decl, GoodCell, AreOf, Group, cells_of, IsGroup, AreApart}}
+use Rattle.mpslp_canonical_mps.proofs.{ColumnsWalk.AreAbsent, CanonicalContents.{to_row, to_cell, cells_in, group_in}, EarlyWalk.sense_decl}
+use Rattle.mpslp_canonical_mps.proofs.{EarlyWalk.AreColumns, WholeWalk.draft_at_columns, ListedContents.whole_of, ListedParts.own_column}
+use Rattle.mpslp_canonical_mps.proofs.{ListedParts.{from_cells, cells-made}, DraftMaps.{is_sound_entry, IsSoundListing, plain-only}}
+use Rattle.mpslp_canonical_mps.{proofs.CoefficientMap.place_at, specs.CanonicalMps.{cell_at, column_coefficients, printed_coefficients}}
+use Rattle.mpslp_canonical_mps.specs.CanonicalMps.{is_integer_column, is_plain_column}
 
 -- ---- columns
 
@@ -44,7 +27,7 @@ group-own name [] = tt
 group-own name (cell ∷ cells) = (refl, group-own name cells)
 
 group-some : (name objective : List ℕ) (cells : List (List ℕ × Number)) → is_nonempty (map (to_cell name) (printed_coefficients objective cells)) ≡ true
-group-some name objective v2 = grind arith
+group-some name objective cells = grind arith
 
 pub groups-good : (m : Listing) (columns : List (List ℕ × Column)) → Each IsGroup (map (group_in m) columns)
 groups-good m columns =
@@ -73,7 +56,7 @@ pairs-good coefficients column h (row ∷ rows) names = by (find key_cmp (place_
     by (Some d) is more = ((names.0, found-each key_cmp key_total same_key (λ _ x. IsDecimal x) coefficients h (place_at row column) d is), more)
 
 line_text-good : (objective : List ℕ) (cells : List (List ℕ × Number)) → same_bytes objective marker ≡ false → Each IsGoodPair cells → Each IsGoodPair (printed_coefficients objective cells)
-line_text-good objective v1 o h = grind arith
+line_text-good objective cells o h = grind arith
 
 cells-good : (m : Listing) → IsSoundListing m → (column : List ℕ × Column) → is_sound_column column ≡ true → Each GoodCell (cells_in m column)
 cells-good m h column sound =

@@ -1,46 +1,25 @@
 -- The sections of the canonical text of a well-formed listing meet the conditions for following them.
-use Rattle.std.proofs.Common.{arith}
-use Rattle.std.proofs.Common.{rules}
-use Rattle.std.proofs.Common.{◌≡◌, refl, sym, ap, ◌∙◌, List, [], ◌∷◌, ◌++◌, ℕ, Bool, true, false, cond, map}
-use Rattle.std.specs.Prelude.{Option, Some, None}
-use Rattle.std.specs.List.{flat_map}
-use Rattle.std.specs.Option.{option_map_or}
-use Rattle.mpslp_decimal.specs.Decimal.{Number, IsDecimal, is_zero, zero_number, negated, have_same_value}
-use Rattle.mpslp_decimal.proofs.NumberTextLemmas.{number-text}
-use Rattle.mpslp_types.specs.Name.{is_mps_name, bytes_cmp}
-use Rattle.mpslp_model_core.specs.Model.{Row, Column, is_sound_row, is_sound_column, Listing}
-use Rattle.mpslp_types.specs.Limit.{is_bounded_decimal, is_lower_side, is_upper_side}
-use Rattle.mpslp_builder.specs.Declaration.{RowDefinition, by_type, Declaration, declare_objective, Draft, empty_draft, with_declaration, with_declarations, at_name, is_free_definition, is_free_row}
-use Rattle.mpslp_types.specs.declared.kinds.Sense.{Sense}
-use Rattle.mpslp_types.specs.declared.kinds.Sense.TheVariants.{Minimize, Maximize}
-use Rattle.mpslp_types.specs.declared.kinds.Kind.{Kind}
-use Rattle.mpslp_types.specs.declared.kinds.Kind.TheVariants.{Continuous, Integer, Semi}
-use Rattle.mpslp_types.specs.declared.kinds.Limit.{Limit}
-use Rattle.mpslp_types.specs.declared.kinds.Limit.TheVariants.{MinusInf, Finite, PlusInf}
-use Rattle.mpslp_types.proofs.BoolLemmas.{back}
-use Rattle.mpslp_types.proofs.EachLemmas.{Each, Each-weaker, Each-append, Each-map, Each-flat_map, Each-all}
-use Rattle.mpslp_model_core.proofs.PutsLemmas.{puts}
-use Rattle.mpslp_builder.proofs.CoefficientLemmas.{flat_map-flat_map}
-use Rattle.mpslp_builder.proofs.DraftLemmas.{row_part, rows-all}
-use Rattle.mpslp_builder.proofs.SortedDrafts.{bytes_total, tied_names}
-use Rattle.mpslp_canonical_mps.proofs.RowsWalk.{RowItem, row_decl, Side, ReadsAs}
-use Rattle.mpslp_canonical_mps.proofs.ColumnsWalk.{Cell, cell_decl, cells_of}
-use Rattle.mpslp_canonical_mps.proofs.BoundsWalk.{GoodBound}
-use Rattle.mpslp_canonical_mps.specs.PrintedValues.{is_fixed, bound_with_value, printed_type, printed_rhs, printed_range, PrintedBound, printed_lower, printed_upper, printed_bounds}
+use Rattle.std.{proofs.Common.{arith, ◌≡◌, refl, sym, ap, ◌∙◌, List, [], ◌∷◌, ◌++◌, ℕ, Bool, true, false, cond}, specs.Prelude.Option}
+use Rattle.std.specs.{Prelude.{Some, None}, List.flat_map, Option.option_map_or}
+use Rattle.mpslp_decimal.{specs.Decimal.{Number, IsDecimal, is_zero, zero_number, negated}, proofs.NumberTextLemmas.number-text}
+use Rattle.mpslp_types.specs.{Name.{is_mps_name, bytes_cmp}, Limit.{is_bounded_decimal, is_lower_side, is_upper_side}}
+use Rattle.mpslp_types.{specs.declared.kinds.{Kind.Kind, Limit.Limit}, proofs.{BoolLemmas.back, EachLemmas.{Each, Each-weaker}}}
+use Rattle.mpslp_types.proofs.EachLemmas.{Each-append, Each-map, Each-flat_map, Each-all}
+use Rattle.mpslp_model_core.{specs.Model.{Row, Column, is_sound_row, is_sound_column, Listing}, proofs.PutsLemmas.puts}
+use Rattle.mpslp_builder.specs.Declaration.{RowDefinition, by_type, Declaration, Draft, with_declaration, with_declarations, at_name}
+use Rattle.mpslp_builder.{specs.Declaration.{is_free_definition, is_free_row}, proofs.CoefficientLemmas.flat_map-flat_map}
+use Rattle.mpslp_builder.proofs.{DraftLemmas.{row_part, rows-all}, SortedDrafts.{bytes_total, tied_names}, EntryLemmas.then_stated}
+use Rattle.mpslp_builder.proofs.{EntryLemmas.puts-own, KeptParts.kept-all, NamedEntries.{one_of-names, own-found, names_sorted, at-mapped}}
+use Rattle.mpslp_builder.proofs.SoundParts.{row_named, row_sides, row_distance, column_sides, bounded_so, bounded_finite, lower_of}
+use Rattle.mpslp_builder.proofs.{SoundParts.upper_of, PartLemmas.none_there}
+use Rattle.mpslp_canonical_mps.proofs.{RowsWalk.{RowItem, row_decl, Side, ReadsAs}, ColumnsWalk.{Cell, cell_decl, cells_of}}
+use Rattle.mpslp_canonical_mps.proofs.{BoundsWalk.GoodBound, CanonicalContents.{to_row, to_side, side_unless_zero, row_side, sides_in}}
+use Rattle.mpslp_canonical_mps.proofs.{CanonicalContents.{row_range, to_bound, bounds_in}, EarlyWalk.sense_decl, WholeWalk.IsGoodWhole}
+use Rattle.mpslp_canonical_mps.proofs.{WholeWalk.{draft_at_columns, draft_at_sides}, ListedContents.whole_of, ListedParts.form_stated}
+use Rattle.mpslp_canonical_mps.proofs.{ListedParts.{row_forms, rows-made}, DraftMaps.IsSoundListing, PrintableLemmas.{Holds, side-decimal}}
+use Rattle.mpslp_canonical_mps.proofs.{PrintableLemmas.{range-decimal, negated-decimal}, GoodColumns.are-columns}
+use Rattle.mpslp_canonical_mps.specs.PrintedValues.{printed_type, printed_rhs, printed_range, PrintedBound, printed_bounds}
 use Rattle.mpslp_mps_fields.specs.declared.bound_types.BoundType.TheVariants as bounds
-use Rattle.mpslp_canonical_mps.proofs.CanonicalContents.{to_row, to_side, side_unless_zero, row_side, sides_in, row_range, to_bound, bounds_in}
-use Rattle.mpslp_canonical_mps.proofs.EarlyWalk.{sense_decl}
-use Rattle.mpslp_canonical_mps.proofs.WholeWalk.{IsGoodWhole, draft_at_columns, draft_at_sides}
-use Rattle.mpslp_canonical_mps.proofs.ListedContents.{whole_of}
-use Rattle.mpslp_builder.proofs.EntryLemmas.{then_stated, puts-own}
-use Rattle.mpslp_builder.proofs.KeptParts.{kept-all}
-use Rattle.mpslp_canonical_mps.proofs.ListedParts.{form_stated, row_forms, rows-made}
-use Rattle.mpslp_builder.proofs.NamedEntries.{one_of-names, own-found, names_sorted, at-mapped}
-use Rattle.mpslp_canonical_mps.proofs.DraftMaps.{IsSoundListing, none_is}
-use Rattle.mpslp_builder.proofs.SoundParts.{row_named, row_sides, row_distance, column_sides, bounded_so, bounded_finite, lower_of, upper_of}
-use Rattle.mpslp_types.specs.declared.kinds.RowType.TheVariants.{AtLeast, Equal}
-use Rattle.mpslp_canonical_mps.proofs.PrintableLemmas.{Holds, side-decimal, range-decimal, negated-decimal}
-use Rattle.mpslp_canonical_mps.proofs.GoodColumns.{are-columns}
 
 -- ---- right-hand sides and ranges are read as the numbers from which they were printed
 
@@ -95,10 +74,10 @@ free-at m h q =
 
 -- an N row has no right-hand side
 free-side : (l u : Limit) → is_free_definition (by_type (printed_type l u)) ≡ true → is_zero (printed_rhs l u) ≡ true
-free-side v0 v1 h = grind arith
+free-side l u h = grind arith
 
 pub objective-no-row : (m : Listing) → IsSoundListing m → at_name m.rows m.objective ≡ None
-objective-no-row m h = none_is (at_name m.rows m.objective) (sym (one_of-names m.objective m.rows) ∙ h.no_row)
+objective-no-row m h = none_there (at_name m.rows m.objective) (sym (one_of-names m.objective m.rows) ∙ h.no_row)
 
 abbrev IsBoundIn : Listing → Side → Type 0
 IsBoundIn m side = is_free_row (draft_at_sides (whole_of m)) side.row ≡ false
@@ -129,14 +108,8 @@ sides-bound m h =
 abbrev IsBounded : PrintedBound → Type 0
 IsBounded bound = Holds (λ d. is_bounded_decimal d ≡ true) bound.value
 
-lower-bounded : (l : Limit) → is_lower_side l ≡ true → Each IsBounded (printed_lower l)
-lower-bounded v0 h = grind arith
-
-upper-bounded : (kind : Kind) (u : Limit) → is_upper_side u ≡ true → Each IsBounded (printed_upper kind u)
-upper-bounded v0 v1 h = grind arith
-
 all-bounded : (kind : Kind) (l u : Limit) → is_lower_side l ≡ true → is_upper_side u ≡ true → Each IsBounded (printed_bounds kind l u)
-all-bounded kind v1 v2 h k = grind arith
+all-bounded kind l u h k = grind arith
 
 good-bound : (name : List ℕ) (bound : PrintedBound) → IsBounded bound → GoodBound (to_bound name bound)
 good-bound name bound h = by bound.value h

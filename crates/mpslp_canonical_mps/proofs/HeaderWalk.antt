@@ -1,22 +1,14 @@
 -- Headers: what each declares, that it is well-formed, and the context after it.
-use Rattle.std.proofs.Common.{arith}
-use Rattle.std.proofs.Common.{rules}
-use Rattle.std.proofs.Common.{◌≡◌, refl, sym, ap, ◌∙◌, List, [], ◌∷◌, ◌++◌, Bool, true, false, map, append_assoc}
-use Rattle.std.specs.Prelude.{Option, Some, None, is_some, is_none, ◌||◌, codes}
-use Rattle.std.specs.Option.{option_or}
-use Rattle.std.proofs.lemmas.List.{append-nil}
+use Rattle.std.{proofs.Common.{arith, ◌≡◌, refl, sym, ap, ◌∙◌, List, [], ◌∷◌, ◌++◌, Bool, true, false, map}, specs.Prelude.{Option, Some}}
+use Rattle.std.specs.{Prelude.{None, is_some, is_none, ◌||◌, codes}, Option.option_or}
 use Rattle.mpslp_builder.specs.Declaration.{declare_sense, Draft}
-use Rattle.mpslp_types.specs.declared.kinds.Sense.TheVariants.{Maximize}
-use Rattle.mpslp_types.proofs.BoolLemmas.{nor}
-use Rattle.mpslp_mps_fields.specs.Line.{Fields, LineContent, skipped, header, data_line, keyword_of, section_of_header, section_named, begins, is_section, has}
-use Rattle.mpslp_mps.specs.Context.{Context, context_of, current_section, fields_under, data_lines_after, data_lines, is_read, word_due_after, word_due}
-use Rattle.mpslp_mps.specs.TextInWords.{has_section}
-use Rattle.mpslp_mps.specs.LineDeclarations.{line_declares}
-use Rattle.mpslp_mps.specs.LineFault.{may_begin, is_out_of_order}
-use Rattle.mpslp_mps.proofs.ContextLineLemmas.{form_faults}
-use Rattle.mpslp_mps_fields.specs.declared.sections.Section.{Section}
-use Rattle.mpslp_mps_fields.specs.declared.sections.Section.TheVariants.{Name, ObjSense, ObjName, Rows, Columns, Rhs, Ranges, Bounds, EndData}
-use Rattle.mpslp_mps.proofs.SectionLemmas.{current_section-push, has_section-append, has_section-cons}
+use Rattle.mpslp_types.{specs.declared.kinds.Sense.TheVariants.Maximize, proofs.BoolLemmas.nor}
+use Rattle.mpslp_mps_fields.specs.Line.{Fields, LineContent, header, data_line, keyword_of, section_of_header, section_named, begins}
+use Rattle.mpslp_mps_fields.specs.{Line.{is_section, has}, declared.sections.Section.{Section, TheVariants.{ObjSense, Columns}}}
+use Rattle.mpslp_mps.specs.Context.{Context, context_of, current_section, fields_under, data_lines_after, data_lines, is_read}
+use Rattle.mpslp_mps.specs.{Context.{word_due_after, word_due}, SeenSection.has_section, LineDeclarations.line_declares}
+use Rattle.mpslp_mps.{specs.LineFault.{may_begin, is_out_of_order}, proofs.ContextLineLemmas.form_faults}
+use Rattle.mpslp_mps.proofs.SectionLemmas.{current_section-push, has_section-append, has_section-cons, or_false}
 use Rattle.mpslp_mps.proofs.ContextLemmas.{word_due-push}
 
 -- a header whose word must follow on a line of its own, and whether a word is missing
@@ -30,7 +22,7 @@ abbrev pub header_item : Section → LineContent
 header_item section = header (keyword_of section) []
 
 section_named-keyword : (section : Section) → section_named (keyword_of section) ≡ Some section
-section_named-keyword v0 = grind arith
+section_named-keyword section = grind arith
 
 -- ---- a header where it is allowed
 
@@ -46,7 +38,7 @@ in-order section before h = rw (h.settled, h.fresh, h.begins) refl
 -- the objective exists at the start of COLUMNS
 pub fresh-header-good : (section : Section) (context : Context) (earlier : Draft) → is_out_of_order context section ≡ false → has context.sections_seen section ≡ false
     → (is_section Columns (Some section) ≡ true → is_none earlier.objective ≡ false) → form_faults context earlier (header_item section) ≡ []
-fresh-header-good v0 context earlier o f n = grind arith
+fresh-header-good section context earlier o f n = grind arith
 
 pub header-good : (section : Section) (before : List LineContent) (earlier : Draft) → MayBegin section before → (is_section Columns (Some section) ≡ true → is_none earlier.objective ≡ false)
     → form_faults (context_of before) earlier (header_item section) ≡ []
@@ -54,7 +46,7 @@ header-good section before earlier h named = fresh-header-good section (context_
 
 -- a header declares nothing, except for the objective at COLUMNS if there was none
 pub header-says : (section : Section) (context : Context) (earlier : Draft) → (is_section Columns (Some section) ≡ true → is_none earlier.objective ≡ false) → line_declares context earlier (header_item section) ≡ []
-header-says v0 context earlier n = grind arith
+header-says section context earlier n = grind arith
 
 pub current-header : (section : Section) (before : List LineContent) → current_section (before ++ header_item section ∷ []) ≡ Some section
 current-header section before = current_section-push before (header_item section) ∙ ap (λ (o : Option Section). option_or o (current_section before)) (section_named-keyword section)
@@ -69,9 +61,6 @@ word-good context earlier s w = rw (s, w) refl
 
 -- ---- what has not begun
 
-or_false : (b : Bool) → (b || false) ≡ b
-or_false v0 = grind arith
-
 -- lines that are not headers begin no section
 pub has_section-data : {X : Type 0} (section : Section) (item : X → LineContent) → ((x : X) → section_of_header (item x) ≡ None) → (xs : List X) (before : List LineContent)
     → has_section (before ++ map item xs) section ≡ has_section before section
@@ -82,16 +71,11 @@ has_section-data section item none xs before =
     all [] = refl
     all (y ∷ ys) = rw (none y) (all ys)
 
-pub current-data : {X : Type 0} (item : X → LineContent) → ((x : X) → section_of_header (item x) ≡ None) → (xs : List X) (before : List LineContent)
-    → current_section (before ++ map item xs) ≡ current_section before
-current-data item none [] before = ap current_section (append-nil before)
-current-data item none (x ∷ xs) before = grind (arith, append_assoc, current_section-push, current-data item none xs (before ++ item x ∷ []))
-
 other_section : (section : Section) (o current : Option Section) → is_section section current ≡ false → is_section section o ≡ false → is_section section (option_or o current) ≡ false
-other_section section v1 current h k = grind arith
+other_section section o current h k = grind arith
 
 under_other : (section : Section) (current : Option Section) (item : LineContent) → is_section section current ≡ false → fields_under section current item ≡ []
-under_other section current v2 h = grind arith
+under_other section current item h = grind arith
 
 lines_of_other : (section : Section) (before : List LineContent) (current : Option Section) → is_section section current ≡ false → has_section before section ≡ false → data_lines_after section current before ≡ []
 lines_of_other section [] current h k = refl

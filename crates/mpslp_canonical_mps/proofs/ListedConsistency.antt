@@ -1,50 +1,31 @@
 -- The canonical declarations of a well-formed listing are consistent, if no slot is filled twice.
-use Rattle.std.proofs.Common.{arith}
-use Rattle.std.proofs.Common.{rules}
-use Rattle.std.proofs.Common.{◌≡◌, refl, ap, ◌∙◌, List, [], ◌∷◌, ◌++◌, ℕ, Bool, true, false, not, cond, map}
-use Rattle.std.specs.Prelude.{Option, Some, None, is_some, filter, filter_map, ◌&&◌, ◌||◌}
-use Rattle.std.specs.List.{flat_map, list_all, list_any, cons_option}
-use Rattle.std.specs.Option.{option_map, option_map_or}
-use Rattle.std.specs.Cmp.{second_so}
-use Rattle.std.specs.Cmp.Lexicographic.{texts_ties}
-use Rattle.std.specs.FinMap.{find}
-use Rattle.mpslp_decimal.specs.Decimal.{Number, is_decimal, is_zero, is_infinite_size, negated, difference_of, have_same_value}
-use Rattle.mpslp_types.specs.Name.{same_bytes}
-use Rattle.mpslp_model_core.specs.Model.{Row, Column, CoefficientKey, key_cmp, Listing}
-use Rattle.mpslp_types.specs.Limit.{is_bounded_decimal, has_bounded_distance}
-use Rattle.mpslp_builder.specs.Declaration.{RowDefinition, by_type, Declaration, declare_objective, Declarations, at_name, has_name, has_row, has_column, is_integer, is_semi, is_objective, is_free_definition, is_free_row}
-use Rattle.mpslp_types.specs.Lists.{are_distinct}
-use Rattle.mpslp_builder.specs.Consistency.{is_known, is_allowed, has_objective_rhs, declares_objective, same_slot, all_slots, AreConsistent}
-use Rattle.mpslp_types.specs.declared.kinds.Sense.{Sense}
-use Rattle.mpslp_types.specs.declared.kinds.Sense.TheVariants.{Minimize, Maximize}
-use Rattle.mpslp_types.specs.declared.kinds.Kind.{Kind}
-use Rattle.mpslp_types.specs.declared.kinds.Kind.TheVariants.{Continuous, Integer, Semi}
-use Rattle.mpslp_types.specs.declared.kinds.Limit.{Limit}
-use Rattle.mpslp_types.specs.declared.kinds.Limit.TheVariants.{MinusInf, Finite, PlusInf}
-use Rattle.mpslp_types.specs.declared.kinds.RowType.TheVariants.{AtLeast, Equal}
-use Rattle.mpslp_types.proofs.BoolLemmas.{both_so, so_not, or_left, or_right, both_false}
-use Rattle.mpslp_types.proofs.EachLemmas.{Each, Each-weaker, Each-append, Each-map, Each-flat_map, Each-filter, Each-all, list_all-from_Each}
-use Rattle.mpslp_builder.proofs.BoundsLemmas.{is_semi_kind}
-use Rattle.mpslp_builder.proofs.LaterDrafts.{itself_named}
-use Rattle.mpslp_mps_fields.specs.declared.bound_types.BoundType.TheVariants as bounds
-use Rattle.mpslp_canonical_mps.proofs.RowsWalk.{RowItem, row_decl, Side, side_decl, range_decl}
-use Rattle.mpslp_canonical_mps.proofs.ColumnsWalk.{Cell, cell_decl, Group, cells_of}
-use Rattle.mpslp_canonical_mps.proofs.BoundsWalk.{BoundForm, fixed, free, no_lower, no_upper, semi_upper, Bound, bound_decl, decl_at}
-use Rattle.mpslp_canonical_mps.proofs.BoundsWalk as forms
-use Rattle.mpslp_canonical_mps.specs.PrintedValues.{bound_with_value, printed_type, printed_rhs, printed_range, PrintedBound, printed_lower, printed_upper, printed_bounds}
-use Rattle.mpslp_canonical_mps.specs.CanonicalMps.{cell_at, column_coefficients, printed_coefficients, is_integer_column, is_plain_column}
-use Rattle.mpslp_canonical_mps.proofs.PrintableLemmas.{Holds}
-use Rattle.mpslp_canonical_mps.proofs.CanonicalContents.{to_cell, cells_in, group_in, to_side, side_unless_zero, row_side, sides_in, row_range, form_of, value_in, to_bound, bounds_in}
-use Rattle.mpslp_canonical_mps.proofs.EarlyWalk.{sense_decl}
-use Rattle.mpslp_canonical_mps.proofs.ListedContents.{whole_of}
-use Rattle.mpslp_builder.proofs.EntryLemmas.{then_stated}
-use Rattle.mpslp_canonical_mps.proofs.WholeParts.{each-whole}
-use Rattle.mpslp_canonical_mps.proofs.ListedParts.{form_stated, listed_decl}
-use Rattle.mpslp_builder.proofs.NamedEntries.{at-mapped}
-use Rattle.mpslp_canonical_mps.proofs.DraftMaps.{IsSoundListing, drafted, row-at, columns-drafted, marked-at, integers-drafted, binaries-drafted, semis-at}
-use Rattle.mpslp_canonical_mps.proofs.CoefficientMap.{place_at}
+use Rattle.std.{proofs.Common.{arith, ◌≡◌, refl, ap, ◌∙◌, List, [], ◌∷◌, ◌++◌, ℕ, Bool, true, false, not, cond, map}, specs.Prelude.Option}
+use Rattle.std.specs.{Prelude.{Some, None, is_some, filter, filter_map, ◌&&◌, ◌||◌}, List.{flat_map, list_all, list_any}}
+use Rattle.std.specs.{Option.option_map_or, Cmp.{second_so, Lexicographic.texts_ties}}
+use Rattle.mpslp_decimal.specs.Decimal.{Number, is_decimal, is_zero, is_infinite_size, negated}
+use Rattle.mpslp_types.specs.{Name.same_bytes, Limit.{is_bounded_decimal, has_bounded_distance}, Lists.are_distinct}
+use Rattle.mpslp_types.specs.declared.kinds.{Sense.Sense, Kind.{Kind, TheVariants.{Continuous, Integer, Semi}}, Limit.Limit}
+use Rattle.mpslp_types.{specs.declared.kinds.Limit.TheVariants.{MinusInf, Finite, PlusInf}, proofs.BoolLemmas.{both_so, so_not, or_left}}
+use Rattle.mpslp_types.proofs.{BoolLemmas.{or_right, both_false}, EachLemmas.{Each, Each-weaker, Each-append, Each-map, Each-flat_map}}
+use Rattle.mpslp_types.proofs.EachLemmas.{Each-filter, Each-all, list_all-from_Each}
+use Rattle.mpslp_model_core.specs.Model.{Row, Column, CoefficientKey, Listing}
+use Rattle.mpslp_builder.specs.Declaration.{RowDefinition, by_type, Declaration, declare_objective, Declarations, at_name, has_name}
+use Rattle.mpslp_builder.specs.Declaration.{has_row, has_column, is_integer, is_semi, is_objective, is_free_definition, is_free_row}
+use Rattle.mpslp_builder.specs.Consistency.{is_known, is_allowed, declares_objective, same_slot, all_slots, AreConsistent}
+use Rattle.mpslp_builder.proofs.{BoundsLemmas.is_semi_kind, LaterDrafts.itself_named, EntryLemmas.then_stated, NamedEntries.at-mapped}
 use Rattle.mpslp_builder.proofs.SoundParts.{row_distance, column_suited}
-use Rattle.mpslp_canonical_mps.proofs.ListedMeaning.{constant-drafted, objective-drafted, other-name, IsOwnRow, own-rows, IsOwnColumn, own-columns}
+use Rattle.mpslp_mps_fields.specs.declared.bound_types.BoundType.TheVariants as bounds
+use Rattle.mpslp_canonical_mps.proofs.{RowsWalk.{RowItem, row_decl, Side, side_decl, range_decl}, ColumnsWalk.{Cell, cell_decl, Group}}
+use Rattle.mpslp_canonical_mps.proofs.{ColumnsWalk.cells_of, BoundsWalk.{BoundForm, semi_upper, Bound, bound_decl, decl_at}}
+use Rattle.mpslp_canonical_mps.proofs.{PrintableLemmas.Holds, CanonicalContents.{to_cell, cells_in, group_in, to_side, side_unless_zero}}
+use Rattle.mpslp_canonical_mps.proofs.CanonicalContents.{row_side, sides_in, row_range, form_of, value_in, to_bound, bounds_in}
+use Rattle.mpslp_canonical_mps.proofs.{EarlyWalk.sense_decl, ListedContents.whole_of, WholeParts.each-whole, ListedParts.form_stated}
+use Rattle.mpslp_canonical_mps.proofs.{ListedParts.listed_decl, DraftMaps.{IsSoundListing, drafted, row-at, columns-drafted, marked-at}}
+use Rattle.mpslp_canonical_mps.proofs.{DraftMaps.{integers-drafted, binaries-drafted, semis-at}, CoefficientMap.place_at}
+use Rattle.mpslp_canonical_mps.proofs.ListedMeaning.{constant-drafted, objective-drafted, other-name, IsOwnRow, own-rows, IsOwnColumn}
+use Rattle.mpslp_canonical_mps.{proofs.ListedMeaning.own-columns, specs.PrintedValues.{printed_type, printed_rhs, printed_range}}
+use Rattle.mpslp_canonical_mps.specs.{PrintedValues.{PrintedBound, printed_bounds}, CanonicalMps.{cell_at, column_coefficients}}
+use Rattle.mpslp_canonical_mps.specs.CanonicalMps.{printed_coefficients, is_integer_column, is_plain_column}
 
 -- ---- what exists
 
@@ -72,7 +53,7 @@ rows-of-cells P coefficients column [] h = tt
 rows-of-cells P coefficients column (row ∷ rows) h = grind (arith, place_at, rows-of-cells P coefficients column rows h.1)
 
 line_text-rows : (P : List ℕ → Type 0) (objective : List ℕ) (cells : List (List ℕ × Number)) → P objective → Each (λ cell. P cell.0) cells → Each (λ cell. P cell.0) (printed_coefficients objective cells)
-line_text-rows v0 objective v2 o h = grind arith
+line_text-rows P objective cells o h = grind arith
 
 known-cells : (m : Listing) → IsSoundListing m → (column : List ℕ × Column) → at_name m.columns column.0 ≡ Some column.1 → Each (KnownCell m) (cells_in m column)
 known-cells m h column is =
@@ -98,17 +79,17 @@ known-side : (m : Listing) (row : List ℕ) (value : Number) → has_row (drafte
 known-side m row value k = elim (is_zero value) as (λ b. Each (λ (side : Side). Each (Known m) (side_decl side)) (cond b [] (to_side row value ∷ []))) [ true ↦ tt | false ↦ ((k, tt), tt) ]
 
 known-range : (m : Listing) (row : List ℕ) (o : Option Number) → has_row (drafted m) row ≡ true → Each (λ (side : Side). Each (Known m) (range_decl side)) (option_map_or (λ value. to_side row value ∷ []) o [])
-known-range m row v2 k = grind arith
+known-range m row o k = grind arith
 
 known-form : (m : Listing) (form : BoundForm) (x : List ℕ) (v : Number) → has_column (drafted m) x ≡ true → Each (Known m) (decl_at form x v)
-known-form m v1 x v k = grind arith
+known-form m form x v k = grind arith
 
 known-bounds : (m : Listing) (name : List ℕ) → has_column (drafted m) name ≡ true → (line_text : List PrintedBound) → Each (λ (b : Bound). Each (Known m) (bound_decl b)) (map (to_bound name) line_text)
 known-bounds m name k [] = tt
 known-bounds m name k (bound ∷ line_text) = (known-form m (to_bound name bound).form name (to_bound name bound).value k, known-bounds m name k line_text)
 
 known-sense : (m : Listing) (s : Sense) → Each (Known m) (sense_decl s)
-known-sense m v1 = grind arith
+known-sense m s = grind arith
 
 pub all-known : (m : Listing) → IsSoundListing m → list_all (is_known (drafted m)) (listed_decl m) ≡ true
 all-known m h = list_all-from_Each (is_known (drafted m)) (listed_decl m) (each-whole (Known m) (whole_of m) (record {
@@ -133,7 +114,7 @@ abbrev Allowed : Listing → Declaration → Type 0
 Allowed m d = is_allowed (drafted m) d ≡ true
 
 range-not_free : (l u : Limit) (d : Number) → printed_range l u ≡ Some d → is_free_definition (by_type (printed_type l u)) ≡ false
-range-not_free v0 v1 d e = grind arith
+range-not_free l u d e = grind arith
 
 range-bounded : (l u : Limit) → has_bounded_distance l u ≡ true → Holds (λ d. is_bounded_decimal d ≡ true) (printed_range l u)
 range-bounded MinusInf u h = tt
@@ -176,7 +157,7 @@ own-integer : (m : Listing) → IsSoundListing m → (column : List ℕ × Colum
 own-integer m h column k = grind (arith, marked-at, integers-drafted, binaries-drafted)
 
 integer-not_semi : (kind : Kind) (l u : Limit) → is_integer_column ([], record { kind = kind; lower = l; upper = u }) ≡ true → is_semi_kind kind ≡ false
-integer-not_semi v0 l u h = grind arith
+integer-not_semi kind l u h = grind arith
 
 abbrev AllowedCell : Listing → Cell → Type 0
 AllowedCell m cell = Each (Allowed m) (cell_decl true cell)
@@ -200,7 +181,7 @@ is_semi_form semi_upper = true
 is_semi_form _ = false
 
 allowed-form : (m : Listing) (form : BoundForm) (x : List ℕ) (v : Number) → (is_semi_form form ≡ true → is_integer (drafted m) x ≡ false) → Each (Allowed m) (decl_at form x v)
-allowed-form m v1 x v h = grind arith
+allowed-form m form x v h = grind arith
 
 allowed-line_text : (m : Listing) (name : List ℕ) (line_text : List PrintedBound) → Each (λ (b : PrintedBound). is_semi_form (form_of b.type) ≡ true → is_integer (drafted m) name ≡ false) line_text
     → Each (λ (b : Bound). Each (Allowed m) (bound_decl b)) (map (to_bound name) line_text)
@@ -211,11 +192,8 @@ allowed-line_text m name (bound ∷ line_text) h = (allowed-form m (form_of boun
 abbrev HasNoSemi : PrintedBound → Type 0
 HasNoSemi bound = is_semi_form (form_of bound.type) ≡ false
 
-lower-plain : (l : Limit) → Each HasNoSemi (printed_lower l)
-lower-plain v0 = grind arith
-
 integer-plain : (l u : Limit) → Each HasNoSemi (printed_bounds Integer l u)
-integer-plain v0 v1 = grind arith
+integer-plain l u = grind arith
 
 allowed-bounds : (m : Listing) → IsSoundListing m → (column : List ℕ × Column) → IsOwnColumn m column → Each (λ (b : Bound). Each (Allowed m) (bound_decl b)) (bounds_in column)
 allowed-bounds m h column k = allowed-line_text m column.0 (printed_bounds column.1.kind column.1.lower column.1.upper) (by column.1.kind column.1.lower column.1.upper (own-integer m h column k))
@@ -232,7 +210,7 @@ allowed-bounds m h column k = allowed-line_text m column.0 (printed_bounds colum
     by Semi l u e = Each-all (λ (b : PrintedBound). is_semi_form (form_of b.type) ≡ true → is_integer (drafted m) column.0 ≡ false) (λ _ _. e) (printed_bounds Semi l u)
 
 allowed-sense : (m : Listing) (s : Sense) → Each (Allowed m) (sense_decl s)
-allowed-sense m v1 = grind arith
+allowed-sense m s = grind arith
 
 pub all-allowed : (m : Listing) → IsSoundListing m → list_all (is_allowed (drafted m)) (listed_decl m) ≡ true
 all-allowed m h = list_all-from_Each (is_allowed (drafted m)) (listed_decl m) (each-whole (Allowed m) (whole_of m) (record {
@@ -251,7 +229,7 @@ all-allowed m h = list_all-from_Each (is_allowed (drafted m)) (listed_decl m) (e
 -- ---- the objective
 
 named-first : (name : List ℕ) (s : Sense) (more : Declarations) → list_any declares_objective (sense_decl s ++ (declare_objective name ∷ more)) ≡ true
-named-first name v1 more = grind arith
+named-first name s more = grind arith
 
 -- The canonical declarations of a well-formed listing are consistent, if no slot is filled twice.
 pub consistent-if_once : (m : Listing) → IsSoundListing m → are_distinct same_slot (all_slots (listed_decl m)) ≡ true → AreConsistent (listed_decl m)

@@ -1,39 +1,24 @@
 -- The items that are read in the canonical lines of a listing are those of all its sections.
-use Rattle.std.proofs.Common.{arith}
-use Rattle.std.proofs.Common.{rules}
-use Rattle.std.proofs.Common.{◌≡◌, refl, ap, ◌∙◌, List, [], ◌∷◌, ◌++◌, ℕ, true, false, cond, map}
-use Rattle.std.specs.Prelude.{Option, Some, None, filter, codes}
-use Rattle.std.specs.List.{flat_map}
-use Rattle.std.proofs.lemmas.List.{map-append}
-use Rattle.mpslp_decimal.specs.Decimal.{Number, is_zero, negated}
+use Rattle.std.{proofs.{Common.{arith, ◌≡◌, refl, ◌∙◌, List, [], ◌∷◌, ◌++◌, ℕ, true, map}, lemmas.List.map-append}, specs.Prelude.Option}
+use Rattle.std.specs.{Prelude.{filter, codes}, List.flat_map}
+use Rattle.mpslp_decimal.specs.Decimal.{Number}
 use Rattle.mpslp_model_core.specs.Model.{Column, Listing}
-use Rattle.mpslp_types.specs.declared.kinds.Sense.{Sense}
-use Rattle.mpslp_types.specs.declared.kinds.Sense.TheVariants.{Minimize, Maximize}
-use Rattle.mpslp_types.specs.declared.kinds.Kind.{Kind}
-use Rattle.mpslp_types.specs.declared.kinds.Kind.TheVariants.{Continuous, Integer, Semi}
-use Rattle.mpslp_types.specs.declared.kinds.Limit.{Limit}
-use Rattle.mpslp_types.specs.declared.kinds.Limit.TheVariants.{MinusInf, Finite, PlusInf}
-use Rattle.mpslp_types.proofs.EachLemmas.{Each, Each-append}
-use Rattle.mpslp_mps_fields.specs.Line.{LineContent}
-use Rattle.mpslp_mps_fields.specs.DataLine.{closing_word}
-use Rattle.mpslp_mps_fields.specs.declared.sections.Section.TheVariants.{Name, Rows, Columns, Rhs, Ranges, Bounds, EndData}
-use Rattle.mpslp_mps_fields.specs.declared.bound_types.BoundType.{BoundType}
+use Rattle.mpslp_types.{specs.declared.kinds.{Sense.Sense, Kind.Kind, Limit.Limit}, proofs.EachLemmas.Each}
+use Rattle.mpslp_mps_fields.specs.{Line.LineContent, declared.{sections.Section.TheVariants.Columns, bound_types.BoundType.BoundType}}
 use Rattle.mpslp_mps_fields.specs.declared.bound_types.BoundType.TheVariants as bounds
-use Rattle.mpslp_canonical_mps.proofs.ColumnsWalk.{Cell, cell_item, cells_of}
-use Rattle.mpslp_canonical_mps.proofs.BoundsWalk.{bound_item}
-use Rattle.mpslp_canonical_mps.proofs.HeaderWalk.{header_item}
-use Rattle.mpslp_canonical_mps.specs.PrintedDeclarations.{content_in}
-use Rattle.mpslp_canonical_mps.specs.PrintedValues.{is_fixed, PrintedBound, printed_lower, printed_upper, printed_bounds}
-use Rattle.mpslp_canonical_mps.specs.CanonicalMps.{Lines, sense_lines, rows_section, column_lines, is_integer_column, is_plain_column, marker_line, integer_part, columns_section, rhs_lines, row_rhs_lines, rhs_section, range_lines, ranges_section, bound_line, column_bound_lines, bounds_section, header_line, listed_lines}
-use Rattle.mpslp_canonical_mps.proofs.CanonicalContents.{items_in, flat-items, to_row, row-items, group_in, column-items, sides_in, sides-items, row_range, ranges-items, to_bound, is_fit, bounds_in, under, under-items}
-use Rattle.mpslp_canonical_mps.proofs.EarlyWalk.{sense_items, objective_item, marker_item, part_items}
-use Rattle.mpslp_canonical_mps.proofs.WholeWalk.{Whole, whole_items}
+use Rattle.mpslp_canonical_mps.proofs.{ColumnsWalk.{Cell, cell_item, cells_of}, BoundsWalk.bound_item, HeaderWalk.header_item}
+use Rattle.mpslp_canonical_mps.proofs.CanonicalContents.{items_in, flat-items, to_row, row-items, group_in, column-items, sides_in}
+use Rattle.mpslp_canonical_mps.proofs.CanonicalContents.{sides-items, row_range, ranges-items, to_bound, is_fit, bounds_in, under}
+use Rattle.mpslp_canonical_mps.proofs.{CanonicalContents.under-items, EarlyWalk.{sense_items, objective_item, marker_item, part_items}}
+use Rattle.mpslp_canonical_mps.{proofs.WholeWalk.{Whole, whole_items}, specs.{PrintedDeclarations.content_in, PrintedValues.PrintedBound}}
+use Rattle.mpslp_canonical_mps.specs.{PrintedValues.printed_bounds, CanonicalMps.{Lines, sense_lines, is_integer_column, is_plain_column}}
+use Rattle.mpslp_canonical_mps.specs.CanonicalMps.{integer_part, columns_section, bound_line, column_bound_lines, listed_lines}
 
 -- ---- bounds
 
 fit-item : (column : List ℕ) (type : BoundType) (value : Option Number) → is_fit (record { type = type; value = value }) ≡ true
     → content_in (bound_line column (record { type = type; value = value })) ≡ bound_item (codes "BND") (to_bound column (record { type = type; value = value }))
-fit-item column v1 v2 h = grind arith
+fit-item column type value h = grind arith
 
 abbrev AllFit : List PrintedBound → Type 0
 AllFit bs = Each (λ (b : PrintedBound). is_fit b ≡ true) bs
@@ -42,17 +27,8 @@ fit-items : (column : List ℕ) (bs : List PrintedBound) → AllFit bs → items
 fit-items column [] h = refl
 fit-items column (b ∷ bs) h = λ i. fit-item column b.type b.value h.0 i ∷ fit-items column bs h.1 i
 
-lower-fit : (lower : Limit) → AllFit (printed_lower lower)
-lower-fit v0 = grind arith
-
-upper-fit : (kind : Kind) (upper : Limit) → AllFit (printed_upper kind upper)
-upper-fit v0 v1 = grind arith
-
-both-fit : (kind : Kind) (lower upper : Limit) → AllFit (printed_lower lower ++ printed_upper kind upper)
-both-fit kind lower upper = Each-append (λ (b : PrintedBound). is_fit b ≡ true) (printed_lower lower) (printed_upper kind upper) (lower-fit lower) (upper-fit kind upper)
-
 bounds-fit : (kind : Kind) (lower upper : Limit) → AllFit (printed_bounds kind lower upper)
-bounds-fit kind v1 v2 = grind arith
+bounds-fit kind lower upper = grind arith
 
 bounds-items : (columns : List (List ℕ × Column)) → items_in (flat_map column_bound_lines columns) ≡ map (bound_item (codes "BND")) (flat_map bounds_in columns)
 bounds-items columns = grind (arith, flat-items, bound_item, bounds_in, fit-items, bounds-fit)
@@ -70,10 +46,10 @@ whole_of m = record {
 }
 
 sense-items : (sense : Sense) → items_in (sense_lines sense) ≡ sense_items sense
-sense-items v0 = grind arith
+sense-items sense = grind arith
 
 part-items : (lines : Lines) (cells : List Cell) → items_in lines ≡ map cell_item cells → items_in (integer_part lines) ≡ part_items cells
-part-items v0 v1 h = grind (arith, marker_item, map-append)
+part-items lines cells h = grind (arith, marker_item, map-append)
 
 -- the items of lines after others
 follow : (xs ys : Lines) (is js : List LineContent) → items_in xs ≡ is → items_in ys ≡ js → items_in (xs ++ ys) ≡ is ++ js

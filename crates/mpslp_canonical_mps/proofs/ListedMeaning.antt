@@ -1,52 +1,33 @@
 -- The draft of the canonical declarations of a well-formed model means the model.
-use Rattle.std.proofs.Common.{arith}
-use Rattle.std.proofs.Common.{rules}
-use Rattle.std.proofs.Common.{◌≡◌, refl, sym, ap, ◌∙◌, List, [], ◌∷◌, ◌++◌, ℕ, zero, suc, Bool, true, false, not, cond, map}
-use Rattle.std.specs.Prelude.{ℤ, pos, negsuc, neg_ℤ, Option, Some, None, is_some, unwrap_or, ◌&&◌}
-use Rattle.std.specs.List.{list_all}
-use Rattle.std.specs.Ordering.{eq_by_cmp, is_eq}
-use Rattle.std.specs.declared.cmp.Ordering.{Ordering}
-use Rattle.std.specs.Cmp.{first_so, second_so, tied_itself}
-use Rattle.mpslp_decimal.specs.Decimal.{Number, IsDecimal, is_decimal, is_infinite_size, zero_number, negated, difference_of, have_same_value}
-use Rattle.mpslp_decimal.proofs.NumberTextLemmas.{zero-is}
-use Rattle.mpslp_decimal.proofs.OrderLemmas.{same_decimal}
+use Rattle.std.{proofs.Common.{arith, ◌≡◌, refl, sym, ap, ◌∙◌, List, [], ◌∷◌, ◌++◌, ℕ, Bool, true, false, not, map}, specs.Prelude.Option}
+use Rattle.std.specs.{Prelude.{Some, None, is_some, unwrap_or, ◌&&◌}, List.list_all, Ordering.eq_by_cmp}
+use Rattle.mpslp_decimal.specs.Decimal.{Number, IsDecimal, is_infinite_size, zero_number, negated, have_same_value}
+use Rattle.mpslp_decimal.proofs.{NumberTextLemmas.zero-is, OrderLemmas.same_decimal}
 use Rattle.mpslp_model_core.specs.Model.{LinearModel, Row, Column, is_sound_row, is_sound_column, IsSound, Listing, listing_of}
-use Rattle.mpslp_types.specs.Name.{bytes_cmp}
-use Rattle.mpslp_types.specs.Limit.{is_bounded_decimal, is_lower_side, is_upper_side, are_sides}
-use Rattle.mpslp_builder.specs.Declaration.{RowDefinition, by_type, Declaration, declare_sense, declare_objective, declare_row, declare_rhs, declare_range, declare_column, declare_coefficient, declare_lower, declare_upper, declare_marked, declare_semi, Declarations, Draft, empty_draft, with_declaration, with_declarations, at_name, has_name}
-use Rattle.mpslp_model_core.specs.Limits.{limits_of, plain_limits, has_infinite_rhs}
-use Rattle.mpslp_builder.specs.Meaning.{column_of, objective_name, constant_of, rhs_or_zero, row_limits, row_entry, row_passes, DraftMeans}
-use Rattle.mpslp_types.specs.declared.kinds.Sense.{Sense}
-use Rattle.mpslp_types.specs.declared.kinds.Sense.TheVariants.{Minimize, Maximize}
-use Rattle.mpslp_types.specs.declared.kinds.Limit.{Limit}
-use Rattle.mpslp_types.specs.declared.kinds.Limit.TheVariants.{MinusInf, Finite, PlusInf}
-use Rattle.mpslp_types.specs.declared.kinds.RowType.TheVariants.{Free, AtLeast, Equal}
-use Rattle.mpslp_types.proofs.BoolLemmas.{so_not}
+use Rattle.mpslp_model_core.{specs.Limits.{plain_limits, has_infinite_rhs}, proofs.PutsLemmas.equal_from}
+use Rattle.mpslp_types.specs.{Name.bytes_cmp, Limit.{is_bounded_decimal, is_lower_side, is_upper_side, are_sides}}
+use Rattle.mpslp_types.specs.declared.kinds.{Sense.{Sense, TheVariants.{Minimize, Maximize}}, Limit.{Limit, TheVariants.{MinusInf, Finite}}}
+use Rattle.mpslp_types.{specs.declared.kinds.{Limit.TheVariants.PlusInf, RowType.TheVariants.Free}, proofs.BoolLemmas.so_not}
 use Rattle.mpslp_types.proofs.EachLemmas.{Each, Each-weaker, Each-both, Each-map, Each-all, list_all-from_Each}
-use Rattle.mpslp_model_core.proofs.PutsLemmas.{equal_from}
-use Rattle.mpslp_builder.proofs.RowLemmas.{row_back, side-stated}
-use Rattle.mpslp_builder.proofs.BoundsLemmas.{column_back}
-use Rattle.mpslp_builder.proofs.SortedDrafts.{bytes_total, tied_names}
-use Rattle.mpslp_builder.proofs.GivenBack.{model-back, columns-back, no-negative_upper, binary-within}
-use Rattle.mpslp_builder.proofs.KeptParts.{Stays, stays-all}
-use Rattle.mpslp_canonical_mps.proofs.RowsWalk.{RowItem, row_decl, Side, side_decl, range_decl}
-use Rattle.mpslp_canonical_mps.proofs.ColumnsWalk.{Cell, cell_decl, cells_of}
+use Rattle.mpslp_builder.specs.Declaration.{RowDefinition, by_type, Declaration, declare_sense, declare_objective, declare_row, declare_rhs}
+use Rattle.mpslp_builder.specs.Declaration.{declare_range, declare_column, declare_coefficient, declare_lower, declare_upper}
+use Rattle.mpslp_builder.specs.Declaration.{declare_marked, declare_semi, Declarations, Draft, empty_draft, with_declarations, at_name}
+use Rattle.mpslp_builder.specs.{Declaration.has_name, Meaning.{column_of, constant_of, rhs_or_zero, row_limits, row_entry, row_passes}}
+use Rattle.mpslp_builder.{specs.Meaning.DraftMeans, proofs.{RowLemmas.{row_back, side-stated}, BoundsLemmas.column_back}}
+use Rattle.mpslp_builder.proofs.{SortedDrafts.{bytes_total, tied_names}, GivenBack.{model-back, columns-back, no-negative_upper}}
+use Rattle.mpslp_builder.proofs.{GivenBack.binary-within, KeptParts.{Stays, stays-all}, EntryLemmas.{first_there, then_stated, stated}}
+use Rattle.mpslp_builder.proofs.{NamedEntries.own-found, SoundParts.{row_sides, row_distance, column_sides, column_suited, bounded_so}}
+use Rattle.mpslp_builder.proofs.SoundParts.{lower_of, upper_of}
+use Rattle.mpslp_canonical_mps.proofs.{RowsWalk.{RowItem, row_decl, Side, side_decl, range_decl}, ColumnsWalk.{Cell, cell_decl, cells_of}}
 use Rattle.mpslp_canonical_mps.proofs.BoundsWalk.{BoundForm, fixed, free, no_lower, no_upper, semi_upper, Bound, bound_decl, decl_at}
-use Rattle.mpslp_canonical_mps.proofs.BoundsWalk as forms
+use Rattle.mpslp_canonical_mps.proofs.{PrintableLemmas.{side-decimal, negated-decimal}, EarlyWalk.sense_decl, WholeWalk.{Whole, whole_decl}}
+use Rattle.mpslp_canonical_mps.proofs.{ListedContents.whole_of, WholeParts.each-whole, ListedParts.{form_stated, value_stated, side_stated}}
+use Rattle.mpslp_canonical_mps.proofs.ListedParts.{range_stated, column_lower, column_upper, row_forms, listed_decl}
+use Rattle.mpslp_canonical_mps.proofs.DraftMaps.{IsSoundListing, drafted, rows-drafted, right_side-at, range-at, lower-at, upper-at}
+use Rattle.mpslp_canonical_mps.proofs.DraftMaps.{columns-drafted, marked-at, integers-drafted, binaries-drafted, semis-at}
+use Rattle.mpslp_canonical_mps.proofs.{CoefficientMap.coefficients-kept, ListingFacts.sound-listing, GoodWhole.objective-no-row}
 use Rattle.mpslp_canonical_mps.specs.PrintedValues.{printed_type, printed_rhs, printed_range}
-use Rattle.mpslp_canonical_mps.proofs.PrintableLemmas.{side-decimal, negated-decimal}
-use Rattle.mpslp_canonical_mps.proofs.EarlyWalk.{sense_decl}
-use Rattle.mpslp_canonical_mps.proofs.WholeWalk.{Whole, whole_decl}
-use Rattle.mpslp_canonical_mps.proofs.ListedContents.{whole_of}
-use Rattle.mpslp_builder.proofs.EntryLemmas.{first_there, then_stated, stated}
-use Rattle.mpslp_canonical_mps.proofs.WholeParts.{each-whole}
-use Rattle.mpslp_canonical_mps.proofs.ListedParts.{form_stated, value_stated, side_stated, range_stated, column_lower, column_upper, row_forms, listed_decl}
-use Rattle.mpslp_builder.proofs.NamedEntries.{own-found}
-use Rattle.mpslp_canonical_mps.proofs.DraftMaps.{IsSoundListing, drafted, rows-drafted, right_side-at, range-at, lower-at, upper-at, columns-drafted, marked-at, integers-drafted, binaries-drafted, semis-at}
-use Rattle.mpslp_canonical_mps.proofs.CoefficientMap.{coefficients-kept}
-use Rattle.mpslp_builder.proofs.SoundParts.{row_sides, row_distance, column_sides, column_suited, bounded_so, lower_of, upper_of}
-use Rattle.mpslp_canonical_mps.proofs.ListingFacts.{sound-listing}
-use Rattle.mpslp_canonical_mps.proofs.GoodWhole.{objective-no-row}
+use Rattle.mpslp_canonical_mps.proofs.BoundsWalk as forms
 
 -- ---- what is declared once, or not at all
 
@@ -85,7 +66,7 @@ each-kind P w sense h = each-whole P w (record {
     of_form semi_upper x v = (h.of_semi x, (h.of_upper x (Finite v), tt))
 
 sense-keeps : {X : Type 0} (part : Draft → X) (value : X) (s : Sense) → ((t : Sense) → Stays part value (declare_sense t)) → Each (Stays part value) (sense_decl s)
-sense-keeps part value v2 h = grind arith
+sense-keeps part value s h = grind arith
 
 pub constant-drafted : (m : Listing) → (drafted m).constant ≡ None
 constant-drafted m =
@@ -106,7 +87,7 @@ constant-drafted m =
 -- from the objective on
 first-named : (name : List ℕ) (s : Sense) (more : Declarations) → Each (Stays (λ d. d.objective) (Some name)) (sense_decl s ++ (declare_objective name ∷ more))
     → (with_declarations empty_draft (sense_decl s ++ (declare_objective name ∷ more))).objective ≡ Some name
-first-named name v1 more h = grind (arith, stays-all)
+first-named name s more h = grind (arith, stays-all)
 
 pub objective-drafted : (m : Listing) → (drafted m).objective ≡ Some m.objective
 objective-drafted m =
@@ -129,13 +110,13 @@ stated_sense Minimize = None
 stated_sense Maximize = Some Maximize
 
 first-sense : (s : Sense) (more : Declarations) → Each (Stays (λ d. d.sense) (stated_sense s)) (sense_decl s ++ more) → (with_declarations empty_draft (sense_decl s ++ more)).sense ≡ stated_sense s
-first-sense v0 more h = grind (arith, stays-all)
+first-sense s more h = grind (arith, stays-all)
 
 own_sense : (s : Sense) → Each (Stays (λ d. d.sense) (stated_sense s)) (sense_decl s)
-own_sense v0 = grind arith
+own_sense s = grind arith
 
 sense-back : (s : Sense) → unwrap_or (stated_sense s) Minimize ≡ s
-sense-back v0 = grind arith
+sense-back s = grind arith
 
 pub sense-drafted : (m : Listing) → unwrap_or (drafted m).sense Minimize ≡ m.sense
 sense-drafted m =
@@ -160,7 +141,7 @@ negated-twice : (d : Number) → negated (negated d) ≡ d
 negated-twice d = grind arith
 
 stated-own : (q : List ℕ) (o : Option Number) → at_name (stated q o) q ≡ o
-stated-own q v1 = grind (arith, bytes_total)
+stated-own q o = grind (arith, bytes_total)
 
 value-back : (d : Number) → IsDecimal d → unwrap_or (value_stated d) zero_number ≡ d
 value-back d h = side-stated d (zero-is d h)
@@ -171,10 +152,10 @@ constant-back m h = grind (arith, drafted, objective-drafted, value_stated, righ
 -- ---- rows
 
 stated-other : (q name : List ℕ) (o : Option Number) → eq_by_cmp bytes_cmp q name ≡ false → at_name (stated name o) q ≡ None
-stated-other q name v2 h = grind arith
+stated-other q name o h = grind arith
 
 first_none : {X : Type 0} (o : Option X) → first_there o None ≡ o
-first_none v0 = grind arith
+first_none o = grind arith
 
 no_some : {X : Type 0} (x : X) → ◌≡◌ {A = Option X} None (Some x) → ⊥
 no_some x e = cc
@@ -251,13 +232,13 @@ each-column_back m h = Each-weaker (IsOwnColumn m) (λ column. column_of (drafte
 -- ---- right-hand sides
 
 and_false : (a b : Bool) → a ≡ false → (a && b) ≡ false
-and_false v0 b h = grind arith
+and_false a b h = grind arith
 
 finite_size : (a : Number) → is_bounded_decimal a ≡ true → is_infinite_size a ≡ false
 finite_size a h = grind arith
 
 finite-side : (l u : Limit) → are_sides l u ≡ true → has_infinite_rhs (by_type (printed_type l u)) (printed_rhs l u) (printed_range l u) ≡ false
-finite-side v0 v1 h = grind (arith, and_false, finite_size)
+finite-side l u h = grind (arith, and_false, finite_size)
 
 finite-row : (m : Listing) → IsSoundListing m → (row : List ℕ × Row) → IsOwnRow m row → not (row_passes (drafted m) has_infinite_rhs (stated_row row)) ≡ true
 finite-row m h row k = grind (arith, so_not, drafted, form_stated, side-back, range-back, finite-side, row_sides)

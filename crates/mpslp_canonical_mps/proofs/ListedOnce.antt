@@ -1,30 +1,15 @@
 -- The coefficients of a well-formed listing fill different slots.
-use Rattle.std.proofs.Common.{arith}
-use Rattle.std.proofs.Common.{rules}
-use Rattle.std.proofs.Common.{◌≡◌, refl, ◌∙◌, List, [], ◌∷◌, ◌++◌, ℕ, true, false, not, map}
-use Rattle.std.specs.Prelude.{◌||◌}
-use Rattle.std.specs.List.{flat_map, list_any}
-use Rattle.std.specs.Cmp.{first_so, second_so}
-use Rattle.std.specs.Cmp.Lexicographic.{nat_list_eq_equiv}
-use Rattle.std.specs.FinMap.{is_sorted}
-use Rattle.std.specs.FinMap.Entries.{below_all}
+use Rattle.std.{proofs.Common.{arith, rules, ◌≡◌, refl, List, [], ◌∷◌, ◌++◌, ℕ, true, false, map}, specs.List.{flat_map, list_any}}
+use Rattle.std.specs.{Cmp.{second_so, Lexicographic.nat_list_eq_equiv}, FinMap.{is_sorted, Entries.below_all}, Prelude.◌||◌}
 use Rattle.mpslp_decimal.specs.Decimal.{Number}
-use Rattle.mpslp_types.specs.Name.{same_bytes, is_one_of, bytes_cmp}
-use Rattle.mpslp_model_core.specs.Model.{Column, Listing}
-use Rattle.mpslp_builder.specs.Declaration.{names_in}
-use Rattle.mpslp_types.specs.Lists.{are_distinct}
-use Rattle.mpslp_builder.specs.Consistency.{Slot, same_slot}
-use Rattle.mpslp_types.proofs.BoolLemmas.{both_so, so_not}
+use Rattle.mpslp_types.{specs.{Name.{same_bytes, is_one_of, bytes_cmp}, Lists.are_distinct}, proofs.BoolLemmas.{both_so, so_not}}
 use Rattle.mpslp_types.proofs.EachLemmas.{Each, Each-weaker, Each-append, Each-map, Each-flat_map, Each-all}
-use Rattle.mpslp_builder.proofs.DistinctLemmas.{IsNew, Apart, distinct-flat_map, distinct-sorted}
-use Rattle.mpslp_builder.proofs.SlotLemmas.{same_name}
-use Rattle.mpslp_builder.proofs.SortedDrafts.{bytes_total}
-use Rattle.mpslp_canonical_mps.proofs.ColumnsWalk.{Cell}
-use Rattle.mpslp_canonical_mps.specs.CanonicalMps.{column_coefficients, printed_coefficients}
-use Rattle.mpslp_canonical_mps.proofs.CanonicalContents.{to_cell, cells_in}
-use Rattle.mpslp_canonical_mps.proofs.DraftMaps.{IsSoundListing}
-use Rattle.mpslp_builder.proofs.SoundParts.{later_differ}
-use Rattle.mpslp_canonical_mps.proofs.ListedSlots.{cell_slot, column-new, column-distinct}
+use Rattle.mpslp_model_core.specs.Model.{Column, Listing}
+use Rattle.mpslp_builder.{specs.Consistency.{Slot, same_slot}, proofs.DistinctLemmas.{IsNew, Apart, distinct-flat_map, distinct-sorted}}
+use Rattle.mpslp_builder.proofs.{SlotLemmas.same_name, SortedDrafts.bytes_total, SoundParts.later_differ}
+use Rattle.mpslp_canonical_mps.proofs.{ColumnsWalk.Cell, CanonicalContents.{to_cell, cells_in}, DraftMaps.IsSoundListing}
+use Rattle.mpslp_canonical_mps.{proofs.ListedSlots.{cell_slot, column-new, column-distinct}, specs.CanonicalMps.column_coefficients}
+use Rattle.mpslp_canonical_mps.specs.CanonicalMps.{printed_coefficients}
 
 pub any-turned : (q : List ℕ) (names : List (List ℕ)) → list_any (λ later. same_bytes later q) names ≡ is_one_of names q
 any-turned q [] = refl
@@ -38,7 +23,7 @@ column_slots m column = flat_map cell_slot (cells_in m column)
 
 line_text-distinct : (column objective : List ℕ) (cells : List (List ℕ × Number)) → are_distinct same_slot (flat_map cell_slot (map (to_cell column) cells)) ≡ true
     → are_distinct same_slot (flat_map cell_slot (map (to_cell column) (printed_coefficients objective cells))) ≡ true
-line_text-distinct column objective v2 h = grind arith
+line_text-distinct column objective cells h = grind arith
 
 own-distinct : (m : Listing) → IsSoundListing m → (column : List ℕ × Column) → are_distinct same_slot (column_slots m column) ≡ true
 own-distinct m h column = search (rules, line_text-distinct, column-distinct, rows-distinct)

@@ -1,35 +1,23 @@
 -- What the declarations of a listing's canonical text put into each map.
-use Rattle.std.proofs.Common.{arith}
-use Rattle.std.proofs.Common.{rules}
-use Rattle.std.proofs.Common.{◌≡◌, refl, ap, ◌∙◌, List, [], ◌∷◌, ◌++◌, ℕ, Bool, true, false, cond, map}
-use Rattle.std.specs.Prelude.{Option, Some, None, filter}
-use Rattle.std.specs.List.{flat_map}
-use Rattle.std.specs.Option.{option_map_or}
-use Rattle.std.proofs.lemmas.List.{append-nil}
-use Rattle.std.proofs.lemmas.List.Concat.{flat_map-append}
+use Rattle.std.proofs.{Common.{arith, ◌≡◌, refl, ap, ◌∙◌, List, [], ◌∷◌, ◌++◌, ℕ, true, false, cond, map}, lemmas.List.append-nil}
+use Rattle.std.{proofs.lemmas.List.Concat.flat_map-append, specs.{Prelude.{Option, Some, None, filter}, List.flat_map}}
 use Rattle.mpslp_decimal.specs.Decimal.{Number, is_zero, negated, have_same_value}
 use Rattle.mpslp_model_core.specs.Model.{Row, Column, CoefficientKey, Listing}
-use Rattle.mpslp_builder.specs.Declaration.{RowDefinition, by_type, Declaration, declare_sense, declare_objective, declare_row, declare_rhs, declare_range, declare_lower, declare_upper, declare_semi, Declarations}
-use Rattle.mpslp_types.specs.declared.kinds.Sense.{Sense}
-use Rattle.mpslp_types.specs.declared.kinds.Kind.{Kind}
-use Rattle.mpslp_types.specs.declared.kinds.Kind.TheVariants.{Continuous, Integer, Semi}
-use Rattle.mpslp_types.specs.declared.kinds.Limit.{Limit}
+use Rattle.mpslp_builder.specs.Declaration.{RowDefinition, by_type, Declaration, declare_sense, declare_objective, declare_row, declare_rhs}
+use Rattle.mpslp_builder.specs.Declaration.{declare_range, declare_lower, declare_upper, declare_semi, Declarations}
+use Rattle.mpslp_builder.proofs.{BoundsLemmas.{lower_stated, upper_stated}, CoefficientLemmas.flat_map-flat_map, DraftLemmas.row_part}
+use Rattle.mpslp_builder.proofs.DraftLemmas.{rhs_part, range_part, column_part, coefficient_part, lower_part, upper_part, marked_part}
+use Rattle.mpslp_builder.proofs.{DraftLemmas.{integer_part, binary_part, semi_part}, EntryLemmas.{stated, all_stated}, FlatLemmas.flat-none}
+use Rattle.mpslp_builder.proofs.FlatLemmas.{flat-same}
+use Rattle.mpslp_types.specs.declared.kinds.{Sense.Sense, Kind.{Kind, TheVariants.{Continuous, Integer, Semi}}, Limit.Limit}
 use Rattle.mpslp_types.specs.declared.kinds.Limit.TheVariants.{MinusInf, Finite, PlusInf}
-use Rattle.mpslp_builder.proofs.BoundsLemmas.{unless_zero, fixed, lower_stated, upper_stated}
-use Rattle.mpslp_builder.proofs.CoefficientLemmas.{flat_map-flat_map}
-use Rattle.mpslp_builder.proofs.DraftLemmas.{row_part, rhs_part, range_part, column_part, coefficient_part, lower_part, upper_part, marked_part, integer_part, binary_part, semi_part}
 use Rattle.mpslp_mps_fields.specs.declared.bound_types.BoundType.TheVariants as bounds
-use Rattle.mpslp_canonical_mps.proofs.RowsWalk.{row_decl, Side, side_decl, range_decl}
-use Rattle.mpslp_canonical_mps.proofs.ColumnsWalk.{Cell, cell_decl, cells_of}
-use Rattle.mpslp_canonical_mps.proofs.BoundsWalk.{bound_decl}
-use Rattle.mpslp_canonical_mps.specs.PrintedValues.{is_fixed, bound_with_value, printed_type, printed_rhs, printed_range, PrintedBound, printed_lower, printed_upper, printed_bounds}
+use Rattle.mpslp_canonical_mps.proofs.{RowsWalk.{row_decl, Side, side_decl, range_decl}, ColumnsWalk.{Cell, cell_decl, cells_of}}
+use Rattle.mpslp_canonical_mps.proofs.{BoundsWalk.bound_decl, CanonicalContents.{to_row, cells_in, group_in, to_side, side_unless_zero}}
+use Rattle.mpslp_canonical_mps.proofs.{CanonicalContents.{row_side, sides_in, row_range, to_bound, bounds_in}, WholeWalk.whole_decl}
+use Rattle.mpslp_canonical_mps.proofs.{ListedContents.whole_of, WholeParts.{made_of, sense-none, bound-none, joined-parts}}
+use Rattle.mpslp_canonical_mps.specs.PrintedValues.{printed_type, printed_rhs, printed_range, PrintedBound, printed_upper, printed_bounds}
 use Rattle.mpslp_canonical_mps.specs.CanonicalMps.{is_integer_column, is_plain_column}
-use Rattle.mpslp_canonical_mps.proofs.CanonicalContents.{to_row, cells_in, group_in, to_side, side_unless_zero, row_side, sides_in, row_range, to_bound, bounds_in}
-use Rattle.mpslp_canonical_mps.proofs.WholeWalk.{whole_decl}
-use Rattle.mpslp_canonical_mps.proofs.ListedContents.{whole_of}
-use Rattle.mpslp_builder.proofs.EntryLemmas.{stated, all_stated}
-use Rattle.mpslp_builder.proofs.FlatLemmas.{flat-none, flat-same}
-use Rattle.mpslp_canonical_mps.proofs.WholeParts.{made_of, sense-none, bound-none, joined-parts}
 
 -- ---- what is declared of a row and of a column
 
@@ -104,41 +92,22 @@ lowers_made name bounds = flat_map (made_of lower_part bound_decl) (map (to_boun
 abbrev uppers_made : List ℕ → List PrintedBound → List (List ℕ × Limit)
 uppers_made name bounds = flat_map (made_of upper_part bound_decl) (map (to_bound name) bounds)
 
-lower-front : (name : List ℕ) (a : Number) (rest : List PrintedBound) → lowers_made name rest ≡ [] → lowers_made name (printed_lower (Finite a) ++ rest) ≡ stated name (unless_zero a)
-lower-front name a rest h = grind arith
-
--- an upper bound puts nothing into the map of lower bounds
-no-lower : (name : List ℕ) (kind : Kind) (b : Number) → lowers_made name (printed_upper kind (Finite b)) ≡ []
-no-lower name v1 b = grind arith
-
-as-fixed : (kind : Kind) (a b : Number) → is_fixed kind a b ≡ fixed kind have_same_value a b
-as-fixed v0 a b = grind arith
-
 pub lower-made : (name : List ℕ) (kind : Kind) (l u : Limit) → lowers_made name (printed_bounds kind l u) ≡ stated name (lower_stated kind l u have_same_value)
-lower-made name v1 v2 v3 = grind arith
-
-lower-silent : (name : List ℕ) (a : Number) (rest : List PrintedBound) → uppers_made name (printed_lower (Finite a) ++ rest) ≡ uppers_made name rest
-lower-silent name a rest = elim (is_zero a) as (λ b. uppers_made name (cond b [] (bound_with_value bounds.Lower a ∷ []) ++ rest) ≡ uppers_made name rest) [ true ↦ refl | false ↦ refl ]
-
-one-upper : (name : List ℕ) (kind : Kind) (b : Number) → uppers_made name (printed_upper kind (Finite b)) ≡ stated name (Some (Finite b))
-one-upper name v1 b = grind arith
+lower-made name kind l u = grind arith
 
 pub upper-made : (name : List ℕ) (kind : Kind) (l u : Limit) → uppers_made name (printed_bounds kind l u) ≡ stated name (upper_stated kind l u)
-upper-made name v1 v2 v3 = grind arith
+upper-made name kind l u = grind arith
 
 -- ---- semi-continuous columns, by the type of their upper bounds
 
 abbrev semis_made : List ℕ → List PrintedBound → List (List ℕ × Unit {0})
 semis_made name bounds = flat_map (made_of semi_part bound_decl) (map (to_bound name) bounds)
 
-no-semi : (name : List ℕ) (a : Number) (rest : List PrintedBound) → semis_made name (printed_lower (Finite a) ++ rest) ≡ semis_made name rest
-no-semi name a rest = elim (is_zero a) as (λ b. semis_made name (cond b [] (bound_with_value bounds.Lower a ∷ []) ++ rest) ≡ semis_made name rest) [ true ↦ refl | false ↦ refl ]
-
 one-semi : (name : List ℕ) (kind : Kind) (b : Number) → semis_made name (printed_upper kind (Finite b)) ≡ stated name (semi_stated kind (Finite b))
-one-semi name v1 b = grind arith
+one-semi name kind b = grind arith
 
 pub semi-made : (name : List ℕ) (kind : Kind) (l u : Limit) → semis_made name (printed_bounds kind l u) ≡ stated name (semi_stated kind u)
-semi-made name v1 v2 v3 = grind arith
+semi-made name kind l u = grind arith
 
 all-lowers : (columns : List (List ℕ × Column)) → flat_map (made_of lower_part bound_decl) (flat_map bounds_in columns) ≡ all_stated column_lower columns
 all-lowers columns = grind (arith, flat_map-flat_map, made_of, lower_part, bound_decl, bounds_in, flat-same, stated, lower-made)

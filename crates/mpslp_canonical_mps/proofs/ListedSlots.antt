@@ -1,27 +1,16 @@
 -- The canonical declarations of a well-formed listing fill no slot twice.
-use Rattle.std.proofs.Common.{arith}
-use Rattle.std.proofs.Common.{rules}
-use Rattle.std.proofs.Common.{◌≡◌, refl, ap, ◌∙◌, List, [], ◌∷◌, ◌++◌, ℕ, Bool, true, false, not, map}
-use Rattle.std.specs.Prelude.{Option, Some, None, filter_map, ◌&&◌, ◌||◌}
-use Rattle.std.specs.List.{flat_map, list_any, cons_option}
-use Rattle.std.specs.Option.{option_map}
-use Rattle.std.specs.Cmp.{first_so, second_so}
-use Rattle.std.specs.FinMap.{find, is_sorted}
+use Rattle.std.{proofs.Common.{arith, ◌≡◌, refl, ap, ◌∙◌, List, [], ◌∷◌, ◌++◌, ℕ, Bool, true, false, not, map}, specs.Prelude.Option}
+use Rattle.std.specs.{Prelude.{Some, None, filter_map, ◌&&◌, ◌||◌}, List.{flat_map, list_any, cons_option}, Option.option_map, Cmp.first_so}
+use Rattle.std.specs.{Cmp.second_so, FinMap.{find, is_sorted}}
 use Rattle.mpslp_decimal.specs.Decimal.{Number}
-use Rattle.mpslp_types.specs.Name.{same_bytes, bytes_cmp}
+use Rattle.mpslp_types.{specs.{Name.{same_bytes, bytes_cmp}, Lists.are_distinct}, proofs.BoolLemmas.{both_so, both_false, not_so, so_not}}
+use Rattle.mpslp_types.proofs.{BoolLemmas.nor, EachLemmas.{Each, Each-weaker}}
 use Rattle.mpslp_model_core.specs.Model.{CoefficientKey, key_cmp}
-use Rattle.mpslp_builder.specs.Declaration.{Declarations, names_in}
-use Rattle.mpslp_types.specs.Lists.{are_distinct}
-use Rattle.mpslp_builder.specs.Consistency.{Slot, sense_slot, objective_slot, constant_slot, row_slot, rhs_slot, range_slot, coefficient_slot, lower_slot, upper_slot, same_slot, slots_of, all_slots}
-use Rattle.mpslp_types.proofs.BoolLemmas.{both_so, both_false, not_so, so_not, nor}
-use Rattle.mpslp_types.proofs.EachLemmas.{Each, Each-weaker}
-use Rattle.mpslp_builder.proofs.DistinctLemmas.{IsNew, distinct-append, distinct-sorted}
-use Rattle.mpslp_builder.proofs.SlotLemmas.{same_name}
-use Rattle.mpslp_builder.proofs.SortedDrafts.{bytes_total}
-use Rattle.mpslp_canonical_mps.proofs.ColumnsWalk.{Cell}
-use Rattle.mpslp_canonical_mps.specs.CanonicalMps.{cell_at}
-use Rattle.mpslp_canonical_mps.proofs.CanonicalContents.{to_cell}
-use Rattle.mpslp_canonical_mps.proofs.CoefficientMap.{place_at}
+use Rattle.mpslp_builder.specs.{Declaration.{Declarations, names_in}, Consistency.{Slot, sense_slot, objective_slot, constant_slot}}
+use Rattle.mpslp_builder.specs.Consistency.{row_slot, rhs_slot, range_slot, coefficient_slot, lower_slot, upper_slot, same_slot, slots_of}
+use Rattle.mpslp_builder.{specs.Consistency.all_slots, proofs.DistinctLemmas.{IsNew, distinct-append, distinct-sorted}}
+use Rattle.mpslp_builder.proofs.{SlotLemmas.same_name, SortedDrafts.bytes_total}
+use Rattle.mpslp_canonical_mps.{proofs.{ColumnsWalk.Cell, CanonicalContents.to_cell, CoefficientMap.place_at}, specs.CanonicalMps.cell_at}
 
 -- ---- slots of different kinds
 
@@ -38,7 +27,7 @@ rank (upper_slot _) = 5
 rank constant_slot = 6
 
 same-rank : (a b : Slot) → same_slot a b ≡ true → rank a ≡ rank b
-same-rank v0 v1 h = grind arith
+same-rank a b h = grind arith
 
 abbrev pub AllOf : ℕ → List Slot → Type 0
 AllOf n slots = Each (λ slot. rank slot ≡ n) slots
@@ -80,10 +69,10 @@ abbrev pub cell_slot : Cell → List Slot
 cell_slot cell = coefficient_slot (place_at cell.row cell.column) ∷ []
 
 and_none : (a b : Bool) → b ≡ false → (a && b) ≡ false
-and_none v0 b h = grind arith
+and_none a b h = grind arith
 
 none_and : (a b : Bool) → a ≡ false → (a && b) ≡ false
-none_and v0 b h = grind arith
+none_and a b h = grind arith
 
 -- a coefficient of another column is not one of this column
 pub column-new : (row column other : List ℕ) → same_bytes other column ≡ false → (cells : List (List ℕ × Number))

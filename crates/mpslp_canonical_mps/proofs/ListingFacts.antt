@@ -1,9 +1,7 @@
 -- What the well-formedness of a model implies for its listing.
 use Rattle.std.specs.FinMap.{is_sorted, entries, entries_sorted}
-use Rattle.mpslp_types.specs.Name.{bytes_cmp}
+use Rattle.mpslp_types.{specs.Name.bytes_cmp, proofs.{BoolLemmas.true_from, EachLemmas.Each-from_list_all}}
 use Rattle.mpslp_model_core.specs.Model.{LinearModel, key_cmp, is_sound_row, is_sound_column, is_sound_coefficient, IsSound, listing_of}
-use Rattle.mpslp_types.proofs.BoolLemmas.{true_from}
-use Rattle.mpslp_types.proofs.EachLemmas.{Each-from_list_all}
 use Rattle.mpslp_canonical_mps.proofs.DraftMaps.{IsSoundListing}
 
 -- ---- the listing of a well-formed model

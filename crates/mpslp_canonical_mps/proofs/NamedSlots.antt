@@ -1,26 +1,17 @@
 -- The rows, right-hand sides and ranges that a well-formed listing declares fill different slots.
-use Rattle.std.proofs.Common.{◌≡◌, refl, sym, ap, ◌∙◌, List, [], ◌∷◌, ◌++◌, ℕ, true, false, not, map}
-use Rattle.std.specs.Prelude.{Option, Some, None, is_some}
-use Rattle.std.specs.List.{flat_map, list_any}
+use Rattle.std.{proofs.Common.{◌≡◌, refl, sym, ap, ◌∙◌, List, [], ◌∷◌, ◌++◌, ℕ, true, false, not, map}, specs.Prelude.{Option, Some, None}}
+use Rattle.std.specs.{Prelude.is_some, List.{flat_map, list_any}}
 use Rattle.mpslp_decimal.specs.Decimal.{Number, negated}
-use Rattle.mpslp_types.specs.Name.{same_bytes, bytes_cmp}
+use Rattle.mpslp_types.{specs.{Name.{same_bytes, bytes_cmp}, Lists.are_distinct}, proofs.BoolLemmas.{both_so, so_not}}
 use Rattle.mpslp_model_core.specs.Model.{Row, Listing}
-use Rattle.mpslp_builder.specs.Declaration.{names_in, at_name}
-use Rattle.mpslp_types.specs.Lists.{are_distinct}
-use Rattle.mpslp_builder.specs.Consistency.{Slot, objective_slot, row_slot, rhs_slot, range_slot, same_slot, slots_of}
-use Rattle.mpslp_types.proofs.BoolLemmas.{both_so, so_not}
-use Rattle.mpslp_builder.proofs.DistinctLemmas.{distinct-sorted}
-use Rattle.mpslp_builder.proofs.SlotLemmas.{same_name}
-use Rattle.mpslp_builder.proofs.SortedDrafts.{bytes_total, tied_names}
-use Rattle.mpslp_canonical_mps.proofs.RowsWalk.{row_decl, Side, side_decl, range_decl}
-use Rattle.mpslp_canonical_mps.proofs.CanonicalContents.{to_row, sides_in, row_range}
-use Rattle.mpslp_builder.proofs.EntryLemmas.{then_stated, stated, all_stated, sorted-stated, find-stated}
-use Rattle.mpslp_canonical_mps.proofs.WholeParts.{made_of}
-use Rattle.mpslp_canonical_mps.proofs.ListedParts.{value_stated, side_stated, range_stated, own_side, sides-made, ranges-made}
-use Rattle.mpslp_builder.proofs.NamedEntries.{one_of-names}
-use Rattle.mpslp_canonical_mps.proofs.DraftMaps.{IsSoundListing, none_is}
-use Rattle.mpslp_canonical_mps.proofs.ListedSlots.{rank, AllOf, distinct-map, distinct-names}
-use Rattle.mpslp_canonical_mps.proofs.ListedOnce.{any-turned, rows-distinct}
+use Rattle.mpslp_builder.specs.{Declaration.{names_in, at_name}, Consistency.{Slot, objective_slot, row_slot, rhs_slot, range_slot}}
+use Rattle.mpslp_builder.{specs.Consistency.{same_slot, slots_of}, proofs.{DistinctLemmas.distinct-sorted, SlotLemmas.same_name}}
+use Rattle.mpslp_builder.proofs.{SortedDrafts.{bytes_total, tied_names}, EntryLemmas.{then_stated, stated, all_stated, sorted-stated}}
+use Rattle.mpslp_builder.proofs.{EntryLemmas.find-stated, NamedEntries.one_of-names, PartLemmas.none_there}
+use Rattle.mpslp_canonical_mps.proofs.{RowsWalk.{row_decl, Side, side_decl, range_decl}, CanonicalContents.{to_row, sides_in, row_range}}
+use Rattle.mpslp_canonical_mps.proofs.{WholeParts.made_of, ListedParts.{value_stated, side_stated, range_stated, own_side, sides-made}}
+use Rattle.mpslp_canonical_mps.proofs.{ListedParts.ranges-made, DraftMaps.IsSoundListing, ListedSlots.{rank, AllOf, distinct-map}}
+use Rattle.mpslp_canonical_mps.proofs.{ListedSlots.distinct-names, ListedOnce.{any-turned, rows-distinct}}
 
 -- ---- slots of names are of one kind
 
@@ -65,7 +56,7 @@ ranges-fill m = filled-names range_slot (flat_map row_range m.rows) ∙ ap (λ (
 -- the objective is not a row, so no row declares a right-hand side of its name
 objective-new : (m : Listing) → IsSoundListing m → list_any (λ later. same_bytes later m.objective) (names_in (all_stated side_stated m.rows)) ≡ false
 objective-new m h =
-    let absent : at_name m.rows m.objective ≡ None = none_is (at_name m.rows m.objective) (sym (one_of-names m.objective m.rows) ∙ h.no_row) in
+    let absent : at_name m.rows m.objective ≡ None = none_there (at_name m.rows m.objective) (sym (one_of-names m.objective m.rows) ∙ h.no_row) in
     any-turned m.objective (names_in (all_stated side_stated m.rows)) ∙ one_of-names m.objective (all_stated side_stated m.rows)
     ∙ ap is_some (find-stated bytes_cmp side_stated bytes_total tied_names m.objective m.rows h.rows_sorted ∙ ap (then_stated side_stated) absent)
 

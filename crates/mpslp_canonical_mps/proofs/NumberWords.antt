@@ -1,20 +1,11 @@
 -- The text of a decimal is a field that can be printed: 1 to 255 visible bytes.
-use Rattle.std.proofs.Common.{rules}
-use Rattle.std.proofs.Common.{◌≡◌, refl, sym, subst, List, [], ◌∷◌, ◌++◌, length, ℕ, suc, ◌+◌, ◌<◌, Bool, true, false, cond, arith, take, drop}
-use Rattle.std.specs.Prelude.{◌||◌, not, nat_lt, Result, Ok, Err, if◌then◌else◌}
-use Rattle.std.specs.List.{list_any, list_all, before_first, after_first, position_or_len}
-use Rattle.std.specs.Cmp.{first_so, second_so}
-use Rattle.std.proofs.lemmas.Bool.Decides.{nat_tests}
-use Rattle.mpslp_decimal.specs.Decimal.{Number, IsDecimal, normal, has_few_digits, has_small_exponent}
-use Rattle.mpslp_decimal.specs.Literal.{is_digit, is_sign, is_point, is_exponent_mark, without_sign, are_digits, unsigned_part, mantissa_digits, exponent_part, is_literal, literal_value, number_of}
-use Rattle.mpslp_decimal.specs.NumberText.{number_text}
-use Rattle.mpslp_decimal.specs.declared.literal.NumberFault.{NumberFault}
-use Rattle.mpslp_decimal.specs.declared.literal.NumberFault.TheVariants.{BadNumber, LongNumber, TooManyDigits, ExponentRange}
-use Rattle.mpslp_decimal.proofs.CutLemmas.{after-none}
-use Rattle.mpslp_decimal.proofs.NumberTextLemmas.{number-text, read-short}
-use Rattle.mpslp_types.specs.Name.{is_visible}
-use Rattle.mpslp_types.proofs.BoolLemmas.{nor}
-use Rattle.mpslp_types.proofs.EachLemmas.{Each, Each-weaker, Each-from_list_all}
+use Rattle.std.proofs.Common.{rules, ◌≡◌, refl, sym, subst, List, [], ◌∷◌, ◌++◌, length, ℕ, suc, ◌+◌, ◌<◌, Bool, true, false, cond, arith}
+use Rattle.std.{proofs.{Common.{take, drop}, lemmas.Bool.Decides.nat_tests}, specs.{Prelude.{◌||◌, not, nat_lt, Ok}, List.list_any}}
+use Rattle.std.specs.{List.{list_all, before_first, after_first, position_or_len}, Cmp.{first_so, second_so}}
+use Rattle.mpslp_decimal.specs.{Decimal.{Number, IsDecimal}, Literal.{is_digit, is_point, is_exponent_mark, without_sign, are_digits}}
+use Rattle.mpslp_decimal.specs.{Literal.{unsigned_part, mantissa_digits, exponent_part, is_literal, number_of}, NumberText.number_text}
+use Rattle.mpslp_decimal.proofs.{CutLemmas.after-none, NumberTextLemmas.{number-text, read-short}}
+use Rattle.mpslp_types.{specs.Name.is_visible, proofs.{BoolLemmas.nor, EachLemmas.{Each, Each-weaker, Each-from_list_all}}}
 use Rattle.mpslp_canonical_mps.proofs.TextLemmas.{Word}
 
 abbrev Visible : List ℕ → Type 0
@@ -22,9 +13,6 @@ Visible bytes = Each (λ b. is_visible b ≡ true) bytes
 
 digit-visible : (b : ℕ) → is_digit b ≡ true → is_visible b ≡ true
 digit-visible b h = grind (arith, nat_tests)
-
-sign-visible : (b : ℕ) → is_sign b ≡ true → is_visible b ≡ true
-sign-visible b h = grind (arith, nat_tests)
 
 point-visible : (b : ℕ) → is_point b ≡ true → is_visible b ≡ true
 point-visible b h = grind (arith, nat_tests)
@@ -50,7 +38,7 @@ around p sections_seen (x ∷ xs) h k =
     ] refl h k
 
 signed-visible : (xs : List ℕ) → Visible (without_sign xs) → Visible xs
-signed-visible v0 h = grind arith
+signed-visible xs h = grind arith
 
 digits-visible : (xs : List ℕ) → are_digits xs ≡ true → Visible xs
 digits-visible xs h = Each-weaker (λ b. is_digit b ≡ true) (λ b. is_visible b ≡ true) digit-visible xs (Each-from_list_all is_digit xs (second_so (nat_lt 0 (length xs)) (list_all is_digit xs) h))
@@ -75,7 +63,7 @@ literal-visible text h =
     around is_exponent_mark mark-visible text front (exponent-visible text (second_so (are_digits (mantissa_digits text)) exponent h))
 
 literal-some : (text : List ℕ) → is_literal text ≡ true → 0 < length text
-literal-some v0 h = grind arith
+literal-some text h = grind arith
 
 literal-read : (text : List ℕ) (d : Number) → number_of text ≡ Ok d → is_literal text ≡ true
 literal-read text d e = grind arith

@@ -1,6 +1,5 @@
 -- Bytes declare at most one model, and have at most one first error.
-use Rattle.std.proofs.Common.{◌≡◌, sym, ◌∙◌}
-use Rattle.std.specs.Prelude.{Some}
+use Rattle.std.{proofs.Common.{◌≡◌, sym, ◌∙◌}, specs.Prelude.Some}
 use Rattle.mpslp_types.specs.declared.faults.Fault.{Fault}
 use Rattle.mpslp_mps.specs.Laws.{DeclareOneModel, HaveOneFirstFault}
 

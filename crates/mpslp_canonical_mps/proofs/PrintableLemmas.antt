@@ -1,39 +1,25 @@
 -- The canonical lines of a well-formed model can be printed: their fields are names, numbers and words of the format.
-use Rattle.std.proofs.Common.{arith}
-use Rattle.std.proofs.Common.{rules}
-use Rattle.std.proofs.Common.{◌≡◌, refl, List, [], ◌∷◌, ◌++◌, length, ℕ, zero, suc, Bool, true, false, cond, map}
-use Rattle.std.specs.Prelude.{Option, Some, None, nat_lt, nat_le, ◌&&◌, not, ℤ, pos, negsuc, neg_ℤ, filter, filter_map, codes}
-use Rattle.std.specs.List.{list_all, flat_map, cons_option}
-use Rattle.std.specs.Option.{option_map, option_map_or}
-use Rattle.std.specs.Cmp.{first_so, second_so}
-use Rattle.std.specs.Ordering.{is_eq}
-use Rattle.std.specs.declared.cmp.Ordering.{Ordering}
-use Rattle.std.specs.FinMap.{entries, find}
-use Rattle.std.proofs.lemmas.Bool.{ltb-true, leb-true}
-use Rattle.mpslp_decimal.specs.Decimal.{Number, IsDecimal, is_decimal, is_zero, is_infinite_size, zero_number, negated, difference_of, have_same_value}
-use Rattle.mpslp_decimal.specs.NumberText.{number_text}
-use Rattle.mpslp_types.specs.Name.{is_mps_name, has_name_length, is_visible, same_bytes, marker}
-use Rattle.mpslp_model_core.specs.Model.{LinearModel, Row, Column, CoefficientKey, key_cmp, is_sound_row, is_sound_column, is_sound_coefficient, suits, IsSound, Listing, listing_of}
-use Rattle.mpslp_types.specs.Limit.{is_bounded_decimal, is_lower_side, is_upper_side, is_at_most, are_sides, has_bounded_distance}
-use Rattle.mpslp_types.specs.declared.kinds.Sense.{Sense}
-use Rattle.mpslp_types.specs.declared.kinds.Sense.TheVariants.{Minimize, Maximize}
-use Rattle.mpslp_types.specs.declared.kinds.Kind.{Kind}
-use Rattle.mpslp_types.specs.declared.kinds.Kind.TheVariants.{Continuous, Integer, Semi}
-use Rattle.mpslp_types.specs.declared.kinds.Limit.{Limit}
-use Rattle.mpslp_types.specs.declared.kinds.Limit.TheVariants.{MinusInf, Finite, PlusInf}
-use Rattle.mpslp_types.specs.declared.kinds.RowType.{RowType}
-use Rattle.mpslp_types.specs.declared.kinds.RowType.TheVariants.{Free, AtMost, AtLeast, Equal}
-use Rattle.mpslp_types.proofs.EachLemmas.{Each, Each-weaker, Each-append, Each-map, Each-flat_map, Each-filter, Each-from_list_all}
-use Rattle.mpslp_mps_fields.specs.Line.{Fields}
-use Rattle.mpslp_mps_fields.specs.DataLine.{letter_of, opening_word, closing_word, letters_of}
-use Rattle.mpslp_mps_fields.specs.declared.sections.Section.{Section}
-use Rattle.mpslp_mps_fields.specs.declared.sections.Section.TheVariants.{Name, ObjSense, ObjName, Rows, Columns, Rhs, Ranges, Bounds, EndData}
+use Rattle.std.proofs.{Common.{arith, ◌≡◌, refl, List, [], ◌∷◌, ◌++◌, length, ℕ, Bool, true, map}, lemmas.Bool.{ltb-true, leb-true}}
+use Rattle.std.specs.{Prelude.{Option, Some, None, nat_lt, nat_le, ◌&&◌, not, filter, filter_map, codes}, List.{list_all, flat_map}}
+use Rattle.std.specs.{Option.option_map, Cmp.{first_so, second_so}, declared.cmp.Ordering.Ordering, FinMap.{entries, find}}
+use Rattle.mpslp_decimal.specs.Decimal.{Number, IsDecimal, is_decimal, zero_number, negated}
+use Rattle.mpslp_types.specs.{Name.{is_mps_name, has_name_length, is_visible, same_bytes, marker}, Limit.{is_lower_side, is_upper_side}}
+use Rattle.mpslp_types.specs.{Limit.{is_at_most, are_sides, has_bounded_distance}, declared.kinds.{Sense.Sense, Kind.Kind, Limit.Limit}}
+use Rattle.mpslp_types.{specs.declared.kinds.{Limit.TheVariants.Finite, RowType.RowType}, proofs.EachLemmas.{Each, Each-weaker}}
+use Rattle.mpslp_types.proofs.EachLemmas.{Each-append, Each-map, Each-flat_map, Each-filter, Each-from_list_all}
+use Rattle.mpslp_model_core.specs.Model.{LinearModel, Row, Column, CoefficientKey, key_cmp, is_sound_row, is_sound_column}
+use Rattle.mpslp_model_core.specs.Model.{is_sound_coefficient, suits, IsSound, Listing, listing_of}
+use Rattle.mpslp_mps_fields.specs.{Line.Fields, DataLine.{letter_of, opening_word, closing_word, letters_of}}
+use Rattle.mpslp_mps_fields.specs.declared.sections.Section.{Section, TheVariants.{Name, Rows, Columns, Rhs, Ranges, Bounds, EndData}}
 use Rattle.mpslp_mps_fields.specs.declared.bound_types.BoundType.{BoundType}
-use Rattle.mpslp_mps_fields.specs.declared.bound_types.BoundType.TheVariants as bounds
-use Rattle.mpslp_canonical_mps.specs.PrintedValues.{is_fixed, printed_type, printed_rhs, printed_range, PrintedBound, printed_lower, printed_upper, printed_bounds}
-use Rattle.mpslp_canonical_mps.specs.CanonicalMps.{Lines, header_line, under_header, sense_lines, objective_line, row_line, rows_section, coefficient_line, cell_at, column_coefficients, printed_coefficients, column_lines, is_integer_column, is_plain_column, marker_line, integer_part, columns_section, vector_line, rhs_lines, row_rhs_lines, rhs_section, range_lines, ranges_section, bound_line, column_bound_lines, bounds_section, listed_lines, canonical_lines}
-use Rattle.mpslp_canonical_mps.proofs.TextLemmas.{Word, Words, IsPrintable}
-use Rattle.mpslp_canonical_mps.proofs.NumberWords.{number-word}
+use Rattle.mpslp_canonical_mps.specs.PrintedValues.{printed_rhs, printed_range, PrintedBound, printed_lower, printed_upper, printed_bounds}
+use Rattle.mpslp_canonical_mps.specs.CanonicalMps.{Lines, header_line, under_header, sense_lines, objective_line, row_line, rows_section}
+use Rattle.mpslp_canonical_mps.specs.CanonicalMps.{coefficient_line, cell_at, column_coefficients, printed_coefficients, column_lines}
+use Rattle.mpslp_canonical_mps.specs.CanonicalMps.{is_integer_column, is_plain_column, marker_line, integer_part, columns_section}
+use Rattle.mpslp_canonical_mps.specs.CanonicalMps.{vector_line, rhs_lines, row_rhs_lines, rhs_section, range_lines, ranges_section}
+use Rattle.mpslp_canonical_mps.specs.CanonicalMps.{bound_line, column_bound_lines, bounds_section, listed_lines, canonical_lines}
+use Rattle.mpslp_canonical_mps.proofs.{TextLemmas.{Word, Words, IsPrintable}, NumberWords.number-word}
+use Rattle.mpslp_builder.proofs.SoundParts.{bounded_so, row_sides, row_distance, column_sides}
 
 -- ---- words
 
@@ -54,19 +40,19 @@ words : (ws : Fields) → nat_lt 0 (length ws) ≡ true → nat_le (length ws) 4
 words ws some few each = record { some = ltb-true 0 (length ws) some; few = leb-true (length ws) 4 few; each = each }
 
 letter-word : (type : RowType) → Word (letter_of type)
-letter-word v0 = grind arith
+letter-word type = grind arith
 
 letters-word : (type : BoundType) → Word (letters_of type)
-letters-word v0 = grind arith
+letters-word type = grind arith
 
 header-printable : (section : Section) → IsPrintable (header_line section)
-header-printable v0 = grind arith
+header-printable section = grind arith
 
 abbrev pub AllPrintable : Lines → Type 0
 AllPrintable lines = Each IsPrintable lines
 
 under-printable : (section : Section) (lines : Lines) → AllPrintable lines → AllPrintable (under_header section lines)
-under-printable section v1 h = grind arith
+under-printable section lines h = grind arith
 
 -- ---- values that are decimals
 
@@ -85,18 +71,15 @@ each-filter_map {X} {Y} P f (x ∷ xs) h = grind (arith, each-filter_map P f xs 
 zero-decimal : IsDecimal zero_number
 zero-decimal = refl
 
-bounded-decimal : (d : Number) → is_bounded_decimal d ≡ true → IsDecimal d
-bounded-decimal d h = first_so (is_decimal d) (not (is_infinite_size d)) h
-
 -- the finite limits or bounds of a row or column
 lower-decimal : (a : Number) → is_lower_side (Finite a) ≡ true → IsDecimal a
-lower-decimal a h = bounded-decimal a h
+lower-decimal a h = bounded_so a h
 
 pub side-decimal : (lower upper : Limit) → are_sides lower upper ≡ true → IsDecimal (printed_rhs lower upper)
-side-decimal v0 v1 h = grind arith
+side-decimal lower upper h = grind arith
 
 pub range-decimal : (lower upper : Limit) → has_bounded_distance lower upper ≡ true → Holds IsDecimal (printed_range lower upper)
-range-decimal v0 v1 h = grind arith
+range-decimal lower upper h = grind arith
 
 pub negated-decimal : (d : Number) → IsDecimal d → IsDecimal (negated d)
 negated-decimal d h = grind arith
@@ -104,7 +87,7 @@ negated-decimal d h = grind arith
 -- ---- the lines of each section
 
 sense-printable : (sense : Sense) → AllPrintable (sense_lines sense)
-sense-printable v0 = grind arith
+sense-printable sense = grind arith
 
 row-printable : (row : List ℕ × Row) → is_sound_row row ≡ true → IsPrintable (row_line row)
 row-printable row h = grind (arith, words, letter-word, name-word)
@@ -131,7 +114,7 @@ cell-found coefficients column row h w = by (find key_cmp (record { row = row; c
     by (Some d) k = (w, k)
 
 some-cell : (objective : List ℕ) (cells : List (List ℕ × Number)) → Word objective → Each IsCell cells → Each IsCell (printed_coefficients objective cells)
-some-cell objective v1 w h = grind arith
+some-cell objective cells w h = grind arith
 
 -- what is needed of a listing
 pub record IsListed (m : Listing) : Type 0 where
@@ -144,21 +127,8 @@ pub record IsListed (m : Listing) : Type 0 where
 row-name : (row : List ℕ × Row) → is_sound_row row ≡ true → Word row.0
 row-name row h = name-word row.0 (first_so (is_mps_name row.0) (are_sides row.1.lower row.1.upper && has_bounded_distance row.1.lower row.1.upper) h)
 
-row-sides : (row : List ℕ × Row) → is_sound_row row ≡ true → are_sides row.1.lower row.1.upper ≡ true
-row-sides row h =
-    first_so (are_sides row.1.lower row.1.upper) (has_bounded_distance row.1.lower row.1.upper)
-    (second_so (is_mps_name row.0) (are_sides row.1.lower row.1.upper && has_bounded_distance row.1.lower row.1.upper) h)
-
-row-distance : (row : List ℕ × Row) → is_sound_row row ≡ true → has_bounded_distance row.1.lower row.1.upper ≡ true
-row-distance row h = grind arith
-
 column-name : (column : List ℕ × Column) → is_sound_column column ≡ true → Word column.0
 column-name column h = name-word column.0 (first_so (is_mps_name column.0) (are_sides column.1.lower column.1.upper && suits column.1.kind column.1.lower column.1.upper) h)
-
-column-sides : (column : List ℕ × Column) → is_sound_column column ≡ true → are_sides column.1.lower column.1.upper ≡ true
-column-sides column h =
-    first_so (are_sides column.1.lower column.1.upper) (suits column.1.kind column.1.lower column.1.upper)
-    (second_so (is_mps_name column.0) (are_sides column.1.lower column.1.upper && suits column.1.kind column.1.lower column.1.upper) h)
 
 column-printable : (m : Listing) → IsListed m → (column : List ℕ × Column) → is_sound_column column ≡ true → AllPrintable (column_lines m column)
 column-printable m h column sound =
@@ -191,10 +161,10 @@ side-printable : (row : List ℕ) (value : Number) → Word row → IsDecimal va
 side-printable row value w d = grind (arith, value-printable, code-word)
 
 row-side-printable : (row : List ℕ × Row) → is_sound_row row ≡ true → AllPrintable (row_rhs_lines row)
-row-side-printable row h = side-printable row.0 (printed_rhs row.1.lower row.1.upper) (row-name row h) (side-decimal row.1.lower row.1.upper (row-sides row h))
+row-side-printable row h = side-printable row.0 (printed_rhs row.1.lower row.1.upper) (row-name row h) (side-decimal row.1.lower row.1.upper (row_sides row h))
 
 range-printable : (row : List ℕ × Row) → is_sound_row row ≡ true → AllPrintable (range_lines row)
-range-printable row h = grind (arith, range-decimal, row-distance, value-printable, code-word, row-name)
+range-printable row h = grind (arith, range-decimal, row_distance, value-printable, code-word, row-name)
 
 -- ---- bounds
 
@@ -202,13 +172,13 @@ abbrev IsBound : PrintedBound → Type 0
 IsBound bound = Holds IsDecimal bound.value
 
 lower-bounds : (kind : Kind) (lower : Limit) → is_lower_side lower ≡ true → Each IsBound (printed_lower lower)
-lower-bounds kind v1 h = grind arith
+lower-bounds kind lower h = grind arith
 
 upper-bounds : (kind : Kind) (upper : Limit) → is_upper_side upper ≡ true → Each IsBound (printed_upper kind upper)
-upper-bounds v0 v1 h = grind arith
+upper-bounds kind upper h = grind arith
 
 all-bounds : (kind : Kind) (lower upper : Limit) → is_lower_side lower ≡ true → is_upper_side upper ≡ true → Each IsBound (printed_bounds kind lower upper)
-all-bounds kind v1 v2 h k = grind (arith, bounded-decimal, lower-bounds, upper-bounds)
+all-bounds kind lower upper h k = grind (arith, bounded_so, lower-bounds, upper-bounds)
 
 bound-printable : (column : List ℕ) (bound : PrintedBound) → Word column → IsBound bound → IsPrintable (bound_line column bound)
 bound-printable column bound w h = grind (arith, words, letters-word, code-word, number-word)
@@ -217,7 +187,7 @@ bounds-printable : (column : List ℕ × Column) → is_sound_column column ≡ 
 bounds-printable column h =
     let lower = column.1.lower in
     let upper = column.1.upper in
-    let sides = column-sides column h in
+    let sides = column_sides column h in
     let both = all-bounds column.1.kind lower upper (first_so (is_lower_side lower) (is_upper_side upper && is_at_most lower upper) sides)
     (first_so (is_upper_side upper) (is_at_most lower upper) (second_so (is_lower_side lower) (is_upper_side upper && is_at_most lower upper) sides)) in
     Each-map IsPrintable (bound_line column.0) (printed_bounds column.1.kind lower upper)

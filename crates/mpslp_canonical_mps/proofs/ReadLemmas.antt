@@ -1,26 +1,18 @@
 -- The canonical text of a well-formed model is read line by line as it was printed, up to ENDATA, its last line.
-use Rattle.std.proofs.Common.{rules}
-use Rattle.std.proofs.Common.{◌≡◌, refl, sym, ap, subst, ◌∙◌, List, [], ◌∷◌, ◌++◌, ℕ, suc, ◌+◌, true, false, cond, map, arith, take}
-use Rattle.std.specs.Prelude.{Option, Some, None, filter, codes}
-use Rattle.std.specs.List.{list_any, flat_map, position_or_len}
-use Rattle.std.specs.Option.{option_map_or}
-use Rattle.std.specs.Str.Lines.{lines}
-use Rattle.mpslp_decimal.specs.Decimal.{Number, is_zero, negated}
+use Rattle.std.proofs.Common.{rules, ◌≡◌, refl, sym, ap, subst, ◌∙◌, List, [], ◌∷◌, ◌++◌, ℕ, suc, ◌+◌, true, false, cond, map, arith, take}
+use Rattle.std.specs.{Prelude.codes, List.{list_any, flat_map, position_or_len}, Str.Lines.lines}
+use Rattle.mpslp_decimal.specs.Decimal.{Number, is_zero}
 use Rattle.mpslp_model_core.specs.Model.{Row, Column, Listing, listing_of}
-use Rattle.mpslp_types.specs.declared.kinds.Sense.{Sense}
-use Rattle.mpslp_types.specs.declared.kinds.Sense.TheVariants.{Minimize, Maximize}
-use Rattle.mpslp_types.proofs.EachLemmas.{Each, Each-append, Each-map, Each-flat_map, Each-all}
-use Rattle.mpslp_mps_fields.specs.Line.{begins}
-use Rattle.mpslp_mps_fields.specs.DataLine.{closing_word}
+use Rattle.mpslp_types.{specs.declared.kinds.Sense.Sense, proofs.EachLemmas.{Each, Each-append, Each-map, Each-flat_map, Each-all}}
+use Rattle.mpslp_mps_fields.specs.{Line.begins, declared.sections.Section.{Section, TheVariants.{Name, EndData}}}
 use Rattle.mpslp_mps.specs.MpsText.{is_end}
-use Rattle.mpslp_mps_fields.specs.declared.sections.Section.{Section}
-use Rattle.mpslp_mps_fields.specs.declared.sections.Section.TheVariants.{Name, Rhs, Ranges, Bounds, EndData}
-use Rattle.mpslp_canonical_mps.specs.CanonicalMps.{PrintedLine, line_text, Lines, header_line, under_header, sense_lines, row_line, rows_section, coefficient_line, column_coefficients, printed_coefficients, column_lines, is_integer_column, is_plain_column, marker_line, integer_part, columns_section, vector_line, rhs_lines, row_rhs_lines, rhs_section, range_lines, ranges_section, bound_line, column_bound_lines, bounds_section, listed_lines, canonical_lines, canonical_mps}
-use Rattle.mpslp_canonical_mps.specs.PrintedDeclarations.{content_in}
-use Rattle.mpslp_canonical_mps.specs.PrintedValues.{printed_rhs, printed_range, printed_bounds}
-use Rattle.mpslp_canonical_mps.specs.Laws.{AreReadAsPrinted}
-use Rattle.mpslp_canonical_mps.proofs.TextLemmas.{IsPrintable, item-line_text, items-line_text, legal-lines, lines-text}
-use Rattle.mpslp_canonical_mps.proofs.PrintableLemmas.{canonical-printable}
+use Rattle.mpslp_canonical_mps.specs.CanonicalMps.{PrintedLine, line_text, Lines, header_line, under_header, sense_lines, rows_section}
+use Rattle.mpslp_canonical_mps.specs.CanonicalMps.{coefficient_line, column_coefficients, printed_coefficients, column_lines, integer_part}
+use Rattle.mpslp_canonical_mps.specs.CanonicalMps.{columns_section, vector_line, rhs_lines, rhs_section, range_lines, ranges_section}
+use Rattle.mpslp_canonical_mps.specs.CanonicalMps.{bound_line, column_bound_lines, bounds_section, listed_lines, canonical_lines}
+use Rattle.mpslp_canonical_mps.specs.{CanonicalMps.canonical_mps, PrintedDeclarations.content_in, PrintedValues.printed_bounds}
+use Rattle.mpslp_canonical_mps.{specs.Laws.AreReadAsPrinted, proofs.TextLemmas.{IsPrintable, item-line_text, items-line_text, legal-lines}}
+use Rattle.mpslp_canonical_mps.proofs.{TextLemmas.lines-text, PrintableLemmas.canonical-printable}
 
 -- ---- only the last line is ENDATA
 
@@ -46,7 +38,7 @@ abbrev AllGoOn : Lines → Type 0
 AllGoOn ls = Each GoesOn ls
 
 under-goes : (section : Section) (ls : Lines) → GoesOn (header_line section) → AllGoOn ls → AllGoOn (under_header section ls)
-under-goes section v1 s h = grind arith
+under-goes section ls s h = grind arith
 
 in-turn : (xs ys : Lines) → AllGoOn xs → AllGoOn ys → AllGoOn (xs ++ ys)
 in-turn xs ys h k = Each-append GoesOn xs ys h k
@@ -58,10 +50,10 @@ flat-go : {X : Type 0} (f : X → Lines) → ((x : X) → AllGoOn (f x)) → (xs
 flat-go f h xs = Each-flat_map GoesOn f xs (Each-all (λ x. AllGoOn (f x)) h xs)
 
 sense-go : (sense : Sense) → AllGoOn (sense_lines sense)
-sense-go v0 = grind arith
+sense-go sense = grind arith
 
 part-go : (ls : Lines) → AllGoOn ls → AllGoOn (integer_part ls)
-part-go v0 h = grind (arith, in-turn)
+part-go ls h = grind (arith, in-turn)
 
 columns-go : (m : Listing) (columns : List (List ℕ × Column)) → AllGoOn (flat_map (column_lines m) columns)
 columns-go m columns = flat-go (column_lines m) (λ column. mapped-go (coefficient_line column.0) (λ _. refl) (printed_coefficients m.objective (column_coefficients m column.0))) columns

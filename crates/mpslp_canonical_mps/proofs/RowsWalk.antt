@@ -1,37 +1,21 @@
 -- Printed lines of ROWS, RHS and RANGES: what each declares, and that it is well-formed.
-use Rattle.std.proofs.Common.{arith}
-use Rattle.std.proofs.Common.{rules}
-use Rattle.std.proofs.Common.{◌≡◌, refl, ap, ◌∙◌, List, [], ◌∷◌, ◌++◌, ℕ, Bool, true, false}
-use Rattle.std.specs.Prelude.{Option, Some, is_none, ◌&&◌, not, Ok}
-use Rattle.std.specs.List.{list_all}
-use Rattle.mpslp_decimal.specs.Decimal.{Number}
-use Rattle.mpslp_decimal.specs.Literal.{number_of}
-use Rattle.mpslp_types.specs.Name.{is_mps_name, has_name_length, is_visible, same_bytes, marker}
+use Rattle.std.{proofs.Common.{arith, ◌≡◌, refl, ap, ◌∙◌, List, [], ◌∷◌, ◌++◌, ℕ, true, false}, specs.Prelude.{Option, Some, is_none, Ok}}
+use Rattle.mpslp_decimal.specs.{Decimal.Number, Literal.number_of}
+use Rattle.mpslp_types.{specs.{Name.is_mps_name, Lists.those_of, declared.kinds.RowType.RowType}, proofs.EachLemmas.{Each, Each-append}}
 use Rattle.mpslp_builder.specs.Declaration.{by_type, declare_row, declare_rhs, declare_range, Declarations, Draft, is_free_row}
-use Rattle.mpslp_types.specs.Lists.{those_of}
-use Rattle.mpslp_types.specs.declared.kinds.RowType.{RowType}
-use Rattle.mpslp_types.specs.declared.kinds.RowType.TheVariants.{Free, AtMost, AtLeast, Equal}
-use Rattle.mpslp_types.proofs.EachLemmas.{Each, Each-append}
 use Rattle.mpslp_builder.proofs.LaterDrafts.{itself_named}
-use Rattle.mpslp_mps_fields.specs.Line.{Fields, LineContent, data_line}
-use Rattle.mpslp_mps_fields.specs.DataLine.{letter_of}
-use Rattle.mpslp_mps.specs.Context.{Context, context_of, current_section, data_lines, fields_under, vector_set, first_set}
-use Rattle.mpslp_mps.specs.LineDeclarations.{line_declares}
-use Rattle.mpslp_lines.specs.FaultTests.{name_tests, number_tests}
-use Rattle.mpslp_mps.specs.LineFault.{set_tests}
-use Rattle.mpslp_mps.proofs.ContextLineLemmas.{form_faults}
-use Rattle.mpslp_mps_fields.specs.declared.sections.Section.{Section}
+use Rattle.mpslp_mps_fields.specs.{Line.{Fields, LineContent, data_line}, DataLine.letter_of, declared.sections.Section.Section}
 use Rattle.mpslp_mps_fields.specs.declared.sections.Section.TheVariants.{Rows, Rhs, Ranges}
+use Rattle.mpslp_mps.specs.Context.{Context, context_of, current_section, data_lines, fields_under, vector_set, first_set}
+use Rattle.mpslp_mps.{specs.{LineDeclarations.line_declares, LineFault.set_tests}, proofs.ContextLineLemmas.form_faults}
 use Rattle.mpslp_mps.proofs.SectionLemmas.{current_section-push, data_lines-push}
+use Rattle.mpslp_lines.specs.FaultTests.{name_tests, number_tests}
 use Rattle.mpslp_canonical_mps.proofs.ContentsWalk.{Step}
 
 -- ---- fields without an error
 
 pub name-good : (name : List ℕ) → is_mps_name name ≡ true → those_of (name_tests name) ≡ []
 name-good name h = grind arith
-
-pub number-good : (text : List ℕ) (value : Number) → number_of text ≡ Ok value → those_of (number_tests (text ∷ [])) ≡ []
-number-good text value e = rw e refl
 
 -- each line so far has this set name
 abbrev pub HaveSet : (Fields → Option (List ℕ)) → List ℕ → List Fields → Type 0

@@ -1,18 +1,12 @@
 -- Printed lines are read back unchanged.
-use Rattle.std.proofs.Common.{◌≡◌, refl, ap, ◌∙◌, List, [], ◌∷◌, ◌++◌, length, ℕ, zero, suc, Bool, true, false, cond, map, arith, ◌<◌, ◌≤◌, ◌*◌, length-append}
-use Rattle.std.specs.Prelude.{nat_lt, nat_le, ◌==◌, slice_index, filter, codes}
-use Rattle.std.specs.List.{slice_split, list_all, flat_map}
-use Rattle.std.specs.Str.Lines.{lines, lines_of_parts, strip_carriage_return}
-use Rattle.std.proofs.lemmas.Bool.{lt-ltb}
-use Rattle.std.proofs.lemmas.Bool.Decides.{nat_tests}
-use Rattle.std.proofs.lemmas.List.{append-nil}
-use Rattle.mpslp_types.specs.Name.{is_visible}
-use Rattle.mpslp_types.proofs.BoolLemmas.{both_so}
-use Rattle.mpslp_types.proofs.EachLemmas.{Each, Each-weaker, Each-append, list_all-from_Each}
-use Rattle.mpslp_mps_fields.specs.Line.{Fields, skipped, header, data_line, header_of, content_of, fields, is_blank, is_comment, is_skipped, is_data, outside_comment}
+use Rattle.std.proofs.Common.{◌≡◌, refl, ap, ◌∙◌, List, [], ◌∷◌, ◌++◌, length, ℕ, Bool, true, false, cond, map, arith, ◌<◌, ◌≤◌, ◌*◌}
+use Rattle.std.{proofs.{Common.length-append, lemmas.{Bool.{lt-ltb, Decides.nat_tests}, List.append-nil}}, specs.Prelude.{nat_lt, nat_le}}
+use Rattle.std.specs.{Prelude.{◌==◌, filter, codes}, List.{slice_split, list_all, flat_map}, Str.Lines.lines}
+use Rattle.mpslp_types.{specs.Name.is_visible, proofs.{BoolLemmas.both_so, EachLemmas.{Each, Each-weaker, Each-append, list_all-from_Each}}}
+use Rattle.mpslp_mps_fields.specs.Line.{Fields, skipped, header, data_line, header_of, content_of, fields, is_blank, is_comment}
+use Rattle.mpslp_mps_fields.specs.Line.{outside_comment}
 use Rattle.mpslp_mps.specs.LegalLine.{is_legal_line}
-use Rattle.mpslp_lines.specs.FaultTests.{is_legal_byte, has_legal_length}
-use Rattle.mpslp_lines.specs.declared.legal_line.TheConstants.{MAX_LINE_LEN}
+use Rattle.mpslp_lines.specs.{FaultTests.{is_legal_byte, has_legal_length}, declared.legal_line.TheConstants.MAX_LINE_LEN}
 use Rattle.mpslp_lines.proofs.WrittenLineLemmas.{IsPlain, lines-with_line_feeds}
 use Rattle.mpslp_canonical_mps.specs.CanonicalMps.{PrintedLine, heading, short_line, long_line, fields_text, line_text, text_of}
 use Rattle.mpslp_canonical_mps.specs.PrintedDeclarations.{content_in}
@@ -79,7 +73,7 @@ pub record Words (ws : Fields) : Type 0 where
   pub each : Each Word ws
 
 not_blank_line : (ws : Fields) → Words ws → list_all is_blank (fields_text ws) ≡ false
-not_blank_line v0 h = grind (arith, arith, not_blank, solid)
+not_blank_line ws h = grind (arith, arith, not_blank, solid)
 
 abbrev begins_with_star : List ℕ → Bool
 begins_with_star [] = false
@@ -95,10 +89,10 @@ by_tests : (skip is : Bool) (w : List ℕ) → skip ≡ false → is ≡ false �
 by_tests skip is w p q = rw (p, q) refl
 
 heading_item : (w : List ℕ) → Word w → begins_with_star w ≡ false → content_of w ≡ header w []
-heading_item v0 h s = grind (arith, arith, visible-solid, by_tests, fields-last)
+heading_item w h s = grind (arith, arith, visible-solid, by_tests, fields-last)
 
 pub item-line_text : (l : PrintedLine) → IsPrintable l → content_of (line_text l) ≡ content_in l
-item-line_text v0 h = grind (arith, heading_item, not_blank_line, fields-spaced)
+item-line_text l h = grind (arith, heading_item, not_blank_line, fields-spaced)
 
 -- ---- bytes and length
 
@@ -118,10 +112,10 @@ module _ (P : ℕ → Type 0) (visible : (b : ℕ) → is_visible b ≡ true →
   each-after (w ∷ ws) h = (blank, (blank, Each-append P w (after_first_field ws) (each-word w h.0) (each-after ws h.1)))
 
   each-spaced : (ws : Fields) → Each Word ws → Each P (fields_text ws)
-  each-spaced v0 h = grind (arith, each-word, each-after)
+  each-spaced ws h = grind (arith, each-word, each-after)
 
   each-line_text : (l : PrintedLine) → IsPrintable l → Each P (line_text l)
-  each-line_text v0 h = grind (arith, each-word, each-spaced)
+  each-line_text l h = grind (arith, each-word, each-spaced)
 
 pub plain-line_text : (l : PrintedLine) → IsPrintable l → Each IsPlain (line_text l)
 plain-line_text l h = each-line_text IsPlain visible-plain (refl, refl) l h
@@ -138,13 +132,13 @@ length-after [] h = omega arith
 length-after (w ∷ ws) h = grind (arith, arith, length-append, length-after ws h.1)
 
 length-spaced : (ws : Fields) → Each Word ws → length (fields_text ws) ≤ 257 * length ws
-length-spaced v0 h = grind (arith, arith, length-after, length-append)
+length-spaced ws h = grind (arith, arith, length-after, length-append)
 
 at_most : (n : ℕ) → n ≤ 2000 → nat_le n MAX_LINE_LEN ≡ true
 at_most n h = grind (arith, nat_tests)
 
 length-line_text : (l : PrintedLine) → IsPrintable l → has_legal_length (line_text l) ≡ true
-length-line_text v0 h = grind (arith, at_most, arith, length-spaced)
+length-line_text l h = grind (arith, at_most, arith, length-spaced)
 
 pub legal-line_text : (l : PrintedLine) → IsPrintable l → is_legal_line (line_text l) ≡ true
 legal-line_text l h = both_so (has_legal_length (line_text l)) (list_all is_legal_byte (outside_comment (line_text l))) (length-line_text l h) (bytes-line_text l h)
@@ -166,6 +160,3 @@ legal-lines (l ∷ ls) h = both_so (is_legal_line (line_text l)) (list_all is_le
 -- the lines of a text of printed lines are these, and its items are theirs
 pub lines-text : (ls : List PrintedLine) → Each IsPrintable ls → lines (text_of ls) ≡ map line_text ls
 lines-text ls h = lines-with_line_feeds (map line_text ls) (all_plain ls h)
-
-pub items-text : (ls : List PrintedLine) → Each IsPrintable ls → map content_of (lines (text_of ls)) ≡ map content_in ls
-items-text ls h = ap (map content_of) (lines-text ls h) ∙ items-line_text ls h

@@ -1,22 +1,11 @@
 -- The declarations of canonical text, section by section: their properties, and what they put into a map.
-use Rattle.std.proofs.Common.{arith}
-use Rattle.std.proofs.Common.{rules}
-use Rattle.std.proofs.Common.{◌≡◌, refl, ap, ◌∙◌, List, [], ◌∷◌, ◌++◌, ℕ, true, false}
-use Rattle.std.specs.List.{flat_map}
-use Rattle.std.proofs.lemmas.List.{append-nil}
-use Rattle.std.proofs.lemmas.List.Concat.{flat_map-append}
-use Rattle.mpslp_builder.specs.Declaration.{Declaration, declare_sense, declare_objective, declare_lower, declare_upper, declare_semi, Declarations}
-use Rattle.mpslp_types.specs.declared.kinds.Sense.{Sense}
-use Rattle.mpslp_types.specs.declared.kinds.Sense.TheVariants.{Minimize, Maximize}
-use Rattle.mpslp_types.specs.declared.kinds.Limit.{Limit}
-use Rattle.mpslp_types.specs.declared.kinds.Limit.TheVariants.{MinusInf, Finite, PlusInf}
-use Rattle.mpslp_types.proofs.EachLemmas.{Each, Each-append, Each-flat_map}
-use Rattle.mpslp_builder.proofs.CoefficientLemmas.{flat_map-flat_map}
-use Rattle.mpslp_canonical_mps.proofs.RowsWalk.{RowItem, row_decl, Side, side_decl, range_decl}
-use Rattle.mpslp_canonical_mps.proofs.ColumnsWalk.{Cell, cell_decl, cells_of}
-use Rattle.mpslp_canonical_mps.proofs.BoundsWalk.{BoundForm, fixed, lower, upper, free, no_lower, no_upper, semi_upper, Bound, bound_decl, decl_at}
-use Rattle.mpslp_canonical_mps.proofs.EarlyWalk.{sense_decl}
-use Rattle.mpslp_canonical_mps.proofs.WholeWalk.{Whole, whole_decl}
+use Rattle.std.proofs.{Common.{arith, ◌≡◌, refl, ap, ◌∙◌, List, [], ◌∷◌, ◌++◌, ℕ, true, false}, lemmas.List.append-nil}
+use Rattle.std.{proofs.lemmas.List.Concat.flat_map-append, specs.List.flat_map}
+use Rattle.mpslp_builder.specs.Declaration.{Declaration, declare_sense, declare_objective, declare_lower, declare_upper, declare_semi}
+use Rattle.mpslp_builder.{specs.Declaration.Declarations, proofs.CoefficientLemmas.flat_map-flat_map}
+use Rattle.mpslp_types.{specs.declared.kinds.{Sense.Sense, Limit.Limit}, proofs.EachLemmas.{Each, Each-append, Each-flat_map}}
+use Rattle.mpslp_canonical_mps.proofs.{RowsWalk.{RowItem, row_decl, Side, side_decl, range_decl}, ColumnsWalk.{Cell, cell_decl, cells_of}}
+use Rattle.mpslp_canonical_mps.proofs.{BoundsWalk.{Bound, bound_decl}, EarlyWalk.sense_decl, WholeWalk.{Whole, whole_decl}}
 
 -- ---- properties of each declaration
 
@@ -81,7 +70,7 @@ whole-parts part w =
 -- ---- parts that are empty, and those that are not
 
 pub sense-none : {Y : Type 0} (part : Declaration → List Y) → ((s : Sense) → part (declare_sense s) ≡ []) → (s : Sense) → flat_map part (sense_decl s) ≡ []
-sense-none part h v2 = grind arith
+sense-none part h s = grind arith
 
 pub bound-none : {Y : Type 0} (part : Declaration → List Y) → ((x : List ℕ) (l : Limit) → part (declare_lower x l) ≡ []) → ((x : List ℕ) (l : Limit) → part (declare_upper x l) ≡ [])
     → ((x : List ℕ) → part (declare_semi x) ≡ []) → (b : Bound) → made_of part bound_decl b ≡ []

@@ -1,38 +1,25 @@
 -- What canonical text declares, all sections one after another.
-use Rattle.std.proofs.Common.{arith}
-use Rattle.std.proofs.Common.{rules}
-use Rattle.std.proofs.Common.{◌≡◌, refl, sym, ap, ◌∙◌, List, [], ◌∷◌, ◌++◌, ℕ, Bool, true, false, map, append_assoc}
-use Rattle.std.specs.Prelude.{Option, Some, None, is_some, is_none, ◌||◌, codes}
-use Rattle.std.specs.List.{flat_map}
-use Rattle.std.proofs.lemmas.List.{append-nil}
-use Rattle.mpslp_types.specs.Name.{is_mps_name}
+use Rattle.std.proofs.Common.{arith, ◌≡◌, refl, sym, ap, ◌∙◌, List, [], ◌∷◌, ◌++◌, ℕ, Bool, true, false, map, append_assoc}
+use Rattle.std.{proofs.lemmas.List.append-nil, specs.{Prelude.{Option, None, is_some, is_none, ◌||◌, codes}, List.flat_map}}
+use Rattle.mpslp_types.{specs.{Name.is_mps_name, declared.kinds.Sense.Sense}, proofs.EachLemmas.Each}
 use Rattle.mpslp_builder.specs.Declaration.{declare_objective, Declarations, Draft, empty_draft, with_declarations, is_free_row}
-use Rattle.mpslp_types.specs.declared.kinds.Sense.{Sense}
-use Rattle.mpslp_types.specs.declared.kinds.Sense.TheVariants.{Minimize, Maximize}
-use Rattle.mpslp_types.proofs.EachLemmas.{Each}
-use Rattle.mpslp_mps_fields.specs.Line.{LineContent, begins, section_of_header}
-use Rattle.mpslp_mps.specs.Context.{is_read}
-use Rattle.mpslp_mps.specs.TextInWords.{has_section}
+use Rattle.mpslp_mps_fields.specs.{Line.{LineContent, begins, section_of_header}, declared.sections.Section.{Section, TheVariants.Name}}
+use Rattle.mpslp_mps_fields.specs.declared.sections.Section.TheVariants.{ObjSense, Rows, Columns, Rhs, Ranges, Bounds, EndData}
+use Rattle.mpslp_mps.{specs.{Context.is_read, SeenSection.has_section}, proofs.SectionLemmas.{has_section-append, has_section-cons}}
+use Rattle.mpslp_mps.proofs.SectionLemmas.{or_false}
 use Rattle.mpslp_canonical_mps.proofs.HeaderWalk.{is_bare, wants_word, header_item, MayBegin, has_section-data, settled-after}
-use Rattle.mpslp_mps_fields.specs.declared.sections.Section.{Section}
-use Rattle.mpslp_mps_fields.specs.declared.sections.Section.TheVariants.{Name, ObjSense, Rows, Columns, Rhs, Ranges, Bounds, EndData}
-use Rattle.mpslp_mps.proofs.SectionLemmas.{has_section-append, has_section-cons}
-use Rattle.mpslp_canonical_mps.proofs.ContentsWalk.{Walk, walk-append}
+use Rattle.mpslp_canonical_mps.proofs.{ContentsWalk.{Walk, walk-append}, RowsWalk.{RowItem, row_item, row_decl, Side, side_item, side_decl}}
+use Rattle.mpslp_canonical_mps.proofs.{RowsWalk.{range_decl, ReadsAs}, ColumnsWalk.{Cell, cell_item, cell_decl, Group, cells_of}}
+use Rattle.mpslp_canonical_mps.proofs.{BoundsWalk.{Bound, bound_item, bound_decl, GoodBound}, CanonicalContents.under, CanonicalWalk.IsLate}
+use Rattle.mpslp_canonical_mps.proofs.{CanonicalWalk.{data-settled, sides-walk, ranges-walk, bounds-walk, end-walk}, EarlyWalk.sense_items}
+use Rattle.mpslp_canonical_mps.proofs.EarlyWalk.{sense_decl, start-walk, rows-may, start-unnamed, objective_item, rows-walk, marker_item}
+use Rattle.mpslp_canonical_mps.proofs.EarlyWalk.{part_items, AreColumns, columns-walk}
 use Rattle.mpslp_lines.proofs.ObjectiveLemmas.{named-after}
-use Rattle.mpslp_canonical_mps.proofs.RowsWalk.{RowItem, row_item, row_decl, Side, side_item, side_decl, range_decl, ReadsAs}
-use Rattle.mpslp_canonical_mps.proofs.ColumnsWalk.{Cell, cell_item, cell_decl, Group, cells_of}
-use Rattle.mpslp_canonical_mps.proofs.BoundsWalk.{Bound, bound_item, bound_decl, GoodBound}
-use Rattle.mpslp_canonical_mps.proofs.CanonicalContents.{under}
-use Rattle.mpslp_canonical_mps.proofs.CanonicalWalk.{IsLate, data-settled, sides-walk, ranges-walk, bounds-walk, end-walk}
-use Rattle.mpslp_canonical_mps.proofs.EarlyWalk.{sense_items, sense_decl, start-walk, rows-may, start-unnamed, objective_item, rows-walk, marker_item, part_items, AreColumns, columns-walk}
 
 -- ---- what has begun, section by section
 
 no-headers : {X : Type 0} (section : Section) (item : X → LineContent) → ((x : X) → section_of_header (item x) ≡ None) → (xs : List X) → has_section (map item xs) section ≡ false
 no-headers section item none xs = has_section-data section item none xs []
-
-or_false : (b : Bool) → (b || false) ≡ b
-or_false v0 = grind arith
 
 -- the lines of a section that is printed only if it has lines begin only that section
 under-begins : {X : Type 0} (section other : Section) (item : X → LineContent) → ((x : X) → section_of_header (item x) ≡ None) → begins other (header_item section) ≡ false → (xs : List X)
@@ -48,10 +35,10 @@ under-settled section item b reads bare (x ∷ xs) before h =
     ∙ data-settled item reads bare (x ∷ xs) (before ++ header_item section ∷ []) (settled-after before (header_item section) refl b)
 
 not_none : (o : Option (List ℕ)) → is_some o ≡ true → is_none o ≡ false
-not_none v0 h = grind arith
+not_none o h = grind arith
 
 is_named : (o : Option (List ℕ)) → is_none o ≡ false → is_some o ≡ true
-is_named v0 h = grind arith
+is_named o h = grind arith
 
 still-named : (ds : Declarations) (all : Draft) → is_none all.objective ≡ false → is_none (with_declarations all ds).objective ≡ false
 still-named ds all h = not_none (with_declarations all ds).objective (named-after ds all (is_named all.objective h))
@@ -156,10 +143,10 @@ pub record IsGoodWhole (w : Whole) : Type 0 where
   pub late : IsGoodLate w.late (draft_at_sides w)
 
 start-none : (section : Section) (sense : Sense) → begins section (header_item Name) ≡ false → begins section (header_item ObjSense) ≡ false → has_section (start_items sense) section ≡ false
-start-none section v1 n o = grind arith
+start-none section sense n o = grind arith
 
 no-objective : (sense : Sense) → is_none (with_declarations empty_draft (sense_decl sense)).objective ≡ true
-no-objective v0 = grind arith
+no-objective sense = grind arith
 
 rows-settled : (objective : List ℕ) (rows : List RowItem) (before : List LineContent) → wants_word (before ++ rows_items objective rows) ≡ false
 rows-settled objective rows before =
@@ -168,7 +155,7 @@ rows-settled objective rows before =
     (ap wants_word (sym (append_assoc before (header_item Rows ∷ []) (objective_item objective ∷ []))) ∙ settled-after (before ++ header_item Rows ∷ []) (objective_item objective) refl refl)
 
 part-none : (section : Section) (cells : List Cell) → has_section (part_items cells) section ≡ false
-part-none section v1 = grind (arith, has_section-append, cell_item, marker_item, or_false, no-headers)
+part-none section cells = grind (arith, has_section-append, cell_item, marker_item, or_false, no-headers)
 
 columns-none : (section : Section) (plain integers : List Group) → begins section (header_item Columns) ≡ false → has_section (columns_items plain integers) section ≡ false
 columns-none section plain integers b = grind (arith, has_section-append, cell_item, cells_of, part_items, no-headers, part-none)

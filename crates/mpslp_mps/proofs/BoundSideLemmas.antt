@@ -1,39 +1,23 @@
 -- The first error of a bound, whose lower and upper bound are declared by one call.
-use Rattle.std.proofs.Common.{arith}
-use Rattle.std.proofs.Common.{rules}
-use Rattle.std.proofs.Common.{◌≡◌, refl, sym, ap, subst, ◌∙◌, ℕ, List, [], ◌∷◌, ◌++◌, Bool, true, false, not, cond, map}
-use Rattle.std.specs.Prelude.{◌&&◌, ◌||◌, Option, Some, None, is_some, Ok, Err}
-use Rattle.std.specs.Option.{option_map, option_map_or}
+use Rattle.std.proofs.Common.{arith, rules, ◌≡◌, refl, sym, ap, ◌∙◌, ℕ, List, [], ◌∷◌, ◌++◌, Bool, true, false, not, cond}
+use Rattle.std.specs.{Prelude.{◌&&◌, ◌||◌, Option, Some, None, is_some, Ok, Err}, Option.{option_map, option_map_or}}
 use Rattle.mpslp_decimal.specs.Decimal.{Number}
-use Rattle.mpslp_builder.specs.Answer.{Answers, first_refusal}
-use Rattle.mpslp_types.specs.Limit.{limit_of, is_plus_infinite, is_minus_infinite}
-use Rattle.std.proofs.lemmas.List.{append-nil}
-use Rattle.mpslp_builder.specs.Bounds.{zero_limit, one_limit}
-use Rattle.mpslp_builder.specs.Declaration.{Declaration, declare_integer, declare_semi, declare_lower, declare_upper, Draft, with_declaration, with_declarations, has_name, has_column, is_integer, is_semi, bounds_declared}
-use Rattle.mpslp_types.specs.Lists.{those_of, when}
-use Rattle.mpslp_types.specs.FaultOrder.{least_kind}
-use Rattle.mpslp_builder.specs.Refusal.{refusals, bounds_refusals, bounds_tests}
-use Rattle.mpslp_types.specs.declared.kinds.Limit.{Limit}
-use Rattle.mpslp_types.specs.declared.faults.BuildFault.{BuildFault}
-use Rattle.mpslp_types.specs.declared.faults.BuildFault.TheVariants.{UnknownColumn, SemiContinuous}
-use Rattle.mpslp_types.specs.declared.faults.FaultKind.{FaultKind}
+use Rattle.mpslp_builder.specs.{Answer.{Answers, first_refusal}, Bounds.{zero_limit, one_limit}, Declaration.{Declaration, declare_integer}}
+use Rattle.mpslp_builder.specs.Declaration.{declare_semi, declare_lower, declare_upper, Draft, with_declaration, with_declarations}
+use Rattle.mpslp_builder.specs.{Declaration.{has_name, has_column, is_integer, is_semi, bounds_declared}, Refusal.refusals}
+use Rattle.mpslp_builder.{specs.Refusal.{bounds_refusals, bounds_tests}, proofs.MadeDrafts.with_declarations-append}
+use Rattle.mpslp_types.specs.{Limit.{limit_of, is_plus_infinite, is_minus_infinite}, Lists.{those_of, when}, declared.kinds.Limit.Limit}
+use Rattle.mpslp_types.specs.declared.faults.{BuildFault.{BuildFault, TheVariants.{UnknownColumn, SemiContinuous}}, FaultKind.FaultKind}
+use Rattle.mpslp_types.proofs.BoolLemmas.{nor}
 use Rattle.mpslp_types.specs.declared.faults.FaultKind.TheVariants as kinds
-use Rattle.mpslp_mps_fields.specs.Line.{Fields}
-use Rattle.mpslp_mps_fields.specs.DataLine.{BoundLine, bound_type, bound_shape, is_integer_type, is_semi_type}
-use Rattle.mpslp_mps.specs.LineDeclarations.{declared_if_some, lower_given, upper_given, kind_declared, bound_declared, bound_value, bound_line_declared}
-use Rattle.mpslp_mps.specs.KindClash.{type_clash}
-use Rattle.mpslp_lines.specs.FaultTests.{value_of, kind_of_build_fault, first_held}
-use Rattle.mpslp_lines.specs.Declaring.{declared_fault}
-use Rattle.mpslp_lines.specs.ErrorOf.{error_of_build}
-use Rattle.mpslp_lines.specs.LineAnswer.{IsErrorOf, IfFault, LineResult, AreDeclared}
-use Rattle.mpslp_lines.specs.declared.errors.LineError.{LineError}
-use Rattle.mpslp_lines.specs.declared.errors.LineError.TheVariants.{Fault, OutOfMemory}
+use Rattle.mpslp_mps_fields.specs.{Line.Fields, DataLine.{BoundLine, bound_type, bound_shape, is_integer_type, is_semi_type}}
 use Rattle.mpslp_mps_fields.specs.declared.bound_types.BoundType.{BoundType}
 use Rattle.mpslp_mps_fields.specs.declared.bound_types.BoundType.TheVariants as bounds
-use Rattle.mpslp_types.proofs.BoolLemmas.{nor}
-use Rattle.mpslp_builder.proofs.MadeDrafts.{with_declarations-append}
-use Rattle.mpslp_lines.proofs.LeastLemmas.{earlier_of}
-use Rattle.mpslp_lines.proofs.RefusedLemmas.{kind_tests, declared-one, declared-append, call-refused, tests-none, tests-error}
+use Rattle.mpslp_mps.specs.LineDeclarations.{lower_given, upper_given, kind_declared, bound_declared, bound_line_declared}
+use Rattle.mpslp_mps.specs.KindClash.{type_clash}
+use Rattle.mpslp_lines.specs.{FaultTests.{value_of, first_held}, Declaring.declared_fault, ErrorOf.error_of_build, LineAnswer.IsErrorOf}
+use Rattle.mpslp_lines.specs.{LineAnswer.{IfFault, LineResult, AreDeclared}, declared.errors.LineError.{LineError, TheVariants.Fault}}
+use Rattle.mpslp_lines.proofs.{LeastLemmas.earlier_of, RefusedLemmas.{kind_tests, declared-append, call-refused, tests-none, tests-error}}
 
 -- the kind of the error, by whether the column exists, a bound is declared already, and one is infinite in the wrong
 -- direction
@@ -50,23 +34,23 @@ upper_fault : (all : Draft) (column : List ℕ) (side : Limit)
 upper_fault all column side = grind arith
 
 or_none : (b : Bool) → b ≡ (b || false)
-or_none v0 = grind arith
+or_none b = grind arith
 
 both_sides : (a b c d e : Bool) → earlier_of (side_kind a b c) (side_kind a d e) ≡ side_kind a (b || d) (c || e)
-both_sides v0 v1 v2 v3 v4 = grind arith
+both_sides a b c d e = grind arith
 
 -- over the bounds that are given, at least one
 sides_fault : (all : Draft) (column : List ℕ) (lower upper : Option Limit) → (is_some lower || is_some upper) ≡ true
     → declared_fault all (bounds_declared column lower upper) ≡ first_held (kind_tests (bounds_tests all column lower upper))
-sides_fault all column v2 v3 h = grind (arith, lower_fault, or_none, upper_fault, declared-append, earlier_of, both_sides)
+sides_fault all column lower upper h = grind (arith, lower_fault, or_none, upper_fault, declared-append, earlier_of, both_sides)
 
 pub sides-refused : (all : Draft) (column : List ℕ) (lower upper : Option Limit) (fault : BuildFault) (P Q : Type 0) → (is_some lower || is_some upper) ≡ true
     → Answers (bounds_refusals all column lower upper) (Err fault) P Q → IsErrorOf (declared_fault all (bounds_declared column lower upper)) (error_of_build fault)
-sides-refused all column lower upper fault v5 v6 h answer = search (rules, sides_fault, call-refused)
+sides-refused all column lower upper fault P Q h answer = search (rules, sides_fault, call-refused)
 
 -- and nothing has changed
 pub sides-unchanged : (faults : List BuildFault) (fault : BuildFault) (P Q : Type 0) (answer : LineResult) → Answers faults (Err fault) P Q → IfFault answer Q
-sides-unchanged faults fault v2 v3 answer h = grind arith
+sides-unchanged faults fault P Q answer h = grind arith
 
 -- bounds that are checked
 pub sides-none : (all : Draft) (column : List ℕ) (lower upper : Option Limit) → (is_some lower || is_some upper) ≡ true → Ok tt ≡ first_refusal (bounds_refusals all column lower upper)
@@ -87,40 +71,14 @@ kind_stated : (all : Draft) (d : Declaration) (column : List ℕ) (other : Bool)
     → declared_fault all (d ∷ []) ≡ cond (not (has_column all column)) (Some kinds.UnknownColumn) None
 kind_stated all d column other is apart = grind arith
 
--- the only error that is left is that of the call
-kind_error : (all : Draft) (d : Declaration) (column : List ℕ) (other : Bool) (fault : BuildFault) (P Q : Type 0) → refusals all d ≡ those_of (one_kind all column other) → other ≡ false
-    → Answers (refusals all d) (Err fault) P Q → IsErrorOf (declared_fault all (d ∷ [])) (error_of_build fault)
-kind_error all d column other fault v5 v6 is apart answer = grind arith
-
-pub integer-error : (all : Draft) (column : List ℕ) (fault : BuildFault) (P Q : Type 0) → is_semi all column ≡ false → Answers (refusals all (declare_integer column)) (Err fault) P Q
-    → IsErrorOf (declared_fault all (declare_integer column ∷ [])) (error_of_build fault)
-integer-error all column fault P Q apart answer = kind_error all (declare_integer column) column (is_semi all column) fault P Q refl apart answer
-
-pub semi-error : (all : Draft) (column : List ℕ) (fault : BuildFault) (P Q : Type 0) → is_integer all column ≡ false → Answers (refusals all (declare_semi column)) (Err fault) P Q
-    → IsErrorOf (declared_fault all (declare_semi column ∷ [])) (error_of_build fault)
-semi-error all column fault P Q apart answer = kind_error all (declare_semi column) column (is_integer all column) fault P Q refl apart answer
-
--- nothing is rejected
-pub integer-none : (all : Draft) (column : List ℕ) → refusals all (declare_integer column) ≡ [] → declared_fault all (declare_integer column ∷ []) ≡ None
-integer-none all column none = ap (λ (faults : List BuildFault). least_kind (map kind_of_build_fault faults)) (append-nil (refusals all (declare_integer column)) ∙ none)
-
-pub semi-none : (all : Draft) (column : List ℕ) → refusals all (declare_semi column) ≡ [] → declared_fault all (declare_semi column ∷ []) ≡ None
-semi-none all column none = ap (λ (faults : List BuildFault). least_kind (map kind_of_build_fault faults)) (append-nil (refusals all (declare_semi column)) ∙ none)
-
 -- ---- by the type of a bound
-
-pub integer-kind : (type : BoundType) (column : List ℕ) → is_integer_type type ≡ true → kind_declared type column ≡ declare_integer column ∷ []
-integer-kind v0 column h = grind arith
-
-pub semi-kind : (type : BoundType) (column : List ℕ) → is_integer_type type ≡ false → is_semi_type type ≡ true → kind_declared type column ≡ declare_semi column ∷ []
-semi-kind type column h k = λ i. when (h i) (declare_integer column) ++ when (k i) (declare_semi column)
 
 pub no-kind : (type : BoundType) (column : List ℕ) → is_integer_type type ≡ false → is_semi_type type ≡ false → kind_declared type column ≡ []
 no-kind type column h k = λ i. when (h i) (declare_integer column) ++ when (k i) (declare_semi column)
 
 -- at least one bound is given
 pub some-side : (type : BoundType) (value : Limit) → (is_some (lower_given type value) || is_some (upper_given type value)) ≡ true
-some-side v0 value = grind arith
+some-side type value = grind arith
 
 -- the first error of the bounds is the first of all, also if the column does not exist
 kind_sides : (all : Draft) (d : Declaration) (column : List ℕ) (lower upper : Option Limit) → bounds_tests (with_declaration all d) column lower upper ≡ bounds_tests all column lower upper
@@ -156,22 +114,17 @@ integer_missing all column lower upper kind apart some is = search (rules, colum
 pub bound-stated : (all : Draft) (type : BoundType) (column : List ℕ) (value : Limit) → type_clash all type column ≡ false
     → declared_fault all (bound_declared type column value)
     ≡ declared_fault (with_declarations all (kind_declared type column)) (bounds_declared column (lower_given type value) (upper_given type value))
-bound-stated all bounds.Lower column value apart = refl
-bound-stated all bounds.Upper column value apart = refl
-bound-stated all bounds.Fixed column value apart = refl
-bound-stated all bounds.Free column value apart = refl
-bound-stated all bounds.NoLower column value apart = refl
-bound-stated all bounds.NoUpper column value apart = refl
 bound-stated all bounds.Binary column value apart = integer_sides all column (Some zero_limit) (Some one_limit) (nor (is_semi all column) false apart).0 refl
 bound-stated all bounds.IntegerLower column value apart = integer_sides all column (Some value) None (nor (is_semi all column) false apart).0 refl
 bound-stated all bounds.IntegerUpper column value apart = integer_sides all column None (Some value) (nor (is_semi all column) false apart).0 refl
 bound-stated all bounds.SemiUpper column value apart =
     kind_sides all (declare_semi column) column None (Some value) refl (kind_stated all (declare_semi column) column (is_integer all column) refl apart) refl
+bound-stated all type column value apart = refl
 
 -- the type that is declared does not matter for the bounds
 same_sides : (all : Draft) (type : BoundType) (column : List ℕ) (lower upper : Option Limit)
     → bounds_tests (with_declarations all (kind_declared type column)) column lower upper ≡ bounds_tests all column lower upper
-same_sides all v1 column lower upper = grind arith
+same_sides all type column lower upper = grind arith
 
 -- so their check returns the first error of all before the type is declared
 pub bound-asked : (all : Draft) (type : BoundType) (column : List ℕ) (value : Limit) (lower upper : Option Limit) → type_clash all type column ≡ false
@@ -187,13 +140,6 @@ bound-declares all mid later type column value lower upper answer apart m l u de
 -- an error of the type is one of all
 pub kind-refused : (all : Draft) (type : BoundType) (column : List ℕ) (value : Limit) (error : LineError) → type_clash all type column ≡ false
     → IsErrorOf (declared_fault all (kind_declared type column)) error → IsErrorOf (declared_fault all (bound_declared type column value)) error
-kind-refused all type column value OutOfMemory apart fault_is = tt
-kind-refused all bounds.Lower column value (Fault kind) apart fault_is = cc
-kind-refused all bounds.Upper column value (Fault kind) apart fault_is = cc
-kind-refused all bounds.Fixed column value (Fault kind) apart fault_is = cc
-kind-refused all bounds.Free column value (Fault kind) apart fault_is = cc
-kind-refused all bounds.NoLower column value (Fault kind) apart fault_is = cc
-kind-refused all bounds.NoUpper column value (Fault kind) apart fault_is = cc
 kind-refused all bounds.Binary column value (Fault kind) apart fault_is =
     integer_missing all column (Some zero_limit) (Some one_limit) kind (nor (is_semi all column) false apart).0 refl fault_is
 kind-refused all bounds.IntegerLower column value (Fault kind) apart fault_is =
@@ -202,13 +148,9 @@ kind-refused all bounds.IntegerUpper column value (Fault kind) apart fault_is =
     integer_missing all column None (Some value) kind (nor (is_semi all column) false apart).0 refl fault_is
 kind-refused all bounds.SemiUpper column value (Fault kind) apart fault_is =
     column_missing all (declare_semi column) column None (Some value) kind refl (kind_stated all (declare_semi column) column (is_integer all column) refl apart) refl fault_is
+kind-refused all type column value error apart fault_is = grind arith
 
 -- ---- what a bound declares
-
--- the value of a line, if it has a literal
-value-is : (o : Option (List ℕ)) (value : Option Number) → value ≡ option_map value_of o
-    → option_map_or (λ literal. limit_of (value_of literal)) o zero_limit ≡ option_map_or limit_of value zero_limit
-value-is v0 value h = grind arith
 
 pub bound-is : (letters : List ℕ) (more : Fields) (type : BoundType) (line : BoundLine) (value : Option Number) → bound_type letters ≡ Some type → bound_shape type more ≡ Some line
     → value ≡ option_map value_of line.literal → bound_line_declared (letters ∷ more) ≡ bound_declared type line.column (option_map_or limit_of value zero_limit)

@@ -1,36 +1,21 @@
 -- Lines that would make a column both integer and semi-continuous: the first error of their form, and of no other line.
-use Rattle.std.proofs.Common.{arith}
-use Rattle.std.proofs.Common.{rules}
-use Rattle.std.proofs.Common.{◌≡◌, refl, sym, ap, ◌∙◌, ℕ, List, [], ◌∷◌, ◌++◌, Bool, true, false, not, cond}
-use Rattle.std.specs.Prelude.{◌||◌, ◌&&◌, Option, Some, None, Ok, Err, is_none, codes}
-use Rattle.std.specs.List.{list_any, list_all, flat_map}
-use Rattle.std.specs.Option.{option_map, option_map_or}
-use Rattle.std.proofs.lemmas.List.Folds.{list_any-append}
+use Rattle.std.proofs.Common.{arith, ◌≡◌, refl, sym, ap, ◌∙◌, ℕ, List, [], ◌∷◌, ◌++◌, Bool, true, false, not, cond}
+use Rattle.std.{proofs.lemmas.List.Folds.list_any-append, specs.{Prelude.{◌||◌, ◌&&◌, Option, Some, None, Ok, Err}, List.list_any}}
+use Rattle.std.specs.{List.{list_all, flat_map}, Option.{option_map, option_map_or}}
 use Rattle.mpslp_decimal.specs.Decimal.{Number}
-use Rattle.mpslp_builder.specs.Answer.{Answer, first_refusal}
-use Rattle.mpslp_builder.specs.Declaration.{Declaration, declare_objective, declare_row, by_type, declare_column, declare_marked, declare_integer, declare_semi, Declarations, Draft, with_declaration, has_column, is_integer, is_semi, bounds_declared}
-use Rattle.mpslp_builder.specs.Bounds.{zero_limit, one_limit}
-use Rattle.mpslp_types.specs.Lists.{those_of, when}
-use Rattle.mpslp_builder.specs.Made.{IsMade}
-use Rattle.mpslp_builder.specs.Refusal.{refusals, refusals_in_turn}
-use Rattle.mpslp_types.specs.declared.kinds.Limit.{Limit}
-use Rattle.mpslp_types.specs.declared.kinds.RowType.{RowType}
-use Rattle.mpslp_types.specs.declared.kinds.RowType.TheVariants.{Free, AtMost, AtLeast, Equal}
+use Rattle.mpslp_builder.specs.{Answer.{Answer, first_refusal}, Declaration.{Declaration, declare_column, declare_marked, declare_integer}}
+use Rattle.mpslp_builder.specs.{Declaration.{declare_semi, Declarations, Draft, has_column, is_integer, is_semi}, Made.IsMade}
+use Rattle.mpslp_builder.{specs.Refusal.refusals, proofs.MadeDrafts.declared_names-from_made}
+use Rattle.mpslp_types.specs.{Lists.{those_of, when}, declared.kinds.Limit.Limit}
 use Rattle.mpslp_types.specs.declared.faults.BuildFault.TheVariants as builds
-use Rattle.mpslp_builder.proofs.MadeDrafts.{declared_names-from_made}
-use Rattle.mpslp_lines.specs.Declaring.{is_kind_clash}
-use Rattle.mpslp_lines.proofs.ClashLemmas.{has_kind_clash, says_no_kind, no-clash}
-use Rattle.mpslp_mps_fields.specs.Line.{Fields}
-use Rattle.mpslp_mps_fields.specs.DataLine.{ValuesLine, word_shape, row_shape, row_type, column_shape, is_marker_line, BoundLine, bound_type, bound_shape}
-use Rattle.mpslp_mps.specs.Context.{Context}
-use Rattle.mpslp_mps.specs.LineDeclarations.{declared_if_some, sense_declared, is_new_objective, row_of_type, row_declared, coefficient_declared, column_declared, bound_declared, bound_value, bound_line_declared, default_objective, data_declared, header_declared}
-use Rattle.mpslp_mps.specs.LineValues.{named_values}
-use Rattle.mpslp_mps.specs.KindClash.{column_clash, type_clash, bound_clash}
-use Rattle.mpslp_mps_fields.specs.declared.bound_types.BoundType.{BoundType}
-use Rattle.mpslp_mps_fields.specs.declared.bound_types.BoundType.TheVariants as bounds
-use Rattle.mpslp_mps_fields.specs.declared.sections.Section.{Section}
-use Rattle.mpslp_mps_fields.specs.declared.sections.Section.TheVariants.{Name, ObjSense, ObjName, Rows, Columns, Rhs, Ranges, Bounds, EndData}
-use Rattle.mpslp_mps.proofs.OrderLemmas.{each-declared, each-flat, sense-passes, sides-passes, ranges-passes}
+use Rattle.mpslp_lines.{specs.Declaring.is_kind_clash, proofs.ClashLemmas.{has_kind_clash, says_no_kind, no-clash}}
+use Rattle.mpslp_mps_fields.specs.{Line.Fields, DataLine.{ValuesLine, column_shape, is_marker_line, BoundLine, bound_type, bound_shape}}
+use Rattle.mpslp_mps_fields.specs.declared.{bound_types.BoundType.BoundType, sections.Section.{Section, TheVariants.{ObjSense, Rows}}}
+use Rattle.mpslp_mps_fields.specs.declared.sections.Section.TheVariants.{Columns, Rhs, Ranges}
+use Rattle.mpslp_mps.specs.{Context.Context, LineDeclarations.{declared_if_some, coefficient_declared, column_declared, bound_declared}}
+use Rattle.mpslp_mps.specs.{LineDeclarations.{bound_value, bound_line_declared, data_declared, header_declared}, LineValues.named_values}
+use Rattle.mpslp_mps.{specs.KindClash.{column_clash, type_clash, bound_clash}, proofs.OrderLemmas.{each-flat, sense-passes, sides-passes}}
+use Rattle.mpslp_mps.proofs.{OrderLemmas.ranges-passes, SectionLemmas.or_false}
 
 -- ---- checks by the builder
 
@@ -41,7 +26,7 @@ is_clash_answer (Err fault) = is_kind_clash fault
 
 stated_so : (known other : Bool) → (other ≡ true → known ≡ true)
     → is_clash_answer (first_refusal (those_of ((not known, builds.UnknownColumn) ∷ (other, builds.SemiContinuous) ∷ []))) ≡ other
-stated_so v0 v1 h = grind arith
+stated_so known other h = grind arith
 
 pub integer-answered : (all : Draft) (c : List ℕ) (answer : Answer) → IsMade all → answer ≡ first_refusal (refusals all (declare_integer c)) → is_clash_answer answer ≡ is_semi all c
 integer-answered all c answer made is = ap is_clash_answer is ∙ stated_so (has_column all c) (is_semi all c) ((declared_names-from_made all made).semis c)
@@ -53,17 +38,14 @@ semi-answered all c answer made is = ap is_clash_answer is ∙ stated_so (has_co
 
 -- declaring the type of a column clashes if the column is of the other type
 kind_clash : (unknown other : Bool) → list_any is_kind_clash (those_of ((unknown, builds.UnknownColumn) ∷ (other, builds.SemiContinuous) ∷ [])) ≡ other
-kind_clash v0 v1 = grind arith
+kind_clash unknown other = grind arith
 
 then_none : (earlier : Draft) (d : Declaration) (more : Declarations) (other : Bool) → list_any is_kind_clash (refusals earlier d) ≡ other → list_all says_no_kind more ≡ true
     → has_kind_clash earlier (d ∷ more) ≡ (other || false)
 then_none earlier d more other is none = grind (arith, list_any-append, no-clash)
 
 and_none : (b : Bool) → (b && false) ≡ false
-and_none v0 = grind arith
-
-or_none : (b : Bool) → (b || false) ≡ b
-or_none v0 = grind arith
+and_none b = grind arith
 
 -- of COLUMNS
 pub column-clashes : (context : Context) (earlier : Draft) (fields : Fields) → is_marker_line fields ≡ false
@@ -74,14 +56,7 @@ column-clashes context earlier fields plain =
     front : (line : ValuesLine) (marked : Bool)
         → has_kind_clash earlier (declare_column line.name ∷ (when marked (declare_marked line.name) ++ flat_map (coefficient_declared line.name) line.pairs))
         ≡ (marked && is_semi earlier line.name)
-    front line true =
-        let next = with_declaration earlier (declare_column line.name) in
-        then_none next (declare_marked line.name) (flat_map (coefficient_declared line.name) line.pairs) (is_semi earlier line.name)
-        (kind_clash (not (has_column next line.name)) (is_semi earlier line.name)) (each-flat says_no_kind (coefficient_declared line.name) line.pairs (λ pair. refl))
-        ∙ or_none (is_semi earlier line.name)
-    front line false =
-        no-clash (declare_column line.name ∷ flat_map (coefficient_declared line.name) line.pairs) earlier
-        (each-flat says_no_kind (coefficient_declared line.name) line.pairs (λ pair. refl))
+    front line marked = grind (arith, then_none, kind_clash, each-flat, says_no_kind, or_false, no-clash)
 
     of : (o : Option ValuesLine) → has_kind_clash earlier (declared_if_some (column_declared context) o)
         ≡ (context.in_integer_part && option_map_or (λ line. is_semi earlier line.name) o false)
@@ -96,7 +71,7 @@ column-apart context earlier fields column values is apart = grind arith
 
 -- of BOUNDS
 type-clashes : (earlier : Draft) (type : BoundType) (c : List ℕ) (v : Limit) → has_kind_clash earlier (bound_declared type c v) ≡ type_clash earlier type c
-type-clashes earlier v1 c v = grind arith
+type-clashes earlier type c v = grind arith
 
 pub bound-clashes : (earlier : Draft) (fields : Fields) → has_kind_clash earlier (bound_line_declared fields) ≡ bound_clash earlier fields
 bound-clashes earlier [] = refl
@@ -132,4 +107,4 @@ pub ranges-apart : (context : Context) (earlier : Draft) (fields : Fields) → h
 ranges-apart context earlier fields = no-clash (data_declared context earlier fields (Some Ranges)) earlier (ranges-passes says_no_kind (λ r v. refl) fields)
 
 pub header-apart : (context : Context) (earlier : Draft) (more : Fields) (section : Option Section) → has_kind_clash earlier (header_declared context earlier more section) ≡ false
-header-apart context earlier more v3 = grind arith
+header-apart context earlier more section = grind arith

@@ -1,42 +1,24 @@
 -- The first error of a line of a column: of its form, or an unknown row, a split column, or a repeated coefficient.
-use Rattle.std.proofs.Common.{rules}
-use Rattle.std.proofs.Common.{◌≡◌, refl, sym, ap, ◌∙◌, ℕ, List, [], ◌∷◌, ◌++◌, Bool, true, false, cond, map, arith}
-use Rattle.std.specs.Prelude.{◌&&◌, not, nat_le, Option, Some, None}
-use Rattle.std.specs.List.{list_all, flat_map}
-use Rattle.std.specs.Option.{option_map, option_or}
-use Rattle.std.proofs.lemmas.Bool.Decides.{nat_tests}
+use Rattle.std.{proofs.Common.{◌≡◌, refl, ap, ◌∙◌, ℕ, List, [], ◌∷◌, ◌++◌, Bool, true, false, cond, arith}, specs.Prelude.{not, Option}}
+use Rattle.std.specs.{Prelude.{Some, None}, List.{list_all, flat_map}, Option.option_map}
 use Rattle.mpslp_decimal.specs.Decimal.{Number}
-use Rattle.mpslp_types.specs.Name.{same_bytes, has_name_length, is_visible, marker, is_mps_name}
-use Rattle.mpslp_builder.specs.Declaration.{Declarations, Draft, with_declarations, has_column}
-use Rattle.mpslp_types.specs.Lists.{those_of}
-use Rattle.mpslp_types.specs.FaultOrder.{kind_rank, least_kind}
-use Rattle.mpslp_types.specs.declared.faults.FaultKind.{FaultKind}
+use Rattle.mpslp_types.specs.{Name.is_mps_name, Lists.those_of, FaultOrder.least_kind, declared.faults.FaultKind.FaultKind}
 use Rattle.mpslp_types.specs.declared.faults.FaultKind.TheVariants as kinds
-use Rattle.mpslp_mps_fields.specs.Line.{Fields, data_line}
-use Rattle.mpslp_mps_fields.specs.DataLine.{Pair, ValuesLine, column_shape, is_marker_line}
-use Rattle.mpslp_mps.specs.Context.{Context}
-use Rattle.mpslp_lines.specs.FaultTests.{FaultTests, judged_by, first_held, name_tests, number_tests}
-use Rattle.mpslp_mps.specs.LineFault.{literals_of, is_split, marker_tests, column_tests, data_tests}
-use Rattle.mpslp_mps.specs.LineValues.{row_value, named_values}
-use Rattle.mpslp_mps.specs.LineDeclarations.{coefficient_declared, data_declared, declared_if_some, column_declared}
-use Rattle.mpslp_lines.specs.Declaring.{declaring_faults, declared_fault}
-use Rattle.mpslp_mps.specs.LineAnswer.{item_fault}
-use Rattle.mpslp_mps.specs.ColumnDeclared.{front_declared, value_declared, has_duplicate}
-use Rattle.mpslp_mps_fields.specs.declared.sections.Section.{Section}
-use Rattle.mpslp_mps_fields.specs.declared.sections.Section.TheVariants.{Columns}
-use Rattle.mpslp_lines.proofs.HeldLemmas.{held-third, held-among}
-use Rattle.mpslp_lines.proofs.LeastLemmas.{is_from, earlier_of, stays-least, least-those_of, least-append}
-use Rattle.mpslp_lines.specs.LineAnswer.{IsErrorOf}
-use Rattle.mpslp_lines.specs.declared.errors.LineError.{LineError}
+use Rattle.mpslp_builder.specs.Declaration.{Draft, with_declarations, has_column}
+use Rattle.mpslp_mps_fields.specs.{Line.{Fields, data_line}, DataLine.{ValuesLine, column_shape, is_marker_line}}
+use Rattle.mpslp_mps_fields.specs.declared.sections.Section.{Section, TheVariants.Columns}
+use Rattle.mpslp_mps.specs.{Context.Context, LineFault.{literals_of, is_split, marker_tests, column_tests, data_tests}}
+use Rattle.mpslp_mps.specs.{LineValues.named_values, LineDeclarations.data_declared, LineAnswer.item_fault, ColumnDeclared.front_declared}
+use Rattle.mpslp_mps.{specs.{ColumnDeclared.{value_declared, has_duplicate}, KindClash.column_clash}, proofs.RisingTests.data-rising}
+use Rattle.mpslp_mps.proofs.{TakingLemmas.is_early, TakenLemmas.clash-reported, ClashLemmas.{column-clashes, column-apart}}
+use Rattle.mpslp_mps.proofs.ColumnTaking.{are_rows, front-none, front-there, front-rows, values-late, values-unknown, values-double}
+use Rattle.mpslp_mps.proofs.ColumnTaking.{front-double}
+use Rattle.mpslp_lines.specs.{FaultTests.{FaultTests, judged_by, first_held, name_tests, number_tests}, Declaring.declaring_faults}
+use Rattle.mpslp_lines.specs.{Declaring.declared_fault, LineAnswer.IsErrorOf, declared.errors.LineError.LineError}
+use Rattle.mpslp_lines.proofs.{HeldLemmas.{held-third, held-among}, LeastLemmas.{is_from, earlier_of, stays-least, least-those_of}}
+use Rattle.mpslp_lines.proofs.{LeastLemmas.least-append, FirstFaultLemmas.{form-first, is_after_clash}, DeclaringLemmas.declared-after}
+use Rattle.mpslp_lines.proofs.DeclaringLemmas.{are_from}
 use Rattle.mpslp_lines.specs.declared.errors.LineError.TheVariants as errors
-use Rattle.mpslp_lines.proofs.FirstFaultLemmas.{form-first, is_after_clash}
-use Rattle.mpslp_mps.proofs.RisingTests.{data-rising}
-use Rattle.mpslp_lines.proofs.DeclaringLemmas.{declared-after, are_from}
-use Rattle.mpslp_mps.specs.KindClash.{column_clash}
-use Rattle.mpslp_mps.proofs.TakingLemmas.{is_early}
-use Rattle.mpslp_mps.proofs.TakenLemmas.{clash-reported}
-use Rattle.mpslp_mps.proofs.ClashLemmas.{column-clashes, column-apart}
-use Rattle.mpslp_mps.proofs.ColumnTaking.{are_rows, front-none, front-there, front-rows, values-late, values-unknown, values-double, front-double}
 
 -- ---- the form
 
@@ -58,7 +40,7 @@ held_fields context earlier None kind h = h
 held_fields context earlier (Some line) kind h = grind (arith, held-third)
 
 early_fields : (parts : Option ValuesLine) → list_all is_early (judged_by field_tests parts) ≡ true
-early_fields v0 = grind arith
+early_fields parts = grind arith
 
 abbrev fault_under : Context → Draft → Fields → Option Section → Option FaultKind
 fault_under context earlier fields section = least_kind (those_of (data_tests context earlier fields section) ++ declaring_faults earlier (data_declared context earlier fields section))
@@ -82,7 +64,7 @@ column-judged context earlier fields errors.OutOfMemory here plain apart held = 
 
 -- a clash of column types, which is reported before all errors of the fields
 after_fields : (context : Context) (earlier : Draft) (parts : Option ValuesLine) → list_all (λ test. is_after_clash test.1) (judged_by (column_tests context earlier) parts) ≡ true
-after_fields context earlier v2 = grind arith
+after_fields context earlier parts = grind arith
 
 pub column-clash-reported : (context : Context) (earlier : Draft) (fields : Fields) → context.section ≡ Some Columns → is_marker_line fields ≡ false
     → column_clash context earlier fields ≡ true → item_fault context earlier (data_line fields) ≡ Some kinds.SemiContinuous
@@ -96,14 +78,6 @@ held_split : (context : Context) (earlier : Draft) (parts : Option ValuesLine) (
     → first_held (judged_by (column_tests context earlier) parts) ≡ first_held (split_test context earlier column)
 held_split context earlier None column values h is = cc
 held_split context earlier (Some line) column values h is = grind (arith, held-third)
-
-values_declared : (column : List ℕ) (pairs : List Pair) → flat_map (coefficient_declared column) pairs ≡ flat_map (value_declared column) (map row_value pairs)
-values_declared column [] = refl
-values_declared column (pair ∷ pairs) = ap (λ (ds : Declarations). value_declared column (row_value pair) ++ ds) (values_declared column pairs)
-
-line_declared : (context : Context) (parts : Option ValuesLine) (column : List ℕ) (values : List (List ℕ × Number)) → option_map named_values parts ≡ Some (column, values)
-    → declared_if_some (column_declared context) parts ≡ front_declared context.in_integer_part column ++ flat_map (value_declared column) values
-line_declared context v1 column values is = grind (arith, values_declared)
 
 pub column-declares : (context : Context) (earlier : Draft) (fields : Fields) (column : List ℕ) (values : List (List ℕ × Number)) → is_marker_line fields ≡ false
     → option_map named_values (column_shape fields) ≡ Some (column, values)
@@ -140,7 +114,7 @@ abbrev pub place_tests : Context → Draft → List ℕ → List (List ℕ × Nu
 place_tests context earlier column values = (not (are_rows earlier values), kinds.UnknownRow) ∷ split_test context earlier column
 
 late_enough : (o : Option FaultKind) → are_from kinds.DuplicateEntry o ≡ true → are_from kinds.ColumnSplit o ≡ true
-late_enough v0 h = grind arith
+late_enough o h = grind arith
 
 pub place-fault : (context : Context) (earlier : Draft) (fields : Fields) (column : List ℕ) (values : List (List ℕ × Number)) (kind : FaultKind) → context.section ≡ Some Columns
     → is_marker_line fields ≡ false → column_clash context earlier fields ≡ false → first_held (judged_by field_tests (column_shape fields)) ≡ None
@@ -199,4 +173,4 @@ double-fault context earlier fields column values here plain apart held is in_or
 
 pub column-named : (parts : Option ValuesLine) (column : List ℕ) (values : List (List ℕ × Number)) → first_held (judged_by field_tests parts) ≡ None
     → option_map named_values parts ≡ Some (column, values) → is_mps_name column ≡ true
-column-named v0 column values h is = grind arith
+column-named parts column values h is = grind arith

@@ -1,41 +1,21 @@
 -- Lines of COLUMNS: the first error of their form and of what they declare together.
-use Rattle.std.proofs.Common.{arith}
-use Rattle.std.proofs.Common.{rules}
-use Rattle.std.proofs.Common.{◌≡◌, refl, sym, ap, subst, ◌∙◌, ℕ, List, [], ◌∷◌, ◌++◌, Bool, true, false, cond, map}
-use Rattle.std.specs.Prelude.{◌||◌, ◌&&◌, not, Option, Some, None, is_some}
-use Rattle.std.specs.List.{list_all, flat_map}
-use Rattle.std.specs.Cmp.{first_so, second_so}
-use Rattle.std.specs.FinMap.{find, put}
+use Rattle.std.{proofs.Common.{arith, ◌≡◌, refl, sym, ap, ◌∙◌, ℕ, List, [], ◌∷◌, Bool, true, false, cond}, specs.Prelude.{◌||◌, ◌&&◌, not}}
+use Rattle.std.specs.{Prelude.{Option, Some, None, is_some}, List.{list_all, flat_map}, Cmp.{first_so, second_so}, FinMap.{find, put}}
 use Rattle.mpslp_decimal.specs.Decimal.{Number}
-use Rattle.mpslp_types.specs.Name.{same_bytes}
-use Rattle.mpslp_model_core.specs.Model.{CoefficientKey, key_cmp}
-use Rattle.mpslp_builder.specs.Declaration.{declare_column, declare_coefficient, Declarations, Draft, with_declaration, with_declarations, has_row, has_column, has_coefficient, is_semi}
-use Rattle.mpslp_types.specs.Lists.{those_of}
-use Rattle.mpslp_types.specs.FaultOrder.{least_kind}
-use Rattle.mpslp_types.specs.declared.faults.BuildFault.TheVariants.{UnknownColumn, SemiContinuous}
-use Rattle.mpslp_builder.proofs.SlotLemmas.{has-put, has-put_key}
-use Rattle.mpslp_builder.proofs.LaterDrafts.{itself_named}
-use Rattle.mpslp_types.specs.declared.faults.FaultKind.{FaultKind}
+use Rattle.mpslp_types.specs.{Name.same_bytes, declared.faults.FaultKind.FaultKind}
 use Rattle.mpslp_types.specs.declared.faults.FaultKind.TheVariants as kinds
-use Rattle.mpslp_mps_fields.specs.Line.{Fields}
-use Rattle.mpslp_mps_fields.specs.DataLine.{column_shape, is_marker_line, marker_shape}
-use Rattle.mpslp_mps.specs.Context.{Context}
-use Rattle.mpslp_lines.specs.FaultTests.{judged_by, kind_of_build_fault}
-use Rattle.mpslp_mps.specs.LineFault.{marker_tests, marker_word_tests, is_sos_marker, column_tests, data_tests}
-use Rattle.mpslp_mps.specs.LineDeclarations.{data_declared, declared_if_some, column_declared}
-use Rattle.mpslp_lines.specs.Declaring.{declared_fault}
-use Rattle.mpslp_mps.specs.ColumnDeclared.{front_declared, value_declared, has_duplicate}
-use Rattle.mpslp_lines.specs.LineAnswer.{IsErrorOf}
-use Rattle.mpslp_lines.specs.declared.errors.LineError.{LineError}
-use Rattle.mpslp_lines.specs.declared.errors.LineError.TheVariants.{Fault, OutOfMemory}
-use Rattle.mpslp_mps_fields.specs.declared.sections.Section.TheVariants.{Columns}
-use Rattle.mpslp_lines.proofs.LeastLemmas.{lesser, earlier_of, stays-least}
-use Rattle.mpslp_lines.proofs.ClashLemmas.{has_kind_clash, says_no_kind, no-clash}
-use Rattle.mpslp_lines.proofs.FirstFaultLemmas.{form-first}
-use Rattle.mpslp_lines.proofs.RefusedLemmas.{declared-append, declared-one}
-use Rattle.mpslp_lines.proofs.DeclaringLemmas.{declared-after, are_from, from-earlier}
-use Rattle.mpslp_mps.proofs.OrderLemmas.{each-flat}
-use Rattle.mpslp_mps.proofs.TakingLemmas.{is_early}
+use Rattle.mpslp_model_core.specs.Model.{CoefficientKey, key_cmp}
+use Rattle.mpslp_builder.specs.Declaration.{declare_coefficient, Declarations, Draft, with_declaration, with_declarations, has_row}
+use Rattle.mpslp_builder.{specs.Declaration.{has_column, has_coefficient, is_semi}, proofs.SlotLemmas.has-put_key}
+use Rattle.mpslp_builder.proofs.LaterDrafts.{itself_named}
+use Rattle.mpslp_mps_fields.specs.{Line.Fields, DataLine.{column_shape, is_marker_line}, declared.sections.Section.TheVariants.Columns}
+use Rattle.mpslp_mps.specs.{Context.Context, LineFault.{marker_tests, column_tests, data_tests}, LineDeclarations.data_declared}
+use Rattle.mpslp_mps.specs.{LineDeclarations.{declared_if_some, column_declared}, ColumnDeclared.{front_declared, value_declared}}
+use Rattle.mpslp_mps.{specs.ColumnDeclared.has_duplicate, proofs.{OrderLemmas.each-flat, TakingLemmas.is_early, KnownLemmas.column-there}}
+use Rattle.mpslp_lines.specs.{FaultTests.judged_by, Declaring.declared_fault, LineAnswer.IsErrorOf, declared.errors.LineError.LineError}
+use Rattle.mpslp_lines.{specs.declared.errors.LineError.TheVariants.{Fault, OutOfMemory}, proofs.LeastLemmas.{lesser, earlier_of}}
+use Rattle.mpslp_lines.proofs.{LeastLemmas.stays-least, ClashLemmas.{has_kind_clash, says_no_kind, no-clash}, FirstFaultLemmas.form-first}
+use Rattle.mpslp_lines.proofs.{RefusedLemmas.declared-append, DeclaringLemmas.{are_from, from-earlier}}
 
 -- ---- marker lines
 
@@ -51,32 +31,25 @@ marker-declares context earlier fields h = ap (λ (b : Bool). cond b [] (declare
 
 -- ---- what a line of a column declares
 
--- a declared column exists
-pub column-there : (earlier : Draft) (column : List ℕ) → has_column (with_declaration earlier (declare_column column)) column ≡ true
-column-there earlier column = grind (arith, has-put, itself_named)
-
 -- the column has no error, because it may be declared again, unless it is marked and semi-continuous
 pub front-none : (earlier : Draft) (marked : Bool) (column : List ℕ) → (marked && is_semi earlier column) ≡ false → declared_fault earlier (front_declared marked column) ≡ None
-front-none earlier v1 column apart = grind (arith, column-there)
+front-none earlier marked column apart = grind (arith, column-there)
 
 pub front-there : (earlier : Draft) (marked : Bool) (column : List ℕ) → has_column (with_declarations earlier (front_declared marked column)) column ≡ true
-front-there earlier v1 column = grind (arith, column-there)
+front-there earlier marked column = grind (arith, column-there)
 
 abbrev pub are_rows : Draft → List (List ℕ × Number) → Bool
 are_rows earlier values = list_all (λ value. has_row earlier value.0) values
 
 pub front-rows : (earlier : Draft) (marked : Bool) (column : List ℕ) (values : List (List ℕ × Number))
     → are_rows (with_declarations earlier (front_declared marked column)) values ≡ are_rows earlier values
-front-rows earlier v1 column values = grind arith
+front-rows earlier marked column values = grind arith
 
 -- one value in a column that exists
 pub value-fault : (earlier : Draft) (column : List ℕ) (value : List ℕ × Number) → has_column earlier column ≡ true
     → declared_fault earlier (value_declared column value)
     ≡ cond (not (has_row earlier value.0)) (Some kinds.UnknownRow) (cond (has_coefficient earlier (record { row = value.0; column = column })) (Some kinds.DuplicateEntry) None)
 value-fault earlier column value there = grind arith
-
-entry-late : (b : Bool) → are_from kinds.DuplicateEntry (cond b (Some kinds.DuplicateEntry) None) ≡ true
-entry-late v0 = grind arith
 
 value-late : (earlier : Draft) (column : List ℕ) (value : List ℕ × Number) → has_column earlier column ≡ true → has_row earlier value.0 ≡ true
     → are_from kinds.DuplicateEntry (declared_fault earlier (value_declared column value)) ≡ true
@@ -124,16 +97,13 @@ same_double (value ∷ values) before after column same =
 
 pub front-double : (earlier : Draft) (marked : Bool) (column : List ℕ) (values : List (List ℕ × Number))
     → has_duplicate (with_declarations earlier (front_declared marked column)) column values ≡ has_duplicate earlier column values
-front-double earlier v1 column values = grind (arith, same_double)
+front-double earlier marked column values = grind (arith, same_double)
 
 -- two values: the second is for the same row, or its coefficient is declared
 pub two-double : (earlier : Draft) (column : List ℕ) (value other : List ℕ × Number)
     → (has_coefficient earlier (record { row = value.0; column = column }) || (same_bytes other.0 value.0 || has_coefficient earlier (record { row = other.0; column = column })))
     ≡ has_duplicate earlier column (value ∷ other ∷ [])
 two-double earlier column value other = grind (arith, has-put_key, itself_named)
-
-pub one-double : (b : Bool) → b ≡ (b || false)
-one-double v0 = grind arith
 
 -- the first value is rejected
 pub values-refused : (earlier : Draft) (column : List ℕ) (value : List ℕ × Number) (values : List (List ℕ × Number)) (error : LineError)

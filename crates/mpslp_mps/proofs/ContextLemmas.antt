@@ -1,58 +1,27 @@
 -- One more line changes the context as `next_context` defines.
-use Rattle.std.proofs.Common.{◌≡◌, refl, ap, ◌∙◌, ℕ, List, [], ◌∷◌, ◌++◌, Bool, true, false, cond}
-use Rattle.std.specs.Prelude.{Option, Some, None, filter, filter_map}
-use Rattle.std.specs.List.{last_or, cons_option}
-use Rattle.std.specs.Option.{option_map_or, option_or}
-use Rattle.std.proofs.lemmas.List.{append-nil}
-use Rattle.std.proofs.lemmas.List.Elements.{filter_map-append, filter-append}
-use Rattle.mpslp_types.specs.Name.{same_bytes}
-use Rattle.mpslp_types.specs.Lists.{head_of}
-use Rattle.mpslp_mps_fields.specs.Line.{Fields, LineContent, skipped, header, data_line, section_of_header, is_section}
-use Rattle.mpslp_mps_fields.specs.DataLine.{opening_word}
-use Rattle.mpslp_mps.specs.Context.{is_read, word_due_after, word_due, said_after, objname_word, objname, marker_word, line_column, vector_set, bound_set, first_set, current_section, fields_under, data_lines, context_of}
-use Rattle.mpslp_mps.specs.NextContext.{changed_under, next_part, next_set, next_context}
-use Rattle.mpslp_mps_fields.specs.declared.sections.Section.{Section}
+use Rattle.std.proofs.{Common.{arith, ◌≡◌, refl, ap, ◌∙◌, ℕ, List, [], ◌∷◌, ◌++◌, false, cond}, lemmas.List.append-nil}
+use Rattle.std.{proofs.lemmas.List.Elements.{filter_map-append, filter-append}, specs.Prelude.{Option, Some, None, filter_map}}
+use Rattle.std.specs.{List.{last_or, cons_option}, Option.{option_map_or, option_or}}
+use Rattle.mpslp_types.specs.{Name.same_bytes, Lists.head_of}
+use Rattle.mpslp_mps_fields.specs.{Line.{Fields, LineContent, section_of_header}, DataLine.opening_word, declared.sections.Section.Section}
 use Rattle.mpslp_mps_fields.specs.declared.sections.Section.TheVariants.{Columns, Rhs, Ranges, Bounds}
-use Rattle.mpslp_mps.proofs.SectionLemmas.{last_or-append, current_section-push, said_after-push, data_lines-push}
+use Rattle.mpslp_mps.specs.Context.{is_read, word_due_after, word_due, said_after, objname_word, objname, marker_word, line_column}
+use Rattle.mpslp_mps.specs.{Context.{vector_set, bound_set, first_set, current_section, data_lines, context_of}, NextContext.changed_under}
+use Rattle.mpslp_mps.{specs.NextContext.{next_part, next_set, next_context}, proofs.SectionLemmas.{last_or-append, current_section-push}}
+use Rattle.mpslp_mps.proofs.SectionLemmas.{said_after-push, data_lines-push}
 
 pub word_due-push : (before : List LineContent) (item : LineContent) → word_due (before ++ item ∷ []) ≡ cond (is_read item) (word_due_after item) (word_due before)
-word_due-push before item =
-    ap (λ (o : Option LineContent). option_map_or word_due_after o None)
-    (ap (last_or None) (filter-append is_read before (item ∷ [])) ∙ last_or-append None (filter is_read before) (filter is_read (item ∷ [])))
-    ∙ by (is_read item) (last_or None (filter is_read before))
-  where
-    by : (b : Bool) (o : Option LineContent) → option_map_or word_due_after (last_or o (cond b (item ∷ []) [])) None ≡ cond b (word_due_after item) (option_map_or word_due_after o None)
-    by true o = refl
-    by false o = refl
+word_due-push before item = grind (arith, filter-append, last_or-append)
 
 -- a reading of the lines of one section
 under-push : {X : Type 0} (section : Section) (reading : List Fields → X) (change : Fields → X → X) → ((lines : List Fields) (fields : Fields) → reading (lines ++ fields ∷ []) ≡ change fields (reading lines))
     → (before : List LineContent) (item : LineContent) → reading (data_lines section (before ++ item ∷ [])) ≡ changed_under section (current_section before) change item (reading (data_lines section before))
-under-push {X} section reading change h before item = ap reading (data_lines-push section before item) ∙ by item
-  where
-    lines : List Fields
-    lines = data_lines section before
-
-    of : (fields : Fields) (b : Bool) → reading (lines ++ cond b (fields ∷ []) []) ≡ cond b (change fields (reading lines)) (reading lines)
-    of fields true = h lines fields
-    of fields false = ap reading (append-nil lines)
-
-    by : (x : LineContent) → reading (lines ++ fields_under section (current_section before) x) ≡ changed_under section (current_section before) change x (reading lines)
-    by skipped = ap reading (append-nil lines)
-    by (header keyword more) = ap reading (append-nil lines)
-    by (data_line fields) = of fields (is_section section (current_section before))
+under-push {X} section reading change h before item = grind (arith, data_lines-push, append-nil)
 
 part_reading : (lines : List Fields) (fields : Fields)
     → option_map_or (same_bytes opening_word) (last_or None (filter_map marker_word (lines ++ fields ∷ []))) false
     ≡ next_part fields (option_map_or (same_bytes opening_word) (last_or None (filter_map marker_word lines)) false)
-part_reading lines fields =
-    ap (λ (o : Option (List ℕ)). option_map_or (same_bytes opening_word) o false)
-    (ap (last_or None) (filter_map-append marker_word lines (fields ∷ [])) ∙ last_or-append None (filter_map marker_word lines) (cons_option (marker_word fields) []))
-    ∙ by (marker_word fields) (last_or None (filter_map marker_word lines))
-  where
-    by : (o c : Option (List ℕ)) → option_map_or (same_bytes opening_word) (last_or c (cons_option o [])) false ≡ option_map_or (same_bytes opening_word) o (option_map_or (same_bytes opening_word) c false)
-    by None c = refl
-    by (Some w) c = refl
+part_reading lines fields = grind (arith, filter_map-append, last_or-append)
 
 column_reading : (lines : List Fields) (fields : Fields) → option_map_or line_column (last_or None (lines ++ fields ∷ [])) None ≡ line_column fields
 column_reading lines fields = ap (λ (o : Option Fields). option_map_or line_column o None) (last_or-append None lines (fields ∷ []))

@@ -1,24 +1,12 @@
 -- Lines after other lines: what they declare, and that they are well-formed.
-use Rattle.std.proofs.Common.{arith}
-use Rattle.std.proofs.Common.{rules}
-use Rattle.std.proofs.Common.{◌≡◌, refl, ap, ◌∙◌, ℕ, List, [], ◌∷◌, ◌++◌, Bool, true, map}
-use Rattle.std.specs.Prelude.{◌&&◌, not}
-use Rattle.std.specs.List.{flat_map, list_all}
-use Rattle.std.specs.Cmp.{first_so, second_so}
+use Rattle.std.{proofs.Common.{arith, ◌≡◌, refl, ap, ◌∙◌, ℕ, List, [], ◌∷◌, ◌++◌, Bool, true, map}, specs.Prelude.{◌&&◌, not}}
+use Rattle.std.specs.{List.{flat_map, list_all}, Cmp.{first_so, second_so}}
 use Rattle.mpslp_builder.specs.Declaration.{Declarations, Draft, with_declarations}
-use Rattle.mpslp_types.specs.Lists.{is_nonempty, those_of}
-use Rattle.mpslp_types.specs.declared.faults.FaultKind.{FaultKind}
-use Rattle.mpslp_types.specs.declared.faults.FaultKind.TheVariants.{LineTooLong, BadByte}
-use Rattle.mpslp_types.proofs.BoolLemmas.{both_so}
-use Rattle.mpslp_lines.specs.FaultTests.{has_legal_length, is_legal_byte}
-use Rattle.mpslp_lines.proofs.HeldLemmas.{later_tests}
-use Rattle.mpslp_lines.proofs.FirstFaultLemmas.{legal-only}
+use Rattle.mpslp_types.{specs.{Lists.{is_nonempty, those_of}, declared.faults.FaultKind.FaultKind}, proofs.BoolLemmas.both_so}
+use Rattle.mpslp_lines.{specs.FaultTests.{has_legal_length, is_legal_byte}, proofs.{HeldLemmas.later_tests, FirstFaultLemmas.legal-only}}
 use Rattle.mpslp_mps_fields.specs.Line.{LineContent, content_of, outside_comment}
-use Rattle.mpslp_mps.specs.LegalLine.{is_legal_line}
-use Rattle.mpslp_mps.specs.Context.{Context, context_of}
-use Rattle.mpslp_mps.specs.LineDeclarations.{line_declares}
-use Rattle.mpslp_mps.specs.LineFault.{item_tests, line_tests}
-use Rattle.mpslp_mps.specs.MpsText.{declared_at, is_well_formed, lines_in_context_after}
+use Rattle.mpslp_mps.specs.{LegalLine.is_legal_line, Context.{Context, context_of}, LineDeclarations.line_declares, LineFault.item_tests}
+use Rattle.mpslp_mps.specs.{LineFault.line_tests, MpsText.{declared_at, is_well_formed, lines_in_context_after}}
 
 -- the errors of the form of the content of a line
 abbrev pub form_faults : Context → Draft → LineContent → List FaultKind
@@ -36,7 +24,7 @@ are_well_formed before earlier (item ∷ items) =
     not (is_nonempty (form_faults (context_of before) earlier item)) && are_well_formed (before ++ item ∷ []) (with_declarations earlier (line_declares (context_of before) earlier item)) items
 
 pub no_faults : (faults : List FaultKind) → not (is_nonempty faults) ≡ true → faults ≡ []
-no_faults v0 h = grind arith
+no_faults faults h = grind arith
 
 -- ---- lines and their contents
 

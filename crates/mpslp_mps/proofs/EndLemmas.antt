@@ -1,17 +1,7 @@
 -- The lines up to that of ENDATA, one after another.
-use Rattle.std.proofs.Common.{arith}
-use Rattle.std.proofs.Common.{rules}
-use Rattle.std.proofs.Common.{◌≡◌, refl, ℕ, suc, List, [], ◌∷◌, take, true, false}
-use Rattle.std.specs.Prelude.{Option, Some, None}
-use Rattle.std.specs.List.{position_or_len}
-use Rattle.std.specs.Option.{option_or}
-use Rattle.mpslp_mps_fields.specs.Line.{LineContent, section_of_header, is_section, begins}
-use Rattle.mpslp_mps.specs.Context.{Context}
-use Rattle.mpslp_mps.specs.NextContext.{next_context}
-use Rattle.mpslp_mps.specs.MpsText.{is_end}
-use Rattle.mpslp_mps.specs.FedLaws.{to_end-last, to_end-more}
-use Rattle.mpslp_mps_fields.specs.declared.sections.Section.{Section}
-use Rattle.mpslp_mps_fields.specs.declared.sections.Section.TheVariants.{EndData}
+use Rattle.std.{proofs.Common.{arith, ◌≡◌, ℕ, suc, List, [], ◌∷◌, take, true, false}, specs.List.position_or_len}
+use Rattle.mpslp_mps_fields.specs.{Line.{LineContent, is_section, begins}, declared.sections.Section.TheVariants.EndData}
+use Rattle.mpslp_mps.specs.{Context.Context, NextContext.next_context, MpsText.is_end, FedLaws.{to_end-last, to_end-more}}
 
 -- the lines up to that of ENDATA, as in `read_lines`
 abbrev pub up_to_end : List (List ℕ) → List (List ℕ)

@@ -1,35 +1,20 @@
 -- Lines that are read one after another, and the rest of a text that comes in pieces.
-use Rattle.std.proofs.Common.{rules}
-use Rattle.std.proofs.Common.{◌≡◌, refl, sym, ap, subst, ◌∙◌, ℕ, ◌+◌, ◌-◌, ◌^◌, min, List, [], ◌∷◌, ◌++◌, length, Bool, true, false, append-nil, arith}
-use Rattle.std.specs.Prelude.{◌||◌, Option, Some, None, is_some, if◌then◌else◌}
-use Rattle.std.specs.List.{list_any}
-use Rattle.std.specs.Option.{option_or, option_map}
-use Rattle.std.proofs.lemmas.List.{length-append}
-use Rattle.std.proofs.lemmas.List.Folds.{list_any-append}
+use Rattle.std.proofs.Common.{◌≡◌, refl, sym, ap, subst, ◌∙◌, ℕ, ◌+◌, ◌-◌, ◌^◌, min, List, [], ◌∷◌, ◌++◌, length, Bool, true, false}
+use Rattle.std.{proofs.{Common.{append-nil, arith}, lemmas.List.{length-append, Folds.list_any-append}}, specs.Prelude.{◌||◌, Option, Some}}
+use Rattle.std.specs.{Prelude.{None, is_some, if◌then◌else◌}, List.list_any, Option.{option_or, option_map}}
 use Rattle.mpslp_builder.specs.Declaration.{Draft, empty_draft}
-use Rattle.mpslp_types.specs.declared.faults.Fault.{Fault}
-use Rattle.mpslp_types.specs.declared.faults.FaultKind.{FaultKind}
+use Rattle.mpslp_types.specs.declared.faults.{Fault.Fault, FaultKind.FaultKind}
 use Rattle.mpslp_lines.specs.FaultTests.{fault_on_line}
-use Rattle.mpslp_mps_fields.specs.Line.{is_section, content_of}
-use Rattle.mpslp_mps.specs.Context.{Context, context_of}
-use Rattle.mpslp_mps.specs.NextContext.{without_names, kept_context}
-use Rattle.mpslp_mps.specs.MpsText.{is_end}
-use Rattle.mpslp_mps.specs.FirstFault.{line_fault}
+use Rattle.mpslp_mps_fields.specs.{Line.{is_section, content_of}, declared.sections.Section.TheVariants.EndData}
+use Rattle.mpslp_mps.specs.{Context.{Context, context_of}, NextContext.{without_names, kept_context}, MpsText.is_end, FirstFault.line_fault}
 use Rattle.mpslp_mps.specs.LineByLine.{placed_in, draft_after, context_after, fault_from, draft_from, context_from}
-use Rattle.mpslp_mps.specs.ReadAnswer.{lines_to_end}
-use Rattle.mpslp_mps.specs.Fed.{lines_fault, LedTo}
-use Rattle.mpslp_mps.specs.FedLaws.{to_end-last, to_end-more}
-use Rattle.mpslp_mps_fields.specs.declared.sections.Section.TheVariants.{EndData}
-use Rattle.mpslp_mps.specs.VectorDeclared.{HasMpsSides}
-use Rattle.mpslp_mps.proofs.EndLemmas.{at_end-after}
-use Rattle.mpslp_mps.proofs.LoopLemmas.{sides-next}
-use Rattle.mpslp_mps.proofs.NamedLemmas.{named-lines_to_end}
-use Rattle.mpslp_mps.proofs.ReadingLemmas.{fault_from-is}
+use Rattle.mpslp_mps.specs.{ReadAnswer.lines_to_end, Fed.{lines_fault, LedTo}, FedLaws.to_end-more, VectorDeclared.HasMpsSides}
+use Rattle.mpslp_mps.proofs.{EndLemmas.at_end-after, LoopLemmas.sides-next, NamedLemmas.named-lines_to_end, ReadingLemmas.fault_from-is}
 
 -- ---- lines after others
 
 or-after : (a b c : Option Fault) → option_or (option_or a b) c ≡ option_or a (option_or b c)
-or-after v0 b c = grind arith
+or-after a b c = grind arith
 
 fault_from-append : (xs ys : List (List ℕ)) (n : ℕ) (context : Context) (earlier : Draft)
     → fault_from n context earlier (xs ++ ys) ≡ option_or (fault_from n context earlier xs) (fault_from (n + length xs) (context_from context xs) (draft_from context earlier xs) ys)
@@ -55,10 +40,10 @@ draft_from-append (line ∷ xs) ys context earlier = draft_from-append xs ys (co
 -- ---- up to that of ENDATA
 
 first_none : (a b : Bool) → (a || b) ≡ false → a ≡ false
-first_none v0 b h = grind arith
+first_none a b h = grind arith
 
 rest_none : (a b : Bool) → (a || b) ≡ false → b ≡ false
-rest_none v0 b h = grind arith
+rest_none a b h = grind arith
 
 -- without a line of ENDATA all lines are read, and so are those after them
 unended-more : (xs ys : List (List ℕ)) → list_any is_end xs ≡ false → lines_to_end (xs ++ ys) ≡ xs ++ lines_to_end ys

@@ -1,54 +1,33 @@
 -- The first six fields of a line determine all that is checked of it: no data line of a known shape has so many.
-use Rattle.std.proofs.Common.{arith}
-use Rattle.std.proofs.Common.{rules}
-use Rattle.std.proofs.Common.{◌≡◌, refl, ℕ, List, [], ◌∷◌, take}
-use Rattle.std.specs.Prelude.{Option, Some, None}
+use Rattle.std.{proofs.Common.{arith, ◌≡◌, refl, ℕ, List, [], ◌∷◌, take}, specs.Prelude.Option}
 use Rattle.mpslp_builder.specs.Declaration.{Draft}
-use Rattle.mpslp_mps_fields.specs.Line.{Fields, data_line}
-use Rattle.mpslp_mps.specs.Context.{Context}
-use Rattle.mpslp_mps.specs.NextContext.{next_context}
-use Rattle.mpslp_mps.specs.LineDeclarations.{data_declared, header_declared}
+use Rattle.mpslp_mps_fields.specs.{Line.{Fields, data_line}, declared.sections.Section.Section}
+use Rattle.mpslp_mps.specs.{Context.Context, NextContext.next_context, LineDeclarations.{data_declared, header_declared}}
 use Rattle.mpslp_mps.specs.LineFault.{header_tests, data_tests}
-use Rattle.mpslp_mps_fields.specs.declared.sections.Section.{Section}
-use Rattle.mpslp_mps_fields.specs.declared.sections.Section.TheVariants.{Name, ObjSense, ObjName, Rows, Columns, Rhs, Ranges, Bounds, EndData}
 
 -- what is the same for seven or more fields as for the first six
 by-front : {X : Type 0} (g : Fields → X)
     → ((a b c d e x y : List ℕ) (more : Fields) → g (a ∷ b ∷ c ∷ d ∷ e ∷ x ∷ []) ≡ g (a ∷ b ∷ c ∷ d ∷ e ∷ x ∷ y ∷ more))
     → (fields : Fields) → g (take 6 fields) ≡ g fields
-by-front g h [] = refl
-by-front g h (a ∷ []) = refl
-by-front g h (a ∷ b ∷ []) = refl
-by-front g h (a ∷ b ∷ c ∷ []) = refl
-by-front g h (a ∷ b ∷ c ∷ d ∷ []) = refl
-by-front g h (a ∷ b ∷ c ∷ d ∷ e ∷ []) = refl
-by-front g h (a ∷ b ∷ c ∷ d ∷ e ∷ x ∷ []) = refl
 by-front g h (a ∷ b ∷ c ∷ d ∷ e ∷ x ∷ y ∷ more) = h a b c d e x y more
+by-front g h fields = refl
 
 pub data_tests-front : (context : Context) (earlier : Draft) (section : Option Section) (fields : Fields)
     → data_tests context earlier (take 6 fields) section ≡ data_tests context earlier fields section
-data_tests-front context earlier v2 fields = grind arith
+data_tests-front context earlier section fields = grind arith
 
 pub data_declared-front : (context : Context) (earlier : Draft) (section : Option Section) (fields : Fields)
     → data_declared context earlier (take 6 fields) section ≡ data_declared context earlier fields section
-data_declared-front context earlier v2 fields = grind arith
+data_declared-front context earlier section fields = grind arith
 
 pub next_context-front : (context : Context) (fields : Fields) → next_context context (data_line (take 6 fields)) ≡ next_context context (data_line fields)
 next_context-front context fields = by-front (λ f. next_context context (data_line f)) (λ a b c d e x y more. refl) fields
 
 -- ---- headers, of which the fields after the keyword are at most five
 
-short-tests : (context : Context) (earlier : Draft) (keyword : List ℕ) (section : Section) (b c d e x y : List ℕ) (more : Fields)
-    → header_tests context earlier keyword (b ∷ c ∷ d ∷ e ∷ x ∷ []) (Some section) ≡ header_tests context earlier keyword (b ∷ c ∷ d ∷ e ∷ x ∷ y ∷ more) (Some section)
-short-tests context earlier keyword v3 b c d e x y more = grind arith
-
 pub header_tests-front : (context : Context) (earlier : Draft) (keyword : List ℕ) (section : Option Section) (more : Fields)
     → header_tests context earlier keyword (take 5 more) section ≡ header_tests context earlier keyword more section
-header_tests-front context earlier keyword v3 v4 = grind arith
-
-short-declared : (context : Context) (earlier : Draft) (section : Section) (b c d e x y : List ℕ) (more : Fields)
-    → header_declared context earlier (b ∷ c ∷ d ∷ e ∷ x ∷ []) (Some section) ≡ header_declared context earlier (b ∷ c ∷ d ∷ e ∷ x ∷ y ∷ more) (Some section)
-short-declared context earlier v2 b c d e x y more = grind arith
+header_tests-front context earlier keyword section more = grind arith
 
 pub header_declared-front : (context : Context) (earlier : Draft) (section : Option Section) (more : Fields) → header_declared context earlier (take 5 more) section ≡ header_declared context earlier more section
-header_declared-front context earlier v2 v3 = grind arith
+header_declared-front context earlier section more = grind arith

@@ -1,32 +1,19 @@
 -- A line is read as its first six fields are.
-use Rattle.std.proofs.Common.{◌≡◌, refl, sym, ap, subst, ◌∙◌, ℕ, List, [], ◌∷◌, ◌++◌, map, length, take, Bor, Bool, true, false, cond, arith}
-use Rattle.std.specs.Cmp.{first_so, second_so}
-use Rattle.std.specs.List.{list_all}
-use Rattle.std.proofs.lemmas.Bool.Decides.{nat_tests}
-use Rattle.std.specs.Prelude.{◌==◌, ◌&&◌, ◌||◌, Option, Ok, Err}
-use Rattle.mpslp_builder.specs.Declaration.{Draft, with_declarations}
-use Rattle.mpslp_types.specs.Lists.{those_of}
-use Rattle.mpslp_types.specs.FaultOrder.{least_kind}
-use Rattle.mpslp_types.specs.declared.faults.FaultKind.{FaultKind}
-use Rattle.mpslp_mps_fields.specs.Line.{Fields, LineContent, skipped, header, data_line, header_of, fields, is_blank, is_comment, is_skipped, is_data, content_of, section_named}
-use Rattle.mpslp_mps_fields.proofs.FieldsLemmas.{fields-cut}
-use Rattle.mpslp_mps.specs.Context.{Context}
-use Rattle.mpslp_mps.specs.NextContext.{next_context}
-use Rattle.mpslp_mps.specs.LineDeclarations.{line_declares}
-use Rattle.mpslp_mps.specs.LineFault.{item_tests}
-use Rattle.mpslp_lines.specs.Declaring.{declaring_faults}
-use Rattle.mpslp_lines.specs.LineAnswer.{LineResult, IsErrorOf}
-use Rattle.mpslp_mps.specs.LineAnswer.{ReadsContent}
-use Rattle.mpslp_mps.proofs.FrontLemmas.{data_tests-front, data_declared-front, next_context-front, header_tests-front, header_declared-front}
+use Rattle.std.proofs.Common.{◌≡◌, refl, sym, ap, ◌∙◌, ℕ, List, [], ◌∷◌, map, length, take, Bor, Bool, true, false, cond, arith}
+use Rattle.std.{proofs.lemmas.Bool.Decides.nat_tests, specs.{Cmp.{first_so, second_so}, List.list_all, Prelude.◌==◌}}
+use Rattle.mpslp_builder.specs.Declaration.{Draft}
+use Rattle.mpslp_mps_fields.specs.Line.{Fields, LineContent, skipped, header, data_line, header_of, fields, is_blank, is_comment}
+use Rattle.mpslp_mps_fields.specs.Line.{is_skipped, is_data, content_of}
+use Rattle.mpslp_mps.specs.{Context.Context, NextContext.next_context, LineDeclarations.line_declares, LineFault.item_tests}
+use Rattle.mpslp_mps.{specs.LineAnswer.ReadsContent, proofs.FrontLemmas.{data_tests-front, data_declared-front, next_context-front}}
+use Rattle.mpslp_mps.proofs.FrontLemmas.{header_tests-front, header_declared-front}
+use Rattle.mpslp_lines.specs.LineAnswer.{LineResult}
 
 -- contents with the same errors, declarations and next context have the same result
 taken_as : (context : Context) (earlier : Draft) (item other : LineContent) (answer : LineResult) (next : Context) (later : Draft)
     → item_tests context earlier item ≡ item_tests context earlier other → line_declares context earlier item ≡ line_declares context earlier other
     → next_context context item ≡ next_context context other → ReadsContent context earlier item answer next later → ReadsContent context earlier other answer next later
-taken_as context earlier item other (Ok x) next later tests ds step (fault_is, is, draft) =
-    (sym (λ i. least_kind (those_of (tests i) ++ declaring_faults earlier (ds i))) ∙ fault_is, is ∙ step, draft ∙ ap (with_declarations earlier) ds)
-taken_as context earlier item other (Err error) next later tests ds step fault_is =
-    subst (λ (o : Option FaultKind). IsErrorOf o error) (λ i. least_kind (those_of (tests i) ++ declaring_faults earlier (ds i))) fault_is
+taken_as context earlier item other answer next later tests ds step h = grind arith
 
 pub data-front : (context : Context) (earlier : Draft) (fields : Fields) (answer : LineResult) (next : Context) (later : Draft)
     → ReadsContent context earlier (data_line (take 6 fields)) answer next later → ReadsContent context earlier (data_line fields) answer next later
@@ -41,10 +28,7 @@ next_header context keyword (word ∷ second ∷ more) = refl
 
 pub header-front : (context : Context) (earlier : Draft) (fields : Fields) (answer : LineResult) (next : Context) (later : Draft)
     → ReadsContent context earlier (header_of (take 6 fields)) answer next later → ReadsContent context earlier (header_of fields) answer next later
-header-front context earlier [] answer next later taken = taken
-header-front context earlier (keyword ∷ more) answer next later taken =
-    taken_as context earlier (header keyword (take 5 more)) (header keyword more) answer next later (header_tests-front context earlier keyword (section_named keyword) more)
-    (header_declared-front context earlier (section_named keyword) more) (next_header context keyword more) taken
+header-front context earlier fields answer next later taken = grind (arith, taken_as, header_tests-front, header_declared-front, next_header)
 
 -- ---- lines without fields
 
@@ -57,34 +41,15 @@ blank-fields (b ∷ line) all = blank-next b line (first_so (is_blank b) (list_a
 
 fields-blank : (line : List ℕ) → fields line ≡ [] → list_all is_blank line ≡ true
 fields-blank [] none = refl
-fields-blank (b ∷ line) none = by (is_blank b) refl (fields-blank line)
-  where
-    by : (x : Bool) → is_blank b ≡ x → (fields line ≡ [] → list_all is_blank line ≡ true) → list_all is_blank (b ∷ line) ≡ true
-    by true blank rest = ap (λ (x : Bool). x && list_all is_blank line) blank ∙ rest (sym (blank-next b line blank) ∙ none)
-    by false solid rest = let cut = fields-cut (b ∷ line) solid (λ same. absurd cc) in absurd cc
-
--- a comment is skipped
-pub comment-item : (line : List ℕ) → is_comment line ≡ true → content_of line ≡ skipped
-comment-item line comment =
-    ap (λ (b : Bool). cond (b || list_all is_blank line) skipped (cond (is_data line) (data_line (fields line)) (header_of (fields line)))) comment
+fields-blank (b ∷ line) none = grind (arith, fields-blank line)
 
 -- and so is a line without fields
 pub empty-item : (line : List ℕ) → is_comment line ≡ false → take 6 (fields line) ≡ [] → content_of line ≡ skipped
-empty-item line text none =
-    ap (λ (b : Bool). cond (b || list_all is_blank line) skipped (cond (is_data line) (data_line (fields line)) (header_of (fields line)))) text
-    ∙ ap (λ (b : Bool). cond b skipped (cond (is_data line) (data_line (fields line)) (header_of (fields line)))) (fields-blank line (front_none (fields line) none))
-  where
-    front_none : (fields : Fields) → take 6 fields ≡ [] → fields ≡ []
-    front_none [] none = refl
-    front_none (field ∷ more) none = absurd cc
+empty-item line text none = grind (arith, fields-blank)
 
 -- but no other line
 pub read-item : (line : List ℕ) → is_comment line ≡ false → (take 6 (fields line) ≡ [] → ⊥) → is_skipped line ≡ false
-read-item line text some = by (list_all is_blank line) refl
-  where
-    by : (x : Bool) → list_all is_blank line ≡ x → is_skipped line ≡ false
-    by true blank = absurd (some (ap (take 6) (blank-fields line blank)))
-    by false solid = ap (λ (b : Bool). b || list_all is_blank line) text ∙ solid
+read-item line text some = grind (arith, blank-fields)
 
 -- the fields that a reader took
 pub no_fields : (taken : List (Bor (List ℕ))) (front : Fields) → map (λ field. field.now) taken ≡ front → (length taken == 0) ≡ true → front ≡ []

@@ -1,34 +1,16 @@
 -- The first error of a header: that of its form, or else that of what it declares.
-use Rattle.std.proofs.Common.{arith}
-use Rattle.std.proofs.Common.{rules}
-use Rattle.std.proofs.Common.{◌≡◌, refl, ap, ◌∙◌, ℕ, List, [], ◌∷◌, Bool, true, false, cond}
-use Rattle.std.specs.Prelude.{Option, Some, None, codes}
-use Rattle.std.specs.List.{list_all}
-use Rattle.mpslp_types.specs.Name.{is_one_of}
+use Rattle.std.{proofs.Common.{arith, ◌≡◌, ℕ, List, true}, specs.{Prelude.{Option, Some, None}, List.list_all}}
 use Rattle.mpslp_builder.specs.Declaration.{Draft}
 use Rattle.mpslp_types.specs.declared.faults.FaultKind.{FaultKind}
 use Rattle.mpslp_types.specs.declared.faults.FaultKind.TheVariants as kinds
-use Rattle.mpslp_mps_fields.specs.Line.{Fields, header, section_named, unknown_section}
-use Rattle.mpslp_mps.specs.Context.{Context}
-use Rattle.mpslp_lines.specs.FaultTests.{first_held}
-use Rattle.mpslp_mps.specs.LineFault.{header_tests}
-use Rattle.mpslp_mps.specs.LineDeclarations.{header_declared}
-use Rattle.mpslp_mps.specs.LineAnswer.{item_fault}
-use Rattle.mpslp_lines.specs.Declaring.{declared_fault}
-use Rattle.mpslp_mps_fields.specs.declared.sections.Section.{Section}
-use Rattle.mpslp_mps_fields.specs.declared.sections.Section.TheVariants.{Name, ObjSense, ObjName, Rows, Columns, Rhs, Ranges, Bounds, EndData}
-use Rattle.mpslp_lines.proofs.LeastLemmas.{is_from}
-use Rattle.mpslp_lines.proofs.FirstFaultLemmas.{form-first, declared-first}
-use Rattle.mpslp_mps.proofs.ClashLemmas.{header-apart}
+use Rattle.mpslp_mps_fields.specs.{Line.{Fields, header, section_named}, declared.sections.Section.Section}
+use Rattle.mpslp_mps.specs.{Context.Context, LineFault.header_tests, LineDeclarations.header_declared, LineAnswer.item_fault}
+use Rattle.mpslp_mps.proofs.{ClashLemmas.header-apart, RisingTests.header-rising, TakingLemmas.is_early}
+use Rattle.mpslp_lines.{specs.{FaultTests.first_held, Declaring.declared_fault}, proofs.{LeastLemmas.is_from, FirstFaultLemmas.form-first}}
 use Rattle.mpslp_lines.proofs.HeldLemmas.{held-among}
-use Rattle.mpslp_mps.proofs.RisingTests.{header-rising}
-use Rattle.mpslp_mps.proofs.TakingLemmas.{is_early}
-
-unknown_early : (keyword : List ℕ) → list_all is_early ((true, unknown_section keyword) ∷ []) ≡ true
-unknown_early keyword = grind arith
 
 header-early : (context : Context) (earlier : Draft) (keyword : List ℕ) (more : Fields) (section : Option Section) → list_all is_early (header_tests context earlier keyword more section) ≡ true
-header-early context earlier keyword v3 v4 = grind arith
+header-early context earlier keyword more section = grind arith
 
 pub header-form : (context : Context) (earlier : Draft) (keyword : List ℕ) (more : Fields) (kind : FaultKind)
     → first_held (header_tests context earlier keyword more (section_named keyword)) ≡ Some kind

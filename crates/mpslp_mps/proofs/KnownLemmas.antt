@@ -1,63 +1,43 @@
 -- In well-formed lines each row and column is declared before it is used.
-use Rattle.std.proofs.Common.{arith}
-use Rattle.std.proofs.Common.{rules}
-use Rattle.std.proofs.Common.{◌≡◌, refl, sym, subst, ◌∙◌, List, [], ◌∷◌, ◌++◌, ℕ, Bool, true, false, cond}
-use Rattle.std.specs.Prelude.{Option, Some, None, is_none, ◌&&◌, not, codes}
-use Rattle.std.specs.List.{list_all, flat_map}
+use Rattle.std.proofs.Common.{arith, ◌≡◌, refl, sym, subst, ◌∙◌, List, [], ◌∷◌, ◌++◌, ℕ, Bool, true, false, cond}
+use Rattle.std.{proofs.lemmas.List.Folds.list_all-append, specs.{Prelude.{Option, Some, None, ◌&&◌, not}, List.{list_all, flat_map}}}
 use Rattle.std.specs.Cmp.{first_so, second_so}
-use Rattle.std.proofs.lemmas.List.Folds.{list_all-append}
-use Rattle.mpslp_builder.specs.Declaration.{by_type, Declaration, declare_sense, declare_objective, declare_row, declare_rhs, declare_range, declare_column, declare_coefficient, declare_marked, Declarations, Draft, with_declaration, with_declarations, has_row, has_column, is_free_row, rhs_declared}
-use Rattle.mpslp_builder.specs.Consistency.{is_known}
-use Rattle.mpslp_types.specs.Name.{same_bytes}
-use Rattle.mpslp_types.specs.Lists.{those_of, is_nonempty, when}
-use Rattle.mpslp_types.specs.declared.kinds.Sense.{Sense}
-use Rattle.mpslp_types.specs.declared.kinds.Limit.{Limit}
-use Rattle.mpslp_types.specs.declared.kinds.RowType.{RowType}
-use Rattle.mpslp_types.specs.declared.kinds.RowType.TheVariants.{Free, AtMost, AtLeast, Equal}
-use Rattle.mpslp_types.proofs.BoolLemmas.{both_so, or_left}
-use Rattle.mpslp_builder.proofs.RefusalLemmas.{are_known_in_turn}
-use Rattle.mpslp_builder.proofs.LaterDrafts.{itself_named}
-use Rattle.mpslp_builder.proofs.SlotLemmas.{has-put}
+use Rattle.mpslp_builder.specs.Declaration.{Declaration, declare_rhs, declare_range, declare_column, declare_coefficient, declare_marked}
+use Rattle.mpslp_builder.specs.Declaration.{Declarations, Draft, with_declaration, with_declarations, has_row, has_column, is_free_row}
+use Rattle.mpslp_builder.{specs.{Declaration.rhs_declared, Consistency.is_known}, proofs.RefusalLemmas.are_known_in_turn}
+use Rattle.mpslp_builder.proofs.{LaterDrafts.itself_named, SlotLemmas.has-put, MadeDrafts.with_declarations-append}
+use Rattle.mpslp_types.{specs.{Name.same_bytes, Lists.{those_of, is_nonempty, when}, declared.kinds.Limit.Limit}, proofs.BoolLemmas.both_so}
+use Rattle.mpslp_types.proofs.BoolLemmas.{or_left}
 use Rattle.mpslp_mps_fields.specs.Line.{Fields, LineContent, skipped, header, data_line, has, section_named, begins, is_section}
-use Rattle.mpslp_mps_fields.specs.DataLine.{RowLine, Pair, ValuesLine, word_shape, sense_of, row_shape, row_type, column_shape, is_marker_line, vector_shape, BoundLine, bound_type, bound_shape}
-use Rattle.mpslp_mps.specs.Context.{Context, context_of, current_section}
-use Rattle.mpslp_mps.specs.TextInWords.{has_section}
-use Rattle.mpslp_mps.specs.LineDeclarations.{declared_if_some, sense_declared, is_new_objective, row_of_type, row_declared, coefficient_declared, column_declared, columns_line_declared, rhs_line_declared, ranges_declared, bound_declared, bound_value, bound_line_declared, data_declared, header_declared, line_declares}
-use Rattle.mpslp_lines.specs.FaultTests.{value_of}
-use Rattle.mpslp_mps.specs.LineFault.{header_tests}
-use Rattle.mpslp_mps.proofs.ContextLineLemmas.{form_faults, declared_items, are_well_formed, no_faults}
-use Rattle.mpslp_mps_fields.specs.declared.sections.Section.{Section}
-use Rattle.mpslp_mps_fields.specs.declared.sections.Section.TheVariants.{Name, ObjSense, ObjName, Rows, Columns, Rhs, Ranges, Bounds, EndData}
+use Rattle.mpslp_mps_fields.specs.DataLine.{Pair, ValuesLine, word_shape, row_shape, column_shape, is_marker_line, vector_shape, BoundLine}
+use Rattle.mpslp_mps_fields.specs.{DataLine.{bound_type, bound_shape}, declared.sections.Section.{Section, TheVariants.{Name, ObjSense}}}
+use Rattle.mpslp_mps_fields.specs.declared.sections.Section.TheVariants.{ObjName, Rows, Columns, Rhs, Ranges, Bounds, EndData}
 use Rattle.mpslp_mps_fields.specs.declared.bound_types.BoundType.{BoundType}
 use Rattle.mpslp_mps_fields.specs.declared.bound_types.BoundType.TheVariants as bounds
-use Rattle.mpslp_builder.proofs.MadeDrafts.{with_declarations-append}
-use Rattle.mpslp_mps.proofs.SectionLemmas.{has_section-push}
-use Rattle.mpslp_mps.proofs.OrderLemmas.{header-fresh, Past, past-rows, past-columns, never, IsGood, is_late, Ordered, ordered-push, declares_row, declares_column, no_rows, no_columns, rows-kept, columns-kept, each-declared, sense-passes, sides-passes, ranges-passes, bounds-passes, columns-line-no-rows, passes-no_rows, passes-no_columns}
+use Rattle.mpslp_mps.specs.{Context.{Context, context_of, current_section}, SeenSection.has_section, LineDeclarations.declared_if_some}
+use Rattle.mpslp_mps.specs.LineDeclarations.{sense_declared, row_declared, coefficient_declared, column_declared, columns_line_declared}
+use Rattle.mpslp_mps.specs.LineDeclarations.{rhs_line_declared, ranges_declared, bound_declared, bound_value, bound_line_declared}
+use Rattle.mpslp_mps.specs.{LineDeclarations.{data_declared, header_declared, line_declares}, LineFault.header_tests}
+use Rattle.mpslp_mps.proofs.{ContextLineLemmas.{form_faults, declared_items, are_well_formed, no_faults}, SectionLemmas.has_section-push}
+use Rattle.mpslp_mps.proofs.OrderLemmas.{Past, past-rows, past-columns, IsGood, is_late, Ordered, ordered-push, declares_row}
+use Rattle.mpslp_mps.proofs.OrderLemmas.{declares_column, no_rows, no_columns, rows-kept, columns-kept}
+use Rattle.mpslp_lines.specs.FaultTests.{value_of}
 
 -- ---- no rows are declared after ROWS, and no columns after COLUMNS
 
 no-rows-header : (context : Context) (earlier : Draft) (keyword : List ℕ) (more : Fields) (o : Option Section) → those_of (header_tests context earlier keyword more o) ≡ [] → has context.sections_seen Columns ≡ true
     → no_rows (header_declared context earlier more o) ≡ true
-no-rows-header context earlier keyword more v4 h c = grind arith
+no-rows-header context earlier keyword more o h c = grind arith
 
 pub no-rows-data : (context : Context) (earlier : Draft) (fields : Fields) (o : Option Section) → is_section Rows o ≡ false → no_rows (data_declared context earlier fields o) ≡ true
-no-rows-data context earlier fields v3 h = grind arith
+no-rows-data context earlier fields o h = grind arith
 
 no-rows-line : (before : List LineContent) (earlier : Draft) (item : LineContent) → IsGood before earlier item → Past Rows before → has_section before Columns ≡ true
     → no_rows (line_declares (context_of before) earlier item) ≡ true
-no-rows-line before earlier v2 h past columns = grind (arith, no-rows-header, no-rows-data)
-
-pub no-columns-header : (context : Context) (earlier : Draft) (more : Fields) (o : Option Section) → no_columns (header_declared context earlier more o) ≡ true
-no-columns-header context earlier more v3 = grind arith
-
-row-no-columns : (context : Context) (earlier : Draft) (name : List ℕ) (type : RowType) → no_columns (row_of_type context earlier name type) ≡ true
-row-no-columns context earlier name v3 = grind arith
-
-pub no-columns-data : (context : Context) (earlier : Draft) (fields : Fields) (o : Option Section) → is_section Columns o ≡ false → no_columns (data_declared context earlier fields o) ≡ true
-no-columns-data context earlier fields v3 h = grind arith
+no-rows-line before earlier item h past columns = grind (arith, no-rows-header, no-rows-data)
 
 no-columns-line : (before : List LineContent) (earlier : Draft) (item : LineContent) → Past Columns before → no_columns (line_declares (context_of before) earlier item) ≡ true
-no-columns-line before earlier v2 past = grind arith
+no-columns-line before earlier item past = grind arith
 
 -- the first of some well-formed lines, and the rest
 pub good-first : (before : List LineContent) (earlier : Draft) (item : LineContent) (items : List LineContent) → are_well_formed before earlier (item ∷ items) ≡ true → IsGood before earlier item
@@ -115,7 +95,7 @@ cells-known final before column (pair ∷ pairs) rows c h =
     (both_so (has_row before pair.row) (has_column before column) (rows pair.row row) c)
     (cells-known final (with_declaration before d) column pairs rows c (second_so (is_known final d) (list_all (is_known final) (flat_map (coefficient_declared column) pairs)) h))
 
-column-there : (before : Draft) (column : List ℕ) → has_column (with_declaration before (declare_column column)) column ≡ true
+pub column-there : (before : Draft) (column : List ℕ) → has_column (with_declaration before (declare_column column)) column ≡ true
 column-there before column = has-put column column tt before.columns ∙ or_left (same_bytes column column) _ (itself_named column)
 
 column-line-known : (final before : Draft) (marked : Bool) (line : ValuesLine) → HasRowsOf final before
@@ -169,14 +149,10 @@ bound-known : (final before : Draft) (type : BoundType) (c : List ℕ) (v : Limi
     → AreKnown final (bound_declared type c v) → are_known_in_turn before (bound_declared type c v) ≡ true
 bound-known final before bounds.Lower c v columns h = let k = columns c (first_so (has_column final c) true h) in rw k refl
 bound-known final before bounds.Upper c v columns h = let k = columns c (first_so (has_column final c) true h) in rw k refl
-bound-known final before bounds.Fixed c v columns h = let k = columns c (first_so (has_column final c) (has_column final c && true) h) in rw k refl
-bound-known final before bounds.Free c v columns h = let k = columns c (first_so (has_column final c) (has_column final c && true) h) in rw k refl
 bound-known final before bounds.NoLower c v columns h = let k = columns c (first_so (has_column final c) true h) in rw k refl
 bound-known final before bounds.NoUpper c v columns h = let k = columns c (first_so (has_column final c) true h) in rw k refl
 bound-known final before bounds.Binary c v columns h = let k = columns c (first_so (has_column final c) (has_column final c && (has_column final c && true)) h) in rw k refl
-bound-known final before bounds.IntegerLower c v columns h = let k = columns c (first_so (has_column final c) (has_column final c && true) h) in rw k refl
-bound-known final before bounds.IntegerUpper c v columns h = let k = columns c (first_so (has_column final c) (has_column final c && true) h) in rw k refl
-bound-known final before bounds.SemiUpper c v columns h = let k = columns c (first_so (has_column final c) (has_column final c && true) h) in rw k refl
+bound-known final before type c v columns h = grind arith
 
 bounds-known : (final before : Draft) (fields : Fields) → HasColumnsOf final before → AreKnown final (bound_line_declared fields) → are_known_in_turn before (bound_line_declared fields) ≡ true
 bounds-known final before [] columns h = refl
@@ -207,7 +183,7 @@ rows-known : (context : Context) (earlier before : Draft) (fields : Fields) → 
 rows-known context earlier before fields = grind arith
 
 header-known : (context : Context) (earlier : Draft) (more : Fields) (o : Option Section) → are_known_in_turn earlier (header_declared context earlier more o) ≡ true
-header-known context earlier more v3 = grind arith
+header-known context earlier more o = grind arith
 
 data-known : (context : Context) (final earlier : Draft) (fields : Fields) (o : Option Section) → (is_rowed o ≡ true → HasRowsOf final earlier) → (is_section Bounds o ≡ true → HasColumnsOf final earlier)
     → AreKnown final (data_declared context earlier fields o) → are_known_in_turn earlier (data_declared context earlier fields o) ≡ true
@@ -246,10 +222,10 @@ same-columns : (before : List LineContent) (earlier : Draft) (items : List LineC
 same-columns before earlier items h past c known = sym (columns-kept (declared_items before earlier items) earlier c (no-columns-later items before earlier h past)) ∙ known
 
 rowed-late : (o : Option Section) → is_rowed o ≡ true → (is_late o ≡ true) × (is_section Rows o ≡ false)
-rowed-late v0 h = grind arith
+rowed-late o h = grind arith
 
 bounds-late : (o : Option Section) → is_section Bounds o ≡ true → (is_late o ≡ true) × (is_section Columns o ≡ false)
-bounds-late v0 h = grind arith
+bounds-late o h = grind arith
 
 line-known : (before : List LineContent) (earlier : Draft) (item : LineContent) (items : List LineContent) → are_well_formed before earlier (item ∷ items) ≡ true → Ordered before
     → AreKnown (with_declarations earlier (declared_items before earlier (item ∷ items))) (line_declares (context_of before) earlier item)

@@ -1,55 +1,34 @@
 -- What well-formed lines declare has legal names and decimals.
-use Rattle.std.proofs.Common.{arith}
-use Rattle.std.proofs.Common.{rules}
-use Rattle.std.proofs.Common.{◌≡◌, refl, ◌∙◌, List, [], ◌∷◌, ◌++◌, ℕ, Bool, true, false, cond}
-use Rattle.std.specs.Prelude.{◌&&◌, Option, Some, None, is_none, codes}
-use Rattle.std.specs.List.{list_all, flat_map}
-use Rattle.std.specs.Option.{option_map_or}
-use Rattle.std.proofs.lemmas.List.Folds.{list_all-append}
-use Rattle.mpslp_types.specs.Name.{is_mps_name}
-use Rattle.mpslp_types.specs.Limit.{limit_of, is_given}
-use Rattle.mpslp_builder.specs.Declaration.{by_type, declare_sense, declare_objective, declare_row, declare_rhs, declare_range, declare_marked, Draft, with_declarations, is_free_row, rhs_declared}
-use Rattle.mpslp_builder.specs.Bounds.{zero_limit}
-use Rattle.mpslp_builder.specs.Made.{is_legal}
-use Rattle.mpslp_types.specs.Lists.{those_of}
-use Rattle.mpslp_types.specs.declared.kinds.Limit.{Limit}
-use Rattle.mpslp_types.specs.declared.kinds.RowType.{RowType}
-use Rattle.mpslp_types.specs.declared.kinds.RowType.TheVariants.{Free, AtMost, AtLeast, Equal}
-use Rattle.mpslp_types.specs.declared.faults.FaultKind.TheVariants as kinds
-use Rattle.mpslp_types.proofs.BoolLemmas.{both_so}
-use Rattle.mpslp_lines.proofs.FieldLemmas.{name-legal, value-decimal, limit-given}
-use Rattle.mpslp_mps_fields.specs.Line.{Fields, LineContent, skipped, header, data_line, section_named}
-use Rattle.mpslp_mps_fields.specs.DataLine.{RowLine, Pair, ValuesLine, word_shape, sense_of, row_shape, row_type, column_shape, is_marker_line, vector_shape, BoundLine, bound_type, bound_shape}
-use Rattle.mpslp_mps.specs.Context.{Context, context_of, current_section}
-use Rattle.mpslp_mps.specs.LineDeclarations.{declared_if_some, sense_declared, is_new_objective, row_of_type, row_declared, coefficient_declared, column_declared, columns_line_declared, rhs_line_declared, ranges_declared, bound_declared, bound_value, bound_line_declared, data_declared, header_declared, line_declares}
-use Rattle.mpslp_lines.specs.FaultTests.{value_of, name_tests, number_tests, judged_by}
-use Rattle.mpslp_mps.specs.LineFault.{literals_of, row_line_tests, marker_tests, is_split, column_tests, columns_line_tests, data_tests}
-use Rattle.mpslp_mps_fields.specs.declared.sections.Section.{Section}
-use Rattle.mpslp_mps_fields.specs.declared.sections.Section.TheVariants.{Name, ObjSense, ObjName, Rows, Columns, Rhs, Ranges, Bounds, EndData}
-use Rattle.mpslp_mps_fields.specs.declared.bound_types.BoundType.{BoundType}
-use Rattle.mpslp_mps_fields.specs.declared.bound_types.BoundType.TheVariants as bounds
-use Rattle.mpslp_mps.proofs.ContextLineLemmas.{declared_items, are_well_formed}
-use Rattle.mpslp_lines.proofs.HeldLemmas.{later_tests}
-use Rattle.mpslp_mps.proofs.OrderLemmas.{IsGood, each-declared, each-flat, each-mapped}
-use Rattle.mpslp_mps.proofs.KnownLemmas.{good-first, good-rest}
+use Rattle.std.proofs.{Common.{arith, ◌≡◌, refl, ◌∙◌, List, [], ◌∷◌, ◌++◌, ℕ, Bool, true, false, cond}, lemmas.List.Folds.list_all-append}
+use Rattle.std.specs.{Prelude.{Option, Some, None}, List.{list_all, flat_map}}
+use Rattle.mpslp_types.{specs.{Limit.is_given, Lists.those_of, declared.kinds.Limit.Limit}, proofs.BoolLemmas.both_so}
+use Rattle.mpslp_builder.specs.{Declaration.{declare_rhs, Draft, with_declarations, is_free_row, rhs_declared}, Made.is_legal}
+use Rattle.mpslp_lines.{proofs.FieldLemmas.{name-legal, value-decimal, limit-given}, specs.FaultTests.{value_of, judged_by}}
+use Rattle.mpslp_mps_fields.specs.{Line.{Fields, LineContent, skipped, header, data_line, section_named}, DataLine.{RowLine, Pair}}
+use Rattle.mpslp_mps_fields.specs.DataLine.{ValuesLine, word_shape, row_shape, vector_shape, BoundLine, bound_type, bound_shape}
+use Rattle.mpslp_mps_fields.specs.declared.sections.Section.{Section, TheVariants.{Name, ObjSense, ObjName, Rows, Columns, Rhs, Ranges}}
+use Rattle.mpslp_mps_fields.specs.declared.{sections.Section.TheVariants.{Bounds, EndData}, bound_types.BoundType.BoundType}
+use Rattle.mpslp_mps.specs.{Context.{Context, context_of, current_section}, LineDeclarations.{declared_if_some, sense_declared}}
+use Rattle.mpslp_mps.specs.LineDeclarations.{row_declared, coefficient_declared, column_declared, columns_line_declared, rhs_line_declared}
+use Rattle.mpslp_mps.specs.LineDeclarations.{ranges_declared, bound_declared, bound_value, bound_line_declared, data_declared}
+use Rattle.mpslp_mps.specs.{LineDeclarations.{header_declared, line_declares}, LineFault.{row_line_tests, column_tests, columns_line_tests}}
+use Rattle.mpslp_mps.{specs.LineFault.data_tests, proofs.{ContextLineLemmas.{declared_items, are_well_formed}, OrderLemmas.IsGood}}
+use Rattle.mpslp_mps.proofs.{OrderLemmas.{each-declared, each-flat, each-mapped}, KnownLemmas.{good-first, good-rest}}
 
 -- ---- lines
 
 sense-legal : (fields : Fields) → list_all is_legal (declared_if_some sense_declared (word_shape fields)) ≡ true
 sense-legal fields = grind arith
 
-row-type-legal : (context : Context) (earlier : Draft) (name : List ℕ) (type : RowType) → is_mps_name name ≡ true → list_all is_legal (row_of_type context earlier name type) ≡ true
-row-type-legal context earlier name v3 h = grind arith
-
 row-legal : (context : Context) (earlier : Draft) (o : Option RowLine) → those_of (judged_by row_line_tests o) ≡ [] → list_all is_legal (declared_if_some (row_declared context earlier) o) ≡ true
-row-legal context earlier v2 h = grind arith
+row-legal context earlier o h = grind arith
 
 cells-legal : (column : List ℕ) (pairs : List Pair) → list_all is_legal (flat_map (coefficient_declared column) pairs) ≡ true
 cells-legal column pairs = each-flat is_legal (coefficient_declared column) pairs (λ pair. rw (value-decimal pair.literal) refl)
 
 column-legal : (context : Context) (earlier : Draft) (o : Option ValuesLine) → those_of (judged_by (column_tests context earlier) o) ≡ []
     → list_all is_legal (declared_if_some (column_declared context) o) ≡ true
-column-legal context earlier v2 h = grind (arith, both_so, name-legal, cells-legal)
+column-legal context earlier o h = grind (arith, both_so, name-legal, cells-legal)
 
 columns-legal : (context : Context) (earlier : Draft) (fields : Fields) → those_of (columns_line_tests context earlier fields) ≡ []
     → list_all is_legal (columns_line_declared context fields) ≡ true
@@ -68,7 +47,7 @@ ranges-legal : (fields : Fields) → list_all is_legal (declared_if_some ranges_
 ranges-legal fields = grind (arith, each-declared, each-mapped, value-decimal)
 
 bound-legal : (type : BoundType) (c : List ℕ) (v : Limit) → is_given v ≡ true → list_all is_legal (bound_declared type c v) ≡ true
-bound-legal v0 c v h = grind arith
+bound-legal type c v h = grind arith
 
 bound-value-given : (line : BoundLine) → is_given (bound_value line) ≡ true
 bound-value-given line = grind (arith, limit-given, value-decimal)
@@ -81,7 +60,7 @@ bounds-legal (letters ∷ more) =
     (λ line. bound-legal type line.column (bound_value line) (bound-value-given line)))
 
 header-legal : (context : Context) (earlier : Draft) (more : Fields) (o : Option Section) → list_all is_legal (header_declared context earlier more o) ≡ true
-header-legal context earlier more v3 = grind arith
+header-legal context earlier more o = grind arith
 
 data-legal : (context : Context) (earlier : Draft) (fields : Fields) (o : Option Section) → those_of (data_tests context earlier fields o) ≡ []
     → list_all is_legal (data_declared context earlier fields o) ≡ true

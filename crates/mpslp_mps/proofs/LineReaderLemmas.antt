@@ -1,27 +1,15 @@
 -- What a reader of lines returns for the next line, and at the end.
-use Rattle.std.proofs.Common.{arith}
-use Rattle.std.proofs.Common.{◌≡◌, sym, ap, subst, ◌∙◌, ℕ, List, [], ◌∷◌, true, false}
-use Rattle.std.specs.Prelude.{Some, None, Result}
+use Rattle.std.{proofs.Common.{arith, ◌≡◌, sym, subst, ◌∙◌, ℕ, List, [], ◌∷◌, true, false}, specs.Prelude.{Some, None, Result}}
 use Rattle.std.specs.Str.Lines.{lines}
 use Rattle.mpslp_model_core.specs.Model.{LinearModel}
-use Rattle.mpslp_builder.specs.FileFault.{file_fault, whole_fault}
-use Rattle.mpslp_builder.specs.Finish.{Finishes}
-use Rattle.mpslp_types.specs.declared.faults.FaultKind.TheVariants.{MissingEnd}
-use Rattle.mpslp_types.specs.declared.faults.ReadFault.{ReadFault}
-use Rattle.mpslp_lines.specs.LinesRead.{RefusesLines}
-use Rattle.mpslp_lines.specs.LineAnswer.{IsErrorOf, IsFaultOn}
-use Rattle.mpslp_lines.specs.declared.errors.LineError.{LineError}
+use Rattle.mpslp_builder.specs.{FileFault.whole_fault, Finish.Finishes}
+use Rattle.mpslp_types.specs.declared.faults.{FaultKind.TheVariants.MissingEnd, ReadFault.ReadFault}
+use Rattle.mpslp_lines.specs.{LinesRead.RefusesLines, LineAnswer.{IsErrorOf, IsFaultOn}, declared.errors.LineError.LineError}
 use Rattle.mpslp_lines.specs.declared.errors.LineError.TheVariants as errors
-use Rattle.mpslp_mps_fields.specs.Line.{is_section}
-use Rattle.mpslp_mps.specs.FirstFault.{line_fault, first_mps_fault}
-use Rattle.mpslp_mps.specs.LineByLine.{placed_in}
-use Rattle.mpslp_mps.specs.ReadAnswer.{ReadsMps}
-use Rattle.mpslp_mps.specs.Fed.{HasRead, IsFaultOfLines}
-use Rattle.mpslp_mps.specs.declared.line_reader.LineReader.{LineReader}
-use Rattle.mpslp_mps_fields.specs.declared.sections.Section.TheVariants.{EndData}
-use Rattle.mpslp_mps.proofs.FedLemmas.{lines_fault-is, led-fault}
-use Rattle.mpslp_mps.proofs.TextLemmas.{fault_of_lines, first_fault-whole, draft-whole}
-use Rattle.mpslp_mps.proofs.ReadLemmas.{finished-reads}
+use Rattle.mpslp_mps_fields.specs.{Line.is_section, declared.sections.Section.TheVariants.EndData}
+use Rattle.mpslp_mps.specs.{FirstFault.{line_fault, first_mps_fault}, LineByLine.placed_in, ReadAnswer.ReadsMps, Fed.HasRead}
+use Rattle.mpslp_mps.{specs.{Fed.IsFaultOfLines, declared.line_reader.LineReader.LineReader}, proofs.FedLemmas.{lines_fault-is, led-fault}}
+use Rattle.mpslp_mps.proofs.{TextLemmas.{fault_of_lines, first_fault-whole, draft-whole}, ReadLemmas.finished-reads}
 
 -- the next line is rejected
 pub refuses-line : (reader : LineReader) (line : List ℕ) (error : LineError) (answer : ReadFault) → is_section EndData reader.context.section ≡ false

@@ -1,25 +1,13 @@
 -- A line after those before it: its error by its length, its bytes and its content, and what holds after it if it has none.
-use Rattle.std.proofs.Common.{arith}
-use Rattle.std.proofs.Common.{rules}
-use Rattle.std.proofs.Common.{◌≡◌, sym, subst, ℕ, List, true, false}
-use Rattle.std.specs.Prelude.{Some, None}
-use Rattle.std.specs.List.{list_all}
+use Rattle.std.{proofs.Common.{arith, rules, ◌≡◌, ℕ, List, true, false}, specs.{Prelude.{Some, None}, List.list_all}}
 use Rattle.mpslp_builder.specs.Declaration.{Draft}
 use Rattle.mpslp_types.specs.declared.faults.FaultKind.TheVariants.{LineTooLong, BadByte}
-use Rattle.mpslp_lines.specs.FaultTests.{has_legal_length, is_legal_byte}
-use Rattle.mpslp_lines.proofs.LeastLemmas.{are_rising}
-use Rattle.mpslp_lines.proofs.FirstFaultLemmas.{faultless, no_fault, too-long, bad-byte, legal-first}
-use Rattle.mpslp_mps.specs.LineFault.{item_tests, line_tests}
-use Rattle.mpslp_mps.specs.LineDeclarations.{line_declares}
-use Rattle.mpslp_mps.proofs.ContextLineLemmas.{item-form}
-use Rattle.mpslp_mps.proofs.RisingTests.{item-rising}
+use Rattle.mpslp_lines.{specs.FaultTests.{has_legal_length, is_legal_byte}, proofs.{LeastLemmas.are_rising, FirstFaultLemmas.faultless}}
+use Rattle.mpslp_lines.proofs.FirstFaultLemmas.{no_fault, too-long, bad-byte, legal-first}
+use Rattle.mpslp_mps.specs.{LineFault.{item_tests, line_tests}, LineDeclarations.line_declares, Context.Context, LineAnswer.item_fault}
+use Rattle.mpslp_mps.specs.{FirstFault.line_fault, LineByLine.{placed_in, draft_after}, VectorDeclared.HasMpsSides}
+use Rattle.mpslp_mps.proofs.{ContextLineLemmas.item-form, RisingTests.item-rising, MpsSidesLemmas.sides-kept}
 use Rattle.mpslp_mps_fields.specs.Line.{content_of, outside_comment}
-use Rattle.mpslp_mps.specs.Context.{Context}
-use Rattle.mpslp_mps.specs.LineAnswer.{item_fault}
-use Rattle.mpslp_mps.specs.FirstFault.{line_fault}
-use Rattle.mpslp_mps.specs.LineByLine.{placed_in, draft_after}
-use Rattle.mpslp_mps.specs.VectorDeclared.{HasMpsSides}
-use Rattle.mpslp_mps.proofs.MpsSidesLemmas.{sides-kept}
 
 pub no-item : (context : Context) (earlier : Draft) (line : List ℕ) → line_fault (placed_in context earlier line) ≡ None → item_fault context earlier (content_of line) ≡ None
 no-item context earlier line h = search (rules, faultless, no_fault, item-form)

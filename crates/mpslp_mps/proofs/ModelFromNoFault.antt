@@ -1,43 +1,26 @@
 -- Bytes without a first error declare a model.
-use Rattle.std.proofs.Common.{rules}
-use Rattle.std.proofs.Common.{◌≡◌, refl, sym, ap, subst, ◌∙◌, List, [], ◌∷◌, ◌++◌, ℕ, suc, ◌+◌, Bool, true, false, cond, map, arith, take}
-use Rattle.std.specs.Prelude.{Option, Some, None, is_some, ◌||◌, not}
-use Rattle.std.specs.List.{list_all, list_any, flat_map, position_or_len}
-use Rattle.std.specs.Option.{option_map, option_or}
-use Rattle.std.specs.Str.Lines.{lines}
-use Rattle.mpslp_builder.specs.Declaration.{Declarations, Draft, with_declarations, empty_draft, draft_of}
-use Rattle.mpslp_types.specs.Lists.{is_nonempty}
-use Rattle.mpslp_builder.specs.Refusal.{refusals_in_turn}
-use Rattle.mpslp_builder.specs.Made.{is_legal}
-use Rattle.mpslp_builder.specs.Meaning.{model_of}
-use Rattle.mpslp_builder.specs.FileFault.{whole_fault, file_fault}
-use Rattle.mpslp_types.specs.declared.faults.Fault.{Fault}
-use Rattle.mpslp_types.specs.declared.faults.FaultKind.{FaultKind}
-use Rattle.mpslp_types.specs.declared.faults.FaultKind.TheVariants.{MissingEnd}
-use Rattle.mpslp_types.proofs.BoolLemmas.{both_so, or_left, or_right}
-use Rattle.mpslp_builder.proofs.RefusalLemmas.{join_none}
-use Rattle.mpslp_builder.proofs.MadeDrafts.{refusals_in_turn-append}
-use Rattle.mpslp_builder.proofs.Acceptance.{means-from_none}
-use Rattle.mpslp_lines.specs.FaultTests.{fault_on_line}
-use Rattle.mpslp_lines.proofs.FirstFaultLemmas.{faultless}
-use Rattle.mpslp_lines.proofs.ObjectiveLemmas.{objective-declared}
+use Rattle.std.proofs.Common.{◌≡◌, refl, sym, ap, subst, ◌∙◌, List, [], ◌∷◌, ◌++◌, ℕ, suc, ◌+◌, true, false, cond, map, arith, take}
+use Rattle.std.specs.{Prelude.{Option, None, is_some, ◌||◌, not}, List.{list_all, list_any, flat_map, position_or_len}, Option.option_map}
+use Rattle.std.specs.{Option.option_or, Str.Lines.lines}
+use Rattle.mpslp_builder.specs.{Declaration.{Declarations, Draft, with_declarations, empty_draft, draft_of}, Refusal.refusals_in_turn}
+use Rattle.mpslp_builder.{specs.{Made.is_legal, Meaning.model_of, FileFault.file_fault}, proofs.RefusalLemmas.join_none}
+use Rattle.mpslp_builder.proofs.{MadeDrafts.refusals_in_turn-append, Acceptance.means-from_none}
+use Rattle.mpslp_types.{specs.{Lists.is_nonempty, declared.faults.FaultKind.FaultKind}, proofs.BoolLemmas.{both_so, or_left, or_right}}
+use Rattle.mpslp_lines.{specs.FaultTests.fault_on_line, proofs.{FirstFaultLemmas.faultless, ObjectiveLemmas.objective-declared}}
 use Rattle.mpslp_lines.proofs.AnswerLemmas.{no_fault-unless}
 use Rattle.mpslp_mps_fields.specs.Line.{LineContent, content_of}
-use Rattle.mpslp_mps.specs.Context.{context_of}
-use Rattle.mpslp_mps.specs.MpsText.{LineInContext, is_end, read_lines, has_end, declared_at, tests_at, is_well_formed, lines_in_context_after, lines_in_context, declarations_of, DeclaresMps}
-use Rattle.mpslp_mps.specs.FirstFault.{line_fault, first_line_fault, whole_mps_fault, first_mps_fault}
-use Rattle.mpslp_mps.specs.Laws.{DeclareUnlessFaulty}
-use Rattle.mpslp_mps.proofs.ContextLineLemmas.{lines-declare, items-good}
-use Rattle.mpslp_mps.proofs.LegalLemmas.{lines-legal}
-use Rattle.mpslp_mps.proofs.ObjectiveLemmas.{named-lines}
+use Rattle.mpslp_mps.specs.{Context.context_of, MpsText.{LineInContext, is_end, read_lines, has_end, declared_at, tests_at, is_well_formed}}
+use Rattle.mpslp_mps.specs.{MpsText.{lines_in_context_after, lines_in_context, declarations_of, DeclaresMps}, FirstFault.line_fault}
+use Rattle.mpslp_mps.specs.{FirstFault.{first_line_fault, whole_mps_fault, first_mps_fault}, Laws.DeclareUnlessFaulty}
+use Rattle.mpslp_mps.proofs.{ContextLineLemmas.{lines-declare, items-good}, LegalLemmas.lines-legal, ObjectiveLemmas.named-lines}
 
 -- ---- lines without an error
 
 or-none : {X : Type 0} (o p : Option X) → option_or o p ≡ None → (o ≡ None) × (p ≡ None)
-or-none v0 p h = grind arith
+or-none o p h = grind arith
 
 mapped-none : {X Y : Type 0} (f : X → Y) (o : Option X) → option_map f o ≡ None → o ≡ None
-mapped-none f v1 h = grind arith
+mapped-none f o h = grind arith
 
 pub record AreFaultless (lines : List (List ℕ)) (before : List LineContent) (earlier : Draft) : Type 0 where
   pub good : list_all is_well_formed (lines_in_context_after before earlier lines) ≡ true

@@ -1,30 +1,17 @@
 -- Bytes that declare a model have no first error.
-use Rattle.std.proofs.Common.{◌≡◌, refl, sym, ap, subst, ◌∙◌, List, [], ◌∷◌, ◌++◌, ℕ, ◌+◌, true, map}
-use Rattle.std.specs.Prelude.{Option, None}
-use Rattle.std.specs.List.{list_all, flat_map}
-use Rattle.std.specs.Option.{option_map, option_or}
-use Rattle.std.specs.Cmp.{first_so, second_so}
+use Rattle.std.{proofs.Common.{◌≡◌, refl, sym, ap, subst, ◌∙◌, List, [], ◌∷◌, ◌++◌, ℕ, ◌+◌, true, map}, specs.Prelude.{Option, None}}
+use Rattle.std.specs.{List.{list_all, flat_map}, Option.{option_map, option_or}, Cmp.{first_so, second_so}}
 use Rattle.mpslp_model_core.specs.Model.{LinearModel}
-use Rattle.mpslp_builder.specs.Declaration.{Declarations, Draft, empty_draft, with_declarations, draft_of}
-use Rattle.mpslp_types.specs.Lists.{those_of}
-use Rattle.mpslp_builder.specs.Refusal.{refusals_in_turn}
-use Rattle.mpslp_builder.specs.Meaning.{Means}
-use Rattle.mpslp_builder.specs.FileFault.{file_fault}
-use Rattle.mpslp_types.specs.declared.faults.FaultKind.{FaultKind}
-use Rattle.mpslp_builder.proofs.RefusalLemmas.{left_none, right_none}
-use Rattle.mpslp_builder.proofs.MadeDrafts.{refusals_in_turn-append}
-use Rattle.mpslp_builder.proofs.Acceptance.{none-from_means}
-use Rattle.mpslp_lines.specs.FaultTests.{fault_on_line}
-use Rattle.mpslp_lines.proofs.FirstFaultLemmas.{no_fault}
-use Rattle.mpslp_lines.proofs.AnswerLemmas.{model-or_fault as one_of_both}
+use Rattle.mpslp_builder.specs.{Declaration.{Declarations, Draft, empty_draft, with_declarations, draft_of}, Refusal.refusals_in_turn}
+use Rattle.mpslp_builder.{specs.{Meaning.Means, FileFault.file_fault}, proofs.RefusalLemmas.{left_none, right_none}}
+use Rattle.mpslp_builder.proofs.{MadeDrafts.refusals_in_turn-append, Acceptance.none-from_means}
+use Rattle.mpslp_types.specs.{Lists.those_of, declared.faults.FaultKind.FaultKind}
+use Rattle.mpslp_lines.{specs.FaultTests.fault_on_line, proofs.{FirstFaultLemmas.no_fault, AnswerLemmas.model-or_fault as one_of_both}}
 use Rattle.mpslp_mps_fields.specs.Line.{LineContent, content_of}
-use Rattle.mpslp_mps.specs.Context.{context_of}
-use Rattle.mpslp_mps.specs.MpsText.{LineInContext, read_lines, has_end, declared_at, tests_at, is_well_formed, lines_in_context_after, lines_in_context, DeclaresMps}
-use Rattle.mpslp_mps.specs.FirstFault.{first_line_fault, whole_mps_fault, first_mps_fault}
-use Rattle.mpslp_mps.specs.Laws.{DeclareOrFail}
-use Rattle.mpslp_mps.proofs.ContextLineLemmas.{declared_items, are_well_formed, no_faults, lines-declare, items-good}
-use Rattle.mpslp_mps.proofs.OrderLemmas.{ordered-nil}
-use Rattle.mpslp_mps.proofs.KnownLemmas.{known-lines}
+use Rattle.mpslp_mps.specs.{Context.context_of, MpsText.{LineInContext, read_lines, has_end, declared_at, tests_at, is_well_formed}}
+use Rattle.mpslp_mps.specs.{MpsText.{lines_in_context_after, lines_in_context, DeclaresMps}, FirstFault.{first_line_fault, whole_mps_fault}}
+use Rattle.mpslp_mps.{specs.{FirstFault.first_mps_fault, Laws.DeclareOrFail}, proofs.ContextLineLemmas.{declared_items, are_well_formed}}
+use Rattle.mpslp_mps.proofs.{ContextLineLemmas.{no_faults, lines-declare, items-good}, OrderLemmas.ordered-nil, KnownLemmas.known-lines}
 use Rattle.mpslp_mps.proofs.LegalLemmas.{lines-legal}
 
 -- well-formed lines, none of whose declarations is rejected

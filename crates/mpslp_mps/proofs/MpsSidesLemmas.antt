@@ -1,46 +1,26 @@
 -- Lines of MPS text without an error declare right-hand sides only of declared rows that are not of type N.
-use Rattle.std.proofs.Common.{arith}
-use Rattle.std.proofs.Common.{rules}
-use Rattle.std.proofs.Common.{◌≡◌, refl, sym, ap, subst, ◌∙◌, ℕ, List, [], ◌∷◌, ◌++◌, Bool, true, false, cond}
-use Rattle.std.specs.Prelude.{◌&&◌, ◌||◌, Option, Some, None, is_none, codes}
-use Rattle.std.specs.List.{list_all, flat_map}
-use Rattle.std.specs.Option.{option_map_or}
-use Rattle.std.specs.Cmp.{first_so, second_so}
-use Rattle.mpslp_types.specs.Name.{same_bytes}
-use Rattle.mpslp_builder.specs.Declaration.{RowDefinition, by_type, Declaration, declare_sense, declare_objective, declare_constant, declare_row, declare_rhs, declare_range, declare_column, declare_coefficient, declare_lower, declare_upper, declare_marked, declare_integer, declare_binary, declare_semi, Declarations, Draft, empty_draft, with_declaration, with_declarations, at_name, has_name, has_row, is_objective, is_free_definition, is_free_row, rhs_declared}
-use Rattle.mpslp_types.specs.Lists.{when}
-use Rattle.mpslp_types.specs.FaultOrder.{least_kind}
-use Rattle.mpslp_types.specs.declared.kinds.Limit.{Limit}
-use Rattle.mpslp_types.specs.declared.kinds.RowType.{RowType}
-use Rattle.mpslp_types.specs.declared.kinds.RowType.TheVariants.{Free, AtMost, AtLeast, Equal}
-use Rattle.mpslp_types.specs.declared.faults.FaultKind.{FaultKind}
-use Rattle.mpslp_types.specs.declared.faults.FaultKind.TheVariants as kinds
-use Rattle.mpslp_types.proofs.BoolLemmas.{or_right}
-use Rattle.mpslp_builder.proofs.MadeDrafts.{with_declarations-append}
-use Rattle.mpslp_builder.proofs.SlotLemmas.{at-put, has-put, same_name}
-use Rattle.mpslp_mps_fields.specs.Line.{Fields, LineContent, skipped, header, data_line, section_named}
-use Rattle.mpslp_mps_fields.specs.DataLine.{RowLine, Pair, ValuesLine, word_shape, row_shape, row_type, column_shape, is_marker_line, vector_shape, BoundLine, bound_type, bound_shape}
-use Rattle.mpslp_mps.specs.Context.{Context}
-use Rattle.mpslp_mps.specs.LineDeclarations.{declared_if_some, sense_declared, is_new_objective, row_of_type, row_declared, coefficient_declared, column_declared, columns_line_declared, rhs_line_declared, ranges_declared, bound_declared, bound_value, bound_line_declared, default_objective, data_declared, header_declared, line_declares}
-use Rattle.mpslp_lines.specs.FaultTests.{value_of}
-use Rattle.mpslp_lines.specs.Declaring.{declaring_faults, declared_fault}
-use Rattle.mpslp_mps.proofs.ContextLineLemmas.{form_faults}
-use Rattle.mpslp_mps.specs.LineAnswer.{item_fault}
-use Rattle.mpslp_mps.specs.VectorDeclared.{HasMpsSides}
-use Rattle.mpslp_mps_fields.specs.declared.bound_types.BoundType.{BoundType}
-use Rattle.mpslp_mps_fields.specs.declared.bound_types.BoundType.TheVariants as bounds
-use Rattle.mpslp_mps_fields.specs.declared.sections.Section.{Section}
-use Rattle.mpslp_mps_fields.specs.declared.sections.Section.TheVariants.{Name, ObjSense, ObjName, Rows, Columns, Rhs, Ranges, Bounds, EndData}
-use Rattle.mpslp_lines.proofs.LeastLemmas.{earlier_of, least-append}
-use Rattle.mpslp_mps.proofs.OrderLemmas.{each-declared, each-flat, each-mapped, sense-passes}
-use Rattle.mpslp_lines.proofs.RefusedLemmas.{declared-one, declared-append}
+use Rattle.std.proofs.Common.{arith, rules, ◌≡◌, refl, sym, ap, subst, ◌∙◌, ℕ, List, [], ◌∷◌, Bool, true, false, cond}
+use Rattle.std.specs.{Prelude.{Option, Some, None, is_none}, List.{list_all, flat_map}, Option.option_map_or, Cmp.{first_so, second_so}}
+use Rattle.mpslp_types.specs.{Name.same_bytes, FaultOrder.least_kind, declared.kinds.RowType.{RowType, TheVariants.{Free, AtMost, AtLeast}}}
+use Rattle.mpslp_types.specs.declared.{kinds.RowType.TheVariants.Equal, faults.FaultKind.FaultKind}
+use Rattle.mpslp_builder.specs.Declaration.{RowDefinition, by_type, Declaration, declare_objective, declare_constant, declare_row}
+use Rattle.mpslp_builder.specs.Declaration.{declare_rhs, Declarations, Draft, with_declaration, with_declarations, has_row, is_free_row}
+use Rattle.mpslp_builder.{specs.Declaration.rhs_declared, proofs.{MadeDrafts.with_declarations-append, SlotLemmas.{at-put, has-put}}}
+use Rattle.mpslp_builder.proofs.SlotLemmas.{same_name}
+use Rattle.mpslp_mps_fields.specs.{Line.{Fields, LineContent, skipped, header, data_line, section_named}, DataLine.{RowLine, Pair}}
+use Rattle.mpslp_mps_fields.specs.{DataLine.{ValuesLine, word_shape, row_shape, row_type, vector_shape}, declared.sections.Section.Section}
+use Rattle.mpslp_mps_fields.specs.declared.sections.Section.TheVariants.{Name, ObjSense, ObjName, Rows, Columns, Rhs, Ranges, Bounds}
+use Rattle.mpslp_mps_fields.specs.declared.sections.Section.TheVariants.{EndData}
+use Rattle.mpslp_mps.specs.{Context.Context, LineDeclarations.{declared_if_some, sense_declared, is_new_objective, row_of_type}}
+use Rattle.mpslp_mps.specs.LineDeclarations.{row_declared, columns_line_declared, rhs_line_declared, ranges_declared, bound_line_declared}
+use Rattle.mpslp_mps.specs.{LineDeclarations.{data_declared, header_declared, line_declares}, LineAnswer.item_fault}
+use Rattle.mpslp_mps.{specs.VectorDeclared.HasMpsSides, proofs.{ContextLineLemmas.form_faults, OrderLemmas.sense-passes}}
 use Rattle.mpslp_mps.proofs.RhsLemmas.{side_kind, limited, side_fault, same_free, sides-after}
-
-pub empty_sides : HasMpsSides empty_draft
-empty_sides = record { known = λ row h. absurd cc; limited = λ row h. refl; constant = refl }
+use Rattle.mpslp_lines.{specs.{FaultTests.value_of, Declaring.{declaring_faults, declared_fault}}, proofs.LeastLemmas.earlier_of}
+use Rattle.mpslp_lines.proofs.{LeastLemmas.least-append, RefusedLemmas.declared-append}
 
 both_none : (o p : Option FaultKind) → earlier_of o p ≡ None → (o ≡ None) × (p ≡ None)
-both_none v0 p h = grind arith
+both_none o p h = grind arith
 
 -- ---- declarations that do not concern rows, right-hand sides, the objective and the constant
 
@@ -52,7 +32,7 @@ stays (declare_rhs row value) = false
 stays _ = true
 
 stays-one : (all : Draft) (d : Declaration) → stays d ≡ true → HasMpsSides all → HasMpsSides (with_declaration all d)
-stays-one all v1 h sides = grind arith
+stays-one all d h sides = grind arith
 
 stays-kept : (ds : Declarations) (all : Draft) → list_all stays ds ≡ true → HasMpsSides all → HasMpsSides (with_declarations all ds)
 stays-kept [] all h sides = sides
@@ -67,11 +47,8 @@ columns-stay context fields = grind arith
 ranges-stay : (fields : Fields) → list_all stays (declared_if_some ranges_declared (vector_shape fields)) ≡ true
 ranges-stay fields = grind arith
 
-bound-stays : (type : BoundType) (column : List ℕ) (value : Limit) → list_all stays (bound_declared type column value) ≡ true
-bound-stays v0 column value = grind arith
-
 bounds-stay : (fields : Fields) → list_all stays (bound_line_declared fields) ≡ true
-bounds-stay v0 = grind arith
+bounds-stay fields = grind arith
 
 -- ---- the objective and rows
 
@@ -84,7 +61,7 @@ row-kept : (all : Draft) (name : List ℕ) (form : RowDefinition) → has_row al
 row-kept all name form new sides = search (rules, limited, has-put, at-put, same_name)
 
 none_so : (o : Option (List ℕ)) → is_none o ≡ true → o ≡ None
-none_so v0 h = grind arith
+none_so o h = grind arith
 
 new_row : (all : Draft) (name : List ℕ) (type : RowType) → declared_fault all (declare_row name (by_type type) ∷ []) ≡ None → has_row all name ≡ false
 new_row all name type fault_is = grind arith
@@ -112,13 +89,10 @@ rows-kept context all fields fault_is sides = lined (row_shape fields) fault_is
     lined None k = sides
     lined (Some line) k = typed line.name (row_type line.letter) k
 
-default-kept : (context : Context) (all : Draft) → HasMpsSides all → HasMpsSides (with_declarations all (default_objective context all))
-default-kept context all sides = grind arith
-
 -- ---- right-hand sides
 
 there_so : (there sided : Bool) → side_kind there sided ≡ None → there ≡ true
-there_so v0 sided h = grind arith
+there_so there sided h = grind arith
 
 -- in terms of the rows before the line, which are those after each of its right-hand sides
 pairs-kept : (pairs : List Pair) (earlier all : Draft) → ((row : List ℕ) → is_free_row all row ≡ is_free_row earlier row) → HasMpsSides all
@@ -148,7 +122,7 @@ rhs_values-kept all fields fault_is sides = lined (vector_shape fields) fault_is
 -- ---- a line
 
 header-kept : (context : Context) (earlier : Draft) (more : Fields) (o : Option Section) → HasMpsSides earlier → HasMpsSides (with_declarations earlier (header_declared context earlier more o))
-header-kept context earlier more v3 sides = grind arith
+header-kept context earlier more o sides = grind arith
 
 data-kept : (context : Context) (earlier : Draft) (fields : Fields) (o : Option Section) → declared_fault earlier (data_declared context earlier fields o) ≡ None → HasMpsSides earlier
     → HasMpsSides (with_declarations earlier (data_declared context earlier fields o))

@@ -1,47 +1,22 @@
 -- After lines without an error, the last of which is that of ENDATA, the objective has a name.
-use Rattle.std.proofs.Common.{arith}
-use Rattle.std.proofs.Common.{rules}
-use Rattle.std.proofs.Common.{◌≡◌, refl, sym, ap, ◌∙◌, ℕ, ◌+◌, List, [], ◌∷◌, ◌++◌, Bool, true, false}
-use Rattle.std.specs.Prelude.{◌||◌, Option, Some, None, is_some}
-use Rattle.std.specs.List.{list_any}
-use Rattle.std.specs.Option.{option_map, option_or}
+use Rattle.std.{proofs.Common.{arith, ◌≡◌, refl, sym, ap, ◌∙◌, ℕ, ◌+◌, List, [], ◌∷◌, Bool, true, false}, specs.Prelude.{◌||◌, Option}}
+use Rattle.std.specs.{Prelude.{None, is_some}, List.list_any, Option.{option_map, option_or}}
 use Rattle.mpslp_builder.specs.Declaration.{Draft, with_declarations}
-use Rattle.mpslp_types.specs.Lists.{those_of}
-use Rattle.mpslp_lines.proofs.LeastLemmas.{least-none}
-use Rattle.mpslp_types.specs.declared.faults.Fault.{Fault}
-use Rattle.mpslp_types.specs.declared.faults.FaultKind.{FaultKind}
-use Rattle.mpslp_mps_fields.specs.Line.{Fields, LineContent, skipped, header, data_line, content_of, has, section_named, section_of_header, begins}
-use Rattle.mpslp_mps.specs.Context.{Context}
-use Rattle.mpslp_mps.specs.NextContext.{next_context}
-use Rattle.mpslp_mps.specs.LineFault.{header_tests}
-use Rattle.mpslp_mps.specs.LineDeclarations.{header_declared, line_declares}
-use Rattle.mpslp_lines.specs.Declaring.{declaring_faults}
-use Rattle.mpslp_mps.specs.MpsText.{is_end}
-use Rattle.mpslp_mps.specs.LineAnswer.{item_fault}
-use Rattle.mpslp_mps.specs.FirstFault.{line_fault}
-use Rattle.mpslp_lines.specs.FaultTests.{fault_on_line}
-use Rattle.mpslp_mps.specs.LineByLine.{placed_in, context_after, draft_after, fault_from, draft_from}
-use Rattle.mpslp_mps.specs.ReadAnswer.{lines_to_end}
-use Rattle.mpslp_mps_fields.specs.declared.sections.Section.TheVariants.{Columns, EndData}
-use Rattle.mpslp_builder.proofs.RefusalLemmas.{left_none}
-use Rattle.mpslp_mps.proofs.SectionLemmas.{has-more}
-use Rattle.mpslp_mps.proofs.ObjectiveLemmas.{columns-name, end-after}
-use Rattle.mpslp_lines.proofs.ObjectiveLemmas.{named-after}
-use Rattle.mpslp_mps.proofs.EndLemmas.{up_to_end-last, up_to_end-more}
-use Rattle.mpslp_mps.proofs.LoopLemmas.{no-item}
+use Rattle.mpslp_types.specs.declared.faults.{Fault.Fault, FaultKind.FaultKind}
+use Rattle.mpslp_lines.{proofs.ObjectiveLemmas.named-after, specs.FaultTests.fault_on_line}
+use Rattle.mpslp_mps_fields.specs.{Line.{LineContent, content_of, has, begins}, declared.sections.Section.TheVariants.{Columns, EndData}}
+use Rattle.mpslp_mps.specs.{Context.Context, NextContext.next_context, LineDeclarations.line_declares, MpsText.is_end}
+use Rattle.mpslp_mps.specs.{LineAnswer.item_fault, FirstFault.line_fault, LineByLine.{placed_in, context_after, draft_after, fault_from}}
+use Rattle.mpslp_mps.{specs.{LineByLine.draft_from, ReadAnswer.lines_to_end}, proofs.{SectionLemmas.has-more, EndLemmas.up_to_end-last}}
+use Rattle.mpslp_mps.proofs.{EndLemmas.up_to_end-more, LoopLemmas.no-item}
 
 -- once COLUMNS has begun, the objective exists
 abbrev pub HasName : Context → Draft → Type 0
 HasName context earlier = has context.sections_seen Columns ≡ true → is_some earlier.objective ≡ true
 
--- a header without an error is well-formed
-header_good : (context : Context) (earlier : Draft) (keyword : List ℕ) (more : Fields) → item_fault context earlier (header keyword more) ≡ None
-    → those_of (header_tests context earlier keyword more (section_named keyword)) ≡ []
-header_good context earlier keyword more none = grind (arith, left_none, least-none)
-
 named_begun : (context : Context) (earlier : Draft) (item : LineContent) → item_fault context earlier item ≡ None → begins Columns item ≡ true
     → is_some (with_declarations earlier (line_declares context earlier item)).objective ≡ true
-named_begun context earlier v2 none h = grind arith
+named_begun context earlier item none h = grind arith
 
 named_next : (context : Context) (earlier : Draft) (item : LineContent) → item_fault context earlier item ≡ None → HasName context earlier
     → HasName (next_context context item) (with_declarations earlier (line_declares context earlier item))
@@ -50,15 +25,15 @@ named_next context earlier item none named h = grind (arith, has-more, named-aft
 -- ENDATA comes after COLUMNS
 ended_columns : (context : Context) (earlier : Draft) (item : LineContent) → item_fault context earlier item ≡ None → begins EndData item ≡ true
     → has context.sections_seen Columns ≡ true
-ended_columns context earlier v2 none h = grind arith
+ended_columns context earlier item none h = grind arith
 
 -- ---- lines
 
 first_none : (n : ℕ) (o : Option FaultKind) (rest : Option Fault) → option_or (option_map (fault_on_line n) o) rest ≡ None → o ≡ None
-first_none n v1 rest h = grind arith
+first_none n o rest h = grind arith
 
 rest_none : (n : ℕ) (o : Option FaultKind) (rest : Option Fault) → option_or (option_map (fault_on_line n) o) rest ≡ None → rest ≡ None
-rest_none n v1 rest h = grind arith
+rest_none n o rest h = grind arith
 
 pub named-lines_to_end : (text : List (List ℕ)) (n : ℕ) (context : Context) (earlier : Draft) → HasName context earlier
     → fault_from n context earlier (lines_to_end text) ≡ None → list_any is_end text ≡ true → is_some (draft_from context earlier (lines_to_end text)).objective ≡ true

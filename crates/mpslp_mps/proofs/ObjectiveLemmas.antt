@@ -1,26 +1,14 @@
 -- By ENDATA the objective is declared: by an N row, or by the header of COLUMNS.
-use Rattle.std.proofs.Common.{arith}
-use Rattle.std.proofs.Common.{rules}
-use Rattle.std.proofs.lemmas.Bool.{false≢true, true≢false}
-use Rattle.std.proofs.Common.{◌≡◌, refl, sym, ap, ◌∙◌, List, [], ◌∷◌, ◌++◌, ℕ, Bool, true, false, cond, map}
-use Rattle.std.specs.Prelude.{Option, Some, None, is_some, is_none, ◌&&◌, ◌||◌, codes}
-use Rattle.std.specs.List.{list_any}
-use Rattle.mpslp_builder.specs.Declaration.{declare_objective, Draft, with_declarations}
+use Rattle.std.proofs.{Common.{arith, ◌≡◌, refl, ap, ◌∙◌, List, [], ◌∷◌, ◌++◌, ℕ, true, false, map}, lemmas.Bool.false≢true}
+use Rattle.std.specs.{Prelude.{Option, is_some, ◌||◌}, List.list_any}
+use Rattle.mpslp_builder.{specs.Declaration.{Draft, with_declarations}, proofs.MadeDrafts.with_declarations-append}
 use Rattle.mpslp_types.specs.Lists.{those_of}
-use Rattle.mpslp_builder.proofs.MadeDrafts.{with_declarations-append}
 use Rattle.mpslp_lines.proofs.ObjectiveLemmas.{named-after}
 use Rattle.mpslp_mps_fields.specs.Line.{Fields, LineContent, skipped, header, data_line, content_of, has, section_named, begins, is_section}
-use Rattle.mpslp_mps.specs.Context.{Context, context_of}
-use Rattle.mpslp_mps.specs.TextInWords.{has_section}
-use Rattle.mpslp_mps.specs.LineDeclarations.{header_declared, line_declares}
-use Rattle.mpslp_mps.specs.LineFault.{header_tests}
-use Rattle.mpslp_mps.specs.MpsText.{is_end}
-use Rattle.mpslp_mps_fields.specs.declared.sections.Section.{Section}
-use Rattle.mpslp_mps_fields.specs.declared.sections.Section.TheVariants.{Name, ObjSense, ObjName, Rows, Columns, Rhs, Ranges, Bounds, EndData}
-use Rattle.mpslp_mps.proofs.SectionLemmas.{has_section-push}
-use Rattle.mpslp_mps.proofs.ContextLineLemmas.{declared_items, are_well_formed}
-use Rattle.mpslp_mps.proofs.OrderLemmas.{header-begins, header-complete, IsGood}
-use Rattle.mpslp_mps.proofs.KnownLemmas.{good-first, good-rest}
+use Rattle.mpslp_mps_fields.specs.declared.sections.Section.{Section, TheVariants.{Columns, EndData}}
+use Rattle.mpslp_mps.specs.{Context.{Context, context_of}, SeenSection.has_section, LineDeclarations.{header_declared, line_declares}}
+use Rattle.mpslp_mps.{specs.{LineFault.header_tests, MpsText.is_end}, proofs.SectionLemmas.has_section-push}
+use Rattle.mpslp_mps.proofs.{ContextLineLemmas.{declared_items, are_well_formed}, OrderLemmas.IsGood, KnownLemmas.{good-first, good-rest}}
 
 -- once COLUMNS has begun, the objective exists
 abbrev pub IsNamed : List LineContent → Draft → Type 0
@@ -28,14 +16,14 @@ IsNamed before earlier = has_section before Columns ≡ true → is_some earlier
 
 pub columns-name : (context : Context) (earlier : Draft) (keyword : List ℕ) (more : Fields) (o : Option Section) → those_of (header_tests context earlier keyword more o) ≡ []
     → is_section Columns o ≡ true → is_some (with_declarations earlier (header_declared context earlier more o)).objective ≡ true
-columns-name context earlier keyword more v4 h e = grind arith
+columns-name context earlier keyword more o h e = grind arith
 
 named-push : (before : List LineContent) (earlier : Draft) (item : LineContent) → IsGood before earlier item → IsNamed before earlier → IsNamed (before ++ item ∷ []) (with_declarations earlier (line_declares (context_of before) earlier item))
 named-push before earlier item good named begun = grind (arith, has_section-push, false≢true, columns-name, named-after)
 
 -- ENDATA comes after COLUMNS
 pub end-after : (context : Context) (earlier : Draft) (keyword : List ℕ) (more : Fields) (o : Option Section) → those_of (header_tests context earlier keyword more o) ≡ [] → is_section EndData o ≡ true → has context.sections_seen Columns ≡ true
-end-after context earlier keyword more v4 h e = grind arith
+end-after context earlier keyword more o h e = grind arith
 
 -- well-formed lines, one of which is that of ENDATA
 pub named-lines : (lines : List (List ℕ)) (before : List LineContent) (earlier : Draft) → list_any is_end lines ≡ true → are_well_formed before earlier (map content_of lines) ≡ true → IsNamed before earlier

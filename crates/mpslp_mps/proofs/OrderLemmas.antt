@@ -1,31 +1,19 @@
 -- The order of sections in well-formed lines, and so the lines in which rows and columns are declared.
-use Rattle.std.proofs.lemmas.Bool.{false≢true, true≢false}
-use Rattle.std.proofs.Common.{◌≡◌, refl, sym, ap, ◌∙◌, List, [], ◌∷◌, ◌++◌, ℕ, Bool, true, false, cond, map}
-use Rattle.std.specs.Prelude.{Option, Some, None, is_some, ◌||◌, not}
-use Rattle.std.specs.List.{list_all, flat_map}
-use Rattle.std.specs.Option.{option_or}
-use Rattle.std.specs.Cmp.{first_so, second_so}
-use Rattle.std.proofs.lemmas.List.Folds.{list_all-append}
+use Rattle.std.proofs.{Common.{arith, ◌≡◌, refl, ◌∙◌, List, [], ◌∷◌, ◌++◌, ℕ, Bool, true, false, map}, lemmas.Bool.false≢true}
+use Rattle.std.{proofs.lemmas.List.Folds.list_all-append, specs.{Prelude.{Option, Some, None, ◌||◌, not}, List.{list_all, flat_map}}}
+use Rattle.std.specs.{Option.option_or, Cmp.{first_so, second_so}}
 use Rattle.mpslp_decimal.specs.Decimal.{Number}
-use Rattle.mpslp_builder.specs.Declaration.{Declaration, declare_sense, declare_objective, declare_constant, declare_row, declare_rhs, declare_range, declare_column, declare_coefficient, declare_lower, declare_upper, declare_marked, declare_integer, declare_binary, declare_semi, Declarations, Draft, with_declaration, with_declarations, is_free_row, has_row, has_column, rhs_declared}
-use Rattle.mpslp_types.specs.Lists.{those_of}
-use Rattle.mpslp_types.specs.declared.kinds.Sense.{Sense}
-use Rattle.mpslp_types.specs.declared.kinds.Limit.{Limit}
+use Rattle.mpslp_builder.specs.Declaration.{Declaration, declare_sense, declare_objective, declare_row, declare_rhs, declare_range}
+use Rattle.mpslp_builder.specs.Declaration.{declare_column, Declarations, Draft, with_declaration, with_declarations, has_row, has_column}
+use Rattle.mpslp_types.{specs.{Lists.those_of, declared.kinds.Sense.Sense}, proofs.BoolLemmas.{both_so, or_left}}
 use Rattle.mpslp_types.specs.declared.faults.FaultKind.TheVariants as kinds
-use Rattle.mpslp_types.proofs.BoolLemmas.{both_so, or_left, or_right, nor}
-use Rattle.mpslp_lines.proofs.HeldLemmas.{first_test, later_tests}
-use Rattle.mpslp_mps_fields.specs.Line.{Fields, LineContent, skipped, header, data_line, has, section_named, section_of_header, begins, is_section, may_follow}
-use Rattle.mpslp_mps_fields.specs.DataLine.{Pair, ValuesLine, word_shape, sense_of, column_shape, is_marker_line, vector_shape, BoundLine, bound_type, bound_shape}
-use Rattle.mpslp_mps.specs.Context.{Context, context_of, current_section}
-use Rattle.mpslp_mps.specs.TextInWords.{has_section}
-use Rattle.mpslp_mps.specs.LineDeclarations.{declared_if_some, sense_declared, coefficient_declared, column_declared, columns_line_declared, rhs_line_declared, ranges_declared, bound_declared, bound_value, bound_line_declared}
-use Rattle.mpslp_lines.specs.FaultTests.{value_of, FaultTests}
-use Rattle.mpslp_mps.specs.LineFault.{may_begin, is_out_of_order, lacks_objective, section_tests, header_tests}
-use Rattle.mpslp_mps.proofs.ContextLineLemmas.{form_faults}
-use Rattle.mpslp_mps_fields.specs.declared.sections.Section.{Section}
-use Rattle.mpslp_mps_fields.specs.declared.sections.Section.TheVariants.{Name, ObjSense, ObjName, Rows, Columns, Rhs, Ranges, Bounds, EndData}
-use Rattle.mpslp_mps_fields.specs.declared.bound_types.BoundType.{BoundType}
-use Rattle.mpslp_mps_fields.specs.declared.bound_types.BoundType.TheVariants as bounds
+use Rattle.mpslp_lines.{proofs.HeldLemmas.{first_test, later_tests}, specs.FaultTests.{value_of, FaultTests}}
+use Rattle.mpslp_mps_fields.specs.{Line.{Fields, LineContent, has, is_section, may_follow}, DataLine.{Pair, word_shape, sense_of}}
+use Rattle.mpslp_mps_fields.specs.{DataLine.vector_shape, declared.sections.Section.{Section, TheVariants.{Rows, Columns, Rhs, Ranges}}}
+use Rattle.mpslp_mps_fields.specs.declared.sections.Section.TheVariants.{Bounds}
+use Rattle.mpslp_mps.specs.{Context.{Context, context_of, current_section}, SeenSection.has_section, LineDeclarations.declared_if_some}
+use Rattle.mpslp_mps.specs.{LineDeclarations.{sense_declared, rhs_line_declared, ranges_declared}, LineFault.{may_begin, is_out_of_order}}
+use Rattle.mpslp_mps.{specs.LineFault.{lacks_objective, section_tests, header_tests}, proofs.ContextLineLemmas.form_faults}
 use Rattle.mpslp_mps.proofs.SectionLemmas.{current_section-push, has_section-push}
 
 -- ---- well-formed headers
@@ -48,23 +36,12 @@ header-fresh context earlier keyword more section h =
 
 pub header-begins : (context : Context) (earlier : Draft) (keyword : List ℕ) (more : Fields) (section : Section) → those_of (header_tests context earlier keyword more (Some section)) ≡ []
     → may_begin context section ≡ true
-header-begins context earlier keyword more section h =
-    by (has context.sections_seen section) (may_begin context section) (header-fresh context earlier keyword more section h)
-    (nor (is_some context.word_due) (not (has context.sections_seen section || may_begin context section)) (header-ordered context earlier keyword more section h)).1
-  where
-    by : (sections_seen may : Bool) → sections_seen ≡ false → not (sections_seen || may) ≡ false → may ≡ true
-    by true may e f = cc
-    by false true e f = refl
-    by false false e f = absurd (true≢false f)
+header-begins context earlier keyword more section h = grind arith
 
 -- at COLUMNS there is a row with the name that OBJNAME gives
 pub header-complete : (context : Context) (earlier : Draft) (keyword : List ℕ) (more : Fields) → those_of (header_tests context earlier keyword more (Some Columns)) ≡ []
     → lacks_objective context earlier ≡ false
-header-complete context earlier keyword more h =
-    first_test (lacks_objective context earlier) kinds.UnknownRow []
-    (later_tests (not (may_follow Columns more)) kinds.FieldCount (section_tests context earlier Columns more)
-    (later_tests (has context.sections_seen Columns) kinds.SectionRepeated (tests_of_fields context earlier more Columns)
-    (later_tests (is_out_of_order context Columns) kinds.SectionOrder (tests_after_order context earlier more Columns) h)))
+header-complete context earlier keyword more h = grind arith
 
 -- ---- a section that is complete
 
@@ -74,36 +51,13 @@ pub record Past (section : Section) (before : List LineContent) : Type 0 where
   pub left : is_section section (current_section before) ≡ false
 
 rows-again : (context : Context) (earlier : Draft) (keyword : List ℕ) (more : Fields) (o : Option Section) → those_of (header_tests context earlier keyword more o) ≡ [] → is_section Rows o ≡ true → has context.sections_seen Rows ≡ false
-rows-again context earlier keyword more None h e = absurd (false≢true e)
-rows-again context earlier keyword more (Some Name) h e = absurd (false≢true e)
-rows-again context earlier keyword more (Some ObjSense) h e = absurd (false≢true e)
-rows-again context earlier keyword more (Some ObjName) h e = absurd (false≢true e)
-rows-again context earlier keyword more (Some Rows) h e = header-fresh context earlier keyword more Rows h
-rows-again context earlier keyword more (Some Columns) h e = absurd (false≢true e)
-rows-again context earlier keyword more (Some Rhs) h e = absurd (false≢true e)
-rows-again context earlier keyword more (Some Ranges) h e = absurd (false≢true e)
-rows-again context earlier keyword more (Some Bounds) h e = absurd (false≢true e)
-rows-again context earlier keyword more (Some EndData) h e = absurd (false≢true e)
+rows-again context earlier keyword more o h e = grind arith
 
 columns-again : (context : Context) (earlier : Draft) (keyword : List ℕ) (more : Fields) (o : Option Section) → those_of (header_tests context earlier keyword more o) ≡ [] → is_section Columns o ≡ true → has context.sections_seen Columns ≡ false
-columns-again context earlier keyword more None h e = absurd (false≢true e)
-columns-again context earlier keyword more (Some Name) h e = absurd (false≢true e)
-columns-again context earlier keyword more (Some ObjSense) h e = absurd (false≢true e)
-columns-again context earlier keyword more (Some ObjName) h e = absurd (false≢true e)
-columns-again context earlier keyword more (Some Rows) h e = absurd (false≢true e)
-columns-again context earlier keyword more (Some Columns) h e = header-fresh context earlier keyword more Columns h
-columns-again context earlier keyword more (Some Rhs) h e = absurd (false≢true e)
-columns-again context earlier keyword more (Some Ranges) h e = absurd (false≢true e)
-columns-again context earlier keyword more (Some Bounds) h e = absurd (false≢true e)
-columns-again context earlier keyword more (Some EndData) h e = absurd (false≢true e)
+columns-again context earlier keyword more o h e = grind arith
 
 stays-left : (section : Section) (o current : Option Section) → (is_section section o ≡ true → ⊥) → is_section section current ≡ false → is_section section (option_or o current) ≡ false
-stays-left section None current h e = e
-stays-left section (Some s) current h e = by (is_section section (Some s)) refl
-  where
-    by : (b : Bool) → is_section section (Some s) ≡ b → is_section section (Some s) ≡ false
-    by true k = absurd (h k)
-    by false k = k
+stays-left section o current h e = grind arith
 
 pub never : (b : Bool) → b ≡ true → b ≡ false → ⊥
 never true h k = cc
@@ -113,28 +67,10 @@ abbrev pub IsGood : List LineContent → Draft → LineContent → Type 0
 IsGood before earlier item = form_faults (context_of before) earlier item ≡ []
 
 pub past-rows : (before : List LineContent) (earlier : Draft) (item : LineContent) → IsGood before earlier item → Past Rows before → Past Rows (before ++ item ∷ [])
-past-rows before earlier item h past =
-    record {
-      begun = has_section-push Rows before item ∙ or_left (has_section before Rows) (begins Rows item) past.begun;
-      left = ap (is_section Rows) (current_section-push before item) ∙ stays-left Rows (section_of_header item) (current_section before) (by item h) past.left;
-    }
-  where
-    by : (x : LineContent) → IsGood before earlier x → is_section Rows (section_of_header x) ≡ true → ⊥
-    by skipped g e = absurd (false≢true e)
-    by (header keyword more) g e = never (has_section before Rows) past.begun (rows-again (context_of before) earlier keyword more (section_named keyword) g e)
-    by (data_line fields) g e = absurd (false≢true e)
+past-rows before earlier item h past = grind (arith, has_section-push, or_left, current_section-push, stays-left, false≢true, never, rows-again)
 
 pub past-columns : (before : List LineContent) (earlier : Draft) (item : LineContent) → IsGood before earlier item → Past Columns before → Past Columns (before ++ item ∷ [])
-past-columns before earlier item h past =
-    record {
-      begun = has_section-push Columns before item ∙ or_left (has_section before Columns) (begins Columns item) past.begun;
-      left = ap (is_section Columns) (current_section-push before item) ∙ stays-left Columns (section_of_header item) (current_section before) (by item h) past.left;
-    }
-  where
-    by : (x : LineContent) → IsGood before earlier x → is_section Columns (section_of_header x) ≡ true → ⊥
-    by skipped g e = absurd (false≢true e)
-    by (header keyword more) g e = never (has_section before Columns) past.begun (columns-again (context_of before) earlier keyword more (section_named keyword) g e)
-    by (data_line fields) g e = absurd (false≢true e)
+past-columns before earlier item h past = grind (arith, has_section-push, or_left, current_section-push, stays-left, false≢true, never, columns-again)
 
 -- ---- the order of sections
 
@@ -155,50 +91,14 @@ ordered-nil = record { rows = λ h. cc; columns = λ h. cc }
 
 -- COLUMNS begins after ROWS; what begins after COLUMNS
 columns-after : (context : Context) (earlier : Draft) (keyword : List ℕ) (more : Fields) (o : Option Section) → those_of (header_tests context earlier keyword more o) ≡ [] → is_section Columns o ≡ true → has context.sections_seen Rows ≡ true
-columns-after context earlier keyword more None h e = absurd (false≢true e)
-columns-after context earlier keyword more (Some Name) h e = absurd (false≢true e)
-columns-after context earlier keyword more (Some ObjSense) h e = absurd (false≢true e)
-columns-after context earlier keyword more (Some ObjName) h e = absurd (false≢true e)
-columns-after context earlier keyword more (Some Rows) h e = absurd (false≢true e)
-columns-after context earlier keyword more (Some Columns) h e = header-begins context earlier keyword more Columns h
-columns-after context earlier keyword more (Some Rhs) h e = absurd (false≢true e)
-columns-after context earlier keyword more (Some Ranges) h e = absurd (false≢true e)
-columns-after context earlier keyword more (Some Bounds) h e = absurd (false≢true e)
-columns-after context earlier keyword more (Some EndData) h e = absurd (false≢true e)
+columns-after context earlier keyword more o h e = grind arith
 
 late-after : (context : Context) (earlier : Draft) (keyword : List ℕ) (more : Fields) (o current : Option Section) → those_of (header_tests context earlier keyword more o) ≡ []
     → (is_late current ≡ true → has context.sections_seen Columns ≡ true) → is_late (option_or o current) ≡ true → (has context.sections_seen Columns || is_section Columns o) ≡ true
-late-after context earlier keyword more None current h old e = or_left (has context.sections_seen Columns) false (old e)
-late-after context earlier keyword more (Some Name) current h old e = absurd (false≢true e)
-late-after context earlier keyword more (Some ObjSense) current h old e = absurd (false≢true e)
-late-after context earlier keyword more (Some ObjName) current h old e = absurd (false≢true e)
-late-after context earlier keyword more (Some Rows) current h old e = absurd (false≢true e)
-late-after context earlier keyword more (Some Columns) current h old e = or_right (has context.sections_seen Columns) true refl
-late-after context earlier keyword more (Some Rhs) current h old e = or_left (has context.sections_seen Columns) false (header-begins context earlier keyword more Rhs h)
-late-after context earlier keyword more (Some Ranges) current h old e = or_left (has context.sections_seen Columns) false (header-begins context earlier keyword more Ranges h)
-late-after context earlier keyword more (Some Bounds) current h old e = or_left (has context.sections_seen Columns) false (header-begins context earlier keyword more Bounds h)
-late-after context earlier keyword more (Some EndData) current h old e = absurd (false≢true e)
+late-after context earlier keyword more o current h old e = grind arith
 
 pub ordered-push : (before : List LineContent) (earlier : Draft) (item : LineContent) → IsGood before earlier item → Ordered before → Ordered (before ++ item ∷ [])
-ordered-push before earlier item h o =
-    record {
-      rows = λ begun. has_section-push Rows before item ∙ or_left (has_section before Rows) (begins Rows item) (earlier_rows (has_section before Columns) refl (sym (has_section-push Columns before item) ∙ begun));
-      columns = λ late. has_section-push Columns before item ∙ late_columns item h (ap is_late (sym (current_section-push before item)) ∙ late);
-    }
-  where
-    new_rows : (x : LineContent) → IsGood before earlier x → begins Columns x ≡ true → has_section before Rows ≡ true
-    new_rows skipped g e = absurd (false≢true e)
-    new_rows (header keyword more) g e = columns-after (context_of before) earlier keyword more (section_named keyword) g e
-    new_rows (data_line fields) g e = absurd (false≢true e)
-
-    earlier_rows : (b : Bool) → has_section before Columns ≡ b → (b || begins Columns item) ≡ true → has_section before Rows ≡ true
-    earlier_rows true e k = o.rows e
-    earlier_rows false e k = new_rows item h k
-
-    late_columns : (x : LineContent) → IsGood before earlier x → is_late (option_or (section_of_header x) (current_section before)) ≡ true → (has_section before Columns || begins Columns x) ≡ true
-    late_columns skipped g e = or_left (has_section before Columns) false (o.columns e)
-    late_columns (header keyword more) g e = late-after (context_of before) earlier keyword more (section_named keyword) (current_section before) g o.columns e
-    late_columns (data_line fields) g e = or_left (has_section before Columns) false (o.columns e)
+ordered-push before earlier item h o = grind (arith, has_section-push, or_left, current_section-push, false≢true, columns-after, late-after)
 
 -- ---- what declares rows and columns
 
@@ -218,20 +118,7 @@ abbrev pub no_columns : Declarations → Bool
 no_columns ds = list_all (λ d. not (declares_column d)) ds
 
 row-kept : (all : Draft) (d : Declaration) (r : List ℕ) → not (declares_row d) ≡ true → has_row (with_declaration all d) r ≡ has_row all r
-row-kept all (declare_objective _) r h = absurd (false≢true h)
-row-kept all (declare_row _ _) r h = absurd (false≢true h)
-row-kept all (declare_sense _) r h = refl
-row-kept all (declare_constant _) r h = refl
-row-kept all (declare_rhs _ _) r h = refl
-row-kept all (declare_range _ _) r h = refl
-row-kept all (declare_column _) r h = refl
-row-kept all (declare_coefficient _ _) r h = refl
-row-kept all (declare_lower _ _) r h = refl
-row-kept all (declare_upper _ _) r h = refl
-row-kept all (declare_marked _) r h = refl
-row-kept all (declare_integer _) r h = refl
-row-kept all (declare_binary _) r h = refl
-row-kept all (declare_semi _) r h = refl
+row-kept all d r h = grind arith
 
 pub rows-kept : (ds : Declarations) (all : Draft) (r : List ℕ) → no_rows ds ≡ true → has_row (with_declarations all ds) r ≡ has_row all r
 rows-kept [] all r h = refl
@@ -239,20 +126,7 @@ rows-kept (d ∷ ds) all r h =
     rows-kept ds (with_declaration all d) r (second_so (not (declares_row d)) (no_rows ds) h) ∙ row-kept all d r (first_so (not (declares_row d)) (no_rows ds) h)
 
 column-kept : (all : Draft) (d : Declaration) (c : List ℕ) → not (declares_column d) ≡ true → has_column (with_declaration all d) c ≡ has_column all c
-column-kept all (declare_column _) c h = absurd (false≢true h)
-column-kept all (declare_objective _) c h = refl
-column-kept all (declare_row _ _) c h = refl
-column-kept all (declare_sense _) c h = refl
-column-kept all (declare_constant _) c h = refl
-column-kept all (declare_rhs _ _) c h = refl
-column-kept all (declare_range _ _) c h = refl
-column-kept all (declare_coefficient _ _) c h = refl
-column-kept all (declare_lower _ _) c h = refl
-column-kept all (declare_upper _ _) c h = refl
-column-kept all (declare_marked _) c h = refl
-column-kept all (declare_integer _) c h = refl
-column-kept all (declare_binary _) c h = refl
-column-kept all (declare_semi _) c h = refl
+column-kept all d c h = grind arith
 
 pub columns-kept : (ds : Declarations) (all : Draft) (c : List ℕ) → no_columns ds ≡ true → has_column (with_declarations all ds) c ≡ has_column all c
 columns-kept [] all c h = refl
@@ -274,13 +148,6 @@ pub each-mapped : {X : Type 0} (p : Declaration → Bool) (f : X → Declaration
 each-mapped p f [] h = refl
 each-mapped p f (x ∷ xs) h = both_so (p (f x)) (list_all p (map f xs)) (h x) (each-mapped p f xs h)
 
--- the test passes for whatever BOUNDS declares
-pub record Passes (p : Declaration → Bool) : Type 0 where
-  pub lower : (c : List ℕ) (l : Limit) → p (declare_lower c l) ≡ true
-  pub upper : (c : List ℕ) (l : Limit) → p (declare_upper c l) ≡ true
-  pub integer : (c : List ℕ) → p (declare_integer c) ≡ true
-  pub semi : (c : List ℕ) → p (declare_semi c) ≡ true
-
 -- a sense that is declared
 pub sense-passes : (p : Declaration → Bool) → ((s : Sense) → p (declare_sense s) ≡ true) → (fields : Fields) → list_all p (declared_if_some sense_declared (word_shape fields)) ≡ true
 sense-passes p h fields =
@@ -290,59 +157,10 @@ sense-passes p h fields =
 -- right-hand sides and ranges that are declared
 pub sides-passes : (p : Declaration → Bool) → ((r : List ℕ) (v : Number) → p (declare_rhs r v) ≡ true) → (earlier : Draft) (fields : Fields)
     → list_all p (declared_if_some (rhs_line_declared earlier) (vector_shape fields)) ≡ true
-sides-passes p h earlier fields =
-    each-declared p (rhs_line_declared earlier) (vector_shape fields)
-    (λ line. each-flat p (λ (pair : Pair). rhs_declared earlier pair.row (value_of pair.literal)) line.pairs (λ pair. one pair (is_free_row earlier pair.row)))
-  where
-    one : (pair : Pair) (b : Bool) → list_all p (cond b [] (declare_rhs pair.row (value_of pair.literal) ∷ [])) ≡ true
-    one pair true = refl
-    one pair false = both_so (p (declare_rhs pair.row (value_of pair.literal))) true (h pair.row (value_of pair.literal)) refl
+sides-passes p h earlier fields = grind arith
 
 pub ranges-passes : (p : Declaration → Bool) → ((r : List ℕ) (v : Number) → p (declare_range r v) ≡ true) → (fields : Fields)
     → list_all p (declared_if_some ranges_declared (vector_shape fields)) ≡ true
 ranges-passes p h fields =
     each-declared p ranges_declared (vector_shape fields)
     (λ line. each-mapped p (λ (pair : Pair). declare_range pair.row (value_of pair.literal)) line.pairs (λ pair. h pair.row (value_of pair.literal)))
-
-module _ (p : Declaration → Bool) (passes : Passes p) where
-  bound-passes : (type : BoundType) (c : List ℕ) (v : Limit) → list_all p (bound_declared type c v) ≡ true
-  bound-passes bounds.Lower c v = rw (passes.lower c v) refl
-  bound-passes bounds.Upper c v = rw (passes.upper c v) refl
-  bound-passes bounds.Fixed c v = rw (passes.lower c v, passes.upper c v) refl
-  bound-passes bounds.Free c v = rw (passes.lower c, passes.upper c) refl
-  bound-passes bounds.NoLower c v = rw (passes.lower c) refl
-  bound-passes bounds.NoUpper c v = rw (passes.upper c) refl
-  bound-passes bounds.Binary c v = rw (passes.integer c, passes.lower c, passes.upper c) refl
-  bound-passes bounds.IntegerLower c v = rw (passes.integer c, passes.lower c v) refl
-  bound-passes bounds.IntegerUpper c v = rw (passes.integer c, passes.upper c v) refl
-  bound-passes bounds.SemiUpper c v = rw (passes.semi c, passes.upper c v) refl
-
-  pub bounds-passes : (fields : Fields) → list_all p (bound_line_declared fields) ≡ true
-  bounds-passes [] = refl
-  bounds-passes (letters ∷ more) =
-      each-declared p (λ type. declared_if_some (λ (line : BoundLine). bound_declared type line.column (bound_value line)) (bound_shape type more)) (bound_type letters)
-      (λ type. each-declared p (λ (line : BoundLine). bound_declared type line.column (bound_value line)) (bound_shape type more) (λ line. bound-passes type line.column (bound_value line)))
-
--- the lines of COLUMNS declare no rows
-pub columns-line-no-rows : (context : Context) (fields : Fields) → no_rows (columns_line_declared context fields) ≡ true
-columns-line-no-rows context fields = by (is_marker_line fields)
-  where
-    cells : (column : List ℕ) (pairs : List Pair) → no_rows (flat_map (coefficient_declared column) pairs) ≡ true
-    cells column pairs = each-flat (λ d. not (declares_row d)) (coefficient_declared column) pairs (λ pair. refl)
-
-    line-no-rows : (line : ValuesLine) → no_rows (column_declared context line) ≡ true
-    line-no-rows line = marked context.in_integer_part
-      where
-        marked : (b : Bool) → no_rows (cond b (declare_marked line.name ∷ []) [] ++ flat_map (coefficient_declared line.name) line.pairs) ≡ true
-        marked true = cells line.name line.pairs
-        marked false = cells line.name line.pairs
-
-    by : (b : Bool) → no_rows (cond b [] (declared_if_some (column_declared context) (column_shape fields))) ≡ true
-    by true = refl
-    by false = each-declared (λ d. not (declares_row d)) (column_declared context) (column_shape fields) line-no-rows
-
-pub passes-no_rows : Passes (λ d. not (declares_row d))
-passes-no_rows = record { lower = λ _ _. refl; upper = λ _ _. refl; integer = λ _. refl; semi = λ _. refl }
-
-pub passes-no_columns : Passes (λ d. not (declares_column d))
-passes-no_columns = record { lower = λ _ _. refl; upper = λ _ _. refl; integer = λ _. refl; semi = λ _. refl }

@@ -1,16 +1,12 @@
 -- The first error of the ranges of a line.
-use Rattle.std.proofs.Common.{arith}
-use Rattle.std.proofs.Common.{◌≡◌, refl, sym, ap, subst, ◌∙◌, ℕ, List, [], ◌∷◌, Bool, true, false, not, cond}
-use Rattle.std.specs.Prelude.{◌||◌, Option, Some, None, MatchResult}
+use Rattle.std.{proofs.Common.{arith, ◌≡◌, refl, ap, ◌∙◌, ℕ, List, [], ◌∷◌, Bool, true, false, not, cond}, specs.Prelude.{◌||◌, Option}}
+use Rattle.std.specs.Prelude.{Some, None, MatchResult}
 use Rattle.mpslp_decimal.specs.Decimal.{Number, is_infinite_size}
-use Rattle.mpslp_types.specs.Name.{same_bytes}
-use Rattle.mpslp_builder.specs.Declaration.{declare_range, Draft, with_declaration, has_name, has_row, is_objective, is_free_row, is_row_by_limits}
-use Rattle.mpslp_types.specs.declared.faults.FaultKind.{FaultKind}
+use Rattle.mpslp_types.specs.{Name.same_bytes, declared.faults.FaultKind.FaultKind}
 use Rattle.mpslp_types.specs.declared.faults.FaultKind.TheVariants as kinds
-use Rattle.mpslp_builder.proofs.SlotLemmas.{has-put, same_name}
-use Rattle.mpslp_lines.specs.Declaring.{declared_fault}
-use Rattle.mpslp_lines.specs.LineAnswer.{LineResult, IsErrorOf}
-use Rattle.mpslp_lines.proofs.LeastLemmas.{earlier_of}
+use Rattle.mpslp_builder.specs.Declaration.{declare_range, Draft, with_declaration, has_name, has_row, is_objective, is_free_row}
+use Rattle.mpslp_builder.{specs.Declaration.is_row_by_limits, proofs.SlotLemmas.{has-put, same_name}}
+use Rattle.mpslp_lines.{specs.{Declaring.declared_fault, LineAnswer.{LineResult, IsErrorOf}}, proofs.LeastLemmas.earlier_of}
 use Rattle.mpslp_lines.proofs.RefusedLemmas.{declared-one, declared-append}
 
 -- the kind of the error, by whether the row exists, has a range, cannot have one, and whether the value is infinite
@@ -62,8 +58,4 @@ ranges-of_one all row value other second same =
     ∙ by (has_row all row) (is_ranged all row) (has_no_sides all row) (is_infinite_size value)
   where
     by : (a b c d : Bool) → earlier_of (range_kind a b c d) (range_kind a true (has_no_sides all other) (is_infinite_size second)) ≡ Some (cond a kinds.DuplicateRange kinds.UnknownRow)
-    by false b c d = refl
-    by true true c d = refl
-    by true false true d = refl
-    by true false false true = refl
-    by true false false false = refl
+    by a b c d = grind arith

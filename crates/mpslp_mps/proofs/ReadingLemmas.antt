@@ -1,19 +1,13 @@
 -- A context and a draft determine for later lines what all the lines before determine.
-use Rattle.std.proofs.Common.{◌≡◌, refl, ap, ◌∙◌, ℕ, ◌+◌, List, [], ◌∷◌, ◌++◌}
-use Rattle.std.specs.Prelude.{Option}
-use Rattle.std.specs.List.{flat_map}
-use Rattle.std.specs.Option.{option_map, option_or}
-use Rattle.mpslp_builder.specs.Declaration.{Draft, empty_draft, with_declarations, draft_of}
+use Rattle.std.{proofs.Common.{◌≡◌, refl, ap, ◌∙◌, ℕ, ◌+◌, List, [], ◌∷◌, ◌++◌}, specs.{Prelude.Option, List.flat_map, Option.option_map}}
+use Rattle.std.specs.Option.{option_or}
+use Rattle.mpslp_builder.{specs.Declaration.{Draft, empty_draft, with_declarations, draft_of}, proofs.MadeDrafts.with_declarations-append}
 use Rattle.mpslp_types.specs.declared.faults.Fault.{Fault}
-use Rattle.mpslp_builder.proofs.MadeDrafts.{with_declarations-append}
 use Rattle.mpslp_mps_fields.specs.Line.{LineContent, content_of}
-use Rattle.mpslp_mps.specs.Context.{Context, context_of}
-use Rattle.mpslp_mps.specs.LineDeclarations.{line_declares}
-use Rattle.mpslp_mps.specs.MpsText.{read_lines, declared_at, lines_in_context_after, declarations_of}
-use Rattle.mpslp_mps.specs.FirstFault.{line_fault, first_line_fault, whole_mps_fault, first_mps_fault}
+use Rattle.mpslp_mps.specs.{Context.{Context, context_of}, LineDeclarations.line_declares, MpsText.{read_lines, declared_at}}
+use Rattle.mpslp_mps.specs.{MpsText.{lines_in_context_after, declarations_of}, FirstFault.{line_fault, first_line_fault, whole_mps_fault}}
+use Rattle.mpslp_mps.{specs.{FirstFault.first_mps_fault, LineByLine.{placed_in, fault_from, draft_from}}, proofs.ContextLemmas.context-push}
 use Rattle.mpslp_lines.specs.FaultTests.{fault_on_line}
-use Rattle.mpslp_mps.specs.LineByLine.{placed_in, fault_from, draft_from}
-use Rattle.mpslp_mps.proofs.ContextLemmas.{context-push}
 
 pub fault_from-is : (lines : List (List ℕ)) (n : ℕ) (before : List LineContent) (earlier : Draft)
     → first_line_fault n (lines_in_context_after before earlier lines) ≡ fault_from n (context_of before) earlier lines

@@ -1,24 +1,14 @@
 -- The first error of the right-hand sides of a line.
-use Rattle.std.proofs.Common.{arith}
-use Rattle.std.proofs.Common.{rules}
-use Rattle.std.proofs.Common.{◌≡◌, refl, sym, ap, subst, ◌∙◌, ℕ, List, [], ◌∷◌, ◌++◌, Bool, true, false, not, cond}
+use Rattle.std.proofs.Common.{arith, rules, ◌≡◌, refl, sym, ap, ◌∙◌, ℕ, List, [], ◌∷◌, ◌++◌, Bool, true, false, not, cond}
 use Rattle.std.specs.Prelude.{◌&&◌, ◌||◌, Option, Some, None, is_some, MatchResult}
-use Rattle.std.specs.Option.{option_map_or}
-use Rattle.std.specs.Cmp.{second_so}
 use Rattle.mpslp_decimal.specs.Decimal.{Number}
-use Rattle.mpslp_types.specs.Name.{same_bytes}
-use Rattle.mpslp_builder.specs.Declaration.{RowDefinition, by_type, by_limits, declare_rhs, Draft, with_declaration, with_declarations, at_name, has_name, has_row, is_objective, is_free_definition, is_free_row, is_definition_by_limits, is_row_by_limits, rhs_declared}
-use Rattle.mpslp_types.specs.declared.faults.FaultKind.{FaultKind}
+use Rattle.mpslp_types.specs.{Name.same_bytes, declared.faults.FaultKind.FaultKind}
 use Rattle.mpslp_types.specs.declared.faults.FaultKind.TheVariants as kinds
-use Rattle.mpslp_types.proofs.BoolLemmas.{or_right}
-use Rattle.mpslp_builder.proofs.SlotLemmas.{has-put, same_name}
-use Rattle.mpslp_lines.specs.Declaring.{declared_fault}
-use Rattle.mpslp_lines.specs.LineAnswer.{LineResult, IsErrorOf}
+use Rattle.mpslp_builder.specs.Declaration.{declare_rhs, Draft, with_declaration, with_declarations, has_name, has_row, is_objective}
+use Rattle.mpslp_builder.{specs.Declaration.{is_free_row, is_row_by_limits, rhs_declared}, proofs.SlotLemmas.{has-put, same_name}}
+use Rattle.mpslp_lines.specs.{Declaring.declared_fault, LineAnswer.{LineResult, IsErrorOf}, declared.errors.LineError.LineError}
+use Rattle.mpslp_lines.proofs.{LeastLemmas.earlier_of, RefusedLemmas.declared-append}
 use Rattle.mpslp_mps.specs.VectorDeclared.{HasMpsSides}
-use Rattle.mpslp_lines.specs.declared.errors.LineError.{LineError}
-use Rattle.mpslp_lines.specs.declared.errors.LineError.TheVariants.{Fault, OutOfMemory}
-use Rattle.mpslp_lines.proofs.LeastLemmas.{earlier_of}
-use Rattle.mpslp_lines.proofs.RefusedLemmas.{declared-one, declared-append}
 
 -- ---- one right-hand side
 
@@ -30,17 +20,8 @@ is_sided all row = has_name all.rhs_values row || (is_row_by_limits all row || (
 abbrev pub side_kind : Bool → Bool → Option FaultKind
 side_kind there sided = cond (not there) (Some kinds.UnknownRow) (cond sided (Some kinds.DuplicateRhs) None)
 
-free_there : (o : Option RowDefinition) → option_map_or is_free_definition o false ≡ true → is_some o ≡ true
-free_there v0 h = grind arith
-
-free_unlimited : (o : Option RowDefinition) → option_map_or is_free_definition o false ≡ true → option_map_or is_definition_by_limits o false ≡ false
-free_unlimited v0 h = grind arith
-
-free_row : (all : Draft) (row : List ℕ) → is_free_row all row ≡ true → has_row all row ≡ true
-free_row all row h = or_right (is_objective all row) (has_name all.rows row) (free_there (at_name all.rows row) h)
-
 none_so : (b : Bool) (o : Option Number) → o ≡ None → (b && is_some o) ≡ false
-none_so v0 o h = grind arith
+none_so b o h = grind arith
 
 -- N rows have no right-hand sides
 abbrev pub AreLimited : Draft → Type 0

@@ -1,31 +1,23 @@
 -- How one more line changes what is known of the lines before.
-use Rattle.std.proofs.Common.{arith}
-use Rattle.std.proofs.Common.{rules}
-use Rattle.std.proofs.Common.{◌≡◌, refl, sym, ap, ◌∙◌, List, [], ◌∷◌, ◌++◌, append_assoc, Bool, true, false}
-use Rattle.std.specs.Prelude.{Option, Some, None, ◌||◌, filter_map}
-use Rattle.std.specs.List.{last_or, cons_option}
-use Rattle.std.specs.Option.{option_or}
-use Rattle.std.proofs.lemmas.List.{append-nil}
-use Rattle.std.proofs.lemmas.List.Elements.{filter_map-append}
-use Rattle.std.proofs.lemmas.List.Folds.{list_any-append}
-use Rattle.mpslp_mps_fields.specs.Line.{LineContent, section_of_header, begins, is_section, has}
-use Rattle.mpslp_mps.specs.Context.{seen_sections, section_after, current_section, fields_under, said_after, data_lines}
-use Rattle.mpslp_mps.specs.TextInWords.{has_section}
-use Rattle.mpslp_mps_fields.specs.declared.sections.Section.{Section}
+use Rattle.std.proofs.{Common.{arith, ◌≡◌, refl, sym, ap, ◌∙◌, List, [], ◌∷◌, ◌++◌, append_assoc, Bool, false}, lemmas.List.append-nil}
+use Rattle.std.{proofs.lemmas.List.{Elements.filter_map-append, Folds.list_any-append}, specs.Prelude.{Option, Some, None, ◌||◌}}
+use Rattle.std.specs.{List.{last_or, cons_option}, Option.option_or}
+use Rattle.mpslp_mps_fields.specs.{Line.{LineContent, section_of_header, begins, is_section, has}, declared.sections.Section.Section}
+use Rattle.mpslp_mps.specs.{Context.{section_after, current_section, fields_under, said_after, data_lines}, SeenSection.has_section}
 
 pub last_or-append : {X : Type 0} (o : Option X) (xs ys : List X) → last_or o (xs ++ ys) ≡ last_or (last_or o xs) ys
 last_or-append o [] ys = refl
 last_or-append o (x ∷ xs) ys = last_or-append (Some x) xs ys
 
 last-one : (o c : Option Section) → last_or c (cons_option o []) ≡ option_or o c
-last-one v0 c = grind arith
+last-one o c = grind arith
 
 -- the section after a line: the one that it begins, or the one before
 pub current_section-push : (before : List LineContent) (item : LineContent) → current_section (before ++ item ∷ []) ≡ option_or (section_of_header item) (current_section before)
 current_section-push before item = grind (arith, filter_map-append, last_or-append, last-one)
 
-or_false : (b : Bool) → (b || false) ≡ b
-or_false v0 = grind arith
+pub or_false : (b : Bool) → (b || false) ≡ b
+or_false b = grind arith
 
 -- sections, and optionally one more
 pub has-more : (section : Section) (begun : List Section) (o : Option Section) → has (begun ++ cons_option o []) section ≡ (has begun section || is_section section o)

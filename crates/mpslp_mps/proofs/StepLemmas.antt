@@ -1,30 +1,18 @@
 -- What a line of a known shape does to the context, as `next_context` defines.
-use Rattle.std.proofs.Common.{arith}
-use Rattle.std.proofs.Common.{rules}
-use Rattle.std.proofs.Common.{◌≡◌, refl, ap, ◌∙◌, ℕ, List, [], ◌∷◌, ◌++◌, Bool, true, false, cond}
-use Rattle.std.specs.Prelude.{Option, Some, None}
-use Rattle.std.specs.List.{cons_option}
-use Rattle.std.specs.Option.{option_map, option_map_or, option_or}
-use Rattle.std.proofs.lemmas.List.{append-nil}
+use Rattle.std.{proofs.{Common.{arith, ◌≡◌, ℕ, List, [], ◌∷◌, ◌++◌, Bool, true, false, cond}, lemmas.List.append-nil}, specs.Prelude.Option}
+use Rattle.std.specs.{Prelude.{Some, None}, Option.{option_map, option_or}}
 use Rattle.mpslp_decimal.specs.Decimal.{Number}
 use Rattle.mpslp_types.specs.Name.{same_bytes}
-use Rattle.mpslp_mps_fields.specs.Line.{Fields, skipped, header, data_line, is_section, section_named, section_of_word_due}
-use Rattle.mpslp_mps_fields.specs.DataLine.{ValuesLine, word_shape, column_shape, is_marker_line, marker_shape, opening_word, vector_shape, BoundLine, bound_type, bound_shape}
-use Rattle.mpslp_mps.specs.Context.{Context, line_column, vector_set, bound_set}
-use Rattle.mpslp_mps_fields.specs.ObjNameHeader.{header_objname}
-use Rattle.mpslp_mps.specs.NextContext.{next_part, next_set, next_context}
-use Rattle.mpslp_mps.specs.LineValues.{named_values}
-use Rattle.mpslp_mps.specs.ContextStep.{after_header, after_objname, after_data, after_marker, after_column, after_set}
-use Rattle.mpslp_mps_fields.specs.declared.bound_types.BoundType.{BoundType}
-use Rattle.mpslp_mps_fields.specs.declared.sections.Section.{Section}
-use Rattle.mpslp_mps_fields.specs.declared.sections.Section.TheVariants.{ObjSense, ObjName, Rows, Columns, Rhs, Ranges, Bounds}
+use Rattle.mpslp_mps_fields.specs.{Line.{Fields, header, data_line, is_section, section_named, section_of_word_due}, DataLine.word_shape}
+use Rattle.mpslp_mps_fields.specs.DataLine.{column_shape, is_marker_line, marker_shape, opening_word, vector_shape, BoundLine, bound_type}
+use Rattle.mpslp_mps_fields.specs.{DataLine.bound_shape, ObjNameHeader.header_objname, declared.bound_types.BoundType.BoundType}
+use Rattle.mpslp_mps_fields.specs.declared.sections.Section.{Section, TheVariants.{ObjName, Columns, Rhs, Ranges, Bounds}}
+use Rattle.mpslp_mps.specs.{Context.{Context, line_column, vector_set, bound_set}, NextContext.{next_part, next_set, next_context}}
+use Rattle.mpslp_mps.specs.{LineValues.named_values, ContextStep.{after_header, after_objname, after_marker, after_column, after_set}}
 
 -- a line that gives nothing leaves what is known unchanged
 same-option : {X : Type 0} (o : Option X) → option_or o None ≡ o
-same-option v0 = grind arith
-
-pub step-skipped : (c : Context) → next_context c skipped ≡ c
-step-skipped c = λ i. record c { sections_seen = append-nil c.sections_seen i; objname = same-option c.objname i }
+same-option o = grind arith
 
 -- ---- headers
 
@@ -50,12 +38,6 @@ under c fields section = record c {
 pub step-objname : (c : Context) (fields : Fields) (name : List ℕ) → c.section ≡ Some ObjName → word_shape fields ≡ Some name
     → next_context c (data_line fields) ≡ after_objname c name
 step-objname c fields name h k = grind (arith, append-nil)
-
-pub step-sense : (c : Context) (fields : Fields) → c.section ≡ Some ObjSense → next_context c (data_line fields) ≡ after_data c
-step-sense c fields h = ap (under c fields) h ∙ (λ i. record c { sections_seen = append-nil c.sections_seen i; word_due = None; objname = same-option c.objname i })
-
-pub step-row : (c : Context) (fields : Fields) → c.section ≡ Some Rows → next_context c (data_line fields) ≡ after_data c
-step-row c fields h = ap (under c fields) h ∙ (λ i. record c { sections_seen = append-nil c.sections_seen i; word_due = None; objname = same-option c.objname i })
 
 pub step-column : (c : Context) (fields : Fields) (column : List ℕ) (values : List (List ℕ × Number)) → c.section ≡ Some Columns → is_marker_line fields ≡ false
     → option_map named_values (column_shape fields) ≡ Some (column, values) → next_context c (data_line fields) ≡ after_column c column

@@ -1,26 +1,14 @@
 -- Data lines that are accepted, and those that are not.
-use Rattle.std.proofs.Common.{arith}
-use Rattle.std.proofs.Common.{◌≡◌, sym, ap, ◌∙◌, Bool, true, false}
-use Rattle.std.specs.Prelude.{Some, None, Ok}
-use Rattle.std.specs.List.{list_all}
+use Rattle.std.{proofs.Common.{arith, ◌≡◌, Bool, true, false}, specs.{Prelude.{Some, None, Ok}, List.list_all}}
 use Rattle.mpslp_builder.specs.Declaration.{Declarations, Draft, with_declarations}
 use Rattle.mpslp_types.specs.declared.faults.FaultKind.{FaultKind}
 use Rattle.mpslp_types.specs.declared.faults.FaultKind.TheVariants as kinds
-use Rattle.mpslp_mps_fields.specs.Line.{Fields, data_line}
-use Rattle.mpslp_mps.specs.Context.{Context}
-use Rattle.mpslp_mps.specs.NextContext.{next_context}
-use Rattle.mpslp_lines.specs.FaultTests.{first_held}
-use Rattle.mpslp_mps.specs.LineFault.{data_tests}
-use Rattle.mpslp_mps.specs.LineDeclarations.{data_declared}
-use Rattle.mpslp_lines.specs.Declaring.{declared_fault}
-use Rattle.mpslp_lines.specs.LineAnswer.{IsErrorOf}
-use Rattle.mpslp_mps.specs.LineAnswer.{ReadsContent}
-use Rattle.mpslp_lines.specs.declared.errors.LineError.{LineError}
-use Rattle.mpslp_lines.specs.declared.errors.LineError.TheVariants.{Fault, OutOfMemory}
-use Rattle.mpslp_mps_fields.specs.declared.sections.Section.{Section}
-use Rattle.mpslp_lines.proofs.LeastLemmas.{is_from}
+use Rattle.mpslp_mps_fields.specs.{Line.{Fields, data_line}, declared.sections.Section.Section}
+use Rattle.mpslp_mps.specs.{Context.Context, NextContext.next_context, LineFault.data_tests, LineDeclarations.data_declared}
+use Rattle.mpslp_mps.{specs.LineAnswer.ReadsContent, proofs.TakenLemmas.{data_fault, data_fault-form, data_fault-declared, declared-is}}
+use Rattle.mpslp_lines.specs.{FaultTests.first_held, Declaring.declared_fault, LineAnswer.IsErrorOf, declared.errors.LineError.LineError}
+use Rattle.mpslp_lines.{specs.declared.errors.LineError.TheVariants.{Fault, OutOfMemory}, proofs.LeastLemmas.is_from}
 use Rattle.mpslp_lines.proofs.ClashLemmas.{has_kind_clash}
-use Rattle.mpslp_mps.proofs.TakenLemmas.{data_fault, data_fault-form, data_fault-declared, declared-is}
 
 -- a kind that comes before all those of what is declared
 abbrev pub is_early : Bool × FaultKind → Bool

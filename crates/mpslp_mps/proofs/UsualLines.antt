@@ -1,43 +1,20 @@
 -- A line of COLUMNS whose declarations are made has no error.
-use Rattle.std.proofs.Common.{arith}
-use Rattle.std.proofs.Common.{rules}
-use Rattle.std.proofs.Common.{◌≡◌, refl, sym, ap, ◌∙◌, ℕ, List, [], ◌∷◌, Bool, true, false, cond, map}
-use Rattle.std.specs.Prelude.{◌&&◌, not, Option, Some, None, Result, Ok, Err}
-use Rattle.std.specs.List.{list_all, flat_map}
-use Rattle.std.specs.Option.{option_map, option_map_or}
-use Rattle.std.specs.Cmp.Lexicographic.{bytes_decides}
+use Rattle.std.{proofs.Common.{arith, rules, ◌≡◌, refl, sym, ap, ◌∙◌, ℕ, List, [], ◌∷◌, Bool, true, false, cond, map}, specs.Prelude.not}
+use Rattle.std.specs.{Prelude.{Option, Some, None, Result, Ok, Err, ◌&&◌}, List.flat_map, Option.{option_map, option_map_or}}
 use Rattle.mpslp_decimal.specs.Decimal.{Number}
-use Rattle.mpslp_types.specs.Name.{same_bytes, has_name_length, is_visible, marker, is_mps_name}
-use Rattle.mpslp_types.specs.FaultOrder.{least_kind}
-use Rattle.mpslp_types.specs.declared.faults.BuildFault.{BuildFault}
-use Rattle.mpslp_types.specs.declared.faults.BuildFault.TheVariants.{UnknownColumn, SemiContinuous}
+use Rattle.mpslp_types.specs.{Name.{same_bytes, is_mps_name}, FaultOrder.least_kind, declared.faults.BuildFault.BuildFault}
 use Rattle.mpslp_types.specs.declared.faults.FaultKind.TheVariants as kinds
-use Rattle.mpslp_builder.specs.Declaration.{Draft, declare_column, declare_marked, declare_coefficient, with_declaration, with_declarations, has_column, is_semi}
-use Rattle.mpslp_builder.specs.Refusal.{refusals, refusals_in_turn}
-use Rattle.mpslp_builder.specs.Made.{IsMade}
-use Rattle.mpslp_builder.specs.ColumnLine.{column_line, TakesLine}
-use Rattle.mpslp_builder.proofs.AnswerLemmas.{column_is_legal}
-use Rattle.mpslp_builder.proofs.MadeDrafts.{with_declarations-append}
-use Rattle.mpslp_builder.proofs.RefusalLemmas.{first_none, rest_none, left_none}
-use Rattle.mpslp_lines.specs.Declaring.{declared_fault}
-use Rattle.mpslp_lines.specs.FaultTests.{kind_of_build_fault, FaultTests, judged_by, first_held, number_tests}
-use Rattle.mpslp_lines.specs.declared.errors.LineError.{LineError}
-use Rattle.mpslp_lines.proofs.LeastLemmas.{earlier_of}
-use Rattle.mpslp_lines.proofs.DeclaringLemmas.{declared-after}
-use Rattle.mpslp_mps_fields.specs.Line.{Fields, data_line}
-use Rattle.mpslp_mps_fields.specs.DataLine.{ValuesLine, column_shape, is_marker_line}
-use Rattle.mpslp_mps_fields.specs.declared.sections.Section.{Section}
+use Rattle.mpslp_builder.specs.Declaration.{Draft, declare_coefficient, with_declaration, with_declarations, has_column, is_semi}
+use Rattle.mpslp_builder.specs.{Refusal.refusals_in_turn, Made.IsMade, ColumnLine.{column_line, TakesLine}}
+use Rattle.mpslp_builder.proofs.{AnswerLemmas.column_is_legal, MadeDrafts.with_declarations-append, LaterDrafts.objective_is}
+use Rattle.mpslp_lines.specs.{Declaring.declared_fault, FaultTests.{kind_of_build_fault, judged_by, first_held, number_tests}}
+use Rattle.mpslp_lines.{specs.declared.errors.LineError.LineError, proofs.{LeastLemmas.earlier_of, DeclaringLemmas.declared-after}}
+use Rattle.mpslp_mps_fields.specs.{Line.{Fields, data_line}, DataLine.{ValuesLine, column_shape, is_marker_line}}
 use Rattle.mpslp_mps_fields.specs.declared.sections.Section.TheVariants.{Columns}
-use Rattle.mpslp_mps.specs.Context.{Context}
-use Rattle.mpslp_mps.specs.ContextStep.{after_column, after_data}
-use Rattle.mpslp_mps.specs.LineFault.{is_split, literals_of}
-use Rattle.mpslp_mps.specs.LineDeclarations.{data_declared}
-use Rattle.mpslp_mps.specs.LineValues.{named_values}
-use Rattle.mpslp_mps.specs.LineAnswer.{item_fault, ReadsContent, MayRead}
-use Rattle.mpslp_mps.specs.ColumnDeclared.{front_declared, value_declared}
-use Rattle.mpslp_mps.specs.UsualLine.{usual_declared, TakesUsual, MayPass}
-use Rattle.mpslp_mps.proofs.ColumnTaking.{front-none, front-there}
-use Rattle.mpslp_mps.proofs.ColumnLine.{field_tests, with_column, column-fault, column-declares}
+use Rattle.mpslp_mps.specs.{Context.Context, ContextStep.{after_column, after_data}, LineFault.{is_split, literals_of}}
+use Rattle.mpslp_mps.specs.{LineValues.named_values, LineAnswer.{item_fault, ReadsContent, MayRead}, ColumnDeclared.front_declared}
+use Rattle.mpslp_mps.specs.{ColumnDeclared.value_declared, UsualLine.{usual_declared, TakesUsual, MayPass}}
+use Rattle.mpslp_mps.proofs.{ColumnTaking.{front-none, front-there}, ColumnLine.{field_tests, with_column, column-fault, column-declares}}
 use Rattle.mpslp_mps.proofs.StepLemmas.{step-column}
 
 -- ---- the name of the column
@@ -67,16 +44,16 @@ usual-taken earlier later marked column values false taken made = taken
 -- a legal name has no error
 fields-held : (parts : Option ValuesLine) (column : List ℕ) (values : List (List ℕ × Number)) → is_mps_name column ≡ true → option_map named_values parts ≡ Some (column, values)
     → first_held (judged_by (λ line. number_tests (literals_of line.pairs)) parts) ≡ None → first_held (judged_by field_tests parts) ≡ None
-fields-held v0 column values legal is held = grind arith
+fields-held parts column values legal is held = grind arith
 
 -- a column that is declared marked is not semi-continuous
 semi-apart : (earlier : Draft) (marked : Bool) (column : List ℕ) (values : List (List ℕ × Number)) → refusals_in_turn earlier (usual_declared marked column values) ≡ []
     → (marked && is_semi earlier column) ≡ false
-semi-apart earlier v1 column values free = grind arith
+semi-apart earlier marked column values free = grind arith
 
 clash-apart : (context : Context) (earlier : Draft) (parts : Option ValuesLine) (column : List ℕ) (values : List (List ℕ × Number)) → option_map named_values parts ≡ Some (column, values)
     → (context.in_integer_part && is_semi earlier column) ≡ false → (context.in_integer_part && option_map_or (λ line. is_semi earlier line.name) parts false) ≡ false
-clash-apart context earlier v2 column values is apart = grind arith
+clash-apart context earlier parts column values is apart = grind arith
 
 -- ---- the line
 
@@ -110,16 +87,12 @@ usual-passed context earlier fields column values here plain held is (Err error)
 -- ---- the last column
 
 not-split : (there last : Bool) → last ≡ true → (there && not last) ≡ false
-not-split v0 last h = grind arith
-
-pub last-is : (o : Option (List ℕ)) (column : List ℕ) → option_map_or (same_bytes column) o false ≡ true → o ≡ Some column
-last-is None column h = cc
-last-is (Some name) column h = ap Some (sym ((bytes_decides column name).0 h))
+not-split there last h = grind arith
 
 -- another line of it changes the context as a data line does
 pub next-passed : (context : Context) (earlier later : Draft) (column : List ℕ) (values : List (List ℕ × Number)) → option_map_or (same_bytes column) context.last_column false ≡ true
     → TakesUsual earlier context.in_integer_part column values (Ok true) later → MayPass context earlier column values (Ok true) (after_data context) later
-next-passed context earlier later column values last taken = grind (arith, not-split, last-is)
+next-passed context earlier later column values last taken = grind (arith, not-split, objective_is)
 
 -- a column that is not declared is not split
 pub first-split : (context : Context) (earlier : Draft) (column : List ℕ) → has_column earlier column ≡ false → is_split context earlier column ≡ false

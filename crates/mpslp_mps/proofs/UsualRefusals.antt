@@ -1,56 +1,33 @@
 -- A line of COLUMNS without an error passes each test of the code that reads usual lines.
-use Rattle.std.proofs.Common.{arith}
-use Rattle.std.proofs.Common.{rules}
-use Rattle.std.proofs.Common.{◌≡◌, refl, sym, ap, ◌∙◌, ℕ, List, [], ◌∷◌, ◌++◌, Bool, true, false, cond, not}
-use Rattle.std.specs.Prelude.{◌≢◌, ◌&&◌, Option, Some, None, Result, Ok}
-use Rattle.std.specs.List.{list_all}
-use Rattle.std.specs.Option.{option_map, option_map_or, option_or}
+use Rattle.std.{proofs.Common.{arith, ◌≡◌, refl, sym, ap, ◌∙◌, ℕ, List, [], ◌∷◌, Bool, true, false, cond, not}, specs.Prelude.{◌≢◌, ◌&&◌}}
+use Rattle.std.specs.{Prelude.{Option, Some, None, Result, Ok}, Option.{option_map, option_map_or}}
 use Rattle.mpslp_decimal.specs.Decimal.{Number}
-use Rattle.mpslp_types.specs.Name.{same_bytes, has_name_length, is_visible, marker}
-use Rattle.mpslp_types.specs.NameTests.{name_refusal}
-use Rattle.mpslp_types.specs.declared.names.NameFault.TheVariants as names
-use Rattle.mpslp_types.specs.declared.faults.FaultKind.TheVariants as kinds
-use Rattle.mpslp_types.specs.Lists.{those_of}
-use Rattle.mpslp_builder.specs.Declaration.{Draft, has_column}
-use Rattle.mpslp_builder.specs.Refusal.{refusals_in_turn}
-use Rattle.mpslp_lines.specs.FaultTests.{FaultTests, judged_by, first_held, number_tests}
-use Rattle.mpslp_lines.proofs.HeldLemmas.{held-append}
-use Rattle.mpslp_lines.proofs.FirstFaultLemmas.{IsFaultless, faultless}
-use Rattle.mpslp_mps_fields.specs.Line.{Fields, data_line}
-use Rattle.mpslp_mps_fields.specs.DataLine.{ValuesLine, column_shape, is_marker_line}
+use Rattle.mpslp_types.specs.{Name.same_bytes, NameTests.name_refusal, Lists.those_of}
+use Rattle.mpslp_builder.specs.{Declaration.{Draft, has_column}, Refusal.refusals_in_turn}
+use Rattle.mpslp_lines.{specs.FaultTests.{FaultTests, judged_by, first_held, number_tests}, proofs.FirstFaultLemmas.IsFaultless}
+use Rattle.mpslp_lines.proofs.FirstFaultLemmas.{faultless}
+use Rattle.mpslp_mps_fields.specs.{Line.{Fields, data_line}, DataLine.{ValuesLine, column_shape, is_marker_line}}
 use Rattle.mpslp_mps_fields.specs.declared.sections.Section.TheVariants.{Columns}
-use Rattle.mpslp_mps.specs.Context.{Context}
-use Rattle.mpslp_mps.specs.LineFault.{is_split, literals_of, column_tests, data_tests}
-use Rattle.mpslp_mps.specs.LineDeclarations.{data_declared, line_declares}
-use Rattle.mpslp_mps.specs.LineValues.{named_values}
-use Rattle.mpslp_mps.specs.LineAnswer.{item_fault}
-use Rattle.mpslp_mps.specs.UsualLine.{usual_declared}
+use Rattle.mpslp_mps.specs.{Context.Context, LineFault.{is_split, literals_of, column_tests, data_tests}, LineDeclarations.data_declared}
+use Rattle.mpslp_mps.specs.{LineDeclarations.line_declares, LineValues.named_values, LineAnswer.item_fault, UsualLine.usual_declared}
 use Rattle.mpslp_mps.proofs.ColumnLine.{plain-tests, column-declares}
 
 -- ---- tests
 
 by_test : {X : Type 0} (b : Bool) (x : X) (xs : List X) (o : Option X) → (xs ≡ [] → o ≡ None) → cond b (x ∷ xs) xs ≡ [] → cond b (Some x) o ≡ None
-by_test v0 x xs o rest h = grind arith
+by_test b x xs o rest h = grind arith
 
 held-none : (tests : FaultTests) → those_of tests ≡ [] → first_held tests ≡ None
 held-none [] h = refl
 held-none (test ∷ more) h = by_test test.0 test.1 (those_of more) (first_held more) (held-none more) h
 
-none-both : {X : Type 0} (o p : Option X) → option_or o p ≡ None → (o ≡ None) × (p ≡ None)
-none-both v0 p h = grind arith
-
--- the name, the numbers and the place of a line without an error of its form
-fields-fine : (context : Context) (earlier : Draft) (line : ValuesLine) → first_held (column_tests context earlier line) ≡ None
-    → (name_refusal line.name ≡ None) × (first_held (number_tests (literals_of line.pairs)) ≡ None) × (is_split context earlier line.name ≡ false)
-fields-fine context earlier line h = grind arith
-
 numbers-fine : (context : Context) (earlier : Draft) (parts : Option ValuesLine) → first_held (judged_by (column_tests context earlier) parts) ≡ None
     → first_held (judged_by (λ line. number_tests (literals_of line.pairs)) parts) ≡ None
-numbers-fine context earlier v2 h = grind arith
+numbers-fine context earlier parts h = grind arith
 
 column-fine : (context : Context) (earlier : Draft) (parts : Option ValuesLine) (column : List ℕ) (values : List (List ℕ × Number)) → option_map named_values parts ≡ Some (column, values)
     → first_held (judged_by (column_tests context earlier) parts) ≡ None → (name_refusal column ≡ None) × (is_split context earlier column ≡ false)
-column-fine context earlier v2 column values is h = grind arith
+column-fine context earlier parts column values is h = grind arith
 
 -- ---- the line
 

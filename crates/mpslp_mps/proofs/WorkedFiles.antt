@@ -1,15 +1,10 @@
 -- Worked files: each declares a model, by computation.
-use Rattle.std.proofs.Common.{◌≡◌, refl}
-use Rattle.std.specs.Prelude.{ℕ, Some, None, List, ◌∷◌, [], ◌++◌, map, take, drop, true, ◌==◌, if◌then◌else◌, codes}
-use Rattle.std.specs.List.{list_all, flat_map}
+use Rattle.std.{proofs.Common.{◌≡◌, refl, ap}, specs.Prelude.{ℕ, Bool, Option, Some, None, List, ◌∷◌, [], ◌++◌, map, take, drop, true}}
+use Rattle.std.specs.{Prelude.{◌==◌, if◌then◌else◌, codes}, List.{list_all, flat_map}}
 use Rattle.mpslp_decimal.specs.Decimal.{trailing_zeros}
-use Rattle.mpslp_builder.specs.Declaration.{Draft, empty_draft, draft_of}
-use Rattle.mpslp_builder.specs.Consistency.{has_objective}
-use Rattle.mpslp_builder.specs.Refusal.{refusals_in_turn}
-use Rattle.mpslp_builder.specs.Made.{is_legal}
-use Rattle.mpslp_builder.specs.Meaning.{model_of}
-use Rattle.mpslp_builder.specs.FileFault.{file_fault}
-use Rattle.mpslp_builder.proofs.Acceptance.{means-from_none}
+use Rattle.mpslp_builder.specs.{Declaration.{Draft, empty_draft, draft_of}, Consistency.has_objective, Refusal.refusals_in_turn}
+use Rattle.mpslp_builder.{specs.{Made.is_legal, Meaning.model_of, FileFault.file_fault}, proofs.Acceptance.means-from_none}
+use Rattle.mpslp_types.specs.declared.faults.{Fault.Fault, BuildFault.BuildFault}
 use Rattle.mpslp_mps.specs.MpsText.{is_mps_text, declarations_of, DeclaresMps}
 
 -- lines, each followed by a line feed
@@ -36,6 +31,15 @@ pub declares-from_passes : (bytes : List ℕ) → Passes bytes → DeclaresMps b
 declares-from_passes bytes h =
     record { text = h.is_text; means = means-from_none (declarations_of bytes) h.objective h.legal h.unrefused h.no_fault }
 
+abbrev pub tests : List ℕ → Bool × Bool × Bool × List BuildFault × Option Fault
+tests bytes =
+    let declared = declarations_of bytes in
+    (is_mps_text bytes, has_objective declared, list_all is_legal declared, refusals_in_turn empty_draft declared, file_fault (draft_of declared))
+
+pub passes-from_tests : (bytes : List ℕ) → tests bytes ≡ (true, true, true, [], None) → Passes bytes
+passes-from_tests bytes h =
+    record { is_text = ap (λ t. t.0) h; objective = ap (λ t. t.1) h; legal = ap (λ t. t.2) h; unrefused = ap (λ t. t.3) h; no_fault = ap (λ t. t.4) h }
+
 -- ---- a small file, and the same in other bytes
 
 abbrev pub small_lines : List (List ℕ)
@@ -47,31 +51,15 @@ small_lines =
 abbrev pub small : List ℕ
 small = text small_lines
 
-pub small_passes : Passes small
-unfolding trailing_zeros
-small_passes = record { is_text = refl; objective = refl; legal = refl; unrefused = refl; no_fault = refl }
-
 abbrev pub small_with_returns : List ℕ
 small_with_returns = text_with_returns small_lines
-
-pub small_with_returns_passes : Passes small_with_returns
-unfolding trailing_zeros
-small_with_returns_passes = record { is_text = refl; objective = refl; legal = refl; unrefused = refl; no_fault = refl }
 
 abbrev pub small_without_last_feed : List ℕ
 small_without_last_feed = text (take 10 small_lines) ++ codes "ENDATA"
 
-pub small_without_last_feed_passes : Passes small_without_last_feed
-unfolding trailing_zeros
-small_without_last_feed_passes = record { is_text = refl; objective = refl; legal = refl; unrefused = refl; no_fault = refl }
-
 -- a line that would have an illegal byte
 abbrev pub small_with_text_after_end : List ℕ
 small_with_text_after_end = text (small_lines ++ (128 ∷ []) ∷ [])
-
-pub small_with_text_after_end_passes : Passes small_with_text_after_end
-unfolding trailing_zeros
-small_with_text_after_end_passes = record { is_text = refl; objective = refl; legal = refl; unrefused = refl; no_fault = refl }
 
 abbrev pub small_again_lines : List (List ℕ)
 small_again_lines =
@@ -83,16 +71,8 @@ small_again_lines =
 abbrev pub small_again : List ℕ
 small_again = text small_again_lines
 
-pub small_again_passes : Passes small_again
-unfolding trailing_zeros
-small_again_passes = record { is_text = refl; objective = refl; legal = refl; unrefused = refl; no_fault = refl }
-
 abbrev pub small_maximized : List ℕ
 small_maximized = text (take 1 small_lines ++ codes "OBJSENSE" ∷ codes "    MAXIMIZE" ∷ drop 1 small_lines)
-
-pub small_maximized_passes : Passes small_maximized
-unfolding trailing_zeros
-small_maximized_passes = record { is_text = refl; objective = refl; legal = refl; unrefused = refl; no_fault = refl }
 
 -- ---- ranges of both signs, before the right-hand sides
 
@@ -107,10 +87,6 @@ ranges_lines =
 abbrev pub ranges : List ℕ
 ranges = text ranges_lines
 
-pub ranges_passes : Passes ranges
-unfolding trailing_zeros
-ranges_passes = record { is_text = refl; objective = refl; legal = refl; unrefused = refl; no_fault = refl }
-
 -- ---- an integer column, by markers in fixed columns and by its bound
 
 abbrev pub fixed_columns_lines : List (List ℕ)
@@ -122,23 +98,11 @@ fixed_columns_lines =
 abbrev pub fixed_columns : List ℕ
 fixed_columns = text fixed_columns_lines
 
-pub fixed_columns_passes : Passes fixed_columns
-unfolding trailing_zeros
-fixed_columns_passes = record { is_text = refl; objective = refl; legal = refl; unrefused = refl; no_fault = refl }
-
 abbrev pub binary_bound : List ℕ
 binary_bound = text (codes "ROWS" ∷ codes " N  C" ∷ codes "COLUMNS" ∷ codes "    X  C  1" ∷ codes "BOUNDS" ∷ codes " BV BND X 1" ∷ codes "ENDATA" ∷ [])
 
-pub binary_bound_passes : Passes binary_bound
-unfolding trailing_zeros
-binary_bound_passes = record { is_text = refl; objective = refl; legal = refl; unrefused = refl; no_fault = refl }
-
 abbrev pub integer_without_upper : List ℕ
 integer_without_upper = text (take 8 fixed_columns_lines ++ codes "BOUNDS" ∷ codes " PL BND X" ∷ codes "ENDATA" ∷ [])
-
-pub integer_without_upper_passes : Passes integer_without_upper
-unfolding trailing_zeros
-integer_without_upper_passes = record { is_text = refl; objective = refl; legal = refl; unrefused = refl; no_fault = refl }
 
 -- ---- a right-hand side of the objective, and bounds
 
@@ -148,30 +112,14 @@ one_column = codes "ROWS" ∷ codes " N C" ∷ codes "COLUMNS" ∷ codes " X C 1
 abbrev pub constant : List ℕ
 constant = text (one_column ++ codes "RHS" ∷ codes "    RHS  C  5" ∷ codes "ENDATA" ∷ [])
 
-pub constant_passes : Passes constant
-unfolding trailing_zeros
-constant_passes = record { is_text = refl; objective = refl; legal = refl; unrefused = refl; no_fault = refl }
-
 abbrev pub negative_upper : List ℕ
 negative_upper = text (one_column ++ codes "BOUNDS" ∷ codes " UP B X -1" ∷ codes " MI B X" ∷ codes "ENDATA" ∷ [])
-
-pub negative_upper_passes : Passes negative_upper
-unfolding trailing_zeros
-negative_upper_passes = record { is_text = refl; objective = refl; legal = refl; unrefused = refl; no_fault = refl }
 
 abbrev pub zero_upper : List ℕ
 zero_upper = text (one_column ++ codes "BOUNDS" ∷ codes " UP B X 0" ∷ codes "ENDATA" ∷ [])
 
-pub zero_upper_passes : Passes zero_upper
-unfolding trailing_zeros
-zero_upper_passes = record { is_text = refl; objective = refl; legal = refl; unrefused = refl; no_fault = refl }
-
 abbrev pub infinite_bounds : List ℕ
 infinite_bounds = text (one_column ++ codes "BOUNDS" ∷ codes " LO B X -1e30" ∷ codes " UP B X 1e30" ∷ codes "ENDATA" ∷ [])
-
-pub infinite_bounds_passes : Passes infinite_bounds
-unfolding trailing_zeros
-infinite_bounds_passes = record { is_text = refl; objective = refl; legal = refl; unrefused = refl; no_fault = refl }
 
 -- ---- columns whose only coefficient is 0, and another N row
 
@@ -182,10 +130,6 @@ empty_column_lines =
 
 abbrev pub empty_column : List ℕ
 empty_column = text empty_column_lines
-
-pub empty_column_passes : Passes empty_column
-unfolding trailing_zeros
-empty_column_passes = record { is_text = refl; objective = refl; legal = refl; unrefused = refl; no_fault = refl }
 
 -- ---- integer columns that are fixed and without an upper bound
 
@@ -199,10 +143,6 @@ integer_bounds_lines =
 abbrev pub integer_bounds : List ℕ
 integer_bounds = text integer_bounds_lines
 
-pub integer_bounds_passes : Passes integer_bounds
-unfolding trailing_zeros
-integer_bounds_passes = record { is_text = refl; objective = refl; legal = refl; unrefused = refl; no_fault = refl }
-
 -- ---- semi-continuous columns, one of which has a lower bound
 
 abbrev pub semi_columns_lines : List (List ℕ)
@@ -213,10 +153,6 @@ semi_columns_lines =
 
 abbrev pub semi_columns : List ℕ
 semi_columns = text semi_columns_lines
-
-pub semi_columns_passes : Passes semi_columns
-unfolding trailing_zeros
-semi_columns_passes = record { is_text = refl; objective = refl; legal = refl; unrefused = refl; no_fault = refl }
 
 -- ---- a maximized model with all sections but RANGES
 
@@ -234,23 +170,11 @@ maximized_lines =
 abbrev pub maximized : List ℕ
 maximized = text maximized_lines
 
-pub maximized_passes : Passes maximized
-unfolding trailing_zeros
-maximized_passes = record { is_text = refl; objective = refl; legal = refl; unrefused = refl; no_fault = refl }
-
 abbrev pub maximized_on_header : List ℕ
 maximized_on_header = text (take 1 maximized_lines ++ codes "OBJSENSE MAX" ∷ drop 3 maximized_lines)
 
-pub maximized_on_header_passes : Passes maximized_on_header
-unfolding trailing_zeros
-maximized_on_header_passes = record { is_text = refl; objective = refl; legal = refl; unrefused = refl; no_fault = refl }
-
 abbrev pub maximized_by_long_word : List ℕ
 maximized_by_long_word = text (take 2 maximized_lines ++ codes "    MAXIMIZE" ∷ drop 3 maximized_lines)
-
-pub maximized_by_long_word_passes : Passes maximized_by_long_word
-unfolding trailing_zeros
-maximized_by_long_word_passes = record { is_text = refl; objective = refl; legal = refl; unrefused = refl; no_fault = refl }
 
 -- a tab for each space between fields
 abbrev tabbed : List ℕ → List ℕ
@@ -259,16 +183,8 @@ tabbed line = map (λ byte. if byte == 32 then 9 else byte) line
 abbrev pub maximized_with_tabs : List ℕ
 maximized_with_tabs = text (map tabbed maximized_lines)
 
-pub maximized_with_tabs_passes : Passes maximized_with_tabs
-unfolding trailing_zeros
-maximized_with_tabs_passes = record { is_text = refl; objective = refl; legal = refl; unrefused = refl; no_fault = refl }
-
 abbrev pub not_maximized : List ℕ
 not_maximized = text (take 1 maximized_lines ++ drop 3 maximized_lines)
-
-pub not_maximized_passes : Passes not_maximized
-unfolding trailing_zeros
-not_maximized_passes = record { is_text = refl; objective = refl; legal = refl; unrefused = refl; no_fault = refl }
 
 -- ---- the layout of common tools
 
@@ -286,10 +202,6 @@ usual_layout_lines =
 abbrev pub usual_layout : List ℕ
 usual_layout = text usual_layout_lines
 
-pub usual_layout_passes : Passes usual_layout
-unfolding trailing_zeros
-usual_layout_passes = record { is_text = refl; objective = refl; legal = refl; unrefused = refl; no_fault = refl }
-
 -- ---- an objective named by OBJNAME among the N rows
 
 abbrev objective_tail : List (List ℕ)
@@ -299,10 +211,6 @@ objective_tail =
 
 abbrev pub header_objname : List ℕ
 header_objname = text (codes "NAME" ∷ codes "OBJNAME" ∷ codes "    S" ∷ objective_tail)
-
-pub named_objective_passes : Passes header_objname
-unfolding trailing_zeros
-named_objective_passes = record { is_text = refl; objective = refl; legal = refl; unrefused = refl; no_fault = refl }
 
 pub named_objective_is : (draft_in header_objname).objective ≡ Some (codes "S")
 named_objective_is = refl
@@ -317,13 +225,19 @@ named_on_header_is = refl
 abbrev pub named_and_maximized : List ℕ
 named_and_maximized = text (codes "OBJNAME" ∷ codes "    C" ∷ codes "OBJSENSE MAX" ∷ objective_tail)
 
-pub named_and_maximized_passes : Passes named_and_maximized
-unfolding trailing_zeros
-named_and_maximized_passes = record { is_text = refl; objective = refl; legal = refl; unrefused = refl; no_fault = refl }
-
 abbrev pub maximized_and_named : List ℕ
 maximized_and_named = text (codes "OBJSENSE" ∷ codes "    MAX" ∷ codes "OBJNAME S" ∷ objective_tail)
 
-pub maximized_and_named_passes : Passes maximized_and_named
+-- ---- all of them
+
+abbrev worked_files : List (List ℕ)
+worked_files =
+    small ∷ small_with_returns ∷ small_without_last_feed ∷ small_with_text_after_end ∷ small_again ∷
+    small_maximized ∷ ranges ∷ fixed_columns ∷ binary_bound ∷ integer_without_upper ∷ constant ∷ negative_upper ∷
+    zero_upper ∷ infinite_bounds ∷ empty_column ∷ integer_bounds ∷ semi_columns ∷ maximized ∷ maximized_on_header ∷
+    maximized_by_long_word ∷ maximized_with_tabs ∷ not_maximized ∷ usual_layout ∷ header_objname ∷
+    named_and_maximized ∷ maximized_and_named ∷ []
+
+pub worked_files-pass : map tests worked_files ≡ map (λ _. (true, true, true, [], None)) worked_files
 unfolding trailing_zeros
-maximized_and_named_passes = record { is_text = refl; objective = refl; legal = refl; unrefused = refl; no_fault = refl }
+worked_files-pass = refl

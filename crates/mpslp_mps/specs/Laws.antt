@@ -2,8 +2,7 @@
 use Rattle.std.specs.Prelude.{◌≡◌, ℕ, List}
 use Rattle.mpslp_model_core.specs.Model.{LinearModel}
 use Rattle.mpslp_types.specs.declared.faults.Fault.{Fault}
-use Rattle.mpslp_mps.specs.MpsText.{is_mps_text, DeclaresMps}
-use Rattle.mpslp_mps.specs.TextInWords.{is_text_in_words}
+use Rattle.mpslp_mps.specs.MpsText.{DeclaresMps}
 use Rattle.mpslp_mps.specs.FirstFault.{IsFirstMpsFault}
 
 -- Two models that the same bytes declare are equal.
@@ -21,7 +20,3 @@ DeclareOrFail = (bytes : List ℕ) (m : LinearModel) (fault : Fault) → Declare
 -- Bytes without a first error declare a model.
 abbrev pub DeclareUnlessFaulty : Type 0
 DeclareUnlessFaulty = (bytes : List ℕ) → ((fault : Fault) → IsFirstMpsFault bytes fault → ⊥) → (m : LinearModel) × DeclaresMps bytes m
-
--- Bytes are MPS text if and only if they are MPS text in the sense of `TextInWords`.
-abbrev pub TextIsInWords : Type 0
-TextIsInWords = (bytes : List ℕ) → is_mps_text bytes ≡ is_text_in_words bytes

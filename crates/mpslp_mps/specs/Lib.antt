@@ -1,15 +1,13 @@
 -- ---- what public laws and contracts say
 pub mod Context
+pub mod SeenSection
 pub mod NextContext
 pub mod LineDeclarations
 pub mod LegalLine
 pub mod LineFault
 pub mod MpsText
-pub mod TextInWords
 pub mod FirstFault
 pub mod LineByLine
-pub mod FaultsInWords
-pub mod ValueFaultsInWords
 pub mod Laws
 pub mod ReadAnswer
 pub mod Fed

@@ -1,8 +1,6 @@
-use Rattle.std.proofs.Common.{◌≡◌, sym, ap, subst, length, ◌++◌, ◌∷◌, [], List, arith}
-use Rattle.std.proofs.lemmas.List.{length_push}
-use Rattle.mpslp_c.specs.Arrays.{RepresentsColumns}
-use Rattle.mpslp_c.specs.declared.arrays.MpslpColumn.{MpslpColumn}
-use Rattle.mpslp_c.proofs.ArrayLemmas.{keeps_then, columns_more, before_more}
+use Rattle.std.proofs.{Common.{◌≡◌, sym, ap, subst, length, ◌++◌, ◌∷◌, [], List, arith}, lemmas.List.length_push}
+use Rattle.mpslp_c.{specs.{Arrays.RepresentsColumns, declared.arrays.MpslpColumn.MpslpColumn}, proofs.ArrayLemmas.keeps_then}
+use Rattle.mpslp_c.proofs.ArrayLemmas.{columns_more, before_more}
 use Rattle.mpslp_c.proofs.arrays.c_columns.Goals as goal
 
 pub returns-in_err-column-clause-keeps : goal.returns-in_err-column-clause-keeps

@@ -1,8 +1,6 @@
 use Rattle.std.proofs.Common.{ap, ◌∙◌, subst, length, List, ℕ}
 use Rattle.mpslp_decimal.specs.Decimal.{Number}
-use Rattle.mpslp_c.specs.Arrays.{RepresentsName, RepresentsNumber, sense_number}
-use Rattle.mpslp_c.proofs.ArrayLemmas.{rows_kept}
-use Rattle.mpslp_c.proofs.CountLemmas.{all_counted}
+use Rattle.mpslp_c.{specs.Arrays.{RepresentsName, RepresentsNumber, sense_number}, proofs.{ArrayLemmas.rows_kept, CountLemmas.all_counted}}
 use Rattle.mpslp_c.proofs.arrays.c_model.Goals as goal
 
 pub returns : goal.returns

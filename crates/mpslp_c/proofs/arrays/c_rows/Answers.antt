@@ -1,8 +1,5 @@
-use Rattle.std.proofs.Common.{◌≡◌, sym, ap, subst, length, ◌++◌, ◌∷◌, [], List, arith}
-use Rattle.std.proofs.lemmas.List.{length_push}
-use Rattle.mpslp_c.specs.Arrays.{RepresentsRows}
-use Rattle.mpslp_c.specs.declared.arrays.MpslpRow.{MpslpRow}
-use Rattle.mpslp_c.proofs.ArrayLemmas.{keeps_then, rows_more}
+use Rattle.std.proofs.{Common.{◌≡◌, sym, ap, subst, length, ◌++◌, ◌∷◌, [], List, arith}, lemmas.List.length_push}
+use Rattle.mpslp_c.{specs.{Arrays.RepresentsRows, declared.arrays.MpslpRow.MpslpRow}, proofs.ArrayLemmas.{keeps_then, rows_more}}
 use Rattle.mpslp_c.proofs.arrays.c_rows.Goals as goal
 
 pub returns-in_err-row-clause-keeps : goal.returns-in_err-row-clause-keeps

@@ -1,7 +1,6 @@
 use Rattle.std.proofs.Common.{◌≡◌, ◌∙◌, sym, Some}
 use Rattle.mpslp_convert.specs.Performed.{declares_in, first_fault_in, unfit_in, text_in}
-use Rattle.mpslp_c.specs.Answers.{form_of}
-use Rattle.mpslp_c.proofs.AnswerLemmas.{converted}
+use Rattle.mpslp_c.{specs.Answers.form_of, proofs.AnswerLemmas.converted}
 use Rattle.mpslp_c.proofs.calls.seeded_canonical.Goals as goal
 
 pub returns : goal.returns

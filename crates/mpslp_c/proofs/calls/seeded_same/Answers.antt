@@ -1,7 +1,6 @@
 use Rattle.std.proofs.Common.{◌≡◌, ◌∙◌, sym, Some}
 use Rattle.mpslp_convert.specs.Performed.{declares_in, first_fault_in}
-use Rattle.mpslp_c.specs.Answers.{form_of}
-use Rattle.mpslp_c.proofs.AnswerLemmas.{compared}
+use Rattle.mpslp_c.{specs.Answers.form_of, proofs.AnswerLemmas.compared}
 use Rattle.mpslp_c.proofs.calls.seeded_same.Goals as goal
 
 pub returns : goal.returns

@@ -1,6 +1,5 @@
-use Rattle.std.proofs.Common.{◌≡◌, ◌++◌, ◌-◌, ◌∙◌, sym, ap, refl, length, []}
-use Rattle.std.specs.Prelude.{replicate, unwrap_or}
-use Rattle.std.proofs.lemmas.List.{drop-replicate}
+use Rattle.std.{proofs.{Common.{◌≡◌, ◌++◌, ◌-◌, ◌∙◌, sym, ap, refl, length, []}, lemmas.List.drop-replicate}, specs.Prelude.replicate}
+use Rattle.std.specs.Prelude.{unwrap_or}
 use Rattle.mpslp_c.proofs.faults.c_fault.Goals as goal
 
 pub returns-in-Some : goal.returns-in-Some

@@ -1,7 +1,6 @@
 use Rattle.std.proofs.Common.{◌≡◌, ◌∙◌, sym, Some}
 use Rattle.mpslp_convert.specs.Performed.{declares_in, first_fault_in}
-use Rattle.mpslp_c.specs.Answers.{form_of}
-use Rattle.mpslp_c.proofs.AnswerLemmas.{loaded}
+use Rattle.mpslp_c.{specs.Answers.form_of, proofs.AnswerLemmas.loaded}
 use Rattle.mpslp_c.proofs.loading.seeded_load.Goals as goal
 
 pub returns-in-Some : goal.returns-in-Some

@@ -1,8 +1,6 @@
-use Rattle.std.proofs.Common.{◌≡◌, ◌∙◌, ap, sym, Err, rules, to_z, of_z}
-use Rattle.std.specs.Int.{w32, w128}
+use Rattle.std.{proofs.Common.{◌≡◌, ◌∙◌, ap, sym, Err, rules, to_z, of_z}, specs.Int.{w32, w128}}
 use Rattle.mpslp_decimal.specs.Literal.{number_of}
-use Rattle.mpslp_c.specs.Stored.{literal_text}
-use Rattle.mpslp_c.proofs.NumberLemmas.{literal-read, given-value, given-fault, wide-short, short-short}
+use Rattle.mpslp_c.{specs.Stored.literal_text, proofs.NumberLemmas.{literal-read, given-value, given-fault, wide-short, short-short}}
 use Rattle.mpslp_c.proofs.numbers.decimal_given.Goals as goal
 
 pub returns-in-Ok : goal.returns-in-Ok

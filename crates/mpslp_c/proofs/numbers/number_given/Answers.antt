@@ -1,10 +1,7 @@
-use Rattle.std.proofs.Common.{◌≡◌, ◌∙◌, sym, subst, Result, Ok, Err, rules, to_z, of_z, pos}
-use Rattle.std.specs.Prelude.{MatchResult, if◌then◌else◌}
-use Rattle.std.specs.Int.{w32, w128}
-use Rattle.std.specs.Ordering.{int_eq}
+use Rattle.std.{proofs.Common.{◌≡◌, ◌∙◌, sym, subst, Result, Ok, Err, rules, to_z, of_z, pos}, specs.Prelude.{MatchResult, if◌then◌else◌}}
+use Rattle.std.specs.{Int.{w32, w128}, Ordering.int_eq}
 use Rattle.mpslp_decimal.specs.Decimal.{Number}
-use Rattle.mpslp_types.specs.declared.faults.FaultKind.{FaultKind}
-use Rattle.mpslp_types.specs.declared.faults.FaultKind.TheVariants.{BadNumber}
+use Rattle.mpslp_types.specs.declared.faults.FaultKind.{FaultKind, TheVariants.BadNumber}
 use Rattle.mpslp_c.specs.Stored.{decimal_given, given_number, number_given, IsFaultGiven}
 use Rattle.mpslp_c.proofs.numbers.number_given.Goals as goal
 

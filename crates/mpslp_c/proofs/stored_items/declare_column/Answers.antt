@@ -1,8 +1,7 @@
 use Rattle.std.proofs.Common.{◌≡◌, ◌∙◌, refl, sym, ◌∷◌, Some}
-use Rattle.mpslp_builder.specs.Declaration.{declare_column, declare_coefficient}
-use Rattle.mpslp_builder.specs.Refusal.{refusals, bounds_refusals}
-use Rattle.mpslp_c.specs.Stored.{declares, bounds, column_steps, kind_steps}
-use Rattle.mpslp_c.proofs.StepLemmas.{steps_are, call_err, call_then, column_taken, name_made}
+use Rattle.mpslp_builder.specs.{Declaration.{declare_column, declare_coefficient}, Refusal.{refusals, bounds_refusals}}
+use Rattle.mpslp_c.{specs.Stored.{declares, bounds, column_steps, kind_steps}, proofs.StepLemmas.{steps_are, call_err, call_then}}
+use Rattle.mpslp_c.proofs.StepLemmas.{column_taken, name_made}
 use Rattle.mpslp_c.proofs.stored_items.declare_column.Goals as goal
 
 pub returns-in_err-column : goal.returns-in_err-column

@@ -1,10 +1,6 @@
-use Rattle.std.proofs.Common.{◌≡◌, ◌∙◌, refl, sym, ap, [], ◌∷◌, Ok, Some}
-use Rattle.std.specs.Prelude.{slice_get}
-use Rattle.std.proofs.lemmas.Option.{slice_get-get_or}
-use Rattle.mpslp_builder.specs.Declaration.{declare_coefficient}
-use Rattle.mpslp_builder.specs.Refusal.{refusals}
-use Rattle.mpslp_c.specs.Stored.{declares, element_steps}
-use Rattle.mpslp_c.proofs.StepLemmas.{steps_are, call_err, call_then, no_steps, element_taken}
+use Rattle.std.{proofs.{Common.{◌≡◌, ◌∙◌, refl, sym, ap, [], ◌∷◌, Ok, Some}, lemmas.Option.slice_get-get_or}, specs.Prelude.slice_get}
+use Rattle.mpslp_builder.specs.{Declaration.declare_coefficient, Refusal.refusals}
+use Rattle.mpslp_c.{specs.Stored.{declares, element_steps}, proofs.StepLemmas.{steps_are, call_err, call_then, no_steps, element_taken}}
 use Rattle.mpslp_c.proofs.stored_items.declare_element.Goals as goal
 
 pub returns-in_err-coefficient : goal.returns-in_err-coefficient

@@ -1,8 +1,7 @@
 use Rattle.std.proofs.Common.{◌≡◌, ◌∙◌, refl, sym, ◌∷◌}
-use Rattle.mpslp_builder.specs.Declaration.{declare_objective, declare_constant}
-use Rattle.mpslp_builder.specs.Refusal.{refusals}
-use Rattle.mpslp_c.specs.Stored.{declares, objective_steps, sense_steps}
-use Rattle.mpslp_c.proofs.StepLemmas.{steps_are, call_err, call_then, objective_taken, name_made}
+use Rattle.mpslp_builder.specs.{Declaration.{declare_objective, declare_constant}, Refusal.refusals}
+use Rattle.mpslp_c.{specs.Stored.{declares, objective_steps, sense_steps}, proofs.StepLemmas.{steps_are, call_err, call_then}}
+use Rattle.mpslp_c.proofs.StepLemmas.{objective_taken, name_made}
 use Rattle.mpslp_c.proofs.stored_items.declare_objective.Goals as goal
 
 pub returns-in_err-objective : goal.returns-in_err-objective

@@ -1,8 +1,6 @@
 use Rattle.std.proofs.Common.{◌≡◌, ◌∙◌, refl, sym, [], ◌∷◌, Ok}
-use Rattle.mpslp_builder.specs.Declaration.{declare_row, by_limits}
-use Rattle.mpslp_builder.specs.Refusal.{refusals}
-use Rattle.mpslp_c.specs.Stored.{declares, row_steps}
-use Rattle.mpslp_c.proofs.StepLemmas.{steps_are, call_err, call_then, no_steps, row_taken, name_made}
+use Rattle.mpslp_builder.specs.{Declaration.{declare_row, by_limits}, Refusal.refusals}
+use Rattle.mpslp_c.{specs.Stored.{declares, row_steps}, proofs.StepLemmas.{steps_are, call_err, call_then, no_steps, row_taken, name_made}}
 use Rattle.mpslp_c.proofs.stored_items.declare_row.Goals as goal
 
 pub returns-in_err-row_limits : goal.returns-in_err-row_limits

@@ -1,7 +1,5 @@
 use Rattle.std.proofs.Common.{sym, subst, ℕ, [], ◌∷◌, ◌++◌, ◌+◌, length, drop, Result, Ok, Err}
-use Rattle.mpslp_c.specs.Answers.{TakesItems}
-use Rattle.mpslp_c.specs.Stored.{own_items, elements_end, column_items}
-use Rattle.mpslp_c.specs.declared.faults.StoreFault.{StoreFault}
+use Rattle.mpslp_c.specs.{Answers.TakesItems, Stored.{own_items, elements_end, column_items}, declared.faults.StoreFault.StoreFault}
 use Rattle.mpslp_c.proofs.StepLemmas.{leads_is, leads_then, leads_reported, one_item, column_lead, column_at, column_item}
 use Rattle.mpslp_c.proofs.storing.declare_columns.Goals as goal
 

@@ -1,9 +1,6 @@
-use Rattle.std.proofs.Common.{sym, subst, [], ◌∷◌, ◌+◌, Result}
-use Rattle.std.specs.Prelude.{slice_range}
-use Rattle.mpslp_c.specs.Answers.{TakesItems}
-use Rattle.mpslp_c.specs.Stored.{element_items}
-use Rattle.mpslp_c.specs.declared.faults.StoreFault.{StoreFault}
-use Rattle.mpslp_c.proofs.StepLemmas.{leads_is, leads_then, leads_reported, one_item, element_lead, element_at, element_item}
+use Rattle.std.{proofs.Common.{sym, subst, [], ◌∷◌, ◌+◌, Result}, specs.Prelude.slice_range}
+use Rattle.mpslp_c.{specs.{Answers.TakesItems, Stored.element_items, declared.faults.StoreFault.StoreFault}, proofs.StepLemmas.leads_is}
+use Rattle.mpslp_c.proofs.StepLemmas.{leads_then, leads_reported, one_item, element_lead, element_at, element_item}
 use Rattle.mpslp_c.proofs.storing.declare_elements.Goals as goal
 
 pub returns-in_err-placed : goal.returns-in_err-placed

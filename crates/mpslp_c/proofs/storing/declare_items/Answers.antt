@@ -1,9 +1,7 @@
 use Rattle.std.proofs.Common.{sym, subst, ℕ, [], ◌∷◌, ◌++◌, List, Result}
-use Rattle.mpslp_c.specs.Answers.{TakesItems}
-use Rattle.mpslp_c.specs.Stored.{Item, items, objective_steps, row_items, first_column_steps, column_items, bytes_at}
-use Rattle.mpslp_c.specs.declared.faults.StoreFault.{StoreFault}
-use Rattle.mpslp_c.specs.declared.faults.TheConstants.{AT_OBJECTIVE, AT_COLUMN}
-use Rattle.mpslp_c.proofs.StepLemmas.{leads_all, leads_then, leads_reported, leads_last, one_item}
+use Rattle.mpslp_c.specs.{Answers.TakesItems, Stored.{Item, items, objective_steps, row_items, first_column_steps, column_items, bytes_at}}
+use Rattle.mpslp_c.{specs.declared.faults.{StoreFault.StoreFault, TheConstants.{AT_OBJECTIVE, AT_COLUMN}}, proofs.StepLemmas.leads_all}
+use Rattle.mpslp_c.proofs.StepLemmas.{leads_then, leads_reported, leads_last, one_item}
 use Rattle.mpslp_c.proofs.storing.declare_items.Goals as goal
 
 pub returns-in_err-declare_rows : goal.returns-in_err-declare_rows

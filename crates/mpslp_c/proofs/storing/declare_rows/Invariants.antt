@@ -1,6 +1,5 @@
 use Rattle.std.specs.Prelude.{drop}
-use Rattle.mpslp_c.specs.Stored.{row_items}
-use Rattle.mpslp_c.proofs.StepLemmas.{Leads}
+use Rattle.mpslp_c.{specs.Stored.row_items, proofs.StepLemmas.Leads}
 use Rattle.mpslp_c.proofs.storing.declare_rows.Given as goal
 
 -- the rows before `i` are declared

@@ -1,7 +1,6 @@
 use Rattle.std.proofs.Common.{◌≡◌, ◌∙◌, sym, Some}
 use Rattle.mpslp_convert.specs.Performed.{unfit_in, text_in}
-use Rattle.mpslp_c.specs.Answers.{form_of}
-use Rattle.mpslp_c.proofs.AnswerLemmas.{stored_so}
+use Rattle.mpslp_c.{specs.Answers.form_of, proofs.AnswerLemmas.stored_so}
 use Rattle.mpslp_c.proofs.storing.seeded_store.Goals as goal
 
 pub returns-in-Some : goal.returns-in-Some

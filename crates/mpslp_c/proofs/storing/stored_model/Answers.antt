@@ -1,11 +1,7 @@
-use Rattle.std.proofs.Common.{◌≡◌, ◌∙◌, ap, subst, None, Err}
-use Rattle.std.specs.Prelude.{is_some}
-use Rattle.mpslp_builder.specs.Declaration.{Draft, empty_draft}
-use Rattle.mpslp_builder.specs.Meaning.{DraftMeans}
-use Rattle.mpslp_c.specs.Answers.{TakesItems}
-use Rattle.mpslp_c.specs.Stored.{items, first_item_fault, after_items}
-use Rattle.mpslp_c.proofs.DefinesLemmas.{objective-declared, defines-from_none}
-use Rattle.mpslp_c.proofs.StoredLemmas.{no_fault, not_taken}
+use Rattle.std.{proofs.Common.{◌≡◌, ◌∙◌, ap, subst, None, Err}, specs.Prelude.is_some}
+use Rattle.mpslp_builder.specs.{Declaration.{Draft, empty_draft}, Meaning.DraftMeans}
+use Rattle.mpslp_c.{specs.{Answers.TakesItems, Stored.{items, first_item_fault, after_items}}, proofs.DefinesLemmas.objective-declared}
+use Rattle.mpslp_c.proofs.{DefinesLemmas.defines-from_none, StoredLemmas.{no_fault, not_taken}}
 use Rattle.mpslp_c.proofs.storing.stored_model.Goals as goal
 
 pub returns-in_err-declare_items-clause-accepts : goal.returns-in_err-declare_items-clause-accepts

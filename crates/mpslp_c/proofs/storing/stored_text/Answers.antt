@@ -1,7 +1,6 @@
 use Rattle.std.proofs.Common.{◌∙◌, sym, ap, inl}
+use Rattle.mpslp_c.proofs.{DefinesLemmas.one_model, StoredLemmas.{some_none, same_some}}
 use Rattle.mpslp_c.specs.declared.faults.StoreFault.TheVariants as stored
-use Rattle.mpslp_c.proofs.DefinesLemmas.{one_model}
-use Rattle.mpslp_c.proofs.StoredLemmas.{some_none, same_some}
 use Rattle.mpslp_c.proofs.storing.stored_text.Goals as goal
 
 pub returns-in-Ok-clause-answer : goal.returns-in-Ok-clause-answer

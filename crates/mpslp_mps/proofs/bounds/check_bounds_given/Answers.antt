@@ -1,6 +1,5 @@
 use Rattle.std.proofs.Common.{sym, ◌∙◌}
-use Rattle.mpslp_lines.specs.ErrorOf.{error_of_build}
-use Rattle.mpslp_lines.proofs.AnswerLemmas.{ends-by}
+use Rattle.mpslp_lines.{specs.ErrorOf.error_of_build, proofs.AnswerLemmas.ends-by}
 use Rattle.mpslp_mps.proofs.BoundSideLemmas.{sides-error, sides-none}
 use Rattle.mpslp_mps.proofs.bounds.check_bounds_given.Goals as goal
 

@@ -1,14 +1,10 @@
-use Rattle.std.proofs.Common.{◌≡◌, subst, ◌∙◌, sym, ◌++◌}
-use Rattle.std.specs.Prelude.{Option}
-use Rattle.mpslp_types.specs.declared.faults.FaultKind.{FaultKind}
-use Rattle.mpslp_lines.specs.Declaring.{declared_fault}
-use Rattle.mpslp_lines.specs.LineAnswer.{IsErrorOf}
-use Rattle.mpslp_types.specs.Lists.{when}
-use Rattle.mpslp_builder.specs.Declaration.{with_declarations, declare_integer, declare_semi}
-use Rattle.mpslp_mps.specs.LineDeclarations.{kind_declared, bound_declared}
-use Rattle.mpslp_lines.proofs.AnswerLemmas.{ends-by}
+use Rattle.std.{proofs.Common.{◌≡◌, subst, ◌∙◌, sym, ◌++◌}, specs.Prelude.Option}
+use Rattle.mpslp_types.specs.{declared.faults.FaultKind.FaultKind, Lists.when}
+use Rattle.mpslp_lines.{specs.{Declaring.declared_fault, LineAnswer.IsErrorOf}, proofs.AnswerLemmas.ends-by}
 use Rattle.mpslp_lines.proofs.UnchangedLemmas.{if_fault-none, if_fault-ends, if_fault-declared}
-use Rattle.mpslp_mps.proofs.BoundSideLemmas.{kind-refused, bound-asked, bound-declares}
+use Rattle.mpslp_builder.specs.Declaration.{with_declarations, declare_integer, declare_semi}
+use Rattle.mpslp_mps.{specs.LineDeclarations.{kind_declared, bound_declared}, proofs.BoundSideLemmas.{kind-refused, bound-asked}}
+use Rattle.mpslp_mps.proofs.BoundSideLemmas.{bound-declares}
 use Rattle.mpslp_mps.proofs.bounds.declare_bound.Goals as goal
 
 pub returns-in_err-check_bounds_given-clause-answers : goal.returns-in_err-check_bounds_given-clause-answers

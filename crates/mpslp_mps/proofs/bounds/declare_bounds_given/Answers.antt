@@ -1,6 +1,5 @@
 use Rattle.std.proofs.Common.{◌≡◌, rules}
-use Rattle.mpslp_builder.specs.Declaration.{Draft, with_declarations, bounds_declared}
-use Rattle.mpslp_builder.specs.Refusal.{bounds_refusals}
+use Rattle.mpslp_builder.specs.{Declaration.{Draft, with_declarations, bounds_declared}, Refusal.bounds_refusals}
 use Rattle.mpslp_mps.proofs.BoundSideLemmas.{sides-refused, sides-unchanged}
 use Rattle.mpslp_mps.proofs.bounds.declare_bounds_given.Goals as goal
 

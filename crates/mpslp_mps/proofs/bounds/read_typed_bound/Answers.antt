@@ -1,17 +1,11 @@
-use Rattle.std.proofs.Common.{sym, ap, subst, ◌∙◌, rules, map, Bor, ℕ, List, ◌∷◌}
-use Rattle.std.specs.Prelude.{Option, Some}
+use Rattle.std.{proofs.Common.{sym, ap, subst, ◌∙◌, rules, map, Bor, ℕ, List, ◌∷◌}, specs.Prelude.{Option, Some}}
 use Rattle.mpslp_builder.specs.Declaration.{with_declarations}
-use Rattle.mpslp_mps_fields.specs.DataLine.{BoundLine}
-use Rattle.mpslp_mps.specs.ContextStep.{after_set}
-use Rattle.mpslp_mps.specs.LineDeclarations.{bound_declared}
+use Rattle.mpslp_mps_fields.specs.{DataLine.BoundLine, declared.sections.Section.TheVariants.Bounds}
+use Rattle.mpslp_mps.{specs.{ContextStep.after_set, LineDeclarations.bound_declared, KindClash.type_clash}, proofs.StepLemmas.step-bound}
+use Rattle.mpslp_mps.proofs.TakenLemmas.{data_fault-form, clash-reported, data_fault-declared, declared-is, bounds-early, bounds-after}
+use Rattle.mpslp_mps.proofs.{ClashLemmas.{bound-clashes, bound-apart}, BoundSideLemmas.bound-is}
 use Rattle.mpslp_types.specs.declared.faults.FaultKind.{FaultKind}
 use Rattle.mpslp_lines.specs.LineAnswer.{IsErrorOf}
-use Rattle.mpslp_mps_fields.specs.declared.sections.Section.TheVariants.{Bounds}
-use Rattle.mpslp_mps.proofs.StepLemmas.{step-bound}
-use Rattle.mpslp_mps.proofs.TakenLemmas.{data_fault-form, clash-reported, data_fault-declared, declared-is, bounds-early, bounds-after}
-use Rattle.mpslp_mps.specs.KindClash.{type_clash}
-use Rattle.mpslp_mps.proofs.ClashLemmas.{bound-clashes, bound-apart}
-use Rattle.mpslp_mps.proofs.BoundSideLemmas.{bound-is}
 use Rattle.mpslp_mps.proofs.bounds.read_typed_bound.Goals as goal
 
 pub returns-then-has_bound_clash-clause-answers : goal.returns-then-has_bound_clash-clause-answers

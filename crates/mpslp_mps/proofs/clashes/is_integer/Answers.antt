@@ -1,5 +1,4 @@
-use Rattle.std.proofs.Common.{◌∙◌}
-use Rattle.std.specs.Prelude.{Err}
+use Rattle.std.{specs.Prelude.Err, proofs.Common.◌∙◌}
 use Rattle.mpslp_mps.proofs.ClashLemmas.{semi-answered}
 use Rattle.mpslp_mps.proofs.clashes.is_integer.Goals as goal
 

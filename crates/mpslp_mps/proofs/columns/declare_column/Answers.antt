@@ -1,7 +1,6 @@
-use Rattle.std.proofs.Common.{ap, ◌∙◌}
-use Rattle.std.specs.Prelude.{◌&&◌}
+use Rattle.std.{proofs.Common.{ap, ◌∙◌}, specs.Prelude.◌&&◌}
 use Rattle.mpslp_builder.specs.Declaration.{Draft, has_column, is_semi}
-use Rattle.mpslp_mps.proofs.ColumnTaking.{column-there}
+use Rattle.mpslp_mps.proofs.KnownLemmas.{column-there}
 use Rattle.mpslp_mps.proofs.columns.declare_column.Goals as goal
 
 pub declare_mark-requires : goal.declare_mark-requires

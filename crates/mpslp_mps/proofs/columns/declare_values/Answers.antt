@@ -1,12 +1,7 @@
-use Rattle.std.proofs.Common.{◌≡◌, sym, ap, subst, ◌∙◌, ℕ, List, [], ◌∷◌}
-use Rattle.std.specs.Prelude.{Option}
-use Rattle.std.specs.List.{cons_option, flat_map}
+use Rattle.std.{proofs.Common.{◌≡◌, sym, ap, subst, ◌∙◌, ℕ, List, [], ◌∷◌}, specs.{Prelude.Option, List.{cons_option, flat_map}}}
 use Rattle.mpslp_decimal.specs.Decimal.{Number}
-use Rattle.mpslp_lines.specs.Declaring.{declared_fault}
-use Rattle.mpslp_mps.specs.ColumnDeclared.{value_declared}
-use Rattle.mpslp_lines.specs.LineAnswer.{IsErrorOf}
-use Rattle.mpslp_lines.proofs.AnswerLemmas.{ends-by}
-use Rattle.mpslp_mps.proofs.ColumnTaking.{are_rows, values-refused, second-refused}
+use Rattle.mpslp_lines.{specs.{Declaring.declared_fault, LineAnswer.IsErrorOf}, proofs.AnswerLemmas.ends-by}
+use Rattle.mpslp_mps.{specs.ColumnDeclared.value_declared, proofs.ColumnTaking.{are_rows, values-refused, second-refused}}
 use Rattle.mpslp_mps.proofs.columns.declare_values.Goals as goal
 
 pub returns-in_err-declare_value : goal.returns-in_err-declare_value

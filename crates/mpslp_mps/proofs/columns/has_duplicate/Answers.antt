@@ -1,12 +1,8 @@
-use Rattle.std.proofs.Common.{◌≡◌, sym, ap, ◌∙◌, ℕ, List, [], ◌∷◌, true, false}
-use Rattle.std.specs.Prelude.{◌||◌, Option, Some}
-use Rattle.std.specs.List.{cons_option}
+use Rattle.std.{proofs.Common.{◌≡◌, sym, ap, ◌∙◌, ℕ, List, [], ◌∷◌, true, false}, specs.{Prelude.{◌||◌, Option, Some}, List.cons_option}}
 use Rattle.mpslp_decimal.specs.Decimal.{Number}
 use Rattle.mpslp_types.specs.Name.{same_bytes}
 use Rattle.mpslp_builder.specs.Declaration.{has_coefficient}
-use Rattle.mpslp_mps.specs.ColumnDeclared.{has_duplicate}
-use Rattle.mpslp_mps.specs.declared.values.RowValues.TheInside.{Inside}
-use Rattle.mpslp_mps.proofs.ColumnTaking.{two-double}
+use Rattle.mpslp_mps.{specs.{ColumnDeclared.has_duplicate, declared.values.RowValues.TheInside.Inside}, proofs.ColumnTaking.two-double}
 use Rattle.mpslp_mps.proofs.columns.has_duplicate.Goals as goal
 
 pub returns-then-is_same_row : goal.returns-then-is_same_row

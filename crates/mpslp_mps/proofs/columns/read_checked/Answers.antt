@@ -1,23 +1,13 @@
-use Rattle.std.proofs.Common.{◌≡◌, sym, ap, subst, ◌∙◌, Bool, cond, map}
-use Rattle.std.specs.Prelude.{◌&&◌, Option, Some, None}
-use Rattle.std.specs.List.{flat_map}
-use Rattle.mpslp_builder.specs.Declaration.{Draft, with_declarations, has_column, is_semi}
-use Rattle.mpslp_types.specs.declared.faults.FaultKind.{FaultKind}
-use Rattle.mpslp_types.specs.declared.faults.FaultKind.TheVariants.{DuplicateEntry}
-use Rattle.mpslp_builder.proofs.MadeDrafts.{with_declarations-append}
-use Rattle.mpslp_mps.specs.LineDeclarations.{data_declared}
-use Rattle.mpslp_lines.specs.Declaring.{declared_fault}
-use Rattle.mpslp_mps.specs.ColumnDeclared.{front_declared, value_declared}
-use Rattle.mpslp_lines.specs.LineAnswer.{IsErrorOf}
-use Rattle.mpslp_lines.specs.declared.errors.LineError.TheVariants.{Fault}
-use Rattle.mpslp_mps_fields.specs.declared.sections.Section.{Section}
-use Rattle.mpslp_mps.proofs.StepLemmas.{step-column}
-use Rattle.mpslp_lines.proofs.AnswerLemmas.{ends-by}
-use Rattle.mpslp_lines.proofs.UnchangedLemmas.{if_fault-ends, if_fault-none}
-use Rattle.mpslp_mps_fields.specs.DataLine.{column_shape}
-use Rattle.mpslp_mps.proofs.ColumnTaking.{front-there}
-use Rattle.mpslp_mps.proofs.ClashLemmas.{column-apart}
-use Rattle.mpslp_mps.proofs.ColumnLine.{column-judged, column-clash-reported, place-fault, placed-fault, double-fault, column-declares, column-named, with_column}
+use Rattle.std.{proofs.Common.{◌≡◌, sym, ap, subst, ◌∙◌, Bool, cond, map}, specs.{Prelude.{◌&&◌, Option, Some, None}, List.flat_map}}
+use Rattle.mpslp_builder.{specs.Declaration.{Draft, with_declarations, has_column, is_semi}, proofs.MadeDrafts.with_declarations-append}
+use Rattle.mpslp_types.specs.declared.faults.FaultKind.{FaultKind, TheVariants.DuplicateEntry}
+use Rattle.mpslp_mps.specs.{LineDeclarations.data_declared, ColumnDeclared.{front_declared, value_declared}}
+use Rattle.mpslp_mps.proofs.{StepLemmas.step-column, ColumnTaking.front-there, ClashLemmas.column-apart, ColumnLine.column-judged}
+use Rattle.mpslp_mps.proofs.ColumnLine.{column-clash-reported, place-fault, placed-fault, double-fault, column-declares, column-named}
+use Rattle.mpslp_mps.proofs.ColumnLine.{with_column}
+use Rattle.mpslp_lines.specs.{Declaring.declared_fault, LineAnswer.IsErrorOf, declared.errors.LineError.TheVariants.Fault}
+use Rattle.mpslp_lines.proofs.{AnswerLemmas.ends-by, UnchangedLemmas.{if_fault-ends, if_fault-none}}
+use Rattle.mpslp_mps_fields.specs.{declared.sections.Section.Section, DataLine.column_shape}
 use Rattle.mpslp_mps.proofs.columns.read_checked.Goals as goal
 
 pub returns-then-has_column_clash-clause-answers : goal.returns-then-has_column_clash-clause-answers

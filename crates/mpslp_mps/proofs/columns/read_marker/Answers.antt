@@ -1,13 +1,9 @@
-use Rattle.std.proofs.Common.{◌∙◌, ap, sym, map, refl, []}
-use Rattle.std.specs.List.{list_all}
-use Rattle.mpslp_lines.specs.FaultTests.{FaultTests, first_held}
-use Rattle.mpslp_lines.specs.declared.errors.LineError.TheVariants.{Fault}
+use Rattle.std.{proofs.Common.{◌∙◌, ap, sym, map, refl, []}, specs.List.list_all}
+use Rattle.mpslp_lines.specs.{FaultTests.{FaultTests, first_held}, declared.errors.LineError.TheVariants.Fault}
+use Rattle.mpslp_lines.proofs.{AnswerLemmas.ends-by, ClashLemmas.has_kind_clash}
 use Rattle.mpslp_mps_fields.specs.declared.sections.Section.TheVariants.{Columns}
-use Rattle.mpslp_mps.proofs.StepLemmas.{step-marker}
-use Rattle.mpslp_mps.proofs.TakingLemmas.{is_early, data-judged, data-taken}
-use Rattle.mpslp_lines.proofs.AnswerLemmas.{ends-by}
-use Rattle.mpslp_lines.proofs.ClashLemmas.{has_kind_clash}
-use Rattle.mpslp_mps.proofs.ColumnTaking.{marker-tests, marker-early, marker-declares}
+use Rattle.mpslp_mps.proofs.{StepLemmas.step-marker, TakingLemmas.{is_early, data-judged, data-taken}, ColumnTaking.marker-tests}
+use Rattle.mpslp_mps.proofs.ColumnTaking.{marker-early, marker-declares}
 use Rattle.mpslp_mps.proofs.columns.read_marker.Goals as goal
 
 pub returns-in_err-opens-clause-answers : goal.returns-in_err-opens-clause-answers

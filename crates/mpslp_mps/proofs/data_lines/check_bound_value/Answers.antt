@@ -1,11 +1,7 @@
-use Rattle.std.proofs.Common.{◌∙◌, sym, ap, Bool, cond, [], ◌∷◌}
-use Rattle.std.specs.Prelude.{Option, Some, None}
-use Rattle.std.specs.Option.{option_map}
-use Rattle.mpslp_types.specs.declared.faults.FaultKind.{FaultKind}
-use Rattle.mpslp_types.specs.declared.faults.FaultKind.TheVariants.{SecondSet}
-use Rattle.mpslp_lines.specs.FaultTests.{number_tests}
+use Rattle.std.{proofs.Common.{◌∙◌, sym, ap, Bool, cond, [], ◌∷◌}, specs.{Prelude.{Option, Some, None}, Option.option_map}}
+use Rattle.mpslp_types.specs.declared.faults.FaultKind.{FaultKind, TheVariants.SecondSet}
+use Rattle.mpslp_lines.{specs.FaultTests.number_tests, proofs.HeldLemmas.{held_some, held_none}}
 use Rattle.mpslp_mps.specs.LineFault.{set_tests}
-use Rattle.mpslp_lines.proofs.HeldLemmas.{held_some, held_none}
 use Rattle.mpslp_mps.proofs.data_lines.check_bound_value.Goals as goal
 
 pub returns-in-Err : goal.returns-in-Err

@@ -1,8 +1,5 @@
-use Rattle.std.proofs.Common.{◌≡◌, refl, sym, ◌∙◌, true}
-use Rattle.std.specs.Prelude.{Option, Some, None, is_none}
-use Rattle.mpslp_types.specs.Name.{is_mps_name}
-use Rattle.mpslp_types.specs.NameTests.{name_refusal}
-use Rattle.mpslp_types.proofs.NameLemmas.{is_none-name_refusal}
+use Rattle.std.{proofs.Common.{◌≡◌, refl, sym, ◌∙◌, true}, specs.Prelude.{Option, Some, None, is_none}}
+use Rattle.mpslp_types.{specs.{Name.is_mps_name, NameTests.name_refusal}, proofs.NameLemmas.is_none-name_refusal}
 use Rattle.mpslp_builder.proofs.AnswerLemmas.{column_is_legal}
 use Rattle.mpslp_mps.proofs.data_lines.check_column_name.Goals as goal
 

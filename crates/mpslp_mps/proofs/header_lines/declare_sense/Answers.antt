@@ -1,12 +1,7 @@
-use Rattle.std.proofs.Common.{◌≡◌, refl, sym, ap, subst, ◌∙◌, [], ◌∷◌}
-use Rattle.std.specs.Prelude.{Option}
-use Rattle.std.specs.Option.{option_map_or}
+use Rattle.std.{proofs.Common.{◌≡◌, refl, sym, ap, subst, ◌∙◌, [], ◌∷◌}, specs.{Prelude.Option, Option.option_map_or}}
 use Rattle.mpslp_builder.specs.Declaration.{declare_sense, Declarations, Draft, with_declaration}
 use Rattle.mpslp_types.specs.declared.kinds.Sense.{Sense}
-use Rattle.mpslp_lines.specs.ErrorOf.{error_of_build}
-use Rattle.mpslp_lines.specs.LineAnswer.{IsErrorOf}
-use Rattle.mpslp_lines.specs.Declaring.{declared_fault}
-use Rattle.mpslp_lines.proofs.RefusedLemmas.{call-error}
+use Rattle.mpslp_lines.{specs.{ErrorOf.error_of_build, LineAnswer.IsErrorOf, Declaring.declared_fault}, proofs.RefusedLemmas.call-error}
 use Rattle.mpslp_lines.proofs.AnswerLemmas.{ends-by}
 use Rattle.mpslp_mps.proofs.header_lines.declare_sense.Goals as goal
 

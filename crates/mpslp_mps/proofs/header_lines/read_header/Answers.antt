@@ -1,15 +1,10 @@
-use Rattle.std.proofs.Common.{sym, ap, subst, ◌∙◌, map}
-use Rattle.std.specs.Prelude.{Option}
+use Rattle.std.{proofs.Common.{sym, ap, subst, ◌∙◌, map}, specs.Prelude.Option}
 use Rattle.mpslp_builder.specs.Declaration.{with_declarations}
 use Rattle.mpslp_types.specs.declared.faults.FaultKind.{FaultKind}
-use Rattle.mpslp_mps.specs.ContextStep.{after_header}
-use Rattle.mpslp_mps.specs.LineDeclarations.{header_declared}
-use Rattle.mpslp_lines.specs.LineAnswer.{IsErrorOf}
-use Rattle.mpslp_lines.specs.declared.errors.LineError.TheVariants.{Fault}
-use Rattle.mpslp_mps_fields.specs.declared.sections.Section.{Section}
-use Rattle.mpslp_mps.proofs.StepLemmas.{step-header}
-use Rattle.mpslp_lines.proofs.AnswerLemmas.{ends-by}
+use Rattle.mpslp_mps.{specs.{ContextStep.after_header, LineDeclarations.header_declared}, proofs.StepLemmas.step-header}
 use Rattle.mpslp_mps.proofs.HeaderTaking.{header-form, header-declares}
+use Rattle.mpslp_lines.{specs.{LineAnswer.IsErrorOf, declared.errors.LineError.TheVariants.Fault}, proofs.AnswerLemmas.ends-by}
+use Rattle.mpslp_mps_fields.specs.declared.sections.Section.{Section}
 use Rattle.mpslp_mps.proofs.header_lines.read_header.Goals as goal
 
 pub returns-in_err-section-clause-answers : goal.returns-in_err-section-clause-answers

@@ -1,8 +1,7 @@
-use Rattle.std.proofs.Common.{rules, ◌≡◌, refl, sym, ap, subst, ◌∙◌, List, ℕ, map, take, Bor}
+use Rattle.std.{proofs.Common.{rules, ◌≡◌, refl, sym, ap, subst, ◌∙◌, List, ℕ, map, take, Bor}, specs.Prelude.Ok}
 use Rattle.mpslp_mps_fields.specs.Line.{Fields, LineContent, data_line, header_of, fields}
-use Rattle.std.specs.Prelude.{Ok}
-use Rattle.mpslp_mps.specs.LineAnswer.{ReadsContent}
-use Rattle.mpslp_mps.proofs.FrontTaking.{data-front, header-front, data-item, header-item, empty-item, read-item, no_fields, some_fields}
+use Rattle.mpslp_mps.{specs.LineAnswer.ReadsContent, proofs.FrontTaking.{data-front, header-front, data-item, header-item, empty-item}}
+use Rattle.mpslp_mps.proofs.FrontTaking.{read-item, no_fields, some_fields}
 use Rattle.mpslp_mps.proofs.read_line.read_content.Goals as goal
 
 pub returns-then-is_empty-clause-answers : goal.returns-then-is_empty-clause-answers

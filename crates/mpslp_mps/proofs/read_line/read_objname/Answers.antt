@@ -1,12 +1,7 @@
-use Rattle.std.proofs.Common.{refl, sym, ◌∙◌, [], map, not}
-use Rattle.std.specs.Prelude.{is_some}
-use Rattle.mpslp_mps_fields.specs.DataLine.{word_shape}
-use Rattle.mpslp_lines.specs.declared.errors.LineError.TheVariants.{Fault}
-use Rattle.mpslp_mps_fields.specs.declared.sections.Section.TheVariants.{ObjName}
-use Rattle.mpslp_lines.proofs.AnswerLemmas.{ends-by}
-use Rattle.mpslp_mps.proofs.StepLemmas.{step-objname}
-use Rattle.mpslp_mps.proofs.TakingLemmas.{data-judged, data-taken}
-use Rattle.mpslp_mps.proofs.RowTaking.{objective-name-early}
+use Rattle.std.{proofs.Common.{refl, sym, ◌∙◌, [], map, not}, specs.Prelude.is_some}
+use Rattle.mpslp_mps_fields.specs.{DataLine.word_shape, declared.sections.Section.TheVariants.ObjName}
+use Rattle.mpslp_lines.{specs.declared.errors.LineError.TheVariants.Fault, proofs.AnswerLemmas.ends-by}
+use Rattle.mpslp_mps.proofs.{StepLemmas.step-objname, TakingLemmas.{data-judged, data-taken}, RowTaking.objective-name-early}
 use Rattle.mpslp_mps.proofs.read_line.read_objname.Goals as goal
 
 pub returns-in_err-name-clause-answers : goal.returns-in_err-name-clause-answers

@@ -1,10 +1,7 @@
 use Rattle.std.proofs.Common.{map}
-use Rattle.mpslp_mps_fields.specs.DataLine.{row_shape}
-use Rattle.mpslp_mps_fields.specs.declared.sections.Section.TheVariants.{Rows}
+use Rattle.mpslp_mps_fields.specs.{DataLine.row_shape, declared.sections.Section.TheVariants.Rows}
 use Rattle.mpslp_lines.proofs.AnswerLemmas.{ends-by}
-use Rattle.mpslp_mps.proofs.TakingLemmas.{data-judged}
-use Rattle.mpslp_mps.proofs.RowTaking.{row-early}
-use Rattle.mpslp_mps.proofs.ClashLemmas.{rows-apart}
+use Rattle.mpslp_mps.proofs.{TakingLemmas.data-judged, RowTaking.row-early, ClashLemmas.rows-apart}
 use Rattle.mpslp_mps.proofs.read_line.read_row.Goals as goal
 
 pub returns-in_err-row_type-clause-answers : goal.returns-in_err-row_type-clause-answers

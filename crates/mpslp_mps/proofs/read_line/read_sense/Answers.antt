@@ -1,18 +1,10 @@
-use Rattle.std.proofs.Common.{◌≡◌, refl, sym, subst, [], ◌∷◌, map, not}
-use Rattle.std.specs.Prelude.{Option, Some, is_some}
+use Rattle.std.{proofs.Common.{◌≡◌, refl, sym, subst, [], ◌∷◌, map, not}, specs.Prelude.{Option, Some, is_some}}
 use Rattle.mpslp_builder.specs.Declaration.{declare_sense, Draft, with_declaration}
 use Rattle.mpslp_types.specs.declared.faults.FaultKind.{FaultKind}
-use Rattle.mpslp_lines.specs.ErrorOf.{error_of_build}
-use Rattle.mpslp_lines.specs.LineAnswer.{IsErrorOf}
-use Rattle.mpslp_lines.proofs.RefusedLemmas.{call-error}
-use Rattle.mpslp_mps.proofs.TakenLemmas.{data_fault-declared}
-use Rattle.mpslp_mps_fields.specs.DataLine.{word_shape}
-use Rattle.mpslp_lines.specs.declared.errors.LineError.TheVariants.{Fault}
-use Rattle.mpslp_mps_fields.specs.declared.sections.Section.TheVariants.{ObjSense}
-use Rattle.mpslp_lines.proofs.AnswerLemmas.{ends-by}
-use Rattle.mpslp_mps.proofs.TakingLemmas.{data-judged}
-use Rattle.mpslp_mps.proofs.RowTaking.{sense-early}
-use Rattle.mpslp_mps.proofs.ClashLemmas.{sense-apart}
+use Rattle.mpslp_lines.specs.{ErrorOf.error_of_build, LineAnswer.IsErrorOf, declared.errors.LineError.TheVariants.Fault}
+use Rattle.mpslp_lines.proofs.{RefusedLemmas.call-error, AnswerLemmas.ends-by}
+use Rattle.mpslp_mps.proofs.{TakenLemmas.data_fault-declared, TakingLemmas.data-judged, RowTaking.sense-early, ClashLemmas.sense-apart}
+use Rattle.mpslp_mps_fields.specs.{DataLine.word_shape, declared.sections.Section.TheVariants.ObjSense}
 use Rattle.mpslp_mps.proofs.read_line.read_sense.Goals as goal
 
 pub returns-in_err-sense-clause-answers : goal.returns-in_err-sense-clause-answers

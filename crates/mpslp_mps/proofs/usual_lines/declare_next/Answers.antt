@@ -1,9 +1,7 @@
-use Rattle.std.proofs.Common.{subst, List, ℕ, false}
-use Rattle.std.specs.Prelude.{Ok}
+use Rattle.std.{proofs.Common.{subst, List, ℕ, false}, specs.Prelude.Ok}
 use Rattle.mpslp_decimal.specs.Decimal.{Number}
 use Rattle.mpslp_builder.specs.ColumnLine.{column_line, TakesLine}
-use Rattle.mpslp_mps.proofs.UsualLines.{usual-taken}
-use Rattle.mpslp_mps.proofs.UsualRefusals.{usual-refused, other-errors}
+use Rattle.mpslp_mps.proofs.{UsualLines.usual-taken, UsualRefusals.{usual-refused, other-errors}}
 use Rattle.mpslp_mps.proofs.usual_lines.declare_next.Goals as goal
 
 pub returns-clause-taken : goal.returns-clause-taken

@@ -1,7 +1,5 @@
-use Rattle.std.proofs.Common.{ap, subst, Bool, true}
-use Rattle.std.specs.Prelude.{Ok}
-use Rattle.mpslp_mps.specs.UsualLine.{TakesUsual}
-use Rattle.mpslp_mps.proofs.UsualLines.{first-split}
+use Rattle.std.{proofs.Common.{ap, subst, Bool, true}, specs.Prelude.Ok}
+use Rattle.mpslp_mps.{specs.UsualLine.TakesUsual, proofs.UsualLines.first-split}
 use Rattle.mpslp_mps.proofs.usual_lines.pass_first.Goals as goal
 
 pub returns-then-branch-clause-passed : goal.returns-then-branch-clause-passed

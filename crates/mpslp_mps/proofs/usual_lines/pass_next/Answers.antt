@@ -1,7 +1,5 @@
-use Rattle.std.proofs.Common.{subst, ◌∙◌, Bool, true}
-use Rattle.std.specs.Prelude.{Ok}
-use Rattle.mpslp_mps.specs.UsualLine.{TakesUsual}
-use Rattle.mpslp_mps.proofs.UsualLines.{next-passed}
+use Rattle.std.{proofs.Common.{subst, ◌∙◌, Bool, true}, specs.Prelude.Ok}
+use Rattle.mpslp_mps.{specs.UsualLine.TakesUsual, proofs.UsualLines.next-passed}
 use Rattle.mpslp_mps.proofs.usual_lines.pass_next.Goals as goal
 
 pub returns-then-branch-clause-passed : goal.returns-then-branch-clause-passed

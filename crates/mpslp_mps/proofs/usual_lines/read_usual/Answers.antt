@@ -1,6 +1,6 @@
 use Rattle.std.proofs.Common.{◌≡◌, sym, ◌∙◌, map, true, false}
-use Rattle.mpslp_mps.proofs.UsualLines.{usual-passed, last-is}
-use Rattle.mpslp_mps.proofs.UsualRefusals.{usual-numbers, usual-legal, usual-unrefused, usual-new}
+use Rattle.mpslp_mps.proofs.{UsualLines.usual-passed, UsualRefusals.{usual-numbers, usual-legal, usual-unrefused, usual-new}}
+use Rattle.mpslp_builder.proofs.LaterDrafts.{objective_is}
 use Rattle.mpslp_mps.proofs.usual_lines.read_usual.Goals as goal
 
 pub returns-then-is_last_column-clause-read : goal.returns-then-is_last_column-clause-read
@@ -31,7 +31,7 @@ returns-then-is_last_column-clause-refused c =
     let column = c.in-Some.column.now in
     let same = sym c.is_last_column.ensures ∙ c.if-is_last_column.true in
     λ is declared fine.
-    c.pass_next.ensures.refused is (declared column (last-is context.last_column column same))
+    c.pass_next.ensures.refused is (declared column (objective_is context.last_column column same))
     (usual-unrefused context earlier fields c.requires.section c.requires.plain fine column c.in-Some.values c.in-Some.ensures.parts.1)
 
 pub returns-clause-refused : goal.returns-clause-refused

@@ -1,11 +1,8 @@
-use Rattle.std.proofs.Common.{◌≡◌, sym, subst, ◌∙◌, refl, rules, ℕ, List, [], ◌∷◌}
-use Rattle.std.specs.Prelude.{None}
+use Rattle.std.{proofs.Common.{◌≡◌, sym, subst, ◌∙◌, refl, rules, ℕ, List, [], ◌∷◌}, specs.Prelude.None}
 use Rattle.mpslp_decimal.specs.Decimal.{Number}
 use Rattle.mpslp_builder.specs.Declaration.{declare_range}
-use Rattle.mpslp_lines.specs.ErrorOf.{error_of_build}
-use Rattle.mpslp_lines.specs.LineAnswer.{IsErrorOf}
-use Rattle.mpslp_lines.specs.Declaring.{declared_fault}
-use Rattle.mpslp_lines.proofs.RefusedLemmas.{check-none, check-error}
+use Rattle.mpslp_lines.{specs.{ErrorOf.error_of_build, LineAnswer.IsErrorOf, Declaring.declared_fault}, proofs.RefusedLemmas.check-none}
+use Rattle.mpslp_lines.proofs.RefusedLemmas.{check-error}
 use Rattle.mpslp_mps.proofs.vectors.check_range.Goals as goal
 
 pub returns-in_err-check_range : goal.returns-in_err-check_range

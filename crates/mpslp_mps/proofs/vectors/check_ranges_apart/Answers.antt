@@ -1,10 +1,7 @@
-use Rattle.std.proofs.Common.{sym, ap, subst, ◌∙◌, [], ◌∷◌}
-use Rattle.std.specs.Prelude.{Option}
+use Rattle.std.{proofs.Common.{sym, ap, subst, ◌∙◌, [], ◌∷◌}, specs.Prelude.Option}
 use Rattle.mpslp_builder.specs.Declaration.{declare_range}
 use Rattle.mpslp_types.specs.declared.faults.FaultKind.{FaultKind}
-use Rattle.mpslp_lines.specs.Declaring.{declared_fault}
-use Rattle.mpslp_lines.specs.LineAnswer.{IsErrorOf}
-use Rattle.mpslp_lines.specs.declared.errors.LineError.{LineError}
+use Rattle.mpslp_lines.specs.{Declaring.declared_fault, LineAnswer.IsErrorOf, declared.errors.LineError.LineError}
 use Rattle.mpslp_lines.proofs.LeastLemmas.{earlier_of}
 use Rattle.mpslp_mps.proofs.RangeLemmas.{ranges-apart, second-range}
 use Rattle.mpslp_mps.proofs.vectors.check_ranges_apart.Goals as goal

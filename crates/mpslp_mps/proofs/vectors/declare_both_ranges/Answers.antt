@@ -1,5 +1,4 @@
-use Rattle.std.proofs.Common.{sym, ap, ◌∙◌, cond, Bool, ℕ, List}
-use Rattle.std.specs.Prelude.{Some}
+use Rattle.std.{proofs.Common.{sym, ap, ◌∙◌, cond, Bool, ℕ, List}, specs.Prelude.Some}
 use Rattle.mpslp_decimal.specs.Decimal.{Number}
 use Rattle.mpslp_builder.specs.Declaration.{has_row}
 use Rattle.mpslp_types.specs.declared.faults.FaultKind.TheVariants as kinds

@@ -1,11 +1,8 @@
 use Rattle.std.proofs.Common.{◌≡◌, refl, subst, rules, ℕ, List, [], ◌∷◌}
 use Rattle.mpslp_decimal.specs.Decimal.{Number}
-use Rattle.mpslp_builder.specs.Declaration.{declare_range, Draft, with_declaration}
-use Rattle.mpslp_builder.specs.Refusal.{refusals}
-use Rattle.mpslp_lines.specs.ErrorOf.{error_of_build}
-use Rattle.mpslp_lines.specs.LineAnswer.{IsErrorOf}
-use Rattle.mpslp_lines.specs.Declaring.{declared_fault}
-use Rattle.mpslp_lines.proofs.RefusedLemmas.{call-error, call-unchanged}
+use Rattle.mpslp_builder.specs.{Declaration.{declare_range, Draft, with_declaration}, Refusal.refusals}
+use Rattle.mpslp_lines.{specs.{ErrorOf.error_of_build, LineAnswer.IsErrorOf, Declaring.declared_fault}, proofs.RefusedLemmas.call-error}
+use Rattle.mpslp_lines.proofs.RefusedLemmas.{call-unchanged}
 use Rattle.mpslp_mps.proofs.vectors.declare_range.Goals as goal
 
 pub returns-in_err-range-clause-answers : goal.returns-in_err-range-clause-answers

@@ -1,8 +1,6 @@
-use Rattle.std.proofs.Common.{sym, subst, ◌∙◌, rules}
-use Rattle.std.specs.Cmp.{first_so}
+use Rattle.std.{proofs.Common.{sym, subst, ◌∙◌, rules}, specs.Cmp.first_so}
 use Rattle.mpslp_builder.specs.Declaration.{has_row}
-use Rattle.mpslp_mps.specs.VectorDeclared.{HasMpsSides}
-use Rattle.mpslp_mps.proofs.RhsLemmas.{row-unknown, first-refused, sides-after}
+use Rattle.mpslp_mps.{specs.VectorDeclared.HasMpsSides, proofs.RhsLemmas.{row-unknown, first-refused, sides-after}}
 use Rattle.mpslp_mps.proofs.vectors.declare_rhs_pair.Goals as goal
 
 pub returns-then-not-are_rows-clause-answers : goal.returns-then-not-are_rows-clause-answers

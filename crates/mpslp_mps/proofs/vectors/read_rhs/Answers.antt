@@ -1,14 +1,9 @@
-use Rattle.std.proofs.Common.{sym, ap, subst, ◌∙◌, rules, map, Bor, ℕ, List}
-use Rattle.std.specs.Prelude.{Option, Some}
+use Rattle.std.{proofs.Common.{sym, ap, subst, ◌∙◌, rules, map, Bor, ℕ, List}, specs.Prelude.{Option, Some}}
 use Rattle.mpslp_builder.specs.Declaration.{with_declarations}
 use Rattle.mpslp_types.specs.declared.faults.FaultKind.{FaultKind}
-use Rattle.mpslp_mps_fields.specs.DataLine.{vector_shape}
-use Rattle.mpslp_lines.specs.FaultTests.{judged_by, first_held}
-use Rattle.mpslp_mps.specs.LineFault.{vector_tests}
-use Rattle.mpslp_lines.specs.LineAnswer.{IsErrorOf}
-use Rattle.mpslp_mps.specs.VectorDeclared.{rhs_values_declared}
-use Rattle.mpslp_mps_fields.specs.declared.sections.Section.TheVariants.{Rhs}
-use Rattle.mpslp_mps.proofs.StepLemmas.{step-right_side}
+use Rattle.mpslp_mps_fields.specs.{DataLine.vector_shape, declared.sections.Section.TheVariants.Rhs}
+use Rattle.mpslp_lines.specs.{FaultTests.{judged_by, first_held}, LineAnswer.IsErrorOf}
+use Rattle.mpslp_mps.{specs.{LineFault.vector_tests, VectorDeclared.rhs_values_declared}, proofs.StepLemmas.step-right_side}
 use Rattle.mpslp_mps.proofs.TakenLemmas.{data_fault-form, data_fault-declared, declared-is, vector-early, rhs_values-are}
 use Rattle.mpslp_mps.proofs.ClashLemmas.{sides-apart}
 use Rattle.mpslp_mps.proofs.vectors.read_rhs.Goals as goal

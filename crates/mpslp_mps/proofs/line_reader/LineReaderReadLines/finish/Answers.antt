@@ -1,6 +1,5 @@
 use Rattle.std.proofs.Common.{sym, ◌∙◌}
-use Rattle.mpslp_mps.proofs.FedLemmas.{led-named}
-use Rattle.mpslp_mps.proofs.LineReaderLemmas.{ends-text}
+use Rattle.mpslp_mps.proofs.{FedLemmas.led-named, LineReaderLemmas.ends-text}
 use Rattle.mpslp_mps.proofs.line_reader.LineReaderReadLines.finish.Goals as goal
 
 pub finish_by_columns-requires : goal.finish_by_columns-requires

@@ -1,7 +1,5 @@
 use Rattle.std.proofs.Common.{ap, ◌∙◌}
-use Rattle.mpslp_mps.specs.NextContext.{kept_context}
-use Rattle.mpslp_mps.proofs.FedLemmas.{led-sides, led-line}
-use Rattle.mpslp_mps.proofs.LineReaderLemmas.{refuses-line}
+use Rattle.mpslp_mps.{specs.NextContext.kept_context, proofs.{FedLemmas.{led-sides, led-line}, LineReaderLemmas.refuses-line}}
 use Rattle.mpslp_mps.proofs.line_reader.LineReaderReadLines.read_line.Goals as goal
 
 pub read_line-requires : goal.read_line-requires

@@ -1,7 +1,6 @@
 use Rattle.mpslp_types.specs.declared.faults.FaultKind.TheVariants.{LineTooLong}
 use Rattle.mpslp_lines.specs.declared.errors.LineError.TheVariants.{Fault}
-use Rattle.mpslp_mps.proofs.LoopLemmas.{line-too_long}
-use Rattle.mpslp_mps.proofs.LineReaderLemmas.{refuses-line}
+use Rattle.mpslp_mps.proofs.{LoopLemmas.line-too_long, LineReaderLemmas.refuses-line}
 use Rattle.mpslp_mps.proofs.line_reader.LineReaderReadLines.refuse_long.Goals as goal
 
 pub returns : goal.returns

@@ -1,0 +1,276 @@
+-- The first line of a text with an error: its kind is that of one of its tests, or of a rejected declaration.
+use Rattle.std.proofs.Common.{◌≡◌, refl, sym, ap, ◌∙◌, subst, List, [], ◌∷◌, ◌++◌, append_assoc, ℕ, suc, ◌+◌, ◌-◌, ◌^◌, Bool, true, false}
+use Rattle.std.proofs.{Common.{cond, map, arith}, lemmas.{Bool.Decides.nat_tests, List.{append-nil, map-append}}, Math.Dec.eqb_refl}
+use Rattle.std.{proofs.lemmas.List.Folds.list_any-append, specs.Prelude.{Option, Some, None, ◌||◌, ◌&&◌, ◌==◌, nat_le, nat_lt, not}}
+use Rattle.std.specs.{Prelude.{filter_map, min, length, if◌then◌else◌}, List.{list_any, list_all}, Option.{option_map, option_map_or}}
+use Rattle.std.specs.{Option.option_or, Cmp.second_so}
+use Rattle.mpslp_types.specs.{FaultOrder.{kind_rank, least_kind}, declared.faults.{BuildFault.BuildFault, Fault.Fault, FaultKind.FaultKind}}
+use Rattle.mpslp_types.specs.{declared.faults.FaultKind.TheVariants.{LineTooLong, BadByte, MissingEnd, NoColumns}, Lists.is_nonempty}
+use Rattle.mpslp_types.{specs.Lists.{head_of, those_of}, proofs.BoolLemmas.{true_from, both_so, or_left, or_right}}
+use Rattle.mpslp_builder.specs.Declaration.{Declarations, Draft, with_declaration, with_declarations, empty_draft, draft_of}
+use Rattle.mpslp_builder.specs.{FileFault.{named_kinds, whole_fault, names_with, named_faults, file_fault}, Refusal.refusal_tests}
+use Rattle.mpslp_builder.specs.Refusal.{refusals_in_turn}
+use Rattle.mpslp_lines.specs.{Declaring.{declaring_faults, first_fault}, FaultTests.{kind_of_build_fault, fault_on_line, is_kind}}
+use Rattle.mpslp_lines.{specs.FaultTests.{has_legal_length, is_legal_byte, FaultTests}, proofs.LeastLemmas.{lesser, earlier_of}}
+use Rattle.mpslp_lines.proofs.{LeastLemmas.{least-append, least-none}, FirstFaultLemmas.faultless}
+use Rattle.mpslp_mps_fields.specs.Line.{LineContent, content_of, outside_comment}
+use Rattle.mpslp_mps.specs.{Context.context_of, LineDeclarations.line_declares, LineFault.{item_tests, line_tests}, MpsText.LineInContext}
+use Rattle.mpslp_mps.specs.MpsText.{read_lines, has_end, declared_at, tests_at, lines_in_context_after, lines_in_context, declarations_of}
+use Rattle.mpslp_mps.{specs.FirstFault.{line_fault, first_line_fault, whole_mps_fault}, proofs.OrderLemmas.{IsGood, never}}
+use Rattle.mpslp_mps.proofs.ContextLineLemmas.{item-form}
+use Rattle.mpslp_mps_sentences.{specs.FaultsInWords.{IsFaultOfLine, IsInWords}, proofs.NamesOfWords.{Stated, none-stated, stated-kept}}
+
+-- ---- which tests a kind has
+
+-- one of the tests of this kind holds
+abbrev pub holds_of : FaultKind → FaultTests → Bool
+holds_of kind [] = false
+holds_of kind (test ∷ more) = if is_kind kind test.1 then (test.0 || holds_of kind more) else holds_of kind more
+
+-- one of the errors of declarations has this kind
+abbrev pub refused_as : FaultKind → List (Bool × BuildFault) → Bool
+refused_as kind [] = false
+refused_as kind (test ∷ more) = if is_kind kind (kind_of_build_fault test.1) then (test.0 || refused_as kind more) else refused_as kind more
+
+abbrev pub refuses : FaultKind → Draft → Declarations → Bool
+refuses kind earlier [] = false
+refuses kind earlier (d ∷ ds) = refused_as kind (refusal_tests earlier d) || refuses kind (with_declaration earlier d) ds
+
+itself : (kind : FaultKind) → is_kind kind kind ≡ true
+itself kind = true_from (kind_rank kind == kind_rank kind) (eqb_refl (kind_rank kind))
+
+among-least : (kinds : List FaultKind) (kind : FaultKind) → least_kind kinds ≡ Some kind → list_any (is_kind kind) kinds ≡ true
+among-least [] kind h = cc
+among-least (first ∷ kinds) kind h = by (least_kind kinds) (among-least kinds kind) h
+  where
+    here : first ≡ kind → (is_kind kind first || list_any (is_kind kind) kinds) ≡ true
+    here e = or_left (is_kind kind first) (list_any (is_kind kind) kinds) (ap (is_kind kind) e ∙ itself kind)
+
+    one : (a b : FaultKind) → Some a ≡ Some b → a ≡ b
+    one a b e = cc
+
+    of : (other : FaultKind) → (Some other ≡ Some kind → list_any (is_kind kind) kinds ≡ true) → (b : Bool) → Some (cond b other first) ≡ Some kind → (is_kind kind first || list_any (is_kind kind) kinds) ≡ true
+    of other rest true e = or_right (is_kind kind first) (list_any (is_kind kind) kinds) (rest e)
+    of other rest false e = here (one first kind e)
+
+    by : (o : Option FaultKind) → (o ≡ Some kind → list_any (is_kind kind) kinds ≡ true) → Some (lesser first o) ≡ Some kind → (is_kind kind first || list_any (is_kind kind) kinds) ≡ true
+    by None rest e = here (one first kind e)
+    by (Some other) rest e = of other rest (nat_lt (kind_rank other) (kind_rank first)) e
+
+any-held : (kind : FaultKind) (tests : FaultTests) → list_any (is_kind kind) (those_of tests) ≡ holds_of kind tests
+any-held kind [] = refl
+any-held kind ((held, other) ∷ more) = by (any-held kind more) held (is_kind kind other) refl
+  where
+    by : list_any (is_kind kind) (those_of more) ≡ holds_of kind more → (b c : Bool) → is_kind kind other ≡ c
+        → list_any (is_kind kind) (cond b (other ∷ those_of more) (those_of more)) ≡ cond c (b || holds_of kind more) (holds_of kind more)
+    by rest b c e = grind arith
+
+any-refused : (kind : FaultKind) (tests : List (Bool × BuildFault)) → list_any (is_kind kind) (map kind_of_build_fault (those_of tests)) ≡ refused_as kind tests
+any-refused kind [] = refl
+any-refused kind ((held, other) ∷ more) = by (any-refused kind more) held (is_kind kind (kind_of_build_fault other)) refl
+  where
+    by : list_any (is_kind kind) (map kind_of_build_fault (those_of more)) ≡ refused_as kind more → (b c : Bool) → is_kind kind (kind_of_build_fault other) ≡ c
+        → list_any (is_kind kind) (map kind_of_build_fault (cond b (other ∷ those_of more) (those_of more))) ≡ cond c (b || refused_as kind more) (refused_as kind more)
+    by rest b c e = grind arith
+
+any-declaring : (kind : FaultKind) (earlier : Draft) (ds : Declarations) → list_any (is_kind kind) (declaring_faults earlier ds) ≡ refuses kind earlier ds
+any-declaring kind earlier [] = refl
+any-declaring kind earlier (d ∷ ds) = grind (arith, map-append, list_any-append, any-refused, any-declaring kind (with_declaration earlier d) ds)
+
+-- the kind of the first error of a line is that of a failing test, or of a rejected declaration
+reported-by : (tests : FaultTests) (earlier : Draft) (ds : Declarations) (kind : FaultKind) → first_fault tests earlier ds ≡ Some kind → (holds_of kind tests || refuses kind earlier ds) ≡ true
+reported-by tests earlier ds kind h =
+    sym (list_any-append (is_kind kind) (those_of tests) (declaring_faults earlier ds)
+    ∙ (ap (λ (b : Bool). b || list_any (is_kind kind) (declaring_faults earlier ds)) (any-held kind tests) ∙ ap (λ (b : Bool). holds_of kind tests || b) (any-declaring kind earlier ds)))
+    ∙ among-least (those_of tests ++ declaring_faults earlier ds) kind h
+
+-- ---- kinds that come after those of the form of a line
+
+abbrev pub is_below : FaultKind → FaultKind → Bool
+is_below kind other = nat_lt (kind_rank other) (kind_rank kind)
+
+least-passes : (p : FaultKind → Bool) (kinds : List FaultKind) → list_all p kinds ≡ true → option_map_or p (least_kind kinds) true ≡ true
+least-passes p [] h = refl
+least-passes p (kind ∷ kinds) h = grind (arith, lesser, least-passes p kinds (second_so (p kind) (list_all p kinds) h))
+
+those-below : (kind : FaultKind) (tests : FaultTests) → list_all (λ test. is_below kind test.1) tests ≡ true → list_all (is_below kind) (those_of tests) ≡ true
+those-below kind [] h = refl
+those-below kind ((held, other) ∷ more) h = grind (arith, both_so, those-below kind more (second_so (is_below kind other) (list_all (λ test. is_below kind test.1) more) h))
+
+not-below : (kind other : FaultKind) → is_below kind other ≡ true → other ≡ kind → ⊥
+not-below kind other h e = grind arith
+
+-- if the first error is of such a kind, no test of the form fails
+pub form-holds : (tests : FaultTests) (earlier : Draft) (ds : Declarations) (kind : FaultKind) → list_all (λ test. is_below kind test.1) tests ≡ true → first_fault tests earlier ds ≡ Some kind → those_of tests ≡ []
+form-holds tests earlier ds kind below h =
+    by (least_kind (those_of tests)) refl (least-passes (is_below kind) (those_of tests) (those-below kind tests below)) (sym (least-append (those_of tests) (declaring_faults earlier ds)) ∙ h)
+  where
+    one : (a b : FaultKind) → Some a ≡ Some b → a ≡ b
+    one a b e = cc
+
+    lower : (a b c : ℕ) → nat_lt a b ≡ true → nat_lt b c ≡ true → nat_lt a c ≡ true
+    lower a b c e f = grind (arith, nat_tests)
+
+    of : (first : FaultKind) → is_below kind first ≡ true → (p : Option FaultKind) → lesser first p ≡ kind → ⊥
+    of first e None k = not-below kind first e k
+    of first e (Some other) k = either (nat_lt (kind_rank other) (kind_rank first)) refl k
+      where
+        either : (b : Bool) → nat_lt (kind_rank other) (kind_rank first) ≡ b → cond b other first ≡ kind → ⊥
+        either true f l = not-below kind other (lower (kind_rank other) (kind_rank first) (kind_rank kind) f e) l
+        either false f l = not-below kind first e l
+
+    by : (o : Option FaultKind) → least_kind (those_of tests) ≡ o → option_map_or (is_below kind) o true ≡ true → earlier_of o (least_kind (declaring_faults earlier ds)) ≡ Some kind → those_of tests ≡ []
+    by None e f k = least-none (those_of tests) e
+    by (Some first) e f k = absurd (of first f (least_kind (declaring_faults earlier ds)) (one (lesser first (least_kind (declaring_faults earlier ds))) kind k))
+
+-- ---- the line
+
+-- What holds of the lines before any line, and the draft that they declare, if none of them has an error.
+pub record IsKept (Holds : List LineContent → Draft → Type 0) : Type 0 where
+  pub none : Holds [] empty_draft
+  pub kept : (before : List LineContent) (earlier : Draft) (item : LineContent) → IsGood before earlier item → refusals_in_turn earlier (line_declares (context_of before) earlier item) ≡ [] → Holds before earlier
+      → Holds (before ++ item ∷ []) (with_declarations earlier (line_declares (context_of before) earlier item))
+
+-- what is known of the line, and of those before it
+pub record Faulted (Holds : List LineContent → Draft → Type 0) (ls : List (List ℕ)) (before : List LineContent) (n : ℕ) (fault : Fault) : Type 0 where
+  pub front : List (List ℕ)
+  pub line : List ℕ
+  pub later : List (List ℕ)
+  pub earlier : Draft
+  pub parted : ls ≡ front ++ line ∷ later
+  pub number : fault.line ≡ min (length front + n) (2 ^ 64 - 1)
+  pub known : Holds (before ++ map content_of front) earlier
+  pub stated : first_fault (line_tests (context_of (before ++ map content_of front)) earlier line) earlier (line_declares (context_of (before ++ map content_of front)) earlier (content_of line)) ≡ Some fault.kind
+
+one-less : (m n : ℕ) → m + (n + 1) ≡ suc m + n
+one-less m n = grind (arith)
+
+none-before : (n : ℕ) → n ≡ 0 + n
+none-before n = grind (arith)
+
+find-line : (Holds : List LineContent → Draft → Type 0) → IsKept Holds → (ls : List (List ℕ)) (before : List LineContent) (earlier : Draft) (n : ℕ) (fault : Fault) → Holds before earlier
+    → first_line_fault n (lines_in_context_after before earlier ls) ≡ Some fault → Faulted Holds ls before n fault
+find-line Holds keeps [] before earlier n fault known h = absurd cc
+find-line Holds keeps (line ∷ ls) before earlier n fault known h =
+    by (λ good free e. find-line Holds keeps ls (before ++ content_of line ∷ []) next (n + 1) fault (keeps.kept before earlier (content_of line) good free known) e) (line_fault placed) refl h
+  where
+    placed : LineInContext
+    placed = record { context = context_of before; earlier = earlier; line = line }
+
+    next : Draft
+    next = with_declarations earlier (declared_at placed)
+
+    rest : List LineInContext
+    rest = lines_in_context_after (before ++ content_of line ∷ []) next ls
+
+    by : (IsGood before earlier (content_of line) → refusals_in_turn earlier (declared_at placed) ≡ [] → first_line_fault (n + 1) rest ≡ Some fault → Faulted Holds ls (before ++ content_of line ∷ []) (n + 1) fault)
+        → (o : Option FaultKind) → line_fault placed ≡ o → option_or (option_map (fault_on_line n) o) (first_line_fault (n + 1) rest) ≡ Some fault → Faulted Holds (line ∷ ls) before n fault
+    by find None e k =
+        let fine = faultless (tests_at placed) earlier (declared_at placed) e in
+        let good : IsGood before earlier (content_of line) = item-form (context_of before) earlier line fine.form in
+        let found = find good fine.unrefused k in
+        let same : (before ++ content_of line ∷ []) ++ map content_of found.front ≡ before ++ map content_of (line ∷ found.front) = append_assoc before (content_of line ∷ []) (map content_of found.front) in
+        record {
+          front = line ∷ found.front;
+          line = found.line;
+          later = found.later;
+          earlier = found.earlier;
+          parted = ap (λ (more : List (List ℕ)). line ∷ more) found.parted;
+          number = found.number ∙ ap (λ (m : ℕ). min m (2 ^ 64 - 1)) (one-less (length found.front) n);
+          known = subst (λ (items : List LineContent). Holds items found.earlier) same found.known;
+          stated = subst (λ (items : List LineContent). first_fault (line_tests (context_of items) found.earlier found.line) found.earlier (line_declares (context_of items) found.earlier (content_of found.line)) ≡ Some fault.kind) same found.stated;
+        }
+    by find (Some kind) e k =
+        let same : fault_on_line n kind ≡ fault = cc in
+        let none = sym (append-nil before) in
+        record {
+          front = [];
+          line = line;
+          later = ls;
+          earlier = earlier;
+          parted = refl;
+          number = sym (ap (λ (f : Fault). f.line) same) ∙ ap (λ (m : ℕ). min m (2 ^ 64 - 1)) (none-before n);
+          known = subst (λ (items : List LineContent). Holds items earlier) none known;
+          stated = subst (λ (items : List LineContent). first_fault (line_tests (context_of items) earlier line) earlier (line_declares (context_of items) earlier (content_of line)) ≡ Some fault.kind) none
+              (e ∙ ap (λ (f : Fault). Some f.kind) same);
+        }
+
+-- ---- an error of the whole file has a kind of its own
+
+abbrev is_of_whole : FaultKind → Bool
+is_of_whole kind = nat_le (kind_rank MissingEnd) (kind_rank kind)
+
+named-whole : (all : Draft) (kinds : List FaultKind) (fault : Fault) → list_all is_of_whole kinds ≡ true
+    → head_of (filter_map (λ kind. option_map (λ name. whole_fault kind (Some name)) (head_of (names_with all kind))) kinds) ≡ Some fault → is_of_whole fault.kind ≡ true
+named-whole all [] fault h e = cc
+named-whole all (kind ∷ kinds) fault h e = grind (arith, named-whole all kinds fault (second_so (is_of_whole kind) (list_all is_of_whole kinds) h))
+
+of-whole : (bytes : List ℕ) (fault : Fault) → whole_mps_fault bytes ≡ Some fault → is_of_whole fault.kind ≡ true
+of-whole bytes fault h = by (has_end bytes) h
+  where
+    all : Draft
+    all = draft_of (declarations_of bytes)
+
+    simple : (kind : FaultKind) → is_of_whole kind ≡ true → Some (whole_fault kind None) ≡ Some fault → is_of_whole fault.kind ≡ true
+    simple kind k e = let same : whole_fault kind None ≡ fault = cc in sym (ap (λ (f : Fault). is_of_whole f.kind) same) ∙ k
+
+    of : (b : Bool) → cond b (head_of (named_faults all)) (Some (whole_fault NoColumns None)) ≡ Some fault → is_of_whole fault.kind ≡ true
+    of true e = named-whole all named_kinds fault refl e
+    of false e = simple NoColumns refl e
+
+    by : (b : Bool) → cond b (file_fault all) (Some (whole_fault MissingEnd None)) ≡ Some fault → is_of_whole fault.kind ≡ true
+    by true e = of (is_nonempty all.columns) e
+    by false e = simple MissingEnd refl e
+
+-- ---- the law of a kind
+
+-- the tests of the length and the bytes of a line are of other kinds
+passed : (kind : FaultKind) (first second : Bool) (tests : FaultTests) → is_kind kind LineTooLong ≡ false → is_kind kind BadByte ≡ false → holds_of kind ((first, LineTooLong) ∷ (second, BadByte) ∷ tests) ≡ holds_of kind tests
+passed kind first second tests short legal = rw (short, legal) refl
+
+-- The kind is that of a failing test of the line's form, or of a rejected declaration; only the latter if it comes after all
+-- kinds of its form.
+pub record IsFirst (kind : FaultKind) (before : List LineContent) (earlier : Draft) (item : LineContent) : Type 0 where
+  pub stated : (holds_of kind (item_tests (context_of before) earlier item) || refuses kind earlier (line_declares (context_of before) earlier item)) ≡ true
+  pub late : is_below kind LineTooLong ≡ true → is_below kind BadByte ≡ true → list_all (λ test. is_below kind test.1) (item_tests (context_of before) earlier item) ≡ true → IsGood before earlier item
+
+-- If each line whose first error is of this kind is such a line, the law of the kind holds.
+pub in-words-by : (Holds : List LineContent → Draft → Type 0) → IsKept Holds → (kind : FaultKind) (is_such : List LineContent → LineContent → Bool) → is_of_whole kind ≡ false → is_kind kind LineTooLong ≡ false → is_kind kind BadByte ≡ false
+    → ((before : List LineContent) (earlier : Draft) (item : LineContent) → Holds before earlier → IsFirst kind before earlier item → is_such before item ≡ true)
+    → IsInWords kind is_such
+in-words-by Holds keeps kind is_such early short legal such bytes fault first k = by (first_line_fault 1 (lines_in_context bytes)) refl first
+  where
+    by : (o : Option Fault) → first_line_fault 1 (lines_in_context bytes) ≡ o → option_or o (whole_mps_fault bytes) ≡ Some fault → IsFaultOfLine is_such bytes fault
+    by None e h = absurd (never (is_of_whole kind) (ap is_of_whole (sym k) ∙ of-whole bytes fault h) early)
+    by (Some other) e h =
+        let same : other ≡ fault = cc in
+        let found = find-line Holds keeps (read_lines bytes) [] empty_draft 1 fault keeps.none (e ∙ ap (λ (f : Fault). Some f) same) in
+        let items = map content_of found.front in
+        let ds = line_declares (context_of items) found.earlier (content_of found.line) in
+        let tests = item_tests (context_of items) found.earlier (content_of found.line) in
+        let first_is = found.stated ∙ ap (λ (x : FaultKind). Some x) k in
+        let stated = reported-by (line_tests (context_of items) found.earlier found.line) found.earlier ds kind first_is in
+        record {
+          before = found.front;
+          line = found.line;
+          later = found.later;
+          text = found.parted;
+          number = found.number;
+          such = such items found.earlier (content_of found.line) found.known
+              (record {
+                stated = sym (ap (λ (b : Bool). b || refuses kind found.earlier ds)
+                    (passed kind (not (has_legal_length found.line)) (not (list_all is_legal_byte (outside_comment found.line))) tests short legal))
+                    ∙ stated;
+                late = λ a b c.
+                    item-form (context_of items) found.earlier found.line
+                    (form-holds (line_tests (context_of items) found.earlier found.line) found.earlier ds kind
+                    (both_so (is_below kind LineTooLong) (is_below kind BadByte && list_all (λ test. is_below kind test.1) tests) a
+                    (both_so (is_below kind BadByte) (list_all (λ test. is_below kind test.1) tests) b c)) first_is);
+              });
+        }
+
+-- by what is known of names
+pub in-words : (kind : FaultKind) (is_such : List LineContent → LineContent → Bool) → is_of_whole kind ≡ false → is_kind kind LineTooLong ≡ false → is_kind kind BadByte ≡ false
+    → ((before : List LineContent) (earlier : Draft) (item : LineContent) → Stated before earlier → IsFirst kind before earlier item → is_such before item ≡ true)
+    → IsInWords kind is_such
+in-words = in-words-by Stated (record { none = none-stated; kept = λ before earlier item good _ stated. stated-kept before earlier item good stated })

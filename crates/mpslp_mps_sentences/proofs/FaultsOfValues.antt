@@ -1,0 +1,222 @@
+-- Lines of RHS, RANGES and BOUNDS with a rejected value are as `ValueFaultsInWords` defines the kind of their error.
+use Rattle.std.{proofs.Common.{rules, arith, ◌≡◌, refl, List, [], ◌∷◌, ◌++◌, ℕ, Bool, true, false, cond, map}, specs.Prelude.{Option, Some}}
+use Rattle.std.specs.{Prelude.{None, is_some, ◌||◌, ◌&&◌, filter}, List.{list_any, list_all, flat_map}, Option.option_map_or}
+use Rattle.mpslp_decimal.specs.Decimal.{Number}
+use Rattle.mpslp_types.{specs.{Name.same_bytes, declared.faults.FaultKind.FaultKind}, proofs.BoolLemmas.{or_left, or_right, either_more}}
+use Rattle.mpslp_types.specs.declared.faults.FaultKind.TheVariants as kinds
+use Rattle.mpslp_builder.specs.Declaration.{declare_rhs, declare_range, Declarations, Draft, with_declaration, with_declarations, has_name}
+use Rattle.mpslp_builder.specs.{Declaration.{is_objective, is_free_row, is_row_by_limits, rhs_declared}, Consistency.has_one_constant}
+use Rattle.mpslp_builder.{specs.Refusal.refusals_in_turn, proofs.{LaterDrafts.extends-in_turn, RefusalLemmas.HasDeclaredNames}}
+use Rattle.mpslp_builder.proofs.{RefusalLemmas.{HasKindsApart, none-fine, empty_declared_names, empty_kinds_apart}, SlotLemmas.has-put}
+use Rattle.mpslp_lines.specs.FaultTests.{value_of}
+use Rattle.mpslp_mps_fields.specs.{Line.{Fields, LineContent}, DataLine.{Pair, ValuesLine, vector_shape, is_integer_type, is_semi_type}}
+use Rattle.mpslp_mps_fields.specs.declared.sections.Section.{Section, TheVariants.{Rhs, Ranges}}
+use Rattle.mpslp_mps.specs.{Context.{context_of, data_lines}, LineDeclarations.{declared_if_some, rhs_line_declared, ranges_declared}}
+use Rattle.mpslp_mps.{specs.LineDeclarations.line_declares, proofs.OrderLemmas.IsGood}
+use Rattle.mpslp_mps_sentences.specs.{FaultsInWords.{IsInWords, has_row_twice}, ValueFaultsInWords.{is_without_limits, ranges_free_row}}
+use Rattle.mpslp_mps_sentences.specs.ValueFaultsInWords.{vector_pairs, has_value_of, repeats_row_of, repeats_range, takes_side}
+use Rattle.mpslp_mps_sentences.{specs.ValueFaultsInWords.{repeats_side, gives_lower, gives_upper}, proofs.NamesOfWords.Stated}
+use Rattle.mpslp_mps_sentences.proofs.{NamesOfWords.{none-stated, stated-kept}, FaultedLines.{refuses, is_below, IsKept, IsFirst}}
+use Rattle.mpslp_mps_sentences.proofs.{FaultedLines.in-words-by, KindsOfLines.{kinds_in, header_kinds}, FaultsOfNames.{form-good, some}}
+use Rattle.mpslp_mps_sentences.proofs.{RepeatsOfNames.{below-all, good-refused}, DeclaredByLines.{IsErrorOfSection, line-of}}
+use Rattle.mpslp_mps_sentences.proofs.ValuesDeclared.{IsPlain, none-plain, plain-kept, HaveRangeLines, range_lines-kept, HaveSideLines}
+use Rattle.mpslp_mps_sentences.proofs.ValuesDeclared.{side_lines-kept, HaveBoundLines, lower_of, upper_of, integer_of, semi_of}
+use Rattle.mpslp_mps_sentences.proofs.ValuesDeclared.{lower_lines-kept, upper_lines-kept, integer_lines-kept, semi_lines-kept}
+use Rattle.mpslp_mps_sentences.proofs.ObjectiveOfLines.{HaveFreeLines, free_lines-kept, AreRowsFree, rows_free-kept, IsFirstNamed}
+use Rattle.mpslp_mps_sentences.proofs.{ObjectiveOfLines.first_named-kept, BlocksOfLines.{HaveMarkedLines, marked_lines-kept}}
+
+-- ---- what the lines before declare, if none of them has an error
+
+pub record AreValuesStated (before : List LineContent) (earlier : Draft) : Type 0 where
+  pub stated : Stated before earlier
+  pub names : HasDeclaredNames earlier
+  pub apart : HasKindsApart earlier
+  pub one_constant : has_one_constant earlier ≡ true
+  pub plain : IsPlain earlier
+  pub free_lines : HaveFreeLines before earlier
+  pub rows_free : AreRowsFree before earlier
+  pub first_named : IsFirstNamed before earlier
+  pub sides : HaveSideLines before earlier
+  pub ranges : HaveRangeLines before earlier
+  pub lowers : HaveBoundLines lower_of gives_lower before earlier
+  pub uppers : HaveBoundLines upper_of gives_upper before earlier
+  pub integers : HaveBoundLines integer_of is_integer_type before earlier
+  pub semis : HaveBoundLines semi_of is_semi_type before earlier
+  pub marked : HaveMarkedLines before earlier
+
+values-kept : (before : List LineContent) (earlier : Draft) (item : LineContent) → IsGood before earlier item → refusals_in_turn earlier (line_declares (context_of before) earlier item) ≡ [] → AreValuesStated before earlier
+    → AreValuesStated (before ++ item ∷ []) (with_declarations earlier (line_declares (context_of before) earlier item))
+values-kept before earlier item good free h =
+    let fine = none-fine (line_declares (context_of before) earlier item) earlier h.names h.apart h.one_constant free in
+    let extends = extends-in_turn (line_declares (context_of before) earlier item) earlier fine.fresh in
+    record {
+      stated = stated-kept before earlier item good h.stated;
+      names = fine.declared_names;
+      apart = fine.kinds_apart;
+      one_constant = fine.one_constant;
+      plain = plain-kept (context_of before) earlier item h.plain;
+      free_lines = free_lines-kept before earlier item h.free_lines;
+      rows_free = rows_free-kept before earlier item extends h.rows_free;
+      first_named = first_named-kept before earlier item good h.stated extends h.first_named;
+      sides = side_lines-kept before earlier item h.sides;
+      ranges = range_lines-kept before earlier item h.ranges;
+      lowers = lower_lines-kept before earlier item h.lowers;
+      uppers = upper_lines-kept before earlier item h.uppers;
+      integers = integer_lines-kept before earlier item h.integers;
+      semis = semi_lines-kept before earlier item h.semis;
+      marked = marked_lines-kept before earlier item h.marked;
+    }
+
+pub values-stated : IsKept AreValuesStated
+values-stated = grind (arith, none-stated, empty_declared_names, empty_kinds_apart, none-plain, values-kept)
+
+-- a kind after those of all forms: one of the declarations of the line is rejected with it
+pub rejected : (kind : FaultKind) (before : List LineContent) (earlier : Draft) (item : LineContent) → is_below kind kinds.LineTooLong ≡ true → is_below kind kinds.BadByte ≡ true → list_all (is_below kind) header_kinds ≡ true
+    → ((o : Option Section) → list_all (is_below kind) (kinds_in o) ≡ true) → IsFirst kind before earlier item → refuses kind earlier (line_declares (context_of before) earlier item) ≡ true
+rejected kind before earlier item long byte heads lines first = good-refused kind before earlier item (form-good kind before earlier item long byte heads lines first) first
+
+-- ---- RangeOnFree
+
+of-ranges : IsErrorOfSection Ranges kinds.RangeOnFree
+of-ranges = grind arith
+
+ranges-free : (pairs : List Pair) (all : Draft) → refuses kinds.RangeOnFree all (map (λ (pair : Pair). declare_range pair.row (value_of pair.literal)) pairs) ≡ true → list_any (λ pair. is_objective all pair.row || is_free_row all pair.row) pairs ≡ true
+ranges-free [] all h = h
+ranges-free (pair ∷ pairs) all h = grind (arith, refuses, ranges-free pairs (with_declaration all (declare_range pair.row (value_of pair.literal))))
+
+free-range : (before : List LineContent) (earlier : Draft) (item : LineContent) → AreValuesStated before earlier → IsFirst kinds.RangeOnFree before earlier item → ranges_free_row before item ≡ true
+free-range before earlier item stated first =
+    line-of Ranges kinds.RangeOnFree of-ranges (λ fields. list_any (λ pair. is_without_limits before pair.row) (vector_pairs fields)) before earlier (λ fields h. of (vector_shape fields) h) item
+    (rejected kinds.RangeOnFree before earlier item refl refl refl (below-all kinds.RangeOnFree refl refl refl refl) first)
+  where
+    without : (row : List ℕ) → (is_objective earlier row || is_free_row earlier row) ≡ true → is_without_limits before row ≡ true
+    without row k = grind (arith, or_right, or_left)
+
+    of : (o : Option ValuesLine) → refuses kinds.RangeOnFree earlier (declared_if_some ranges_declared o) ≡ true → list_any (λ pair. is_without_limits before pair.row) (option_map_or (λ (line : ValuesLine). line.pairs) o []) ≡ true
+    of None h = h
+    of (Some line) h = some (λ pair. is_objective earlier pair.row || is_free_row earlier pair.row) (λ pair. is_without_limits before pair.row) line.pairs (λ pair k. without pair.row k) (ranges-free line.pairs earlier h)
+
+pub free-ranges : IsInWords kinds.RangeOnFree ranges_free_row
+free-ranges = in-words-by AreValuesStated values-stated kinds.RangeOnFree ranges_free_row refl refl refl free-range
+
+-- ---- rows of the pairs of a line: one that is there already, or twice
+
+-- one after another, each with those before it
+abbrev again : (List ℕ → Bool) → List Pair → Bool
+again there [] = false
+again there (pair ∷ more) = there pair.row || again (λ row. same_bytes row pair.row || there row) more
+
+again-more : (p q : List ℕ → Bool) → ((row : List ℕ) → p row ≡ true → q row ≡ true) → (pairs : List Pair) → again p pairs ≡ true → again q pairs ≡ true
+again-more p q h [] k = k
+again-more p q h (pair ∷ pairs) k = grind (arith, either_more, again-more (λ row. same_bytes row pair.row || p row) (λ row. same_bytes row pair.row || q row) (λ row e. either_more (same_bytes row pair.row) (p row) (same_bytes row pair.row) (q row) (λ f. f) (h row) e) pairs)
+
+some-either : (p q : Pair → Bool) (pairs : List Pair) → list_any (λ pair. p pair || q pair) pairs ≡ (list_any p pairs || list_any q pairs)
+some-either p q [] = refl
+some-either p q (pair ∷ pairs) = grind (arith, some-either p q pairs)
+
+-- so a row is twice among the pairs, or one of them is there
+twice-or_there : (there : List ℕ → Bool) (pairs : List Pair) → again there pairs ≡ true → (has_row_twice pairs || list_any (λ pair. there pair.row) pairs) ≡ true
+twice-or_there there [] h = h
+twice-or_there there (pair ∷ pairs) h = by (there pair.row) h (λ k. twice-or_there (λ row. same_bytes row pair.row || there row) pairs k)
+  where
+    others : list_any (λ other. same_bytes other.row pair.row || there other.row) pairs ≡ (list_any (λ other. same_bytes other.row pair.row) pairs || list_any (λ other. there other.row) pairs)
+    others = some-either (λ other. same_bytes other.row pair.row) (λ other. there other.row) pairs
+
+    mix : (t a b : Bool) → (t || (a || b)) ≡ true → ((a || t) || b) ≡ true
+    mix t a b k = grind arith
+
+    by : (b : Bool) → (b || again (λ row. same_bytes row pair.row || there row) pairs) ≡ true
+        → (again (λ row. same_bytes row pair.row || there row) pairs ≡ true → (has_row_twice pairs || list_any (λ other. same_bytes other.row pair.row || there other.row) pairs) ≡ true)
+        → ((list_any (λ other. same_bytes other.row pair.row) pairs || has_row_twice pairs) || (b || list_any (λ other. there other.row) pairs)) ≡ true
+    by b k rest = grind (arith, or_right, mix, others)
+
+-- each row that is there has a line
+repeats-from_again : (lines : List Fields) (there : List ℕ → Bool) → ((row : List ℕ) → there row ≡ true → list_any (has_value_of row) lines ≡ true) → (pairs : List Pair) → again there pairs ≡ true → repeats_row_of lines pairs ≡ true
+repeats-from_again lines there have pairs h = search (rules, either_more, some, twice-or_there)
+
+-- ---- DuplicateRange
+
+range-again : IsErrorOfSection Ranges kinds.DuplicateRange
+range-again = grind arith
+
+ranges-again : (pairs : List Pair) (all : Draft) → ((row : List ℕ) → is_row_by_limits all row ≡ false) → refuses kinds.DuplicateRange all (map (λ (pair : Pair). declare_range pair.row (value_of pair.literal)) pairs) ≡ true
+    → again (has_name all.ranges) pairs ≡ true
+ranges-again [] all limits h = h
+ranges-again (pair ∷ pairs) all limits h = by (has_name all.ranges pair.row) (is_row_by_limits all pair.row) (limits pair.row) h (λ k. ranges-again pairs next limits k)
+  where
+    next : Draft
+    next = with_declaration all (declare_range pair.row (value_of pair.literal))
+
+    by : (b l : Bool) → l ≡ false → (((b || l) || false) || refuses kinds.DuplicateRange next (map (λ (p : Pair). declare_range p.row (value_of p.literal)) pairs)) ≡ true
+        → (refuses kinds.DuplicateRange next (map (λ (p : Pair). declare_range p.row (value_of p.literal)) pairs) ≡ true → again (has_name next.ranges) pairs ≡ true)
+        → (b || again (λ row. same_bytes row pair.row || has_name all.ranges row) pairs) ≡ true
+    by b l e k rest = grind (arith, again-more, has-put, next)
+
+repeated-range : (before : List LineContent) (earlier : Draft) (item : LineContent) → AreValuesStated before earlier → IsFirst kinds.DuplicateRange before earlier item → repeats_range before item ≡ true
+repeated-range before earlier item stated first =
+    line-of Ranges kinds.DuplicateRange range-again (λ fields. repeats_row_of (data_lines Ranges before) (vector_pairs fields)) before earlier (λ fields h. of (vector_shape fields) h) item
+    (rejected kinds.DuplicateRange before earlier item refl refl refl (below-all kinds.DuplicateRange refl refl refl refl) first)
+  where
+    of : (o : Option ValuesLine) → refuses kinds.DuplicateRange earlier (declared_if_some ranges_declared o) ≡ true → repeats_row_of (data_lines Ranges before) (option_map_or (λ (line : ValuesLine). line.pairs) o []) ≡ true
+    of None h = h
+    of (Some line) h = repeats-from_again (data_lines Ranges before) (has_name earlier.ranges) stated.ranges line.pairs (ranges-again line.pairs earlier stated.plain.limits h)
+
+pub repeated-ranges : IsInWords kinds.DuplicateRange repeats_range
+repeated-ranges = in-words-by AreValuesStated values-stated kinds.DuplicateRange repeats_range refl refl refl repeated-range
+
+-- ---- DuplicateRhs
+
+side-again : IsErrorOfSection Rhs kinds.DuplicateRhs
+side-again = grind arith
+
+module _ (earlier : Draft) (takes : List ℕ → Bool) (limited : (row : List ℕ) → is_free_row earlier row ≡ false → takes row ≡ true) where
+  sides-again : (pairs : List Pair) (all : Draft) → ((row : List ℕ) → is_row_by_limits all row ≡ false) → all.constant ≡ None
+      → refuses kinds.DuplicateRhs all (flat_map (λ (pair : Pair). rhs_declared earlier pair.row (value_of pair.literal)) pairs) ≡ true → again (has_name all.rhs_values) (filter (λ pair. takes pair.row) pairs) ≡ true
+  sides-again [] all limits constant h = h
+  sides-again (pair ∷ pairs) all limits constant h =
+      by (is_free_row earlier pair.row) refl h (λ k. sides-again pairs all limits constant k)
+      (λ k. sides-again pairs (with_declaration all (declare_rhs pair.row (value_of pair.literal))) limits constant k)
+    where
+      more : Declarations
+      more = flat_map (λ (p : Pair). rhs_declared earlier p.row (value_of p.literal)) pairs
+
+      rest : List Pair
+      rest = filter (λ p. takes p.row) pairs
+
+      next : Draft
+      next = with_declaration all (declare_rhs pair.row (value_of pair.literal))
+
+      -- one that is not declared
+      skips : (b : Bool) → again (has_name all.rhs_values) rest ≡ true → again (has_name all.rhs_values) (cond b (pair ∷ rest) rest) ≡ true
+      skips b k = grind (arith, or_right, again-more, rest)
+
+      counts : (b l c : Bool) → l ≡ false → c ≡ false → (((b || (l || c)) || false) || refuses kinds.DuplicateRhs next more) ≡ true
+          → (refuses kinds.DuplicateRhs next more ≡ true → again (has_name next.rhs_values) rest ≡ true) → (b || again (λ row. same_bytes row pair.row || has_name all.rhs_values row) rest) ≡ true
+      counts b l c e f k step = grind (arith, again-more, has-put, next, rest)
+
+      constant_none : (b : Bool) (o : Option Number) → o ≡ None → (b && is_some o) ≡ false
+      constant_none b o e = grind arith
+
+      by : (b : Bool) → is_free_row earlier pair.row ≡ b → refuses kinds.DuplicateRhs all (cond b [] (declare_rhs pair.row (value_of pair.literal) ∷ []) ++ more) ≡ true
+          → (refuses kinds.DuplicateRhs all more ≡ true → again (has_name all.rhs_values) rest ≡ true) → (refuses kinds.DuplicateRhs next more ≡ true → again (has_name next.rhs_values) rest ≡ true)
+          → again (has_name all.rhs_values) (filter (λ p. takes p.row) (pair ∷ pairs)) ≡ true
+      by b e k same step = grind (arith, skips, rest, counts, constant_none)
+
+repeated-side : (before : List LineContent) (earlier : Draft) (item : LineContent) → AreValuesStated before earlier → IsFirst kinds.DuplicateRhs before earlier item → repeats_side before item ≡ true
+repeated-side before earlier item stated first =
+    line-of Rhs kinds.DuplicateRhs side-again (λ fields. repeats_row_of (data_lines Rhs before) (filter (λ pair. takes_side before pair.row) (vector_pairs fields))) before earlier (λ fields h. of (vector_shape fields) h) item
+    (rejected kinds.DuplicateRhs before earlier item refl refl refl (below-all kinds.DuplicateRhs refl refl refl refl) first)
+  where
+    -- a row of type N that has no limits is not the objective
+    limited : (row : List ℕ) → is_free_row earlier row ≡ false → takes_side before row ≡ true
+    limited row e = grind arith
+
+    of : (o : Option ValuesLine) → refuses kinds.DuplicateRhs earlier (declared_if_some (rhs_line_declared earlier) o) ≡ true
+        → repeats_row_of (data_lines Rhs before) (filter (λ pair. takes_side before pair.row) (option_map_or (λ (line : ValuesLine). line.pairs) o [])) ≡ true
+    of None h = h
+    of (Some line) h =
+        repeats-from_again (data_lines Rhs before) (has_name earlier.rhs_values) stated.sides (filter (λ pair. takes_side before pair.row) line.pairs)
+        (sides-again earlier (takes_side before) limited line.pairs earlier stated.plain.limits stated.plain.constant h)
+
+pub repeated-sides : IsInWords kinds.DuplicateRhs repeats_side
+repeated-sides = in-words-by AreValuesStated values-stated kinds.DuplicateRhs repeats_side refl refl refl repeated-side

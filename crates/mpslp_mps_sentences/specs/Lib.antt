@@ -1,0 +1,4 @@
+pub mod TextInWords
+pub mod FaultsInWords
+pub mod ValueFaultsInWords
+pub mod Laws
