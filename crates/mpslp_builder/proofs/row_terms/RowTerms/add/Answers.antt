@@ -17,7 +17,7 @@ invariant_of-self-then-is_above c =
     ap (λ (terms : List (List ℕ × Number)). option_map_or (λ last. is_gt (bytes_cmp column last.0)) (slice_get terms (length terms - 1)) true) (sym c.as_slice.ensures.value)
     ∙ sym c.is_above.ensures ∙ c.if-is_above.true in
     ap (is_sorted bytes_cmp) c.in_ok-push.ensures.items
-    ∙ ap (λ (name : List ℕ). is_sorted bytes_cmp (rising ++ (name, c.args.value) ∷ [])) c.in_ok-name.ensures
+    ∙ ap (λ (name : List ℕ). is_sorted bytes_cmp (rising ++ (name, c.args.value) ∷ [])) c.in_ok-name.ensures.copied
     ∙ above_sorted column c.args.value rising c.self.invariant above
 
 pub returns-then-is_above-clause-new : goal.returns-then-is_above-clause-new
@@ -44,4 +44,4 @@ returns-clause-new c =
     let column = c.args.column.now in
     let absent =
     ap (λ (terms : List (List ℕ × Number)). is_some (find bytes_cmp column terms)) (sym c.as_slice-2.ensures.value) ∙ sym c.has_term.ensures ∙ c.if-has_term.false in
-    any-more column c.in_ok-name.name c.self.inside.rising.items c.self.inside.others.entries c.args.self.now c.add_other.result c.self.view_is c.in_ok-name.ensures absent c.add_other.ensures.new
+    any-more column c.in_ok-name.name c.self.inside.rising.items c.self.inside.others.entries c.args.self.now c.add_other.result c.self.view_is c.in_ok-name.ensures.copied absent c.add_other.ensures.new
