@@ -11,11 +11,9 @@ builder's call that ran out of memory is repeated, and then all that follows mus
 if no allocation had failed; or it is left out, and then all that follows must be as if
 it had never been made.
 
-refused.tsv says of each call whether it may allocate, and why not if it may not; of
-calls on a file, for files with a model, for those with an error, and for those with an
-error before which nothing is kept, which are listed in refused-early.tsv. If a call may
-allocate, at least one of its allocations must have failed, otherwise none. The counts
-are printed.
+refused.tsv says of each call whether it allocates, and why not if it does not. A row is
+for all files, or for those that it names; the latter go first. If a call allocates, at
+least one of its allocations must have failed, otherwise none. The counts are printed.
 
 refuse.c says what counts as an allocation. This needs the programs that `rt ci` builds,
 and glibc; without a C compiler it reports that and tests nothing. Exits with 1 if a
@@ -44,7 +42,6 @@ PRINTED = CRATES / "try_library" / "stdout"
 PROGRAM = CRATES / "mpslp" / "out" / "mpslp"
 SOURCE = HERE / "refuse.c"
 GROWTHS = HERE / "refused.tsv"
-EARLY = HERE / "refused-early.tsv"
 
 OUT_OF_MEMORY = b"out of memory\n"
 # The end of the name of a builder's call that is repeated.
@@ -60,12 +57,12 @@ PROGRAM_WORDS = {"--help": 0, "canon mps": 3, "canon mps xml -": 3, "same mps - 
 
 Entry = namedtuple("Entry", "topic input answer mps lp show")
 
-# Of the calls on files with what `on` says: whether they may allocate, and why not.
-Growth = namedtuple("Growth", "call on may_allocate why_not")
-MAY_ALLOCATE = {"yes": True, "no": False}
-
-# What a call is made on: no file; a file with a model, with an error, or with an error before which nothing is kept; or it is the program.
-NO_FILE, MODEL, ERROR, EARLY_ERROR, PROGRAM_RUN = "no file", "model", "error", "early error", "program"
+# Whether a call allocates, on all files or on these, and why not.
+Growth = namedtuple("Growth", "call files allocates why_not")
+ALLOCATES = {"yes": True, "no": False}
+ALL_FILES = "all"
+# What is printed in place of a file.
+NO_FILE = "without files"
 
 # The results of a call, and what follows if it is never made, of a call that is left out.
 Results = namedtuple("Results", "answers without")
@@ -104,31 +101,34 @@ class Refusing:
 
 
 class Growths:
-    """Which calls may allocate, and how many allocations of each failed."""
+    """Which calls allocate, and how many allocations of each failed."""
 
     def __init__(self, path=GROWTHS):
-        self.rows = {(row.call, row.on): row for row in rows_of(path, Growth)}
+        self.rows = {(row.call, file): row for row in rows_of(path, Growth) for file in row.files.split()}
         self.loops, self.refused = Counter(), Counter()
 
-    def take(self, call, on, refused):
-        """Takes the number of failed allocations of a call. Returns what is wrong with it, if anything is."""
-        row = self.rows.get((call, on))
-        self.loops[call, on] += 1
-        self.refused[call, on] += refused
+    def take(self, call, file, refused):
+        """Takes the number of failed allocations of a call on a file. Returns what is wrong with it, if anything is."""
+        row = self.rows.get((call, file)) or self.rows.get((call, ALL_FILES))
         if row is None:
-            return f"{GROWTHS.name} has no row for it on: {on}"
-        if MAY_ALLOCATE[row.may_allocate] != bool(refused):
-            return f"{refused} of its allocations failed, and {GROWTHS.name} has: {row.may_allocate} (on: {on})"
+            return f"{GROWTHS.name} has no row for {call}"
+        self.loops[row] += 1
+        self.refused[row] += refused
+        if ALLOCATES[row.allocates] != bool(refused):
+            return f"{refused} growths refused, but {GROWTHS.name} has: {call}, {row.files}: {row.allocates}"
         return None
 
     def missed(self):
         """The rows for which no call was made."""
-        return [f"{GROWTHS.name}: {call} (on: {on}): no call was made" for call, on in self.rows if not self.loops[call, on]]
+        return [f"{GROWTHS.name}: {row.call}, {row.files}: no call was made" for row in self.each_row() if not self.loops[row]]
+
+    def each_row(self):
+        return dict.fromkeys(self.rows.values())
 
     def lines(self):
-        for (call, on), row in self.rows.items():
-            why = f": no allocation is possible: {row.why_not}" if row.why_not else ""
-            yield f"{self.refused[call, on]:6} growths refused in {self.loops[call, on]:3} loops  {call} ({on}){why}"
+        for row in self.each_row():
+            why = f": {row.why_not}" if row.why_not else ""
+            yield f"{self.refused[row]:6} growths refused in {self.loops[row]:3} loops: {row.call}{why}"
 
 
 class Tally:
@@ -140,12 +140,13 @@ class Tally:
         self.calls = self.growths = self.repeated = 0
         self.wrong = []
 
-    def take(self, place, call, on, answers, counts, is_refused, is_whole):
-        """Takes the results of a call with each allocation failing in turn, and finally with none."""
+    def take(self, call, file, answers, counts, is_refused, is_whole):
+        """Takes the results of a call on a file with each allocation failing in turn, and finally with none."""
+        place = f"{file}: {call}"
         self.calls += 1
         self.growths += len(counts) - 1
         self.repeated += sum(counted.refused > 1 for counted in counts)
-        wrong = self.possible.take(call, on, len(counts) - 1)
+        wrong = self.possible.take(call, file, len(counts) - 1)
         if wrong:
             self.wrong.append(f"{place}: {wrong}")
         for growth, (answer, counted) in enumerate(zip(answers, counts), 1):
@@ -176,12 +177,6 @@ def content(name):
 
 def entries():
     return rows_of(VECTORS / "index.tsv", Entry)
-
-
-def early_errors():
-    """The files of vectors/ with an error before which a reader keeps nothing that needs memory."""
-    with open(EARLY) as table:
-        return set(table.read().split()[1:])
 
 
 def calls_of(output):
@@ -236,35 +231,37 @@ def refusal_of(name, whole, without):
     return (ended(5, err=OUT_OF_MEMORY) if name.startswith("perform") else OUT_OF_MEMORY).__eq__
 
 
-def take_calls(tally, place, on, run, whole):
+def take_calls(tally, file, run, whole):
     """Takes the output of `try_library refused`. `whole` has the results if no allocation fails, or None for a model that is shown."""
     (status, output, errors), counts = run
     calls = calls_of(output)
     if (status, errors, calls.keys(), sum(len(it.answers) for it in calls.values())) != (0, b"", whole.keys(), len(counts)):
-        tally.wrong.append(f"{place}: status {status}, {len(counts)} counts, {errors}, {list(calls)}")
+        tally.wrong.append(f"{file}: status {status}, {len(counts)} counts, {errors}, {list(calls)}")
         return
     counts = iter(counts)
     for name, (answers, without) in calls.items():
         is_whole = is_shown if whole[name] is None else whole[name].__eq__
         refusal = refusal_of(name, whole[name], without)
-        tally.take(f"{place}: {name}", name, on, answers, [next(counts) for _ in answers], refusal, is_whole)
+        tally.take(name, file, answers, [next(counts) for _ in answers], refusal, is_whole)
 
 
 def take_printed(tally, run):
     """Takes the output of `try_library refused` without files, which the crate has in a file."""
     printed, calls = calls_of(PRINTED.read_bytes()), calls_of(run[0][1])
-    take_calls(tally, "without files", NO_FILE, run, {name: it.answers[-1] for name, it in printed.items()})
+    take_calls(tally, NO_FILE, run, {name: it.answers[-1] for name, it in printed.items()})
     for name, (answers, without) in printed.items():
         if name in calls and calls[name].without != without:
-            tally.wrong.append(f"without files: {name}: without it: {calls[name].without}")
+            tally.wrong.append(f"{name}: without it: {calls[name].without}")
         if without is not None and answers[-1].partition(b"\n")[2] == without:
-            tally.wrong.append(f"without files: {name}: what follows is the same without it")
+            tally.wrong.append(f"{name}: what follows is the same without it")
 
 
 # The calls whose result is the canonical text of the model, or the error of the file.
-TO_MPS = ("read", "feed", "feed by columns", "finish_by_columns", "model_of", "read_text", "text_of mps", "prepare mps",
-          "canonical mps", "run mps")
-TO_LP = ("text_of lp", "prepare lp", "with_row_lists", "canonical lp", "run lp")
+TO_MPS = ("read", "feed", "feed by columns", "model_of", "read_text", "canonical mps", "run mps")
+TO_LP = ("canonical lp", "run lp")
+# Those on a model.
+MODEL_TO_MPS = ("finish_by_columns", "text_of mps", "prepare mps")
+MODEL_TO_LP = ("text_of lp", "prepare lp", "with_row_lists")
 
 
 def answers_of_fault(text, fault):
@@ -286,8 +283,8 @@ def answers_of_model(entry, text, is_same):
     is_own = text == (mps if form_of(entry.input) == "mps" else lp)
     compared = ended(0, b"same\n") if is_same else ended(1, b"not the same\n")
     return {
-        **dict.fromkeys(TO_MPS, mps),
-        **dict.fromkeys(TO_LP, lp),
+        **dict.fromkeys((*TO_MPS, *MODEL_TO_MPS), mps),
+        **dict.fromkeys((*TO_LP, *MODEL_TO_LP), lp),
         **dict.fromkeys(("same_model", "same_model as second"), b"true\n" if is_same else b"false\n"),
         **dict.fromkeys(("perform same", "perform same as second"), compared),
         "is_canonical": b"true\n" if is_own else b"false\n",
@@ -307,22 +304,15 @@ def answers_of(entry, other):
     return answers_of_fault(text, entry.answer.encode() + b"\n")
 
 
-def kind_of(entry, early):
-    """What the calls on a file are made on."""
-    if entry.answer == "model":
-        return MODEL
-    return EARLY_ERROR if entry.input in early else ERROR
-
-
 def check_calls(workers, refusing, program, growths):
     """The calls that need no file, and those on each file."""
     tally = Tally("calls of the library", growths)
     take_printed(tally, refusing.run([program, "refused"]))
-    by_name, early = {entry.input: entry for entry in entries()}, early_errors()
+    by_name = {entry.input: entry for entry in entries()}
     pairs = [(entry, by_name[OTHER_OF_ITSELF if entry.input == OTHER else OTHER]) for entry in by_name.values()]
     commands = [[program, "refused", *(word for entry in pair for word in (form_of(entry.input), entry.input))] for pair in pairs]
     for (entry, other), run in zip(pairs, workers.map(refusing.run, commands)):
-        take_calls(tally, entry.input, kind_of(entry, early), run, answers_of(entry, other))
+        take_calls(tally, entry.input, run, answers_of(entry, other))
     return tally
 
 
@@ -349,7 +339,7 @@ def check_program(workers, refusing, program, growths):
         tests.update((words, partial(has_ended, whole[name])) for words, name in jobs_on(entry))
     runs = workers.map(lambda words: refusing.runs([program, *words.split()]), tests)
     for (words, is_whole), (answers, counts) in zip(tests.items(), runs):
-        tally.take(words, "mpslp", PROGRAM_RUN, answers, counts, (5, b"", OUT_OF_MEMORY).__eq__, is_whole)
+        tally.take("mpslp", words, answers, counts, (5, b"", OUT_OF_MEMORY).__eq__, is_whole)
     return tally
 
 

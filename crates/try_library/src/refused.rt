@@ -3,8 +3,8 @@
 //! A call is made with its first allocation failing, then with its second one, and so on, until its result is not out of
 //! memory. The library `tests/refuse.c`, loaded before this program, makes allocations fail; without it none fails, and each
 //! call is made once. Without further words the calls are those that need no file: names, words, jobs, and the calls of a builder.
-//! Otherwise the words are two formats with paths, such as `mps a.mps lp b.lp`, and the calls are those on the first text, and
-//! on both.
+//! Otherwise the words are two formats with paths, such as `mps a.mps lp b.lp`, and the calls are those on the first text, on its
+//! model if it has one, and on both texts.
 //!
 //! `call` and the name of each call are printed; then, each time that it is made, `answer`, the length of its result in bytes,
 //! and the result. For a call of a builder that is left out if there was no memory for it, `without` comes first, with what
@@ -20,7 +20,7 @@ mod single_calls;
 mod texts;
 mod words;
 
-use crate::inputs::{content, form_named, word_at};
+use crate::inputs::{content, form_named, model_in, word_at};
 use answers::Answer;
 use building::{EACH_CALL, EACH_KIND, built, calls_of_many_rows};
 use names::NAMES;
@@ -30,7 +30,7 @@ use std::alloc::{AllocError, Global};
 use std::io;
 use std::io::Write;
 use std::rt::Files;
-use texts::{TEXT_CALLS, Text, TextCall, answer_to};
+use texts::{MODEL_CALLS, TEXT_CALLS, Text, TextCall, answer_to};
 use words::{COMMAND_LINES, job_of, legal_name, name, word};
 
 /// More allocations than any call here makes.
@@ -146,6 +146,12 @@ fn print_with_files<R: Files + Print>(rt: &R, alloc: Global, words: &[String]) -
         bytes: &second,
     };
     for (name, call) in TEXT_CALLS {
+        print_each(rt, alloc, name, &Call::OnTexts(call, &first, &second))?;
+    }
+    if model_in(alloc, first.form, first.bytes).is_err() {
+        return Ok(());
+    }
+    for (name, call) in MODEL_CALLS {
         print_each(rt, alloc, name, &Call::OnTexts(call, &first, &second))?;
     }
     Ok(())

@@ -45,19 +45,13 @@ pub(crate) enum TextCall {
     PerformShow,
 }
 
-/// All calls with their names.
-pub(crate) const TEXT_CALLS: [(&str, TextCall); 25] = [
+/// The calls on any text, with their names.
+pub(crate) const TEXT_CALLS: [(&str, TextCall); 19] = [
     ("read", TextCall::Read),
     ("feed", TextCall::Feed(Ending::ByRows)),
     ("feed by columns", TextCall::Feed(Ending::ByColumns)),
-    ("finish_by_columns", TextCall::FinishByColumns),
     ("model_of", TextCall::ModelOf),
-    ("text_of mps", TextCall::TextOf(Form::Mps)),
-    ("text_of lp", TextCall::TextOf(Form::Lp)),
     ("read_text", TextCall::ReadText),
-    ("prepare mps", TextCall::Prepare(Form::Mps)),
-    ("prepare lp", TextCall::Prepare(Form::Lp)),
-    ("with_row_lists", TextCall::WithRowLists),
     ("canonical mps", TextCall::Canonical(Form::Mps)),
     ("canonical lp", TextCall::Canonical(Form::Lp)),
     ("same_model", TextCall::Same),
@@ -72,6 +66,16 @@ pub(crate) const TEXT_CALLS: [(&str, TextCall); 25] = [
     ("perform same", TextCall::PerformSame),
     ("perform same as second", TextCall::PerformSameAsSecond),
     ("perform show", TextCall::PerformShow),
+];
+
+/// The calls on the model of a text, or on a reader that has accepted it.
+pub(crate) const MODEL_CALLS: [(&str, TextCall); 6] = [
+    ("finish_by_columns", TextCall::FinishByColumns),
+    ("text_of mps", TextCall::TextOf(Form::Mps)),
+    ("text_of lp", TextCall::TextOf(Form::Lp)),
+    ("prepare mps", TextCall::Prepare(Form::Mps)),
+    ("prepare lp", TextCall::Prepare(Form::Lp)),
+    ("with_row_lists", TextCall::WithRowLists),
 ];
 
 /// A text and its format.
