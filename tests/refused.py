@@ -105,28 +105,32 @@ class Growths:
 
     def __init__(self, path=GROWTHS):
         self.rows = {(row.call, file): row for row in rows_of(path, Growth) for file in row.files.split()}
+        self.unused = set(self.rows)
         self.loops, self.refused = Counter(), Counter()
 
     def take(self, call, file, refused):
         """Takes the number of failed allocations of a call on a file. Returns what is wrong with it, if anything is."""
-        row = self.rows.get((call, file)) or self.rows.get((call, ALL_FILES))
-        if row is None:
+        key = (call, file) if (call, file) in self.rows else (call, ALL_FILES)
+        if key not in self.rows:
             return f"{GROWTHS.name} has no row for {call}"
+        row = self.rows[key]
+        self.unused.discard(key)
         self.loops[row] += 1
         self.refused[row] += refused
         if ALLOCATES[row.allocates] != bool(refused):
-            return f"{refused} growths refused, but {GROWTHS.name} has: {call}, {row.files}: {row.allocates}"
+            return f"{refused} growths refused, but {GROWTHS.name} has: {row.allocates}"
         return None
 
-    def missed(self):
-        """The rows for which no call was made."""
-        return [f"{GROWTHS.name}: {row.call}, {row.files}: no call was made" for row in self.each_row() if not self.loops[row]]
-
-    def each_row(self):
-        return dict.fromkeys(self.rows.values())
+    def wrong(self):
+        """What the table has although no call was made, and rows without a reason or with one too many."""
+        for call, file in sorted(self.unused):
+            yield f"{GROWTHS.name}: {call}, {file}: no call was made"
+        for row in self.loops:
+            if ALLOCATES[row.allocates] == bool(row.why_not):
+                yield f"{GROWTHS.name}: {row.call}, {row.files}: a call that does not allocate needs a reason, and no other has one"
 
     def lines(self):
-        for row in self.each_row():
+        for row in dict.fromkeys(self.rows.values()):
             why = f": {row.why_not}" if row.why_not else ""
             yield f"{self.refused[row]:6} growths refused in {self.loops[row]:3} loops: {row.call}{why}"
 
@@ -362,7 +366,7 @@ def main():
                    check_program(workers, refusing, options.program.resolve(), growths)]
     for line in (*growths.lines(), *(tally.line() for tally in tallies)):
         print(line)
-    wrong = [line for tally in tallies for line in tally.wrong] + growths.missed()
+    wrong = [line for tally in tallies for line in tally.wrong] + list(growths.wrong())
     for line in wrong:
         print(line, file=sys.stderr)
     return 1 if wrong else 0
