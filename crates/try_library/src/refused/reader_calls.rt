@@ -65,18 +65,18 @@ fn entries() -> Entries<'static> {
 }
 
 fn next_line(builder: &mut ReaderBuilder, alloc: Global, growth: u32) -> Result<bool, BuildFault> {
-    let entries = entries();
+    let Entries { first, second } = entries();
     refuse(alloc, growth);
-    let answer = builder.next_line(b"x".as_slice(), true, &entries);
+    let answer = builder.next_line(b"x".as_slice(), true, &Entries { first, second });
     refuse_none(alloc);
     answer
 }
 
 fn first_line(builder: &mut ReaderBuilder, alloc: Global, growth: u32) -> Result<bool, BuildFault> {
     let name = named(alloc, "LONG")?;
-    let entries = entries();
+    let Entries { first, second } = entries();
     refuse(alloc, growth);
-    let answer = builder.first_line(name, true, &entries);
+    let answer = builder.first_line(name, true, &Entries { first, second });
     refuse_none(alloc);
     answer
 }
