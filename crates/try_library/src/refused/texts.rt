@@ -1,7 +1,11 @@
 //! Calls on the texts of two files.
 
 use crate::refused::answers::{Answer, put, roomy};
+use crate::refused::models::{
+    finished_by_columns, model_read, prepared, text_read, text_written, with_lists,
+};
 use crate::refused::refusing::{refuse, refuse_none};
+use crate::refused::single_calls::Ending;
 use mpslp_convert::{
     Form, Job, JobFault, Word, canonical, is_canonical, load, perform, run, same_model, show,
 };
@@ -12,16 +16,22 @@ use mpslp_write::{Lp, Mps};
 use std::alloc::{AllocError, Global};
 
 /// A limit above the length of every text here.
-const MUCH: u64 = 4_000_000;
+pub(crate) const MUCH: u64 = 4_000_000;
 
 /// How many bytes a reader is fed at once, and the maximum that a source returns.
-const PIECE: usize = 7;
+pub(crate) const PIECE: usize = 7;
 
 /// A call on one or both texts.
 #[derive(Clone, Copy)]
 pub(crate) enum TextCall {
     Read,
-    Feed,
+    Feed(Ending),
+    FinishByColumns,
+    ModelOf,
+    TextOf(Form),
+    ReadText,
+    Prepare(Form),
+    WithRowLists,
     Canonical(Form),
     Same,
     SameAsSecond,
@@ -35,10 +45,13 @@ pub(crate) enum TextCall {
     PerformShow,
 }
 
-/// All calls with their names.
-pub(crate) const TEXT_CALLS: [(&str, TextCall); 16] = [
+/// The calls on any text, with their names.
+pub(crate) const TEXT_CALLS: [(&str, TextCall); 19] = [
     ("read", TextCall::Read),
-    ("feed", TextCall::Feed),
+    ("feed", TextCall::Feed(Ending::ByRows)),
+    ("feed by columns", TextCall::Feed(Ending::ByColumns)),
+    ("model_of", TextCall::ModelOf),
+    ("read_text", TextCall::ReadText),
     ("canonical mps", TextCall::Canonical(Form::Mps)),
     ("canonical lp", TextCall::Canonical(Form::Lp)),
     ("same_model", TextCall::Same),
@@ -55,6 +68,16 @@ pub(crate) const TEXT_CALLS: [(&str, TextCall); 16] = [
     ("perform show", TextCall::PerformShow),
 ];
 
+/// The calls on the model of a text, or on a reader that has accepted it.
+pub(crate) const MODEL_CALLS: [(&str, TextCall); 6] = [
+    ("finish_by_columns", TextCall::FinishByColumns),
+    ("text_of mps", TextCall::TextOf(Form::Mps)),
+    ("text_of lp", TextCall::TextOf(Form::Lp)),
+    ("prepare mps", TextCall::Prepare(Form::Mps)),
+    ("prepare lp", TextCall::Prepare(Form::Lp)),
+    ("with_row_lists", TextCall::WithRowLists),
+];
+
 /// A text and its format.
 #[derive(Clone, Copy)]
 pub(crate) struct Text<'a> {
@@ -63,7 +86,7 @@ pub(crate) struct Text<'a> {
 }
 
 impl Text<'_> {
-    fn source(&self) -> FailingReader<'_> {
+    pub(crate) fn source(&self) -> FailingReader<'_> {
         FailingReader::new(self.bytes, PIECE, 0)
     }
 }
@@ -75,10 +98,19 @@ fn read<A: Format>(alloc: Global, text: &[u8], growth: u32) -> Result<Answer, Al
     Answer::of_model(alloc, answer)
 }
 
+/// The model of a reader, with lists by rows or without.
+fn finished<P: ModelReader>(reader: P, ending: Ending) -> Result<Model, ReadFault> {
+    match ending {
+        Ending::ByRows => reader.finish(),
+        Ending::ByColumns => reader.finish_by_columns(),
+    }
+}
+
 /// The result of a reader that is fed the text in pieces, and whether all calls after an error return `Failed`.
 fn fed<P: ModelReader>(
     alloc: Global,
     text: &[u8],
+    ending: Ending,
     growth: u32,
 ) -> (Result<Model, ReadFault>, bool) {
     let mut reader = P::new(alloc, FIXED_SEED);
@@ -87,17 +119,22 @@ fn fed<P: ModelReader>(
         if let Err(fault) = reader.feed(piece) {
             refuse_none(alloc);
             let is_spent = matches!(reader.feed(piece), Err(ReadFault::Failed));
-            let ends = matches!(reader.finish(), Err(ReadFault::Failed));
+            let ends = matches!(finished(reader, ending), Err(ReadFault::Failed));
             return (Err(fault), is_spent && ends);
         }
     }
-    let answer = reader.finish();
+    let answer = finished(reader, ending);
     refuse_none(alloc);
     (answer, true)
 }
 
-fn feed<A: Format>(alloc: Global, text: &[u8], growth: u32) -> Result<Answer, AllocError> {
-    let (answer, is_spent) = fed::<A::Reader>(alloc, text, growth);
+fn feed<A: Format>(
+    alloc: Global,
+    text: &[u8],
+    ending: Ending,
+    growth: u32,
+) -> Result<Answer, AllocError> {
+    let (answer, is_spent) = fed::<A::Reader>(alloc, text, ending, growth);
     let mut found = Answer::of_model(alloc, answer)?;
     if !is_spent {
         found.text.extend_from_slice(b"goes on after an error\n")?;
@@ -234,7 +271,15 @@ fn answer_in<A: Format, B: Format>(
     let bytes = first.bytes;
     match call {
         TextCall::Read => read::<A>(alloc, bytes, growth),
-        TextCall::Feed => feed::<A>(alloc, bytes, growth),
+        TextCall::Feed(ending) => feed::<A>(alloc, bytes, ending, growth),
+        TextCall::FinishByColumns => finished_by_columns::<A>(alloc, bytes, growth),
+        TextCall::ModelOf => model_read::<A>(alloc, bytes, growth),
+        TextCall::TextOf(Form::Mps) => text_written::<A, Mps>(alloc, bytes, growth),
+        TextCall::TextOf(Form::Lp) => text_written::<A, Lp>(alloc, bytes, growth),
+        TextCall::ReadText => text_read::<A>(alloc, first, growth),
+        TextCall::Prepare(Form::Mps) => prepared::<A, Mps>(alloc, bytes, growth),
+        TextCall::Prepare(Form::Lp) => prepared::<A, Lp>(alloc, bytes, growth),
+        TextCall::WithRowLists => with_lists::<A>(alloc, bytes, growth),
         TextCall::Canonical(Form::Mps) => Ok(canonical_text::<A, Mps>(alloc, bytes, growth)),
         TextCall::Canonical(Form::Lp) => Ok(canonical_text::<A, Lp>(alloc, bytes, growth)),
         TextCall::Same => same::<A, B>(alloc, bytes, second.bytes, growth),

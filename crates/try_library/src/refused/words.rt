@@ -1,10 +1,12 @@
 //! Calls that make a name, a word, or a job of arguments.
 
 use crate::refused::answers::{Answer, put, roomy};
+use crate::refused::names::spelled;
 use crate::refused::refusing::{refuse, refuse_none};
 use mpslp_command::job;
 use mpslp_convert::{Form, Job, JobFault, RunFault, Word};
 use mpslp_model::{Name, NameFault};
+use mpslp_types::laws::each_name_is_legal;
 use mpslp_vectors::FailingWriter;
 use std::alloc::{AllocError, Global};
 
@@ -24,15 +26,30 @@ fn out_of_memory(alloc: Global) -> Answer {
     Answer::of_fault(&RunFault::OutOfMemory, Vec::new(alloc))
 }
 
-/// The name that `Name::new` makes.
-pub(crate) fn name(alloc: Global, growth: u32) -> Result<Answer, AllocError> {
+/// The name that `Name::new` makes of a word.
+pub(crate) fn name(alloc: Global, word: &str, growth: u32) -> Result<Answer, AllocError> {
     refuse(alloc, growth);
-    let answer = Name::new(alloc, b"a.name");
+    let answer = Name::new(alloc, spelled(word).as_bytes());
     refuse_none(alloc);
     match answer {
         Ok(name) => Ok(Answer::of_text(name.as_bytes().to_vec(alloc)?)),
         Err(NameFault::OutOfMemory) => Ok(out_of_memory(alloc)),
         Err(_) => Ok(Answer::of_text(b"no name".to_vec(alloc)?)),
+    }
+}
+
+/// The name that `Name::from_legal` makes of the bytes of another one.
+pub(crate) fn legal_name(alloc: Global, word: &str, growth: u32) -> Result<Answer, AllocError> {
+    let Ok(name) = Name::new(alloc, spelled(word).as_bytes()) else {
+        return Ok(Answer::of_text(b"no name".to_vec(alloc)?));
+    };
+    each_name_is_legal(&name);
+    refuse(alloc, growth);
+    let answer = Name::from_legal(alloc, name.as_bytes());
+    refuse_none(alloc);
+    match answer {
+        Ok(name) => Ok(Answer::of_text(name.as_bytes().to_vec(alloc)?)),
+        Err(_) => Ok(out_of_memory(alloc)),
     }
 }
 
