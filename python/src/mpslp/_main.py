@@ -23,6 +23,8 @@ from mpslp._differences import diff
 from mpslp._explanations import explain, kinds
 from mpslp._faults import ModelFileError
 from mpslp._files import model_files, replace_file
+from mpslp._format import NotTheSameModel, formatted_text
+from mpslp._format._command import patch
 from mpslp._models import model_of
 from mpslp._numbers import MOST_DIGITS
 from mpslp._output import OutputError, write_all, write_line, write_lines
@@ -312,6 +314,30 @@ def _write_for_solver(text: Text, options: argparse.Namespace) -> Outcome:
     return _replacing(text, options, work) if _is_one_file(path, text.filename) else warned(text, options).before(work)
 
 
+def fmt(options: argparse.Namespace) -> Status:
+    if options.in_place and STANDARD_INPUT in options.files:
+        raise UsageError("-i rewrites files: it does not go with standard input")
+    if not (options.in_place or options.check or options.diff) and (len(options.files) > 1 or os.path.isdir(options.files[0])):
+        raise UsageError("fmt writes the text of one file: for several, give -i, --check or --diff")
+    return for_each(options.files, options, lambda text: _formatted(text, options))
+
+
+def _formatted(text: Text, options: argparse.Namespace) -> Outcome:
+    """Formats a file. One that is formatted already is not written, and nothing is if the model would be another one."""
+    path = str(text.filename)
+    try:
+        content = formatted_text(text)
+    except NotTheSameModel as error:
+        return Outcome(Status.REJECTED, error=f"{path}: {error}")
+    if not (options.in_place or options.check or options.diff):
+        return Outcome(text=content)
+    if content == text.content:
+        return Outcome()
+    if options.in_place:
+        return _replaced(path, content)
+    return Outcome(Status.DIFFERS, text=patch(path, text.content, content)) if options.diff else Outcome(Status.DIFFERS, path)
+
+
 def check(options: argparse.Namespace) -> Status:
     if options.portable:
         return for_each(options.files, options, lambda text: _portable(text, options))
@@ -489,6 +515,7 @@ def parser(prog: str | None) -> Parser:
     made.add_argument("--version", action="version", version=f"mpslp {_mpslp.VERSION}")
     commands = made.add_subparsers(title="commands", metavar="COMMAND", required=True)
     _add_canon(commands)
+    _add_fmt(commands)
     _add_check(commands)
     _add_same(commands)
     _add_diff(commands)
@@ -511,7 +538,7 @@ class _Plain(argparse.RawDescriptionHelpFormatter):
 
 _EPILOG = """\
 The format of a file is that of its extension: .mps or .lp, also before .gz, .bz2, .xz or .zst.
-A FILE of - is standard input. For a directory, check, digest, survey and canon -i take the model files in it.
+A FILE of - is standard input. For a directory, check, digest, survey, canon -i and fmt -i take the model files in it.
 
 exit status: 0 done, or the models are the same; 1 not the same, not canonical or not portable; 2 a file is rejected;
 3 usage error; 4 a file cannot be opened, read or written; 5 out of memory. Of several files, the greatest."""
@@ -576,6 +603,19 @@ def _add_canon(commands: Any) -> None:
     command.add_argument("--for", dest="solver", choices=tuple(SOLVERS), help="write the text that this solver reads as the model; what it does not hold is a warning, or the status 2")
     _add_warnings(command)
     _add_files(command, "a model file; with -i, several files and directories")
+
+
+def _add_fmt(commands: Any) -> None:
+    command = _add(
+        commands, "fmt", fmt, "format a file, and keep its comments and its order",
+        "Write a model file with other spacing, letter case of keywords, number text and line breaks. Comments, the NAME line, and\n"
+        "the order of rows, columns and sections stay. Nothing is written if the result is not the same model.",
+    )
+    how = command.add_mutually_exclusive_group()
+    how.add_argument("-i", "--in-place", action="store_true", help="rewrite each file that is not formatted, and print its path")
+    how.add_argument("--check", action="store_true", help="print the path of each file that is not formatted; the exit status is 1 if there is one")
+    how.add_argument("--diff", action="store_true", help="print what -i would change, as diff -u does; the exit status is 1 if there is something")
+    _add_files(command, "a model file; with -i, --check or --diff, several files and directories")
 
 
 def _add_check(commands: Any) -> None:
