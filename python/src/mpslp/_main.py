@@ -198,7 +198,7 @@ def for_each(paths: Iterable[str], options: argparse.Namespace, work: Callable[[
     files = list(model_files(paths, report_directory))
     progress = Progress()
     for done, outcome in enumerate(_outcomes(files, options, work), 1):
-        if outcome.output or outcome.error:
+        if outcome.output or outcome.error or outcome.text:
             progress.clear()
             _print(outcome)
         progress.show(done, len(files))

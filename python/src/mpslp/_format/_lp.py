@@ -71,7 +71,8 @@ def _tokens(text: str) -> tuple[list[Token], str]:
         before = []
         if token.lower == "end":
             line, _, following = text[done:].partition("\n")
-            token.trailing = line.strip(" \t\r") if "\\" not in line else line[line.index("\\") :].rstrip("\r")
+            _, mark, comment = line.partition("\\")
+            token.trailing = (mark + comment).rstrip("\r")
             return tokens, following
     raise AssertionError("the text is accepted")
 
