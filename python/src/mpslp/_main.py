@@ -23,13 +23,15 @@ from mpslp._differences import diff
 from mpslp._explanations import explain, kinds
 from mpslp._faults import ModelFileError
 from mpslp._files import model_files, replace_file
-from mpslp._format import NotTheSameModel, formatted_text
+from mpslp._format import formatted_text
 from mpslp._format._command import patch
 from mpslp._models import model_of
 from mpslp._numbers import MOST_DIGITS
 from mpslp._output import OutputError, write_all, write_line, write_lines
-from mpslp._places import about
+from mpslp._places import about, naming_what_is_not_legal
 from mpslp._portable import AGREED, KINDS, PROGRAMS, grouped, portability
+from mpslp._rename import RenameError, names_back, renamed, table, table_of, words_back
+from mpslp._same_model import NotTheSameModel
 from mpslp._shown import shown
 from mpslp._solver_texts import SOLVERS, SolverError, solver_text
 from mpslp._sources import Format, Text, format_number, format_of_name, naming, read, read_standard_input
@@ -234,6 +236,8 @@ def _print(outcome: Outcome) -> None:
 
 
 def canon(options: argparse.Namespace) -> Status:
+    if options.rename or options.names_back or options.map is not None:
+        return _canon_with_names(options)
     if options.in_place:
         if options.to or options.solver or STANDARD_INPUT in options.files:
             raise UsageError("-i rewrites files in their own formats: it goes neither with -t, nor with --for, nor with standard input")
@@ -312,6 +316,73 @@ def _write_for_solver(text: Text, options: argparse.Namespace) -> Outcome:
         return Outcome(text=made if path == STANDARD_INPUT else b"", error=lines if options.warnings else "")
 
     return _replacing(text, options, work) if _is_one_file(path, text.filename) else warned(text, options).before(work)
+
+
+def _canon_with_names(options: argparse.Namespace) -> Status:
+    """Writes a file under other names: those that are legal in LP, or the ones before."""
+    if not options.rename and not options.names_back:
+        raise UsageError("--map goes with --rename or --names-back")
+    if options.in_place or options.solver or len(options.files) > 1 or os.path.isdir(options.files[0]):
+        raise UsageError("--rename and --names-back write the text of one file, and go neither with -i nor with --for")
+    path = options.files[0]
+    if options.names_back and options.format is None and format_of_name(path) is None:
+        outcome = _solution_with_names(path, options)
+    else:
+        outcome = attempt(path, options, lambda text: _model_with_names(text, options))
+    _print(outcome)
+    return outcome.status
+
+
+def _model_with_names(text: Text, options: argparse.Namespace) -> Outcome:
+    to: Format = options.to or format_of_name(options.output or STANDARD_INPUT) or ("mps" if options.names_back else _format_of(text))
+    if options.rename and to != "lp":
+        raise UsageError("--rename writes LP: give -t lp, or -o with a path that ends in .lp")
+    try:
+        if options.names_back:
+            restored = names_back(text, _given_table(options))
+            with naming_what_is_not_legal(lambda: _mpslp.load(restored, _mpslp.MPS)):
+                content = _mpslp.canonical(restored, _mpslp.MPS, format_number(to))
+            return warned(text, options).before(lambda: _given_out(content, options))
+        content, names = renamed(text)
+    except (RenameError, NotTheSameModel) as error:
+        return Outcome(Status.REJECTED, error=f"{text.filename}: {error}")
+
+    def work() -> Outcome:
+        if options.map is not None:
+            replace_file(options.map, table(names))
+        return _given_out(content, options)
+
+    return warned(text, options).before(work)
+
+
+def _solution_with_names(path: str, options: argparse.Namespace) -> Outcome:
+    """Writes a file that is no model, such as a solution, with the names before."""
+    try:
+        content = read_standard_input() if path == STANDARD_INPUT else read(path, "mps").content
+        return _given_out(words_back(content, _given_table(options)), options)
+    except (OSError, ImportError, MemoryError) as error:
+        return failure(path, error)
+
+
+def _given_table(options: argparse.Namespace) -> dict[str, str] | None:
+    """The names of the table that is given, or None."""
+    if options.map is None:
+        return None
+    with open(options.map, "rb") as file:
+        content = file.read()
+    try:
+        return table_of(content)
+    except ValueError as error:
+        raise UsageError(f"{options.map}: {error}") from None
+
+
+def _given_out(content: bytes, options: argparse.Namespace) -> Outcome:
+    """Writes a text to the file that is asked for, or prints it."""
+    path = options.output or STANDARD_INPUT
+    if path == STANDARD_INPUT:
+        return Outcome(text=content)
+    replace_file(path, pack(path, content))
+    return Outcome()
 
 
 def fmt(options: argparse.Namespace) -> Status:
@@ -600,6 +671,10 @@ def _add_canon(commands: Any) -> None:
     place.add_argument("-i", "--in-place", action="store_true", help="rewrite each file that is not canonical, and print its path")
     command.add_argument("--force", action="store_true", help="with -i, also a file whose comments have the sense of the objective")
     command.add_argument("-t", "--to", choices=("mps", "lp", "glp"), help="the format to write (default: that of PATH, else of FILE); glp goes with --for glpsol")
+    names = command.add_mutually_exclusive_group()
+    names.add_argument("--rename", action="store_true", help="with -t lp, write names that are not legal in LP under legal ones: x[1] as x_x5B1_x5D")
+    names.add_argument("--names-back", action="store_true", help="write a model or a solution, any text, with the names from before --rename")
+    command.add_argument("--map", metavar="TABLE", help="with --rename, write the old and the new names to TABLE; with --names-back, take them from it")
     command.add_argument("--for", dest="solver", choices=tuple(SOLVERS), help="write the text that this solver reads as the model; what it does not hold is a warning, or the status 2")
     _add_warnings(command)
     _add_files(command, "a model file; with -i, several files and directories")

@@ -9,7 +9,8 @@ from __future__ import annotations
 import os
 import re
 from bisect import bisect_left
-from contextlib import suppress
+from collections.abc import Callable, Iterator
+from contextlib import contextmanager, suppress
 from itertools import islice
 
 from mpslp import _mpslp
@@ -59,11 +60,27 @@ def about(text: Text, error: ModelFileError) -> str:
 
 def _illegal_name(text: Text, error: ModelFileError) -> str:
     """The name that is not legal in LP."""
-    arrays = _mpslp.load(text.content, text.format)
+    name = error.name if error.name is not None else name_not_legal(_mpslp.load(text.content, text.format), error)
+    return f"{error.place} {name}"
+
+
+def name_not_legal(arrays: _mpslp.Arrays, error: ModelFileError) -> str:
+    """The name that is not legal in LP, of the model that has the error."""
     if error.number is None:
-        return f"objective {arrays.objective()[1]}"
-    name_of = arrays.row_name if error.place == "row" else arrays.column_name
-    return f"{error.place} {name_of(error.number)}"
+        return arrays.objective()[1]
+    return arrays.row_name(error.number) if error.place == "row" else arrays.column_name(error.number)
+
+
+@contextmanager
+def naming_what_is_not_legal(arrays: Callable[[], _mpslp.Arrays]) -> Iterator[None]:
+    """Within it, an error about a name that is not legal in LP gets that name. The library reports its place only."""
+    try:
+        yield
+    except ModelFileError as error:
+        if error.place is not None:
+            with suppress(MemoryError):  # the error is reported without the name then
+                error.name = name_not_legal(arrays(), error)
+        raise
 
 
 def _start_of_line(content: bytes, line: int) -> int:

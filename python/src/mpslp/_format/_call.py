@@ -3,17 +3,10 @@
 from __future__ import annotations
 
 from mpslp import _mpslp
-from mpslp._faults import ModelFileError
 from mpslp._format._lp import formatted_lp
 from mpslp._format._mps import formatted_mps
+from mpslp._same_model import NotTheSameModel, require_same
 from mpslp._sources import Format, Source, Text, naming, read
-
-
-class NotTheSameModel(RuntimeError):
-    """What was written does not define the model of the text: an error of this package, and nothing is written."""
-
-    def __init__(self) -> None:
-        super().__init__("internal error: the result is not the same model")
 
 
 def formatted(source: Source, format: Format | None = None) -> str:
@@ -46,11 +39,9 @@ def formatted_text(text: Text) -> bytes:
     _mpslp.is_canonical(text.content, text.format)  # raises the error of a text that is rejected
     try:
         content = _formatted(text)
-        is_same = _mpslp.same(text.content, text.format, content, text.format)
-    except (ModelFileError, ValueError, LookupError, AssertionError, AttributeError) as error:
+    except (ValueError, LookupError, AssertionError, AttributeError) as error:
         raise NotTheSameModel from error
-    if not is_same:
-        raise NotTheSameModel
+    require_same(text.content, text.format, content, text.format)
     return content
 
 

@@ -12,8 +12,8 @@ from mpslp._lp_words import TOKEN
 
 WIDTH = 100
 """Rows are broken between terms before they are longer than this."""
-_LONGEST_LINE = 1 << 20
-"""A longer line is rejected."""
+_LONGEST_COMMENT = (1 << 20) - 1000
+"""A longer comment gets a line of its own: after a token it could make a line that is too long, and is rejected."""
 
 _CONTINUED = " " * 4
 _LOWER_CASE = frozenset(("st", "s.t.", "st.", "inf", "infinity", "free"))
@@ -61,7 +61,7 @@ def _tokens(text: str) -> tuple[list[Token], str]:
         done = found.end()
         if found.lastgroup is None:
             comment = found[0].rstrip("\r")
-            if line_ends or before or not tokens:
+            if line_ends or before or not tokens or len(comment) > _LONGEST_COMMENT:
                 before.append(Comment(comment, line_ends > 1))
             else:
                 tokens[-1].trailing = comment
@@ -72,7 +72,10 @@ def _tokens(text: str) -> tuple[list[Token], str]:
         if token.lower == "end":
             line, _, following = text[done:].partition("\n")
             _, mark, comment = line.partition("\\")
-            token.trailing = (mark + comment).rstrip("\r")
+            comment = (mark + comment).rstrip("\r")
+            if len(comment) > _LONGEST_COMMENT:
+                return tokens, f"{comment}\n{following}"
+            token.trailing = comment
             return tokens, following
     raise AssertionError("the text is accepted")
 
@@ -233,7 +236,9 @@ class _Lines:
                 else:
                     self._line = (_CONTINUED if is_begun else indent) + piece.text
                 is_begun = True
-                self._add_trailing(piece.token.trailing)
+                if piece.token.trailing:
+                    self._line += f" {piece.token.trailing}"
+                    self._end()
         self._end()
 
     def _add_comments(self, token: Token, indent: str, is_begun: bool) -> None:
@@ -242,22 +247,10 @@ class _Lines:
             self._end()
             if comment.is_after_empty_line and not is_begun:
                 self._skip()
-            self._add_comment(comment.text, _CONTINUED if is_begun else indent)
+            place = _CONTINUED if is_begun else indent
+            self.all.append(comment.text if len(comment.text) > _LONGEST_COMMENT else place + comment.text)
         if token.is_after_empty_line and not is_begun:
             self._skip()
-
-    def _add_trailing(self, comment: str) -> None:
-        if not comment:
-            return
-        if len(self._line) + 1 + len(comment) <= _LONGEST_LINE:
-            self._line += f" {comment}"
-            self._end()
-        else:
-            self._end()
-            self.all.append(comment)
-
-    def _add_comment(self, comment: str, indent: str) -> None:
-        self.all.append(indent + comment if len(indent) + len(comment) <= _LONGEST_LINE else comment)
 
     def _end(self) -> None:
         if self._line:
