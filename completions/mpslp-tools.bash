@@ -1,7 +1,7 @@
 # Completion of mpslp-tools for bash.
 _mpslp_tools() {
     local word=${COMP_WORDS[COMP_CWORD]} previous=${COMP_WORDS[COMP_CWORD - 1]} command=${COMP_WORDS[1]}
-    local commands='canon check same diff show digest explain adapt survey report' options='--help --format'
+    local commands='canon fmt check same diff show digest explain adapt survey report' options='--help --format'
     COMPREPLY=()
     if ((COMP_CWORD == 1)); then
         mapfile -t COMPREPLY < <(compgen -W "$commands --help --version" -- "$word")
@@ -33,7 +33,8 @@ _mpslp_tools() {
             ;;
     esac
     case $command in
-        canon) options+=' --output --in-place --force --to --for --jobs --no-warnings' ;;
+        canon) options+=' --output --in-place --force --to --rename --names-back --map --for --jobs --no-warnings' ;;
+        fmt) options+=' --in-place --check --diff --jobs' ;;
         check) options+=' --jobs --portable --target --all --ignore --no-warnings' ;;
         same) options+=' --no-warnings' ;;
         digest) options+=' --jobs' ;;

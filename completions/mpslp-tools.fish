@@ -11,6 +11,7 @@ end
 
 complete -c mpslp-tools -f
 complete -c mpslp-tools -n __mpslp_tools_first -a canon -d 'Write the canonical text of a file'
+complete -c mpslp-tools -n __mpslp_tools_first -a fmt -d 'Format a file, and keep its comments and its order'
 complete -c mpslp-tools -n __mpslp_tools_first -a check -d 'Print which files are not canonical'
 complete -c mpslp-tools -n __mpslp_tools_first -a same -d 'Say whether two files define the same model'
 complete -c mpslp-tools -n __mpslp_tools_first -a diff -d 'Print in what two models differ'
@@ -22,12 +23,18 @@ complete -c mpslp-tools -n __mpslp_tools_first -a survey -d 'Make a table of a c
 complete -c mpslp-tools -n __mpslp_tools_first -a report -d 'Make a page about a model'
 complete -c mpslp-tools -n __mpslp_tools_first -l version -d 'Print the version'
 complete -c mpslp-tools -s h -l help -d 'Print help'
-complete -c mpslp-tools -n '__mpslp_tools_at canon check same diff show digest adapt survey report' -F
-complete -c mpslp-tools -n '__mpslp_tools_at canon check same diff show digest adapt' -s f -l format -xa 'mps lp' -d 'The format of a file whose extension does not say it'
-complete -c mpslp-tools -n '__mpslp_tools_at canon check digest survey' -s j -l jobs -x -d 'Work on so many files at a time'
+complete -c mpslp-tools -n '__mpslp_tools_at canon fmt check same diff show digest adapt survey report' -F
+complete -c mpslp-tools -n '__mpslp_tools_at canon fmt check same diff show digest adapt' -s f -l format -xa 'mps lp' -d 'The format of a file whose extension does not say it'
+complete -c mpslp-tools -n '__mpslp_tools_at canon fmt check digest survey' -s j -l jobs -x -d 'Work on so many files at a time'
 complete -c mpslp-tools -n '__mpslp_tools_at canon' -s t -l to -xa 'mps lp glp' -d 'The format to write'
 complete -c mpslp-tools -n '__mpslp_tools_at canon' -l for -xa 'glpsol clp cbc lp_solve esolver' -d 'Write the text that this solver reads as the model'
 complete -c mpslp-tools -n '__mpslp_tools_at canon' -s i -l in-place -d 'Rewrite each file that is not canonical'
+complete -c mpslp-tools -n '__mpslp_tools_at canon' -l rename -d 'Write names that are not legal in LP under legal ones'
+complete -c mpslp-tools -n '__mpslp_tools_at canon' -l names-back -d 'Write a model or a solution with the names from before'
+complete -c mpslp-tools -n '__mpslp_tools_at canon' -l map -rF -d 'The table of old and new names'
+complete -c mpslp-tools -n '__mpslp_tools_at fmt' -s i -l in-place -d 'Rewrite each file that is not formatted'
+complete -c mpslp-tools -n '__mpslp_tools_at fmt' -l check -d 'Print which files are not formatted'
+complete -c mpslp-tools -n '__mpslp_tools_at fmt' -l diff -d 'Print what -i would change'
 complete -c mpslp-tools -n '__mpslp_tools_at canon' -l force -d 'Rewrite also a file whose comments have the sense of the objective'
 complete -c mpslp-tools -n '__mpslp_tools_at canon check same diff' -l no-warnings -d 'Do not print what is accepted and rarely meant'
 complete -c mpslp-tools -n '__mpslp_tools_at canon adapt report' -s o -l output -rF -d 'Write to this file'

@@ -47,7 +47,7 @@ def value(literal: str) -> str:
 
 
 def lp_parts(text: str) -> tuple[list[str], list[str], str]:
-    """The tokens of an LP text with values for numbers, in lower case; its comments; and what follows the line of the word end."""
+    """The tokens of an LP text, with values for numbers; its comments; and what follows the line of the word end."""
     tokens: list[str] = []
     comments: list[str] = []
     for found in LP_PART.finditer(text):
@@ -63,7 +63,7 @@ def lp_parts(text: str) -> tuple[list[str], list[str], str]:
 
 
 def with_case(tokens: list[str]) -> list[str]:
-    """The tokens, with the reserved words in lower case, and the word after subject and such."""
+    """The tokens, with one letter case for reserved words, and for the words after subject and such."""
     is_reserved = [token.lower() in models.RESERVED for token in tokens]
     for place, token in enumerate(tokens):
         before = tokens[place - 1].lower() if place else ""

@@ -487,7 +487,7 @@ class Command(Directory):
 
 class Completions(Directory):
     WANTED = {
-        "": "canon check same diff show digest explain adapt survey report --help --version", "d": "diff digest", "s": "same show survey", "check --p": "--portable", "survey --": "--help --jobs --csv --json", "canon -t ": "mps lp glp", "check -f l": "lp",
+        "": "canon fmt check same diff show digest explain adapt survey report --help --version", "d": "diff digest", "s": "same show survey", "check --p": "--portable", "survey --": "--help --jobs --csv --json", "canon -t ": "mps lp glp", "check -f l": "lp",
         "diff --": "--help --format --ignore-objective-name --digits --by-position --no-warnings", "canon -i sm": "small.lp small.mps", "explain DuplicateR": "DuplicateRange DuplicateRhs DuplicateRow",
         "diff --digits ": "",
     }

@@ -6,13 +6,14 @@ from collections.abc import Callable, Iterator
 from dataclasses import dataclass, field
 from typing import NamedTuple
 
+from mpslp._adapt._long_lines import LONGEST_LINE
 from mpslp._adapt._names import RESERVED
 from mpslp._format._numbers import plain
 from mpslp._lp_words import TOKEN
 
 WIDTH = 100
 """Rows are broken between terms before they are longer than this."""
-_LONGEST_COMMENT = (1 << 20) - 1000
+_LONGEST_COMMENT = LONGEST_LINE - 1000
 """A longer comment gets a line of its own: after a token it could make a line that is too long, and is rejected."""
 
 _CONTINUED = " " * 4

@@ -1,7 +1,7 @@
 """The legal name of LP for each name of MPS, and back.
 
-A byte is written as ``_x`` and two hexadecimal digits in upper case if it is not a symbol of LP names. So is the first byte of a
-name that is then still not legal: one that starts with a digit or a period, that looks like an exponent, or that is a reserved
+A byte is written as ``_x`` and two hexadecimal digits, 0 to 9 and A to F, if it is not a symbol of LP names. So is the first byte
+of a name that is then still not legal: one that starts with a digit or a period, that looks like an exponent, or that is a reserved
 word. And so is the ``_`` of each ``_x`` and two such digits that a name has itself. All other bytes stay.
 
 No two names become the same, since reading each escape back gives the name again: an escape starts with ``_``, which is neither
