@@ -27,7 +27,8 @@ import spellings
 RANDOM_FILES = int(os.environ.get("MPSLP_RANDOM_FILES", "100"))
 SMALL = str(EXAMPLES / "small.mps")
 COMMANDS = (
-    ["canon"], ["canon", "-t", "mps"], ["canon", "-t", "lp"], ["canon", "-i"], ["canon", "-o", "out.lp"], ["canon", "-Werror"], ["check"], ["check", "--portable"],
+    ["canon"], ["canon", "-t", "mps"], ["canon", "-t", "lp"], ["canon", "-i"], ["canon", "-o", "out.lp"], ["canon", "-Werror"],
+    ["canon", "-t", "lp", "--rename"], ["canon", "--names-back"], ["fmt"], ["fmt", "-i"], ["fmt", "--check"], ["fmt", "--diff"], ["check"], ["check", "--portable"],
     ["same", SMALL], ["diff", SMALL], ["diff", "--digits", "3", "--by-position", SMALL], ["diff", os.devnull], ["show"], ["digest"],
     ["explain"], ["adapt"], ["adapt", "--dry-run"], ["survey"], ["survey", "--json"], ["report"], ["report", SMALL],
 )

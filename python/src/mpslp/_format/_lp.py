@@ -2,8 +2,7 @@
 
 from __future__ import annotations
 
-from collections.abc import Callable, Iterator
-from dataclasses import dataclass, field
+from collections.abc import Callable, Iterator, Sequence
 from typing import NamedTuple
 
 from mpslp._adapt._long_lines import LONGEST_LINE
@@ -33,23 +32,19 @@ class Comment(NamedTuple):
     is_after_empty_line: bool
 
 
-@dataclass
 class Token:
     """A token, the comments on the lines before it, and the one that ends its line."""
 
-    sort: str
-    text: str
-    is_after_empty_line: bool
-    before: list[Comment] = field(default_factory=list)
-    trailing: str = ""
+    __slots__ = ("sort", "text", "lower", "is_keyword", "is_after_empty_line", "before", "trailing")
 
-    @property
-    def lower(self) -> str:
-        return self.text.lower() if self.sort == "word" else ""
-
-    @property
-    def is_keyword(self) -> bool:
-        return self.lower in _KEYWORDS
+    def __init__(self, sort: str, text: str, is_after_empty_line: bool, before: Sequence[Comment]) -> None:
+        self.sort = sort
+        self.text = text
+        self.lower = text.lower() if sort == "word" else ""
+        self.is_keyword = self.lower in _KEYWORDS
+        self.is_after_empty_line = is_after_empty_line
+        self.before = before
+        self.trailing = ""
 
 
 def _tokens(text: str) -> tuple[list[Token], str]:
@@ -67,9 +62,10 @@ def _tokens(text: str) -> tuple[list[Token], str]:
             else:
                 tokens[-1].trailing = comment
             continue
-        token = Token(found.lastgroup, found[0], line_ends > 1, before)
+        token = Token(found.lastgroup, found[0], line_ends > 1, tuple(before))
         tokens.append(token)
-        before = []
+        if before:
+            before = []
         if token.lower == "end":
             line, _, following = text[done:].partition("\n")
             _, mark, comment = line.partition("\\")
