@@ -33,6 +33,7 @@ FORMATS = {".mps": "mps", ".lp": "lp"}
 
 EXACT = Context(prec=1000, Emax=MAX_EMAX, Emin=MIN_EMIN)
 NUMBER = r"(?:\d+\.?\d*|\.\d+)(?:[eE][+-]?\d+)?"
+BREAKS = (b"\n", b"\n\n", b"\n \r\n\n ", b" \\ trailing\n", b"\\\r\n", b"\n\\ own: 1 x >= 2\n", b"\n\n  \\ apart  \n\n", b" \\ a\n\\ b\n\n\\ c\n")
 LP_PART = re.compile(rf"(?P<comment>\\[^\n]*)|(?P<number>{NUMBER})|(?P<word>[^\s\d<>=:+\\.-][^\s<>=:+\\-]*)|[<>=]+|[:+.-]", re.ASCII)
 
 
@@ -132,7 +133,17 @@ def random_texts(count: int, seed: int) -> Iterator[tuple[str, bytes, str]]:
         model = models.drawn_model(source)
         yield f"model {number} in MPS", spellings.mps_text(source, model), "mps"
         if all(map(models.is_lp_name, (model.objective, *model.rows, *model.columns))):
-            yield f"model {number} in LP", spellings.lp_text(source, model), "lp"
+            text = spellings.lp_text(source, model)
+            yield f"model {number} in LP", text, "lp"
+            yield f"model {number} in LP with other lines", with_breaks(source, text), "lp"
+
+
+def with_breaks(source: random.Random, text: bytes) -> bytes:
+    """An LP text with line ends, empty lines and comments instead of some spaces. Some of these texts are rejected."""
+    return b"\n".join(
+        line if b"\\" in line else re.sub(rb" +", lambda found: source.choice(BREAKS) if source.random() < 0.3 else found[0], line)
+        for line in text.split(b"\n")
+    )
 
 
 # ---- wrong versions of the formatter

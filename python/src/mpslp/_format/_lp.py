@@ -197,6 +197,7 @@ class _Reader:
                 item.append(self._take())
             if self._is_at("word") and not self._next.is_keyword:
                 item.append(self._take())
+            assert item, "the text is accepted"
             items.append(item)
         return items
 
