@@ -28,7 +28,8 @@ from adapt_rules import rows
 
 ROOT = Path(__file__).resolve().parent.parent
 WRONG = ROOT / "tests" / "format_wrong.tsv"
-MESSAGE = "internal error: the result is not the same model"
+MESSAGES = {False: "internal error: the result is not the same model", True: "internal error: the result does not have the same comments"}
+"""What fmt prints of another model, and of other comments."""
 FORMATS = {".mps": "mps", ".lp": "lp"}
 
 EXACT = Context(prec=1000, Emax=MAX_EMAX, Emin=MIN_EMIN)
@@ -149,9 +150,9 @@ def with_breaks(source: random.Random, text: bytes) -> bytes:
 # ---- wrong versions of the formatter
 
 SAMPLES = {
-    "mps": b"NAME  P\nROWS\n N  C\n L  R\n G  S\nCOLUMNS\n    x  C  1.5e3  R  -2\n    x  S  1\n    y  C  -3e-7  R  4\nRHS\n    B  R  40  S  -1.5e2\n"
+    "mps": b"NAME  P\n* rows\nROWS\n N  C\n L  R\n G  S\nCOLUMNS\n    x  C  1.5e3  R  -2\n    x  S  1\n    y  C  -3e-7  R  4\nRHS\n    B  R  40  S  -1.5e2\n"
     b"RANGES\n    G  R  8\nBOUNDS\n LO  N  x  -3\n UP  N  x  5e2\n MI  N  y\n UP  N  y  7\nENDATA\n",
-    "lp": b"min c: 3 x - 2 y + 5 z + 1.5e3\nsubject to first: x - y >= -2 second: 1e-3 x + z <= 4 -5 <= x + y + z <= 50\n"
+    "lp": b"\\ a plan\nmin \\ costs\n c: 3 x - 2 y + 5 z + 1.5e3\nsubject to first: x - y >= -2 second: 1e-3 x + z <= 4 -5 <= x + y + z <= 50\n"
     b"bounds -4 <= x <= 1e2 y <= 8 general z semi y end\n",
 }
 """Texts in which each rule counts, and which are not formatted."""
@@ -177,7 +178,7 @@ def missed() -> Iterator[str]:
                 [sys.executable, "-B", "-m", "mpslp", "fmt", "-i", sample],
                 env={**os.environ, "PYTHONPATH": name}, capture_output=True, text=True, check=False,
             )
-            if (done.returncode, done.stderr.strip()) != (2, f"{sample}: {MESSAGE}"):
+            if (done.returncode, done.stderr.strip()) != (2, f"{sample}: {MESSAGES['comment' in row['what']]}"):
                 yield f"{where}: {row['what']}: fmt ends with {done.returncode}: {done.stderr.strip()[-300:]}"
             if sample.read_bytes() != content:
                 yield f"{where}: {row['what']}: the file is changed"

@@ -237,6 +237,15 @@ class Call(unittest.TestCase):
                 lp("min x end")
 
 
+    def test_a_result_with_other_comments_is_not_returned(self):
+        for wrong in ("min x\nend\n", "\\ two\nmin x\nend\n", "\\ one\n\\ one\nmin x\nend\n"):
+            with mock.patch.object(_call, "formatted_lp", return_value=wrong), self.assertRaisesRegex(RuntimeError, "the same comments"):
+                lp("\\ one\nmin x end")
+        content = b"* one\nROWS\n N  c\nCOLUMNS\n    x  c  1\nENDATA\n"
+        with mock.patch.object(_call, "formatted_mps", return_value=content[6:].decode()), self.assertRaisesRegex(RuntimeError, "the same comments"):
+            mpslp.formatted(content, "mps")
+
+
 class Command(Directory):
     def test_one_file(self):
         self.file("a.lp", LP)

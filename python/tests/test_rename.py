@@ -10,7 +10,7 @@ import mpslp
 from mpslp import _mpslp
 from mpslp._adapt._names import is_lp_name
 from mpslp._rename import RenameError, _call, lp_name, names_back, original_name, renamed, table, table_of, words_back
-from mpslp._same_model import NotTheSameModel
+from mpslp._own_checks import OwnCheckError
 from mpslp._sources import Text
 from test_tools import Directory
 
@@ -145,9 +145,9 @@ class Models(unittest.TestCase):
         self.assertGreater(changed, 5)
 
     def test_another_model_is_not_returned(self):
-        with mock.patch.object(_call, "lp_name", return_value="x"), self.assertRaises((NotTheSameModel, mpslp.ModelFileError)):
+        with mock.patch.object(_call, "lp_name", return_value="x"), self.assertRaises((OwnCheckError, mpslp.ModelFileError)):
             renamed(text_of(MPS))
-        with mock.patch.object(_call, "original_name", side_effect=lambda name: f"{original_name(name)}!"), self.assertRaises(NotTheSameModel):
+        with mock.patch.object(_call, "original_name", side_effect=lambda name: f"{original_name(name)}!"), self.assertRaises(OwnCheckError):
             renamed(text_of(MPS))
 
     def test_names_that_would_be_the_same(self):

@@ -31,7 +31,7 @@ from mpslp._output import OutputError, write_all, write_line, write_lines
 from mpslp._places import about, naming_what_is_not_legal
 from mpslp._portable import AGREED, KINDS, PROGRAMS, grouped, portability
 from mpslp._rename import RenameError, names_back, renamed, table, table_of, words_back
-from mpslp._same_model import NotTheSameModel
+from mpslp._own_checks import OwnCheckError
 from mpslp._shown import shown
 from mpslp._solver_texts import SOLVERS, SolverError, solver_text
 from mpslp._sources import Format, Text, format_number, format_of_name, naming, read, read_standard_input
@@ -344,7 +344,7 @@ def _model_with_names(text: Text, options: argparse.Namespace) -> Outcome:
                 content = _mpslp.canonical(restored, _mpslp.MPS, format_number(to))
             return warned(text, options).before(lambda: _given_out(content, options))
         content, names = renamed(text)
-    except (RenameError, NotTheSameModel) as error:
+    except (RenameError, OwnCheckError) as error:
         return Outcome(Status.REJECTED, error=f"{text.filename}: {error}")
 
     def work() -> Outcome:
@@ -398,7 +398,7 @@ def _formatted(text: Text, options: argparse.Namespace) -> Outcome:
     path = str(text.filename)
     try:
         content = formatted_text(text)
-    except NotTheSameModel as error:
+    except OwnCheckError as error:
         return Outcome(Status.REJECTED, error=f"{path}: {error}")
     if not (options.in_place or options.check or options.diff):
         return Outcome(text=content)

@@ -2,18 +2,24 @@
 
 from __future__ import annotations
 
+import re
+
 from mpslp import _mpslp
 from mpslp._format._lp import formatted_lp
 from mpslp._format._mps import formatted_mps
-from mpslp._same_model import NotTheSameModel, require_same
+from mpslp._own_checks import OwnCheckError, require_same
 from mpslp._sources import Format, Source, Text, naming, read
+
+_MPS_COMMENT = re.compile(rb"^\*.*", re.MULTILINE)
+_LP_COMMENT = re.compile(rb"\\.*")
 
 
 def formatted(source: Source, format: Format | None = None) -> str:
     """Returns a text with the spacing, letter case of keywords, number text and line breaks of ``mpslp-tools fmt``.
 
     Comments, the NAME line, the order of rows, columns and sections, and what follows the end stay as they are. The result
-    is compared with the text by :func:`same` before it is returned. Formatting it again changes nothing.
+    is compared with the text by :func:`same` before it is returned, and so are its comments. Formatting it again changes
+    nothing.
 
     The format is optional for a path that ends in ``.mps`` or ``.lp``. Bytes of comments that are no UTF-8 are surrogates in
     the result, as in names of files: ``.encode("utf-8", "surrogateescape")`` makes bytes of it.
@@ -35,14 +41,22 @@ def formatted(source: Source, format: Format | None = None) -> str:
 
 
 def formatted_text(text: Text) -> bytes:
-    """The same for the bytes of a text; raises NotTheSameModel if the check fails."""
+    """The same for the bytes of a text; raises OwnCheckError if it is not the same model, or has not the same comments."""
     _mpslp.is_canonical(text.content, text.format)  # raises the error of a text that is rejected
     try:
         content = _formatted(text)
     except (ValueError, LookupError, AssertionError, AttributeError) as error:
-        raise NotTheSameModel from error
+        raise OwnCheckError from error
     require_same(text.content, text.format, content, text.format)
+    if _comments(text.content, text.format) != _comments(content, text.format):
+        raise OwnCheckError("the result does not have the same comments")
     return content
+
+
+def _comments(content: bytes, format: int) -> list[bytes]:
+    """The comments of a text, without reading anything else; what looks like one after the end is kept, too."""
+    found: list[bytes] = (_MPS_COMMENT if format == _mpslp.MPS else _LP_COMMENT).findall(content)
+    return [comment.rstrip(b"\r") for comment in found]
 
 
 def _formatted(text: Text) -> bytes:

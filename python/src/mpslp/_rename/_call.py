@@ -8,7 +8,7 @@ from typing import NamedTuple
 from mpslp import _mpslp
 from mpslp._rename._names import RenameError, lp_name, original_name
 from mpslp._rename._texts import name_from, with_names
-from mpslp._same_model import require_same
+from mpslp._own_checks import require_same
 from mpslp._sources import Text
 
 
