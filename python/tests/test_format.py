@@ -4,10 +4,13 @@ import gzip
 import io
 import random
 import unittest
+from decimal import Decimal
 from unittest import mock
 
 import mpslp
 from mpslp._format import _call
+from mpslp._format._numbers import plain
+from mpslp._numbers import number_text
 from repository import EXAMPLES, VECTORS
 from test_tools import BROKEN, Directory
 
@@ -116,6 +119,14 @@ class Mps(unittest.TestCase):
             with self.subTest(literal=literal):
                 text = mpslp.formatted(b"ROWS\n N  c\nCOLUMNS\n x c %s\nENDATA\n" % literal.encode(), "mps")
                 self.assertEqual(text, f"ROWS\n N  c\nCOLUMNS\n    x         c         {wanted}\nENDATA\n")
+
+    def test_random_numbers(self):
+        source = random.Random(6)
+        for _ in range(20000):
+            digits = "".join(source.choice("0001259") for _ in range(source.randint(1, 24)))
+            place = source.randint(0, len(digits))
+            literal = source.choice(("", "-", "+")) + source.choice((digits, f"{digits[:place]}.{digits[place:]}")) + source.choice(("", "", "e3", "E-20"))
+            self.assertEqual(plain(literal), number_text(Decimal(literal)), literal)
 
     def test_names_that_look_like_numbers_stay(self):
         self.formats(b"ROWS\n N 1.0\n L 2.50\nCOLUMNS\n 3.0 1.0 4.0 2.50 5.0\nRHS\n 1.00 2.50 6.0\nBOUNDS\n UP 7.0 3.0 8.0\n MI 7.0 3.0 9.0\nENDATA\n",

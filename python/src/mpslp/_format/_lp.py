@@ -128,9 +128,9 @@ class _Reader:
     def _next(self) -> Token:
         return self._tokens[self._at]
 
-    def _is_at(self, *sorts: str, ahead: int = 0) -> bool:
+    def _is_at(self, sort: str, ahead: int = 0) -> bool:
         place = self._at + ahead
-        return place < len(self._tokens) and self._tokens[place].sort in sorts
+        return place < len(self._tokens) and self._tokens[place].sort == sort
 
     def _take(self, is_joined: bool = False) -> Piece:
         token = self._next
@@ -189,17 +189,16 @@ class _Reader:
     def _items(self) -> list[Chunk]:
         """The terms of a row, or those of the objective and its constant."""
         items: list[Chunk] = []
-        while not self._is_at("relation") and not self._next.is_keyword:
-            item: Chunk = []
-            while self._is_at("sign"):
-                item.append(self._take())
-            if self._is_at("number"):
-                item.append(self._take())
-            if self._is_at("word") and not self._next.is_keyword:
-                item.append(self._take())
-            assert item, "the text is accepted"
-            items.append(item)
-        return items
+        item: Chunk = []
+        before = ""
+        while not self._next.is_keyword and self._next.sort != "relation":
+            sort = self._next.sort
+            if item and (before == "word" or sort == "sign" and before == "number"):
+                items.append(item)
+                item = []
+            item.append(self._take())
+            before = sort
+        return [*items, item] if item else items
 
 
 def _written(token: Token) -> str:
