@@ -3,7 +3,7 @@ _mpslp_tools() {
     local word=${COMP_WORDS[COMP_CWORD]} previous=${COMP_WORDS[COMP_CWORD - 1]} command=${COMP_WORDS[1]} options=
     COMPREPLY=()
     if ((COMP_CWORD == 1)); then
-        mapfile -t COMPREPLY < <(compgen -W 'canon check same diff show digest explain adapt survey report --help --version' -- "$word")
+        mapfile -t COMPREPLY < <(compgen -W 'canon fmt check same diff show digest explain adapt survey report --help --version' -- "$word")
         return
     fi
     case $previous in
@@ -35,12 +35,13 @@ _mpslp_tools() {
             mapfile -t COMPREPLY < <(compgen -d -- "$word")
             return
             ;;
-        --digits | --jobs | --strict | -j)
+        --digits | --jobs | --map | --strict | -j)
             return
             ;;
     esac
     case $command in
-        canon) options='--format --output --out-dir --in-place --diff --to --for --force --jobs --quiet --no-warnings --help -Werror' ;;
+        canon) options='--format --output --out-dir --in-place --diff --to --for --rename --names-back --map --force --jobs --quiet --no-warnings --help -Werror' ;;
+        fmt) options='--format --in-place --check --diff --jobs --json --quiet --help' ;;
         check) options='--format --portable --target --all --ignore --jobs --json --quiet --no-warnings --help -Werror' ;;
         same) options='--format --quiet --no-warnings --help -Werror' ;;
         diff) options='--format --ignore-objective-name --digits --by-position --json --quiet --no-warnings --help -Werror' ;;

@@ -70,6 +70,7 @@ TESTS = (
     Test("glued and damaged LP files", ("python3", "tests/adapt_glued.py", "--files", "600")),
     Test("what installed programs write", ("python3", "tests/adapt_writers.py", "--models", "20")),
     Test("rules for other dialects", ("python3", "tests/adapt_rules.py", "--wrong")),
+    Test("formatting", ("python3", "tests/format_check.py", "--wrong"), after=CALLERS),
     Test("solvers", ("python3", "tests/solvers.py")),
     Test("names that collide", ("python3", "bench/growth.py", "--names", "8000"), after=CALLERS),
     Test("what other programs read otherwise", ("python3", "tests/portable_rules.py", "--wrong")),

@@ -30,6 +30,7 @@ SMALL = str(EXAMPLES / "small.mps")
 COMMANDS = (
     ["canon"], ["canon", "-t", "mps"], ["canon", "-t", "lp"], ["canon", "-i"], ["canon", "-o", "out.lp"], ["canon", "-Werror"], ["canon", "--diff"],
     ["canon", "--out-dir", "out", "-t", "lp"], ["canon", "-q", "--for", "glpsol", "--out-dir", "out"], ["canon", "mps", "lp"], ["canon", "lp", "mps"],
+    ["canon", "-t", "lp", "--rename"], ["canon", "--names-back"], ["fmt"], ["fmt", "-i"], ["fmt", "--check"], ["fmt", "--diff"],
     ["check"], ["check", "--portable"], ["check", "--json"], ["check", "--portable", "--json"], ["check", "-q", "-j", "2", SMALL],
     ["same", SMALL], ["same", "-q", SMALL], ["same", "mps", SMALL, "lp"], ["diff", SMALL], ["diff", "--digits", "3", "--by-position", SMALL], ["diff", "--json", SMALL], ["diff", os.devnull],
     ["show"], ["show", "mps"], ["show", SMALL], ["digest"], ["digest", "--json"], ["explain"],

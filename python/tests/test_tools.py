@@ -508,7 +508,7 @@ class Command(Directory):
 
 class Completions(Directory):
     WANTED = {
-        "": "canon check same diff show digest explain adapt survey report --help --version", "d": "diff digest", "s": "same show survey", "check --p": "--portable",
+        "": "canon fmt check same diff show digest explain adapt survey report --help --version", "d": "diff digest", "s": "same show survey", "check --p": "--portable",
         "survey --": "--help --format --from --jobs --quiet --csv --json", "canon -t ": "mps lp glp", "check -f l": "lp",
         "diff --": "--help --format --ignore-objective-name --digits --by-position --json --quiet --no-warnings", "canon -i sm": "small.lp small.mps",
         "explain DuplicateR": "DuplicateRange DuplicateRhs DuplicateRow", "diff --digits ": "", "adapt --from q": "qsopt", "adapt --in": "--in-place", "canon --out-dir d": "deep",

@@ -113,6 +113,7 @@ def surveyed(source: mpslp.Source, path: Path, name: str) -> None:
     assert_type(found.errors, Mapping[str, int])
     assert_type(found.csv(), str)
     assert_type(found.json(), str)
+    assert_type(mpslp.formatted(source, "lp"), str)
 
 
 def wrong(text: bytes) -> None:

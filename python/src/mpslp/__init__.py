@@ -38,6 +38,7 @@ from mpslp._differences import (
 )
 from mpslp._explanations import Cause, Explanation, explain
 from mpslp._faults import ModelFileError
+from mpslp._format import formatted
 from mpslp._models import Column, Kind, Model, Row, Sense, dump, dumps, from_arrays, load
 from mpslp._numbers import Number, fraction
 from mpslp._portable import Remark, portability
@@ -86,6 +87,7 @@ __all__ = [
     "dump",
     "dumps",
     "explain",
+    "formatted",
     "fraction",
     "from_arrays",
     "is_canonical",

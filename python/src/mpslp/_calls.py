@@ -3,6 +3,7 @@
 from __future__ import annotations
 
 from mpslp import _mpslp
+from mpslp._illegal_names import naming_what_is_not_legal
 from mpslp._sources import Format, Source, format_number, naming, read
 
 
@@ -12,14 +13,15 @@ def canonical(source: Source, from_format: Format | None = None, to_format: Form
     ``from_format`` is the format of the source; it is optional for a path that ends in ``.mps`` or ``.lp``.
     ``to_format`` is that of the canonical text; by default it is the format of the source.
 
-    Raises ModelFileError if the text declares no model, or if a name is not legal in LP and ``to_format`` is LP.
+    Raises ModelFileError if the text declares no model, or if a name is not legal in LP and ``to_format`` is LP; its ``name``
+    is that name.
 
     >>> mpslp.canonical(b"max 2.50 x\\nend\\n", "lp")
     b'Maximize\\n obj:\\n  + 2.5 x\\nSubject To\\nEnd\\n'
     """
     to_number = None if to_format is None else format_number(to_format)
     text = read(source, from_format)
-    with naming(text):
+    with naming(text), naming_what_is_not_legal(lambda: _mpslp.load(text.content, text.format)):
         return _mpslp.canonical(text.content, text.format, text.format if to_number is None else to_number)
 
 

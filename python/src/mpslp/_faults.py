@@ -21,7 +21,8 @@ class ModelFileError(ValueError):
     line
         The line of the error, counted from 1; None for an error of the whole text.
     name
-        The row or column for which an error of the whole text is reported; names are ASCII.
+        The row or column for which an error of the whole text is reported, or the name that is not legal in LP; names are
+        ASCII.
     place
         What has the name that is not legal in LP: ``"objective"``, ``"row"`` or ``"column"``; otherwise None.
     number
@@ -87,7 +88,7 @@ class ModelFileError(ValueError):
         return type(self), parts, self.__dict__
 
     def __str__(self) -> str:
-        name = "" if self.name is None else f" {self.name}"
+        name = "" if self.name is None or self.place is not None else f" {self.name}"  # the program does not print that one
         return f"{self._prefix()}{self._where()}: {self.kind}{name}"
 
     def _prefix(self) -> str:

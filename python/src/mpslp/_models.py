@@ -12,6 +12,7 @@ from typing import TYPE_CHECKING, Any, Literal, TypeAlias
 
 from mpslp import _mpslp
 from mpslp._arrays import Arrays, arrays_of, bytes_of, doubles_of, integers_of, listed
+from mpslp._illegal_names import naming_what_is_not_legal
 from mpslp._mappings import Held, Numbered
 from mpslp._numbers import INFINITY, Number, decimal_of, difference, limit_of
 from mpslp._sources import Format, Path, Source, format_number, naming, read, write
@@ -470,7 +471,7 @@ def _made_of_numbers(arrays: Arrays, row_names: list[str], column_names: list[st
 def dumps(model: Model, format: Format) -> bytes:
     """Returns the canonical text of a model.
 
-    Raises ModelFileError if a name is not legal in LP and the format is LP.
+    Raises ModelFileError if a name is not legal in LP and the format is LP; its ``name`` is that name.
 
     >>> mpslp.dumps(mpslp.Model(columns=[mpslp.Column("x", upper=0.5)]), "lp")
     b'Minimize\\n obj:\\n  + 0 x\\nSubject To\\nBounds\\n 0 <= x <= 0.5\\nEnd\\n'
@@ -478,7 +479,8 @@ def dumps(model: Model, format: Format) -> bytes:
     number = format_number(format)
     if not isinstance(model, Model):
         raise TypeError(f"a model is a mpslp.Model, not {type(model).__name__}")
-    return _mpslp.store(model._arrays, number)
+    with naming_what_is_not_legal(lambda: model._arrays):
+        return _mpslp.store(model._arrays, number)
 
 
 def dump(model: Model, path: Path, format: Format | None = None) -> None:

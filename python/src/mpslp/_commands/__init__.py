@@ -14,6 +14,7 @@ from mpslp._commands._outcomes import Status
 
 COMMANDS = {
     "canon": "write the canonical text of model files",
+    "fmt": "format files, and keep comments and order",
     "check": "print which files are not canonical",
     "same": "say whether two files define the same model",
     "diff": "print the differences of two models",

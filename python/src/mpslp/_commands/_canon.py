@@ -9,6 +9,7 @@ from collections.abc import Callable
 from mpslp import _mpslp
 from mpslp._commands import _options
 from mpslp._commands._inputs import STANDARD_INPUT, Input, formats_before, one_input
+from mpslp._commands._names import run_with_names
 from mpslp._commands._options import add_files, add_one_of, add_options, add_warnings, flag, option
 from mpslp._commands._outcomes import Outcome, Status, UsageError
 from mpslp._commands._targets import given_out, inputs_for, require_one_place_each, target_of
@@ -42,6 +43,9 @@ def add(parser: argparse.ArgumentParser) -> None:
         parser,
         option("-t", "--to", choices=("mps", "lp", "glp"), metavar="FORMAT", help="write mps or lp; with --for glpsol also glp"),
         option("--for", dest="solver", choices=tuple(SOLVERS), metavar="SOLVER", help="write what glpsol, clp, cbc, lp_solve or esolver reads"),
+        flag("--rename", help="with -t lp, give names that LP does not have legal ones"),
+        flag("--names-back", help="write a model or a solution with its names before"),
+        option("--map", metavar="TABLE", help="write, or with --names-back read, the names"),
         flag("--force", help="with -i, also if the sense is in a comment only"),
         _options.JOBS,
         _options.QUIET,
@@ -50,6 +54,8 @@ def add(parser: argparse.ArgumentParser) -> None:
 
 
 def run(options: argparse.Namespace) -> Status:
+    if options.rename or options.names_back or options.map is not None:
+        return run_with_names(options)
     formats = formats_before(options.files, 3, (0, 1), options)
     if formats is not None:
         return _run_as_mpslp(options, *formats)

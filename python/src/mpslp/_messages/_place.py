@@ -15,6 +15,7 @@ from typing import NamedTuple
 
 from mpslp import _mpslp
 from mpslp._faults import ModelFileError
+from mpslp._illegal_names import name_not_legal
 from mpslp._messages._lines import Line, line_at
 from mpslp._messages._tokens import NAME, Token, tokens_of
 from mpslp._sources import Text
@@ -108,11 +109,7 @@ def _illegal_name(text: Text, error: ModelFileError) -> str:
 
 def illegal_name(text: Text, error: ModelFileError) -> str:
     """The name that is not legal in LP, without what has it."""
-    arrays = _mpslp.load(text.content, text.format)
-    if error.number is None:
-        return arrays.objective()[1]
-    name_of = arrays.row_name if error.place == "row" else arrays.column_name
-    return name_of(error.number)
+    return error.name if error.name is not None else name_not_legal(_mpslp.load(text.content, text.format), error)
 
 
 def _bad_byte(line: Line) -> Place:

@@ -1,0 +1,67 @@
+"""Other names in canonical MPS texts and in solutions, and the table of names."""
+
+from __future__ import annotations
+
+import re
+from collections.abc import Callable, Mapping
+
+from mpslp._rename._names import RenameError, original_name
+
+_PLACES = {"ROWS": (1,), "COLUMNS": (0, 1), "RHS": (1,), "RANGES": (1,), "BOUNDS": (2,)}
+"""The fields of the sections of a canonical text that are names."""
+_WORD = re.compile(r"[^ \t\r\n]+")
+
+
+def with_names(canonical: bytes, name_of: Callable[[str], str]) -> bytes:
+    """A canonical MPS text in which each name is another one."""
+    lines: list[str] = []
+    places: tuple[int, ...] = ()
+    for line in canonical.decode("ascii").splitlines():
+        if not line.startswith(" "):
+            places = _PLACES.get(line, ())
+            lines.append(line)
+            continue
+        fields = line.split()
+        if fields[1:2] != ["'MARKER'"]:
+            for place in places:
+                fields[place] = name_of(fields[place])
+        lines.append(f" {'  '.join(fields)}")
+    return "".join(f"{line}\n" for line in lines).encode("ascii")
+
+
+def words_back(solution: bytes, names: Mapping[str, str] | None) -> bytes:
+    """A solution with the names of a table, or else with those that the rule gives back; other words stay.
+
+    A word is what is between spaces, tabs and line ends.
+    """
+    name_of = _name_if_written if names is None else name_from(names)
+    text = solution.decode("latin-1")  # a letter a byte
+    return _WORD.sub(lambda word: name_of(word[0]), text).encode("latin-1")
+
+
+def name_from(names: Mapping[str, str]) -> Callable[[str], str]:
+    """The names of a table; a name that is not in it stays."""
+    return lambda name: names.get(name, name)
+
+
+def _name_if_written(word: str) -> str:
+    try:
+        return original_name(word)
+    except RenameError:
+        return word
+
+
+def table(names: Mapping[str, str]) -> bytes:
+    """The names and the names that are written for them: a line each, with a tab between them."""
+    return "".join(f"{name}\t{names[name]}\n" for name in sorted(names)).encode("ascii")
+
+
+def table_of(content: bytes) -> dict[str, str]:
+    """The names by those that are written for them; raises ValueError for what is no such table."""
+    names: dict[str, str] = {}
+    for number, line in enumerate(content.decode("latin-1").splitlines(), 1):
+        fields = line.split("\t")
+        if len(fields) != 2 or not all(fields):
+            raise ValueError(f"line {number} is not a name, a tab and a name")
+        names[fields[1]] = fields[0]
+    return names

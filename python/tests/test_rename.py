@@ -1,0 +1,225 @@
+"""Names that are not legal in LP, under legal names and back: the rule, models, solutions, and the command."""
+
+import itertools
+import random
+import re
+import unittest
+from unittest import mock
+
+import mpslp
+from mpslp import _mpslp
+from mpslp._adapt._names import is_lp_name
+from mpslp._rename import RenameError, _call, lp_name, names_back, original_name, renamed, table, table_of, words_back
+from mpslp._own_checks import OwnCheckError
+from mpslp._sources import Text
+from test_tools import Directory
+
+import models  # from tests/ of the repository
+import spellings
+
+MPS = b"""\
+NAME
+OBJSENSE
+    MAX
+ROWS
+ N  free
+ G  x[1]
+ L  cap[1,2]
+COLUMNS
+    x[1]  free  1
+    x[1]  cap[1,2]  2
+    2y  x[1]  1
+    MARKER  'MARKER'  'INTORG'
+    plain  free  3
+    MARKER  'MARKER'  'INTEND'
+RHS
+    RHS  free  5
+    RHS  cap[1,2]  40
+RANGES
+    RNG  x[1]  7
+BOUNDS
+ UP  BND  2y  8
+ PL  BND  plain
+ENDATA
+"""
+LP = b"""\
+Maximize
+ _x66ree:
+  + 3 plain
+  + 1 x_x5B1_x5D
+  - 5
+Subject To
+ cap_x5B1,2_x5D:
+  + 2 x_x5B1_x5D
+  <= 40
+ x_x5B1_x5D:
+  0 <=
+  + 1 _x32y
+  <= 7
+Bounds
+ 0 <= _x32y <= 8
+Generals
+ plain
+End
+"""
+TABLE = b"2y\t_x32y\ncap[1,2]\tcap_x5B1,2_x5D\nfree\t_x66ree\nx[1]\tx_x5B1_x5D\n"
+NAMES = {"x[1,2]": "x_x5B1,2_x5D", "2x": "_x32x", ".5": "_x2E5", "e": "_x65", "E1": "_x451", "free": "_x66ree", "Inf": "_x49nf", "s.t.": "_x73.t.",
+         "a*b": "a_x2Ab", "_x5B": "_x5Fx5B", "a_x5B_x5D": "a_x5Fx5B_x5Fx5D", "_[": "__x5B", "_x5[": "_x5_x5B", "_x[41": "_x_x5B41", "[": "_x5B", "9": "_x39"}
+SAME = ("x", "x_", "_x5", "_x5b", "_xG1", "__x", "y(1,2)", "x/2", "element", "e_1", "_2x", "x.5", "freedom")
+
+
+def text_of(content, format="mps"):
+    return Text(content, {"mps": _mpslp.MPS, "lp": _mpslp.LP}[format], None)
+
+
+class Names(unittest.TestCase):
+    def test_examples(self):
+        for name, written in {**NAMES, **{name: name for name in SAME}}.items():
+            with self.subTest(name=name):
+                self.assertEqual(lp_name(name), written)
+                self.assertEqual(original_name(written), name)
+
+    def test_names_are_legal_and_read_back(self):
+        """All short names of letters that are next to escapes, or look like them."""
+        for letters, most in (("_x5B[", 5), ("e1.E", 5), ("_x5Fe", 5), ("free", 4), ("infx_", 4)):
+            for length in range(1, most + 1):
+                for each in itertools.product(sorted(set(letters)), repeat=length):
+                    name = "".join(each)
+                    written = lp_name(name)
+                    self.assertTrue(is_lp_name(written), name)
+                    self.assertEqual(original_name(written), name)
+                    if is_lp_name(name) and not re.search("_x[0-9A-F]{2}", name):
+                        self.assertEqual(written, name)
+
+    def test_random_names(self):
+        source = random.Random(5)
+        for _ in range(20000):
+            name = "".join(source.choice(models.MPS_BYTES) for _ in range(source.randint(1, 12)))
+            if name != "'MARKER'":
+                self.assertTrue(is_lp_name(lp_name(name)), name)
+                self.assertEqual(original_name(lp_name(name)), name)
+
+    def test_each_byte(self):
+        for byte in models.MPS_BYTES:
+            for name in (byte, f"a{byte}", f"{byte}a"):
+                self.assertTrue(is_lp_name(lp_name(name)), name)
+                self.assertEqual(original_name(lp_name(name)), name)
+                if models.is_lp_name(name):
+                    self.assertEqual(lp_name(name), name)
+
+    def test_length(self):
+        self.assertEqual(len(lp_name("x" * 250 + "[")), 254)
+        self.assertEqual(lp_name("x" * 255), "x" * 255)
+        for name in ("x" * 252 + "[", "2" + "x" * 252, "[" * 64):
+            with self.assertRaisesRegex(RenameError, "a name has 25[6] bytes, and 255 are the most"):
+                lp_name(name)
+
+    def test_names_that_are_not_written(self):
+        for written in ("a_x41", "_x00", "_xFF", "_x20", "2x", "x[1]", "free", "_x5Fx5", "", "_x27MARKER'"):
+            with self.assertRaises(RenameError, msg=written):
+                original_name(written)
+
+
+class Models(unittest.TestCase):
+    def test_a_model(self):
+        done = renamed(text_of(MPS))
+        self.assertEqual(done.text, LP)
+        self.assertEqual(table(done.names), TABLE)
+        self.assertTrue(mpslp.same(names_back(text_of(LP, "lp"), None), MPS, "mps", "mps"))
+        self.assertTrue(mpslp.same(names_back(text_of(LP, "lp"), table_of(TABLE)), MPS, "mps", "mps"))
+
+    def test_random_models(self):
+        source = random.Random(8)
+        changed = 0
+        for _ in range(60):
+            model = models.drawn_model(source)
+            content = spellings.mps_text(source, model)
+            try:
+                done = renamed(text_of(content))
+            except RenameError:  # long names of bytes that LP does not have
+                continue
+            self.assertTrue(mpslp.is_canonical(done.text, "lp"))
+            self.assertTrue(mpslp.same(names_back(text_of(done.text, "lp"), None), content, "mps", "mps"))
+            self.assertEqual(set(done.names), {name for name in (model.objective, *model.rows, *model.columns) if lp_name(name) != name})
+            changed += bool(done.names)
+        self.assertGreater(changed, 5)
+
+    def test_another_model_is_not_returned(self):
+        with mock.patch.object(_call, "lp_name", return_value="x"), self.assertRaises((OwnCheckError, mpslp.ModelFileError)):
+            renamed(text_of(MPS))
+        with mock.patch.object(_call, "original_name", side_effect=lambda name: f"{original_name(name)}!"), self.assertRaises(OwnCheckError):
+            renamed(text_of(MPS))
+
+    def test_names_that_would_be_the_same(self):
+        with self.assertRaisesRegex(RenameError, "two names would be b: a and b"):
+            names_back(text_of(b"min a + b\nend\n", "lp"), {"a": "b"})
+
+    def test_tables(self):
+        self.assertEqual(table_of(b"a\tb\r\n"), {"b": "a"})
+        for content in (b"a b\n", b"a\tb\tc\n", b"a\t\n"):
+            with self.assertRaisesRegex(ValueError, "line 1 is not"):
+                table_of(content)
+
+    def test_solutions(self):
+        solution = b"# \x80 x_x41\r\n  x_x5B1_x5D\t 4\n_x32y=1 _x32y 3.5\n\nplain 40"
+        wanted = b"# \x80 x_x41\r\n  x[1]\t 4\n_x32y=1 2y 3.5\n\nplain 40"
+        self.assertEqual(words_back(solution, None), wanted)
+        self.assertEqual(words_back(solution, table_of(TABLE)), wanted)
+        self.assertEqual(words_back(solution, {"plain": "p"}), solution.replace(b"plain", b"p"))
+
+
+class Command(Directory):
+    def test_a_model_and_back(self):
+        self.file("a.mps", MPS)
+        self.prints(["canon", "-t", "lp", "--rename", "--no-warnings", "a.mps"], 0, LP.decode())
+        self.prints(["canon", "--no-warnings", "--rename", "-o", "a.lp", "--map", "a.tsv", "a.mps"], 0)
+        self.leaves(a_mps=MPS, a_lp=LP, a_tsv=TABLE)
+        canonical = mpslp.canonical(MPS, "mps").decode()
+        self.prints(["canon", "--names-back", "a.lp"], 0, canonical)
+        self.prints(["canon", "--names-back", "-f", "lp", "-"], 0, canonical, content=LP)
+        self.prints(["canon", "--names-back", "--map", "a.tsv", "a.lp"], 0, canonical)
+        self.prints(["canon", "--names-back", "-o", "b.mps", "a.lp"], 0)
+        self.leaves(a_mps=MPS, a_lp=LP, a_tsv=TABLE, b_mps=canonical.encode())
+
+    def test_a_solution(self):
+        self.file("a.tsv", TABLE)
+        self.file("a.sol", b"x_x5B1_x5D 4\n")
+        self.prints(["canon", "--names-back", "a.sol"], 0, "x[1] 4\n")
+        self.prints(["canon", "--names-back", "--map", "a.tsv", "-"], 0, "x[1] 4\n", content=b"x_x5B1_x5D 4\n")
+        self.prints(["canon", "--names-back", "-o", "b.sol", "a.sol"], 0)
+        self.leaves(a_tsv=TABLE, a_sol=b"x_x5B1_x5D 4\n", b_sol=b"x[1] 4\n")
+
+    def test_names_that_are_too_long(self):
+        name = "[" * 64
+        self.file("a.mps", MPS.replace(b"2y", name.encode()))
+        self.prints(["canon", "-t", "lp", "--rename", "--map", "a.tsv", "a.mps"], 2, error=f"a.mps: renamed for LP, a name has 256 bytes, and 255 are the most: {name}\n")
+        self.assertFalse((self.folder / "a.tsv").exists())
+
+    def test_errors(self):
+        self.file("a.mps", MPS)
+        self.file("b.lp", b"min x_x41\nend\n")
+        self.file("c.lp", b"min x y\nend\n")
+        self.file("d.lp", LP)
+        self.file("bad.tsv", b"x\n")
+        usage = "python3 -m mpslp: error: "
+        self.prints(["canon", "--names-back", "b.lp"], 2, error="b.lp: --rename writes no such name: x_x41\n")
+        self.prints(["canon", "-t", "lp", "--rename", "c.lp"], 2, error="c.lp:1: BadToken: y\n")
+        self.prints(["canon", "-t", "lp", "--names-back", "d.lp"], 2, error="d.lp: NotLp: objective free\n")
+        self.prints(["canon", "--rename", "a.mps"], 3, error="--rename writes LP: give -t lp, or -o with a path that ends in .lp\n")
+        self.prints(["canon", "--map", "a.tsv", "a.mps"], 3, error=usage + "--map goes with --rename or --names-back\n")
+        self.prints(["canon", "--names-back", "--map", "bad.tsv", "d.lp"], 3, error="bad.tsv: line 1 is not a name, a tab and a name\n")
+        self.prints(["canon", "--names-back", "--map", "absent.tsv", "d.lp"], 4, error="absent.tsv: No such file or directory\n")
+        self.prints(["canon", "--names-back", "absent.sol"], 4, error="absent.sol: No such file or directory\n")
+        for words in (["-i"], ["--for", "glpsol"], ["a.mps"], ["--names-back"]):
+            self.assertEqual(self.run_tools("canon", "-t", "lp", "--rename", *words, "a.mps").returncode, 3, words)
+        self.assertEqual(self.run_tools("canon", "--names-back", "--map", "bad.tsv", "absent.sol").returncode, 4)
+
+    def test_another_model_is_not_written(self):
+        self.file("a.mps", MPS)
+        with mock.patch.object(_call, "original_name", side_effect=lambda name: f"{original_name(name)}!"):
+            self.prints(["canon", "--rename", "-o", "a.lp", "--map", "a.tsv", "a.mps"], 2, error="a.mps: internal error: the result is not the same model\n")
+        self.leaves(a_mps=MPS)
+
+
+if __name__ == "__main__":
+    unittest.main()
