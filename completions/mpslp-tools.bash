@@ -35,12 +35,12 @@ _mpslp_tools() {
             mapfile -t COMPREPLY < <(compgen -d -- "$word")
             return
             ;;
-        --digits | --jobs | --map | --strict | -j)
+        --digits | --jobs | --strict | -j)
             return
             ;;
     esac
     case $command in
-        canon) options='--format --output --out-dir --in-place --diff --to --for --rename --names-back --map --force --jobs --quiet --no-warnings --help -Werror' ;;
+        canon) options='--format --output --out-dir --in-place --diff --to --for --rename --map --names-back --force --jobs --quiet --no-warnings --help -Werror' ;;
         fmt) options='--format --in-place --check --diff --jobs --json --quiet --help' ;;
         check) options='--format --portable --target --all --ignore --jobs --json --quiet --no-warnings --help -Werror' ;;
         same) options='--format --quiet --no-warnings --help -Werror' ;;

@@ -67,9 +67,9 @@ class OneTable(unittest.TestCase):
 
     def test_commands_that_have_an_option(self):
         have = {name: {each for action in command._actions for each in action.option_strings} for name, command in commands().items()}
-        for option, names in (("--json", "check diff survey digest adapt report"), ("--diff", "canon adapt"), ("--out-dir", "canon adapt report"), ("-i", "canon adapt"),
-                              ("-q", "canon check same diff show digest adapt survey report"), ("-f", "canon check same diff show digest adapt survey report explain"),
-                              ("-j", "canon check digest adapt survey report"), ("--from", "adapt survey"), ("-o", "canon adapt report")):
+        for option, names in (("--json", "check diff survey digest adapt report fmt"), ("--diff", "canon adapt fmt"), ("--out-dir", "canon adapt report"), ("-i", "canon adapt fmt"),
+                              ("-q", "canon check same diff show digest adapt survey report fmt"), ("-f", "canon check same diff show digest adapt survey report explain fmt"),
+                              ("-j", "canon check digest adapt survey report fmt"), ("--from", "adapt survey"), ("-o", "canon adapt report")):
             self.assertEqual({name for name, options in have.items() if option in options}, set(names.split()), option)
 
     def test_completions_and_the_manual_page_are_made_from_the_parser(self):
@@ -347,7 +347,7 @@ class AdaptMany(Directory):
 
     def test_usage(self):
         for words in (["m"], ["m/a.lp", "m/c.mps"], ["-o", "x.lp", "m"], ["--map", "names", "--dry-run", "m"], ["-i", "-f", "lp", "-"], ["-i", "-o", "x", "m/a.lp"],
-                      ["--json", "m/a.lp"], ["--strict", "word", "-i", "m"], ["--names-back", "m/a.lp", "m/a.lp", "m/c.mps"], ["--names-back", "m/a.lp", "m/a.lp"],
+                      ["--json", "m/a.lp"], ["--strict", "word", "-i", "m"], ["--names-back", "m/a.lp", "m/a.lp", "m/c.mps"], ["--names-back", "m/a.lp", "m/a.lp"], ["--names-back", "m/a.lp"],
                       ["--names-back", "m/a.lp", "-i", "m/a.lp"], ["--names-back", "m/a.lp", "--out-dir", "out", "m/a.lp"], ["--names-back", "m/a.lp", "--json", "m/a.lp"]):
             done = self.run_tools("adapt", *words)
             self.assertEqual((done.returncode, done.stdout), (3, b""), words)

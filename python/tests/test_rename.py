@@ -62,7 +62,7 @@ Generals
  plain
 End
 """
-TABLE = b"2y\t_x32y\ncap[1,2]\tcap_x5B1,2_x5D\nfree\t_x66ree\nx[1]\tx_x5B1_x5D\n"
+TABLE = b'{\n "2y": "_x32y",\n "cap[1,2]": "cap_x5B1,2_x5D",\n "free": "_x66ree",\n "x[1]": "x_x5B1_x5D"\n}\n'
 NAMES = {"x[1,2]": "x_x5B1,2_x5D", "2x": "_x32x", ".5": "_x2E5", "e": "_x65", "E1": "_x451", "free": "_x66ree", "Inf": "_x49nf", "s.t.": "_x73.t.",
          "a*b": "a_x2Ab", "_x5B": "_x5Fx5B", "a_x5B_x5D": "a_x5Fx5B_x5Fx5D", "_[": "__x5B", "_x5[": "_x5_x5B", "_x[41": "_x_x5B41", "[": "_x5B", "9": "_x39"}
 SAME = ("x", "x_", "_x5", "_x5b", "_xG1", "__x", "y(1,2)", "x/2", "element", "e_1", "_2x", "x.5", "freedom")
@@ -155,9 +155,9 @@ class Models(unittest.TestCase):
             names_back(text_of(b"min a + b\nend\n", "lp"), {"a": "b"})
 
     def test_tables(self):
-        self.assertEqual(table_of(b"a\tb\r\n"), {"b": "a"})
-        for content in (b"a b\n", b"a\tb\tc\n", b"a\t\n"):
-            with self.assertRaisesRegex(ValueError, "line 1 is not"):
+        self.assertEqual(table_of(b'{"a":"b"}'), {"b": "a"})
+        for content in (b"a b\n", b"[]", b'{"a": 1}'):
+            with self.assertRaises(ValueError):
                 table_of(content)
 
     def test_solutions(self):
@@ -172,52 +172,52 @@ class Command(Directory):
     def test_a_model_and_back(self):
         self.file("a.mps", MPS)
         self.prints(["canon", "-t", "lp", "--rename", "--no-warnings", "a.mps"], 0, LP.decode())
-        self.prints(["canon", "--no-warnings", "--rename", "-o", "a.lp", "--map", "a.tsv", "a.mps"], 0)
-        self.leaves(a_mps=MPS, a_lp=LP, a_tsv=TABLE)
+        self.prints(["canon", "--no-warnings", "--rename", "-o", "a.lp", "--map", "a.json", "a.mps"], 0)
+        self.leaves(a_mps=MPS, a_lp=LP, a_json=TABLE)
         canonical = mpslp.canonical(MPS, "mps").decode()
         self.prints(["canon", "--names-back", "a.lp"], 0, canonical)
         self.prints(["canon", "--names-back", "-f", "lp", "-"], 0, canonical, content=LP)
-        self.prints(["canon", "--names-back", "--map", "a.tsv", "a.lp"], 0, canonical)
+        self.prints(["canon", "--names-back", "--map", "a.json", "a.lp"], 0, canonical)
         self.prints(["canon", "--names-back", "-o", "b.mps", "a.lp"], 0)
-        self.leaves(a_mps=MPS, a_lp=LP, a_tsv=TABLE, b_mps=canonical.encode())
+        self.leaves(a_mps=MPS, a_lp=LP, a_json=TABLE, b_mps=canonical.encode())
 
     def test_a_solution(self):
-        self.file("a.tsv", TABLE)
+        self.file("a.json", TABLE)
         self.file("a.sol", b"x_x5B1_x5D 4\n")
         self.prints(["canon", "--names-back", "a.sol"], 0, "x[1] 4\n")
-        self.prints(["canon", "--names-back", "--map", "a.tsv", "-"], 0, "x[1] 4\n", content=b"x_x5B1_x5D 4\n")
+        self.prints(["canon", "--names-back", "--map", "a.json", "-"], 0, "x[1] 4\n", content=b"x_x5B1_x5D 4\n")
         self.prints(["canon", "--names-back", "-o", "b.sol", "a.sol"], 0)
-        self.leaves(a_tsv=TABLE, a_sol=b"x_x5B1_x5D 4\n", b_sol=b"x[1] 4\n")
+        self.leaves(a_json=TABLE, a_sol=b"x_x5B1_x5D 4\n", b_sol=b"x[1] 4\n")
 
     def test_names_that_are_too_long(self):
         name = "[" * 64
         self.file("a.mps", MPS.replace(b"2y", name.encode()))
-        self.prints(["canon", "-t", "lp", "--rename", "--map", "a.tsv", "a.mps"], 2, error=f"a.mps: renamed for LP, a name has 256 bytes, and 255 are the most: {name}\n")
-        self.assertFalse((self.folder / "a.tsv").exists())
+        self.prints(["canon", "-t", "lp", "--rename", "--map", "a.json", "a.mps"], 2, error=f"a.mps: renamed for LP, a name has 256 bytes, and 255 are the most: {name}\n")
+        self.assertFalse((self.folder / "a.json").exists())
 
     def test_errors(self):
         self.file("a.mps", MPS)
         self.file("b.lp", b"min x_x41\nend\n")
         self.file("c.lp", b"min x y\nend\n")
         self.file("d.lp", LP)
-        self.file("bad.tsv", b"x\n")
+        self.file("bad.json", b"[1]\n")
         usage = "python3 -m mpslp: error: "
         self.prints(["canon", "--names-back", "b.lp"], 2, error="b.lp: --rename writes no such name: x_x41\n")
         self.prints(["canon", "-t", "lp", "--rename", "c.lp"], 2, error="c.lp:1: BadToken: y\n")
         self.prints(["canon", "-t", "lp", "--names-back", "d.lp"], 2, error="d.lp: NotLp: objective free\n")
         self.prints(["canon", "--rename", "a.mps"], 3, error="--rename writes LP: give -t lp, or -o with a path that ends in .lp\n")
-        self.prints(["canon", "--map", "a.tsv", "a.mps"], 3, error=usage + "--map goes with --rename or --names-back\n")
-        self.prints(["canon", "--names-back", "--map", "bad.tsv", "d.lp"], 3, error="bad.tsv: line 1 is not a name, a tab and a name\n")
-        self.prints(["canon", "--names-back", "--map", "absent.tsv", "d.lp"], 4, error="absent.tsv: No such file or directory\n")
+        self.prints(["canon", "--map", "a.json", "a.mps"], 3, error=usage + "--map goes with --rename or --names-back\n")
+        self.prints(["canon", "--names-back", "--map", "bad.json", "d.lp"], 3, error="bad.json: it is not a JSON object of names\n")
+        self.prints(["canon", "--names-back", "--map", "absent.json", "d.lp"], 4, error="absent.json: No such file or directory\n")
         self.prints(["canon", "--names-back", "absent.sol"], 4, error="absent.sol: No such file or directory\n")
         for words in (["-i"], ["--for", "glpsol"], ["a.mps"], ["--names-back"]):
             self.assertEqual(self.run_tools("canon", "-t", "lp", "--rename", *words, "a.mps").returncode, 3, words)
-        self.assertEqual(self.run_tools("canon", "--names-back", "--map", "bad.tsv", "absent.sol").returncode, 4)
+        self.assertEqual(self.run_tools("canon", "--names-back", "--map", "bad.json", "absent.sol").returncode, 4)
 
     def test_another_model_is_not_written(self):
         self.file("a.mps", MPS)
         with mock.patch.object(_call, "original_name", side_effect=lambda name: f"{original_name(name)}!"):
-            self.prints(["canon", "--rename", "-o", "a.lp", "--map", "a.tsv", "a.mps"], 2, error="a.mps: internal error: the result is not the same model\n")
+            self.prints(["canon", "--rename", "-o", "a.lp", "--map", "a.json", "a.mps"], 2, error="a.mps: internal error: the result is not the same model\n")
         self.leaves(a_mps=MPS)
 
 

@@ -3,7 +3,6 @@
 from __future__ import annotations
 
 import argparse
-import json
 import os
 import re
 import sys
@@ -25,6 +24,7 @@ from mpslp._compression import pack
 from mpslp._files import replace_file
 from mpslp._output import write_lines
 from mpslp._patch import unified_diff
+from mpslp._rename import table, table_of
 from mpslp._sources import Text, read_standard_input
 
 USAGE = "[OPTION].. FILE.."
@@ -52,8 +52,8 @@ def add(parser: argparse.ArgumentParser) -> None:
         _options.DIALECT,
         flag("--summary", help="print how many changes of each kind there are"),
         option("--strict", action="append", default=[], metavar="KIND", help="leave files that need such a change; repeatable"),
-        option("--map", metavar="FILE", help="write the names given and written, as JSON"),
-        option("--names-back", metavar="MAP", help="write FILE, a solution, with the names given"),
+        _options.NAMES,
+        _options.NAMES_BACK,
         _options.JOBS,
         _options.JSON,
         _options.QUIET,
@@ -65,7 +65,7 @@ def run(options: argparse.Namespace) -> Status:
         kinds_of(options.strict)
     except ValueError as error:
         raise UsageError(str(error)) from None
-    if options.names_back is not None:
+    if options.names_back:
         return _names_back(options)
     _require_fitting(options)
     inputs = inputs_for(options)
@@ -105,8 +105,7 @@ def _adapted(text: Text, given: Input, options: argparse.Namespace) -> Outcome:
         return _left(given, error)
     written = _written(text, given, options, done)
     if options.map is not None:
-        names = json.dumps(done.names, indent=1, ensure_ascii=False) + "\n"
-        replace_file(options.map, names.encode("utf-8", "surrogateescape"))
+        replace_file(options.map, table(done.names))
     counts = Counter(change.kind for change in done.changes)
     return written._replace(
         status=Status.DIFFERS if done.changes else Status.DONE,
@@ -181,17 +180,19 @@ def _summary(done: Done) -> Iterator[str]:
 
 def _names_back(options: argparse.Namespace) -> Status:
     """Writes a solution with the names given."""
-    if len(options.files) != 1:
-        raise UsageError("--names-back takes one solution")
-    if options.in_place or options.patch or options.out_dir is not None or options.dry_run or options.summary or options.json or options.map is not None:
-        raise UsageError("--names-back writes a solution: it goes only with -o and -q")
+    if options.map is None and len(options.files) == 2:
+        options.map = options.files.pop(0)  # as `adapt --names-back NAMES SOLUTION`
+    if len(options.files) != 1 or options.map is None:
+        raise UsageError("--names-back takes one solution, and the names of --map")
+    if options.in_place or options.patch or options.out_dir is not None or options.dry_run or options.summary or options.json:
+        raise UsageError("--names-back writes a solution: it goes only with --map, -o and -q")
     given = one_input(options)
 
     def work() -> Outcome:
         try:
             return _with_names_given(given, options)
         except ValueError as error:  # of JSON
-            raise UsageError(f"{options.names_back}: {error}") from None
+            raise UsageError(f"{options.map}: {error}") from None
         except (OSError, MemoryError) as error:
             return failure(given.path, error)
 
@@ -199,8 +200,8 @@ def _names_back(options: argparse.Namespace) -> Status:
 
 
 def _with_names_given(given: Input, options: argparse.Namespace) -> Outcome:
-    with open(options.names_back, encoding="utf-8", errors="surrogateescape") as file:
-        names = {written: name for name, written in json.load(file).items()}
+    with open(options.map, "rb") as file:
+        names = table_of(file.read())
     text = with_names(_bytes_of(given.path), names)
     return given_out(text, options.output, options)
 

@@ -33,7 +33,7 @@ canonical already is not touched. A file that has the sense of the objective in 
 exit status 2, unless --force is given. The format written is that of -t, or of the extension of the file given by -o, or of the file
 read. With --out-dir, -t changes the extensions. With --for, the text is what that solver reads as the model; what it has no place for
 is written in another way, with a warning; the exit status is 2, and nothing is written, if it would find another optimum. SOLVERS.md
-has the commands that read these texts."""
+has the commands that read these texts. With --names-back, --map is read."""
 
 
 def add(parser: argparse.ArgumentParser) -> None:
@@ -44,8 +44,8 @@ def add(parser: argparse.ArgumentParser) -> None:
         option("-t", "--to", choices=("mps", "lp", "glp"), metavar="FORMAT", help="write mps or lp; with --for glpsol also glp"),
         option("--for", dest="solver", choices=tuple(SOLVERS), metavar="SOLVER", help="write what glpsol, clp, cbc, lp_solve or esolver reads"),
         flag("--rename", help="with -t lp, give names that LP does not have legal ones"),
-        flag("--names-back", help="write a model or a solution with its names before"),
-        option("--map", metavar="TABLE", help="write, or with --names-back read, the names"),
+        _options.NAMES,
+        _options.NAMES_BACK,
         flag("--force", help="with -i, also if the sense is in a comment only"),
         _options.JOBS,
         _options.QUIET,

@@ -77,6 +77,8 @@ class _WarningOption(argparse.Action):
 
 FILES = "a model file or a directory; - is standard input"
 
+NAMES = option("--map", metavar="FILE", help="write the names given and written, as JSON")
+NAMES_BACK = flag("--names-back", help="write a model or a solution with the names given")
 FORMAT = option("-f", "--format", choices=FORMATS, metavar="FORMAT", help="the format, if the extension does not say it: mps or lp")
 JOBS = option("-j", "--jobs", type=partial(whole_number, most=_MOST_JOBS), default=_processors(), metavar="N", help="work in N processes (default: all processors)")
 QUIET = flag("-q", "--quiet", help="print errors only; the exit status says the rest")

@@ -2,6 +2,7 @@
 
 from __future__ import annotations
 
+import json
 import re
 from collections.abc import Callable, Mapping
 
@@ -52,16 +53,14 @@ def _name_if_written(word: str) -> str:
 
 
 def table(names: Mapping[str, str]) -> bytes:
-    """The names and the names that are written for them: a line each, with a tab between them."""
-    return "".join(f"{name}\t{names[name]}\n" for name in sorted(names)).encode("ascii")
+    """The names given and the names that are written for them, as a JSON object."""
+    text = json.dumps({name: names[name] for name in sorted(names)}, indent=1, ensure_ascii=False)
+    return f"{text}\n".encode("utf-8", "surrogateescape")
 
 
 def table_of(content: bytes) -> dict[str, str]:
-    """The names by those that are written for them; raises ValueError for what is no such table."""
-    names: dict[str, str] = {}
-    for number, line in enumerate(content.decode("latin-1").splitlines(), 1):
-        fields = line.split("\t")
-        if len(fields) != 2 or not all(fields):
-            raise ValueError(f"line {number} is not a name, a tab and a name")
-        names[fields[1]] = fields[0]
-    return names
+    """The names given by those that are written for them; raises ValueError for what is no such table."""
+    names = json.loads(content.decode("utf-8", "surrogateescape"))
+    if not isinstance(names, dict) or not all(isinstance(each, str) for each in names.values()):
+        raise ValueError("it is not a JSON object of names")
+    return {written: name for name, written in names.items()}
