@@ -18,6 +18,13 @@ LOW, SMALL, LARGE, HIGH = Decimal("-Infinity"), Decimal("-1.5E-7"), Decimal("40"
 ROWS = [("weight", LOW, LARGE), ("size", SMALL, HIGH)]
 COLUMNS = [("y", _mpslp.INTEGER, SMALL, HIGH, LARGE, [(1, SMALL), (0, LARGE)]), ("x", _mpslp.CONTINUOUS, LOW, LARGE, SMALL, [])]
 
+
+
+def changed(rows, new_rows=[], columns=[], elements=[], new_columns=[]):
+    """A model with changes."""
+    return _mpslp.make_changed(LOADED, _mpslp.MINIMIZE, "cost", LARGE, rows, new_rows, columns, elements, new_columns)
+
+
 # Each has all of its arguments, so that nothing but the call itself takes memory.
 CALLS = {
     "canonical": partial(_mpslp.canonical, MPS, _mpslp.MPS, _mpslp.LP),
@@ -43,11 +50,15 @@ CALLS = {
     "whether columns are the same": lambda: (LOADED.is_same_column(0, LOADED, 0), LOADED.is_same_column(0, LOADED, 1)),
     "a model's column's entries": lambda: (LOADED.column_len(0), LOADED.column_entries(0)),
     "a model's row's entries": lambda: (lambda loaded: (loaded.row_len(0), loaded.row_entries(0)))(_mpslp.load(OTHER, _mpslp.LP)),
+    "a model's lines": lambda: (LOADED.lines(0), LOADED.lines(1)),
     "load, refused": partial(_mpslp.load, ON_A_LINE, _mpslp.MPS),
     "store": partial(_mpslp.store, LOADED, _mpslp.LP),
     "store, not LP": partial(_mpslp.store, _mpslp.load(NOT_LP, _mpslp.MPS), _mpslp.LP),
     "make": lambda: _mpslp.store(_mpslp.make(_mpslp.MAXIMIZE, "profit", SMALL, ROWS, COLUMNS), _mpslp.MPS),
     "make, refused": partial(_mpslp.make, _mpslp.MINIMIZE, "weight", SMALL, ROWS, COLUMNS),
+    "make_changed": partial(changed, [(0, SMALL, HIGH)], [], [(0, _mpslp.INTEGER, SMALL, HIGH, LARGE)]),
+    "make_changed, of all parts": partial(changed, [], ROWS, [], [(0, []), (1, [(0, LARGE), (1, SMALL)])], COLUMNS),
+    "make_changed, refused": partial(changed, [(0, LARGE, SMALL)]),
 }
 
 # Arguments that the modules of the package never give.
@@ -66,6 +77,13 @@ WRONG_CALLS = {
     "a row that is no tuple": partial(_mpslp.make, _mpslp.MINIMIZE, "cost", SMALL, ["weight"], []),
     "a row below 0": partial(_mpslp.make, _mpslp.MINIMIZE, "cost", SMALL, [], [("x", 0, SMALL, HIGH, LARGE, [(-1, SMALL)])]),
     "a number that is none": partial(_mpslp.make, _mpslp.MINIMIZE, "cost", Decimal("NaN"), [], []),
+    "a line that is not there": partial(LOADED.lines, 2**20),
+    "a change of a row that is not there": partial(changed, [(9, SMALL, HIGH)]),
+    "a change of a column that is not there": partial(changed, [], [], [(9, 0, SMALL, HIGH, SMALL)]),
+    "a change of elements of no column": partial(changed, [], [], [], [(9, [])]),
+    "changes of elements without order": partial(changed, [], [], [], [(1, []), (0, [])]),
+    "a change that is no tuple": partial(changed, [], [], [], [None]),
+    "a change of a number that is none": partial(changed, [(0, SMALL, None)]),
     "an argument too few": partial(_mpslp.same, MPS, _mpslp.MPS, LP),
 }
 

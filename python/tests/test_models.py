@@ -118,6 +118,98 @@ class Mappings(unittest.TestCase):
         self.assertLess(bytes_in_use() - before, 10_000)
 
 
+class Replaced(unittest.TestCase):
+    """A model with some parts replaced is the one that is made of all parts anew."""
+
+    def same_as_anew(self, model, sense=None, objective=None, constant=None, rows=(), columns=()):
+        before, digest = repr(model), mpslp.dumps(model, "mps")
+        found = model.replace(sense=sense, objective=objective, constant=constant, rows=rows, columns=columns)
+        wanted = mpslp.Model(
+            model.sense if sense is None else sense,
+            model.objective if objective is None else objective,
+            model.constant if constant is None else constant,
+            dict(model.rows) | {row.name: row for row in rows},
+            dict(model.columns) | {column.name: column for column in columns},
+        )
+        self.assertEqual(found, wanted)
+        self.assertEqual(mpslp.dumps(found, "mps"), mpslp.dumps(wanted, "mps"))
+        self.assertEqual({name: dict(row.entries) for name, row in found.rows.items()}, {name: dict(row.entries) for name, row in wanted.rows.items()})
+        self.assertEqual((repr(model), mpslp.dumps(model, "mps")), (before, digest))
+
+    def test_nothing(self):
+        for path, model in models():
+            with self.subTest(path.name):
+                self.same_as_anew(model)
+
+    def test_each_part(self):
+        """One part at a time, and all at once, in the first, the last and other places."""
+        for path, model in models():
+            with self.subTest(path.name):
+                rows = [dataclasses.replace(row, lower=-7, upper=Decimal("99.5")) for row in model.rows.values()]
+                columns = [dataclasses.replace(column, kind="integer", lower=-1, upper=3, cost=Decimal("0.25")) for column in model.columns.values()]
+                emptied = [dataclasses.replace(column, entries={}) for column in columns]
+                filled = [dataclasses.replace(column, entries={row: 2 for row in model.rows}) for column in columns]
+                for row in rows[:5] + rows[-1:]:
+                    self.same_as_anew(model, rows=[row])
+                for some in (columns, emptied, filled):
+                    for column in some[:5] + some[-1:]:
+                        self.same_as_anew(model, columns=[column])
+                    self.same_as_anew(model, "maximize", "another!", -1, rows, some[::-1])
+                self.same_as_anew(model, rows=rows[::2], columns=emptied[1::3] + filled[2::3])
+
+    def test_new_parts(self):
+        for path, model in models():
+            with self.subTest(path.name):
+                rows = [mpslp.Row(name, 1, 2) for name in ("~~new", "!new")]
+                columns = [mpslp.Column(name, entries={"~~new": 1, "!new": Fraction(1, 8)}) for name in ("~~column", "!column")]
+                old = next(iter(model.columns.values()))
+                self.same_as_anew(model, rows=rows)
+                self.same_as_anew(model, columns=[mpslp.Column("~~empty")])
+                self.same_as_anew(model, rows=rows, columns=columns)
+                self.same_as_anew(model, rows=rows, columns=[columns[0], dataclasses.replace(old, entries={**old.entries, "!new": 3})])
+
+    def test_mappings(self):
+        model = sample()
+        column = dataclasses.replace(model.columns["x"], upper=2.5)
+        self.assertEqual(model.replace(columns={"x": column}), model.replace(columns=[column]))
+        self.assertEqual(model.replace(columns={"x": column}).columns["x"], column)
+        self.assertEqual(model.replace(rows={"both": mpslp.Row("both", 1)}).rows["both"].entries, model.rows["both"].entries)
+
+    def test_what_is_no_model(self):
+        model = sample()
+        for message, changes in {
+            "the sense 'up' is neither 'minimize' nor 'maximize'": {"sense": "up"},
+            "row 'both' has the name of the objective": {"objective": "both"},
+            f"row {model.objective!r} has the name of the objective": {"rows": [mpslp.Row(model.objective)]},
+            "the objective: constant: inf is not finite": {"constant": float("inf")},
+            "a column is not at its own name": {"columns": {"x": mpslp.Column("y")}},
+            "row 'both' is there twice": {"rows": [mpslp.Row("both"), mpslp.Row("both")]},
+            "column 'x' has an entry in row 'none', which is not there": {"columns": [mpslp.Column("x", entries={"none": 1})]},
+            "column 'new' has an entry in row 'none', which is not there": {"columns": [mpslp.Column("new", entries={"none": 1})]},
+        }.items():
+            with self.subTest(message), self.assertRaises(ValueError) as caught:
+                model.replace(**changes)
+            self.assertEqual(str(caught.exception), message)
+        for changes in ({"rows": [mpslp.Column("x")]}, {"columns": [("x", 1)]}, {"columns": 7}, {"objective": 7}, {"constant": "1"}):
+            with self.subTest(changes), self.assertRaises(TypeError):
+                model.replace(**changes)
+
+    def test_an_objective_and_a_row_change_names(self):
+        """The name that the objective had is free for a row."""
+        model = sample()
+        changed = model.replace(objective="goal", rows=[mpslp.Row(model.objective, 0, 1)])
+        self.assertEqual((changed.objective, changed.rows[model.objective].upper), ("goal", 1))
+
+    def test_it_outlives_the_model_it_is_made_of(self):
+        model = mpslp.load(large_text(20_000), "mps")
+        name = next(iter(model.columns))
+        changed = model.replace(columns=[dataclasses.replace(model.columns[name], upper=5)])
+        del model
+        gc.collect()
+        self.assertEqual(changed.columns[name].upper, 5)
+        self.assertEqual(sum(len(column.entries) for column in changed.columns.values()), 20_000)
+
+
 class Parts(unittest.TestCase):
     def test_frozen_in_full(self):
         model = sample()

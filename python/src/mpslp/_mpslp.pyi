@@ -23,6 +23,18 @@ def make(
     columns: list[tuple[str, int, Decimal, Decimal, Decimal, list[tuple[int, Decimal]]]],
     /,
 ) -> Arrays: ...
+def make_changed(
+    arrays: Arrays,
+    sense: int,
+    objective: str,
+    constant: Decimal,
+    rows: list[tuple[int, Decimal, Decimal]],
+    new_rows: list[tuple[str, Decimal, Decimal]],
+    columns: list[tuple[int, int, Decimal, Decimal, Decimal]],
+    elements: list[tuple[int, list[tuple[int, Decimal]]]],
+    new_columns: list[tuple[str, int, Decimal, Decimal, Decimal, list[tuple[int, Decimal]]]],
+    /,
+) -> Arrays: ...
 def make_of_doubles(
     sense: int,
     objective: str,
@@ -61,3 +73,4 @@ class Arrays:
     def column_len(self, number: int, /) -> int: ...
     def row_entries(self, number: int, /) -> list[tuple[str, Decimal]]: ...
     def column_entries(self, number: int, /) -> list[tuple[str, Decimal]]: ...
+    def lines(self, number: int, /) -> tuple[str, int]: ...
