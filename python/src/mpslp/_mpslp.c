@@ -401,12 +401,58 @@ static int has_same_content(const mpslp_model *one, size_t j, const mpslp_model 
     return 1;
 }
 
-static PyObject *arrays_is_same_column(PyObject *self, PyObject *arguments) {
-    PyObject *number, *other, *other_number;
-    size_t j, k;
-    if (!PyArg_ParseTuple(arguments, "OO!O:is_same_column", &number, Py_TYPE(self), &other, &other_number)) return NULL;
-    if (!find_number(number, model_of(self)->num_columns, &j) || !find_number(other_number, model_of(other)->num_columns, &k)) return NULL;
-    return PyBool_FromLong(has_same_content(model_of(self), j, model_of(other), k));
+static int has_same_limits(const mpslp_model *one, size_t i, const mpslp_model *other, size_t k) {
+    return memcmp(&one->rows[i].lower, &other->rows[k].lower, sizeof one->rows[i].lower) == 0 &&
+           memcmp(&one->rows[i].upper, &other->rows[k].upper, sizeof one->rows[i].upper) == 0;
+}
+
+static int compare_names(const mpslp_model *one, mpslp_name name, const mpslp_model *other, mpslp_name other_name) {
+    return mpslp_compare_name(one, name, (const char *)other->names.bytes + other_name.at, other_name.len);
+}
+
+static int compare_rows(const mpslp_model *one, size_t i, const mpslp_model *other, size_t k) {
+    return compare_names(one, one->rows[i].name, other, other->rows[k].name);
+}
+
+static int compare_columns(const mpslp_model *one, size_t j, const mpslp_model *other, size_t k) {
+    return compare_names(one, one->columns[j].name, other, other->columns[k].name);
+}
+
+/* How the rows, or the columns, of two models are compared: all that have the same name and the same content are passed over. */
+typedef struct {
+    int (*compare)(const mpslp_model *, size_t, const mpslp_model *, size_t);
+    int (*is_same)(const mpslp_model *, size_t, const mpslp_model *, size_t);
+} comparison;
+
+/* The next numbers in two models, from those that are given on, where they differ, and the order of their names; or None. */
+static PyObject *next_difference(PyObject *self, PyObject *arguments, size_t (*count)(const mpslp_model *), comparison each) {
+    const mpslp_model *one = model_of(self), *two;
+    PyObject *first, *other, *second;
+    size_t i, k;
+    int order = 0;
+    if (!PyArg_ParseTuple(arguments, "OO!O:next_difference", &first, Py_TYPE(self), &other, &second)) return NULL;
+    two = model_of(other);
+    if (!find_number(first, count(one) + 1, &i) || !find_number(second, count(two) + 1, &k)) return NULL;
+    Py_BEGIN_ALLOW_THREADS
+    for (; i < count(one) && k < count(two); i++, k++) {
+        order = each.compare(one, i, two, k);
+        if (order != 0 || !each.is_same(one, i, two, k)) break;
+    }
+    Py_END_ALLOW_THREADS
+    if (i == count(one) && k == count(two)) return Py_NewRef(Py_None);
+    if (i == count(one) || k == count(two)) order = k == count(two) ? -1 : 1;
+    PyObject *made = PyTuple_New(3);
+    return filled(made, made != NULL && put(made, 0, PyLong_FromSize_t(i)) && put(made, 1, PyLong_FromSize_t(k)) && put(made, 2, PyLong_FromLong(order)));
+}
+
+static PyObject *arrays_next_row(PyObject *self, PyObject *arguments) {
+    const comparison of_rows = { compare_rows, has_same_limits };
+    return next_difference(self, arguments, mpslp_num_rows, of_rows);
+}
+
+static PyObject *arrays_next_column(PyObject *self, PyObject *arguments) {
+    const comparison of_columns = { compare_columns, has_same_content };
+    return next_difference(self, arguments, mpslp_num_columns, of_columns);
 }
 
 /* Sorts the nonzeros by row: counts those of each row, computes where each row begins, then puts each into its place. */
@@ -695,8 +741,12 @@ static PyMethodDef arrays_methods[] = {
     { "find_row", arrays_find_row, METH_O, "find_row($self, name, /)\n--\n\nThe number of the row that has a name, or None." },
     { "find_column", arrays_find_column, METH_O, "find_column($self, name, /)\n--\n\nThe number of the column that has a name, or None." },
     { "entry", arrays_entry, METH_VARARGS, "entry($self, row, column, /)\n--\n\nA coefficient, or None where it is 0." },
-    { "is_same_column", arrays_is_same_column, METH_VARARGS,
-      "is_same_column($self, number, other, other_number, /)\n--\n\nWhether columns of two models are the same but for their names." },
+    { "next_row_difference", arrays_next_row, METH_VARARGS,
+      "next_row_difference($self, number, other, other_number, /)\n--\n\n"
+      "The numbers, from these on, of the next rows that differ, and the order of their names; or None." },
+    { "next_column_difference", arrays_next_column, METH_VARARGS,
+      "next_column_difference($self, number, other, other_number, /)\n--\n\n"
+      "The numbers, from these on, of the next columns that differ, and the order of their names; or None." },
     { "row_len", arrays_row_len, METH_O, "row_len($self, number, /)\n--\n\nHow many coefficients of a row are not 0." },
     { "column_len", arrays_column_len, METH_O, "column_len($self, number, /)\n--\n\nHow many coefficients of a column are not 0." },
     { "row_entries", arrays_row_entries, METH_O, "row_entries($self, number, /)\n--\n\nThe columns of a row, and their coefficients." },
