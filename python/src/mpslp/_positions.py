@@ -13,9 +13,9 @@ from mpslp._warnings._mps import MpsText
 if TYPE_CHECKING:
     from mpslp._models import Model
 
-# The name of a row after its type, and that of a column before its first row: a line of a marker has no row.
+# The name of a row after its type, and that of a column in lines of the column: a line of a marker has no row.
 _MPS_ROW = re.compile(rb"\n[ \t]+\S+[ \t]+(\S+)")
-_MPS_COLUMN = re.compile(rb"\n[ \t]+(\S+)[ \t]+(?!'MARKER'[ \t])\S")
+_MPS_COLUMN = re.compile(rb"\n[ \t]+(\S+)[ \t]+(?!'MARKER'[ \t])\S[^\n]*(?:\n[ \t]+\1[ \t]+(?!'MARKER'[ \t])[^\n]*)*")
 
 # A number, which has no name in it, or a word with the colon that makes it a label.
 _LP_TOKEN = re.compile(r"(?:\d+\.?\d*|\.\d+)(?:[eE][+-]?\d+)?|([A-Za-z!\"#$%&()/,;?@_'`{}|~][\w!\"#$%&()/,.;?@'`{}|~]*)(\s*:)?", re.ASCII)

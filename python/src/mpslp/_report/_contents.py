@@ -144,9 +144,8 @@ def contents_of(model: Model, arrays: Arrays) -> Contents:
     for number, length in enumerate(lengths):
         _count_column(contents, *exact.column(number), length)
     _count_coefficients(contents.coefficients, model, arrays)
-    by_row = Counter(memoryview(arrays.indices))
     if model.rows:
-        contents.row_lengths = _lengths(arrays.row_names or (), [by_row[number] for number in range(len(model.rows))])
+        contents.row_lengths = _lengths(arrays.row_names or (), list(map(exact.row_len, range(len(model.rows)))))
     contents.column_lengths = _lengths(arrays.column_names or (), lengths)
     return contents
 

@@ -102,7 +102,6 @@ class _Mps:
 
     _BOUNDS = {"LO": LOWER, "MI": LOWER, "LI": LOWER, "UP": UPPER, "PL": UPPER, "UI": UPPER, "SC": UPPER, "FX": BOTH, "FR": BOTH, "BV": BOTH}
     _WITHOUT_NUMBER = ("FR", "MI", "PL", "BV")
-    _MARKER = re.compile(rb"\n[ \t]+\S+[ \t]+'MARKER'[ \t][^\n]*")
     _UNUSUAL = re.compile(rb"\n(?:\*|[ \t\r]*(?:\n|\Z))")  # a comment, or an empty line
     _FIELD = re.compile(rb"\n[ \t]+(\S+)")
     _SENSE = re.compile(rb"\*\s*SENSE\s*:\s*(\w+)", re.IGNORECASE)
@@ -153,10 +152,10 @@ class _Mps:
         section = text.sections[b"COLUMNS"]
         for block in text.blocks(section):
             start = block.start
-            for marker in self._MARKER.finditer(text.content, *block):
-                self._column_lines(text.content, start, marker.start())
-                self._line(marker[0][1:])
-                start = marker.end()
+            for line in text.lines_with(b"'MARKER'", block):
+                self._column_lines(text.content, start, line.start)
+                self._line(text.content[line.start + 1 : line.end])
+                start = line.end
             self._column_lines(text.content, start, block.end)
         return section.end + 1
 

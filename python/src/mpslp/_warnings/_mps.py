@@ -81,6 +81,14 @@ class MpsText:
             yield Section(start, end)
             start = end
 
+    def lines_with(self, word: bytes, section: Section) -> Iterator[Section]:
+        """The lines of a section that contain a word, each from the line feed before it to its end."""
+        place = self.content.find(word, *section)
+        while place >= 0:
+            line = Section(self.start_of_line(place) - 1, min(self._end_of_line(place), section.end))
+            yield line
+            place = self.content.find(word, line.end, section.end)
+
     def start_of_line(self, place: int) -> int:
         return self.content.rfind(b"\n", 0, place) + 1
 
