@@ -346,7 +346,7 @@ def _loaded(source: Union[Model, Source], format: Format | None, which: Which, b
 
 
 def _differing(next_difference: _Search, other: _mpslp.Arrays) -> Iterator[_Numbers]:
-    """The numbers of what differs in two models, which have names in byte order. All that is the same is passed over at once."""
+    """The numbers of what differs in two models, which have names in byte order. All that is the same is skipped at once."""
     i = k = 0
     while (found := next_difference(i, other, k)) is not None:
         i, k, order = found

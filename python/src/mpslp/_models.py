@@ -361,12 +361,12 @@ class Model(_Part):
         rows: Iterable[Row] | Mapping[str, Row] = (),
         columns: Iterable[Column] | Mapping[str, Column] = (),
     ) -> "Model":
-        """Returns the model with some of its parts replaced; this model stays as it is.
+        """Returns the model with some of its parts replaced; this model does not change.
 
-        A row or a column that is given takes the place of that of its name, or is added if there is none; all others stay. A
-        row has the limits that are given, and its coefficients stay those of the columns. What is left out stays, too.
+        A row or a column that is given takes the place of the one with its name, or is added if there is none. A row has the
+        limits that are given, and keeps its coefficients, which are those of the columns. Whatever is left out stays the same.
 
-        It takes a small part of the time and memory of a new :class:`Model`, because what stays is copied by the library.
+        This takes less time and memory than a new :class:`Model`: the library copies what stays the same.
 
         Raises ValueError for what is no model, as :class:`Model` does.
 

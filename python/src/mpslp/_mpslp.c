@@ -418,7 +418,7 @@ static int compare_columns(const mpslp_model *one, size_t j, const mpslp_model *
     return compare_names(one, one->columns[j].name, other, other->columns[k].name);
 }
 
-/* How the rows, or the columns, of two models are compared: all that have the same name and the same content are passed over. */
+/* How the rows, or the columns, of two models are compared: all that have the same name and the same content are skipped. */
 typedef struct {
     int (*compare)(const mpslp_model *, size_t, const mpslp_model *, size_t);
     int (*is_same)(const mpslp_model *, size_t, const mpslp_model *, size_t);
