@@ -32,7 +32,8 @@ from dataclasses import replace
 import mpslp
 model = mpslp.load(sys.argv[1])
 name = next(iter(model.columns))
-mpslp.dump(model.replace(columns={name: replace(model.columns[name], upper=12345.5)}), sys.argv[2])
+model = model.replace(columns={name: replace(model.columns[name], upper=12345.5)})
+mpslp.dump(model, sys.argv[2])
 """
 
 

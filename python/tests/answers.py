@@ -21,8 +21,8 @@ COLUMNS = [("y", _mpslp.INTEGER, SMALL, HIGH, LARGE, [(1, SMALL), (0, LARGE)]), 
 
 
 def changed(rows, new_rows=[], columns=[], elements=[], new_columns=[]):
-    """A model with changes."""
-    return _mpslp.make_changed(LOADED, _mpslp.MINIMIZE, "cost", LARGE, rows, new_rows, columns, elements, new_columns)
+    """The call that makes a model with changes."""
+    return partial(_mpslp.make_changed, LOADED, _mpslp.MINIMIZE, "cost", LARGE, rows, new_rows, columns, elements, new_columns)
 
 
 # Each has all of its arguments, so that nothing but the call itself takes memory.
@@ -56,9 +56,9 @@ CALLS = {
     "store, not LP": partial(_mpslp.store, _mpslp.load(NOT_LP, _mpslp.MPS), _mpslp.LP),
     "make": lambda: _mpslp.store(_mpslp.make(_mpslp.MAXIMIZE, "profit", SMALL, ROWS, COLUMNS), _mpslp.MPS),
     "make, refused": partial(_mpslp.make, _mpslp.MINIMIZE, "weight", SMALL, ROWS, COLUMNS),
-    "make_changed": partial(changed, [(0, SMALL, HIGH)], [], [(0, _mpslp.INTEGER, SMALL, HIGH, LARGE)]),
-    "make_changed, of all parts": partial(changed, [], ROWS, [], [(0, []), (1, [(0, LARGE), (1, SMALL)])], COLUMNS),
-    "make_changed, refused": partial(changed, [(0, LARGE, SMALL)]),
+    "make_changed": changed([(0, SMALL, HIGH)], [], [(0, _mpslp.INTEGER, SMALL, HIGH, LARGE)]),
+    "make_changed, of all parts": changed([], ROWS, [], [(0, []), (1, [(0, LARGE), (1, SMALL)])], COLUMNS),
+    "make_changed, refused": changed([(0, LARGE, SMALL)]),
 }
 
 # Arguments that the modules of the package never give.
@@ -78,12 +78,12 @@ WRONG_CALLS = {
     "differences from rows that are not there": lambda: LOADED.next_row_difference(0, LOADED, 9),
     "differences from no model": partial(LOADED.next_column_difference, 0, None, 0),
     "a line that is not there": partial(LOADED.lines, 2**20),
-    "a change of a row that is not there": partial(changed, [(9, SMALL, HIGH)]),
-    "a change of a column that is not there": partial(changed, [], [], [(9, 0, SMALL, HIGH, SMALL)]),
-    "a change of elements of no column": partial(changed, [], [], [], [(9, [])]),
-    "changes of elements without order": partial(changed, [], [], [], [(1, []), (0, [])]),
-    "a change that is no tuple": partial(changed, [], [], [], [None]),
-    "a change of a number that is none": partial(changed, [(0, SMALL, None)]),
+    "a change of a row that is not there": changed([(9, SMALL, HIGH)]),
+    "a change of a column that is not there": changed([], [], [(9, 0, SMALL, HIGH, SMALL)]),
+    "a change of elements of no column": changed([], [], [], [(9, [])]),
+    "changes of elements without order": changed([], [], [], [(1, []), (0, [])]),
+    "a change that is no tuple": changed([], [], [], [None]),
+    "a change of a number that is none": changed([(0, SMALL, None)]),
     "an argument too few": partial(_mpslp.same, MPS, _mpslp.MPS, LP),
 }
 
