@@ -11,9 +11,12 @@ import weakref
 from collections.abc import Mapping
 from decimal import Decimal
 from fractions import Fraction
+from random import Random
 
 import mpslp
 from heap import bytes_in_use
+from mpslp._numbers import EXACT, number_text
+from mpslp._shown import shown
 from repository import EXAMPLES, VECTORS, large_text, model_files
 from test_load import entries, sample
 
@@ -116,6 +119,52 @@ class Mappings(unittest.TestCase):
         del model
         gc.collect()
         self.assertLess(bytes_in_use() - before, 10_000)
+
+
+class Shown(unittest.TestCase):
+    """The lines of show, which the extension module makes, beside those of exact numbers of Python."""
+
+    def lines_of(self, model):
+        return "\n".join(shown(model)).split("\n")
+
+    def test_limits_of_rows(self):
+        random = Random(5)
+        rows = []
+        while len(rows) < 3000:
+            limits = [Decimal((random.getrandbits(1), tuple(random.choices(range(10), k=random.choice((1, 2, 5, 17, 18)))), random.randint(-18, 3))) for _ in "ab"]
+            limits = [random.choice((each, each, each, Decimal(random.choice((0, 1, 1000))))) for each in limits]
+            try:
+                rows.append(mpslp.Row(f"r{len(rows):04}", min(limits), max(limits)))
+            except ValueError:  # their difference is no number of a model
+                continue
+        lines = self.lines_of(mpslp.Model(rows=rows, columns=[mpslp.Column("x")]))[3:-1]
+        for number, (row, line) in enumerate(zip(rows, lines, strict=True)):
+            letter, side = ("E", row.lower) if row.lower == row.upper else ("R", row.upper)
+            numbers = [number_text(each) for each in (row.lower, row.upper, side, EXACT.subtract(row.upper, row.lower))]
+            self.assertEqual(line, "row {} {} {} {} {} rhs {} range {}".format(number, row.name, letter, *numbers))
+
+    def test_numbers(self):
+        """Each number of digits with each exponent near those at which the form of the text changes, and at the limits."""
+        numbers = [Decimal((sign, tuple(range(1, 1 + digits)) if digits < 10 else (9,) * digits, exponent)) for sign in (0, 1) for digits in (1, 2, 9, 18, 19, 20, 36)
+                   for exponent in (*range(-22, 9), -500, -499, 499, 500)]
+        columns = [mpslp.Column(f"x{number:04}", cost=value, entries={"r": value}) for number, value in enumerate(numbers)]
+        lines = self.lines_of(mpslp.Model(rows=[mpslp.Row("r")], columns=columns))[4:]
+        wanted = [line for number, each in enumerate(columns) for line in
+                  (f"column {number} {each.name} continuous 0 inf objective {number_text(each.cost)}", f"entry {number} 0 {number_text(each.cost)}")]
+        self.assertEqual(lines, wanted)
+
+    def test_blocks(self):
+        """Lines in order and without gaps where blocks end at rows, at columns, and within a long column."""
+        rows = [mpslp.Row(f"row{number:05}{'_' * 200}", 1, 2) for number in range(2000)]
+        long = {row.name: 1 for row in rows}
+        model = mpslp.Model(rows=rows, columns=[mpslp.Column(f"c{number:04}", entries=long if number in (0, 7) else {}) for number in range(5000)])
+        self.assertGreater(len(list(shown(model))), 10)
+        lines = self.lines_of(model)[3:]
+        wanted = [f"row {number} {row.name} R 1 2 rhs 2 range 1" for number, row in enumerate(rows)]
+        for number, column in enumerate(model.columns.values()):
+            wanted.append(f"column {number} {column.name} continuous 0 inf objective 0")
+            wanted.extend(f"entry {number} {row} 1" for row in range(len(column.entries)))
+        self.assertEqual(lines, wanted)
 
 
 class Replaced(unittest.TestCase):
