@@ -4,7 +4,7 @@
     tools.py [--files KIND,..] [--sizes 10M,..] [--runs N] [--python PYTHON] [--only WORD,..]
 
 Each command runs in a process of its own on one core. The table has the least processor time of the runs, user and system
-together, and the largest resident memory of any run. The last two rows are those of a small file: what a command takes to start.
+together, and the largest resident memory of any run. The last two rows are what a command takes to start.
 
 PYTHON has the package, as the one of `make python-check` in build/python/bin/python. `program` is the proved program, beside it.
 """

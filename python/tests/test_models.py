@@ -134,9 +134,11 @@ class Shown(unittest.TestCase):
             limits = [Decimal((random.getrandbits(1), tuple(random.choices(range(10), k=random.choice((1, 2, 5, 17, 18)))), random.randint(-18, 3))) for _ in "ab"]
             limits = [random.choice((each, each, each, Decimal(random.choice((0, 1, 1000))))) for each in limits]
             try:
-                rows.append(mpslp.Row(f"r{len(rows):04}", min(limits), max(limits)))
+                row = mpslp.Row(f"r{len(rows):04}", min(limits), max(limits))
             except ValueError:  # their difference is no number of a model
                 continue
+            if row.lower.is_finite() and row.upper.is_finite():
+                rows.append(row)
         lines = self.lines_of(mpslp.Model(rows=rows, columns=[mpslp.Column("x")]))[3:-1]
         for number, (row, line) in enumerate(zip(rows, lines, strict=True)):
             letter, side = ("E", row.lower) if row.lower == row.upper else ("R", row.upper)
