@@ -18,6 +18,13 @@ LOW, SMALL, LARGE, HIGH = Decimal("-Infinity"), Decimal("-1.5E-7"), Decimal("40"
 ROWS = [("weight", LOW, LARGE), ("size", SMALL, HIGH)]
 COLUMNS = [("y", _mpslp.INTEGER, SMALL, HIGH, LARGE, [(1, SMALL), (0, LARGE)]), ("x", _mpslp.CONTINUOUS, LOW, LARGE, SMALL, [])]
 
+
+
+def changed(rows, new_rows=[], columns=[], elements=[], new_columns=[]):
+    """The call that makes a model with changes."""
+    return partial(_mpslp.make_changed, LOADED, _mpslp.MINIMIZE, "cost", LARGE, rows, new_rows, columns, elements, new_columns)
+
+
 # Each has all of its arguments, so that nothing but the call itself takes memory.
 CALLS = {
     "canonical": partial(_mpslp.canonical, MPS, _mpslp.MPS, _mpslp.LP),
@@ -40,14 +47,18 @@ CALLS = {
     "a model's names": lambda: (LOADED.row_name(1), LOADED.column_name(0)),
     "a model's numbers": lambda: (LOADED.find_row("weight"), LOADED.find_column("none"), LOADED.find_row("\udcff"), LOADED.find_row(7)),
     "a model's entry": lambda: (LOADED.entry(0, 0), LOADED.entry(1, 1)),
-    "whether columns are the same": lambda: (LOADED.is_same_column(0, LOADED, 0), LOADED.is_same_column(0, LOADED, 1)),
     "a model's column's entries": lambda: (LOADED.column_len(0), LOADED.column_entries(0)),
     "a model's row's entries": lambda: (lambda loaded: (loaded.row_len(0), loaded.row_entries(0)))(_mpslp.load(OTHER, _mpslp.LP)),
+    "where models differ": lambda: (LOADED.next_row_difference(0, LOADED, 1), LOADED.next_column_difference(0, LOADED, 0)),
+    "a model's lines": lambda: (LOADED.lines(0), LOADED.lines(1)),
     "load, refused": partial(_mpslp.load, ON_A_LINE, _mpslp.MPS),
     "store": partial(_mpslp.store, LOADED, _mpslp.LP),
     "store, not LP": partial(_mpslp.store, _mpslp.load(NOT_LP, _mpslp.MPS), _mpslp.LP),
     "make": lambda: _mpslp.store(_mpslp.make(_mpslp.MAXIMIZE, "profit", SMALL, ROWS, COLUMNS), _mpslp.MPS),
     "make, refused": partial(_mpslp.make, _mpslp.MINIMIZE, "weight", SMALL, ROWS, COLUMNS),
+    "make_changed": changed([(0, SMALL, HIGH)], [], [(0, _mpslp.INTEGER, SMALL, HIGH, LARGE)]),
+    "make_changed, of all parts": changed([], ROWS, [], [(0, []), (1, [(0, LARGE), (1, SMALL)])], COLUMNS),
+    "make_changed, refused": changed([(0, LARGE, SMALL)]),
 }
 
 # Arguments that the modules of the package never give.
@@ -56,8 +67,6 @@ WRONG_CALLS = {
     "no bytes": partial(_mpslp.is_canonical, "NAME", _mpslp.MPS),
     "a row that is not there": partial(LOADED.row, 2),
     "a column that is not there": partial(LOADED.column_entries, 2**64),
-    "columns that are not there": lambda: LOADED.is_same_column(0, LOADED, 9),
-    "columns of no model": partial(LOADED.is_same_column, 0, None, 0),
     "a number below 0": partial(LOADED.row_entries, -1),
     "no number": partial(LOADED.entry, 0, None),
     "a model that is none": partial(_mpslp.store, None, _mpslp.MPS),
@@ -66,6 +75,15 @@ WRONG_CALLS = {
     "a row that is no tuple": partial(_mpslp.make, _mpslp.MINIMIZE, "cost", SMALL, ["weight"], []),
     "a row below 0": partial(_mpslp.make, _mpslp.MINIMIZE, "cost", SMALL, [], [("x", 0, SMALL, HIGH, LARGE, [(-1, SMALL)])]),
     "a number that is none": partial(_mpslp.make, _mpslp.MINIMIZE, "cost", Decimal("NaN"), [], []),
+    "differences from rows that are not there": lambda: LOADED.next_row_difference(0, LOADED, 9),
+    "differences from no model": partial(LOADED.next_column_difference, 0, None, 0),
+    "a line that is not there": partial(LOADED.lines, 2**20),
+    "a change of a row that is not there": changed([(9, SMALL, HIGH)]),
+    "a change of a column that is not there": changed([], [], [(9, 0, SMALL, HIGH, SMALL)]),
+    "a change of elements of no column": changed([], [], [], [(9, [])]),
+    "changes of elements without order": changed([], [], [], [(1, []), (0, [])]),
+    "a change that is no tuple": changed([], [], [], [None]),
+    "a change of a number that is none": changed([(0, SMALL, None)]),
     "an argument too few": partial(_mpslp.same, MPS, _mpslp.MPS, LP),
 }
 

@@ -11,9 +11,12 @@ import weakref
 from collections.abc import Mapping
 from decimal import Decimal
 from fractions import Fraction
+from random import Random
 
 import mpslp
 from heap import bytes_in_use
+from mpslp._numbers import EXACT, number_text
+from mpslp._shown import shown
 from repository import EXAMPLES, VECTORS, large_text, model_files
 from test_load import entries, sample
 
@@ -116,6 +119,146 @@ class Mappings(unittest.TestCase):
         del model
         gc.collect()
         self.assertLess(bytes_in_use() - before, 10_000)
+
+
+class Shown(unittest.TestCase):
+    """The lines of show, which the extension module makes, beside those of exact numbers of Python."""
+
+    def lines_of(self, model):
+        return "\n".join(shown(model)).split("\n")
+
+    def test_limits_of_rows(self):
+        random = Random(5)
+        rows = []
+        while len(rows) < 3000:
+            limits = [Decimal((random.getrandbits(1), tuple(random.choices(range(10), k=random.choice((1, 2, 5, 17, 18)))), random.randint(-18, 3))) for _ in "ab"]
+            limits = [random.choice((each, each, each, Decimal(random.choice((0, 1, 1000))))) for each in limits]
+            try:
+                row = mpslp.Row(f"r{len(rows):04}", min(limits), max(limits))
+            except ValueError:  # their difference is no number of a model
+                continue
+            if row.lower.is_finite() and row.upper.is_finite():
+                rows.append(row)
+        lines = self.lines_of(mpslp.Model(rows=rows, columns=[mpslp.Column("x")]))[3:-1]
+        for number, (row, line) in enumerate(zip(rows, lines, strict=True)):
+            letter, side = ("E", row.lower) if row.lower == row.upper else ("R", row.upper)
+            numbers = [number_text(each) for each in (row.lower, row.upper, side, EXACT.subtract(row.upper, row.lower))]
+            self.assertEqual(line, "row {} {} {} {} {} rhs {} range {}".format(number, row.name, letter, *numbers))
+
+    def test_numbers(self):
+        """Each number of digits with each exponent near those at which the form of the text changes, and at the limits."""
+        numbers = [Decimal((sign, tuple(range(1, 1 + digits)) if digits < 10 else (9,) * digits, exponent)) for sign in (0, 1) for digits in (1, 2, 9, 18, 19, 20, 36)
+                   for exponent in (*range(-22, 9), -500, -499, 499, 500)]
+        columns = [mpslp.Column(f"x{number:04}", cost=value, entries={"r": value}) for number, value in enumerate(numbers)]
+        lines = self.lines_of(mpslp.Model(rows=[mpslp.Row("r")], columns=columns))[4:]
+        wanted = [line for number, each in enumerate(columns) for line in
+                  (f"column {number} {each.name} continuous 0 inf objective {number_text(each.cost)}", f"entry {number} 0 {number_text(each.cost)}")]
+        self.assertEqual(lines, wanted)
+
+    def test_blocks(self):
+        """Lines in order and without gaps where blocks end at rows, at columns, and within a long column."""
+        rows = [mpslp.Row(f"row{number:05}{'_' * 200}", 1, 2) for number in range(2000)]
+        long = {row.name: 1 for row in rows}
+        model = mpslp.Model(rows=rows, columns=[mpslp.Column(f"c{number:04}", entries=long if number in (0, 7) else {}) for number in range(5000)])
+        self.assertGreater(len(list(shown(model))), 10)
+        lines = self.lines_of(model)[3:]
+        wanted = [f"row {number} {row.name} R 1 2 rhs 2 range 1" for number, row in enumerate(rows)]
+        for number, column in enumerate(model.columns.values()):
+            wanted.append(f"column {number} {column.name} continuous 0 inf objective 0")
+            wanted.extend(f"entry {number} {row} 1" for row in range(len(column.entries)))
+        self.assertEqual(lines, wanted)
+
+
+class Replaced(unittest.TestCase):
+    """A model with some parts replaced is the one that is made of all parts anew."""
+
+    def same_as_anew(self, model, sense=None, objective=None, constant=None, rows=(), columns=()):
+        before, digest = repr(model), mpslp.dumps(model, "mps")
+        found = model.replace(sense=sense, objective=objective, constant=constant, rows=rows, columns=columns)
+        wanted = mpslp.Model(
+            model.sense if sense is None else sense,
+            model.objective if objective is None else objective,
+            model.constant if constant is None else constant,
+            dict(model.rows) | {row.name: row for row in rows},
+            dict(model.columns) | {column.name: column for column in columns},
+        )
+        self.assertEqual(found, wanted)
+        self.assertEqual(mpslp.dumps(found, "mps"), mpslp.dumps(wanted, "mps"))
+        self.assertEqual({name: dict(row.entries) for name, row in found.rows.items()}, {name: dict(row.entries) for name, row in wanted.rows.items()})
+        self.assertEqual((repr(model), mpslp.dumps(model, "mps")), (before, digest))
+
+    def test_nothing(self):
+        for path, model in models():
+            with self.subTest(path.name):
+                self.same_as_anew(model)
+
+    def test_each_part(self):
+        """One part at a time, and all at once, in the first, the last and other places."""
+        for path, model in models():
+            with self.subTest(path.name):
+                rows = [dataclasses.replace(row, lower=-7, upper=Decimal("99.5")) for row in model.rows.values()]
+                columns = [dataclasses.replace(column, kind="integer", lower=-1, upper=3, cost=Decimal("0.25")) for column in model.columns.values()]
+                emptied = [dataclasses.replace(column, entries={}) for column in columns]
+                filled = [dataclasses.replace(column, entries={row: 2 for row in model.rows}) for column in columns]
+                for row in rows[:5] + rows[-1:]:
+                    self.same_as_anew(model, rows=[row])
+                for some in (columns, emptied, filled):
+                    for column in some[:5] + some[-1:]:
+                        self.same_as_anew(model, columns=[column])
+                    self.same_as_anew(model, "maximize", "another!", -1, rows, some[::-1])
+                self.same_as_anew(model, rows=rows[::2], columns=emptied[1::3] + filled[2::3])
+
+    def test_new_parts(self):
+        for path, model in models():
+            with self.subTest(path.name):
+                rows = [mpslp.Row(name, 1, 2) for name in ("~~new", "!new")]
+                columns = [mpslp.Column(name, entries={"~~new": 1, "!new": Fraction(1, 8)}) for name in ("~~column", "!column")]
+                old = next(iter(model.columns.values()))
+                self.same_as_anew(model, rows=rows)
+                self.same_as_anew(model, columns=[mpslp.Column("~~empty")])
+                self.same_as_anew(model, rows=rows, columns=columns)
+                self.same_as_anew(model, rows=rows, columns=[columns[0], dataclasses.replace(old, entries={**old.entries, "!new": 3})])
+
+    def test_mappings(self):
+        model = sample()
+        column = dataclasses.replace(model.columns["x"], upper=2.5)
+        self.assertEqual(model.replace(columns={"x": column}), model.replace(columns=[column]))
+        self.assertEqual(model.replace(columns={"x": column}).columns["x"], column)
+        self.assertEqual(model.replace(rows={"both": mpslp.Row("both", 1)}).rows["both"].entries, model.rows["both"].entries)
+
+    def test_what_is_no_model(self):
+        model = sample()
+        for message, changes in {
+            "the sense 'up' is neither 'minimize' nor 'maximize'": {"sense": "up"},
+            "row 'both' has the name of the objective": {"objective": "both"},
+            f"row {model.objective!r} has the name of the objective": {"rows": [mpslp.Row(model.objective)]},
+            "the objective: constant: inf is not finite": {"constant": float("inf")},
+            "a column is not at its own name": {"columns": {"x": mpslp.Column("y")}},
+            "row 'both' is there twice": {"rows": [mpslp.Row("both"), mpslp.Row("both")]},
+            "column 'x' has an entry in row 'none', which is not there": {"columns": [mpslp.Column("x", entries={"none": 1})]},
+            "column 'new' has an entry in row 'none', which is not there": {"columns": [mpslp.Column("new", entries={"none": 1})]},
+        }.items():
+            with self.subTest(message), self.assertRaises(ValueError) as caught:
+                model.replace(**changes)
+            self.assertEqual(str(caught.exception), message)
+        for changes in ({"rows": [mpslp.Column("x")]}, {"columns": [("x", 1)]}, {"columns": 7}, {"objective": 7}, {"constant": "1"}):
+            with self.subTest(changes), self.assertRaises(TypeError):
+                model.replace(**changes)
+
+    def test_an_objective_and_a_row_change_names(self):
+        """The name that the objective had is free for a row."""
+        model = sample()
+        changed = model.replace(objective="goal", rows=[mpslp.Row(model.objective, 0, 1)])
+        self.assertEqual((changed.objective, changed.rows[model.objective].upper), ("goal", 1))
+
+    def test_it_outlives_the_model_it_is_made_of(self):
+        model = mpslp.load(large_text(20_000), "mps")
+        name = next(iter(model.columns))
+        changed = model.replace(columns=[dataclasses.replace(model.columns[name], upper=5)])
+        del model
+        gc.collect()
+        self.assertEqual(changed.columns[name].upper, 5)
+        self.assertEqual(sum(len(column.entries) for column in changed.columns.values()), 20_000)
 
 
 class Parts(unittest.TestCase):

@@ -15,7 +15,7 @@ from importlib import metadata
 import mpslp
 from repository import EXAMPLES, ROOT
 
-PUBLIC = [each for each in map(vars(mpslp).get, mpslp.__all__) if inspect.isclass(each) or inspect.isfunction(each)]
+PUBLIC = [each for each in (getattr(mpslp, name) for name in mpslp.__all__) if inspect.isclass(each) or inspect.isfunction(each)]
 
 IN_AN_INTERPRETER = """
 try:
@@ -61,6 +61,31 @@ class Package(unittest.TestCase):
         self.assertEqual(repr(mpslp.Row("r", 0, 1)), "mpslp.Row(name='r', lower=Decimal('0'), upper=Decimal('1'))")
         self.assertEqual(eval(repr(mpslp.Row("r", 0))), mpslp.Row("r", 0))
         self.assertEqual(eval(repr(mpslp.Column("x", entries={"r": 1}))), mpslp.Column("x", entries={"r": 1}))
+
+    def test_modules_that_few_programs_need_are_imported_later(self):
+        """Neither the package nor its help, list of names or errors import them."""
+        loads = "import sys, mpslp; dir(mpslp); hasattr(mpslp, 'none'); mpslp.load(b'min x\\nend\\n', 'lp'); print(*sys.modules)"
+        imports = "import sys; from mpslp import *; print(*sys.modules)"
+        few, all_modules = (
+            subprocess.run([sys.executable, "-c", code], capture_output=True, text=True, check=True).stdout.split() for code in (loads, imports)
+        )
+        for name in ("_adapt", "_differences", "_portable", "_solver_texts", "_survey", "_warnings"):
+            self.assertNotIn(f"mpslp.{name}", few)
+            self.assertIn(f"mpslp.{name}", all_modules)
+
+    def test_each_name_by_itself(self):
+        """Whichever name is used first, each is found, and is one of the package."""
+        for name in mpslp.__all__:
+            with self.subTest(name):
+                code = f"import pickle; from mpslp import {name}; print(getattr({name}, '__module__', 'mpslp')); pickle.dumps({name})"
+                done = subprocess.run([sys.executable, "-c", code], capture_output=True, text=True)
+                self.assertEqual((done.stderr, done.stdout.strip() in ("mpslp", "typing", "types")), ("", True))
+
+    def test_a_name_that_is_not_there(self):
+        with self.assertRaises(AttributeError) as caught:
+            mpslp.none
+        self.assertEqual(str(caught.exception), "module 'mpslp' has no attribute 'none'")
+        self.assertEqual({*mpslp.__all__} - {*dir(mpslp)}, set())
 
     def test_types_can_be_asked_for(self):
         for each in PUBLIC:

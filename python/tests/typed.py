@@ -63,6 +63,7 @@ def models(source: mpslp.Source) -> None:
     column = mpslp.Column("x", "integer", 0, 2.5, Fraction(1, 2), {"r": Decimal(1)})
     made = mpslp.Model("maximize", rows=[mpslp.Row("r", upper=4)], columns={"x": replace(column, cost=3)})
     assert_type(replace(made, constant=1), mpslp.Model)
+    assert_type(made.replace(sense="minimize", constant=Fraction(1, 2), rows=[mpslp.Row("r")], columns={"x": column}), mpslp.Model)
 
 
 def differences(first: mpslp.Model, second: Path) -> None:
@@ -121,5 +122,6 @@ def wrong(text: bytes) -> None:
     mpslp.canonical(text, "qps")  # type: ignore[arg-type]
     mpslp.Row("r", "3")  # type: ignore[arg-type]
     mpslp.diff(text, text, "mps", "mps", digits="3")  # type: ignore[arg-type]
+    mpslp.load(text, "lp").replace(columns={"x": mpslp.Row("x")})  # type: ignore[arg-type]
     mpslp.load(text, "lp").sense = "maximize"  # type: ignore[misc]
     mpslp.load(text, "lp").rows["r"] = mpslp.Row("r")  # type: ignore[index]

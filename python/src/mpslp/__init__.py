@@ -19,34 +19,38 @@ OSError if a file cannot be opened or read; and MemoryError. Calls may run in ma
 others.
 """
 
+from importlib import import_module
+from typing import TYPE_CHECKING, Any
+
 from mpslp._mpslp import VERSION as __version__
 
-from mpslp._adapt import AdaptError, Adapted, Change, adapt
 from mpslp._arrays import Arrays
 from mpslp._calls import canonical, digest, is_canonical, same
-from mpslp._differences import (
-    ColumnDifference,
-    ColumnOnly,
-    Difference,
-    Differences,
-    EntryDifference,
-    ModelDifference,
-    RowDifference,
-    RowOnly,
-    assert_same_model,
-    diff,
-)
 from mpslp._explanations import Cause, Explanation, explain
 from mpslp._faults import ModelFileError
 from mpslp._format import formatted
 from mpslp._models import Column, Kind, Model, Row, Sense, dump, dumps, from_arrays, load
 from mpslp._numbers import Number, fraction
-from mpslp._portable import Remark, portability
-from mpslp._solver_texts import SolverError, SolverText
-from mpslp._solver_texts._of_models import text_for
 from mpslp._sources import Format, Source
-from mpslp._survey import Survey, SurveyedFile, survey
-from mpslp._warnings import ModelFileWarning, warnings_of
+
+if TYPE_CHECKING:
+    from mpslp._adapt import AdaptError, Adapted, Change, adapt
+    from mpslp._differences import (
+        ColumnDifference,
+        ColumnOnly,
+        Difference,
+        Differences,
+        EntryDifference,
+        ModelDifference,
+        RowDifference,
+        RowOnly,
+        assert_same_model,
+        diff,
+    )
+    from mpslp._portable import Remark, portability
+    from mpslp._solver_texts._of_models import SolverError, SolverText, text_for
+    from mpslp._survey import Survey, SurveyedFile, survey
+    from mpslp._warnings import ModelFileWarning, warnings_of
 
 __all__ = [
     "__version__",
@@ -99,8 +103,50 @@ __all__ = [
     "warnings_of",
 ]
 
-# In whatever module they are defined, they are shown and pickled by the names under which they are found.
-for _name in __all__:
-    if isinstance(globals()[_name], (type, type(canonical))):
-        globals()[_name].__module__ = __name__
+# Modules that many programs do not need, with their names here: each is imported when one of these is used for the first time.
+_LATER = {
+    "mpslp._adapt": ("AdaptError", "Adapted", "Change", "adapt"),
+    "mpslp._differences": (
+        "ColumnDifference",
+        "ColumnOnly",
+        "Difference",
+        "Differences",
+        "EntryDifference",
+        "ModelDifference",
+        "RowDifference",
+        "RowOnly",
+        "assert_same_model",
+        "diff",
+    ),
+    "mpslp._portable": ("Remark", "portability"),
+    "mpslp._solver_texts._of_models": ("SolverError", "SolverText", "text_for"),
+    "mpslp._survey": ("Survey", "SurveyedFile", "survey"),
+    "mpslp._warnings": ("ModelFileWarning", "warnings_of"),
+}
+
+
+def _publish(name: str, part: Any) -> None:
+    """Makes a part of another module one of this package: it is shown and pickled by the name under which it is found."""
+    if isinstance(part, (type, type(canonical))):
+        part.__module__ = __name__
+    globals()[name] = part
+
+
+if not TYPE_CHECKING:  # a checker of types would take every name for one of the package
+
+    def __getattr__(name: str) -> Any:
+        for module, names in _LATER.items():
+            if name in names:
+                imported = import_module(module)
+                for each in names:
+                    _publish(each, getattr(imported, each))
+                return globals()[name]
+        raise AttributeError(f"module {__name__!r} has no attribute {name!r}", name=name)
+
+    def __dir__() -> list[str]:
+        return sorted({*globals(), *__all__})
+
+
+for _name in sorted({*__all__} - {each for names in _LATER.values() for each in names}):
+    _publish(_name, globals()[_name])
 del _name

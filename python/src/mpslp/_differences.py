@@ -31,6 +31,7 @@ _LIMITS: tuple[Literal["lower", "upper"], ...] = ("lower", "upper")
 _MOST_LINES = 100
 
 _Numbers: TypeAlias = tuple[Union[int, None], Union[int, None]]
+_Search: TypeAlias = Callable[[int, _mpslp.Arrays, int], Union[tuple[int, int, int], None]]
 
 
 @dataclass(frozen=True)
@@ -201,9 +202,8 @@ class Differences(Iterable[Difference]):
     def _of_columns(self) -> Iterator[Difference]:
         for j, k in self._column_numbers():
             if j is not None and k is not None:
-                if not self._is_same_column(j, k):
-                    name, other = self._first.column_name(j), self._second.column_name(k)
-                    yield from self._of_column(self.first.columns[name], self.second.columns[other])
+                name, other = self._first.column_name(j), self._second.column_name(k)
+                yield from self._of_column(self.first.columns[name], self.second.columns[other])
             elif j is not None:
                 yield ColumnOnly("first", self.first.columns[self._first.column_name(j)])
             elif k is not None:
@@ -225,7 +225,7 @@ class Differences(Iterable[Difference]):
         renamed = None if names is None else dict(zip(names[1].rows, names[0].rows))
         is_in_both = self._is_row_of_both if renamed is None else frozenset(renamed.values()).__contains__
         for j, k in self._column_numbers():
-            if j is None or k is None or self._is_same_column(j, k):
+            if j is None or k is None:
                 continue
             entries, others = self._first.column_entries(j), self._second.column_entries(k)
             if renamed is not None:
@@ -241,24 +241,20 @@ class Differences(Iterable[Difference]):
             if not self._rules.is_equal(value, other) and is_in_both(row):
                 yield EntryDifference(row, column, value, other)
 
-    def _is_same_column(self, j: int, k: int) -> bool:
-        """Whether two columns have no difference; it may also say no of such two if rows are compared by position."""
-        return self._rules.names is None and self._first.is_same_column(j, self._second, k)
-
     def _is_row_of_both(self, row: object) -> bool:
         return row in self.first.rows and row in self.second.rows
 
     def _row_numbers(self) -> Iterator[_Numbers]:
-        """The numbers of the rows that are compared, in both models; None where there is no such row."""
+        """The numbers in both models of the rows that may differ; None where there is no such row."""
         first, second, names = self._first, self._second, self._rules.names
         if names is None:
-            return _merged(iter(self.first.rows), iter(self.second.rows))
+            return _differing(first.next_row_difference, second)
         return zip_longest(map(first.find_row, names[0].rows), map(second.find_row, names[1].rows))
 
     def _column_numbers(self) -> Iterator[_Numbers]:
         first, second, names = self._first, self._second, self._rules.names
         if names is None:
-            return _merged(iter(self.first.columns), iter(self.second.columns))
+            return _differing(first.next_column_difference, second)
         return zip_longest(map(first.find_column, names[0].columns), map(second.find_column, names[1].columns))
 
 
@@ -349,20 +345,13 @@ def _loaded(source: Union[Model, Source], format: Format | None, which: Which, b
     return model, names_by_position(text, model) if by_position else None
 
 
-def _merged(firsts: Iterator[str], seconds: Iterator[str]) -> Iterator[_Numbers]:
-    """The numbers of each name in two models, which have names in byte order."""
+def _differing(next_difference: _Search, other: _mpslp.Arrays) -> Iterator[_Numbers]:
+    """The numbers of what differs in two models, which have names in byte order. All that is the same is skipped at once."""
     i = k = 0
-    one, other = next(firsts, None), next(seconds, None)
-    while one is not None or other is not None:
-        if other is None or (one is not None and one < other):
-            yield i, None
-            i, one = i + 1, next(firsts, None)
-        elif one is None or other < one:
-            yield None, k
-            k, other = k + 1, next(seconds, None)
-        else:
-            yield i, k
-            i, one, k, other = i + 1, next(firsts, None), k + 1, next(seconds, None)
+    while (found := next_difference(i, other, k)) is not None:
+        i, k, order = found
+        yield (i if order <= 0 else None), (k if order >= 0 else None)
+        i, k = i + (order <= 0), k + (order >= 0)
 
 
 def _change(first: Union[str, Decimal], second: Union[str, Decimal]) -> str:

@@ -33,6 +33,13 @@ _KINDS: dict[int, Kind] = {
 _SENSE_NUMBERS: dict[str, int] = {word: number for number, word in _SENSES.items()}
 _KIND_NUMBERS: dict[str, int] = {word: number for number, word in _KINDS.items()}
 
+# What changes in a model, as the extension module takes it.
+_RowChange: TypeAlias = tuple[int, Decimal, Decimal]
+_NewRow: TypeAlias = tuple[str, Decimal, Decimal]
+_ColumnChange: TypeAlias = tuple[int, int, Decimal, Decimal, Decimal]
+_EntriesChange: TypeAlias = tuple[int, list[tuple[int, Decimal]]]
+_NewColumn: TypeAlias = tuple[str, int, Decimal, Decimal, Decimal, list[tuple[int, Decimal]]]
+
 _MOST_BYTES = 255
 _NAME = re.compile(f"[!-~]{{1,{_MOST_BYTES}}}")
 
@@ -323,8 +330,7 @@ class Model(_Part):
     ) -> None:
         if self._is_made("_arrays"):
             return
-        if sense not in _SENSE_NUMBERS:
-            raise ValueError(f"the sense {sense!r} is neither 'minimize' nor 'maximize'")
+        _check_sense(sense)
         _check_name(objective, "objective")
         all_rows = _distinct(rows, Row, "row")
         all_columns = _distinct(columns, Column, "column")
@@ -332,20 +338,13 @@ class Model(_Part):
             raise ValueError(f"row {objective!r} has the name of the objective")
         if not all_columns:
             raise ValueError("a model has at least one column")
-        for column in all_columns.values():
-            for row in column.entries:
-                if row not in all_rows:
-                    raise ValueError(f"column {column.name!r} has an entry in row {row!r}, which is not there")
         numbers = {name: number for number, name in enumerate(all_rows)}
         arrays = _mpslp.make(
             _SENSE_NUMBERS[sense],
             objective,
             _finite("the objective", "constant", constant),
             [(row.name, row.lower, row.upper) for row in all_rows.values()],
-            [
-                (each.name, _KIND_NUMBERS[each.kind], each.lower, each.upper, each.cost, [(numbers[row], value) for row, value in each.entries.items()])
-                for each in all_columns.values()
-            ],
+            [(each.name, *_numbers_of(each), _numbered(each, numbers.get)) for each in all_columns.values()],
         )
         self._keep(arrays)
 
@@ -353,6 +352,46 @@ class Model(_Part):
         sense, objective, constant = arrays.objective()
         self._fill(sense=_SENSES[sense], objective=objective, constant=constant, rows=_Rows(arrays), columns=_Columns(arrays))
         self._fill(_arrays=arrays, _digest=None)
+
+    def replace(
+        self,
+        *,
+        sense: Sense | None = None,
+        objective: str | None = None,
+        constant: Number | None = None,
+        rows: Iterable[Row] | Mapping[str, Row] = (),
+        columns: Iterable[Column] | Mapping[str, Column] = (),
+    ) -> "Model":
+        """Returns the model with some of its parts replaced; this model does not change.
+
+        A row or a column that is given takes the place of the one with its name, or is added if there is none. A row has the
+        limits that are given, and keeps its coefficients, which are those of the columns. Whatever is left out stays the same.
+
+        This takes less time and memory than a new :class:`Model`: the library copies what stays the same.
+
+        Raises ValueError for what is no model, as :class:`Model` does.
+
+        >>> from dataclasses import replace
+        >>> model = mpslp.load(b"max 3 x + y\\nst limit: x + y <= 4\\nend\\n", "lp")
+        >>> changed = model.replace(columns={"x": replace(model.columns["x"], upper=2.5)})
+        >>> changed.columns["x"].upper, changed.columns["y"].upper, changed.rows["limit"].entries
+        (Decimal('2.5'), Decimal('Infinity'), {'x': Decimal('1'), 'y': Decimal('1')})
+        """
+        new_sense = self.sense if sense is None else sense
+        new_objective = self.objective if objective is None else objective
+        _check_sense(new_sense)
+        _check_name(new_objective, "objective")
+        given_rows = _distinct(rows, Row, "row")
+        given_columns = _distinct(columns, Column, "column")
+        if new_objective in given_rows or new_objective in self.rows:
+            raise ValueError(f"row {new_objective!r} has the name of the objective")
+        new_constant = self.constant if constant is None else _finite("the objective", "constant", constant)
+        changed_rows, new_rows = _changed_rows(self._arrays, given_rows.values())
+        changed_columns, entries, new_columns = _changed_columns(self._arrays, given_rows, given_columns.values())
+        arrays = _mpslp.make_changed(
+            self._arrays, _SENSE_NUMBERS[new_sense], new_objective, new_constant, changed_rows, new_rows, changed_columns, entries, new_columns
+        )
+        return model_of(arrays)
 
     @property
     def digest(self) -> str:
@@ -501,6 +540,59 @@ def model_of(arrays: _mpslp.Arrays) -> Model:
     return model
 
 
+def _changed_rows(arrays: _mpslp.Arrays, rows: Iterable[Row]) -> tuple[list[_RowChange], list[_NewRow]]:
+    """The changes of rows that a model has, and the rows that are new."""
+    changed: list[_RowChange] = []
+    new: list[_NewRow] = []
+    for row in rows:
+        number = arrays.find_row(row.name)
+        if number is None:
+            new.append((row.name, row.lower, row.upper))
+        else:
+            changed.append((number, row.lower, row.upper))
+    return changed, new
+
+
+def _changed_columns(
+    arrays: _mpslp.Arrays, rows: Iterable[str], columns: Iterable[Column]
+) -> tuple[list[_ColumnChange], list[_EntriesChange], list[_NewColumn]]:
+    """The changes of columns that a model has, those of their entries, and the columns that are new."""
+    new_rows = (name for name in rows if arrays.find_row(name) is None)
+    numbers = {name: number for number, name in enumerate(new_rows, arrays.counts()[0])}
+
+    def number_of(row: str) -> int | None:
+        number = arrays.find_row(row)
+        return numbers.get(row) if number is None else number
+
+    changed: list[_ColumnChange] = []
+    entries: list[_EntriesChange] = []
+    new: list[_NewColumn] = []
+    for column in columns:
+        number = arrays.find_column(column.name)
+        if number is None:
+            new.append((column.name, *_numbers_of(column), _numbered(column, number_of)))
+            continue
+        changed.append((number, *_numbers_of(column)))
+        if list(column.entries.items()) != arrays.column_entries(number):
+            entries.append((number, _numbered(column, number_of)))
+    return changed, sorted(entries, key=lambda change: change[0]), new
+
+
+def _numbers_of(column: Column) -> tuple[int, Decimal, Decimal, Decimal]:
+    return _KIND_NUMBERS[column.kind], column.lower, column.upper, column.cost
+
+
+def _numbered(column: Column, number_of: Callable[[str], int | None]) -> list[tuple[int, Decimal]]:
+    """The entries of a column, by the numbers of rows."""
+    found = []
+    for row, value in column.entries.items():
+        number = number_of(row)
+        if number is None:
+            raise ValueError(f"column {column.name!r} has an entry in row {row!r}, which is not there")
+        found.append((number, value))
+    return found
+
+
 def _names_of(names: Iterable[str] | None, letter: str, count: int) -> list[str]:
     """The names of so many rows or columns. Default names have the same length, so that their order is that of the arrays."""
     if names is None:
@@ -510,6 +602,11 @@ def _names_of(names: Iterable[str] | None, letter: str, count: int) -> list[str]
     if len(given) != count or len(set(given)) != count:
         raise ValueError("there is not one name for each row and each column")
     return given
+
+
+def _check_sense(sense: str) -> None:
+    if sense not in _SENSE_NUMBERS:
+        raise ValueError(f"the sense {sense!r} is neither 'minimize' nor 'maximize'")
 
 
 def _check_name(name: str, what: str) -> None:

@@ -142,12 +142,21 @@ static PyObject *is_canonical(PyObject *module, PyObject *arguments) {
 
 __extension__ typedef unsigned __int128 magnitude;
 
-/* Writes digits before `end`, and returns where they begin. */
+/* Writes digits before `end`, and returns where they begin. Most numbers have 64 bits, whose division is faster. */
 static char *put_digits(char *end, magnitude size) {
-    do *--end = (char)('0' + (int)(size % 10));
-    while ((size /= 10) != 0);
+    uint64_t rest;
+    for (; size >> 64 != 0; size /= 10) *--end = (char)('0' + (int)(size % 10));
+    rest = (uint64_t)size;
+    do *--end = (char)('0' + (int)(rest % 10));
+    while ((rest /= 10) != 0);
     return end;
 }
+
+/* The mantissa of a number. */
+static magnitude mantissa_of(const mpslp_number *number) { return ((magnitude)(uint64_t)number->high << 64) | number->low; }
+
+/* The same without its sign. */
+static magnitude size_of(const mpslp_number *number) { return number->high < 0 ? -mantissa_of(number) : mantissa_of(number); }
 
 /* The maximum number of zeros that are written out after digits: 40 is Decimal('40'), and not Decimal('4E+1'). */
 #define MOST_ZEROS 20
@@ -155,12 +164,10 @@ static char *put_digits(char *end, magnitude size) {
 /* The Decimal with exactly the value of a number. */
 static PyObject *decimal_of(const state *held, const mpslp_number *number) {
     char digits[40], text[sizeof digits + MOST_ZEROS + sizeof "-E-2147483648"];
-    magnitude size = ((magnitude)(uint64_t)number->high << 64) | number->low;
     int is_whole = number->exponent >= 0 && number->exponent <= MOST_ZEROS;
     if (number->infinity != 0) return Py_NewRef(number->infinity < 0 ? held->minus_infinity : held->infinity);
-    if (number->high < 0) size = -size;
     digits[sizeof digits - 1] = 0;
-    PyOS_snprintf(text, sizeof text, "%s%s%.*sE%d", number->high < 0 ? "-" : "", put_digits(digits + sizeof digits - 1, size),
+    PyOS_snprintf(text, sizeof text, "%s%s%.*sE%d", number->high < 0 ? "-" : "", put_digits(digits + sizeof digits - 1, size_of(number)),
                   is_whole ? (int)number->exponent : 0, "00000000000000000000", is_whole ? 0 : (int)number->exponent);
     return PyObject_CallFunction(held->decimal, "sO", text, held->context);
 }
@@ -394,12 +401,58 @@ static int has_same_content(const mpslp_model *one, size_t j, const mpslp_model 
     return 1;
 }
 
-static PyObject *arrays_is_same_column(PyObject *self, PyObject *arguments) {
-    PyObject *number, *other, *other_number;
-    size_t j, k;
-    if (!PyArg_ParseTuple(arguments, "OO!O:is_same_column", &number, Py_TYPE(self), &other, &other_number)) return NULL;
-    if (!find_number(number, model_of(self)->num_columns, &j) || !find_number(other_number, model_of(other)->num_columns, &k)) return NULL;
-    return PyBool_FromLong(has_same_content(model_of(self), j, model_of(other), k));
+static int has_same_limits(const mpslp_model *one, size_t i, const mpslp_model *other, size_t k) {
+    return memcmp(&one->rows[i].lower, &other->rows[k].lower, sizeof one->rows[i].lower) == 0 &&
+           memcmp(&one->rows[i].upper, &other->rows[k].upper, sizeof one->rows[i].upper) == 0;
+}
+
+static int compare_names(const mpslp_model *one, mpslp_name name, const mpslp_model *other, mpslp_name other_name) {
+    return mpslp_compare_name(one, name, (const char *)other->names.bytes + other_name.at, other_name.len);
+}
+
+static int compare_rows(const mpslp_model *one, size_t i, const mpslp_model *other, size_t k) {
+    return compare_names(one, one->rows[i].name, other, other->rows[k].name);
+}
+
+static int compare_columns(const mpslp_model *one, size_t j, const mpslp_model *other, size_t k) {
+    return compare_names(one, one->columns[j].name, other, other->columns[k].name);
+}
+
+/* How the rows, or the columns, of two models are compared: all that have the same name and the same content are skipped. */
+typedef struct {
+    int (*compare)(const mpslp_model *, size_t, const mpslp_model *, size_t);
+    int (*is_same)(const mpslp_model *, size_t, const mpslp_model *, size_t);
+} comparison;
+
+/* The next numbers in two models, from those that are given on, where they differ, and the order of their names; or None. */
+static PyObject *next_difference(PyObject *self, PyObject *arguments, size_t (*count)(const mpslp_model *), comparison each) {
+    const mpslp_model *one = model_of(self), *two;
+    PyObject *first, *other, *second;
+    size_t i, k;
+    int order = 0;
+    if (!PyArg_ParseTuple(arguments, "OO!O:next_difference", &first, Py_TYPE(self), &other, &second)) return NULL;
+    two = model_of(other);
+    if (!find_number(first, count(one) + 1, &i) || !find_number(second, count(two) + 1, &k)) return NULL;
+    Py_BEGIN_ALLOW_THREADS
+    for (; i < count(one) && k < count(two); i++, k++) {
+        order = each.compare(one, i, two, k);
+        if (order != 0 || !each.is_same(one, i, two, k)) break;
+    }
+    Py_END_ALLOW_THREADS
+    if (i == count(one) && k == count(two)) return Py_NewRef(Py_None);
+    if (i == count(one) || k == count(two)) order = k == count(two) ? -1 : 1;
+    PyObject *made = PyTuple_New(3);
+    return filled(made, made != NULL && put(made, 0, PyLong_FromSize_t(i)) && put(made, 1, PyLong_FromSize_t(k)) && put(made, 2, PyLong_FromLong(order)));
+}
+
+static PyObject *arrays_next_row(PyObject *self, PyObject *arguments) {
+    const comparison of_rows = { compare_rows, has_same_limits };
+    return next_difference(self, arguments, mpslp_num_rows, of_rows);
+}
+
+static PyObject *arrays_next_column(PyObject *self, PyObject *arguments) {
+    const comparison of_columns = { compare_columns, has_same_content };
+    return next_difference(self, arguments, mpslp_num_columns, of_columns);
 }
 
 /* Sorts the nonzeros by row: counts those of each row, computes where each row begins, then puts each into its place. */
@@ -532,6 +585,150 @@ static PyObject *arrays_names(PyObject *self, PyObject *Py_UNUSED(none)) {
                             put(made, 1, names_of(model, model->num_columns, mpslp_column_name)));
 }
 
+/* ---- the text of show, whose lines are those of rows, and then those of each column and its nonzeros */
+
+/* In texts, the maximum number of zeros that are written out after digits, and of decimal places. */
+enum { MOST_ZEROS_OF_TEXT = 5, MOST_PLACES_OF_TEXT = 18 };
+
+/* The bytes of a block of lines, and room for a line: a name, and numbers of up to 36 digits. */
+enum { BLOCK = 1 << 16, LONGEST_LINE = 1 << 10 };
+
+static char *put_bytes(char *at, const char *bytes, size_t len) {
+    memcpy(at, bytes, len);
+    return at + len;
+}
+
+static char *put_word(char *at, const char *word) { return put_bytes(at, word, strlen(word)); }
+
+static char *put_zeros(char *at, size_t count) {
+    memset(at, '0', count);
+    return at + count;
+}
+
+static char *put_count(char *at, size_t count) {
+    char digits[20], *const end = digits + sizeof digits;
+    const char *first = put_digits(end, count);
+    return put_bytes(at, first, (size_t)(end - first));
+}
+
+/* Writes a number as canonical texts have it. */
+static char *put_number(char *at, const mpslp_number *number) {
+    char digits[40], *const end = digits + sizeof digits;
+    const char *first;
+    size_t len, places;
+    if (number->infinity != 0) return put_word(at, number->infinity < 0 ? "-inf" : "inf");
+    if (number->high < 0) *at++ = '-';
+    first = put_digits(end, size_of(number));
+    len = (size_t)(end - first);
+    if (number->exponent > MOST_ZEROS_OF_TEXT || number->exponent < -MOST_PLACES_OF_TEXT) {
+        at = put_word(put_bytes(at, first, len), number->exponent < 0 ? "e-" : "e");
+        return put_count(at, (size_t)labs(number->exponent));
+    }
+    if (number->exponent >= 0) return put_zeros(put_bytes(at, first, len), (size_t)number->exponent);
+    places = (size_t)-number->exponent;
+    if (len <= places) return put_bytes(put_zeros(put_word(at, "0."), places - len), first, len);
+    return put_bytes(put_word(put_bytes(at, first, len - places), "."), end - places, places);
+}
+
+static char *put_name(char *at, const mpslp_model *model, mpslp_name name) {
+    return put_bytes(at, (const char *)model->names.bytes + name.at, name.len);
+}
+
+/*
+ * The upper limit of a ranged row minus the lower one. It is a number of a model, or the library would have rejected the row: so it
+ * has at most 36 digits from the smaller exponent on, and nothing here is too large.
+ */
+static mpslp_number range_of(const mpslp_row *row) {
+    magnitude upper = mantissa_of(&row->upper), lower = mantissa_of(&row->lower), range;
+    int32_t exponent = row->upper.exponent;
+    for (int32_t from = row->lower.exponent; from > exponent; from--) lower *= 10;
+    for (; exponent > row->lower.exponent; exponent--) upper *= 10;
+    for (range = upper - lower; range % 10 == 0; range /= 10) exponent++;
+    const mpslp_number made = { (uint64_t)range, (int64_t)(range >> 64), exponent, 0 };
+    return made;
+}
+
+/* Writes what the limits of a row are: its type, both limits, right-hand side and range. */
+static char *put_limits(char *at, const mpslp_row *row) {
+    static const mpslp_number zero = { 0, 0, 0, 0 };
+    const int has_lower = row->lower.infinity == 0, has_upper = row->upper.infinity == 0;
+    const int is_equal = has_lower && memcmp(&row->lower, &row->upper, sizeof row->lower) == 0;
+    const int is_ranged = has_lower && has_upper && !is_equal;
+    const mpslp_number range = is_ranged ? range_of(row) : zero;
+    const char *type = is_ranged ? " R " : is_equal ? " E " : has_lower ? " G " : has_upper ? " L " : " N ";
+    at = put_number(put_word(put_number(put_word(at, type), &row->lower), " "), &row->upper);
+    at = put_number(put_word(at, " rhs "), has_upper ? &row->upper : has_lower ? &row->lower : &zero);
+    return put_number(put_word(at, " range "), &range);
+}
+
+static char *put_row(char *at, const mpslp_model *model, size_t i) {
+    at = put_word(put_count(put_word(at, "row "), i), " ");
+    return put_limits(put_name(at, model, model->rows[i].name), &model->rows[i]);
+}
+
+static char *put_column(char *at, const mpslp_model *model, size_t j) {
+    static const char *const kinds[] = { " continuous ", " integer ", " semi " };
+    const mpslp_column *column = &model->columns[j];
+    at = put_word(put_count(put_word(at, "column "), j), " ");
+    at = put_number(put_word(put_name(at, model, column->name), kinds[column->kind]), &column->lower);
+    return put_number(put_word(put_number(put_word(at, " "), &column->upper), " objective "), &column->cost);
+}
+
+static char *put_element(char *at, size_t j, const mpslp_element *element) {
+    at = put_word(put_count(put_word(at, "entry "), j), " ");
+    return put_number(put_word(put_count(at, element->row), " "), &element->value);
+}
+
+/* The line with the number of a column: those of all rows, of the columns before it, and of their nonzeros precede it. */
+static size_t line_of_column(const mpslp_model *model, size_t j) { return model->num_rows + j + model->columns[j].first; }
+
+/* The column to which the line with a number belongs, which is no line of a row. */
+static size_t column_of_line(const mpslp_model *model, size_t line) {
+    size_t first = 0, end = model->num_columns;
+    while (end - first > 1) {
+        size_t middle = first + (end - first) / 2;
+        if (line_of_column(model, middle) <= line) first = middle;
+        else end = middle;
+    }
+    return first;
+}
+
+static size_t count_lines(const mpslp_model *model) { return model->num_rows + model->num_columns + model->num_elements; }
+
+/* Writes lines from `*line` on until a block is full, and sets `*line` to the next one. Returns where they end. */
+static char *put_lines(char *at, const mpslp_model *model, size_t *line) {
+    const char *full = at + BLOCK;
+    size_t j;
+    for (; *line < model->num_rows && at < full; ++*line) at = put_word(put_row(at, model, *line), "\n");
+    if (*line < model->num_rows) return at;
+    j = column_of_line(model, *line);
+    for (; *line < count_lines(model) && at < full; ++*line) {
+        if (j + 1 < model->num_columns && *line == line_of_column(model, j + 1)) j++;
+        at = *line == line_of_column(model, j) ? put_column(at, model, j)
+                                               : put_element(at, j, &model->elements[*line - model->num_rows - j - 1]);
+        at = put_word(at, "\n");
+    }
+    return at;
+}
+
+static PyObject *arrays_lines(PyObject *self, PyObject *number) {
+    const mpslp_model *model = model_of(self);
+    size_t line;
+    char *block, *end;
+    PyObject *made = NULL;
+    if (!find_number(number, count_lines(model), &line)) return NULL;
+    block = malloc(BLOCK + LONGEST_LINE);
+    if (block == NULL) return PyErr_NoMemory();
+    Py_BEGIN_ALLOW_THREADS
+    end = put_lines(block, model, &line);
+    Py_END_ALLOW_THREADS
+    made = PyTuple_New(2);
+    /* Without the last end of line. */
+    made = filled(made, made != NULL && put(made, 0, PyUnicode_FromStringAndSize(block, end - block - 1)) && put(made, 1, PyLong_FromSize_t(line)));
+    free(block);
+    return made;
+}
+
 static PyMethodDef arrays_methods[] = {
     { "doubles", arrays_doubles, METH_NOARGS, "doubles($self, /)\n--\n\nThe numbers of the model as arrays of doubles and of 32-bit indices." },
     { "names", arrays_names, METH_NOARGS, "names($self, /)\n--\n\nThe names of the rows, and of the columns." },
@@ -544,12 +741,17 @@ static PyMethodDef arrays_methods[] = {
     { "find_row", arrays_find_row, METH_O, "find_row($self, name, /)\n--\n\nThe number of the row that has a name, or None." },
     { "find_column", arrays_find_column, METH_O, "find_column($self, name, /)\n--\n\nThe number of the column that has a name, or None." },
     { "entry", arrays_entry, METH_VARARGS, "entry($self, row, column, /)\n--\n\nA coefficient, or None where it is 0." },
-    { "is_same_column", arrays_is_same_column, METH_VARARGS,
-      "is_same_column($self, number, other, other_number, /)\n--\n\nWhether columns of two models are the same but for their names." },
+    { "next_row_difference", arrays_next_row, METH_VARARGS,
+      "next_row_difference($self, number, other, other_number, /)\n--\n\n"
+      "The numbers, from these on, of the next rows that differ, and the order of their names; or None." },
+    { "next_column_difference", arrays_next_column, METH_VARARGS,
+      "next_column_difference($self, number, other, other_number, /)\n--\n\n"
+      "The numbers, from these on, of the next columns that differ, and the order of their names; or None." },
     { "row_len", arrays_row_len, METH_O, "row_len($self, number, /)\n--\n\nHow many coefficients of a row are not 0." },
     { "column_len", arrays_column_len, METH_O, "column_len($self, number, /)\n--\n\nHow many coefficients of a column are not 0." },
     { "row_entries", arrays_row_entries, METH_O, "row_entries($self, number, /)\n--\n\nThe columns of a row, and their coefficients." },
     { "column_entries", arrays_column_entries, METH_O, "column_entries($self, number, /)\n--\n\nThe rows of a column, and their coefficients." },
+    { "lines", arrays_lines, METH_O, "lines($self, number, /)\n--\n\nLines of rows, columns and coefficients from this one on, and the number of the next." },
     { NULL, NULL, 0, NULL },
 };
 
@@ -764,6 +966,110 @@ static PyObject *make(PyObject *module, PyObject *arguments) {
     return arrays;
 }
 
+/* ---- models that are made of another one */
+
+/* A copy of an array at the end of another, or null. */
+static void *copied(growing *array, const void *items, size_t count, size_t size) {
+    void *room = more(array, count, size);
+    return room == NULL ? NULL : memcpy(room, items, count * size);
+}
+
+/* A change of a row is a tuple of its number, lower and upper limit. */
+static int change_row(parts *all, PyObject *row) {
+    PyObject *number, *lower, *upper;
+    size_t i;
+    mpslp_row *made;
+    if (!PyArg_ParseTuple(row, "OOO:row", &number, &lower, &upper) || !find_number(number, all->rows.len, &i)) return 0;
+    made = (mpslp_row *)all->rows.items + i;
+    return make_number(lower, &made->lower) && make_number(upper, &made->upper);
+}
+
+/* A change of a column is a tuple of its number, kind, lower and upper bound and cost. */
+static int change_column(parts *all, PyObject *column) {
+    PyObject *number, *lower, *upper, *cost;
+    unsigned kind;
+    size_t j;
+    mpslp_column *made;
+    if (!PyArg_ParseTuple(column, "OIOOO:column", &number, &kind, &lower, &upper, &cost) || !find_number(number, all->columns.len, &j)) return 0;
+    made = (mpslp_column *)all->columns.items + j;
+    made->kind = kind;
+    return make_number(lower, &made->lower) && make_number(upper, &made->upper) && make_number(cost, &made->cost);
+}
+
+/* Copies the elements of the columns from `first` to the one before `end`. */
+static int copy_elements(parts *all, const mpslp_model *model, size_t first, size_t end) {
+    const size_t from = first < model->num_columns ? model->columns[first].first : model->num_elements;
+    const size_t len = (end < model->num_columns ? model->columns[end].first : model->num_elements) - from;
+    for (size_t j = first; j < end; j++) ((mpslp_column *)all->columns.items)[j].first = all->elements.len + (model->columns[j].first - from);
+    return copied(&all->elements, model->elements + from, len, sizeof *model->elements) != NULL;
+}
+
+/* Copies all elements, except those of columns that have others: each is a tuple of the column's number and a list, in order of numbers. */
+static int change_elements(parts *all, const mpslp_model *model, PyObject *changes) {
+    size_t next = 0;
+    for (Py_ssize_t k = 0; k < PyList_Size(changes); k++) {
+        PyObject *number, *entries;
+        size_t j;
+        if (!PyArg_ParseTuple(PyList_GetItem(changes, k), "OO!:entries", &number, &PyList_Type, &entries)) return 0;
+        if (!find_number(number, model->num_columns, &j)) return 0;
+        if (j < next) {
+            PyErr_SetString(PyExc_ValueError, "the columns are not in order");
+            return 0;
+        }
+        if (!copy_elements(all, model, next, j)) return 0;
+        ((mpslp_column *)all->columns.items)[j].first = all->elements.len;
+        if (!make_each(all, entries, make_element)) return 0;
+        next = j + 1;
+    }
+    return copy_elements(all, model, next, model->num_columns);
+}
+
+/* What changes in a model. */
+typedef struct {
+    PyObject *rows, *new_rows, *columns, *elements, *new_columns;
+} changes;
+
+/* Whether the elements stay those of the model. They are most of its memory, and are then not copied. */
+static int keeps_elements(const changes *from) { return PyList_Size(from->elements) == 0 && PyList_Size(from->new_columns) == 0; }
+
+static int make_changed_parts(parts *all, const mpslp_model *model, const changes *from) {
+    return copied(&all->names, model->names.bytes, model->names.len, 1) != NULL &&
+           copied(&all->rows, model->rows, model->num_rows, sizeof *model->rows) != NULL &&
+           copied(&all->columns, model->columns, model->num_columns, sizeof *model->columns) != NULL &&
+           make_each(all, from->rows, change_row) && make_each(all, from->new_rows, make_row) && make_each(all, from->columns, change_column) &&
+           (keeps_elements(from) || change_elements(all, model, from->elements)) && make_each(all, from->new_columns, make_column);
+}
+
+static PyObject *make_changed(PyObject *module, PyObject *arguments) {
+    const char *objective;
+    Py_ssize_t len;
+    unsigned sense;
+    PyObject *source, *constant, *arrays = NULL;
+    changes from;
+    parts all = NO_PARTS;
+    mpslp_model made = MPSLP_NO_MODEL, model = MPSLP_NO_MODEL;
+    if (!PyArg_ParseTuple(arguments, "O!Is#OO!O!O!O!O!:make_changed", state_of(module)->arrays, &source, &sense, &objective, &len, &constant,
+                          &PyList_Type, &from.rows, &PyList_Type, &from.new_rows, &PyList_Type, &from.columns, &PyList_Type, &from.elements,
+                          &PyList_Type, &from.new_columns))
+        return NULL;
+    made.sense = sense;
+    if (make_changed_parts(&all, model_of(source), &from) && make_name(&all, objective, len, &made.objective) && make_number(constant, &made.constant)) {
+        mpslp_fault fault = MPSLP_NO_FAULT;
+        mpslp_status status;
+        take_parts(&made, &all);
+        if (keeps_elements(&from)) {
+            made.elements = model_of(source)->elements;
+            made.num_elements = model_of(source)->num_elements;
+        }
+        Py_BEGIN_ALLOW_THREADS
+        status = mpslp_normalize(&made, &model, &fault);
+        Py_END_ALLOW_THREADS
+        arrays = status == MPSLP_OK ? arrays_of(module, &model) : refuse(module, status, &fault, NULL);
+    }
+    free_parts(&all);
+    return arrays;
+}
+
 /* ---- models that are made of arrays of doubles */
 
 /* What a model is made of: names, and bytes objects that hold an array each. */
@@ -941,6 +1247,9 @@ static PyMethodDef calls[] = {
       "store($module, arrays, format, /)\n--\n\nThe canonical text of a model." },
     { "make", make, METH_VARARGS,
       "make($module, sense, objective, constant, rows, columns, /)\n--\n\nThe model of such parts, in any order." },
+    { "make_changed", make_changed, METH_VARARGS,
+      "make_changed($module, arrays, sense, objective, constant, rows, new_rows, columns, elements, new_columns, /)\n--\n\n"
+      "A model with changes: rows and columns, the elements of columns, in order, and further rows and columns." },
     { "make_of_doubles", make_of_doubles, METH_VARARGS,
       "make_of_doubles($module, sense, objective, constant, row_names, column_names, row_lower, row_upper, lower, upper, costs, kinds, starts, rows,\n"
       "                values, /)\n--\n\nThe model of arrays of doubles and of 64-bit integers, or None if they define none." },

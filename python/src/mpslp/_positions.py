@@ -8,9 +8,14 @@ from typing import TYPE_CHECKING, NamedTuple
 
 from mpslp import _mpslp
 from mpslp._sources import Text
+from mpslp._warnings._mps import MpsText
 
 if TYPE_CHECKING:
     from mpslp._models import Model
+
+# The name of a row after its type, and that of a column in lines of the column: a line of a marker has no row.
+_MPS_ROW = re.compile(rb"\n[ \t]+\S+[ \t]+(\S+)")
+_MPS_COLUMN = re.compile(rb"\n[ \t]+(\S+)[ \t]+(?!'MARKER'[ \t])\S[^\n]*(?:\n[ \t]+\1[ \t]+(?!'MARKER'[ \t])[^\n]*)*")
 
 # A number, which has no name in it, or a word with the colon that makes it a label.
 _LP_TOKEN = re.compile(r"(?:\d+\.?\d*|\.\d+)(?:[eE][+-]?\d+)?|([A-Za-z!\"#$%&()/,;?@_'`{}|~][\w!\"#$%&()/,.;?@'`{}|~]*)(\s*:)?", re.ASCII)
@@ -35,35 +40,19 @@ def names_by_position(text: Text | None, model: Model) -> Names:
     """
     if text is None:
         return Names(list(model.rows), list(model.columns))
-    content = text.content.decode("latin-1")
-    names = _mps_names(content, model) if text.format == _mpslp.MPS else _lp_names(content, model)
+    names = _mps_names(text.content, model) if text.format == _mpslp.MPS else _lp_names(text.content.decode("latin-1"), model)
     if sorted(names.rows) != list(model.rows) or sorted(names.columns) != list(model.columns):
         raise AssertionError("the positions of the names were not found in the text")
     return names
 
 
-def _mps_names(content: str, model: Model) -> Names:
-    rows: list[str] = []
-    columns: dict[str, None] = {}
-    section = ""
-    for line in _lines(content):
-        fields = line.split()
-        if not fields or line[0] == "*":
-            continue
-        if line[0] not in " \t":
-            section = fields[0]
-        elif section == "ROWS" and fields[1] != model.objective:
-            rows.append(fields[1])
-        elif section == "COLUMNS" and fields[1] != "'MARKER'":
-            columns[fields[0]] = None
-        if section in ("RHS", "RANGES", "BOUNDS", "ENDATA"):
-            break
-    return Names(rows, list(columns))
-
-
-def _lines(content: str) -> Iterator[str]:
-    """The lines of a text one after another, so that the list of all is not in memory."""
-    return (line[0] for line in re.finditer(r".+", content))
+def _mps_names(content: bytes, model: Model) -> Names:
+    text = MpsText(content)
+    rows = (name.decode("ascii") for name in _MPS_ROW.findall(content, *text.sections[b"ROWS"]))
+    columns: dict[bytes, None] = {}
+    for block in text.blocks(text.sections[b"COLUMNS"]):
+        columns.update(dict.fromkeys(_MPS_COLUMN.findall(content, *block)))
+    return Names([row for row in rows if row != model.objective], [name.decode("ascii") for name in columns])
 
 
 def _lp_names(content: str, model: Model) -> Names:

@@ -16,7 +16,7 @@ from functools import partial
 from typing import NamedTuple
 
 from mpslp._arrays import Arrays
-from mpslp._models import Column, Model, Row
+from mpslp._models import Model
 from mpslp._numbers import INFINITY
 
 # Doubles between these powers of ten have the power of ten of the number that they are nearest to; a number that is
@@ -55,8 +55,10 @@ class Magnitudes:
         if not number:
             self.zeros += 1
             return
-        self.powers[number.adjusted()] += 1
-        self.note(number, *where)
+        power = number.adjusted()
+        self.powers[power] += 1
+        if self.smallest is None or self.largest is None or not self.smallest.number.adjusted() < power < self.largest.number.adjusted():
+            self.note(number, *where)
 
     def note(self, number: Decimal, *where: str) -> None:
         """Keeps a nonzero number if it is the smallest or the largest so far."""
@@ -106,22 +108,21 @@ class Contents:
 
 
 ROW_KINDS = ("equation", "at most", "at least", "ranged", "free")
-COLUMN_KINDS = ("continuous", "integer", "semi-continuous")
+COLUMN_KINDS = ("continuous", "integer", "semi-continuous")  # in the order of their numbers in the library
 COLUMN_BOUNDS = ("0 to infinity", "0 to 1", "lower and upper bound", "lower bound only", "upper bound only", "fixed", "free")
 
 
-def row_kind(row: Row) -> str:
-    """Which of ROW_KINDS a row is."""
-    if row.lower == row.upper:
+def row_kind(lower: Decimal, upper: Decimal) -> str:
+    """Which of ROW_KINDS a row with these limits is."""
+    if lower == upper:
         return "equation"
-    if row.lower.is_finite():
-        return "ranged" if row.upper.is_finite() else "at least"
-    return "at most" if row.upper.is_finite() else "free"
+    if lower.is_finite():
+        return "ranged" if upper.is_finite() else "at least"
+    return "at most" if upper.is_finite() else "free"
 
 
-def column_bounds(column: Column) -> str:
-    """Which of COLUMN_BOUNDS a column has."""
-    lower, upper = column.lower, column.upper
+def column_bounds(lower: Decimal, upper: Decimal) -> str:
+    """Which of COLUMN_BOUNDS a column with these bounds has."""
     if lower == upper:
         return "fixed"
     if not lower.is_finite():
@@ -134,41 +135,42 @@ def column_bounds(column: Column) -> str:
 def contents_of(model: Model, arrays: Arrays) -> Contents:
     """Counts a model, whose arrays are given too."""
     contents = Contents()
-    for row in model.rows.values():
-        _count_row(contents, row)
+    # Of the extension module, whose rows and columns are made faster than those of the package.
+    exact = model._arrays
+    for number in range(len(model.rows)):
+        _count_row(contents, *exact.row(number))
     starts = memoryview(arrays.indptr)
     lengths = [after - start for start, after in zip(starts, starts[1:])]
-    for column, length in zip(model.columns.values(), lengths):
-        _count_column(contents, column, length)
+    for number, length in enumerate(lengths):
+        _count_column(contents, *exact.column(number), length)
     _count_coefficients(contents.coefficients, model, arrays)
-    by_row = Counter(memoryview(arrays.indices))
     if model.rows:
-        contents.row_lengths = _lengths(arrays.row_names or (), [by_row[number] for number in range(len(model.rows))])
+        contents.row_lengths = _lengths(arrays.row_names or (), list(map(exact.row_len, range(len(model.rows)))))
     contents.column_lengths = _lengths(arrays.column_names or (), lengths)
     return contents
 
 
-def _count_row(contents: Contents, row: Row) -> None:
-    kind = row_kind(row)
+def _count_row(contents: Contents, name: str, lower: Decimal, upper: Decimal) -> None:
+    kind = row_kind(lower, upper)
     contents.row_kinds[kind] += 1
-    contents.limits.add(row.upper, row.name)
+    contents.limits.add(upper, name)
     if kind != "equation":
-        contents.limits.add(row.lower, row.name)
+        contents.limits.add(lower, name)
 
 
-def _count_column(contents: Contents, column: Column, length: int) -> None:
-    bounds = column_bounds(column)
-    contents.columns[bounds, column.kind] += 1
-    contents.bounds.add(column.upper, column.name)
+def _count_column(contents: Contents, name: str, kind: int, lower: Decimal, upper: Decimal, cost: Decimal, length: int) -> None:
+    bounds = column_bounds(lower, upper)
+    contents.columns[bounds, COLUMN_KINDS[kind]] += 1
+    contents.bounds.add(upper, name)
     if bounds != "fixed":
-        contents.bounds.add(column.lower, column.name)
-    elif not column.upper:
-        contents.fixed_at_0.append(column.name)
-    if column.upper < 0:
-        contents.negative_upper.append(column.name)
-    contents.costs.add(column.cost, column.name)
+        contents.bounds.add(lower, name)
+    elif not upper:
+        contents.fixed_at_0.append(name)
+    if upper < 0:
+        contents.negative_upper.append(name)
+    contents.costs.add(cost, name)
     if not length:
-        (contents.only_costs if column.cost else contents.unused).append(column.name)
+        (contents.only_costs if cost else contents.unused).append(name)
 
 
 def _count_coefficients(magnitudes: Magnitudes, model: Model, arrays: Arrays) -> None:

@@ -16,6 +16,7 @@ from mpslp import _mpslp
 from mpslp._lp_words import OTHERS, TOKEN, WORD
 from mpslp._numbers import LARGE
 from mpslp._sources import Text
+from mpslp._warnings._mps import MpsText
 
 LOWER, UPPER = 1, 2
 BOTH = LOWER | UPPER
@@ -101,6 +102,8 @@ class _Mps:
 
     _BOUNDS = {"LO": LOWER, "MI": LOWER, "LI": LOWER, "UP": UPPER, "PL": UPPER, "UI": UPPER, "SC": UPPER, "FX": BOTH, "FR": BOTH, "BV": BOTH}
     _WITHOUT_NUMBER = ("FR", "MI", "PL", "BV")
+    _UNUSUAL = re.compile(rb"\n(?:\*|[ \t\r]*(?:\n|\Z))")  # a comment, or an empty line
+    _FIELD = re.compile(rb"\n[ \t]+(\S+)")
     _SENSE = re.compile(rb"\*\s*SENSE\s*:\s*(\w+)", re.IGNORECASE)
 
     def __init__(self, objective: str) -> None:
@@ -122,19 +125,49 @@ class _Mps:
     def read(self, content: bytes) -> None:
         lines = io.BytesIO(content)
         for line in lines:
-            if line[:1] == b"*":
-                self._comment(line)
-                continue
-            fields = line.split()
-            if not fields:
-                continue
-            if line[:1] in b" \t":
-                self._take(fields)
-            elif fields[0] == b"ENDATA":
+            header = self._line(line)
+            if header == b"ENDATA":
                 break
-            else:
-                self._header(fields)
+            if header == b"COLUMNS":
+                lines.seek(self._columns(MpsText(content)))
         self.declared.goes_on = bool(lines.read().strip())
+
+    def _line(self, line: bytes) -> bytes:
+        """Takes a line, and returns its header if it is one."""
+        if line[:1] == b"*":
+            self._comment(line)
+            return b""
+        fields = line.split()
+        if not fields:
+            return b""
+        if line[:1] in b" \t":
+            self._take(fields)
+            return b""
+        if fields[0] != b"ENDATA":
+            self._header(fields)
+        return fields[0]
+
+    def _columns(self, text: MpsText) -> int:
+        """Takes the lines of COLUMNS, which are most of a file, many at once. Returns where the line after them starts."""
+        section = text.sections[b"COLUMNS"]
+        for block in text.blocks(section):
+            start = block.start
+            for line in text.lines_with(b"'MARKER'", block):
+                self._column_lines(text.content, start, line.start)
+                self._line(text.content[line.start + 1 : line.end])
+                start = line.end
+            self._column_lines(text.content, start, block.end)
+        return section.end + 1
+
+    def _column_lines(self, content: bytes, start: int, end: int) -> None:
+        """Takes lines without markers, from the line feed before the first one. Each has a column, and one or two pairs."""
+        if self._UNUSUAL.search(content, start, end):
+            for line in content[start:end].split(b"\n"):
+                self._line(line)
+            return
+        self.declared.coefficients += (len(content[start:end].split()) - content.count(b"\n", start, end)) // 2
+        if self._in_integers:
+            self.declared.marked.update((name.decode("ascii"), None) for name in self._FIELD.findall(content, start, end))
 
     def _header(self, fields: Fields) -> None:
         self._take = self._sections[fields[0]]

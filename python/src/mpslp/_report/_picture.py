@@ -7,6 +7,7 @@ import zlib
 from base64 import b64encode
 from collections import Counter
 from collections.abc import Iterator, Sequence
+from itertools import chain
 from math import ceil, log
 from typing import NamedTuple
 
@@ -169,9 +170,14 @@ def cells_of(matrix: Matrix, width: int, height: int) -> Cells:
     rows, columns = len(matrix.rows), len(matrix.columns)
     cell_of_row = [place * height // rows for place in matrix.row_places]
     indices = memoryview(matrix.arrays.indices)
-    counts: list[Counter[int]] = [Counter() for _ in range(width)]
-    for place in range(columns):
-        counts[place * width // columns].update(map(cell_of_row.__getitem__, indices[matrix.nonzeros(place)]))
+    counts: list[Counter[int]] = []
+    first = 0
+    for x in range(width):
+        # The columns whose place times width, divided by the number of columns, is x.
+        end = -(-columns * (x + 1) // width)
+        rows_of = chain.from_iterable(indices[matrix.nonzeros(place)] for place in range(first, end))
+        counts.append(Counter(map(cell_of_row.__getitem__, rows_of)))
+        first = end
     return Cells(width, height, counts)
 
 

@@ -5,8 +5,10 @@
 from typing import Optional
 
 from mpslp._models import Model, dumps
-from mpslp._solver_texts._call import SolverName, SolverText, solver_text
+from mpslp._solver_texts._call import SolverError, SolverName, SolverText, solver_text
 from mpslp._solver_texts._solvers import TextFormat
+
+__all__ = ["SolverError", "SolverText", "text_for"]
 
 
 def text_for(model: Model, solver: SolverName, format: Optional[TextFormat] = None) -> SolverText:

@@ -12,6 +12,7 @@ _WORD = re.compile(rb"[A-Z]+")
 _ROW = re.compile(rb"^[ \t]+N[ \t]+(\S+)", re.M)
 _FIELD = re.compile(rb"\n[ \t]+(\S+)")
 _MARKER = b"'MARKER'"
+_BLOCK = 1 << 20
 _BOUND = re.compile(
     rb"\n[ \t]+(?:"
     rb"(?:UP|LO|FX|LI|UI|SC)[ \t]+(?:\S+[ \t]+)?(\S+)[ \t]+\S+"  # TYPE [SET] COLUMN NUMBER
@@ -70,6 +71,23 @@ class MpsText:
     def _end_of_line(self, place: int) -> int:
         end = self.content.find(b"\n", place)
         return len(self.content) if end < 0 else end
+
+    def blocks(self, section: Section) -> Iterator[Section]:
+        """Parts of a section of some megabyte each, so that the words of one part only are in memory."""
+        start = section.start
+        while start < section.end:
+            found = self.content.find(b"\n", start + _BLOCK, section.end)
+            end = section.end if found < 0 else found
+            yield Section(start, end)
+            start = end
+
+    def lines_with(self, word: bytes, section: Section) -> Iterator[Section]:
+        """The lines of a section that contain a word, each from the line feed before it to its end."""
+        place = self.content.find(word, *section)
+        while place >= 0:
+            line = Section(self.start_of_line(place) - 1, min(self._end_of_line(place), section.end))
+            yield line
+            place = self.content.find(word, line.end, section.end)
 
     def start_of_line(self, place: int) -> int:
         return self.content.rfind(b"\n", 0, place) + 1
