@@ -74,9 +74,9 @@ install_python() {
         -e '/^from pathlib/d' -e '/^sys\.dont_write/d' -e '/^sys\.path/d' "$1/bin/mpslp-tools"
 }
 
-# Symbols of debugging and of the linker, without which everything runs as before.
+# Removes the symbols of debugging and of the linker. The section .comment stays: it has the logic of the kit.
 strip_files() {
-    strip --strip-unneeded --remove-section=.comment --remove-section=.note "$@"
+    strip --strip-unneeded "$@"
 }
 
 changelog() {
@@ -178,9 +178,13 @@ import importlib.metadata, platform
 print("Python", platform.python_version(), *(f"{name} {importlib.metadata.version(name)}" for name in ("pip", "setuptools", "wheel")))'
 }
 
-# The kit's line. A program contains the checksum of the logic with which it was proved.
+# The kit's line. A program contains the checksum of the logic with which it was proved, also as it is packed.
 kit() {
-    grep -aqF "logic=$(rt version | sed 's/.* logic //')" "$program" || die "another kit built the program than $(rt version)"
+    strip_files -o "$work/stripped" "$program"
+    for each in "$program" "$work/stripped"; do
+        grep -aqF "logic=$(rt version | sed 's/.* logic //')" "$each" || die "another kit built $each than $(rt version)"
+    done
+    rm "$work/stripped"
     rt version
 }
 
