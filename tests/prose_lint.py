@@ -28,7 +28,7 @@ CODE = ("crates/*/src/**/*.rt", "crates/*/specs/**/*.antt", "crates/*/proofs/**/
 HELP = "crates/mpslp_command/src/usage.rt"
 HEADER = "include/mpslp.h"
 
-PAGES = (".md", ".1")
+PAGES = (".md",)
 
 RULES = (
     (r"told|tells?", "reports, says, prints"),
@@ -62,7 +62,8 @@ RULES = (
     (r"answer(?:s|ed)?", "return, result"),
     (r"views?", "accessor"),
 )
-# Phrases that read as translated. They are looked for in pages only: completions and comments of code follow other texts.
+# Phrases that read as translated. They are looked for in Markdown only: manual pages and
+# completions are made of the help of the commands, and comments of code have a rhythm of their own.
 PHRASES = (
     (r"(?:reads?|means?|meant|does) otherwise", "differently"),
     (r"(?:an)?other (?!more |rather )\w+ than", "a different ... from"),
