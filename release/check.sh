@@ -80,6 +80,40 @@ is_as_before() {
     diff build/roots/before build/roots/after > build/roots/left || die "$1 leaves something, or takes too much away: $(cat build/roots/left)"
 }
 
+# The fastest of five starts takes at most a quarter of a second of processor time, which other processes do not change much.
+starts_fast() {
+    in_root python3 - "$1" <<'PYTHON'
+import os
+import subprocess
+import sys
+
+
+def processor_seconds():
+    """What all processes have taken that were started here and have ended."""
+    times = os.times()
+    return times.children_user + times.children_system
+
+
+def start():
+    before = processor_seconds()
+    subprocess.run([sys.argv[1], "--version"], check=True, stdout=subprocess.DEVNULL)
+    return processor_seconds() - before
+
+
+fastest = min(start() for _ in range(5))
+sys.exit(f"{sys.argv[1]} takes {fastest:.2f} seconds to start" if fastest > 0.25 else 0)
+PYTHON
+}
+
+# The errors of lintian, if it is installed.
+lints() {
+    if ! command -v lintian > /dev/null; then
+        echo "lintian is not installed: apt-get install lintian"
+        return 0
+    fi
+    lintian --allow-root --fail-on error "$package" > build/roots/lint || die "lintian: $(cat build/roots/lint)"
+}
+
 check_archive() {
     fresh_root
     list > build/roots/before
@@ -88,6 +122,8 @@ check_archive() {
     in_root PATH="/opt/$name/bin:/usr/bin:/bin" PKG_CONFIG_PATH="/opt/$name/lib/pkgconfig" LD_LIBRARY_PATH="/opt/$name/lib" \
         sh -c "cd $place && sh use.sh $version /opt/$name/share/mpslp/$wheel"
     in_root sh -c "cd $place && python3 stack.py --program /opt/$name/bin/mpslp examples/*.mps examples/*.lp large/*"
+    python3 release/links.py "$root/opt/$name/share/doc/mpslp"
+    starts_fast "/opt/$name/bin/mpslp-tools"
     rm -r "$root/opt/$name"
     is_as_before "the archive"
     echo "archive: installed, used and removed"
@@ -101,6 +137,9 @@ check_package() {
     test -z "$(in_root dpkg --verify mpslp)" || die "dpkg --verify finds changed files"
     tar -xzf "$archive" -O "$name/bin/mpslp" | cmp - $root/usr/bin/mpslp
     in_root sh -c "cd $place && sh use.sh $version /usr/share/mpslp/$wheel"
+    in_root python3 -c "import mpslp; assert mpslp.__version__ == '$version'; assert mpslp.same('$place/examples/small.mps', '$place/examples/small.lp')"
+    python3 release/links.py $root/usr/share/doc/mpslp
+    starts_fast mpslp-tools
     in_root dpkg --purge mpslp > build/roots/log 2>&1 || die "dpkg: $(cat build/roots/log)"
     is_as_before "the package"
     echo "Debian package: installed, used and removed"
@@ -121,6 +160,7 @@ check_bare() {
 }
 
 make_base
+lints
 check_archive
 check_package
 check_bare

@@ -27,6 +27,7 @@ dist=${DIST:-build/dist}
 name=mpslp-$version-linux-x86_64
 archive=$name.tar.gz
 package=mpslp_${version}_amd64.deb
+maintainer="mpslp maintainers <maintainers@mpslp.invalid>"
 wheel=mpslp-$version-cp310-abi3-linux_x86_64.whl
 program=crates/mpslp/out/mpslp
 library=build/libmpslp.so.0
@@ -51,13 +52,41 @@ glibc_of() {
 unpack_wheel() {
     mkdir "$work/wheel"
     "${PYTHON:-/usr/bin/python3}" -m zipfile -e "$work/source/build/$wheel" "$work/wheel"
+    strip_files "$work/wheel"/mpslp/*.so
 }
 
-# The command of the wheel, which runs without an installation by pip.
+# The command of the wheel, which runs without an installation by pip. Without bytecode a start takes half as long again;
+# that of the Python here is shipped, and another one compiles the package at each start.
 install_tools() {
     install -D -m 755 release/mpslp-tools "$1/bin/mpslp-tools"
     mkdir -p "$1/lib/mpslp/python"
     cp -R "$work/wheel/mpslp" "$1/lib/mpslp/python/"
+    (cd "$1/lib/mpslp/python" && "${PYTHON:-/usr/bin/python3}" -m compileall -q --invalidation-mode unchecked-hash mpslp)
+}
+
+# The package for Debian's Python, whose bytecode py3compile makes when it is installed.
+install_python() {
+    mkdir -p "$1/lib/python3/dist-packages"
+    cp -R "$work/wheel/mpslp" "$work/wheel/mpslp-$version.dist-info" "$1/lib/python3/dist-packages/"
+    rm "$1/lib/python3/dist-packages/mpslp-$version.dist-info/RECORD"
+    install -D -m 755 release/mpslp-tools "$1/bin/mpslp-tools"
+    sed -i -e '1s|.*|#!/usr/bin/python3|' -e 's|, by the Python package in lib/mpslp/python of the same prefix||' \
+        -e '/^from pathlib/d' -e '/^sys\.dont_write/d' -e '/^sys\.path/d' "$1/bin/mpslp-tools"
+}
+
+# Removes the symbols of debugging and of the linker. The section .comment stays: it has the logic of the kit.
+strip_files() {
+    strip --strip-unneeded "$@"
+}
+
+changelog() {
+    cat <<CHANGELOG
+mpslp ($version) unstable; urgency=medium
+
+  * /usr/share/doc/mpslp/CHANGELOG.md lists what each version brings.
+
+ -- $maintainer  $(date -u -R -d "@$SOURCE_DATE_EPOCH")
+CHANGELOG
 }
 
 # The checksums of all files below a directory.
@@ -72,6 +101,7 @@ set_times() {
 # A directory that works wherever it is unpacked.
 stage_archive() {
     PREFIX=$work/$name PC_PREFIX='${pcfiledir}/../..' sh release/install.sh program library documents
+    strip_files "$work/$name/bin/mpslp" "$work/$name/lib/libmpslp.so.0"
     install -D -m 644 "$work/source/build/$wheel" "$work/$name/share/mpslp/$wheel"
     install_tools "$work/$name"
     install -m 644 release/INSTALL.md "$work/$name/INSTALL.md"
@@ -94,10 +124,9 @@ control() {
 Package: mpslp
 Version: $version
 Architecture: amd64
-Maintainer: mpslp maintainers
+Maintainer: $maintainer
 Installed-Size: $1
-Depends: libc6 (>= $glibc)
-Recommends: python3 (>= 3.10)
+Depends: libc6 (>= $glibc), python3 (>= 3.10)
 Suggests: gcc, pkgconf, python3-venv
 Section: math
 Priority: optional
@@ -106,9 +135,9 @@ Description: one canonical text for each linear or mixed-integer model
  text for each model, with exact decimals. It converts between both formats and
  compares models. An ambiguous file is rejected with its line and the reason.
  .
- The package has the program, the command mpslp-tools for many files, which
- needs python3, the library for C with its header, and in /usr/share/mpslp the
- wheel of the package for Python.
+ The package has the program, the command mpslp-tools for many files, the
+ Python module mpslp, the C library with its header, and in /usr/share/mpslp
+ the wheel of the Python package for virtual environments.
 CONTROL
 }
 
@@ -116,16 +145,19 @@ CONTROL
 stage_package() {
     root=$work/debian
     DESTDIR=$root PREFIX=/usr LIBDIR=/usr/lib/x86_64-linux-gnu sh release/install.sh program library documents
+    strip_files "$root/usr/bin/mpslp" "$root/usr/lib/x86_64-linux-gnu/libmpslp.so.0"
     gzip -9n "$root/usr/share/man/man1/mpslp.1" "$root/usr/share/man/man1/mpslp-tools.1"
     mv "$root/usr/share/zsh/site-functions" "$root/usr/share/zsh/vendor-completions"
     install -D -m 644 "$work/source/build/$wheel" "$root/usr/share/mpslp/$wheel"
-    install_tools "$root/usr"
+    install_python "$root/usr"
     install -m 644 release/copyright "$root/usr/share/doc/mpslp/copyright"
+    changelog | gzip -9n > "$root/usr/share/doc/mpslp/changelog.gz"
     size=$(installed_size "$root")
     mkdir "$root/DEBIAN"
     control "$size" > "$root/DEBIAN/control"
     echo "libmpslp 0 mpslp (>= $version)" > "$root/DEBIAN/shlibs"
     echo "activate-noawait ldconfig" > "$root/DEBIAN/triggers"
+    install -m 755 release/postinst release/prerm "$root/DEBIAN/"
     (cd "$root" && find usr -type f -print0 | sort -z | xargs -0 md5sum) > "$work/md5sums"
     mv "$work/md5sums" "$root/DEBIAN/md5sums"
     set_times "$root"
@@ -146,9 +178,13 @@ import importlib.metadata, platform
 print("Python", platform.python_version(), *(f"{name} {importlib.metadata.version(name)}" for name in ("pip", "setuptools", "wheel")))'
 }
 
-# The kit's line. A program contains the checksum of the logic with which it was proved.
+# The kit's line. A program contains the checksum of the logic with which it was proved, also as it is packed.
 kit() {
-    grep -aqF "logic=$(rt version | sed 's/.* logic //')" "$program" || die "another kit built the program than $(rt version)"
+    strip_files -o "$work/stripped" "$program"
+    for each in "$program" "$work/stripped"; do
+        grep -aqF "logic=$(rt version | sed 's/.* logic //')" "$each" || die "another kit built $each than $(rt version)"
+    done
+    rm "$work/stripped"
     rt version
 }
 

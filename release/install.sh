@@ -30,11 +30,16 @@ program 644 completions/mpslp.fish $prefix/share/fish/vendor_completions.d/mpslp
 program 644 completions/mpslp-tools.fish $prefix/share/fish/vendor_completions.d/mpslp-tools.fish
 library 644 include/mpslp.h $prefix/include/mpslp.h
 library 644 build/libmpslp.a $libdir/libmpslp.a
-library 755 build/libmpslp.so.0 $libdir/libmpslp.so.0
+library 644 build/libmpslp.so.0 $libdir/libmpslp.so.0
 TABLE
-    for document in README.md CHANGELOG.md CONTRIBUTING.md docs/*.md docs/errors.tsv python/README.md examples/*; do
+    for document in README.md CHANGELOG.md CONTRIBUTING.md docs/*.md docs/*.tsv python/README.md examples/* $(linked); do
         echo "documents 644 $document $docdir/$document"
     done
+}
+
+# The files outside docs/ that the documents link to: the definitions, a reader to check results with, and lists.
+linked() {
+    grep -hoE '\]\((\.\./)?(crates|tests|vectors)/[^)#]+' README.md docs/*.md python/README.md | sed -E 's/.*\((\.\.\/)?//' | sort -u
 }
 
 # The two files of the library that are made where it is installed.

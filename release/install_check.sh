@@ -38,6 +38,10 @@ use() {
     for file in man/man1/mpslp.1 man/man1/mpslp-tools.1 doc/mpslp/README.md doc/mpslp/docs/C.md doc/mpslp/docs/SOLVERS.md doc/mpslp/examples/small.mps; do
         test -s "$1/share/$file" || die "$1/share/$file is missing"
     done
+    for table in adapt errors portable warnings; do
+        cmp "docs/$table.tsv" "$1/share/doc/mpslp/docs/$table.tsv"
+    done
+    python3 release/links.py "$1/share/doc/mpslp" > "$scratch/log" || die "$(cat "$scratch/log")"
 }
 
 # No file is left, and no directory but those that every package shares.

@@ -239,10 +239,11 @@ def leads_somewhere(path, heading, target):
 
 
 def headings(path):
-    """The anchors of a page's headings, outside fenced blocks."""
+    """The anchors of a page outside fenced blocks: those of its headings, and those that keep links to an earlier heading valid."""
     outside = re.sub(r"^( *)```.*?^\1```$", "", path.read_text(), flags=re.S | re.M)
     titles = re.findall(r"^#+ (.*)$", outside, flags=re.M)
-    return {re.sub(r"[^\w\- ]", "", title.lower()).replace(" ", "-") for title in titles}
+    earlier = re.findall(r'^<a id="([^"]*)"></a>$', outside, flags=re.M)
+    return {re.sub(r"[^\w\- ]", "", title.lower()).replace(" ", "-") for title in titles} | set(earlier)
 
 
 def check_examples(scratch, wrong):

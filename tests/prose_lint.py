@@ -28,6 +28,8 @@ CODE = ("crates/*/src/**/*.rt", "crates/*/specs/**/*.antt", "crates/*/proofs/**/
 HELP = "crates/mpslp_command/src/usage.rt"
 HEADER = "include/mpslp.h"
 
+PAGES = (".md",)
+
 RULES = (
     (r"told|tells?", "reports, says, prints"),
     (r"stands?|stood", "is, appears, comes"),
@@ -60,7 +62,29 @@ RULES = (
     (r"answer(?:s|ed)?", "return, result"),
     (r"views?", "accessor"),
 )
-WORD = re.compile(r"(?<![\w-])(?:" + "|".join(f"({pattern})" for pattern, _ in RULES) + r")(?![\w-])", re.I)
+# Phrases that read as translated. They are looked for in Markdown only: manual pages and
+# completions are made of the help of the commands, and comments of code have a rhythm of their own.
+PHRASES = (
+    (r"(?:reads?|means?|meant|does) otherwise", "differently"),
+    (r"(?:an)?other (?!more |rather )\w+ than", "a different ... from"),
+    (r"in what (?:\w+ )?(?:models|files|texts) differ", "how"),
+    (r"says? in what", "says how"),
+    (r"also (?:if|when|where|without)", "even if"),
+    (r"(?:is|are) no (?:name|index|part|row|column|file|text|model|line|place) of", "is not a ... of"),
+    (r"shares? of all", "density, percentage"),
+    (r"between \d+ and -\d+", "the smaller number first"),
+    (r"(?:files?|models?|edits?|programs?) of yours", "your"),
+    (r"of strangers", "untrusted"),
+    (r"to be (?:maximi|minimi)[sz]ed", "maximisation, minimisation"),
+)
+ALL = RULES + PHRASES
+
+
+def finder(rules):
+    return re.compile(r"(?<![\w-])(?:" + "|".join(f"({pattern})" for pattern, _ in rules) + r")(?![\w-])", re.I)
+
+
+WORD, WORD_OR_PHRASE = finder(RULES), finder(ALL)
 
 
 class Finding(NamedTuple):
@@ -125,10 +149,11 @@ def sentences(text) -> Iterator[tuple[int, str]]:
 def findings(patterns) -> Iterator[Finding]:
     for path in sorted({path for pattern in patterns for path in ROOT.glob(pattern) if "out" not in path.parts and path.is_file()}):
         name = str(path.relative_to(ROOT))
+        rules = WORD_OR_PHRASE if path.suffix in PAGES else WORD
         for line, sentence in sentences(prose(name, path.read_text())):
-            for match in WORD.finditer(sentence):
+            for match in rules.finditer(sentence):
                 if not match[0].isupper():
-                    yield Finding(name, line, match[0], RULES[match.lastindex - 1][1], sentence)
+                    yield Finding(name, line, match[0], ALL[match.lastindex - 1][1], sentence)
 
 
 def check(code=False) -> list[str]:

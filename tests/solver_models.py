@@ -19,11 +19,11 @@ def lp(objective, rows="", bounds="", tail="", sense="min"):
 
 # feature: the format and text of a model, its optimum
 FEATURES = {
-    "names of one letter": (*lp("x", "r: x >= 2"), "2"),
+    "one-letter names": (*lp("x", "r: x >= 2"), "2"),
     "maximise": (*lp("amount", "ceiling: amount <= 3", sense="max"), "3"),
     "constant": (*lp("amount + 10", "minimum_need: amount >= 2"), "12"),
     "maximise with a constant": (*lp("amount + 10", "ceiling: amount <= 3", sense="max"), "13"),
-    "no term in the objective": (*lp("", "minimum_need: amount >= 2"), "0"),
+    "empty objective": (*lp("", "minimum_need: amount >= 2"), "0"),
     "no row": (*lp("2 amount + surplus", bounds="amount >= 3"), "6"),
     "all right-hand sides 0": (*lp("amount + surplus", "balance: amount - surplus >= 0", "surplus >= 2"), "4"),
     "ranged row": (*lp("amount - surplus", "between: 2 <= amount <= 9\nwithin: 1 <= surplus <= 5"), "-3"),
@@ -41,12 +41,12 @@ FEATURES = {
     "integer column": (*lp("- amount", "ceiling: 2 amount <= 7", tail="generals\namount\n"), "-3"),
     "integer column from 0 to 1": (*lp("- amount - surplus", "ceiling: amount + surplus <= 1.5",
                                        tail="binaries\namount surplus\n"), "-1"),
-    "integer column of any sign": (*lp("amount", "minimum_need: 2 amount >= -7", "amount free", "generals\namount\n"), "-3"),
+    "integer column, any sign": (*lp("amount", "minimum_need: 2 amount >= -7", "amount free", "generals\namount\n"), "-3"),
     "semi-continuous column": (*lp("amount + 1.5 surplus", "minimum_need: amount + surplus >= 1", "2 <= amount <= 10",
                                    "semi\namount\n"), "3/2"),
-    "number of 36 digits": (*lp("amount", "minimum_need: amount >= 2.00000000000000000000000000000000001"), "2"),
-    "name of 255 bytes": (*lp(LONG, f"minimum_need: {LONG} >= 2"), "2"),
-    "names with each symbol of LP": (*lp(" + ".join(SYMBOLS), f"need(1): {' + '.join(SYMBOLS)} >= 2"), "2"),
+    "36-digit number": (*lp("amount", "minimum_need: amount >= 2.00000000000000000000000000000000001"), "2"),
+    "255-byte name": (*lp(LONG, f"minimum_need: {LONG} >= 2"), "2"),
+    "names with every LP symbol": (*lp(" + ".join(SYMBOLS), f"need(1): {' + '.join(SYMBOLS)} >= 2"), "2"),
     "name that begins with $": (*lp("$amount + 3 surplus", "minimum_need: $amount + surplus >= 2"), "2"),
     "names with [ ], or a digit first": (
         "mps", "NAME\nROWS\n N  total\n G  need[1]\nCOLUMNS\n    2amount  total  3\n    2amount  need[1]  1\n"

@@ -285,7 +285,7 @@ def total(found: Reached) -> str:
     used = sum(used_lines(path, found.used) for path in files)
     added = sum(used_lines(path, found.used_by_more) for path in (*files, *more)) - used
     return (f"The theorem reaches {len(files)} files with {thousands(lines)} lines, imports included. {thousands(used)} of these lines are"
-            f" definitions that it uses. The first errors add {len(more)} files and use {thousands(added)} lines more.\n")
+            f" definitions that it uses. The first errors add {len(more)} files and {thousands(added)} lines.\n")
 
 
 def shared(found: set[Name], other: set[Name]) -> dict[Path, list[str]]:

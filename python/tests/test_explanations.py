@@ -54,7 +54,7 @@ DuplicateRow
        L  LIM
        G  LIM2
 
-- A label such as c2 is the name that an unlabelled row gets from its position.
+- A label such as c2 is also the default name of an unlabelled row.
   Label all rows.
 
     LP:
