@@ -39,6 +39,7 @@ _WITH_SET = ("side", "range", "bound")
 _DECIMAL = re.compile(r"(?P<sign>[+-]?)(?=\.?\d)(?P<whole>\d*)(?:\.(?P<part>\d*))?(?:[eEdD](?P<power>[+-]?\d+))?")
 _QUOTIENT = re.compile(r"([+-]?\d{1,999})/(\d{1,999})")
 _MOST_DIGITS_OF_POWER = 15
+_LARGEST_POWER = 10**15
 _ENDLESS = re.compile(r"(?P<sign>[+-]?)(?:inf|infty|infinity|1\.?#inf|1e\+?inf)", re.IGNORECASE)
 _SIGNS = "$*;:,.!#()[]{}<>=\"'"
 
@@ -69,7 +70,7 @@ def number_in(word: str, is_limit: bool) -> Optional[Number]:
 def _power(text: str) -> int:
     """The number after the letter E; one with very many digits is larger than any file."""
     digits = text.strip("+-").lstrip("0")
-    power = 10**_MOST_DIGITS_OF_POWER if len(digits) > _MOST_DIGITS_OF_POWER else int(digits or 0)
+    power = _LARGEST_POWER if len(digits) > _MOST_DIGITS_OF_POWER else int(digits or 0)
     return -power if text.startswith("-") else power
 
 

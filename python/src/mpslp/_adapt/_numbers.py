@@ -18,6 +18,7 @@ INFINITE = "1e30"
 LITERAL = re.compile(r"[+-]?(?:[0-9]+(?:\.[0-9]*)?|\.[0-9]+)(?:[eE][+-]?[0-9]+)?")
 _PARTS = re.compile(r"([+-]?)([0-9]*)(?:\.([0-9]*))?(?:[eE]([+-]?[0-9]+))?")
 _MOST_DIGITS_OF_EXPONENT = 18
+_ENDLESS = 10**18
 _INFINITY = re.compile(r"([+-]?)(?:inf|infinity|infty|1\.?#inf|1e\+?inf)", re.IGNORECASE)
 
 
@@ -51,7 +52,7 @@ def parts(literal: str) -> tuple[int, int]:
 def exponent_of(text: str) -> int:
     """The number after the letter E; one with very many digits is as large as no file has digits."""
     digits = text.lstrip("+-0") or "0"
-    size = int(digits) if len(digits) <= _MOST_DIGITS_OF_EXPONENT else 10**_MOST_DIGITS_OF_EXPONENT
+    size = int(digits) if len(digits) <= _MOST_DIGITS_OF_EXPONENT else _ENDLESS
     return -size if text.startswith("-") else size
 
 
