@@ -74,7 +74,7 @@ def rows(path=TABLE):
 def unescaped(cell):
     """A cell as bytes: it has UTF-8, and \\n, \\r, \\\\ and \\xNN for bytes."""
     latin = cell.encode("utf-8").decode("latin-1")
-    for escape, byte in (("\\\\", "\0"), ("\\n", "\n"), ("\\r", "\r"), ("\\x20", " "), ("\\x1a", "\x1a"),
+    for escape, byte in (("\\\\", "\0"), ("\\n", "\n"), ("\\r", "\r"), ("\\x20", " "), ("\\x1a", "\x1a"), ("\\xa0", "\xa0"),
                          ("\\xef\\xbb\\xbf", "\xef\xbb\xbf"), ("\0", "\\")):
         latin = latin.replace(escape, byte)
     return latin

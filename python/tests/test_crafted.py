@@ -14,6 +14,112 @@ import mpslp
 LP_HEAD = "min\n obj: x\nst\n"
 MPS_HEAD = "NAME T\nROWS\n N COST\n L LIM\nCOLUMNS\n"
 MPS_END = "RHS\nENDATA\n"
+LINE_END = "\n"
+RELATION_IN_COMMENT = "\\<\n"
+
+
+def lp(*lines):
+    """A file that adapt has to change, with these lines after its rows."""
+    return LP_HEAD + " x + 1 >= 2\n" + "".join(f"{line}\n" for line in lines) + "end\n"
+
+
+def mps(*lines):
+    return MPS_HEAD + " X LIM 1\n" + "".join(f"{line}\n" for line in lines) + "ENDATA\n"
+
+
+def each(count, line):
+    """Lines with the numbers from 0 on in the place of the braces."""
+    return [line.replace("{}", str(number)) for number in range(count)]
+
+
+ACCENTS = "\u0301\u0316"
+"""Two accents that Unicode puts in another order."""
+
+# Files of about a size for adapt, with what reads each in quadratic time if it is written carelessly.
+FOR_ADAPT = {
+    "digits before a letter": ("lp", lambda size: lp(f" x >= {'1' * size}x")),
+    "digits of a coefficient": ("mps", lambda size: mps(f" Y LIM {'1' * size}x")),
+    "digits of a limit": ("lp", lambda size: lp(f" x + 3 >= {'1' * size}")),
+    "digits of a right-hand side": ("mps", lambda size: mps("RHS", f" RHS LIM {'1' * size}")),
+    "digits of an exponent": ("mps", lambda size: mps("RHS", f" RHS LIM 1e{'1' * size}")),
+    "bounds of a column": ("lp", lambda size: lp("bounds", *each(size // 10, "x <= {}"))),
+    "sections": ("lp", lambda size: lp(*["bounds", "st"] * (size // 10))),
+    "headers": ("mps", lambda size: "OBJSENSE MAX\n" * (size // 13) + mps()),
+    "long names": ("mps", lambda size: mps(*each(size // 275, f" {'b' * 260}{{}} LIM 1"))),
+    "accents": ("mps", lambda size: mps(f" a{ACCENTS * (size // 4)} LIM 1")),
+    "words that are not the end": ("lp", lambda size: lp("generals", "end " * (size // 4) + "x")),
+    "right sides that are a name": ("lp", lambda size: lp(*["sos1: x + y = S1"] * (size // 17), "S1 >= 2")),
+    "integer columns": ("mps", lambda size: mps(" M 'MARKER' 'INTORG'", *each(size // 13, " Y{} LIM 1"))),
+    "constants of the objective": ("mps", lambda size: mps("RHS", *[" RHS COST 1"] * (size // 12))),
+    "lines without a set": (
+        "mps",
+        lambda size: mps("RHS", " RHS LIM 1", "BOUNDS", " UP BND X 1", *each(size // 28, "RHS\n LIM {}\nBOUNDS\n UP X {}")),
+    ),
+    "empty lines": ("lp", lambda size: f"//{LINE_END * size}{lp()}"),
+    "spaces after a relation": ("lp", lambda size: f"{LP_HEAD} x <{' ' * size}1\nend\n"),
+    "relations in comments": ("lp", lambda size: f"{LP_HEAD} x <= 1\n{RELATION_IN_COMMENT * (size // 3)}end\n"),
+}
+DIALECTS = (None, "coinutils", "glpsol", "lp_solve", "pulp", "qsopt")
+
+
+def seconds_of_adapt(text, format, dialect):
+    begun = time.process_time()
+    try:
+        mpslp.adapt(text.encode(), format, dialect)
+    except mpslp.AdaptError as error:
+        assert "internal error" not in str(error), error
+    return time.process_time() - begun
+
+
+class CraftedForAdapt(unittest.TestCase):
+    # Ten times the size takes some ten times as long, and a hundred times in quadratic time.
+    SIZE = 5_000
+    MOST_GROWTH = 13
+    SECONDS_OF_NOISE = 0.1
+
+    def test_growth(self):
+        for name, (format, text_of) in FOR_ADAPT.items():
+            small, large = (text_of(size) for size in (self.SIZE, 10 * self.SIZE))
+            for dialect in DIALECTS:
+                with self.subTest(name, dialect=dialect):
+                    seconds = seconds_of_adapt(large, format, dialect)
+                    if seconds > self.SECONDS_OF_NOISE:
+                        least = min(seconds_of_adapt(small, format, dialect) for _ in range(3))
+                        self.assertLess(seconds, self.MOST_GROWTH * least + self.SECONDS_OF_NOISE)
+
+    def test_long_line_without_spaces(self):
+        text = lp("+".join(each(200_000, "x{}")) + ">=1").encode()
+        begun = time.process_time()
+        with self.assertRaises(mpslp.AdaptError) as caught:
+            mpslp.adapt(text, "lp")
+        self.assertLess(time.process_time() - begun, Crafted.MOST_SECONDS)
+        self.assertIn("no space to break it", str(caught.exception))
+
+    def test_digits_that_are_no_number_of_python(self):
+        digits = "1" * 5000
+        for format, text, reason in (
+            ("lp", lp(f" {digits} x >= 1"), "36 digits"),
+            ("lp", lp(f" 1e{digits} x >= 1"), "36 digits"),
+            ("mps", mps(f" Y LIM {digits}"), "36 digits"),
+            ("mps", mps(f" Y LIM 1e-{digits}"), "36 digits"),
+            ("mps", mps(f" Y LIM {digits}/{digits}"), "no finite decimal"),
+        ):
+            with self.subTest(text[-20:]), self.assertRaises(mpslp.AdaptError) as caught:
+                mpslp.adapt(text.encode(), format)
+            self.assertIn(reason, str(caught.exception))
+
+    def test_digits_that_are_infinite(self):
+        digits = "1" * 5000
+        self.assertIn(b"RHS LIM 1e30\n", mpslp.adapt(mps("RHS", f" RHS LIM {digits}").encode(), "mps").text)
+        self.assertIn(b"x <= inf\n", mpslp.adapt(lp(f" x + 1 <= 1e{digits}").encode(), "lp").text)
+
+    def test_constant_of_glpsol(self):
+        for number, reason in (("1" * 5000, "36 digits"), ("1e" + "9" * 5000, "36 digits")):
+            with self.subTest(number[:4]), self.assertRaises(mpslp.AdaptError) as caught:
+                mpslp.adapt(f"\\* constant term = {number} *\\\n{lp()}".encode(), "lp", "glpsol")
+            self.assertIn(reason, str(caught.exception))
+        text = f"\\* constant term = 1.2.3 *\\\n{lp()}".encode()
+        self.assertIn(b"obj: x\n", mpslp.adapt(text, "lp", "glpsol").text)
 
 
 class Crafted(unittest.TestCase):

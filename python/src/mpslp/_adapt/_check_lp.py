@@ -134,10 +134,12 @@ def readings(text: str, dialect: Optional[str], is_of_mpslp: bool = False) -> Re
     reading = Reading()
     ranges = {token.line for token in tokens if token.kind == "range"} if dialect == "qsopt" else set()
     found = sections_of([token for token in tokens if token.kind not in ("range", "constant", "negated")], dialect)
-    for name, body in found:
+    end = found[1].line if len(found) > 1 else _INFINITE
+    comments = [token for token in tokens if token.kind == "negated" or (token.kind == "constant" and token.line < end)]
+    for name, body, _ in found:
         if name in ("min", "max"):
             reading.is_max = name == "max"
-            _read_objective(reading, body, tokens, dialect)
+            _read_objective(reading, body, comments, dialect)
         elif name == "rows":
             _read_rows(reading, body, is_of_mpslp)
         elif name == "bounds":
@@ -150,14 +152,14 @@ def readings(text: str, dialect: Optional[str], is_of_mpslp: bool = False) -> Re
     return reading
 
 
-def _read_objective(reading: Reading, body: Sequence[LpToken], tokens: Sequence[LpToken], dialect: Optional[str]) -> None:
+def _read_objective(reading: Reading, body: Sequence[LpToken], comments: Sequence[LpToken], dialect: Optional[str]) -> None:
     if len(body) > 1 and body[1].kind == "colon":
         reading.label, body = body[0].text, body[2:]
     side = side_of(body)
     reading.objective, reading.constant = side.terms, side.constant
     if dialect == "glpsol" and not side.constants:
-        reading.constant = comment_constant(tokens)
-    is_negated = any(token.kind == "negated" for token in tokens)
+        reading.constant = comment_constant(comments)
+    is_negated = any(token.kind == "negated" for token in comments)
     if dialect == "coinutils" and not reading.is_max and not is_negated:
         reading.constant = -side.constant
 

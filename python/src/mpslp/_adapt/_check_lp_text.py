@@ -14,17 +14,18 @@ Limit = Union[Fraction, float]
 _TOKEN = re.compile(
     r"[ \t]*(?:(?P<space>\s+)|(?P<sign>[+-]|\xe2\x88\x92)|(?P<number>(?:\d+(?:\.\d*)?|\.\d+)(?:[eE][+-]?\d+)?(?:\#[iI][nN][fF])?)"
     r"|(?P<name>(?:[^\s\\<>=:*^+\-\[\]\xe2]+|(?!\xe2\x89[\xa4\xa5]|\xe2\x88\x92)\xe2|\[[^\s\[\]<>=*^]*\])+)|\\(?P<comment>[^\n]*)"
-    r"|(?P<relation>[<>]=?|=[<>=]?|\xe2\x89[\xa4\xa5])|(?P<colon>:)|(?P<star>\*)|(?P<other>\S)|\Z)"
+    r"|(?P<relation>[<>]=?|=[<>=]?|\xe2\x89[\xa4\xa5])|(?P<colon>:)|(?P<star>\*)|(?P<other>\S)|\Z)",
+    re.ASCII,  # the bytes of letters such as à are no spaces
 )
-_TOKEN_OF_QSOPT = re.compile(_TOKEN.pattern.replace(r"|(?P<number>", r"|(?P<number>\d+/\d+(?![\d.])|"))
+_TOKEN_OF_QSOPT = re.compile(_TOKEN.pattern.replace(r"|(?P<number>", r"|(?P<number>\d+/\d+(?![\d.])|"), re.ASCII)
 _LINE_END = re.compile(r"[ \t\r]*(?:\\|\n|\Z)")
-_WORD_OF_PULP = re.compile(r"\\(?P<comment>[^\n]*)|(?P<word>\S+)|(?P<space>\s+)")
-_NUMBER = re.compile(r"(?:\d+(?:\.\d*)?|\.\d+)(?:[eE]([+-]?\d+))?")
+_WORD_OF_PULP = re.compile(r"\\(?P<comment>[^\n]*)|(?P<word>\S+)|(?P<space>\s+)", re.ASCII)
+_NUMBER = re.compile(r"(?=\.?\d)(?P<whole>\d*)(?:\.(?P<part>\d*))?(?:[eE](?P<power>[+-]?\d+))?")
 _INFINITE_WORDS = ("inf", "infinity")
 INFINITE_SIDES = ("infty", "infin")
 _RANGE = re.compile(r" RANGE \(.*\)\s*")
-_CONSTANT = re.compile(r"\* constant term = (-?)([0-9.]+(?:e[+-]?[0-9]+)?) \*\\")
-_NEGATED = "the constant of the objective is negated"
+_CONSTANT = re.compile(r"\* constant term = (-?)([0-9]+(?:\.[0-9]*)?(?:e[+-]?[0-9]+)?) \*\\")
+_NEGATED = " the constant of the objective is negated: it was that of CoinUtils"
 _HEADERS = {
     **dict.fromkeys(("min", "minimize", "minimum", "minimise", "minimization"), "min"),
     **dict.fromkeys(("max", "maximize", "maximum", "maximise", "maximization"), "max"),
@@ -36,7 +37,11 @@ _HEADERS = {
     "end": "end",
 }
 _FIRST_WORDS = {header.split()[0] for header in _HEADERS}
-_MOST_DIGITS_OF_EXPONENT = 5
+_LONGEST_NUMBER = 1000
+_LARGEST_EXPONENT = 1000
+"""What is beyond is no number of mpslp's LP format."""
+
+_MOST_DIGITS_OF_EXPONENT = 18
 _INFINITE = float("inf")
 
 
@@ -96,7 +101,7 @@ def _remark(text: str, line: int) -> Iterator[LpToken]:
         yield LpToken("range", text, line)
     elif _CONSTANT.match(text):
         yield LpToken("constant", text, line)
-    elif _NEGATED in text:
+    elif text.rstrip() == _NEGATED:
         yield LpToken("negated", text, line)
 
 
@@ -115,7 +120,7 @@ def _plain(kind: str, text: str, line: int, is_joined: bool = False) -> LpToken:
 
 def _words_of_pulp(text: str) -> Iterator[LpToken]:
     """PuLP has spaces between all tokens, and a label ends with a colon."""
-    line = 1
+    line, last = 1, 0  # the line of the last word
     for found in _WORD_OF_PULP.finditer(text):
         word = found[0]
         if found["space"] is not None:
@@ -124,10 +129,9 @@ def _words_of_pulp(text: str) -> Iterator[LpToken]:
             yield from _remark(found["comment"], line)
         else:
             yield from _parts_of_word(word, line)
-            if word.lower() == "end":
-                before, after = text[: found.start()].rsplit("\n", 1)[-1], text[found.end() :].split("\n", 1)[0]
-                if not before.strip() and not after.split("\\")[0].strip():
-                    return
+            if word.lower() == "end" and last != line and _LINE_END.match(text, found.end()):
+                return
+            last = line
 
 
 def _parts_of_word(word: str, line: int) -> Iterator[LpToken]:
@@ -151,15 +155,23 @@ def _parts_of_word(word: str, line: int) -> Iterator[LpToken]:
 # ---- sections
 
 
-def sections_of(tokens: Sequence[LpToken], dialect: Optional[str]) -> list[tuple[str, list[LpToken]]]:
-    """The sections: the name of each, and its tokens."""
-    found: list[tuple[str, list[LpToken]]] = []
+class LpSection(NamedTuple):
+    """A section: its name, its tokens, and the line of its header."""
+
+    name: str
+    tokens: list[LpToken]
+    line: int
+
+
+def sections_of(tokens: Sequence[LpToken], dialect: Optional[str]) -> list[LpSection]:
+    """The sections of a file, of which the first is the objective."""
+    found: list[LpSection] = []
     at = 0
     while at < len(tokens):
         is_word = tokens[at].kind == "name" and tokens[at].text.lower() in _FIRST_WORDS
-        name, count = _header(tokens, at, dialect, found[-1][0] if found else "") if is_word else ("", 0)
+        name, count = _header(tokens, at, dialect, found[-1].name if found else "") if is_word else ("", 0)
         if name:
-            found.append((name, []))
+            found.append(LpSection(name, [], tokens[at].line))
             at += count
             if at < len(tokens) and tokens[at].kind == "colon" and name not in ("min", "max"):
                 at += 1
@@ -176,7 +188,7 @@ def sections_of(tokens: Sequence[LpToken], dialect: Optional[str]) -> list[tuple
                 at += 1
             elif _is_label_of_number(tokens, at - 1):
                 token = token._replace(kind="name")
-        found[-1][1].append(token)
+        found[-1].tokens.append(token)
     return found
 
 
@@ -302,23 +314,38 @@ _SHAPES = {
 
 @lru_cache(maxsize=100_000)
 def signed_number(text: str, is_negative: bool) -> Optional[Limit]:
-    """The value of a number with a sign, or None for a division by 0."""
+    """The value of a number with a sign, or None for a division by 0, or by a number that is too long."""
     number = number_of(text)
     return -number if is_negative and number is not None else number
 
 
 def number_of(text: str) -> Optional[Limit]:
-    """The value of an unsigned number, or None for a division by 0."""
+    """The value of an unsigned number, or None for a division by 0, or by a number that is too long."""
     if text.lower().endswith("inf"):
         return float("inf")
     if "/" in text:
         numerator, denominator = text.split("/")
+        if len(text) > _LONGEST_NUMBER:
+            return None
         return Fraction(int(numerator), int(denominator)) if int(denominator) else None
     found = _NUMBER.fullmatch(text)
     assert found is not None
-    if found[1] is not None and len(found[1].lstrip("+-0")) > _MOST_DIGITS_OF_EXPONENT:
-        return float("inf") if "-" not in found[1] else Fraction(0)
+    whole, power = found["whole"].lstrip("0"), found["power"] or "0"
+    is_long = len(power.lstrip("+-0")) > _MOST_DIGITS_OF_EXPONENT or len(text) > _LONGEST_NUMBER
+    if is_long or abs(int(power)) > _LARGEST_EXPONENT:
+        return _of_long_number(whole, found["part"] or "", power)
     return Fraction(text)
+
+
+def _of_long_number(whole: str, part: str, power: str) -> Limit:
+    """The value of a number that the rules take only as a limit that is infinite: infinite, or 0 if it is below all others."""
+    digits = (whole + part).lstrip("0")
+    if not digits:
+        return Fraction(0)
+    exponent = power.lstrip("+-0")
+    size = 10**_MOST_DIGITS_OF_EXPONENT if len(exponent) > _MOST_DIGITS_OF_EXPONENT else int(exponent or 0)
+    places = len(digits) - len(part) + (-size if power.startswith("-") else size)
+    return _INFINITE if places > 20 else Fraction(0)
 
 
 def value_of(tokens: Sequence[LpToken]) -> Limit:
@@ -334,11 +361,9 @@ def is_large(value: Limit) -> bool:
     return not -(10**20) < value < 10**20
 
 
-def comment_constant(tokens: Sequence[LpToken]) -> Fraction:
+def comment_constant(comments: Sequence[LpToken]) -> Limit:
     """The constant of the objective that glpsol writes into a comment."""
-    for token in tokens:
-        if token.text.lower() in ("subject", "st", "s.t."):
-            break
+    for token in comments:
         if token.kind == "constant" and (found := _CONSTANT.match(token.text)):
-            return Fraction(found[2]) * (-1 if found[1] else 1)
+            return signed_number(found[2], bool(found[1])) or Fraction(0)
     return Fraction(0)

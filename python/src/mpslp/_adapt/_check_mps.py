@@ -13,20 +13,33 @@ from dataclasses import dataclass
 from fractions import Fraction
 from functools import cached_property, lru_cache
 from itertools import zip_longest
-from typing import Optional, Union
+from typing import NamedTuple, Optional, Union
 
 from mpslp._adapt._changes import Change
 from mpslp._adapt._check import Declaration, Difference, Reading
 
-Number = Union[str, tuple[int, int], Fraction]
-"""A number: an infinite one by its sign, a decimal as a mantissa that 10 does not divide and an exponent, or another fraction."""
+class Decimal(NamedTuple):
+    """A decimal: whether it is below 0, its digits without zeros at both ends, which may be very many, and an exponent."""
+
+    is_negative: bool
+    digits: str
+    exponent: int
+
+
+Number = Union[str, Decimal, Fraction]
+"""A number: an infinite one by its sign, a decimal, or another fraction."""
+
+ZERO = Decimal(False, "", 0)
 
 _HEADERS = frozenset("NAME OBJSENSE OBJNAME ROWS COLUMNS RHS RANGES BOUNDS ENDATA".split())
 _WORDS = _HEADERS | {"'MARKER'", "'INTORG'", "'INTEND'", "MARKER", "INTORG", "INTEND"}
 _COLUMNS_OF_FIELDS = ((1, 3), (4, 12), (14, 22), (24, 36), (39, 47), (49, 61))
 _WITH_NUMBER = frozenset("UP LO FX SC UI LI".split())
-_DECIMAL = re.compile(r"(?P<sign>[+-]?)(?=\.?\d)(?P<whole>\d*)\.?(?P<part>\d*)(?:[eEdD](?P<power>[+-]?\d+))?")
-_QUOTIENT = re.compile(r"([+-]?\d+)/(\d+)")
+_WITH_SET = ("side", "range", "bound")
+_DECIMAL = re.compile(r"(?P<sign>[+-]?)(?=\.?\d)(?P<whole>\d*)(?:\.(?P<part>\d*))?(?:[eEdD](?P<power>[+-]?\d+))?")
+_QUOTIENT = re.compile(r"([+-]?\d{1,999})/(\d{1,999})")
+_MOST_DIGITS_OF_POWER = 15
+_LARGEST_POWER = 10**15
 _ENDLESS = re.compile(r"(?P<sign>[+-]?)(?:inf|infty|infinity|1\.?#inf|1e\+?inf)", re.IGNORECASE)
 _SIGNS = "$*;:,.!#()[]{}<>=\"'"
 
@@ -43,14 +56,22 @@ def number_in(word: str, is_limit: bool) -> Optional[Number]:
     found = _DECIMAL.fullmatch(word)
     if found is None:
         return None
-    digits = (found["whole"] + found["part"]).lstrip("0")
+    part = found["part"] or ""
+    digits = (found["whole"] + part).lstrip("0")
     mantissa = digits.rstrip("0")
-    exponent = int(found["power"] or 0) - len(found["part"]) + len(digits) - len(mantissa)
+    exponent = _power(found["power"] or "0") - len(part) + len(digits) - len(mantissa)
     if not mantissa:
-        return 0, 0
+        return ZERO
     if is_limit and len(mantissa) + exponent > 20:
         return "-inf" if found["sign"] == "-" else "inf"
-    return (-int(mantissa) if found["sign"] == "-" else int(mantissa)), exponent
+    return Decimal(found["sign"] == "-", mantissa, exponent)
+
+
+def _power(text: str) -> int:
+    """The number after the letter E; one with very many digits is larger than any file."""
+    digits = text.strip("+-").lstrip("0")
+    power = _LARGEST_POWER if len(digits) > _MOST_DIGITS_OF_POWER else int(digits or 0)
+    return -power if text.startswith("-") else power
 
 
 def _of_fraction(value: Fraction) -> Number:
@@ -60,10 +81,9 @@ def _of_fraction(value: Fraction) -> Number:
         value, exponent = value * 10, exponent - 1
     if value.denominator != 1:
         return value
-    mantissa = value.numerator
-    while mantissa and mantissa % 10 == 0:
-        mantissa, exponent = mantissa // 10, exponent + 1
-    return (mantissa, exponent) if mantissa else (0, 0)
+    digits = str(abs(value.numerator))
+    mantissa = digits.rstrip("0")
+    return Decimal(value < 0, mantissa, exponent + len(digits) - len(mantissa)) if mantissa else ZERO
 
 
 def readings(text: str, dialect: Optional[str] = None, changes: Sequence[Change] = ()) -> Reading:
@@ -120,13 +140,15 @@ class _Scan:
                 continue
             if not line.startswith((" ", "\t")) and self.is_header(words):
                 if self.header(words) == "ENDATA":
-                    yield from self.found
-                    return
+                    break
             else:
                 self.data(line, words)
             if self.found:
                 yield from self.found
                 self.found.clear()
+        if self.objective is not None:  # the last word says it
+            self.declare("objective", (self.objective,))
+        yield from self.found
 
     def declare(self, kind: str, about: Sequence[str], value: Hashable = None) -> None:
         self.found.append(Declaration(self.line, kind, tuple(about), value))
@@ -156,7 +178,6 @@ class _Scan:
         if self.section == "COLUMNS" and self.objective is None:
             self.objective = next((name for name, kind in self.row_types.items() if kind == "N"), "obj")
             self.row_types.setdefault("obj", "") if self.objective == "obj" else None
-            self.declare("objective", (self.objective,))
         return self.section
 
     def word(self, words: list[str]) -> None:
@@ -164,7 +185,6 @@ class _Scan:
         self.awaits_word = False
         if self.section == "OBJNAME":
             self.objective = words[0]
-            self.declare("objective", words[:1])
         else:
             self.declare("sense", (words[0].upper()[:3],))
         self.keep_text(words[1:])
@@ -303,26 +323,38 @@ class _Comparison:
         about = tuple(self.names.get(word, word) for word in declaration.about)
         return Declaration(declaration.line, declaration.kind, about, declaration.value)
 
+    @cached_property
+    def bounds(self) -> dict[str, list[Declaration]]:
+        """The bounds of each column."""
+        found: dict[str, list[Declaration]] = {}
+        for each in self.before:
+            if each.kind == "bound":
+                found.setdefault(each.about[2], []).append(each)
+        return found
+
+    @cached_property
+    def marked(self) -> set[str]:
+        """The columns between markers."""
+        return {each.about[0] for each in self.before if each.kind == "column" and each.value == "marked"}
+
+    @cached_property
+    def first_sets(self) -> dict[str, str]:
+        """The set of the first declaration of each kind."""
+        return {each.kind: each.about[0] for each in reversed(self.before) if each.kind in _WITH_SET}
+
     def first(self) -> Optional[Difference]:
         if len(set(self.names.values())) != len(self.names):
             return Difference(None, "one name is written for two")
-        missing, extra = _without(self.before, self.after), _without(self.after, self.before)
+        missing, extra = _without(self.before, self.after), _Extra(_without(self.after, self.before))
         for declaration in missing:
             kinds = self.kinds_of_line.get(declaration.line, ())
-            if not any(kind in _REPLACED and self.takes(extra, _REPLACED[kind](self, declaration)) for kind in kinds) and not any(
+            if not any(kind in _REPLACED and extra.takes(_REPLACED[kind](self, declaration)) for kind in kinds) and not any(
                 kind in _DROPPED and _DROPPED[kind](self, declaration) for kind in kinds
             ):
                 return Difference(declaration.line, f"{declaration} is missing")
-        return self.first_added(extra)
+        return self.first_added(extra.left())
 
-    def takes(self, extra: list[Declaration], wanted: Optional[Declaration]) -> bool:
-        """Whether a declaration is among those of the second text only, which then has one less."""
-        at = None if wanted is None else next((at for at, each in enumerate(extra) if each.said == wanted.said), None)
-        if at is not None:
-            del extra[at]
-        return at is not None
-
-    def first_added(self, extra: list[Declaration]) -> Optional[Difference]:
+    def first_added(self, extra: Sequence[Declaration]) -> Optional[Difference]:
         """The first declaration of the second text only that no change adds; each change adds one line."""
         left = Counter(change.kind for change in self.changes)
         for declaration in extra:
@@ -334,7 +366,31 @@ class _Comparison:
         return None
 
     def bounds_of(self, column: str) -> list[Declaration]:
-        return [each for each in self.before if each.kind == "bound" and each.about[2] == column]
+        return self.bounds.get(column, [])
+
+
+class _Extra:
+    """The declarations of the second text only."""
+
+    def __init__(self, declarations: Sequence[Declaration]) -> None:
+        self.declarations = declarations
+        self.counts = Counter(each.said for each in declarations)
+
+    def takes(self, wanted: Optional[Declaration]) -> bool:
+        """Whether a declaration is among them, which then has one less."""
+        if wanted is None or self.counts[wanted.said] <= 0:
+            return False
+        self.counts[wanted.said] -= 1
+        return True
+
+    def left(self) -> list[Declaration]:
+        """Those that are not taken."""
+        counts, found = self.counts.copy(), []
+        for each in self.declarations:
+            if counts[each.said] > 0:
+                counts[each.said] -= 1
+                found.append(each)
+        return found
 
 
 def _without(some: Sequence[Declaration], others: Sequence[Declaration]) -> list[Declaration]:
@@ -369,17 +425,17 @@ _DROPPED: dict[str, Callable[[_Comparison, Declaration], bool]] = {
 
 def _negated(all: _Comparison, it: Declaration) -> Optional[Declaration]:
     """The number on the objective with the other sign."""
-    if it.kind != "side" or it.about[1] != all.objective or not isinstance(it.value, tuple):
+    if it.kind != "side" or it.about[1] != all.objective or not isinstance(it.value, Decimal):
         return None
-    return Declaration(it.line, it.kind, it.about, (-it.value[0], it.value[1]))
+    is_negative = not it.value.is_negative and it.value != ZERO
+    return Declaration(it.line, it.kind, it.about, it.value._replace(is_negative=is_negative))
 
 
 def _with_set(all: _Comparison, it: Declaration) -> Optional[Declaration]:
     """A line without a set as one of the first set, with the sign that the objective gets."""
-    if it.kind not in ("side", "range", "bound") or it.about[0]:
+    if it.kind not in _WITH_SET or it.about[0]:
         return None
-    first = next((each.about[0] for each in all.before if each.kind == it.kind), "")
-    with_set = Declaration(it.line, it.kind, (first, *it.about[1:]), it.value)
+    with_set = Declaration(it.line, it.kind, (all.first_sets[it.kind], *it.about[1:]), it.value)
     is_negated = "objective-rhs" in all.kinds_of_line.get(it.line, ())
     return (_negated(all, with_set) if is_negated else None) or with_set
 
@@ -393,8 +449,7 @@ _REPLACED: dict[str, Callable[[_Comparison, Declaration], Optional[Declaration]]
 
 def _is_bound_for_integers(all: _Comparison, it: Declaration) -> bool:
     """PL for an integer column without bounds."""
-    is_marked = any(each.kind == "column" and each.about == it.about[2:] and each.value == "marked" for each in all.before)
-    return it.kind == "bound" and it.about[1] == "PL" and is_marked and not all.bounds_of(it.about[2])
+    return it.kind == "bound" and it.about[1] == "PL" and it.about[2] in all.marked and not all.bounds_of(it.about[2])
 
 
 def _is_bound_below_negative(all: _Comparison, it: Declaration) -> bool:
@@ -403,7 +458,7 @@ def _is_bound_below_negative(all: _Comparison, it: Declaration) -> bool:
         return False
     bounds = all.bounds_of(it.about[2])
     uppers = [each.value for each in bounds if each.about[1] in ("UP", "UI")]
-    is_negative = any(value == "-inf" or (isinstance(value, tuple) and value[0] < 0) for value in uppers)
+    is_negative = any(value == "-inf" or (isinstance(value, Decimal) and value.is_negative) for value in uppers)
     return is_negative and all_are_upper(bounds)
 
 
@@ -415,7 +470,7 @@ def _is_column_of_bounds(all: _Comparison, it: Declaration) -> bool:
     """A coefficient of 0 in the objective for a column that only BOUNDS has."""
     if it.kind == "column":
         return it.value == "" and bool(all.bounds_of(it.about[0]))
-    is_zero = it.kind == "coefficient" and it.about[1] == all.objective and it.value == (0, 0)
+    is_zero = it.kind == "coefficient" and it.about[1] == all.objective and it.value == ZERO
     return is_zero and it.about[0] not in all.named and bool(all.bounds_of(it.about[0]))
 
 

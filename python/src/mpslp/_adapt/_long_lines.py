@@ -2,8 +2,6 @@
 
 from __future__ import annotations
 
-import re
-
 from mpslp._adapt._changes import AdaptError, Log
 
 LONGEST_LINE = 1_048_576
@@ -33,8 +31,22 @@ def _broken(line: str, comment: str, number: int) -> str:
     code, mark, remark = ("", comment, line[1:]) if comment == "*" and line.startswith("*") else (line, "", "")
     if comment == "\\":
         code, mark, remark = line.partition(comment)
-    pieces = re.findall(rf"[^ ].{{0,{_PART_OF_LINE}}}(?=[ ]|$)", code) if comment == "\\" else [code.rstrip(" \t\r")]
+    pieces = _pieces(code) if comment == "\\" else [code.rstrip(" \t\r")]
     if any(len(piece) > LONGEST_LINE for piece in pieces):
         raise AdaptError(number, "a line over the limit that has no space to break it")
     comments = [mark + remark[at : at + _PART_OF_LINE] for at in range(0, len(remark), _PART_OF_LINE)]
     return "\n".join([piece for piece in [*pieces, *comments] if piece])
+
+
+def _pieces(code: str) -> list[str]:
+    """A line of LP in pieces that each end before a space, and are as long as they may be; one without spaces may be longer."""
+    pieces, start = [], 0
+    while len(code) - start > _PART_OF_LINE:
+        end = code.rfind(" ", start + 1, start + _PART_OF_LINE + 1)
+        if end < 0:
+            end = code.find(" ", start + _PART_OF_LINE)
+        if end < 0:
+            break
+        pieces.append(code[start:end].strip(" "))
+        start = end
+    return [*pieces, code[start:].strip(" ")]

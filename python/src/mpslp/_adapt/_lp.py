@@ -7,6 +7,7 @@ others are written again. A rule replaces tokens by tokens, and the printer make
 from __future__ import annotations
 
 import re
+from itertools import pairwise
 from typing import Optional
 
 from mpslp._adapt._changes import AdaptError, Log
@@ -20,7 +21,7 @@ from mpslp._adapt._lp_rules import ObjectiveRules, RowRules
 from mpslp._adapt._lp_sections import OTHER_SENSES, SENSES
 from mpslp._adapt._lp_tokens import Tokens
 
-_OBJECTIVE_OF_LP_SOLVE = re.compile(r"^\s*(?:max|min)(?:imi[sz]e)?\s*:", re.IGNORECASE | re.MULTILINE)
+_OBJECTIVE_OF_LP_SOLVE = re.compile(r"^[^\S\n]*(?:max|min)(?:imi[sz]e)?\s*:", re.IGNORECASE | re.MULTILINE)
 _LANGUAGE_OF_LP_SOLVE = "the LP language of lp_solve: convert it with lp_solve -S1 -parse_only -wfmps model.mps model.lp"
 
 
@@ -58,7 +59,7 @@ class _Adapter:
             found = reader.section_at(reader.at)
             if found is None:
                 raise reader.error("a section is expected here")
-            section = Section(found[0], reader.token, reader.ahead(found[1] - 1))
+            section = Section(found[0], reader.token, reader.ahead(found[1] - 1), found[1])
             reader.sections.append(section)
             reader.at += found[1]
             if section.name == "end":
@@ -104,7 +105,7 @@ class _Adapter:
             raise reader.error("after the line Problem comes a line with the name", first)
         while reader.token.line == line and reader.token.kind != "end":
             reader.at += 1
-        name = self.context.source(self.reader.tokens.after(first), reader.last).strip()
+        name = self.context.source(self.reader.tokens.after(first), reader.last).strip(" \t\r\n")
         cells = [Cell("", f"\\ {first.text}"), Cell("\n", f"\\ {name}")]
         self.context.log.add(first.line, "problem-name", f"{first.text} {name}", f"\\ {first.text} {name}")
         self.context.script.replace(first.start, reader.last.end, cells)
@@ -132,6 +133,9 @@ class _Adapter:
         """A name of PuLP such as x+y or x<=4 is not a sum or a row from which spaces are missing."""
         if self.reader.dialect != "pulp":
             return
+        for colon, after in pairwise(self.reader.tokens.all):
+            if colon.kind == "colon" and colon.end == after.start and after.text:
+                raise AdaptError(colon.line, f":{after.text} is a label without a space after it, or a name: write a space after the colon, or rename it")
         for name in self.context.names.written:
             if name[0] in "+-<>=":
                 raise AdaptError(self.line_of(name), f"{name} is a name for PuLP, which writes no such names: correct it, or write a space after the sign")
@@ -183,8 +187,8 @@ class _Adapter:
                 continue
             header = self.text[section.first.start : section.last.end]
             self.log.add(section.first.line, "section-again", header, f"in the first {header}")
-            count = header_length(section, self.reader.tokens)
-            parts[seen[section.name]] += on_new_line(parts[number][count:], comments_of(parts[number][:count]))
+            header_cells, cells = parts[number][: section.words], parts[number][section.words :]
+            parts[seen[section.name]] += on_new_line(cells, comments_of(header_cells))
             parts[number] = []
         return parts
 
@@ -209,14 +213,9 @@ def parted(script: Script, starts: list[int]) -> list[list[Cell]]:
     return parts
 
 
-def header_length(section: Section, tokens: Tokens) -> int:
-    """How many tokens the header of a section has."""
-    return sum(section.first.start <= token.start <= section.last.start for token in tokens.all)
-
-
 def comments_of(cells: list[Cell]) -> str:
     """The comments before cells."""
-    return "".join(f"\n{line.strip()}" for cell in cells for line in cell.space.split("\n") if "\\" in line)
+    return "".join("\n" + line.strip(" \t\r") for cell in cells for line in cell.space.split("\n") if "\\" in line)
 
 
 def on_new_line(cells: list[Cell], before: str) -> list[Cell]:

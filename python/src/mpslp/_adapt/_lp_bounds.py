@@ -88,13 +88,11 @@ class BoundRules:
 
     def settle_again(self, bounds: list[Bound]) -> list[Bound]:
         """The bounds without those that are given again, which are removed."""
-        kept: list[Bound] = []
+        kept: dict[tuple[Optional[str], Optional[str]], Bound] = {}
         for bound in bounds:
-            if any((bound.lower, bound.upper) == (each.lower, each.upper) for each in kept):
+            if kept.setdefault((bound.lower, bound.upper), bound) is not bound:
                 self.remove(bound, "bound-again")
-            else:
-                kept.append(bound)
-        return kept
+        return [*kept.values()]
 
     def remove(self, bound: Bound, kind: str) -> None:
         self.context.replace(bound.first, bound.last, [kind], [])

@@ -72,11 +72,12 @@ class Bound:
 
 
 class Section(NamedTuple):
-    """A section: its name, and the first and the last word of its header."""
+    """A section: its name, the first and the last word of its header, and how many it has."""
 
     name: str
     first: Token
     last: Token
+    words: int
 
 
 def has_terms(items: Sequence[Item]) -> bool:

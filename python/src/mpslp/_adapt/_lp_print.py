@@ -14,7 +14,7 @@ _LONGEST_ROW_LINE = 200
 _MOST_JOINED = 8
 """Whether a token is joined to what is before it depends on so many of its letters at most."""
 # The longest token of mpslp's LP format, at the start of a text.
-_TOKEN = re.compile(r"\\.*|<=|=<|<|>=|=>|>|==|=|::|:|->|(?:[0-9]+\.?[0-9]*|\.[0-9]+)(?:[eE][+-]?[0-9]+)?|[^\s\\<>=:*^+\-\[\]]+|.", re.DOTALL)
+_TOKEN = re.compile(r"\\.*|<=|=<|<|>=|=>|>|==|=|::|:|->|(?:[0-9]+(?:\.[0-9]*)?|\.[0-9]+)(?:[eE][+-]?[0-9]+)?|[^\s\\<>=:*^+\-\[\]]+|.", re.DOTALL | re.ASCII)
 
 
 class Cell(NamedTuple):

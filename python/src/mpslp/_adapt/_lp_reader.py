@@ -268,8 +268,7 @@ class Reader:
 
     def name_item(self, item: Item) -> None:
         item.name = self.token
-        if item.name.text.lower() in OTHER_INFINITIES:
-            self.unclear.append(AdaptError(item.name.line, f"{item.name.text} is a column here, and infinite for others: rename it"))
+        self.note_infinite_name(item.name)
         self.at += 1
         if self.token.kind == "star":
             if self.ahead().kind != "number" or item.numbers:
@@ -277,6 +276,10 @@ class Reader:
             item.numbers.append(self.ahead())
             item.has_star = True
             self.at += 2
+
+    def note_infinite_name(self, name: Token) -> None:
+        if name.text.lower() in OTHER_INFINITIES:
+            self.unclear.append(AdaptError(name.line, f"{name.text} is a column here, and infinite for others: rename it"))
 
     # ---- statements
 
@@ -410,6 +413,7 @@ class Reader:
         elif first.kind == "word" and not item.signs and (self.is_name(self.at) or (wants_name and self.last.kind == "relation")):
             # After a number and a relation a word is a name even if it is reserved.
             item.name = first
+            self.note_infinite_name(first)
         else:
             raise self.error(_NO_BOUND, self.tokens.all[start])
         self.at += 1
@@ -420,8 +424,9 @@ class Reader:
 
     def listed_name(self, section: str) -> Token:
         token = self.token
-        if token.kind != "word":
+        if token.kind != "word" or token.text.lower() in INFINITIES:
             raise self.error(f"under {section} are only names")
+        self.note_infinite_name(token)
         self.at += 1
         if self.token.kind == "colon":
             raise self.error(f"under {section} are only names; general constraints are not supported", token)

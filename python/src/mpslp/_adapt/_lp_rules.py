@@ -3,6 +3,7 @@
 from __future__ import annotations
 
 import re
+from collections import Counter
 from collections.abc import Sequence
 from fractions import Fraction
 from typing import Optional
@@ -15,7 +16,7 @@ from mpslp._adapt._lp_print import Cell, labelled, literal_cells, statement, ter
 from mpslp._adapt._lp_sections import ORDERED_SETS
 from mpslp._adapt._lp_tokens import Token
 
-CONSTANT_OF_GLPSOL = re.compile(r"\\\* constant term = (-?)([0-9.]+(?:e[+-]?[0-9]+)?) \*\\")
+CONSTANT_OF_GLPSOL = re.compile(r"\\\* constant term = (-?)([0-9]+(?:\.[0-9]*)?(?:e[+-]?[0-9]+)?) \*\\")
 NEGATED = r"\ the constant of the objective is negated: it was that of CoinUtils"
 _RANGE_OF_QSOPT = re.compile(r"\\ RANGE \((-?[0-9./]+), (-?[0-9./]+)\)\s*")
 _ORDERED_SET = re.compile(r"sos[0-9]*", re.IGNORECASE)
@@ -228,15 +229,12 @@ class RowRules:
 
     def settle_lone_names(self) -> None:
         """A row of which the right side is a name that is nowhere else is no row of columns, if it is called like a set."""
-        names = [name for _, name in self.lone_names]
-        if not names:
+        if not self.lone_names:
             return
-        counts: dict[str, int] = {}
-        for token in self.context.tokens.all:
-            if token.kind == "word":
-                counts[token.text] = counts.get(token.text, 0) + 1
+        lone = Counter(name.text for _, name in self.lone_names)
+        counts = Counter(token.text for token in self.context.tokens.all if token.kind == "word")
         for row, name in self.lone_names:
-            if counts[name.text] == sum(name.text == each.text for each in names):
+            if counts[name.text] == lone[name.text]:
                 raise AdaptError(row.first.line, ORDERED_SETS)
 
     def settle_range_of_qsopt(self, row: Row) -> bool:

@@ -12,22 +12,25 @@ from mpslp._adapt._names import reason_against
 _ASCII = r"A-Za-z!\"#$%&()/,;?@_'`{}|~"
 _OTHER = r"(?!\xe2\x89[\xa4\xa5]|\xe2\x88\x92)[\x80-\xff]"
 _INDEX = r"\[[^\[\]\s^*<>=]*\]"
-_NUMBER = r"(?:[0-9]+\.?[0-9]*|\.[0-9]+)(?:[eE][+-]?[0-9]+)?"
+_NUMBER = r"(?:[0-9]+(?:\.[0-9]*)?|\.[0-9]+)(?:[eE][+-]?[0-9]+)?"
 _RELATION = r"<=|=<|<|>=|=>|>|==|=|\xe2\x89[\xa4\xa5]"
 _SPACE = r"(?P<space>[ \t\r\n]+)"
 _COMMON = rf"(?P<comment>\\[^\n]*)|(?P<relation>{_RELATION})|(?P<other>::|->)|(?P<minus>\xe2\x88\x92)"
 # What comes most often is first.
 _FREE = re.compile(
     rf"{_SPACE}|(?P<number>{_NUMBER})|(?P<word>\.?(?:[{_ASCII}]|{_OTHER})(?:[{_ASCII}0-9.]+|{_OTHER}|{_INDEX})*)|{_COMMON}"
-    r"|(?P<sign>[+-])|(?P<colon>:)|(?P<star>\*)|(?P<bad>.)"
+    r"|(?P<sign>[+-])|(?P<colon>:)|(?P<star>\*)|(?P<bad>.)",
+    re.ASCII,  # the bytes of letters such as à are no spaces
 )
 # Fractions are numbers for QSopt_ex.
-_FRACTIONS = re.compile(_FREE.pattern.replace("(?P<number>", "(?P<number>[0-9]+/[0-9]+(?![0-9.])|"))
+_FRACTIONS = re.compile(_FREE.pattern.replace("(?P<number>", "(?P<number>[0-9]+/[0-9]+(?![0-9.])|"), re.ASCII)
 # PuLP puts spaces around each token, and has nearly every byte in its names; a label ends with a colon.
 _SPACED = re.compile(
-    rf"{_SPACE}|{_COMMON}(?=\s|\Z)|(?P<sign>[+-](?=\s|[0-9.]|inf\b))|(?P<number>{_NUMBER})(?=\s|\Z)"
-    r"|(?P<word>[^\s:]+(?::[^\s:]+)*)|(?P<colon>:)|(?P<star>\*)|(?P<other_space>[^\S \t\r\n]+)|(?P<bad>.)"
+    rf"{_SPACE}|(?:{_COMMON})(?=\s|\Z)|(?P<sign>[+-](?=(?:{_NUMBER}|inf)?(?:\s|\Z)))|(?P<number>{_NUMBER})(?=\s|\Z)"
+    r"|(?P<word>[^\s:]+(?::[^\s:]+)*)|(?P<colon>:)|(?P<star>\*)|(?P<other_space>[^\S \t\r\n]+)|(?P<bad>.)",
+    re.ASCII,
 )
+_LINE_END = re.compile(r"[ \t\r]*(?:[\\\n]|\Z)")
 
 
 class Token(NamedTuple):
@@ -66,19 +69,20 @@ class Tokens:
         return self.text[self.all[at - 1].end if at else 0 : self.all[at].start]
 
     def before(self, token: Token) -> Token:
-        return self.all[self.all.index(token) - 1]
+        return self.all[self._place_of(token) - 1]
 
     def after(self, token: Token) -> Token:
-        return self.all[self.all.index(token) + 1]
+        return self.all[self._place_of(token) + 1]
+
+    def _place_of(self, token: Token) -> int:
+        return bisect_left(self.all, token.start, key=lambda each: each.start)
 
     def _ends_file(self, token: Token, dialect: Optional[str]) -> bool:
         """Whether the word end is the last one of the file: on its line, and for PuLP the only one; after a sign it is a name."""
         before = self.all[-2] if len(self.all) > 1 else None
         if before is not None and (before.kind == "sign" or (dialect == "pulp" and before.line == token.line)):
             return False
-        line_end = self.text.find("\n", token.end)
-        rest = self.text[token.end : line_end if line_end >= 0 else None].strip(" \t\r")
-        return not rest or rest.startswith("\\")
+        return _LINE_END.match(self.text, token.end) is not None
 
     def comments_in(self, start: int, end: int) -> list[str]:
         first = bisect_left(self._places_of_comments, start)

@@ -14,7 +14,7 @@ from mpslp._adapt._changes import AdaptError, Log
 from mpslp._adapt._long_lines import with_short_lines
 from mpslp._adapt._mps_data import SPECIAL_SETS, DataLines
 from mpslp._adapt._mps_dialects import MpsDialect, mps_dialect
-from mpslp._adapt._mps_lines import Line, Section, joined, lines_of
+from mpslp._adapt._mps_lines import Line, Section, Sections, joined, lines_of
 from mpslp._adapt._mps_meant import Meant
 from mpslp._adapt._mps_reasons import nearest
 from mpslp._adapt._mps_state import KEYWORDS, Row, State
@@ -69,7 +69,7 @@ class Reader:
         self.log = log
         self.state = State(lines, dialect, log)
         self.data = DataLines(self.state)
-        self.sections = [self.state.section]
+        self.sections = Sections(self.state.section)
         self.wants_word = ""
 
     # ---- lines and sections
@@ -85,20 +85,24 @@ class Reader:
                 break
         if self.wants_word:
             raise AdaptError(self.lines[-1].number, f"{self.wants_word} without its word: write the word on the next line")
+        self.check_objective()
         Meant(self.state, self.sections).add()
         return self.written()
 
+    def check_objective(self) -> None:
+        name, section = self.state.objective_named, self.sections.found("OBJNAME")
+        if name is not None and section is not None and name not in self.state.rows:
+            raise AdaptError(section.lines[0].number, f"OBJNAME names {name}, which is no row{nearest(name, self.state.rows)}")
+
     def written(self) -> str:
         """The text of all sections; what is after the end stays as it is."""
-        end = next((at for at, section in enumerate(self.sections) if section.name == "ENDATA"), len(self.sections))
-        before, after = ([line for section in part for line in section.lines] for part in (self.sections[:end], self.sections[end:]))
+        sections = self.sections.all
+        end = next((at for at, section in enumerate(sections) if section.name == "ENDATA"), len(sections))
+        before, after = ([line for section in part for line in section.lines] for part in (sections[:end], sections[end:]))
         self.log.source_lines = [line.number for line in (*before, *after)]
         if after:
             before.append(Line(0, "", ""))  # so that the last line gets an end
         return with_short_lines(joined(before), "*", self.log) + joined(after)
-
-    def found(self, name: str) -> Optional[Section]:
-        return next((each for each in self.sections if each.name == name), None)
 
     def data_line(self, line: Line) -> None:
         if self.wants_word:
@@ -165,7 +169,7 @@ class Reader:
         elif keyword == "OBJSENSE":
             self.data.rewrite(line, "objsense", [keyword, self.sense(line, fields[1]), *fields[2:]])
         else:
-            self.state.objective_named = fields[1]
+            self.name_objective(fields[1])
 
     def word_line(self, line: Line) -> None:
         """The data line with the word of OBJSENSE or OBJNAME."""
@@ -173,8 +177,14 @@ class Reader:
         if self.wants_word == "OBJSENSE":
             self.data.rewrite(line, "objsense", [self.sense(line, fields[0]), *fields[1:]])
         else:
-            self.state.objective_named = fields[0]
+            self.name_objective(fields[0])
         self.wants_word = ""
+
+    def name_objective(self, name: str) -> None:
+        """The objective is the row that OBJNAME names, also if that comes after COLUMNS."""
+        self.state.objective_named = name
+        if self.state.objective is not None:
+            self.state.objective = name
 
     def sense(self, line: Line, word: str) -> str:
         if word.upper() not in _SENSES:
@@ -186,8 +196,8 @@ class Reader:
 
     def open(self, line: Line, keyword: str) -> None:
         """Opens a section: a part of one that came before goes on there, and the sense goes before ROWS."""
-        before = self.found(keyword)
-        missing = next((each for each in _NEEDS.get(keyword, ()) if self.found(each) is None), None)
+        before = self.sections.found(keyword)
+        missing = next((each for each in _NEEDS.get(keyword, ()) if self.sections.found(each) is None), None)
         if missing is not None:
             raise AdaptError(line.number, f"{keyword} before {missing}: move it after that section")
         if before is not None and keyword in _MAY_COME_AGAIN:
@@ -195,10 +205,10 @@ class Reader:
             self.state.section = before
             return
         section = Section(keyword, [line])
-        rows = self.found("ROWS")
+        rows = self.sections.found("ROWS")
         if keyword in _ONE_WORD and rows is not None and before is None:
             self.log.add(line.number, "section-order", line.text, "before ROWS")
-            self.sections.insert(self.sections.index(rows), section)
+            self.sections.insert_before(rows, section)
         else:
             self.sections.append(section)
         self.state.section = section

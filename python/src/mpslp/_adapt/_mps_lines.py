@@ -93,6 +93,26 @@ class Section:
         return [line for line in self.lines if line.is_data() and not line.is_dropped and not line.is_empty()]
 
 
+class Sections:
+    """The sections of a file in the order in which they are written; of a name, the first one is found."""
+
+    def __init__(self, first: Section) -> None:
+        self.all = [first]
+        self._first = {first.name: first}
+
+    def found(self, name: str) -> Optional[Section]:
+        return self._first.get(name)
+
+    def append(self, section: Section) -> None:
+        self.all.append(section)
+        self._first.setdefault(section.name, section)
+
+    def insert_before(self, other: Section, section: Section) -> None:
+        """Inserts, before another one, a section whose name no other one has."""
+        self.all.insert(self.all.index(other), section)
+        self._first[section.name] = section
+
+
 def lines_of(text: str, first: int = 1) -> list[Line]:
     """The lines of a text in latin-1, of which the first has this number."""
     lines = []

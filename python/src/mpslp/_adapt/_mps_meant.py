@@ -7,7 +7,7 @@ from typing import Optional
 
 from mpslp._adapt._changes import AdaptError
 from mpslp._adapt._mps_dialects import ObjectiveSide
-from mpslp._adapt._mps_lines import Line, Section, added_data
+from mpslp._adapt._mps_lines import Line, Section, Sections, added_data
 from mpslp._adapt._mps_state import State
 from mpslp._adapt._names import are_near
 from mpslp._adapt._numbers import LITERAL, parts
@@ -24,7 +24,7 @@ _LOWER = ("LO", "LI", "MI", "FX", "FR", "BV")
 class Meant:
     """The sections of a file that was read, to which the meaning of its dialect is added."""
 
-    def __init__(self, state: State, sections: list[Section]) -> None:
+    def __init__(self, state: State, sections: Sections) -> None:
         self.state = state
         self.sections = sections
 
@@ -37,11 +37,8 @@ class Meant:
         if self.state.log.changes:
             self.check_columns()
 
-    def found(self, name: str) -> Optional[Section]:
-        return next((each for each in self.sections if each.name == name), None)
-
     def comments(self) -> Sequence[Line]:
-        return [line for section in self.sections for line in section.lines if line.is_comment()]
+        return [line for section in self.sections.all for line in section.lines if line.is_comment()]
 
     # ---- what may not be meant
 
@@ -57,7 +54,7 @@ class Meant:
                 others = (*names[max(at - 1, 0) : at], *names[at + 1 : at + 2])
                 reason = self.other_meaning(name, others, names[0].isdigit())
                 notes += [] if reason is None else [(line, reason)]
-        if names and self.found("RHS") is None and names[-1].upper().startswith("RHS"):
+        if names and self.sections.found("RHS") is None and names[-1].upper().startswith("RHS"):
             notes.insert(0, (lines[-1], f"{names[-1]} is a column here: if it is meant as the set of right-hand sides, write RHS before it"))
         for line, reason in notes[:_MOST_NOTES]:
             self.state.log.note(line, reason)
@@ -77,7 +74,7 @@ class Meant:
     def say_the_sense_of_pulp(self) -> None:
         """PuLP writes the sense into a comment."""
         said = [line for line in self.comments() if line.source.upper().startswith("*SENSE:")]
-        rows = self.found("ROWS")
+        rows = self.sections.found("ROWS")
         if not said or rows is None or self.state.sense is not None:
             return
         words = {line.source.partition(":")[2].strip().upper()[:3] for line in said}
@@ -91,7 +88,7 @@ class Meant:
             raise AdaptError(said[1].number, "a second sense in a comment: keep one of the two")
         self.state.log.add(said[0].number, "pulp-sense", said[0].source, "OBJSENSE MAX")
         header = [Line(said[0].number, "OBJSENSE", said[0].end), added_data(said[0].number, ["MAX"], said[0].end)]
-        self.sections.insert(self.sections.index(rows), Section("OBJSENSE", header))
+        self.sections.insert_before(rows, Section("OBJSENSE", header))
         self.state.sense = "MAX"
 
     def note_the_sense(self) -> None:
@@ -109,18 +106,21 @@ class Meant:
 
     def give_the_constant(self) -> None:
         """glpsol and lp_solve take the number on the objective as the constant, mpslp as its negative."""
-        section, side = self.found("RHS"), self.state.dialect.objective_side
+        section, side = self.sections.found("RHS"), self.state.dialect.objective_side
         if section is None or any(line.source == NEGATED for line in self.comments()):
             return
         is_maximum = self.state.sense == "MAX"
+        changed: set[Line] = set()
         for line in section.data():
             at = self.place_of_the_objective(line)
             if at is None:
                 continue
             if side is ObjectiveSide.NEGATED_CONSTANT:
                 self.note_the_constant(line, is_maximum)
-            elif side is ObjectiveSide.CONSTANT or not is_maximum:
-                self.negate(section, line, at)
+            elif (side is ObjectiveSide.CONSTANT or not is_maximum) and self.negate(line, at):
+                changed.add(line)
+        said = ([Line(line.number, NEGATED, line.end or "\n"), line] if line in changed else [line] for line in section.lines)
+        section.lines[:] = [each for part in said for each in part]
 
     def place_of_the_objective(self, line: Line) -> Optional[int]:
         """The field with the number on the objective, or None."""
@@ -135,20 +135,21 @@ class Meant:
         else:
             self.state.log.note(line.number, "glpsol and lp_solve mean the constant itself, not its negative: --from glpsol, --from lp_solve")
 
-    def negate(self, section: Section, line: Line, at: int) -> None:
+    def negate(self, line: Line, at: int) -> bool:
+        """Gives the number in a field the other sign; whether that changes the line."""
         fields, before = list(line.fields()), line.text
         fields[at] = negated(fields[at])
         if tuple(fields) == line.fields():
-            return
+            return False
         line.put(fields)
         self.state.log.add(line.number, "objective-rhs", before, line.text)
-        section.lines.insert(section.lines.index(line), Line(line.number, NEGATED, line.end or "\n"))
+        return True
 
     # ---- columns and bounds
 
     def declare_columns(self) -> None:
         """Columns that only BOUNDS has, which lp_solve and QSopt_ex write so, get a coefficient of 0."""
-        columns = self.found("COLUMNS")
+        columns = self.sections.found("COLUMNS")
         if columns is None or not self.state.bounds_only:
             return
         name, number = next(iter(self.state.bounds_only.items()))
@@ -181,13 +182,13 @@ class Meant:
             raise AdaptError(line, f"NegativeUpper {name}: {reason}")
 
     def add_bound(self, kind: str, letters: str, column: str) -> None:
-        bounds, end = self.found("BOUNDS"), self.found("ENDATA")
+        bounds, end = self.sections.found("BOUNDS"), self.sections.found("ENDATA")
         if end is None:
             return
         last = end.lines[0]
         if bounds is None:
             bounds = Section("BOUNDS", [Line(last.number, "BOUNDS", last.end or "\n")])
-            self.sections.insert(self.sections.index(end), bounds)
+            self.sections.insert_before(end, bounds)
         name = self.state.sets.setdefault("BOUNDS", "BND")
         line = added_data(last.number, [letters, *([name] if name else []), column], last.end or "\n", " ")
         bounds.lines.append(line)

@@ -30,6 +30,14 @@ def is_mps_name(name: str) -> bool:
     return 0 < len(name) <= MOST_BYTES and all("!" <= each <= "~" for each in name) and name != "'MARKER'"
 
 
+_FIRST_STRAY = 0xDC00
+
+
+def _is_stray(letter: str) -> bool:
+    """Whether a letter is a byte that is not UTF-8."""
+    return _FIRST_STRAY < ord(letter) < _FIRST_STRAY + 256
+
+
 # Signs, dashes, spaces, digits above the line, and what is not seen.
 _NO_LETTERS = ("Sm", "Pd", "Zs", "Zl", "Zp", "No", "Cf", "Cc")
 
@@ -38,7 +46,11 @@ def reason_against(name: str) -> str | None:
     """Why a name is left: a sign of Unicode that looks like a space, a minus, an operator or a power; or None."""
     if name.isascii():
         return None
-    for letter in name.encode("latin-1").decode("utf-8", "replace"):
+    for letter in name.encode("latin-1").decode("utf-8", "surrogateescape"):
+        if _is_stray(letter):
+            letter = bytes([ord(letter) - _FIRST_STRAY]).decode("cp1252", "replace")  # as Windows has it
+            if not letter.isalpha():
+                return f"a byte that is not UTF-8, on Windows U+{ord(letter):04X}, is no letter of a name: write the sign of ASCII that is meant"
         if not letter.isascii() and unicodedata.category(letter) in _NO_LETTERS:
             return f"U+{ord(letter):04X} is no letter of a name: write the sign or the space of ASCII that is meant"
     return None
@@ -53,6 +65,8 @@ class Names:
         self._is_legal = is_legal
         self._find_used = used
         self._used: set[str] | None = None
+        self._numbers: dict[str, int] = {}
+        """The last number after each name that is written for several."""
 
     def of(self, given: str) -> str:
         """The name to write: the given one, if it is legal."""
@@ -68,10 +82,10 @@ class Names:
         name = _proposed(given)
         if not self._is_legal(name):
             name = f"_{name}"
-        plain, number = name[: MOST_BYTES - 8], 1
+        plain = name[: MOST_BYTES - 8]
         while not self._is_legal(name) or name in self._used:
-            number += 1
-            name = f"{plain}_{number}"
+            self._numbers[plain] = self._numbers.get(plain, 1) + 1
+            name = f"{plain}_{self._numbers[plain]}"
         self._used.add(name)
         self.written[given] = name
         return name
@@ -79,11 +93,14 @@ class Names:
 
 def _proposed(given: str) -> str:
     """The name with each letter of another alphabet and each byte that is not legal replaced."""
-    text = given.encode("latin-1").decode("utf-8", "surrogateescape")
+    text = given.encode("latin-1").decode("utf-8", "surrogateescape")[:_MOST_REPLACED]
     plain = unicodedata.normalize("NFKD", text.replace("ß", "ss"))
     kept = (each for each in plain.translate(_REPLACED) if not unicodedata.combining(each))
     return "".join(each if "!" <= each <= "~" else f"u{ord(each):04x}" for each in kept)
 
+
+_MOST_REPLACED = 4 * MOST_BYTES
+"""What comes after these letters is cut off: Unicode puts very many accents in order slowly."""
 
 _REPLACED = {ord("["): "(", ord("]"): ")", **{ord(each): "_" for each in " \t:*^<>=+-\\"}}
 

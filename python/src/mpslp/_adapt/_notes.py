@@ -20,11 +20,11 @@ from mpslp._sources import Format
 if TYPE_CHECKING:
     from mpslp._mpslp import Arrays
 
-_SPACES = rb"\s*(?:\\[^\n]*\n\s*)*"
 _NUMBER = rb"(?:[0-9.]+(?:[eE][+-]?[0-9]+)?|[iI][nN][fF][a-zA-Z]*)"
-_SIGN_AFTER_NUMBER = rb"(?![<>=])" + _SPACES + rb"[+-]?" + _SPACES + _NUMBER + rb"[ \t\r]*[+-]"
+_SIGN_AFTER_NUMBER = rb"(?![<>=])\s*(?:[+-]\s*)?" + _NUMBER + rb"[ \t\r]*[+-]"
 _ROWS_AFTER_NUMBERS = tuple(re.compile(relation + _SIGN_AFTER_NUMBER) for relation in (b"<", b">", b"="))  # fast, as each has a first letter
 _SECTION_OF_OTHERS = re.compile(rb"\n[ \t\r]*(?:[sS](?:\.[iIcC]\.|[iI][nN]|[eE][cC])|[pP](?:\.[iI]\.|[iI][nN]))[ \t\r]*[\n\\]")  # faster than IGNORECASE
+_COMMENT = re.compile(rb"\\[^\n]*")
 _CONSTANT_OF_GLPSOL = rb"\* constant term = "
 _WITHOUT_NOTES = (b"\nCOLUMNS", b"\nRANGES", b"\nBOUNDS")
 _HEADERS = (b"\nRHS", *_WITHOUT_NOTES, b"\nENDATA")
@@ -52,7 +52,10 @@ def may_be_noted(content: bytes) -> bool:
     """Whether a text in LP has what may be noted, beside columns that are first named after the rows."""
     if _CONSTANT_OF_GLPSOL in content:
         return True
-    return any(pattern.search(content) is not None for pattern in (_SECTION_OF_OTHERS, *_ROWS_AFTER_NUMBERS))
+    if _SECTION_OF_OTHERS.search(content) is not None:
+        return True
+    content = _COMMENT.sub(b"", content) if b"\\" in content else content
+    return any(pattern.search(content) is not None for pattern in _ROWS_AFTER_NUMBERS)
 
 
 def has_column_without_coefficients(arrays: Arrays) -> bool:

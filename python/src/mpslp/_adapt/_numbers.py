@@ -4,7 +4,7 @@ from __future__ import annotations
 
 import re
 from fractions import Fraction
-from typing import Optional
+from typing import NamedTuple, Optional
 
 MOST_DIGITS = 36
 MOST_BYTES = 255
@@ -15,35 +15,59 @@ LARGE = 10**20
 INFINITE = "1e30"
 """The literal that is written for infinity."""
 
-LITERAL = re.compile(r"[+-]?(?:[0-9]+\.?[0-9]*|\.[0-9]+)(?:[eE][+-]?[0-9]+)?")
-_PARTS = re.compile(r"([+-]?)([0-9]*)\.?([0-9]*)(?:[eE]([+-]?[0-9]+))?")
+LITERAL = re.compile(r"[+-]?(?:[0-9]+(?:\.[0-9]*)?|\.[0-9]+)(?:[eE][+-]?[0-9]+)?")
+_PARTS = re.compile(r"([+-]?)([0-9]*)(?:\.([0-9]*))?(?:[eE]([+-]?[0-9]+))?")
+_MOST_DIGITS_OF_EXPONENT = 18
+_ENDLESS = 10**18
 _INFINITY = re.compile(r"([+-]?)(?:inf|infinity|infty|1\.?#inf|1e\+?inf)", re.IGNORECASE)
 
 
-def parts(literal: str) -> tuple[int, int]:
-    """The mantissa and the exponent of a literal in normal form: 0 and 0, or a mantissa that 10 does not divide."""
+class Digits(NamedTuple):
+    """A literal in normal form: its sign, its digits, without zeros at both ends, and its exponent. Those of 0 are none, and 0."""
+
+    sign: str
+    digits: str
+    exponent: int
+
+
+def digits_of(literal: str) -> Digits:
+    """The digits of any literal. They stay text: a file may have more of them than Python makes a number of."""
     found = _PARTS.fullmatch(literal)
     assert found is not None
-    digits = (found[2] + found[3]).lstrip("0")
+    decimals = found[3] or ""
+    digits = (found[2] + decimals).lstrip("0")
     significant = digits.rstrip("0")
     if not significant:
-        return 0, 0
-    exponent = len(digits) - len(significant) - len(found[3]) + int(found[4] or 0)
-    return (-1 if found[1] == "-" else 1) * int(significant), exponent
+        return Digits("", "", 0)
+    exponent = len(digits) - len(significant) - len(decimals) + exponent_of(found[4] or "0")
+    return Digits("-" if found[1] == "-" else "", significant, exponent)
+
+
+def parts(literal: str) -> tuple[int, int]:
+    """The mantissa and the exponent of a literal within the limits: 0 and 0, or a mantissa that 10 does not divide."""
+    sign, digits, exponent = digits_of(literal)
+    return int(f"{sign}{digits or 0}"), exponent
+
+
+def exponent_of(text: str) -> int:
+    """The number after the letter E; one with very many digits is as large as no file has digits."""
+    digits = text.lstrip("+-0") or "0"
+    size = int(digits) if len(digits) <= _MOST_DIGITS_OF_EXPONENT else _ENDLESS
+    return -size if text.startswith("-") else size
 
 
 def is_decimal(literal: str) -> bool:
     """Whether a literal is within the limits of mpslp."""
     if len(literal) <= MOST_DIGITS and "e" not in literal and "E" not in literal:
         return True
-    mantissa, exponent = parts(literal)
-    return len(literal) <= MOST_BYTES and len(str(abs(mantissa))) <= MOST_DIGITS and abs(exponent) <= LARGEST_EXPONENT
+    _, digits, exponent = digits_of(literal)
+    return len(literal) <= MOST_BYTES and len(digits) <= MOST_DIGITS and abs(exponent) <= LARGEST_EXPONENT
 
 
 def is_infinite(literal: str) -> bool:
     """Whether a literal is of a magnitude that is infinite in a limit or a bound."""
-    mantissa, exponent = parts(literal)
-    return mantissa != 0 and len(str(abs(mantissa))) + exponent > 20
+    _, digits, exponent = digits_of(literal)
+    return digits != "" and len(digits) + exponent > 20
 
 
 def infinity(word: str) -> Optional[str]:
