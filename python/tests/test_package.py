@@ -74,8 +74,8 @@ class Package(unittest.TestCase):
             self.assertIn(f"mpslp.{name}", all_modules)
 
     def test_each_name_by_itself(self):
-        """Whichever name is used first, each is found, and is one of the package."""
-        for name in mpslp.__all__:
+        """Whichever name of a module that is imported later is used first, it is found, and is one of the package."""
+        for name in (each for names in mpslp._LATER.values() for each in (names[0], names[-1])):
             with self.subTest(name):
                 code = f"import pickle; from mpslp import {name}; print(getattr({name}, '__module__', 'mpslp')); pickle.dumps({name})"
                 done = subprocess.run([sys.executable, "-c", code], capture_output=True, text=True)
