@@ -28,7 +28,6 @@ from mpslp._arrays import Arrays
 from mpslp._calls import canonical, digest, is_canonical, same
 from mpslp._explanations import Cause, Explanation, explain
 from mpslp._faults import ModelFileError
-from mpslp._format import formatted
 from mpslp._models import Column, Kind, Model, Row, Sense, dump, dumps, from_arrays, load
 from mpslp._numbers import Number, fraction
 from mpslp._sources import Format, Source
@@ -47,6 +46,7 @@ if TYPE_CHECKING:
         assert_same_model,
         diff,
     )
+    from mpslp._format import formatted
     from mpslp._portable import Remark, portability
     from mpslp._solver_texts._of_models import SolverError, SolverText, text_for
     from mpslp._survey import Survey, SurveyedFile, survey
@@ -118,6 +118,7 @@ _LATER = {
         "assert_same_model",
         "diff",
     ),
+    "mpslp._format": ("formatted",),
     "mpslp._portable": ("Remark", "portability"),
     "mpslp._solver_texts._of_models": ("SolverError", "SolverText", "text_for"),
     "mpslp._survey": ("Survey", "SurveyedFile", "survey"),
