@@ -89,7 +89,7 @@ further-n-row
 A remark of check --portable:
 
 - A free row; glpsol, clp, cbc and lp_solve drop it.
-  Remove it if it is not needed: it limits nothing.
+  Remove it unless needed: it constrains nothing.
 
     MPS ROWS:
        N  NEXT

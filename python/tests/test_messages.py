@@ -50,7 +50,7 @@ plan.lp:5: BadToken: :
   5 | c3: x <= 4
     |   ^
   cause: terms or a parenthesised sum on the right
-  fix: move all terms to the left, and keep one number on the right: x - 2 y >= 1""")
+  fix: move all terms to the left and leave one number on the right: x - 2 y >= 1""")
 
     def test_a_whole_file(self):
         self.assertEqual(str(about(MPS.format("BOUNDS\n UP  BND  X  -4\n"), "mps")), """\

@@ -73,7 +73,17 @@ class Vectors(unittest.TestCase):
                 mpslp.canonical(VECTORS / entry.input, to_format="lp")
             error = caught.exception
             self.assertEqual((error.which, error.kind), (None, line.split(": ")[1].split(" ")[0]))
-            self.assertEqual(parts(error), parts_of_line(line))
+            where, name, place, number = parts_of_line(line)
+            if place is not None:  # the line has the number only of a name that is not legal in LP
+                name = name_at(mpslp.load(VECTORS / entry.input), place, number)
+            self.assertEqual(parts(error), (where, name, place, number))
+
+
+def name_at(model, place, number):
+    """The name of the objective, or of the row or column with this number in the byte order of the names."""
+    if place == "objective":
+        return model.objective
+    return sorted(model.rows if place == "row" else model.columns)[number]
 
 
 def parts(error):
