@@ -72,9 +72,10 @@ def seconds_of_adapt(text, format, dialect):
 
 
 class CraftedForAdapt(unittest.TestCase):
-    # Ten times the size takes some ten times as long, and a hundred times in quadratic time.
+    # Ten times the size takes some ten times as long, and a hundred times in quadratic time. Processors that are shared are half as fast
+    # at times.
     SIZE = 5_000
-    MOST_GROWTH = 13
+    MOST_GROWTH = 30
     SECONDS_OF_NOISE = 0.1
 
     def test_growth(self):
@@ -85,7 +86,8 @@ class CraftedForAdapt(unittest.TestCase):
                     seconds = seconds_of_adapt(large, format, dialect)
                     if seconds > self.SECONDS_OF_NOISE:
                         least = min(seconds_of_adapt(small, format, dialect) for _ in range(3))
-                        self.assertLess(seconds, self.MOST_GROWTH * least + self.SECONDS_OF_NOISE)
+                        again = min(seconds_of_adapt(large, format, dialect) for _ in range(2))
+                        self.assertLess(min(seconds, again), self.MOST_GROWTH * least + self.SECONDS_OF_NOISE)
 
     def test_long_line_without_spaces(self):
         text = lp("+".join(each(200_000, "x{}")) + ">=1").encode()
