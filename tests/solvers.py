@@ -260,7 +260,9 @@ def export_differences(program, chosen, page, tables, environment):
     tried, reported = 0, []
     for row in rows:
         command = row[0].strip("`")
-        if not all(shutil.which(part.split()[0], path=environment["PATH"]) for part in command.split("; ")):
+        programs = [part.split()[0] for part in command.split("; ")]
+        if lacking := [name for name in programs if not shutil.which(name, path=environment["PATH"])]:
+            print(f"skipped: {command}: {lacking[0]} is missing")
             continue
         source = "lp" if "model.lp" in command else "mps"
         kinds = [exported(program, command, model.texts[source], environment) for model in chosen if model.texts[source]]
@@ -309,7 +311,7 @@ def main():
     page = Page(PAGE)
     there = [name for name in SOLVERS if shutil.which(name)]
     for name in SOLVERS.keys() - set(there):
-        print(f"{name} is missing: apt-get install {SOLVERS[name].package}")
+        print(f"skipped: {name} is missing: apt-get install {SOLVERS[name].package}")
     chosen, tried, reported = models(program), 0, []
     with tempfile.TemporaryDirectory() as folder:
         environment = canon_for.put_command(folder, program)
