@@ -157,7 +157,7 @@ class BoundRules:
         if kind is None or name.text in self.context.columns:
             return
         reader = self.context.reader
-        is_last = reader.token.line != name.line
+        is_last = reader.token.line != name.line or reader.section_at(reader.at) is not None
         if is_last and reader.starts_line(reader.at - 1):
             raise OtherLanguage(name.line, f"{name.text} is a name here, and opens the section of {kind} for other programs: rename the column, "
                                 "or write the section as mpslp has it")  # fmt: skip

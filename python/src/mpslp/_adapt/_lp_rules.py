@@ -56,7 +56,10 @@ class ObjectiveRules:
         cells = labelled(label, term_cells(terms))
         if is_negated:
             cells = [Cell(f"{NEGATED}\n", cells[0].text), *cells[1:]]
-        context.replace(objective.first, objective.last, kinds, cells)
+        if objective.is_empty:
+            context.insert_after(objective.last, kinds, cells)
+        else:
+            context.replace(objective.first, objective.last, kinds, cells)
 
     def constant_of_glpsol(self, items: Sequence[Item]) -> list[Item]:
         """glpsol writes the constant of the objective into a comment."""
