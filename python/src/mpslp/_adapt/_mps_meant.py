@@ -8,6 +8,7 @@ from typing import Optional
 from mpslp._adapt._changes import AdaptError
 from mpslp._adapt._mps_dialects import ObjectiveSide
 from mpslp._adapt._mps_lines import Line, Section, Sections, added_data
+from mpslp._adapt._mps_lost import lines_of_other_sections
 from mpslp._adapt._mps_state import State
 from mpslp._adapt._names import are_near
 from mpslp._adapt._numbers import LITERAL, parts
@@ -54,9 +55,7 @@ class Meant:
                 others = (*names[max(at - 1, 0) : at], *names[at + 1 : at + 2])
                 reason = self.other_meaning(name, others, names[0].isdigit())
                 notes += [] if reason is None else [(line, reason)]
-        if names and self.sections.found("RHS") is None and names[-1].upper().startswith("RHS"):
-            notes.insert(0, (lines[-1], f"{names[-1]} is a column here: if it is meant as the set of right-hand sides, write RHS before it"))
-        for line, reason in notes[:_MOST_NOTES]:
+        for line, reason in (*lines_of_other_sections(self.state, self.sections), *notes[:_MOST_NOTES]):
             self.state.log.note(line, reason)
 
     def other_meaning(self, name: str, others: Sequence[str], have_digits: bool) -> Optional[str]:
