@@ -14,6 +14,9 @@ from mpslp._adapt._lp_sections import SECTIONS, SECTIONS_OF_OTHERS
 from mpslp._adapt._lp_tokens import Token
 from mpslp._adapt._names import parts_of
 
+_SENSES: tuple[list[str], ...] = ([], ["<"], [">"], ["="], ["<", "<"], [">", ">"])
+"""The relations of a bound."""
+
 _EMPTY_LINE = re.compile(r"\n[ \t\r]*\n")
 
 _MOST_NOTES = 5
@@ -33,6 +36,9 @@ class BoundRules:
         self.new_columns: list[tuple[Token, str]] = []
         self.after_gaps: list[Token] = []
         """Names in lists after an empty line."""
+        self.listed: set[tuple[str, str]] = set()
+        """The names of each list."""
+        self.listed_again: list[Token] = []
         self.last_bound: Optional[Token] = None
         """After this token further bounds are written."""
 
@@ -57,7 +63,8 @@ class BoundRules:
         context.settle_name(line.name)
         self.take_column(line.name, "Bounds")
         bound = Bound(sides.get("lower"), sides.get("upper"), line.first, line.last)
-        self.bounds.setdefault(line.name.text, []).append(bound)
+        if [sense_of(each) for each in line.relations] in _SENSES:  # others are not removed as given again: mpslp rejects them
+            self.bounds.setdefault(line.name.text, []).append(bound)
         self.last_bound = line.last
 
     def take_column(self, name: Token, section: str) -> None:
@@ -154,6 +161,9 @@ class BoundRules:
         self.take_column(name, section)
         reader = context.reader
         before = reader.tokens.all[reader.at - 2]
+        if (name.text, section) in self.listed:
+            self.listed_again.append(name)
+        self.listed.add((name.text, section))
         if before is not reader.sections[-1].last and _EMPTY_LINE.search(reader.tokens.text[before.end : name.start]):
             self.after_gaps.append(name)
         if section == "generals":
@@ -172,7 +182,10 @@ class BoundRules:
                                 "or write the section as mpslp has it")  # fmt: skip
 
     def note_gaps(self) -> None:
-        """In a file that is changed, a list that goes on after an empty line may be another one whose header is lost."""
+        """In a file that is changed, a list that goes on after an empty line, or with a name again, may be another one whose header is lost."""
+        if self.listed_again:
+            name = self.listed_again[0]
+            self.context.log.note(name.line, f"{name.text} is listed again: if this is another list, write its header")
         if self.after_gaps:
             name = self.after_gaps[0]
             self.context.log.note(name.line, f"the list goes on with {name.text} after an empty line: if it is another one, write its header")

@@ -118,7 +118,9 @@ class DataLines:
             raise wrong_marker(self.state, line)
         self.state.is_marked = fields[2] == MARKERS[0]
         self.state.marker_line = line.number
-        self.state.has_empty_block |= self.is_block_empty and not self.state.is_marked
+        if self.is_block_empty and not self.state.is_marked:
+            self.state.has_empty_block = True
+            self.state.empty_block_line = line.number
         self.is_block_empty = self.state.is_marked
 
     def sides(self, line: Line) -> None:

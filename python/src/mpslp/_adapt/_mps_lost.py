@@ -29,6 +29,16 @@ def lines_of_other_sections(state: State, sections: Sections) -> Iterator[Doubt]
     yield from _ranges_as_sides(state, sections)
     if state.is_marked:
         yield Doubt(state.marker_line, "no 'INTEND' follows: all columns from here on are integer")
+    if state.empty_block_line:
+        yield Doubt(state.empty_block_line, "no column is between these markers: one that is meant to be integer belongs between them")
+    yield from _text_after_the_end(sections)
+
+
+def _text_after_the_end(sections: Sections) -> Iterator[Doubt]:
+    if sections.found("ENDATA") is not None:
+        line = next((line for line in sections.all[-1].lines if not line.is_comment() and line.source.strip(" \t\r\x1a")), None)
+        if line is not None and sections.all[-1].name == "":
+            yield Doubt(line.number, "text after ENDATA, which is not read: if it is meant, move ENDATA after it")
 
 
 def _has_data(sections: Sections, name: str) -> bool:

@@ -19,6 +19,9 @@ NEGATED = "* the number on the objective is negated: it was that of another dial
 _MOST_NOTES = 5
 """Of columns that may be misspelt."""
 
+_SIGNS = "$*;:,.!#()[]{}<>=/'\""
+"""What may be typed beside a name."""
+
 _LOWER = ("LO", "LI", "MI", "FX", "FR", "BV")
 
 
@@ -60,7 +63,7 @@ class Meant:
 
     def other_meaning(self, name: str, others: Sequence[str], have_digits: bool) -> Optional[str]:
         """What a column may be instead: one beside it that is misspelt, a number, or a row."""
-        if any(are_near(name, other) for other in others):
+        if any(are_near(name, other) for other in others) or is_column_with_signs(name, self.state):
             return f"{name} is a column of its own, or the one beside it misspelt"
         if name.isdigit() and not have_digits:
             return f"{name} is a column here, and may be a number"
@@ -199,3 +202,9 @@ def negated(literal: str) -> str:
     if not parts(literal)[0]:
         return literal
     return literal[1:] if literal.startswith("-") else "-" + literal.lstrip("+")
+
+
+def is_column_with_signs(name: str, state: State) -> bool:
+    """Whether a name is that of another column with signs beside it."""
+    plain = name.strip(_SIGNS)
+    return plain != name and plain in state.columns

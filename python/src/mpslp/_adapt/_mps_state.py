@@ -60,6 +60,7 @@ class State:
         self.is_marked = False
         self.marker_line = 0
         self.has_empty_block = False
+        self.empty_block_line = 0
         self.column = ""
         self.sets: dict[str, str] = {}
         self.set_lines: dict[str, int] = {}  # where the set of a section is first
