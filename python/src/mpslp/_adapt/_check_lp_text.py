@@ -198,7 +198,7 @@ def _header(tokens: Sequence[LpToken], at: int, dialect: Optional[str], section:
     following = tokens[at + 1].text.lower() if at + 1 < len(tokens) else ""
     if tokens[at].kind != "name":
         return "", 0
-    if f"{word} {following}" in _HEADERS and not section == "rows":
+    if f"{word} {following}" in _HEADERS and not (section == "rows" and _is_name_here(tokens, at, dialect, section)):
         return "rows", 2
     if word not in _HEADERS or (section and word in ("min", "max", "minimize", "maximize")):
         return "", 0

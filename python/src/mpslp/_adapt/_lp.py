@@ -37,6 +37,7 @@ def adapt_lp(text: str, dialect: Optional[str], log: Log) -> tuple[str, dict[str
     if log.changes:
         adapter.bounds.note_lone_columns()
         adapter.rows.note_rows_like_bounds()
+        adapter.bounds.note_gaps()
     return written, adapter.context.names.written
 
 
@@ -115,6 +116,7 @@ class _Adapter:
         if section == "rows":
             while reader.has_row():
                 self.rows.settle(reader.row())
+            self.rows.end_section()
         elif section == "bounds":
             self.bounds.last_bound = reader.last
             while reader.has_bound():

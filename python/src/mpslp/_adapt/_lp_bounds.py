@@ -2,6 +2,7 @@
 
 from __future__ import annotations
 
+import re
 from collections.abc import Collection, Sequence
 from typing import Optional
 
@@ -12,6 +13,11 @@ from mpslp._adapt._lp_print import Cell, literal_cells, statement
 from mpslp._adapt._lp_sections import SECTIONS, SECTIONS_OF_OTHERS
 from mpslp._adapt._lp_tokens import Token
 from mpslp._adapt._names import parts_of
+
+_SENSES: tuple[list[str], ...] = ([], ["<"], [">"], ["="], ["<", "<"], [">", ">"])
+"""The relations of a bound."""
+
+_EMPTY_LINE = re.compile(r"\n[ \t\r]*\n")
 
 _MOST_NOTES = 5
 """Of columns that are named once."""
@@ -28,6 +34,11 @@ class BoundRules:
         self.bounds: dict[str, list[Bound]] = {}
         self.integers: dict[str, Token] = {}
         self.new_columns: list[tuple[Token, str]] = []
+        self.after_gaps: list[Token] = []
+        """Names in lists after an empty line."""
+        self.listed: set[tuple[str, str]] = set()
+        """The names of each list."""
+        self.listed_again: list[Token] = []
         self.last_bound: Optional[Token] = None
         """After this token further bounds are written."""
 
@@ -52,7 +63,8 @@ class BoundRules:
         context.settle_name(line.name)
         self.take_column(line.name, "Bounds")
         bound = Bound(sides.get("lower"), sides.get("upper"), line.first, line.last)
-        self.bounds.setdefault(line.name.text, []).append(bound)
+        if [sense_of(each) for each in line.relations] in _SENSES:  # others are not removed as given again: mpslp rejects them
+            self.bounds.setdefault(line.name.text, []).append(bound)
         self.last_bound = line.last
 
     def take_column(self, name: Token, section: str) -> None:
@@ -147,6 +159,13 @@ class BoundRules:
         context = self.context
         self.check_section_of_others(name)
         self.take_column(name, section)
+        reader = context.reader
+        before = reader.tokens.all[reader.at - 2]
+        if (name.text, section) in self.listed:
+            self.listed_again.append(name)
+        self.listed.add((name.text, section))
+        if before is not reader.sections[-1].last and _EMPTY_LINE.search(reader.tokens.text[before.end : name.start]):
+            self.after_gaps.append(name)
         if section == "generals":
             self.integers.setdefault(name.text, name)
         context.settle_name(name)
@@ -157,10 +176,19 @@ class BoundRules:
         if kind is None or name.text in self.context.columns:
             return
         reader = self.context.reader
-        is_last = reader.token.line != name.line
+        is_last = reader.token.line != name.line or reader.section_at(reader.at) is not None
         if is_last and reader.starts_line(reader.at - 1):
             raise OtherLanguage(name.line, f"{name.text} is a name here, and opens the section of {kind} for other programs: rename the column, "
                                 "or write the section as mpslp has it")  # fmt: skip
+
+    def note_gaps(self) -> None:
+        """In a file that is changed, a list that goes on after an empty line, or with a name again, may be another one whose header is lost."""
+        if self.listed_again:
+            name = self.listed_again[0]
+            self.context.log.note(name.line, f"{name.text} is listed again: if this is another list, write its header")
+        if self.after_gaps:
+            name = self.after_gaps[0]
+            self.context.log.note(name.line, f"the list goes on with {name.text} after an empty line: if it is another one, write its header")
 
     def note_new_columns(self) -> None:
         """A column that is first in Bounds or a list: one note for all."""

@@ -59,6 +59,12 @@ class Context:
             self.log.add(first.line, kind, self.source(first, last), after)
         self.script.replace(first.start, last.end, cells)
 
+    def insert_after(self, token: Token, kinds: Iterable[str], cells: Sequence[Cell]) -> None:
+        """Writes a statement that the source does not have."""
+        for kind in kinds:
+            self.log.add(token.line, kind, "", printed(cells))
+        self.script.insert_after(token, cells)
+
     def source(self, first: Token, last: Token) -> str:
         return without_comments(self.tokens.text[first.start : last.end])
 

@@ -34,6 +34,11 @@ class Objective:
     label: Optional[Token]
     items: list[Item]
 
+    @property
+    def is_empty(self) -> bool:
+        """Whether it has no token: then the last one is the one before it."""
+        return self.last.start < self.first.start
+
 
 @dataclass
 class Row:

@@ -19,6 +19,9 @@ from mpslp._adapt._lp_tokens import Token
 CONSTANT_OF_GLPSOL = re.compile(r"\\\* constant term = (-?)([0-9]+(?:\.[0-9]*)?(?:e[+-]?[0-9]+)?) \*\\")
 NEGATED = r"\ the constant of the objective is negated: it was that of CoinUtils"
 _RANGE_OF_QSOPT = re.compile(r"\\ RANGE \((-?[0-9./]+), (-?[0-9./]+)\)\s*")
+_MOST_NOTES = 5
+"""Of rows that look as bounds."""
+
 _ORDERED_SET = re.compile(r"sos[0-9]*", re.IGNORECASE)
 
 
@@ -56,7 +59,10 @@ class ObjectiveRules:
         cells = labelled(label, term_cells(terms))
         if is_negated:
             cells = [Cell(f"{NEGATED}\n", cells[0].text), *cells[1:]]
-        context.replace(objective.first, objective.last, kinds, cells)
+        if objective.is_empty:
+            context.insert_after(objective.last, kinds, cells)
+        else:
+            context.replace(objective.first, objective.last, kinds, cells)
 
     def constant_of_glpsol(self, items: Sequence[Item]) -> list[Item]:
         """glpsol writes the constant of the objective into a comment."""
@@ -93,13 +99,19 @@ class RowRules:
         self.empty_rows: list[Row] = []
         self.lone_names: list[tuple[Row, Token]] = []
         self.previous: Optional[Row] = None
-        self.like_bounds: Optional[Row] = None
-        """The first of the last rows, if they look as bounds."""
+        self.like_bounds: list[Row] = []
+        """The first of the rows that look as bounds, for each place where some are."""
+        self.open_like_bound: Optional[Row] = None
+        """The last of them, as long as no other row follows."""
+        self.ends_like_bounds: list[Row] = []
+        """Those of them after which no other row is in their section."""
+        self.has_labels: set[bool] = set()
+        """Whether the rows that do not look as bounds have labels."""
 
     def settle(self, row: Row) -> None:
         """Leaves a row, or writes it again."""
         context = self.context
-        self.like_bounds = (self.like_bounds or row) if is_like_bound(row) else None
+        self.take_like_bound(row)
         for side in row.sides:
             context.take_columns(side)
         if self.settle_range_of_qsopt(row):
@@ -219,11 +231,31 @@ class RowRules:
 
     # ---- what may not be meant
 
+    def take_like_bound(self, row: Row) -> None:
+        """Keeps where rows start that look as bounds."""
+        if not is_like_bound(row):
+            self.has_labels.add(row.label is not None)
+            self.open_like_bound = None
+        elif self.open_like_bound is None:
+            self.open_like_bound = row
+            self.like_bounds.append(row)
+
+    def end_section(self) -> None:
+        """The rows of a section end, or those of all."""
+        if self.open_like_bound is not None:
+            self.ends_like_bounds.append(self.open_like_bound)
+            self.open_like_bound = None
+
     def note_rows_like_bounds(self) -> None:
-        """In a file that is changed and has no Bounds, rows at the end may be bounds whose header is lost."""
-        row, context = self.like_bounds, self.context
-        if row is not None and all(section.name != "bounds" for section in context.reader.sections):
-            context.log.note(row.first.line, f"{context.source(row.first, row.last)} is a row: if it is meant as a bound, write Bounds before it")
+        """In a file that is changed, rows may be bounds whose header is lost: those at the end, and those among rows with labels."""
+        context = self.context
+        has_bounds = any(section.name == "bounds" for section in context.reader.sections)
+        advice = "move it under Bounds" if has_bounds else "write Bounds before it"
+        found = self.like_bounds if self.has_labels == {True} else self.ends_like_bounds
+        for row in found[:_MOST_NOTES]:
+            context.log.note(row.first.line, f"{context.source(row.first, row.last)} is a row: if it is meant as a bound, {advice}")
+        if len(found) > _MOST_NOTES:
+            context.log.note(found[_MOST_NOTES].first.line, f"{len(found) - _MOST_NOTES} more rows that look as bounds, from here on")
 
     # ---- what other programs have
 

@@ -117,7 +117,10 @@ class DataLines:
         if len(fields) != 3 or fields[2] not in MARKERS:
             raise wrong_marker(self.state, line)
         self.state.is_marked = fields[2] == MARKERS[0]
-        self.state.has_empty_block |= self.is_block_empty and not self.state.is_marked
+        self.state.marker_line = line.number
+        if self.is_block_empty and not self.state.is_marked:
+            self.state.has_empty_block = True
+            self.state.empty_block_line = line.number
         self.is_block_empty = self.state.is_marked
 
     def sides(self, line: Line) -> None:
@@ -170,6 +173,8 @@ class DataLines:
         """Gives a line without a set that of the section; no line has another one."""
         state = self.state
         first = state.sets.setdefault(state.section.name, name)
+        if name:
+            state.set_lines.setdefault(state.section.name, line.number)
         if name == first:
             return
         if not name:

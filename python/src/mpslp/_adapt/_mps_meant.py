@@ -8,6 +8,7 @@ from typing import Optional
 from mpslp._adapt._changes import AdaptError
 from mpslp._adapt._mps_dialects import ObjectiveSide
 from mpslp._adapt._mps_lines import Line, Section, Sections, added_data
+from mpslp._adapt._mps_lost import lines_of_other_sections
 from mpslp._adapt._mps_state import State
 from mpslp._adapt._names import are_near
 from mpslp._adapt._numbers import LITERAL, parts
@@ -17,6 +18,9 @@ NEGATED = "* the number on the objective is negated: it was that of another dial
 
 _MOST_NOTES = 5
 """Of columns that may be misspelt."""
+
+_SIGNS = "$*;:,.!#()[]{}<>=/'\""
+"""What may be typed beside a name."""
 
 _LOWER = ("LO", "LI", "MI", "FX", "FR", "BV")
 
@@ -54,14 +58,12 @@ class Meant:
                 others = (*names[max(at - 1, 0) : at], *names[at + 1 : at + 2])
                 reason = self.other_meaning(name, others, names[0].isdigit())
                 notes += [] if reason is None else [(line, reason)]
-        if names and self.sections.found("RHS") is None and names[-1].upper().startswith("RHS"):
-            notes.insert(0, (lines[-1], f"{names[-1]} is a column here: if it is meant as the set of right-hand sides, write RHS before it"))
-        for line, reason in notes[:_MOST_NOTES]:
+        for line, reason in (*lines_of_other_sections(self.state, self.sections), *notes[:_MOST_NOTES]):
             self.state.log.note(line, reason)
 
     def other_meaning(self, name: str, others: Sequence[str], have_digits: bool) -> Optional[str]:
         """What a column may be instead: one beside it that is misspelt, a number, or a row."""
-        if any(are_near(name, other) for other in others):
+        if any(are_near(name, other) for other in others) or is_column_with_signs(name, self.state):
             return f"{name} is a column of its own, or the one beside it misspelt"
         if name.isdigit() and not have_digits:
             return f"{name} is a column here, and may be a number"
@@ -200,3 +202,9 @@ def negated(literal: str) -> str:
     if not parts(literal)[0]:
         return literal
     return literal[1:] if literal.startswith("-") else "-" + literal.lstrip("+")
+
+
+def is_column_with_signs(name: str, state: State) -> bool:
+    """Whether a name is that of another column with signs beside it."""
+    plain = name.strip(_SIGNS)
+    return plain != name and plain in state.columns

@@ -58,9 +58,12 @@ class State:
         self.column_lines: list[int] = []  # where each of them is first
         self.bounds_only: dict[str, int] = {}  # columns that are in BOUNDS only, and their first lines
         self.is_marked = False
+        self.marker_line = 0
         self.has_empty_block = False
+        self.empty_block_line = 0
         self.column = ""
         self.sets: dict[str, str] = {}
+        self.set_lines: dict[str, int] = {}  # where the set of a section is first
         self.bounded: dict[str, list[Bound]] = {}
         self._named: Optional[frozenset[str]] = None
 
