@@ -25,7 +25,7 @@ done
 # The base system has only bash. The directory of zsh is another one in Debian's packages.
 share=$(dirname "$(dirname "$(command -v mpslp)")")/share
 for command in mpslp mpslp-tools; do
-    for completion in "$share"/zsh/*/_$command "$share/fish/vendor_completions.d/$command.fish"; do
+    for completion in "$share/zsh"/*/"_$command" "$share/fish/vendor_completions.d/$command.fish"; do
         test -s "$completion" || die "$completion is missing"
     done
     # shellcheck disable=SC2016 # the variables are those of bash
