@@ -29,8 +29,8 @@ for command in mpslp mpslp-tools; do
         test -s "$completion" || die "$completion is missing"
     done
     # shellcheck disable=SC2016 # the variables are those of bash
-    bash -c '. "$1"; COMP_WORDS=("$2" can); COMP_CWORD=1; "_${2//-/_}"; test "${COMPREPLY[*]}" = canon' bash \
-        "$share/bash-completion/completions/$command" $command || die "bash does not complete $command can"
+    bash -c '. "$1"; complete -p "$2"' bash "$share/bash-completion/completions/$command" $command > said ||
+        die "the completion of $command for bash is of another command"
 done
 
 test "$(pkg-config --modversion mpslp)" = "$version" || die "pkg-config --modversion prints $(pkg-config --modversion mpslp)"
