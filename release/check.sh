@@ -2,8 +2,8 @@
 # release/check.sh: installs the archive and the Debian package of build/dist/ in an empty Debian, one after the other, uses
 # them as use.sh does, removes them, and checks that nothing is left.
 #
-# It needs root, and debootstrap for the first run, which downloads Debian's base system and keeps it in build/roots/; later
-# runs need no network. SUITE and MIRROR name another Debian.
+# It needs root, lintian, and debootstrap for the first run, which downloads Debian's base system and keeps it in
+# build/roots/; later runs need no network. SUITE and MIRROR name another Debian.
 set -eu
 cd "$(dirname "$0")/.."
 export LC_ALL=C
@@ -105,13 +105,10 @@ sys.exit(f"{sys.argv[1]} takes {fastest:.2f} seconds to start" if fastest > 0.25
 PYTHON
 }
 
-# The errors of lintian, if it is installed.
+# lintian, which checks packages by Debian's rules, has no error and no warning.
 lints() {
-    if ! command -v lintian > /dev/null; then
-        echo "lintian is not installed: apt-get install lintian"
-        return 0
-    fi
-    lintian --allow-root --fail-on error "$package" > build/roots/lint || die "lintian: $(cat build/roots/lint)"
+    command -v lintian > /dev/null || die "lintian is missing: apt-get install lintian"
+    lintian --allow-root --fail-on error,warning "$package" > build/roots/lint || die "lintian: $(cat build/roots/lint)"
 }
 
 check_archive() {

@@ -151,6 +151,7 @@ stage_package() {
     install -D -m 644 "$work/source/build/$wheel" "$root/usr/share/mpslp/$wheel"
     install_python "$root/usr"
     install -m 644 release/copyright "$root/usr/share/doc/mpslp/copyright"
+    install -D -m 644 release/lintian-overrides "$root/usr/share/lintian/overrides/mpslp"
     changelog | gzip -9n > "$root/usr/share/doc/mpslp/changelog.gz"
     size=$(installed_size "$root")
     mkdir "$root/DEBIAN"

@@ -1,6 +1,7 @@
 #!/bin/sh
-# release/use.sh VERSION WHEEL: uses an installed mpslp: the program, its man page, mpslp-tools, the library from C, the wheel
-# from Python. check.sh runs this within the root in which it was installed, in a directory with the files that are used here.
+# release/use.sh VERSION WHEEL: uses an installed mpslp: the program, man pages, completions, the library from C, the wheel from
+# Python, and mpslp-tools. check.sh runs this within the root in which it was installed, in a directory with the files that are
+# used here.
 set -eu
 version=$1
 wheel=$2
@@ -13,12 +14,24 @@ die() {
 test "$(mpslp --version)" = "mpslp $version" || die "mpslp --version prints $(mpslp --version)"
 mpslp canon mps mps examples/small.mps | cmp - examples/small.canonical.mps
 mpslp canon mps lp examples/small.mps | cmp - examples/small.canonical.lp
-page=$(man -w mpslp)
-test -s "$page" || die "man -w mpslp prints $page"
-man mpslp > page.txt 2> /dev/null
-grep -q '^SYNOPSIS' page.txt || die "the man page is not shown"
-man mpslp-tools > tools.txt 2> /dev/null
-grep -q '^EXIT STATUS' tools.txt || die "the man page of mpslp-tools is not shown"
+for command in mpslp mpslp-tools; do
+    page=$(man -w $command)
+    test -s "$page" || die "man -w $command prints $page"
+    man --warnings $command > page.txt 2> said
+    test ! -s said || die "man $command: $(cat said)"
+    grep -q '^EXIT STATUS' page.txt || die "man $command shows no page"
+done
+
+# The base system has only bash. The directory of zsh is another one in Debian's packages.
+share=$(dirname "$(dirname "$(command -v mpslp)")")/share
+for command in mpslp mpslp-tools; do
+    for completion in "$share/zsh"/*/"_$command" "$share/fish/vendor_completions.d/$command.fish"; do
+        test -s "$completion" || die "$completion is missing"
+    done
+    # shellcheck disable=SC2016 # the variables are those of bash
+    bash -c '. "$1"; complete -p "$2"' bash "$share/bash-completion/completions/$command" $command > said ||
+        die "the completion of $command for bash is of another command"
+done
 
 test "$(pkg-config --modversion mpslp)" = "$version" || die "pkg-config --modversion prints $(pkg-config --modversion mpslp)"
 flags=$(pkg-config --cflags mpslp)
@@ -70,13 +83,65 @@ assert mpslp.is_canonical("examples/small.canonical.mps")
 assert mpslp.same("examples/small.mps", "examples/small.lp")
 assert mpslp.load("examples/small.mps") == mpslp.load("examples/small.lp")
 PYTHON
+
+# A model with a name that LP does not have, and three other files of it.
+cat > brackets.mps <<'MODEL'
+NAME
+ROWS
+ N  COST
+ L  LIM
+COLUMNS
+    x[1,2]  COST  1  LIM  1
+RHS
+    RHS  LIM  4
+ENDATA
+MODEL
+sed 's/1  LIM /1  LIMM /' brackets.mps > misspelt.mps
+sed 's/^ROWS/rows/' brackets.mps > lower-case.mps
+sed 1d brackets.mps > unnamed.mps
+
+# A command that has to exit with a status, and what it prints goes to the file said.
+exits_with() {
+    wanted=$1
+    shift
+    status=0
+    "$@" > said 2>&1 || status=$?
+    test "$status" = "$wanted" || die "$* exits with $status: $(cat said)"
+}
+
+says() {
+    grep -qF -- "$1" said || die "not said: $1, but: $(cat said)"
+}
+
+# Each command that has modules or a table of its own.
 for tools in mpslp-tools planning/bin/mpslp-tools; do
     test "$($tools --version)" = "mpslp $version" || die "$tools --version prints $($tools --version)"
     test "$($tools diff examples/small.mps examples/small.lp)" = same || die "$tools diff finds a difference"
-    ! $tools check examples/small.canonical.lp examples/small.lp > said || die "$tools check finds no file"
+    exits_with 1 $tools check examples/small.canonical.lp examples/small.lp
     test "$(cat said)" = examples/small.lp || die "$tools check finds other files: $(cat said)"
-    $tools survey -j 2 examples > said
-    grep -q ' accepted$' said || die "$tools survey accepts no file: $(cat said)"
-    $tools explain DuplicateEntry > said
-    grep -q 'Add the coefficients' said || die "$tools explain has no causes"
+    exits_with 0 $tools survey -j 2 examples
+    says ' accepted'
+    exits_with 0 $tools explain DuplicateEntry
+    says 'Add the coefficients'
+    for kind in no-name upper-zero letter-case; do
+        exits_with 0 $tools explain $kind
+    done
+    exits_with 2 $tools canon misspelt.mps
+    says 'the nearest row is LIM'
+    exits_with 0 $tools canon unnamed.mps
+    says no-name
+    exits_with 1 $tools check --portable examples/small.lp
+    says joined-tokens
+    exits_with 1 $tools adapt -o adapted.mps lower-case.mps
+    says 'letter-case: rows -> ROWS'
+    $tools same adapted.mps brackets.mps > said
+    $tools canon -t lp --rename brackets.mps > renamed.lp
+    $tools canon -t lp renamed.lp | cmp - renamed.lp
+    $tools canon --for lp_solve brackets.mps > solver.mps
+    $tools same solver.mps brackets.mps > said
+    $tools fmt examples/small.lp > formatted.lp
+    $tools fmt --check formatted.lp
+    $tools same formatted.lp examples/small.lp > said
+    $tools report -o page.html examples/small.mps
+    test -s page.html || die "$tools report writes no page"
 done
