@@ -464,6 +464,14 @@ class Models(Directory):
         self.assertEqual((listed.returncode, listed.stdout.split()[:2]), (0, [b"BadByte", b"BadMarker"]))
         self.prints(["explain", "BadBite"], 3, error="python3 -m mpslp: error: no such kind: 'BadBite'; did you mean BadByte? 'mpslp-tools explain' prints all kinds\n")
 
+    def test_control_characters_do_not_reach_the_terminal(self):
+        self.file("a.mps", b"NAME\n\x1b[2J\xe2\x80\xae\nENDATA\n")
+        for words in (["adapt", "a.mps"], ["check", "a.mps"]):
+            done = self.run_tools(*words)
+            self.assertEqual(done.returncode, 2)
+            self.assertIn(b"\\x1b[2J\\u202e", done.stderr)
+            self.assertTrue(all(char == "\n" or char.isprintable() for char in done.stderr.decode()), done.stderr)
+
     def test_explain_a_file(self):
         self.file("a.lp", BROKEN)
         message = mpslp.ModelFileError("BadToken", 1, filename="a.lp").message()
@@ -474,7 +482,9 @@ class Models(Directory):
         self.file("Sos")
         self.prints(["explain", "Sos"], 0, f"{mpslp.explain('Sos')}\n")
         self.prints(["explain", "none.mps"], 4, error="none.mps: No such file or directory\n")
-        self.prints(["explain", "."], 3, error=".: its name ends neither in .mps nor in .lp: give -f mps or -f lp\n")
+        self.prints(["explain", "."], 2, "".join(f"{line}\n" for line in ("./" + message, "./b.mps.gz: accepted")))
+        (self.folder / "none").mkdir()
+        self.prints(["explain", "none"], 0, error="warning: none: no model files\n")
 
 
 class Command(Directory):
