@@ -43,7 +43,7 @@ _mpslp_tools() {
         canon) options='--format --output --out-dir --in-place --diff --to --for --rename --map --names-back --force --jobs --quiet --no-warnings --help -Werror' ;;
         fmt) options='--format --in-place --check --diff --jobs --json --quiet --help' ;;
         check) options='--format --portable --target --all --ignore --jobs --json --quiet --no-warnings --help -Werror' ;;
-        same) options='--format --quiet --no-warnings --help -Werror' ;;
+        same) options='--format --json --quiet --no-warnings --help -Werror' ;;
         diff) options='--format --ignore-objective-name --digits --by-position --json --quiet --no-warnings --help -Werror' ;;
         show) options='--format --quiet --help' ;;
         digest) options='--format --jobs --json --quiet --help' ;;

@@ -41,7 +41,7 @@ complete -c mpslp-tools -n '__mpslp_tools_at canon fmt check same diff show dige
 complete -c mpslp-tools -n '__mpslp_tools_at canon check same diff' -l no-warnings -d 'Print no warnings'
 complete -c mpslp-tools -n '__mpslp_tools_at canon check same diff' -s W -x -d '-Werror[=KIND] rejects warnings, -Wno-KIND hides them'
 complete -c mpslp-tools -n '__mpslp_tools_at fmt' -l check -d 'Print the files that are not formatted'
-complete -c mpslp-tools -n '__mpslp_tools_at fmt check diff digest adapt survey report' -l json -d 'Print JSON, also about files that are rejected'
+complete -c mpslp-tools -n '__mpslp_tools_at fmt check same diff digest adapt survey report' -l json -d 'Print JSON, also about files that are rejected'
 complete -c mpslp-tools -n '__mpslp_tools_at check' -l portable -d 'Print what other programs may read differently'
 complete -c mpslp-tools -n '__mpslp_tools_at check' -l target -xa 'glpsol clp cbc lp_solve esolver coinutils' -d 'With --portable, only what concerns glpsol, clp, cbc, lp_solve, esolver or coinutils'
 complete -c mpslp-tools -n '__mpslp_tools_at check' -l all -d 'With --portable, all lines and all kinds'

@@ -156,7 +156,7 @@ class FromArrays(unittest.TestCase):
     def test_indexes_that_are_no_integers(self):
         good = mpslp.Arrays([1, 2], [0, 1, 2], [1, 0], [5, 7], [0, 1], [9, 9])
         for wrong in ([1, "0"], [1, None], [1.0, 0], "ab", [[1], [0]]):
-            with self.assertRaisesRegex(TypeError, "^indices: .* is no integer$"):
+            with self.assertRaisesRegex(TypeError, "^indices: .* is not an integer$"):
                 mpslp.from_arrays(good._replace(indices=wrong))
         for wrong in (5, None, "x", [1], tuple(good)):
             with self.assertRaisesRegex(TypeError, "^arrays are a mpslp.Arrays, not "):
@@ -191,10 +191,10 @@ class FromArrays(unittest.TestCase):
             ({"indptr": [0, 2]}, "compressed columns"), ({"indptr": [1, 1, 2]}, "compressed columns"), ({"indptr": [0, 1, 3]}, "compressed columns"),
             ({"indptr": [0, 3, 2]}, "compressed columns"), ({"indices": [0]}, "compressed columns"), ({"data": [5]}, "compressed columns"),
             ({"indices": [0, 1]}, "a row that is not there"), ({"indices": [-1, 0]}, "a row that is not there"), ({"indptr": [0, 0, 2]}, "column 'y' has two entries in one row"),
-            ({"data": [float("nan"), 1]}, "is no number"), ({"data": [float("inf"), 1]}, "is not finite"), ({"c": [float("inf"), 1]}, "is not finite"),
-            ({"row_names": ["r", "r"]}, "one name"), ({"column_names": ["x", "x"]}, "one name"), ({"column_names": ["x", "a b"]}, "is no name"),
+            ({"data": [float("nan"), 1]}, "is not a number"), ({"data": [float("inf"), 1]}, "is not finite"), ({"c": [float("inf"), 1]}, "is not finite"),
+            ({"row_names": ["r", "r"]}, "one name"), ({"column_names": ["x", "x"]}, "one name"), ({"column_names": ["x", "a b"]}, "is not legal"),
             ({"lower": [2, 0]}, "is above upper"), ({"integrality": [2, 0], "upper": [0, 1]}, "is semi-continuous"),
-            ({"sense": "max"}, "the sense 'max'"), ({"objective": "r"}, "the name of the objective"), ({"constant": float("nan")}, "is no number"),
+            ({"sense": "max"}, "the sense 'max'"), ({"objective": "r"}, "the name of the objective"), ({"constant": float("nan")}, "is not a number"),
         ):
             with self.subTest(words, changes=changes), self.assertRaisesRegex(ValueError, words):
                 mpslp.from_arrays(good._replace(**changes))

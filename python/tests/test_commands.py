@@ -67,7 +67,7 @@ class OneTable(unittest.TestCase):
 
     def test_commands_that_have_an_option(self):
         have = {name: {each for action in command._actions for each in action.option_strings} for name, command in commands().items()}
-        for option, names in (("--json", "check diff survey digest adapt report fmt"), ("--diff", "canon adapt fmt"), ("--out-dir", "canon adapt report"), ("-i", "canon adapt fmt"),
+        for option, names in (("--json", "check same diff survey digest adapt report fmt"), ("--diff", "canon adapt fmt"), ("--out-dir", "canon adapt report"), ("-i", "canon adapt fmt"),
                               ("-q", "canon check same diff show digest adapt survey report fmt"), ("-f", "canon check same diff show digest adapt survey report explain fmt"),
                               ("-j", "canon check digest adapt survey report fmt"), ("--from", "adapt survey"), ("-o", "canon adapt report")):
             self.assertEqual({name for name, options in have.items() if option in options}, set(names.split()), option)
@@ -361,7 +361,7 @@ class AdaptMany(Directory):
     def test_the_format_of_a_name_without_one(self):
         self.file("plan", ADAPTABLE)
         self.prints(["adapt", "-q", "-f", "lp", "plan"], 1, ADAPTED.decode())
-        self.prints(["adapt", "plan"], 3, error="plan: its name ends neither in .mps nor in .lp: say -f mps or -f lp\n")
+        self.prints(["adapt", "plan"], 3, error="plan: its name ends neither in .mps nor in .lp: give -f mps or -f lp\n")
 
 
 class Quiet(Directory):
@@ -439,6 +439,19 @@ class Json(Directory):
         self.assertEqual((found["path"], found["error"], found["line"]), ("c.lp", "BadToken", 1))
         (found,) = self.records("diff", "--json", "a.mps", "/dev/null", status=1)
         self.assertEqual(found["differences"], [{"of": "model", "what": "only", "first": True, "second": False, "text": "- model: 2 rows, 2 columns, 2 entries"}])
+
+    def test_same(self):
+        (found,) = self.records("same", "--json", "a.mps", EXAMPLES / "small.lp")
+        self.assertEqual(found, {"path": "a.mps", "result": "accepted", "error": "", "line": None, "reason": "", "second": str(EXAMPLES / "small.lp"), "verdict": "same", "warnings": []})
+        (found,) = self.records("same", "--json", "a.mps", "b.lp", status=1)
+        self.assertEqual((found["verdict"], [each["kind"] for each in found["warnings"]]), ("not the same", ["late-name"]))
+        (found,) = self.records("same", "--json", "a.mps", "c.lp", status=2)
+        self.assertEqual((found["path"], found["error"], found["line"]), ("c.lp", "BadToken", 1))
+        for directory in ("old", "new"):
+            self.file(f"{directory}/a.mps", CANONICAL)
+        self.file("old/b.mps", CANONICAL)
+        found = self.records("same", "--json", "old", "new", status=1)
+        self.assertEqual([(each["path"], each["second"], each["verdict"]) for each in found], [("old/a.mps", "new/a.mps", "same"), ("old/b.mps", "/dev/null", "not the same")])
 
     def test_each_sort_of_difference(self):
         first = b"max p: x + 2 y\nst\nr: x + y <= 4\ns: x >= 1\nbounds\ny <= 5\nend\n"

@@ -104,7 +104,7 @@ class CraftedForAdapt(unittest.TestCase):
             ("lp", lp(f" 1e{digits} x >= 1"), "36 digits"),
             ("mps", mps(f" Y LIM {digits}"), "36 digits"),
             ("mps", mps(f" Y LIM 1e-{digits}"), "36 digits"),
-            ("mps", mps(f" Y LIM {digits}/{digits}"), "no finite decimal"),
+            ("mps", mps(f" Y LIM {digits}/{digits}"), "not a finite decimal"),
         ):
             with self.subTest(text[-20:]), self.assertRaises(mpslp.AdaptError) as caught:
                 mpslp.adapt(text.encode(), format)

@@ -192,7 +192,7 @@ class Unsound(unittest.TestCase):
                 lambda: mpslp.Row(name), lambda: mpslp.Column(name), lambda: mpslp.Model(objective=name, columns=[mpslp.Column("x")]),
                 lambda: mpslp.Column("x", entries={name: 1}),
             ):
-                with self.subTest(name), self.assertRaisesRegex(ValueError, " is no name of "):
+                with self.subTest(name), self.assertRaisesRegex(ValueError, " name .* is not legal: "):
                     call()
         for call in (lambda: mpslp.Row(3), lambda: mpslp.Column(b"x"), lambda: mpslp.Column("x", entries={1: 1})):
             with self.assertRaisesRegex(TypeError, "is a str, not"):
@@ -202,7 +202,7 @@ class Unsound(unittest.TestCase):
 
     def test_numbers(self):
         for number, words in (
-            (float("nan"), "is no number"), (Decimal("NaN"), "is no number"), (Fraction(1, 3), "no finite decimal"), (int("1" * 37), "more than 36 digits"),
+            (float("nan"), "is not a number"), (Decimal("NaN"), "is not a number"), (Fraction(1, 3), "not a finite decimal"), (int("1" * 37), "more than 36 digits"),
             (Decimal("1e501"), "exponent beyond 500"), (Decimal("1e-501"), "exponent beyond 500"), (Fraction(1, 2**200), "more than 36 digits"),
         ):
             for call in (lambda: mpslp.Column("x", cost=number), lambda: mpslp.Column("x", entries={"r": number}),
@@ -248,12 +248,12 @@ class Unsound(unittest.TestCase):
         x, r = mpslp.Column("x", entries={"r": 1}), mpslp.Row("r")
         for named, error, words in (
             ({"columns": []}, ValueError, "at least one column"),
-            ({"columns": [x]}, ValueError, "column 'x' has an entry in row 'r', which is not there"),
+            ({"columns": [x]}, ValueError, "column 'x' has an entry in row 'r', which does not exist"),
             ({"columns": [x, x], "rows": [r]}, ValueError, "column 'x' is there twice"),
             ({"columns": [x], "rows": [r, r]}, ValueError, "row 'r' is there twice"),
             ({"columns": [x], "rows": [r], "objective": "r"}, ValueError, "row 'r' has the name of the objective"),
-            ({"columns": {"y": x}, "rows": [r]}, ValueError, "a column is not at its own name"),
-            ({"columns": [x], "rows": {"s": r}}, ValueError, "a row is not at its own name"),
+            ({"columns": {"y": x}, "rows": [r]}, ValueError, "the key 'y' has the column 'x': the key of a column is its name"),
+            ({"columns": [x], "rows": {"s": r}}, ValueError, "the key 's' has the row 'r': the key of a row is its name"),
             ({"columns": [r]}, TypeError, "a column is a mpslp.Column, not Row"),
             ({"columns": [x], "rows": ["r"]}, TypeError, "a row is a mpslp.Row, not str"),
         ):

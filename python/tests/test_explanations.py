@@ -99,8 +99,8 @@ A remark of check --portable:
             self.assertIn(line, str(mpslp.explain("objective-rhs")).split("\n"))
 
     def test_what_is_no_kind(self):
-        for kind, words in (("BadTokem", "^no such kind: 'BadTokem'; did you mean BadToken[?]$"), ("uper-zero", "^no such kind: 'uper-zero'; did you mean upper-zero[?]$"),
-                            ("", "^no such kind: ''; the kinds are BadByte, BadMarker, .*, upper-zero$")):
+        for kind, words in (("BadTokem", "^no such kind: 'BadTokem'; did you mean BadToken[?] 'mpslp-tools explain' prints all kinds$"), ("uper-zero", "^no such kind: 'uper-zero'; did you mean upper-zero[?] 'mpslp-tools explain' prints all kinds$"),
+                            ("", "^no such kind: ''; 'mpslp-tools explain' prints all kinds$")):
             with self.assertRaisesRegex(ValueError, words):
                 mpslp.explain(kind)
         for wrong in (5, None, b"BadToken", ["BadToken"]):

@@ -233,10 +233,10 @@ class Replaced(unittest.TestCase):
             "row 'both' has the name of the objective": {"objective": "both"},
             f"row {model.objective!r} has the name of the objective": {"rows": [mpslp.Row(model.objective)]},
             "the objective: constant: inf is not finite": {"constant": float("inf")},
-            "a column is not at its own name": {"columns": {"x": mpslp.Column("y")}},
+            "the key 'x' has the column 'y': the key of a column is its name": {"columns": {"x": mpslp.Column("y")}},
             "row 'both' is there twice": {"rows": [mpslp.Row("both"), mpslp.Row("both")]},
-            "column 'x' has an entry in row 'none', which is not there": {"columns": [mpslp.Column("x", entries={"none": 1})]},
-            "column 'new' has an entry in row 'none', which is not there": {"columns": [mpslp.Column("new", entries={"none": 1})]},
+            "column 'x' has an entry in row 'none', which does not exist": {"columns": [mpslp.Column("x", entries={"none": 1})]},
+            "column 'new' has an entry in row 'none', which does not exist": {"columns": [mpslp.Column("new", entries={"none": 1})]},
         }.items():
             with self.subTest(message), self.assertRaises(ValueError) as caught:
                 model.replace(**changes)

@@ -1,4 +1,4 @@
-"""What other programs may read otherwise: the call and the command; the rules are tested by tests/portable_rules.py, too."""
+"""What other programs may read differently: the call and the command; the rules are tested by tests/portable_rules.py, too."""
 
 import gzip
 import io

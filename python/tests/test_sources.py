@@ -162,6 +162,11 @@ class CompressedFiles(unittest.TestCase):
         path.write_bytes(content)
         return path
 
+    def test_a_text_as_str(self):
+        for text in ("min x\nend\n", "NAME\nROWS\n N  COST\nENDATA"):
+            with self.assertRaisesRegex(ValueError, "^a str is the path of a file, and this one has several lines: give a text as bytes, with its format$"):
+                mpslp.load(text)
+
     def test_paths_give_compression_and_format(self):
         lp = (EXAMPLES / "small.lp").read_bytes()
         for ending, pack in self.packs.items():

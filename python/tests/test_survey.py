@@ -182,6 +182,10 @@ class Command(Collection):
         self.file("pulp.txt", b"*SENSE:Maximize\nROWS\n N  C\nCOLUMNS\n    X  C  1\nENDATA\n")
         done = self.run_tools("survey", "-f", "mps", "--from", "pulp", "--csv", "pulp.txt")
         self.assertRegex(done.stdout, rb"\npulp.txt,adapted,mps,")
+        for words, content, result in ((["-f", "lp"], b"min x\nend\n", b"accepted,lp,10,"), (["-f", "mps"], Path("pulp.txt").read_bytes(), b"accepted,mps,54,"), (["-f", "lp"], b"min x", b"rejected,lp,5,")):
+            done = self.run_tools("survey", "--csv", *words, "-", content=content)
+            self.assertEqual((done.returncode, done.stderr), (0, b""))
+            self.assertRegex(done.stdout, b"\n-," + result)
         for words in ([], ["--csv", "--json", "."], ["-j", "0", "."], ["-"], ["--from", "word", "."]):
             self.assertEqual(self.run_tools("survey", *words).returncode, 3, words)
 

@@ -341,9 +341,9 @@ class Files(Directory):
     def test_formats_that_are_not_known(self):
         self.file("a.txt")
         for words in (["check", "a.txt"], ["show", "a.txt"]):
-            self.prints(words, 3, error="a.txt: its name ends neither in .mps nor in .lp: say -f mps or -f lp\n")
-        self.prints(["same", "a.txt", EXAMPLES / "small.lp"], 3, error="python3 -m mpslp: error: a.txt: its name ends neither in .mps nor in .lp: say -f mps or -f lp\n")
-        self.prints(["check", "-"], 3, error="-: its name ends neither in .mps nor in .lp: say -f mps or -f lp\n")
+            self.prints(words, 3, error="a.txt: its name ends neither in .mps nor in .lp: give -f mps or -f lp\n")
+        self.prints(["same", "a.txt", EXAMPLES / "small.lp"], 3, error="python3 -m mpslp: error: a.txt: its name ends neither in .mps nor in .lp: give -f mps or -f lp\n")
+        self.prints(["check", "-"], 3, error="standard input has no extension: give -f mps or -f lp\n")
         self.prints(["same", "a.txt", EXAMPLES / "small.lp", "-f", "mps"], 0, "same\n")
         self.prints(["canon", "-f", "mps", "a.txt"], 0, CANONICAL.decode())
         self.prints(["canon", "-f", "lp", EXAMPLES / "small.mps"], 0, CANONICAL.decode())
@@ -462,7 +462,15 @@ class Models(Directory):
         self.prints(["explain", "badbyte", "Sos"], 0, f"{mpslp.explain('BadByte')}\n\n{mpslp.explain('Sos')}\n")
         listed = self.run_tools("explain")
         self.assertEqual((listed.returncode, listed.stdout.split()[:2]), (0, [b"BadByte", b"BadMarker"]))
-        self.prints(["explain", "BadBite"], 3, error="python3 -m mpslp: error: no such kind: 'BadBite'; did you mean BadByte?\n")
+        self.prints(["explain", "BadBite"], 3, error="python3 -m mpslp: error: no such kind: 'BadBite'; did you mean BadByte? 'mpslp-tools explain' prints all kinds\n")
+
+    def test_control_characters_do_not_reach_the_terminal(self):
+        self.file("a.mps", b"NAME\n\x1b[2J\xe2\x80\xae\nENDATA\n")
+        for words in (["adapt", "a.mps"], ["check", "a.mps"]):
+            done = self.run_tools(*words)
+            self.assertEqual(done.returncode, 2)
+            self.assertIn(b"\\x1b[2J\\u202e", done.stderr)
+            self.assertTrue(all(char == "\n" or char.isprintable() for char in done.stderr.decode()), done.stderr)
 
     def test_explain_a_file(self):
         self.file("a.lp", BROKEN)
@@ -474,7 +482,9 @@ class Models(Directory):
         self.file("Sos")
         self.prints(["explain", "Sos"], 0, f"{mpslp.explain('Sos')}\n")
         self.prints(["explain", "none.mps"], 4, error="none.mps: No such file or directory\n")
-        self.prints(["explain", "."], 3, error=".: its name ends neither in .mps nor in .lp: say -f mps or -f lp\n")
+        self.prints(["explain", "."], 2, "".join(f"{line}\n" for line in ("./" + message, "./b.mps.gz: accepted")))
+        (self.folder / "none").mkdir()
+        self.prints(["explain", "none"], 0, error="warning: none: no model files\n")
 
 
 class Command(Directory):

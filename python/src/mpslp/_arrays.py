@@ -119,7 +119,7 @@ def _whole_number(name: str, number: Any) -> int:
     try:
         return index(number)
     except TypeError:
-        raise TypeError(f"{name}: {number!r} is no integer") from None
+        raise TypeError(f"{name}: {number!r} is not an integer") from None
 
 
 def bytes_of(values: Any) -> bytes | None:

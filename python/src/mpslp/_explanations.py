@@ -23,8 +23,13 @@ _WITHOUT_EXAMPLES = {
 }
 """The changes of adapt that no example of a few lines has."""
 
+_MOST_NEAR = 3
+"""How many kinds are named for a word that is none, if they are very near."""
+_VERY_NEAR = 0.75
+"""How near they are then, on the scale of difflib."""
+
 _PROGRAMS = ("clp", "cbc", "esolver", "glpsol", "lp_solve")
-_LINK = re.compile(r"\[[^\]]*\]\(([^)#]*)[^)]*\)")
+_LINK = re.compile(r"((?: \()?)\[[^\]]*\]\(([^)#]*)[^)]*\)(\)?)")
 
 
 @dataclass(frozen=True)
@@ -107,8 +112,9 @@ def _no_such_kind(kind: str) -> str:
     import difflib
 
     lower = {each.lower(): each for each in all_kinds()}
-    near = difflib.get_close_matches(kind.lower(), lower, 1)
-    return f"no such kind: {kind!r}; " + (f"did you mean {lower[near[0]]}?" if near else f"the kinds are {', '.join(lower.values())}")
+    near = difflib.get_close_matches(kind.lower(), lower, _MOST_NEAR, _VERY_NEAR) or difflib.get_close_matches(kind.lower(), lower, 1)
+    meant = f"did you mean {' or '.join(lower[each] for each in near)}? " if near else ""
+    return f"no such kind: {kind!r}; {meant}'mpslp-tools explain' prints all kinds"
 
 
 def kinds() -> list[str]:
@@ -183,8 +189,15 @@ def _lines(cell: str) -> str:
 
 
 def _plain(text: str) -> str:
-    """Text without marks of code, and with the name of the file for a link."""
-    return _LINK.sub(r"\1", text).replace("`", "")
+    """Text without marks of code, and with the name of the file for a link; of several in parentheses, for the first one."""
+    named: set[str] = set()
+
+    def name_once(link: re.Match[str]) -> str:
+        is_again = bool(link[1]) and link[2] in named
+        named.add(link[2])
+        return "" if is_again else f"{link[1]}{link[2]}{link[3]}"
+
+    return _LINK.sub(name_once, text).replace("`", "")
 
 
 def _sentence(text: str) -> str:

@@ -588,7 +588,7 @@ def _numbered(column: Column, number_of: Callable[[str], int | None]) -> list[tu
     for row, value in column.entries.items():
         number = number_of(row)
         if number is None:
-            raise ValueError(f"column {column.name!r} has an entry in row {row!r}, which is not there")
+            raise ValueError(f"column {column.name!r} has an entry in row {row!r}, which does not exist")
         found.append((number, value))
     return found
 
@@ -613,7 +613,7 @@ def _check_name(name: str, what: str) -> None:
     if not isinstance(name, str):
         raise TypeError(f"the name of a {what} is a str, not {type(name).__name__}")
     if not _NAME.fullmatch(name) or name == "'MARKER'":
-        raise ValueError(f"{name!r} is no name of a {what}: it has 1 to {_MOST_BYTES} bytes from '!' to '~', and is not \"'MARKER'\"")
+        raise ValueError(f"the {what} name {name!r} is not legal: a name has 1 to {_MOST_BYTES} bytes from '!' to '~', and is not \"'MARKER'\"")
 
 
 def _given(about: str, what: str, make: Callable[[Number], Decimal], number: Number, row: str = "") -> Decimal:
@@ -665,6 +665,7 @@ def _distinct(given: Iterable[Any] | Mapping[str, Any], wanted: type, what: str)
         if name in found:
             raise ValueError(f"{what} {name!r} is there twice")
         found[name] = part
-    if isinstance(given, Mapping) and list(found) != list(given):
-        raise ValueError(f"a {what} is not at its own name")
+    for key, part in zip(given, found.values()) if isinstance(given, Mapping) else ():
+        if key != part.name:
+            raise ValueError(f"the key {key!r} has the {what} {part.name!r}: the key of a {what} is its name")
     return found

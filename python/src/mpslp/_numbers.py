@@ -53,7 +53,7 @@ def _checked(found: Decimal) -> Decimal:
     if found.is_infinite():
         return found
     if found.is_nan():
-        raise ValueError(f"{found} is no number")
+        raise ValueError(f"{found} is not a number")
     return _normal(found)
 
 
@@ -103,7 +103,7 @@ def _decimal(number: Number) -> Decimal:
     if isinstance(number, float):
         return Decimal(float.__repr__(number))
     if isinstance(number, bool):
-        raise TypeError(f"{number!r} is no number")
+        raise TypeError(f"{number!r} is not a number")
     if isinstance(number, Integral):
         return Decimal(int(number))
     if isinstance(number, Rational):
@@ -120,7 +120,7 @@ def _decimal_of_fraction(number: Rational) -> Decimal:
     while left % 5 == 0:
         left, fives = left // 5, fives + 1
     if left != 1:
-        raise ValueError(f"{number!r} is no finite decimal")
+        raise ValueError(f"{number!r} is not a finite decimal")
     places = max(twos, fives)
     return _scaled(int(number.numerator) * 2 ** (places - twos) * 5 ** (places - fives), -places)
 

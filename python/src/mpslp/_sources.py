@@ -119,6 +119,8 @@ def format_of_name(path: str) -> Format | None:
 
 def _format_of_path(path: str | bytes) -> Format:
     format = format_of_name(os.fsdecode(path))
+    if format is None and "\n" in os.fsdecode(path):
+        raise ValueError("a str is the path of a file, and this one has several lines: give a text as bytes, with its format")
     if format is None:
         raise ValueError(f"the format of {os.fsdecode(path)!r} has to be given, 'mps' or 'lp': it ends neither in .mps nor in .lp")
     return format

@@ -165,13 +165,15 @@ def survey_of(
     watch: Callable[[int, int], None] = lambda done, total: None,
     dialect: Optional[str] = None,
     format: Optional[Format] = None,
+    texts: Iterable[Text] = (),
 ) -> Survey:
-    """The survey of paths. After each file ``watch`` gets the number of those that are done, and of all.
+    """The survey of paths, and of texts that are read already. After each file ``watch`` gets the number of those that are done, and of all.
 
     The format is that of files whose extension does not say it.
     """
     start = time.perf_counter()
     below, found = files_below(paths)
+    found.extend(surveyed_text(text, dialect) for text in texts)
     watch(0, len(below))
     for done, file in enumerate(results_in_order(partial(surveyed_file, dialect=dialect, format=format), below, jobs), 1):
         found.append(file)
@@ -197,6 +199,20 @@ def surveyed_file(path: str, dialect: Optional[str] = None, format: Optional[For
     return replace(found, format=named or format, bytes=size, seconds=round(time.perf_counter() - start, 6))
 
 
+def surveyed_text(text: Text, dialect: Optional[str] = None) -> SurveyedFile:
+    """What there is of a text."""
+    start, path = time.perf_counter(), str(text.filename)
+    try:
+        found = _of_text(path, text, dialect)
+    except MemoryError as error:
+        found = _unreadable(path, error)
+    return replace(found, format=_name_of(text.format), bytes=len(text.content), seconds=round(time.perf_counter() - start, 6))
+
+
+def _name_of(format: int) -> Format:
+    return "lp" if format == _mpslp.LP else "mps"
+
+
 def _unreadable(path: str, error: Exception) -> SurveyedFile:
     if isinstance(error, OSError) and error.strerror:
         reason = error.strerror
@@ -219,7 +235,7 @@ def _adapted(path: str, text: Text, dialect: Optional[str], error: Optional[Mode
     """What there is of a file that is rejected, or of a dialect: the model that adapt makes of it, or why there is none."""
     found: dict[str, Any] = {} if error is None else {"error": error.kind, "line": error.line}
     try:
-        done = adapt_text(text.content, "lp" if text.format == _mpslp.LP else "mps", dialect)
+        done = adapt_text(text.content, _name_of(text.format), dialect)
         model = _model(done.text, text.format)
     except AdaptError as left:
         return SurveyedFile(path, "rejected", **found, reason=_reason(left, error))

@@ -92,7 +92,7 @@ def _outermost(edits: Iterable[Edit]) -> list[Edit]:
 
 
 def printed(cells: Iterable[Cell]) -> str:
-    """The text of cells. A space separates a new token from one beside it with which it would be read otherwise."""
+    """The text of cells. A space separates a new token from one beside it with which it would be one token."""
     parts: list[str] = []
     last = Cell("", "")
     for cell in cells:

@@ -288,7 +288,7 @@ class Reader:
         label = self.label()
         items = self.items()
         if self.token.kind != "end" and self.section_at(self.at) is None:
-            raise self.error("between the terms of the objective is no sign, or no row section follows")
+            raise self.error("there is no sign between two terms of the objective, or no 'subject to' after it")
         return Objective(start, self.last, label, items)
 
     def has_row(self) -> bool:
@@ -311,7 +311,7 @@ class Reader:
             self.at += 1
             sides.append(self.side(sides, len(relations)))
         if not relations:
-            raise self.error("in this row is no relation, or no sign between terms")
+            raise self.error("this row has no relation, or no sign between two terms")
         if self.token.kind == "relation":
             raise self.error("a further relation in this row")
         row = Row(first, self.last, label, sides, relations)

@@ -92,7 +92,7 @@ class Reader:
     def check_objective(self) -> None:
         name, section = self.state.objective_named, self.sections.found("OBJNAME")
         if name is not None and section is not None and name not in self.state.rows:
-            raise AdaptError(section.lines[0].number, f"OBJNAME names {name}, which is no row{nearest(name, self.state.rows)}")
+            raise AdaptError(section.lines[0].number, f"OBJNAME names {name}, which is not a row{nearest(name, self.state.rows)}")
 
     def written(self) -> str:
         """The text of all sections; what is after the end stays as it is."""
@@ -124,7 +124,7 @@ class Reader:
         if keyword in _NOT_SUPPORTED:
             raise AdaptError(line.number, _NOT_SUPPORTED[keyword])
         if keyword not in KEYWORDS:
-            raise AdaptError(line.number, f"{fields[0]} is no section of MPS{nearest(keyword, KEYWORDS)}")
+            raise AdaptError(line.number, f"{fields[0]} is not a section of MPS{nearest(keyword, KEYWORDS)}")
         if self.wants_word:
             raise AdaptError(line.number, f"{self.wants_word} without its word: write the word on the next line")
         self.data.rewrite(line, "letter-case", [keyword, *fields[1:]])
@@ -188,7 +188,7 @@ class Reader:
 
     def sense(self, line: Line, word: str) -> str:
         if word.upper() not in _SENSES:
-            raise AdaptError(line.number, f"{word} is no sense: write MAX or MIN")
+            raise AdaptError(line.number, f"{word} is not a sense: write MAX or MIN")
         self.state.sense = _SENSES[word.upper()]
         return word if word in _LEGAL_SENSES else self.state.sense
 

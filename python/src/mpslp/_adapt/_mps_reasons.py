@@ -26,24 +26,24 @@ def nearest(name: str, names: Collection[str]) -> str:
 
 
 def no_row(state: State, field: str) -> str:
-    return f"{field} is no row{nearest(field, state.rows)}"
+    return f"{field} is not a row{nearest(field, state.rows)}"
 
 
 def no_column(state: State, field: str) -> str:
-    return f"{field} is no column{nearest(field, [*state.columns, *state.bounds_only])}"
+    return f"{field} is not a column{nearest(field, [*state.columns, *state.bounds_only])}"
 
 
 def no_number(field: str) -> str:
     if field.replace(",", ".") != field and LITERAL.fullmatch(field.replace(",", ".", 1)):
-        return f"{field} is no number: write a point for a decimal comma"
-    return f"{field} is no number"
+        return f"{field} is not a number: write a point for a decimal comma"
+    return f"{field} is not a number"
 
 
 def wrong_row(state: State, line: Line) -> AdaptError:
     """Why a line of ROWS is left."""
     fields = line.fields()
     if fields[0].upper() not in ROW_TYPES:
-        return AdaptError(line.number, f"{fields[0]} is no type of a row: write N, L, G or E")
+        return AdaptError(line.number, f"{fields[0]} is not a type of row: write N, L, G or E")
     if len(fields) == 1:
         return AdaptError(line.number, f"a row of the type {fields[0]} without a name")
     reason = reason_to_keep(state, line, 2, Place.ROW)
@@ -73,7 +73,7 @@ def _wrong_pair(state: State, line: Line, at: int, start: int, what: str) -> Opt
             return reason_to_keep(state, line, at, Place.ONE_PAIR) or f"text after the number: {row}"
         return f"{row}, where a row is expected, is a number" if LITERAL.fullmatch(row) else no_row(state, row)
     if is_last:
-        return f"after the row {row} is no number"
+        return f"there is no number after the row {row}"
     return None if LITERAL.fullmatch(fields[at + 1]) else no_number(fields[at + 1])
 
 
@@ -83,7 +83,7 @@ def wrong_marker(state: State, line: Line) -> AdaptError:
     if len(fields) > 3 and fields[2] in MARKERS:
         return AdaptError(line.number, reason_to_keep(state, line, 3, Place.MARKER) or "text after the marker")
     words = " ".join(each for each in fields[1:] if each != MARKER)
-    return AdaptError(line.number, f"{words or MARKER} is no marker: write a name, 'MARKER', and 'INTORG' or 'INTEND', with the quotes")
+    return AdaptError(line.number, f"{words or MARKER} is not a marker: write a name, 'MARKER', and 'INTORG' or 'INTEND', with the quotes")
 
 
 def wrong_bound(state: State, line: Line) -> AdaptError:
@@ -91,7 +91,7 @@ def wrong_bound(state: State, line: Line) -> AdaptError:
     fields = line.fields()
     kind = fields[0]
     if kind not in (*VALUED, *UNVALUED):
-        return AdaptError(line.number, f"{kind} is no type of a bound: write one of {', '.join((*VALUED, *UNVALUED))}")
+        return AdaptError(line.number, f"{kind} is not a type of bound: write one of {', '.join((*VALUED, *UNVALUED))}")
     at = next((at for at in (1, 2) if at < len(fields) and state.is_column(fields[at])), None)
     if at is None:
         return AdaptError(line.number, _no_column_in(state, fields))

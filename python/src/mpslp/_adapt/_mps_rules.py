@@ -91,7 +91,7 @@ def number_of(line: Line, field: str, is_limit: bool) -> str:
     if not LITERAL.fullmatch(number):
         number = _with_e(number)
     if "/" in field and number == field and field.replace("/", "").strip("+-").isdigit():
-        raise AdaptError(line.number, f"{field} is no finite decimal: scale the row")
+        raise AdaptError(line.number, f"{field} is not a finite decimal: scale the row")
     if not LITERAL.fullmatch(number):
         return field
     if infinity(field) and not is_limit:

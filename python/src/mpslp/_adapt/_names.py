@@ -50,9 +50,9 @@ def reason_against(name: str) -> str | None:
         if _is_stray(letter):
             letter = bytes([ord(letter) - _FIRST_STRAY]).decode("cp1252", "replace")  # as Windows has it
             if not letter.isalpha():
-                return f"a byte that is not UTF-8, on Windows U+{ord(letter):04X}, is no letter of a name: write the sign of ASCII that is meant"
+                return f"a byte that is not UTF-8, on Windows U+{ord(letter):04X}, cannot be in a name: write the sign of ASCII that is meant"
         if not letter.isascii() and unicodedata.category(letter) in _NO_LETTERS:
-            return f"U+{ord(letter):04X} is no letter of a name: write the sign or the space of ASCII that is meant"
+            return f"U+{ord(letter):04X} cannot be in a name: write the sign or the space of ASCII that is meant"
     return None
 
 

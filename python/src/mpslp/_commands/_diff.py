@@ -3,7 +3,6 @@
 from __future__ import annotations
 
 import argparse
-from collections.abc import Iterator
 from decimal import Decimal
 from itertools import chain
 from typing import Any, NamedTuple
@@ -13,7 +12,7 @@ from mpslp._commands import _options
 from mpslp._commands._inputs import Input
 from mpslp._commands._options import add_files, add_options, add_warnings, flag
 from mpslp._commands._outcomes import Outcome, Status
-from mpslp._commands._pairs import NO_FILE, run_for_pairs
+from mpslp._commands._pairs import NO_FILE, NOT_THE_SAME, Paths, run_for_pairs
 from mpslp._commands._warned import warned
 from mpslp._commands._work import attempt, for_one
 from mpslp._differences import ColumnDifference, ColumnOnly, Difference, EntryDifference, ModelDifference, RowDifference, RowOnly, diff
@@ -68,22 +67,18 @@ class _Differences(NamedTuple):
         )
         each = iter(found)
         one = next(each, None)
-        paths = {"path": first.filename, "second": second.filename}
+        paths = Paths(first.filename, second.filename)
         if one is None:
-            return Outcome(output="" if options.quiet else found.verdict, record=_record(paths, found.verdict, iter(())))
+            return Outcome(output="" if options.quiet else found.verdict, record=paths.record(found.verdict, differences=[]))
         if options.quiet and not options.json:
             return Outcome(Status.DIFFERS)
         differences = chain([one], each)
         if options.json:
-            return Outcome(Status.DIFFERS, record=_record(paths, "not the same", map(record_of_difference, differences)))
+            return Outcome(Status.DIFFERS, record=paths.record(NOT_THE_SAME, differences=map(record_of_difference, differences)))
         return Outcome(Status.DIFFERS, lines=map(str, differences))
 
     def of_one(self, given: Input, is_first: bool) -> Outcome:
         return attempt(given, self.options, _of_first if is_first else _of_second)
-
-
-def _record(paths: dict[str, str | None], verdict: str, differences: Iterator[dict[str, Any]]) -> dict[str, Any]:
-    return {**paths, "result": "accepted", "error": "", "line": None, "reason": "", "verdict": verdict, "differences": differences}
 
 
 def _format_of(text: Text) -> Format:
@@ -91,19 +86,19 @@ def _format_of(text: Text) -> Format:
 
 
 def _of_first(text: Text, given: Input, options: argparse.Namespace) -> Outcome:
-    return _whole_model(text, options, "-", {"path": text.filename, "second": NO_FILE})
+    return _whole_model(text, options, "-", Paths(text.filename, NO_FILE))
 
 
 def _of_second(text: Text, given: Input, options: argparse.Namespace) -> Outcome:
-    return _whole_model(text, options, "+", {"path": NO_FILE, "second": text.filename})
+    return _whole_model(text, options, "+", Paths(NO_FILE, text.filename))
 
 
-def _whole_model(text: Text, options: argparse.Namespace, sign: str, paths: dict[str, str | None]) -> Outcome:
+def _whole_model(text: Text, options: argparse.Namespace, sign: str, paths: Paths) -> Outcome:
     """The model that is there, of two of which one is missing."""
     rows, columns, entries = _mpslp.load(text.content, text.format).counts()
     line = f"{sign} model: {rows} rows, {columns} columns, {entries} entries"
     found = {"of": "model", "what": "only", "first": sign == "-", "second": sign == "+", "text": line}
-    outcome = Outcome(Status.DIFFERS, lines=[] if options.quiet else [line], record=_record(paths, "not the same", iter([found])))
+    outcome = Outcome(Status.DIFFERS, lines=[] if options.quiet else [line], record=paths.record(NOT_THE_SAME, differences=[found]))
     return warned(text, options).before(lambda: outcome)
 
 

@@ -7,10 +7,10 @@ import os
 import sys
 
 from mpslp._commands import _options
-from mpslp._commands._inputs import STANDARD_INPUT, Input
+from mpslp._commands._inputs import STANDARD_INPUT, Input, inputs_of
 from mpslp._commands._options import add_options
 from mpslp._commands._outcomes import Outcome, Status, UsageError
-from mpslp._commands._work import for_one
+from mpslp._commands._work import for_each
 from mpslp._explanations import Explanation, all_kinds, explain
 from mpslp._output import write_line
 from mpslp._sources import Text, format_of_name
@@ -18,22 +18,23 @@ from mpslp._sources import Text, format_of_name
 USAGE = "[-f FORMAT] [KIND|FILE].."
 DESCRIPTION = """\
 Print the usual causes of a kind of error, and what to do; what a kind of
-warning, remark or change means; or why a file is rejected. Without
-arguments, print all kinds."""
+warning, remark or change means; or why the files, or the model files in a
+directory, are rejected. Without arguments, print all kinds."""
 DETAILS = ""
 
 
 def add(parser: argparse.ArgumentParser) -> None:
     parser.add_argument("words", nargs="*", metavar="KIND|FILE", help="such as DuplicateEntry, or plan.mps")
     add_options(parser, _options.FORMAT)
-    parser.set_defaults(quiet=False)
+    parser.set_defaults(quiet=False, jobs=1)
 
 
 def run(options: argparse.Namespace) -> Status:
     found = [_kind_of(word) for word in options.words]
     if not found:
         write_line(sys.stdout, "\n".join(all_kinds()))
-    return max((_print(word, each, options) for word, each in zip(options.words, found)), default=Status.DONE)
+    last = len(found) - 1
+    return max((_print(word, each, at == last, options) for at, (word, each) in enumerate(zip(options.words, found))), default=Status.DONE)
 
 
 def _kind_of(word: str) -> Explanation | None:
@@ -46,10 +47,11 @@ def _kind_of(word: str) -> Explanation | None:
         return None
 
 
-def _print(word: str, kind: Explanation | None, options: argparse.Namespace) -> Status:
+def _print(word: str, kind: Explanation | None, is_last: bool, options: argparse.Namespace) -> Status:
     if kind is None:
-        return for_one(Input(word), options, _explained)
-    write_line(sys.stdout, str(kind) if word == options.words[-1] else f"{kind}\n")
+        options.files = [word]
+        return for_each(inputs_of(options), options, _explained).status
+    write_line(sys.stdout, str(kind) if is_last else f"{kind}\n")
     return Status.DONE
 
 

@@ -56,9 +56,10 @@ def text_of(given: Input, options: argparse.Namespace) -> Text:
     path = given.path
     format: Format | None = given.format or format_of_name(path) or options.format
     if format is None:
-        if path != STANDARD_INPUT:
-            os.stat(path)  # what is wrong with a path that is missing is not its name
-        raise UsageError(f"{path}: its name ends neither in .mps nor in .lp: say -f mps or -f lp")
+        if path == STANDARD_INPUT:
+            raise UsageError("standard input has no extension: give -f mps or -f lp")
+        os.stat(path)  # what is wrong with a path that is missing is not its name
+        raise UsageError(f"{path}: its name ends neither in .mps nor in .lp: give -f mps or -f lp")
     if path == STANDARD_INPUT:
         return Text(read_standard_input(), format_number(format), path)
     return read(path, format)

@@ -54,7 +54,7 @@ def add_files(parser: argparse.ArgumentParser, help: str, **settings: Any) -> No
 def whole_number(word: str, most: int) -> int:
     """An argument that is a whole number from 1 on."""
     if not word.isdecimal() or not 1 <= int(word) <= most:
-        raise argparse.ArgumentTypeError(f"{word!r} is no whole number from 1 to {most}")
+        raise argparse.ArgumentTypeError(f"{word!r} is not a whole number from 1 to {most}")
     return int(word)
 
 

@@ -6,10 +6,10 @@ import argparse
 import os
 from collections.abc import Callable, Collection, Iterable, Iterator
 from itertools import chain
-from typing import NamedTuple, Protocol
+from typing import Any, NamedTuple, Protocol
 
 from mpslp._commands._inputs import STANDARD_INPUT, Input, formats_before, text_of
-from mpslp._commands._outcomes import Outcome, Status, UsageError, failure
+from mpslp._commands._outcomes import Outcome, Record, Status, UsageError, failure, record_of
 from mpslp._commands._progress import Progress
 from mpslp._commands._targets import with_extension
 from mpslp._commands._warned import before, warned
@@ -21,6 +21,19 @@ from mpslp._sources import Text
 
 NO_FILE = os.devnull
 """What git gives instead of a file that is new or deleted."""
+NOT_THE_SAME = "not the same"
+"""The verdict about models that differ."""
+
+
+class Paths(NamedTuple):
+    """The paths of two files that are compared. One may be NO_FILE."""
+
+    first: str | None
+    second: str | None
+
+    def record(self, verdict: str, **more: Any) -> Record:
+        """What is printed of the two files as JSON."""
+        return {**record_of(self.first, "accepted", second=self.second, verdict=verdict), **more}
 
 
 class Comparison(Protocol):

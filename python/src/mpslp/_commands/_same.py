@@ -9,8 +9,8 @@ from mpslp import _mpslp
 from mpslp._commands import _options
 from mpslp._commands._inputs import Input
 from mpslp._commands._options import add_files, add_options, add_warnings
-from mpslp._commands._outcomes import Outcome, Status
-from mpslp._commands._pairs import run_for_pairs
+from mpslp._commands._outcomes import Outcome, Record, Status
+from mpslp._commands._pairs import NO_FILE, NOT_THE_SAME, Paths, run_for_pairs
 from mpslp._sources import Text
 
 USAGE = "[OPTION].. FIRST SECOND"
@@ -23,7 +23,7 @@ DETAILS = ""
 
 def add(parser: argparse.ArgumentParser) -> None:
     add_files(parser, _options.FILES)
-    add_options(parser, _options.QUIET)
+    add_options(parser, _options.JSON, _options.QUIET)
     add_warnings(parser)
 
 
@@ -36,10 +36,12 @@ class _Same(NamedTuple):
 
     def of_both(self, first: Text, second: Text) -> Outcome:
         is_same = _mpslp.same(first.content, first.format, second.content, second.format)
-        return self._said(Status.DONE, "same") if is_same else self._said(Status.DIFFERS, "not the same")
+        verdict, paths = "same" if is_same else NOT_THE_SAME, Paths(first.filename, second.filename)
+        return self._said(Status.DONE if is_same else Status.DIFFERS, verdict, paths.record(verdict))
 
     def of_one(self, given: Input, is_first: bool) -> Outcome:
-        return self._said(Status.DIFFERS, f"only in {self.options.files[0 if is_first else 1]}")
+        paths = Paths(given.path, NO_FILE) if is_first else Paths(NO_FILE, given.path)
+        return self._said(Status.DIFFERS, f"only in {self.options.files[0 if is_first else 1]}", paths.record(NOT_THE_SAME))
 
-    def _said(self, status: Status, words: str) -> Outcome:
-        return Outcome(status, "" if self.options.quiet else words)
+    def _said(self, status: Status, words: str, record: Record) -> Outcome:
+        return Outcome(status, "" if self.options.quiet else words, record=record)

@@ -6,10 +6,11 @@ import argparse
 import sys
 
 from mpslp._commands import _options
-from mpslp._commands._inputs import STANDARD_INPUT
+from mpslp._commands._inputs import STANDARD_INPUT, Input, text_of
 from mpslp._commands._options import add_files, add_one_of, add_options, flag
-from mpslp._commands._outcomes import Status, UsageError
+from mpslp._commands._outcomes import Status, failure
 from mpslp._commands._progress import Progress
+from mpslp._commands._work import for_outcome
 from mpslp._output import write_all, write_line
 from mpslp._survey import survey_of
 
@@ -24,17 +25,20 @@ model. The exit status is 4 if a file cannot be read. With --from, each file is 
 
 
 def add(parser: argparse.ArgumentParser) -> None:
-    add_files(parser, "a directory or a model file")
+    add_files(parser, _options.FILES)
     add_one_of(parser, _options.JSON, flag("--csv", help="print comma-separated values, a line for each file"))
     add_options(parser, _options.DIALECT, _options.JOBS, _options.QUIET)
 
 
 def run(options: argparse.Namespace) -> Status:
-    if STANDARD_INPUT in options.files:
-        raise UsageError("survey reads files and directories, not standard input")
+    paths = [path for path in options.files if path != STANDARD_INPUT]
+    try:
+        texts = [text_of(Input(STANDARD_INPUT), options)] if STANDARD_INPUT in options.files else []
+    except OSError as error:
+        return for_outcome(options, lambda: failure(STANDARD_INPUT, error))
     try:
         with Progress(0, not options.quiet) as progress:
-            found = survey_of(options.files, options.jobs, progress.set, options.dialect, options.format)
+            found = survey_of(paths, options.jobs, progress.set, options.dialect, options.format, texts)
     except ChildProcessError as error:
         write_line(sys.stderr, str(error))
         return Status.FAILED

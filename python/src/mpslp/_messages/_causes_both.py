@@ -14,6 +14,7 @@ Rule = Callable[[Case], Optional[Found]]
 
 _COMMA = re.compile(r"[+-]?\d*,\d+(?:[eE][+-]?\d+)?", re.ASCII)
 _THOUSANDS = re.compile(r"([+-]?\d{1,3}(?:,\d{3})+)(?:\.(\d*))?", re.ASCII)
+_POINTS_AND_COMMA = re.compile(r"([+-]?\d{1,3}(?:\.\d{3})+),(\d+)", re.ASCII)
 _INFINITY = re.compile(r"([+-]?)(?:inf[a-z]*|oo|1\.?#inf[a-z]*|∞)", re.IGNORECASE)
 _FORTRAN = re.compile(r"([+-]?(?:\d+\.?\d*|\.\d+))[dDqQ]([+-]?\d+)", re.ASCII)
 _NAN = re.compile(r"[+-]?(?:nan.*|-?1\.?#(?:qnan|snan|ind|nan)\w*|n/?a|null|none)", re.IGNORECASE)
@@ -75,6 +76,8 @@ def comma_in(word: str) -> Optional[Found]:
         if thousands[2] is not None or thousands[1].count(",") > 1:
             return Found(mend=whole + ("" if thousands[2] is None else f".{thousands[2]}"))
         return Found(f"{word} may be {word.replace(',', '.')} or {whole}")
+    if points := _POINTS_AND_COMMA.fullmatch(word):
+        return Found(mend=f"{points[1].replace('.', '')}.{points[2]}")
     return Found(mend=word.replace(",", ".")) if _COMMA.fullmatch(word) else None
 
 
@@ -89,7 +92,12 @@ def other_number(case: Case) -> Optional[Found]:
 
 
 def nan(case: Case) -> Optional[Found]:
-    return FOUND if _NAN.fullmatch(case.words) else None
+    return FOUND if is_nan(case.words) else None
+
+
+def is_nan(word: str) -> bool:
+    """Whether a word is what a program writes that has no number."""
+    return _NAN.fullmatch(word) is not None
 
 
 def tiny_number(case: Case) -> Optional[Found]:

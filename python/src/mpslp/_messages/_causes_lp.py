@@ -12,7 +12,7 @@ from fractions import Fraction
 from typing import Optional
 
 from mpslp._messages._case import FOUND, Case, Found
-from mpslp._messages._causes_both import Rule, comma_in
+from mpslp._messages._causes_both import Rule, comma_in, is_nan
 from mpslp._messages._lines import line_at
 from mpslp._messages._lp_rows import first_duplicate
 from mpslp._messages._lp_sums import decimal_text, solved_row
@@ -29,6 +29,8 @@ _OTHER_KEYWORDS = {
 _SECOND_WORDS = {"subject": "to", "such": "that"}
 _FLIPPED = {"<": ">", ">": "<", "<=": ">=", "=<": ">=", ">=": "<=", "=>": "<=", "=": "="}
 _MPS = re.compile(rb"(?:\*[^\n]*\n|\s)*(?:NAME|ROWS|OBJSENSE|OBJNAME)\b")
+_MARK = re.compile(r"[%$#&!?]+")
+_DIVISOR = re.compile(r"/(\d+(?:\.\d*)?)", re.ASCII)
 _BRACKETS = re.compile(r"([A-Za-z_][\w.]*)\s*((?:\[[^\[\]^*]*\])+)", re.ASCII)
 _MOST_AFTER = 10_000
 
@@ -146,6 +148,58 @@ def decimal_comma(case: Case) -> Optional[Found]:
     return None
 
 
+def fraction(case: Case) -> Optional[Found]:
+    """A number, and beside it a slash and a number, which are a name."""
+    near = _back_from(case)
+    for second, first in zip(near, near[1:]):
+        divisor = _DIVISOR.fullmatch(second.text)
+        if divisor is not None and first.is_number and (first.line, first.end) == (second.line, second.start) and Fraction(divisor[1]):
+            value = decimal_text(Fraction(first.text) / Fraction(divisor[1]))
+            return Found(mend=value or "", marks=(case.mark_of_tokens([first, second]),), moves=True)
+    return None
+
+
+def free_among_rows(case: Case) -> Optional[Found]:
+    """A name and the word free at the start of a line among the rows."""
+    before, token = case.before(), case.token
+    if before is None or token is None or token.word != "free" or not before.is_name or before.line != token.line:
+        return None
+    is_bound = lp_section(case) == "rows" and _starts_line(case, case.token_at - 1)
+    return Found(marks=(case.mark_of_tokens([before, token]),), moves=True) if is_bound else None
+
+
+def nan_on_the_right(case: Case) -> Optional[Found]:
+    """After a relation, what a program writes that has no number."""
+    return FOUND if case.token is not None and is_nan(case.token.text) and _follows_relation(case) else None
+
+
+def mark_after_number(case: Case) -> Optional[Found]:
+    """After a number on the right, and beside it, a mark such as %, and nothing more in the line."""
+    found = _right_of_relation(case)
+    if found is None:
+        return None
+    first, rest = found
+    is_mark = len(rest) == 1 and _MARK.fullmatch(rest[0].text) is not None and rest[0].start == first[-1].end
+    return Found(marks=(case.mark_of_tokens([*first, *rest]),), moves=True) if is_mark and not _has_more(case, rest[0]) else None
+
+
+def _has_more(case: Case, token: Token) -> bool:
+    """Whether anything comes after a token in its line."""
+    return any(each.line == token.line and each.start > token.start for each in case.tokens)
+
+
+def row_without_terms(case: Case) -> Optional[Found]:
+    """A relation right after a label, or after the keyword that opens the rows."""
+    before, token = case.before(), case.token
+    return FOUND if before is not None and token is not None and token.is_relation and before.text == ":" and lp_section(case) == "rows" else None
+
+
+def no_label(case: Case) -> Optional[Found]:
+    """A colon at the start of a line, without a name before it."""
+    is_first = case.token is not None and case.token.text == ":" and _starts_line(case, case.token_at)
+    return FOUND if is_first and lp_section(case) in ("", "rows") else None
+
+
 def punctuation_after_row(case: Case) -> Optional[Found]:
     near = _back_from(case)
     for token, before in zip(near, near[1:]):
@@ -179,7 +233,10 @@ def missing_number(case: Case) -> Optional[Found]:
     token = case.token
     if token is None or not _follows_relation(case):
         return None
-    return FOUND if token.is_section or _starts_row(case) else None
+    if not token.is_section and not _starts_row(case):
+        return None
+    mark = case.mark_of_tokens([each for each in case.tokens[: case.token_at] if each.is_relation][-1:])
+    return Found(marks=(mark._replace(start=mark.end + 1, end=mark.end + 2),))
 
 
 def _starts_row(case: Case) -> bool:
@@ -449,8 +506,8 @@ def _signed(tokens: Sequence[Token]) -> Fraction:
 
 
 RULES: tuple[Rule, ...] = (
-    mps_as_lp, lp_solve_statements, lp_solve_comment, colon_after_keyword, other_relation, other_comment, lazy_constraints, decimal_comma,
-    punctuation_after_row, other_keyword, no_sense, no_subject_to, digit_first, space_in_label, row_in_bounds, sum_on_the_right,
-    missing_number, second_relation, terms_on_the_right, number_on_the_left, row_without_relation, coefficient_in_bounds, no_sign,
-    brackets_in_name, product, automatic_name,
+    mps_as_lp, lp_solve_statements, lp_solve_comment, no_label, colon_after_keyword, other_relation, other_comment, lazy_constraints,
+    decimal_comma, fraction, punctuation_after_row, other_keyword, no_sense, row_without_terms, no_subject_to, digit_first, space_in_label,
+    row_in_bounds, sum_on_the_right, missing_number, second_relation, nan_on_the_right, mark_after_number, terms_on_the_right,
+    number_on_the_left, free_among_rows, row_without_relation, coefficient_in_bounds, no_sign, brackets_in_name, product, automatic_name,
 )  # fmt: skip

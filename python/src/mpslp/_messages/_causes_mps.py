@@ -69,6 +69,15 @@ def name_as_number(case: Case) -> Optional[Found]:
 # ---- fields
 
 
+def several_pairs(case: Case) -> Optional[Found]:
+    """More than two pairs of a row and a number."""
+    if case.section not in ("COLUMNS", "RHS", "RANGES") or len(case.fields) < 6:
+        return None
+    texts = [field.text for field in case.fields[1 if case.section == "COLUMNS" else len(case.fields) % 2 :]]
+    are_pairs = len(texts) % 2 == 0 and all(name in case.rows and is_number(number) for name, number in zip(texts[::2], texts[1::2]))
+    return Found(f"it has {len(texts) // 2}") if are_pairs else None
+
+
 def missing_field(case: Case) -> Optional[Found]:
     count, section = len(case.fields), case.section
     last = case.fields[-1].text
@@ -218,8 +227,13 @@ def lower_case_keyword(case: Case) -> Optional[Found]:
 def misspelt_keyword(case: Case) -> Optional[Found]:
     if len(case.fields) > 2:
         return None
-    found = nearest(case.field.upper(), _KEYWORDS)
+    found = "ENDATA" if case.field.upper() == "END" else nearest(case.field.upper(), _KEYWORDS)
     return None if found is None else Found(mend=found)
+
+
+def sense_without_objsense(case: Case) -> Optional[Found]:
+    """The first field is a sense, in the first column."""
+    return FOUND if case.is_header and case.field.upper() in _SENSES else None
 
 
 def data_in_first_column(case: Case) -> Optional[Found]:
@@ -235,7 +249,7 @@ def data_in_first_column(case: Case) -> Optional[Found]:
 
 
 RULES: tuple[Rule, ...] = (
-    lp_as_mps, unquoted_marker, shifted_fields, name_as_number, missing_field, number_after_column, set_left_out, objname, misspelt_column,
+    lp_as_mps, sense_without_objsense, unquoted_marker, several_pairs, shifted_fields, name_as_number, missing_field, number_after_column, set_left_out, objname, misspelt_column,
     misspelt_marker, sense_word, late_objsense, objsense_without_word, data_before_header, mps_order, lower_case_keyword,
     data_in_first_column, misspelt_keyword,
 )  # fmt: skip

@@ -1,4 +1,4 @@
-"""What other programs may read otherwise in a file that is accepted."""
+"""What other programs may read differently in a file that is accepted."""
 
 from mpslp._portable._call import KINDS, portability, remarks_of
 from mpslp._portable._remarks import AGREED, PROGRAMS, Remark, grouped

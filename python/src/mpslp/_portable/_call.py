@@ -15,10 +15,10 @@ KINDS = tuple(dict.fromkeys([*_mps_rules.RULES, *_lp_rules.RULES]))
 
 
 def portability(source: Source, format: Optional[Format] = None, *, target: Optional[Program] = None) -> tuple[Remark, ...]:
-    """Returns what other programs may read otherwise in a text that this package accepts, in the order of lines.
+    """Returns what other programs may read differently in a text that this package accepts, in the order of lines.
 
     The format may be left out for a path that ends in ``.mps`` or ``.lp``. With a target, only what this program was found to
-    read otherwise, or to reject, is returned.
+    read differently, or to reject, is returned.
 
     Raises ModelFileError where the text declares no model, and ValueError for an unknown target.
 

@@ -1,4 +1,4 @@
-"""What other programs may read otherwise in an LP file: a function for each kind."""
+"""What other programs may read differently in an LP file: a function for each kind."""
 
 from __future__ import annotations
 

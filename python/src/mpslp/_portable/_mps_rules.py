@@ -1,4 +1,4 @@
-"""What other programs may read otherwise in an MPS file: a function for each kind."""
+"""What other programs may read differently in an MPS file: a function for each kind."""
 
 from __future__ import annotations
 

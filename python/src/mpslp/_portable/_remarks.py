@@ -19,7 +19,7 @@ AGREED = frozenset(("name-like-arithmetic", "range-on-equation", "upper-zero"))
 
 @dataclass(frozen=True, order=True)
 class Remark:
-    """A line of an accepted file that other programs may read otherwise.
+    """A line of an accepted file that other programs may read differently.
 
     As text it is what ``mpslp-tools check --portable`` prints after the path.
     """
