@@ -97,6 +97,11 @@ def framed(row, cell):
     return MPS.format(**values).encode("latin-1")
 
 
+def said(row):
+    """What adapt says of an example that it leaves or notes."""
+    return unescaped(row["after"]).strip().encode("latin-1").decode("utf-8")
+
+
 def differences(row, program):
     """What is wrong with the adapted text of an example."""
     before = framed(row, row["before"])
@@ -105,14 +110,14 @@ def differences(row, program):
     except AdaptError as error:
         if row["kind"] != "stop":
             yield f"left: {error}"
-        elif unescaped(row["after"]).strip().encode("latin-1").decode("utf-8") not in str(error):
+        elif said(row) not in str(error):
             yield f"left for another reason: {error}"
         return
     if row["kind"] == "stop":
         yield f"adapted, with {len(done.changes)} changes"
         return
     if row["kind"] == "note":
-        if not any(unescaped(row["after"]) in str(note) for note in done.notes):
+        if not any(said(row) in str(note) for note in done.notes):
             yield f"other notes: {[str(note) for note in done.notes]}"
         return
     if done.text != framed(row, row["after"]):

@@ -116,20 +116,20 @@ class Log:
 
 def readable(text: str) -> str:
     """Text in latin-1, a character for each byte, as people read it: a terminal gets no control characters of a file."""
-    return "".join(char if char.isprintable() else _escaped(char) for char in _decoded(text))
+    return _printable(_decoded(text))
 
 
 def _decoded(text: str) -> str:
     return text.encode("latin-1", "backslashreplace").decode("utf-8", "backslashreplace")
 
 
-def _escaped(char: str) -> str:
-    return char.encode("unicode_escape").decode("ascii")
+def _printable(text: str) -> str:
+    return "".join(char if char.isprintable() else char.encode("unicode_escape").decode("ascii") for char in text)
 
 
 def shown(text: str) -> str:
     """Text in latin-1, as people read it: on one line, and short."""
-    text = readable(" ".join(_decoded(text).split()))
+    text = _printable(" ".join(_decoded(text).split()))
     return text if len(text) <= _MOST_SHOWN else f"{text[:_MOST_SHOWN]}.."
 
 
