@@ -110,6 +110,10 @@ class CraftedForAdapt(unittest.TestCase):
                 mpslp.adapt(text.encode(), format)
             self.assertIn(reason, str(caught.exception))
 
+    def test_word_that_is_cut_off(self):
+        with self.assertRaisesRegex(mpslp.AdaptError, "the file ends within the word semi-continuous"):
+            mpslp.adapt(f"{LP_HEAD} x + 1 >= 2\nsemi-".encode(), "lp")
+
     def test_digits_that_are_infinite(self):
         digits = "1" * 5000
         self.assertIn(b"RHS LIM 1e30\n", mpslp.adapt(mps("RHS", f" RHS LIM {digits}").encode(), "mps").text)

@@ -95,6 +95,8 @@ class Reader:
             third = self.tokens.all[min(at + 2, len(self.tokens.all) - 1)]
             if third.text.lower() == "integer":
                 raise self.error("semi-integer columns: mpslp has integer and semi-continuous ones", token)
+            if third.kind == "end":
+                raise self.error("the file ends within the word semi-continuous", token)
             return "semis", 3
         return SECTIONS[word], 1
 
