@@ -1,7 +1,7 @@
 """The modules of the Python package that need no library, for scripts that run without the wheel.
 
 If the package is installed, it is that one; else the sources of this repository, or those in the directory
-MPSLP_SOURCES, with a stand-in for the library, which runs the program mpslp. What the program said of a text is kept, for
+MPSLP_SOURCES, with the program mpslp in place of the library. What the program said of a text is kept, for
 other scripts, too, if there is a file MPSLP_ANSWERS.
 """
 

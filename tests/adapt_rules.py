@@ -153,17 +153,33 @@ def is_read(program, format, text):
     return done.returncode == 0
 
 
-def check(program, format="all"):
-    found, tried = [], rows()
-    for number, row in enumerate(tried, 2):
-        if format not in ("all", row["format"]):
-            continue
+def wrong_rows(table, tried, differences_of):
+    """What is wrong with the examples of a table, each after its place."""
+    for number, row in tried:
         try:
-            reported = list(differences(row, program))
+            reported = list(differences_of(row))
         except Exception as error:  # a rule that is wrong may fail in any way
             reported = [f"{type(error).__name__}: {error}"]
-        found += [f"docs/adapt.tsv:{number}: {row['kind']}: {each}" for each in reported]
-    return found, len(tried)
+        yield from (f"docs/{table.name}:{number}: {row['kind']}: {each}" for each in reported)
+
+
+def numbered(tried):
+    """The rows of a table with their lines."""
+    return list(enumerate(tried, 2))
+
+
+def check(program, format="all"):
+    tried = rows()
+    chosen = [(number, row) for number, row in numbered(tried) if format in ("all", row["format"])]
+    return list(wrong_rows(TABLE, chosen, lambda row: differences(row, program))), len(tried)
+
+
+def check_of_kinds(table, kinds, differences_of):
+    """What is wrong with the examples of a table that has one for each of these kinds at least, and how many there are."""
+    tried = rows(table)
+    found = list(wrong_rows(table, numbered(tried), differences_of))
+    missing = sorted(set(kinds) ^ {row["kind"] for row in tried})
+    return found + [f"docs/{table.name}: {kind} has no example, or no rule" for kind in missing], len(tried)
 
 
 def missing_in_page(table, line_of, path=PAGE):

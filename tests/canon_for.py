@@ -10,7 +10,7 @@ import subprocess
 import sys
 from pathlib import Path
 
-import adapt_package  # noqa: F401 the package, or its sources with a stand-in for the library
+import adapt_package  # noqa: F401 the package, or its sources over the program in place of the library
 from mpslp._solver_texts import SOLVERS, SolverError, solver_text
 
 

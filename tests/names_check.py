@@ -56,7 +56,7 @@ PATH = re.compile(rf"(?:[\w.-]+/)*[\w.-]+{ENDING}|(?:[\w.-]+/)+|(?:crates|src|sp
 # Where a path may begin, besides the top and the directory of the page.
 STARTS = ("crates", "crates/*", "crates/*/src", "crates/*/src/*", "crates/*/specs", "crates/*/proofs", "include", "tests", "scripts",
           "bench", "docs", "python", "python/src/mpslp", "python/src/mpslp/*", "vectors")
-# Words that stand for a name of the reader's choice.
+# Words in place of which readers write a name.
 PLACEHOLDER = re.compile(r"\b(?:FILE|NAME|CRATE)\b")
 # What a build makes.
 BUILT = ("build/", "out/", "bench/data/", "crates/mpslp/out/", "crates/try_library/out/")
@@ -182,7 +182,7 @@ def missing_names(page: str, text: str) -> Iterator[Missing]:
                 yield Missing(page, number, name, f"no such name in {path}")
 
 
-# The short names of crates in the tables, each with the crates whose specs/ it stands for.
+# The short names of crates in the tables, each with the crates whose specs/ it means.
 SHORT = {
     "types": ("mpslp_types",),
     "decimal": ("mpslp_decimal",),

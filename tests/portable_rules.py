@@ -18,7 +18,7 @@ examples have to find each.
 import sys
 
 from adapt_package import KINDS, remarks_of
-from adapt_rules import ROOT, arguments, conclude, framed, is_read, rows, shown, unescaped, wrong_rules
+from adapt_rules import ROOT, arguments, check_of_kinds, conclude, framed, is_read, rows, shown, unescaped, wrong_rules
 
 TABLE = ROOT / "docs" / "portable.tsv"
 WRONG = ROOT / "tests" / "portable_wrong.tsv"
@@ -49,15 +49,7 @@ def differences(row, program):
 
 
 def check(program):
-    found, tried = [], rows(TABLE)
-    for number, row in enumerate(tried, 2):
-        try:
-            differing = list(differences(row, program))
-        except Exception as error:  # a rule that is wrong may fail in any way
-            differing = [f"{type(error).__name__}: {error}"]
-        found += [f"docs/portable.tsv:{number}: {row['kind']}: {each}" for each in differing]
-    missing = set(KINDS) ^ {row["kind"] for row in tried}
-    return found + [f"docs/portable.tsv: {kind} has no example, or no rule" for kind in sorted(missing)], len(tried)
+    return check_of_kinds(TABLE, KINDS, lambda row: differences(row, program))
 
 
 def table_line(row):

@@ -29,7 +29,7 @@ from dataclasses import dataclass
 from fractions import Fraction
 from pathlib import Path
 
-import adapt_package  # noqa: F401 the package, or its sources with a stand-in for the library
+import adapt_package  # noqa: F401 the package, or its sources over the program in place of the library
 import compare_readers as readers
 import independent_reader
 import models

@@ -4,8 +4,8 @@
 The models are the examples, with the optima of examples/README.md, and small ones
 of solver_models.py that have one feature each. Each solver gets the canonical text
 directly, and then by the recipe of docs/SOLVERS.md: the shell block after the
-comment <!-- solver: NAME FORMAT -->, which reads model.mps. It uses mpslp-tools, for
-which canon_for.py stands in. A recipe that ends with status 2 rejects the model.
+comment <!-- solver: NAME FORMAT -->, which reads model.mps. It uses mpslp-tools,
+in whose place canon_for.py runs. A recipe that ends with status 2 rejects the model.
 
 The tables of that page, each after a comment <!-- optima: FORMAT -->, state the
 results, and the table after <!-- exports --> what became of the models that a

@@ -13,7 +13,7 @@ With --wrong the rules are made wrong one by one, as warnings_wrong.tsv says: th
 import sys
 
 from adapt_package import WARNING_KINDS, warnings_in
-from adapt_rules import ROOT, arguments, conclude, framed, is_read, rows, shown, unescaped, wrong_rules
+from adapt_rules import ROOT, arguments, check_of_kinds, conclude, framed, is_read, rows, shown, unescaped, wrong_rules
 
 TABLE = ROOT / "docs" / "warnings.tsv"
 PAGE = ROOT / "docs" / "ERRORS.md"
@@ -38,15 +38,7 @@ def differences(row, program):
 
 
 def check(program):
-    found, tried = [], rows(TABLE)
-    for number, row in enumerate(tried, 2):
-        try:
-            differing = list(differences(row, program))
-        except Exception as error:  # a rule that is wrong may fail in any way
-            differing = [f"{type(error).__name__}: {error}"]
-        found += [f"docs/warnings.tsv:{number}: {row['kind']}: {each}" for each in differing]
-    missing = set(WARNING_KINDS) ^ {row["kind"] for row in tried}
-    return found + [f"docs/warnings.tsv: {kind} has no example, or no rule" for kind in sorted(missing)], len(tried)
+    return check_of_kinds(TABLE, WARNING_KINDS, lambda row: differences(row, program))
 
 
 def table_line(row):

@@ -18,7 +18,7 @@ _MPS_ROW = re.compile(rb"\n[ \t]+\S+[ \t]+(\S+)")
 _MPS_COLUMN = re.compile(rb"\n[ \t]+(\S+)[ \t]+(?!'MARKER'[ \t])\S[^\n]*(?:\n[ \t]+\1[ \t]+(?!'MARKER'[ \t])[^\n]*)*")
 
 # A number, which has no name in it, or a word with the colon that makes it a label.
-_LP_TOKEN = re.compile(r"(?:\d+\.?\d*|\.\d+)(?:[eE][+-]?\d+)?|([A-Za-z!\"#$%&()/,;?@_'`{}|~][\w!\"#$%&()/,.;?@'`{}|~]*)(\s*:)?", re.ASCII)
+_LP_TOKEN = re.compile(r"(?:\d+(?:\.\d*)?|\.\d+)(?:[eE][+-]?\d+)?|([A-Za-z!\"#$%&()/,;?@_'`{}|~][\w!\"#$%&()/,.;?@'`{}|~]*)(\s*:)?", re.ASCII)
 _LP_COMMENT = re.compile(r"\\.*")
 
 # The second words of keywords, which may also be names.

@@ -42,7 +42,7 @@ class Parser(argparse.ArgumentParser):
 
 
 class CommandParser(Parser):
-    """The parser of a command: options may stand between its files."""
+    """The parser of a command: options may come between its files."""
 
     _is_within = False
 

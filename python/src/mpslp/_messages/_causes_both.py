@@ -16,7 +16,7 @@ _COMMA = re.compile(r"[+-]?\d*,\d+(?:[eE][+-]?\d+)?", re.ASCII)
 _THOUSANDS = re.compile(r"([+-]?\d{1,3}(?:,\d{3})+)(?:\.(\d*))?", re.ASCII)
 _POINTS_AND_COMMA = re.compile(r"([+-]?\d{1,3}(?:\.\d{3})+),(\d+)", re.ASCII)
 _INFINITY = re.compile(r"([+-]?)(?:inf[a-z]*|oo|1\.?#inf[a-z]*|∞)", re.IGNORECASE)
-_FORTRAN = re.compile(r"([+-]?(?:\d+\.?\d*|\.\d+))[dDqQ]([+-]?\d+)", re.ASCII)
+_FORTRAN = re.compile(r"([+-]?(?:\d+(?:\.\d*)?|\.\d+))[dDqQ]([+-]?\d+)", re.ASCII)
 _NAN = re.compile(r"[+-]?(?:nan.*|-?1\.?#(?:qnan|snan|ind|nan)\w*|n/?a|null|none)", re.IGNORECASE)
 
 

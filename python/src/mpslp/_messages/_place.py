@@ -38,7 +38,7 @@ NUMBER_KINDS = frozenset(("BadNumber", "LongNumber", "TooManyDigits", "ExponentR
 _PAIRS = frozenset(("UnknownRow", "DuplicateEntry", "DuplicateRhs", "DuplicateRange", "RangeOnFree", "InfiniteValue"))
 UNVALUED = ("FR", "MI", "PL", "BV")
 """The types of bounds without a number."""
-NUMBER = re.compile(r"[+-]?(?:\d+\.?\d*|\.\d+)(?:[eE][+-]?\d+)?", re.ASCII)
+NUMBER = re.compile(r"[+-]?(?:\d+(?:\.\d*)?|\.\d+)(?:[eE][+-]?\d+)?", re.ASCII)
 
 _NO_NAMES_IN_BOUNDS = {"free", "inf", "infinity"}
 _HEADER = re.compile(rb"\n[^*\s][^\n]*")

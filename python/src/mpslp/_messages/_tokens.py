@@ -6,7 +6,7 @@ import re
 from typing import NamedTuple
 
 _NAME = r"[A-Za-z!\"#$%&()/,;?@_'`{}|~][\w!\"#$%&()/,.;?@'`{}|~]*"
-_TOKEN = re.compile(rb"\\[^\n]*|(?:\d+\.?\d*|\.\d+)(?:[eE][+-]?\d+)?|" + _NAME.encode() + rb"|<=|=<|>=|=>|::|->|\S")
+_TOKEN = re.compile(rb"\\[^\n]*|(?:\d+(?:\.\d*)?|\.\d+)(?:[eE][+-]?\d+)?|" + _NAME.encode() + rb"|<=|=<|>=|=>|::|->|\S")
 NAME = re.compile(r"[A-Za-z!\"#$%&()/,;?@_'`{}|~]")
 """The start of a name or a reserved word."""
 RELATIONS = frozenset(("<", ">", "=", "<=", "=<", ">=", "=>"))

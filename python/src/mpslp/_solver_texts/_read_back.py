@@ -111,7 +111,7 @@ def _mps_bound(said: Said, fields: list[str]) -> None:
 # ---- LP
 
 _TOKEN = re.compile(r"\S+")
-_NUMBER = re.compile(r"[-+]?(?:\d+\.?\d*|\.\d+)(?:[eE][-+]?\d+)?")
+_NUMBER = re.compile(r"[-+]?(?:\d+(?:\.\d*)?|\.\d+)(?:[eE][-+]?\d+)?")
 _KEYWORDS = {"Minimize": "", "Maximize": "", "Subject To": "rows", "Bounds": "bounds", "Generals": "integer", "Semi-Continuous": "semi-continuous", "End": "end"}
 
 
@@ -294,7 +294,7 @@ def _with_own_names(text: Said, names: Mapping[str, str]) -> Said:
 
 
 def _take_away(text: Said, added: Added) -> Iterator[str]:
-    """Takes from what a text says what was added; each is given as what it stands for."""
+    """Takes from what a text says what was added; each is given with what it means."""
     if added.row is not None and text.limits.pop(added.row, None) is None:
         yield "the row that was added"
     for row, column in added.values.items():
