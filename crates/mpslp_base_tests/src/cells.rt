@@ -25,6 +25,23 @@ fn presence(cells: &Cells) -> ([bool; 3], [bool; 2]) {
 }
 
 #[test]
+fn keeps_few_coefficients(rt: HostRuntime) -> Result<(), Fail> {
+    assert_eq!(rt;
+        presence(&of_rows(rt.alloc(), &[])?),
+        ([false; 3], [false; 2])
+    );
+    assert_eq!(rt;
+        presence(&of_rows(rt.alloc(), &[7])?),
+        ([false, true, false], [false; 2])
+    );
+    assert_eq!(rt;
+        presence(&of_rows(rt.alloc(), &[9, 3])?),
+        ([true, false, true], [false; 2])
+    );
+    Ok(())
+}
+
+#[test]
 fn keeps_coefficients_in_any_order(rt: HostRuntime) -> Result<(), Fail> {
     let present = presence(&of_rows(rt.alloc(), &[7, 3, 9])?);
     assert_eq!(rt; present, ([true; 3], [false; 2]));

@@ -6,4 +6,5 @@ pub mod DeclaredBounds
 -- ---- what only the code cites
 pub mod StoredBounds
 pub mod FarCells
+pub mod Cells
 pub mod RowForm

@@ -1,70 +1,84 @@
 //! The coefficients of a column by row number.
 
-ghost use Rattle.std.specs.Prelude.{◌≡◌, ◌<◌, ℕ, [], IfOk, OnOk, OnErr, None, is_some, length, slice_index};
+ghost use Rattle.std.specs.Prelude.{◌≡◌, ◌<◌, ℕ, [], ◌∷◌, IfOk, OnOk, OnErr, None, is_some, length, slice_index};
 ghost use Rattle.std.specs.List.{All};
 ghost use Rattle.std.specs.Ordering.{nat_cmp};
 ghost use Rattle.std.specs.FinMap.{find, put};
 ghost use Rattle.mpslp_model_core.specs.Numbered.{moved_cells};
+ghost use Rattle.mpslp_builder_parts.specs.Cells.{cells_in, AreApart, AreThoseOf};
 
-use crate::far_cells::FarCells;
+use crate::many_cells::ManyCells;
 use crate::moving::{in_order_of_numbers, renumbered, without_zeros};
 use mpslp_decimal::{Decimal, PackedDecimal};
-use mpslp_maps::SortedMap;
 use std::alloc::{AllocError, Global};
 use std::marker::Model;
 
-/// The length up to which a coefficient is inserted into the middle of the vector.
-const SHORT: usize = 64;
-
 /// The coefficients of a column by row number. Contracts see them in the order of these numbers.
 ///
-/// Coefficients in rising order of rows are appended to a vector; the first few are inserted into it in any order. Any others
-/// go into a tree, so that no order of calls takes quadratic time.
+/// Most columns of many models have one or two. These are in the column itself, so that the next one is put without an allocation,
+/// and without access to other memory.
 #[derive(Debug, Drop)]
 pub struct Cells {
-    near: SortedMap<u32, PackedDecimal>,
-    far: FarCells,
+    alloc: Global,
+    stored: Stored,
 }
 
+/// The coefficients of a column, in the order in which they were put.
+#[derive(Debug, Drop)]
+enum Stored {
+    Empty,
+    One((u32, PackedDecimal)),
+    Two((u32, PackedDecimal), (u32, PackedDecimal)),
+    Many(ManyCells),
+}
+
+const _: () = prove!(size_of::<Cells>() <= 56);
+
 impl Model for Cells {
-    ghost use Rattle.std.specs.Prelude.{ℕ, List, ◌++◌};
-    ghost use Rattle.std.specs.Ordering.{nat_cmp};
+    ghost use Rattle.std.specs.Prelude.{ℕ, List};
     ghost use Rattle.mpslp_decimal.specs.Decimal.{Number};
-    ghost use Rattle.mpslp_model_core.specs.Numbered.{sorted_of, IsOnceBy};
+    ghost use Rattle.mpslp_builder_parts.specs.Cells.{cells_in, AreApart};
 
     ghost Value = { List (ℕ × Number) };
 
-    ghost view = { λ c. sorted_of nat_cmp (c.near ++ c.far) };
+    ghost view = { λ cells. cells_in cells.stored };
 
-    ghost invariant = { λ c. IsOnceBy nat_cmp (c.near ++ c.far) };
+    ghost invariant = { λ cells. AreApart cells.stored };
 }
 
-/// For how many more coefficients a full vector gets room. A column with one or two has no unused room. Others get room for 4, 8,
-/// 12 and 16, since a vector that grows while others do is moved each time; in a long column a third is unused at most.
-fn more_room(len: usize) -> usize {
-    match len {
-        0 | 1 => 1,
-        2..4 => 2,
-        4..16 => 4,
-        _ => len / 2,
-    }
-}
-
-/// Puts a coefficient of a new row into the vector.
-fn put_near(
-    near: &mut SortedMap<u32, PackedDecimal>,
-    row: u32,
-    value: PackedDecimal,
-) -> Result<(), AllocError>
-    requires { find nat_cmp row near.old ≡ None }
-    ensures ok { OnOk result (near.new ≡ put nat_cmp row value near.old) }
-    ensures err { OnErr result (near.new ≡ near.old) }
+/// The coefficients in any order. Those of one column of which there are many are not copied.
+fn entries_of(alloc: Global, stored: Stored) -> Result<Vec<(u32, PackedDecimal)>, AllocError>
+    requires { AreApart stored }
+    ensures { IfOk result (λ entries. AreThoseOf (cells_in stored) entries.items) }
 {
-    let len = near.len();
-    if len == near.capacity() {
-        near.reserve_exact(more_room(len))?;
+    match stored {
+        Stored::Empty => Ok(Vec::new(alloc)),
+        Stored::One(cell) => Ok(vec![in alloc; cell]?),
+        Stored::Two(first, second) => Ok(vec![in alloc; second, first]?),
+        Stored::Many(cells) => cells.into_entries(),
     }
-    near.put(row, value)
+}
+
+/// A copy of a coefficient.
+fn copy_of(cell: &(u32, PackedDecimal)) -> (u32, PackedDecimal)
+    ensures { result ≡ cell.now }
+{
+    (cell.0, PackedDecimal::of(cell.1.value()))
+}
+
+/// Two coefficients of different rows, where there is room for more.
+fn many_of(
+    alloc: Global,
+    first: (u32, PackedDecimal),
+    second: (u32, PackedDecimal),
+) -> Result<ManyCells, AllocError>
+    requires { find nat_cmp second.0 (first ∷ []) ≡ None }
+    ensures { IfOk result (λ many. many ≡ put nat_cmp second.0 second.1 (first ∷ [])) }
+{
+    let mut many = ManyCells::new(alloc);
+    many.put(first.0, first.1)?;
+    many.put(second.0, second.1)?;
+    Ok(many)
 }
 
 impl Cells {
@@ -73,8 +87,8 @@ impl Cells {
         ensures { result ≡ [] }
     {
         Cells {
-            near: SortedMap::new(alloc),
-            far: FarCells::new(alloc),
+            alloc,
+            stored: Stored::Empty,
         }
     }
 
@@ -82,12 +96,12 @@ impl Cells {
     pub fn has(&self, row: u32) -> bool
         ensures { result ≡ is_some (find nat_cmp row self.now) }
     {
-        self.near.has(&row) || self.far.has(row)
-    }
-
-    /// Whether a coefficient of this row goes into the vector.
-    fn is_near(&self, row: u32) -> bool {
-        self.near.len() < SHORT || self.near.ends_below(&row)
+        match &self.stored {
+            Stored::Empty => false,
+            Stored::One(cell) => row == cell.0,
+            Stored::Two(first, second) => row == first.0 || row == second.0,
+            Stored::Many(cells) => cells.has(row),
+        }
     }
 
     /// Puts a coefficient. Its row must not have one yet.
@@ -100,10 +114,19 @@ impl Cells {
         ensures ok { OnOk result (self.new ≡ put nat_cmp row value self.old) }
         ensures err { OnErr result (self.new ≡ self.old) }
     {
-        if self.is_near(row) {
-            put_near(&mut self.near, row, PackedDecimal::of(value))?;
-        } else {
-            self.far.put(row, PackedDecimal::of(value))?;
+        let value = PackedDecimal::of(value);
+        match &mut self.stored {
+            Stored::Empty => self.stored = Stored::One((row, value)),
+            Stored::One(cell) => {
+                let first = copy_of(cell);
+                self.stored = Stored::Two(first, (row, value));
+            }
+            Stored::Two(first, second) => {
+                let mut many = many_of(self.alloc, copy_of(first), copy_of(second))?;
+                many.put(row, value)?;
+                self.stored = Stored::Many(many);
+            }
+            Stored::Many(many) => many.put(row, value)?,
         }
         Ok(())
     }
@@ -112,14 +135,14 @@ impl Cells {
     ///
     /// # Errors
     ///
-    /// [`AllocError`] if there is no memory for one vector of all coefficients. Nothing is allocated if they are already in one.
+    /// [`AllocError`] if there is no memory for one vector of all coefficients.
     pub fn into_moved(self, ranks: &[u32]) -> Result<Vec<(u32, PackedDecimal)>, AllocError>
         requires within { All (λ cell. cell.0 < length ranks.now) self }
         requires apart { (n m : ℕ) → n < length ranks.now → m < length ranks.now → slice_index ranks.now n ≡ slice_index ranks.now m → n ≡ m }
         ensures { IfOk result (λ cells. cells.items ≡ moved_cells ranks.now self) }
     {
-        let Cells { near, far } = self;
-        let cells = without_zeros(far.append_to(near.into_entries())?);
+        let Cells { alloc, stored } = self;
+        let cells = without_zeros(entries_of(alloc, stored)?);
         Ok(in_order_of_numbers(renumbered(cells, ranks)))
     }
 }

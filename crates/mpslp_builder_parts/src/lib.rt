@@ -7,6 +7,7 @@
 mod cells;
 mod declared_bounds;
 mod far_cells;
+mod many_cells;
 mod model_rows_and_columns;
 mod moving;
 mod order;

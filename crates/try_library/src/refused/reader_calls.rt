@@ -31,13 +31,15 @@ pub(crate) const READER_CALLS: [(&str, ReaderCall); 5] = [
     ("RowTerms::add", ReaderCall::AddTerms),
 ];
 
-/// The declarations before each call.
+/// The declarations before each call. The column has as many coefficients as it has room for.
 const BEFORE: &str = "\
 objective f
 row r L
 row seventeen.letters G
 row LONG E
-column x";
+column x
+coefficient f x 1
+coefficient seventeen.letters x 2";
 
 /// The names of these declarations that are those of rows or of the objective, and how many they are.
 const ROWS: &str = "f r seventeen.letters LONG";

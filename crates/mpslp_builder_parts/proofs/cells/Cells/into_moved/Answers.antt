@@ -1,4 +1,4 @@
-use Rattle.std.proofs.Common.{◌≡◌, sym, ap, subst, ◌∙◌, ℕ, ◌<◌, List, ◌++◌, length, slice_index, IsPermutation}
+use Rattle.std.proofs.Common.{◌≡◌, sym, ap, subst, ◌∙◌, ℕ, ◌<◌, List, length, slice_index, IsPermutation}
 use Rattle.std.specs.Prelude.{filter}
 use Rattle.std.specs.List.{All}
 use Rattle.std.specs.Cmp.{nat_cmp_total}
@@ -10,22 +10,23 @@ use Rattle.mpslp_builder_parts.proofs.cells.Cells.into_moved.Goals as goal
 
 pub renumbered-requires : goal.renumbered-requires
 renumbered-requires c =
-    let stored = c.self.inside.near ++ c.self.inside.far in
+    let stored = c.in_ok-entries_of.field-0.items in
     let holds : ℕ × Number → Type 0 = λ e. e.0 < length c.args.ranks.now in
-    let joined : c.in_ok-append_to.field-0.items ≡ stored = c.in_ok-append_to.ensures ∙ ap (λ (near : List (ℕ × Number)). near ++ c.self.inside.far) c.into_entries.ensures in
-    let within = each-of_map holds stored c.self.invariant (subst (All holds) (sym c.self.view_is) c.requires.within) in
-    subst (All holds) (sym (c.without_zeros-cells.ensures ∙ ap (filter is_kept) joined)) (all-from_each holds (filter is_kept stored) (each-kept holds stored within))
+    let map_is = c.in_ok-entries_of.ensures.sorted ∙ c.self.view_is in
+    let within = each-of_map holds stored c.in_ok-entries_of.ensures.once (subst (All holds) (sym map_is) c.requires.within) in
+    subst (All holds) (sym c.without_zeros-cells.ensures) (all-from_each holds (filter is_kept stored) (each-kept holds stored within))
 
 pub returns : goal.returns
 returns c =
-    let stored = c.self.inside.near ++ c.self.inside.far in
+    let stored = c.in_ok-entries_of.field-0.items in
     let cells = c.in_order_of_numbers.result.items in
     let holds : ℕ × Number → Type 0 = λ e. e.0 < length c.args.ranks.now in
     let rank : ℕ → ℕ = λ n. slice_index c.args.ranks.now n in
-    let joined : c.in_ok-append_to.field-0.items ≡ stored = c.in_ok-append_to.ensures ∙ ap (λ (near : List (ℕ × Number)). near ++ c.self.inside.far) c.into_entries.ensures in
-    let within = each-of_map holds stored c.self.invariant (subst (All holds) (sym c.self.view_is) c.requires.within) in
-    let kept : c.renumbered.result.items ≡ renamed rank (filter is_kept stored) = c.renumbered.ensures ∙ ap (renamed rank) (c.without_zeros-cells.ensures ∙ ap (filter is_kept) joined) in
-    moved-from_any_order (length c.args.ranks.now) rank c.requires.apart stored cells c.self.invariant within
+    let map_is = c.in_ok-entries_of.ensures.sorted ∙ c.self.view_is in
+    let once = c.in_ok-entries_of.ensures.once in
+    let within = each-of_map holds stored once (subst (All holds) (sym map_is) c.requires.within) in
+    let kept : c.renumbered.result.items ≡ renamed rank (filter is_kept stored) = c.renumbered.ensures ∙ ap (renamed rank) c.without_zeros-cells.ensures in
+    moved-from_any_order (length c.args.ranks.now) rank c.requires.apart stored cells once within
     (subst (λ (es : List (ℕ × Number)). IsPermutation es cells) kept c.in_order_of_numbers.ensures.permutation)
     (never_falls-from_sort nat_cmp_total (λ (e : ℕ × Number). e.0) cells c.in_order_of_numbers.ensures.sorted)
-    ∙ ap (λ (cells : List (ℕ × Number)). moved_cells c.args.ranks.now cells) c.self.view_is
+    ∙ ap (λ (cells : List (ℕ × Number)). moved_cells c.args.ranks.now cells) map_is

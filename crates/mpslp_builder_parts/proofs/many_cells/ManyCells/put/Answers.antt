@@ -1,13 +1,11 @@
-use Rattle.std.proofs.Common.{ap, ◌∙◌, ℕ, List, cond}
-use Rattle.std.specs.Prelude.{Some}
-use Rattle.std.specs.Map.{lookup}
-use Rattle.std.specs.Ordering.{nat_cmp, is_eq}
+use Rattle.std.proofs.Common.{ap, ◌∙◌, ℕ, List}
+use Rattle.std.specs.Ordering.{nat_cmp}
 use Rattle.std.specs.Cmp.{nat_cmp_total}
 use Rattle.std.specs.FinMap.{find, put, nat_cmp-IsAntisymmetric}
 use Rattle.mpslp_decimal.specs.Decimal.{Number}
 use Rattle.mpslp_model_core.proofs.RunLemmas.{absent_first, put_first, put_second}
 use Rattle.mpslp_model_core.proofs.OnceLemmas.{once-from_rising, once-put_first, once-put_second}
-use Rattle.mpslp_builder_parts.proofs.cells.Cells.put.Goals as goal
+use Rattle.mpslp_builder_parts.proofs.many_cells.ManyCells.put.Goals as goal
 
 pub put_near-requires : goal.put_near-requires
 put_near-requires c =
@@ -17,25 +15,25 @@ put_near-requires c =
 pub returns-in_ok-put_near-clause-ok : goal.returns-in_ok-put_near-clause-ok
 returns-in_ok-put_near-clause-ok c =
     put_first nat_cmp nat_cmp_total nat_cmp-IsAntisymmetric c.args.row c.args.value c.self.inside.near c.put_near.new.near c.self.inside.far
-    (c.in_ok-put_near.ensures.ok ∙ ap (λ (v : Number). put nat_cmp c.args.row v c.self.inside.near) c.of.ensures)
+    c.in_ok-put_near.ensures.ok
     ∙ ap (put nat_cmp c.args.row c.args.value) c.self.view_is
 
 pub returns-in_ok-put-clause-ok : goal.returns-in_ok-put-clause-ok
 returns-in_ok-put-clause-ok c =
     put_second nat_cmp nat_cmp_total nat_cmp-IsAntisymmetric c.args.row c.args.value c.self.inside.near c.self.inside.far c.put.new.self
-    (λ q. c.in_ok-put.ensures.ok.found q ∙ ap (λ (v : Number). cond (is_eq (nat_cmp c.args.row q)) (Some v) (lookup (λ x. is_eq (nat_cmp q x)) c.self.inside.far)) c.of-else-is_near.ensures)
+    c.in_ok-put.ensures.ok.found
     (ap (λ (cells : List (ℕ × Number)). find nat_cmp c.args.row cells) c.self.view_is ∙ c.requires)
     ∙ ap (put nat_cmp c.args.row c.args.value) c.self.view_is
 
 pub invariant_of-self : goal.invariant_of-self
 invariant_of-self c =
     once-put_first nat_cmp nat_cmp_total c.args.row c.args.value c.self.inside.near c.put_near.new.near c.self.inside.far
-    (c.in_ok-put_near.ensures.ok ∙ ap (λ (v : Number). put nat_cmp c.args.row v c.self.inside.near) c.of.ensures)
+    c.in_ok-put_near.ensures.ok
     (ap (λ (cells : List (ℕ × Number)). find nat_cmp c.args.row cells) c.self.view_is ∙ c.requires) c.self.invariant
 
 pub invariant_of-self-in-Continue-branch-2 : goal.invariant_of-self-in-Continue-branch-2
 invariant_of-self-in-Continue-branch-2 c =
-    once-put_second nat_cmp nat_cmp_total c.args.row c.of-else-is_near.result c.self.inside.near c.self.inside.far c.put.new.self
+    once-put_second nat_cmp nat_cmp_total c.args.row c.args.value c.self.inside.near c.self.inside.far c.put.new.self
     (once-from_rising nat_cmp c.put.new.self c.in_ok-put.ensures.ok.ordered)
     c.in_ok-put.ensures.ok.found
     (ap (λ (cells : List (ℕ × Number)). find nat_cmp c.args.row cells) c.self.view_is ∙ c.requires) c.self.invariant

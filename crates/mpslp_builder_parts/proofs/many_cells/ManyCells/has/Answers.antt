@@ -5,7 +5,7 @@ use Rattle.std.specs.Cmp.{nat_cmp_total}
 use Rattle.std.specs.FinMap.{find}
 use Rattle.mpslp_decimal.specs.Decimal.{Number}
 use Rattle.mpslp_model_core.proofs.RunLemmas.{has_two, or_left, or_right}
-use Rattle.mpslp_builder_parts.proofs.cells.Cells.has.Goals as goal
+use Rattle.mpslp_builder_parts.proofs.many_cells.ManyCells.has.Goals as goal
 
 pub returns-then-has : goal.returns-then-has
 returns-then-has c =
