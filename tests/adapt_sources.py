@@ -134,7 +134,7 @@ def bases(folder, program):
 
 def is_whole(text):
     """Whether a model in MPS has a column, and its end: a program that takes too long is ended before."""
-    return re.search(rb"^COLUMNS\s+\S+\s+\S+.*^ENDATA", text, re.M | re.S) is not None
+    return all(re.search(pattern, text, re.M) is not None for pattern in (rb"^COLUMNS\s+\S+\s+\S+", rb"^ENDATA"))
 
 
 def common(text):
