@@ -3,9 +3,9 @@
 from __future__ import annotations
 
 import re
-from collections.abc import Callable, Collection, Mapping, Sequence
+from collections.abc import Collection, Mapping, Sequence
 from itertools import pairwise
-from typing import Optional, Union
+from typing import Optional, TypeVar
 
 from mpslp._adapt._changes import AdaptError, OtherLanguage
 from mpslp._adapt._lp_context import Context
@@ -14,6 +14,8 @@ from mpslp._adapt._lp_print import Cell, literal_cells, statement
 from mpslp._adapt._lp_sections import SECTIONS, SECTIONS_OF_OTHERS
 from mpslp._adapt._lp_tokens import Token
 from mpslp._adapt._names import parts_of
+
+Key = TypeVar("Key", int, str)
 
 _SENSES: tuple[list[str], ...] = ([], ["<"], [">"], ["="], ["<", "<"], [">", ">"])
 """The relations of a bound."""
@@ -228,9 +230,13 @@ def gap_in(space: str) -> str:
 
 def first_again(names: Sequence[Token], places: Mapping[str, int]) -> Optional[Token]:
     """Where names that are in the order of the columns, or of the alphabet, start again, if they do so once; None if they are in order."""
-    orders: tuple[Callable[[Token], Union[int, str]], ...] = (lambda name: places[name.text], lambda name: name.text)
-    found = [[after for before, after in pairwise(names) if order(after) < order(before)] for order in orders]
-    return next((restarts[0] for restarts in found if len(restarts) == 1), None) if all(found) else None
+    orders = (restarts([places[name.text] for name in names]), restarts([name.text for name in names]))
+    return next((names[starts[0]] for starts in orders if len(starts) == 1), None) if all(orders) else None
+
+
+def restarts(keys: Sequence[Key]) -> list[int]:
+    """The places of the keys that are less than the one before."""
+    return [at for at, (before, after) in enumerate(pairwise(keys), 1) if after < before]
 
 
 def first_to_note(names: Sequence[Token], others: Collection[str]) -> list[Token]:
