@@ -319,8 +319,37 @@ turns colours off.
 Of several files, the greatest.
 .B survey
 ends with 0 also if files are rejected. If the reader of a pipe ends, the command ends by the signal SIGPIPE, without a message.
+.SH EXAMPLES
+.TP
+Which files of a directory are rejected, or not canonical?
+.B mpslp\-tools check plans
+.TP
+Why is a file rejected, and what is to be done?
+.B mpslp\-tools explain plan.lp
+.TP
+Rewrite what another program wrote, and report each change:
+.B mpslp\-tools adapt \-\-from pulp \-o plan.lp export.lp
+.TP
+How do two models differ?
+.B mpslp\-tools diff plan.mps export.lp
+.TP
+Convert a directory to LP, in the same tree:
+.B mpslp\-tools canon \-t lp \-\-out\-dir converted plans
+.TP
+Format a file, and keep its comments:
+.B mpslp\-tools fmt \-i plan.lp
+.TP
+Show with git diff how models differ:
+.nf
+.B echo \(aq*.lp diff=model\(aq >> .gitattributes
+.B git config diff.model.command \(aqf() { mpslp\-tools diff \(dq$2\(dq \(dq$5\(dq || true; }; f\(aq
+.fi
 .SH "SEE ALSO"
-.BR mpslp (1)
+.BR mpslp (1),
+.BR git (1).
+The documents in
+.IR share/doc/mpslp :
+README.md, python/README.md, and docs with RECIPES.md for git, pre\-commit and CI, ERRORS.md, DIALECTS.md and SOLVERS.md.
 """
 
 

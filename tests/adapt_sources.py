@@ -125,11 +125,16 @@ def bases(folder, program):
             if done.returncode == 0:
                 (folder / f"repository-{path.stem}{path.suffix.replace('.', '-')}.mps").write_bytes(done.stdout)
     for path in folder.iterdir():
-        if not is_written(path) or not re.search(rb"^COLUMNS\s+\S+\s+\S+", path.read_bytes(), re.M):
+        if not is_written(path) or not is_whole(path.read_bytes()):
             path.unlink()
         else:
             path.write_bytes(common(path.read_bytes()))
     return sorted(folder.iterdir())
+
+
+def is_whole(text):
+    """Whether a model in MPS has a column, and its end: a program that takes too long is ended before."""
+    return all(re.search(pattern, text, re.M) is not None for pattern in (rb"^COLUMNS\s+\S+\s+\S+", rb"^ENDATA"))
 
 
 def common(text):

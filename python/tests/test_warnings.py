@@ -152,7 +152,19 @@ class Properties(unittest.TestCase):
             for place in sorted(places, reverse=True):
                 lines = lines[:place] + b"\n" + lines[place:]
             self.assertEqual({each.name for each in LpText(lines).late_names}, late)
-        return {each.kind for each in warnings_in(text, _mpslp.LP)}
+        model, kinds = mpslp.load(text, "lp"), {each.kind for each in warnings_in(text, _mpslp.LP)}
+        odd = {name for name in (model.objective, *model.rows, *model.columns) if name.startswith("(") or name.count("(") != name.count(")")}
+        self.assertEqual("sum-in-parentheses" in kinds, bool(odd), odd)
+        return kinds
+
+    def test_parentheses_and_commas(self):
+        """A line has one warning for all parts of its sums; in a large file only the first part is searched."""
+        text = b"min 3 (x + y)\nst\nc1: 2(x + y) - 4 (x + z)(1) >= 10(y) \\ (a\nc2: x(1) >= 3,5\n+ y,1 + 1,25z <= 4\n\\ 3,5 (x\nend\n(x\n3,5\n"
+        found = [(each.line, each.kind, each.text.partition(" read ")[0]) for each in warnings_in(text, _mpslp.LP)]
+        self.assertEqual(found, [(1, "sum-in-parentheses", "(x and y) are"), (3, "sum-in-parentheses", "(x and y) are"),
+                                 (4, "decimal-comma", "3,5 is"), (5, "decimal-comma", "1,25z is")])
+        with mock.patch.object(_lp, "_BLOCK", text.index(b"c2") + 4):
+            self.assertEqual([each.line for each in warnings_in(text, _mpslp.LP)], [1, 3])
 
     def test_blocks_of_large_files(self):
         """Names are found in whichever block of the rows they are, and as parts of words."""

@@ -3,8 +3,9 @@
 from __future__ import annotations
 
 import re
-from collections.abc import Collection, Sequence
-from typing import Optional
+from collections.abc import Collection, Mapping, Sequence
+from itertools import pairwise
+from typing import Optional, TypeVar
 
 from mpslp._adapt._changes import AdaptError, OtherLanguage
 from mpslp._adapt._lp_context import Context
@@ -14,10 +15,13 @@ from mpslp._adapt._lp_sections import SECTIONS, SECTIONS_OF_OTHERS
 from mpslp._adapt._lp_tokens import Token
 from mpslp._adapt._names import parts_of
 
+Key = TypeVar("Key", int, str)
+
 _SENSES: tuple[list[str], ...] = ([], ["<"], [">"], ["="], ["<", "<"], [">", ">"])
 """The relations of a bound."""
 
 _EMPTY_LINE = re.compile(r"\n[ \t\r]*\n")
+_LINE_OF_COMMENT = re.compile(r"\n[ \t\r]*\\")
 
 _MOST_NOTES = 5
 """Of columns that are named once."""
@@ -34,8 +38,10 @@ class BoundRules:
         self.bounds: dict[str, list[Bound]] = {}
         self.integers: dict[str, Token] = {}
         self.new_columns: list[tuple[Token, str]] = []
-        self.after_gaps: list[Token] = []
-        """Names in lists after an empty line."""
+        self.after_gaps: list[tuple[Token, str]] = []
+        """Names in lists after an empty line or a comment, and which of them."""
+        self.lists: dict[int, list[Token]] = {}
+        """The names under each header, by its place."""
         self.listed: set[tuple[str, str]] = set()
         """The names of each list."""
         self.listed_again: list[Token] = []
@@ -164,8 +170,10 @@ class BoundRules:
         if (name.text, section) in self.listed:
             self.listed_again.append(name)
         self.listed.add((name.text, section))
-        if before is not reader.sections[-1].last and _EMPTY_LINE.search(reader.tokens.text[before.end : name.start]):
-            self.after_gaps.append(name)
+        names = self.lists.setdefault(reader.sections[-1].first.start, [])
+        if names and (gap := gap_in(reader.tokens.text[before.end : name.start])):
+            self.after_gaps.append((name, gap))
+        names.append(name)
         if section == "generals":
             self.integers.setdefault(name.text, name)
         context.settle_name(name)
@@ -182,13 +190,18 @@ class BoundRules:
                                 "or write the section as mpslp has it")  # fmt: skip
 
     def note_gaps(self) -> None:
-        """In a file that is changed, a list that goes on after an empty line, or with a name again, may be another one whose header is lost."""
+        """In a file that is changed, a list that goes on after a gap, or in which names start again, may be another one whose header is lost."""
         if self.listed_again:
             name = self.listed_again[0]
             self.context.log.note(name.line, f"{name.text} is listed again: if this is another list, write its header")
         if self.after_gaps:
-            name = self.after_gaps[0]
-            self.context.log.note(name.line, f"the list goes on with {name.text} after an empty line: if it is another one, write its header")
+            name, gap = self.after_gaps[0]
+            self.context.log.note(name.line, f"the list goes on with {name.text} after {gap}: if it is another one, write its header")
+        places = {name: at for at, name in enumerate(self.context.columns)}
+        for names in self.lists.values():
+            name_again = first_again(names, places)
+            if name_again is not None and name_again not in self.listed_again:
+                self.context.log.note(name_again.line, f"the names start again with {name_again.text}: if this is another list, write its header")
 
     def note_new_columns(self) -> None:
         """A column that is first in Bounds or a list: one note for all."""
@@ -206,6 +219,24 @@ class BoundRules:
             context.log.note(name.line, f"{name.text} is named only here: a column of its own, or another one misspelt")
         if len(lone) > len(shown):
             context.log.note(lone[-1].line, f"{len(lone) - len(shown)} more columns are named only once")
+
+
+def gap_in(space: str) -> str:
+    """What is between two names of a list beside spaces and line ends, or nothing."""
+    if _EMPTY_LINE.search(space) is not None:
+        return "an empty line"
+    return "a comment" if _LINE_OF_COMMENT.search(space) is not None else ""
+
+
+def first_again(names: Sequence[Token], places: Mapping[str, int]) -> Optional[Token]:
+    """Where names that are in the order of the columns, or of the alphabet, start again, if they do so once; None if they are in order."""
+    orders = (restarts([places[name.text] for name in names]), restarts([name.text for name in names]))
+    return next((names[starts[0]] for starts in orders if len(starts) == 1), None) if all(orders) else None
+
+
+def restarts(keys: Sequence[Key]) -> list[int]:
+    """The places of the keys that are less than the one before."""
+    return [at for at, (before, after) in enumerate(pairwise(keys), 1) if after < before]
 
 
 def first_to_note(names: Sequence[Token], others: Collection[str]) -> list[Token]:

@@ -116,6 +116,8 @@ class Reader:
             return False
         if at and before.kind == "sign" and self.starts_line(at) and word in SECTIONS and not self.ends_line(at, after):
             raise self.error("a sign at the end of a line, and a word that opens a section: complete the term", token)
+        if at and before.kind == "sign" and word == "end" and self.dialect != "pulp" and self.tokens.is_last_of_line(token):
+            raise self.error("a sign before the end of the file, or a column of this name: complete the term, or rename the column", token)
         if at and (before.kind == "sign" or self.is_name_of_pulp(at)):
             return word != "free" or before.kind == "sign" or after.kind in ("sign", "relation")
         is_section = word in SECTIONS and SECTIONS[word] not in LISTS
@@ -136,7 +138,7 @@ class Reader:
         third = self.tokens.all[min(at + 2, len(self.tokens.all) - 1)]
         if token.line != third.line:
             return False
-        if token.text.lower() in SECTIONS and self.dialect != "pulp":
+        if token.text.lower() in SECTIONS and (self.dialect != "pulp" or third.kind == "end"):
             raise self.error("a row of this name, or the section: write a section's word on a line of its own, or rename the row", token)
         return True
 
@@ -206,6 +208,7 @@ class Reader:
         elif self.is_infinity():
             item.is_infinite = True
             item.numbers.append(token)
+            self.note_infinity_of_pulp(token)
             self.at += 1
         elif (item.signs or not self.is_label(self.at)) and self.is_name(self.at):
             self.name_item(item)
@@ -282,6 +285,11 @@ class Reader:
     def note_infinite_name(self, name: Token) -> None:
         if name.text.lower() in OTHER_INFINITIES:
             self.unclear.append(AdaptError(name.line, f"{name.text} is a column here, and infinite for others: rename it"))
+
+    def note_infinity_of_pulp(self, token: Token) -> None:
+        """PuLP writes inf for an infinite number, and has columns of the name infinity."""
+        if self.dialect == "pulp" and token.text.lower() == "infinity":
+            self.unclear.append(AdaptError(token.line, f"{token.text} is infinite here, and a name for PuLP: rename the column, or write inf"))
 
     # ---- statements
 
@@ -412,6 +420,7 @@ class Reader:
             item.numbers.append(first)
             item.is_infinite = first.kind == "word" or (second.text.lower() == "#inf" and self.joined_with(first, second))
             self.at += int(first.kind == "number" and item.is_infinite)
+            self.note_infinity_of_pulp(first)
         elif first.kind == "word" and not item.signs and (self.is_name(self.at) or (wants_name and self.last.kind == "relation")):
             # After a number and a relation a word is a name even if it is reserved.
             item.name = first

@@ -82,6 +82,10 @@ class Tokens:
         before = self.all[-2] if len(self.all) > 1 else None
         if before is not None and (before.kind == "sign" or (dialect == "pulp" and before.line == token.line)):
             return False
+        return self.is_last_of_line(token)
+
+    def is_last_of_line(self, token: Token) -> bool:
+        """Whether nothing but a comment comes after a token on its line."""
         return _LINE_END.match(self.text, token.end) is not None
 
     def comments_in(self, start: int, end: int) -> list[str]:

@@ -6,6 +6,7 @@ changed in a line, and _mps_meant what a dialect means beside the text.
 
 from __future__ import annotations
 
+import re
 from collections.abc import Sequence
 from typing import Optional
 
@@ -20,6 +21,7 @@ from mpslp._adapt._mps_reasons import nearest
 from mpslp._adapt._mps_state import KEYWORDS, Row, State
 from mpslp._adapt._mps_trailing import Place, reason_to_keep
 
+_LONE_RETURN = re.compile(r"\r(?!\n)")
 _SENSES = {"MAX": "MAX", "MAXIMIZE": "MAX", "MAXIMISE": "MAX", "MAXIMUM": "MAX",
            "MIN": "MIN", "MINIMIZE": "MIN", "MINIMISE": "MIN", "MINIMUM": "MIN"}  # fmt: skip
 _LEGAL_SENSES = ("MAX", "MAXIMIZE", "MIN", "MINIMIZE")
@@ -43,6 +45,7 @@ _NOT_SUPPORTED = {
 def adapt_mps(text: str, dialect: Optional[str], log: Log) -> tuple[str, dict[str, str]]:
     """The text that mpslp reads, and the names written instead of names given."""
     habits, before = mps_dialect(dialect), list(log.changes)
+    require_line_ends(text)
     reader = Reader(lines_of(text), habits, log)
     try:
         return reader.read(), reader.state.names.written
@@ -59,6 +62,27 @@ def adapt_mps(text: str, dialect: Optional[str], log: Log) -> tuple[str, dict[st
             raise error from None
         log.changes[:], log.notes[:], log.source_lines = before + again.changes, again.notes, again.source_lines
         return adapted, {**fixed.names_of(again), **reader.state.names.written}
+
+
+def require_line_ends(text: str) -> None:
+    """A carriage return before the end of the model ends its line together with a line feed: it is no part of a field."""
+    if _LONE_RETURN.search(text) is None:
+        return
+    for line in lines_of(text):
+        if "\r" in line.source and not line.is_comment():
+            raise AdaptError(line.number, "a carriage return without a line feed after it: write each line end as LF, or as CRLF")
+        if is_end(line):
+            return
+
+
+def is_end(line: Line) -> bool:
+    """Whether a line is the header ENDATA, after which nothing is read."""
+    return not (line.is_data() or line.is_empty()) and keyword_of(line) == "ENDATA"
+
+
+def keyword_of(header: Line) -> str:
+    """The keyword of a header; some programs write a colon after it."""
+    return header.fields()[0].rstrip(":").upper()
 
 
 class Reader:
@@ -114,7 +138,7 @@ class Reader:
     def header(self, line: Line) -> str:
         """The keyword of a header, which opens its section; or nothing for a data line that is not indented."""
         fields = line.fields()
-        keyword = fields[0].rstrip(":").upper()
+        keyword = keyword_of(line)
         if self.is_not_indented(keyword, fields):
             before = line.text
             line.indent()

@@ -15,6 +15,21 @@ _NAME = re.compile(f"[A-Za-z{SYMBOLS}][A-Za-z0-9.{SYMBOLS}]*".encode())
 _NUMBER = re.compile(f"(?<![A-Za-z0-9.{SYMBOLS}])(?:[0-9]+\\.?[0-9]*|\\.[0-9]+)(?:[eE][+-]?[0-9]+)?".encode())
 _LABEL = re.compile(f"(?<![A-Za-z0-9.{SYMBOLS}])[A-Za-z{SYMBOLS}][A-Za-z0-9.{SYMBOLS}]*[ \t\r\n]*:".encode())
 _COMMENT = re.compile(rb"\\[^\n]*")
+_PARENTHESES = "()"
+_LETTERS = f"A-Za-z0-9.{SYMBOLS}"
+_INNER_LETTERS = _LETTERS.replace(_PARENTHESES, "")
+_MOST_DIGITS = 8
+
+
+def _after_number(sign: str, fewest: int) -> str:
+    """A pattern for what comes before a sign that starts a name: a number with some digits at least, or with none at all."""
+    return "|".join(f"(?<=[^{_LETTERS}][0-9.]{{{digits}}}{sign})" for digits in range(fewest, _MOST_DIGITS + 1))
+
+
+ODD_PARENTHESIS = re.compile(rf"\((?:{_after_number(re.escape('('), 0)}|[{_INNER_LETTERS}]*[^){_INNER_LETTERS}])".encode())
+"""A parenthesis that starts a name, or is not closed in it. It is searched for by its first byte, which is fast."""
+DECIMAL_COMMA = re.compile(rf",(?:{_after_number(',', 1)})(?=[0-9])".encode())
+"""A comma after a number and before a digit."""
 _LISTS = {
     **dict.fromkeys((b"general", b"generals", b"gen", b"integer", b"integers", b"int"), "Generals"),
     **dict.fromkeys((b"binary", b"binaries", b"bin"), "Binaries"),
@@ -73,6 +88,17 @@ class LpText:
     @property
     def comments(self) -> Iterator[re.Match[bytes]]:
         return _COMMENT.finditer(self.content, 0, self.end)
+
+    def lines_with(self, pattern: re.Pattern[bytes]) -> Iterator[list[re.Match[bytes]]]:
+        """The tokens of the lines that have a pattern, in the first part of the file."""
+        most = self.end if self.end <= _BLOCK else self.content.rfind(b"\n", 0, _BLOCK)
+        found = pattern.search(self.content, 0, most)
+        while found is not None:
+            start = self.content.rfind(b"\n", 0, found.start()) + 1
+            line_end = self.content.find(b"\n", found.start(), most)
+            end = most if line_end < 0 else line_end
+            yield [*_TOKEN.finditer(self.content, start, end)]
+            found = pattern.search(self.content, end, most)
 
     @property
     def rest(self) -> bytes:

@@ -2,7 +2,9 @@
 
 from __future__ import annotations
 
-from mpslp._warnings._lp import LpText
+from itertools import pairwise
+
+from mpslp._warnings._lp import DECIMAL_COMMA, ODD_PARENTHESIS, LpText
 from mpslp._warnings._records import Found, by_kind, shown
 from mpslp._warnings._rest import sections_in
 
@@ -10,6 +12,8 @@ _KEYWORDS = frozenset(
     b"MINIMIZE MAXIMIZE MINIMISE MAXIMISE MINIMUM MAXIMUM MIN MAX SUBJECT SUCH ST S.T. ST. BOUND BOUNDS GENERAL GENERALS GEN "
     b"INTEGER INTEGERS INT BINARY BINARIES BIN SEMI SEMIS SEMI-CONTINUOUS SEC SIN SOS SOS1 SOS2 LAZY USER PWLOBJ SCENARIOS".split()
 )
+_MOST_LISTED = 2
+"""The names of a line that a warning has: those with the first and the last parenthesis of most sums."""
 _MOST_COMPARED = 1 << 24
 """How many pairs of bytes are compared to find names that may be meant: beyond that, names are reported without one."""
 
@@ -20,6 +24,28 @@ def late_name(file: LpText) -> Found:
         left -= len(name) * of_rows
         meant = _nearest(name, file) if left >= 0 else ""
         yield place, f"{shown(name)} first appears in {section}, as a new column that is in no row{meant}"
+
+
+def sum_in_parentheses(file: LpText) -> Found:
+    for line in file.lines_with(ODD_PARENTHESIS):
+        names = [token for token in line if token.lastgroup == "word" and not _closes_its_parentheses(token[0])]
+        if names:
+            listed = " and ".join(shown(name[0]) for name in names[:_MOST_LISTED])
+            are = "are read as names" if len(names) > 1 else "is read as a name"
+            yield names[0].start(), f"{listed} {are}, since names may have parentheses in LP; if a sum is meant, multiply it out"
+
+
+def _closes_its_parentheses(name: bytes) -> bool:
+    """Whether each parenthesis of a name is closed, and a letter comes before it, as in x(1)."""
+    return name.count(b"(") == name.count(b")") and not name.startswith(b"(")
+
+
+def decimal_comma(file: LpText) -> Found:
+    for line in file.lines_with(DECIMAL_COMMA):
+        for number, name in pairwise(line):
+            if number.lastgroup == "number" and name[0].startswith(b","):
+                parts = f"the number {shown(number[0])} and the column {shown(name[0])}"
+                yield number.start(), f"{shown(number[0] + name[0])} is read as {parts}; write a point for a decimal comma"
 
 
 def section_after_end(file: LpText) -> Found:
@@ -36,4 +62,4 @@ def _nearest(name: bytes, file: LpText) -> str:
     return f"; the name {shown(file.names[found[0]])} is there" if found else ""
 
 
-RULES = by_kind(late_name, section_after_end)
+RULES = by_kind(late_name, sum_in_parentheses, decimal_comma, section_after_end)
