@@ -79,7 +79,12 @@ def declared_by(text: Text, objective: str) -> Declared:
     return reader.declared
 
 
+_MOST_DIGITS_BELOW_LARGE = 20
+
+
 def _is_infinite(literal: bytes) -> bool:
+    if len(literal) <= _MOST_DIGITS_BELOW_LARGE and b"e" not in literal and b"E" not in literal:
+        return False
     return _number(literal).copy_abs() >= LARGE
 
 

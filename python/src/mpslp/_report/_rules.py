@@ -36,8 +36,10 @@ class GivenBounds(NamedTuple):
 def given_bounds(declared: Declared, model: Model) -> list[GivenBounds]:
     """The columns by the bounds that the file gives."""
     groups: defaultdict[tuple[int, bool], list[str]] = defaultdict(list)
+    named = (*declared.bounds, *declared.marked, *declared.binaries)  # most columns are seldom among them
+    given = {column: (declared.bounds.get(column, 0), declared.upper_is_1(column)) for column in named}
     for column in model.columns:
-        groups[declared.bounds.get(column, 0), declared.upper_is_1(column)].append(column)
+        groups[given.get(column, (0, False))].append(column)
     where = "between markers" if declared.is_mps else "under Binaries"
     texts = {
         (0, False): ("none", "0 to infinity"),
