@@ -78,6 +78,7 @@ def commands(source: Path, scratch: Path, python: str) -> Iterator[tuple[str, Ca
     yield "canon", command("canon", str(source))
     yield "check", command("check", str(source), status=1)
     yield "digest", command("digest", str(source))
+    yield "fmt", command("fmt", str(source))
     yield "one bound changed in Python", lambda runs: least([python, "-c", ONE_BOUND, str(source), str(changed)], runs)
     yield "diff", lambda runs: least([*tools, "diff", str(source), str(made(changed, source, python))], runs, 1)
     yield "report", command("report", "-o", str(scratch / "page.html"), str(source))
