@@ -172,7 +172,8 @@ class _Mps:
             return
         self.declared.coefficients += (len(content[start:end].split()) - content.count(b"\n", start, end)) // 2
         if self._in_integers:
-            self.declared.marked.update((name.decode("ascii"), None) for name in self._FIELD.findall(content, start, end))
+            names = dict.fromkeys(self._FIELD.findall(content, start, end))  # each is in several lines
+            self.declared.marked.update((name.decode("ascii"), None) for name in names)
 
     def _header(self, fields: Fields) -> None:
         self._take = self._sections[fields[0]]
