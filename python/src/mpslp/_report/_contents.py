@@ -20,7 +20,8 @@ class Extreme(NamedTuple):
     where: tuple[str, ...]
 
 
-class Magnitudes(NamedTuple):
+@dataclass(frozen=True)
+class Magnitudes:
     """The magnitudes of the finite numbers of one sort."""
 
     what: str
@@ -87,14 +88,18 @@ def contents_of(model: Model, arrays: Arrays) -> Contents:
     """Counts a model, whose arrays are given too."""
     exact, row_names, column_names = model._arrays, arrays.row_names or (), arrays.column_names or ()
     row_kinds, bounds = exact.kinds()
-    starts = memoryview(arrays.indptr)
+    starts, kinds = memoryview(arrays.indptr), memoryview(arrays.integrality)
     lengths = [after - start for start, after in zip(starts, starts[1:])]
+    coefficients, costs, limits, of_columns = _magnitudes(model, arrays)
     contents = Contents(
-        Counter({ROW_KINDS[kind]: count for kind, count in Counter(row_kinds).items()}),
-        Counter({(_BOUNDS[each], COLUMN_KINDS[kind]): count for (each, kind), count in Counter(zip(bounds, memoryview(arrays.integrality))).items()}),
-        *_magnitudes(model, arrays),
-        _lengths(row_names, list(map(exact.row_len, range(len(row_names))))) if row_names else None,
-        _lengths(column_names, lengths),
+        row_kinds=Counter({ROW_KINDS[kind]: count for kind, count in Counter(row_kinds).items()}),
+        columns=Counter({(_BOUNDS[each], COLUMN_KINDS[kind]): count for (each, kind), count in Counter(zip(bounds, kinds)).items()}),
+        coefficients=coefficients,
+        costs=costs,
+        limits=limits,
+        bounds=of_columns,
+        row_lengths=_lengths(row_names, list(map(exact.row_len, range(len(row_names))))) if row_names else None,
+        column_lengths=_lengths(column_names, lengths),
     )
     for number, upper in enumerate(memoryview(arrays.upper)):
         if upper <= 0:  # a number that is nearest to the double 0 may be on either side of 0
