@@ -38,6 +38,7 @@ CALLS = {
     "is_canonical": partial(_mpslp.is_canonical, CANONICAL, _mpslp.MPS),
     "is_canonical, not": partial(_mpslp.is_canonical, MPS, _mpslp.MPS),
     "is_canonical, refused": partial(_mpslp.is_canonical, b"", _mpslp.MPS),
+    "lines of a text": lambda: (_mpslp.count_line_feeds(MPS, 0, len(MPS)), _mpslp.find_first_column(MPS, 0, len(MPS)), _mpslp.find_first_column(MPS, 0, 1)),
     "load": partial(_mpslp.load, OTHER, _mpslp.LP),
     "a model's counts and objective": lambda: (LOADED.counts(), LOADED.objective()),
     "a model's doubles": LOADED.doubles,
@@ -68,6 +69,8 @@ CALLS = {
 WRONG_CALLS = {
     "an unknown format": partial(_mpslp.canonical, MPS, 2, 2),
     "no bytes": partial(_mpslp.is_canonical, "NAME", _mpslp.MPS),
+    "a part that is not there": partial(_mpslp.count_line_feeds, MPS, 0, len(MPS) + 1),
+    "a part that ends before it starts": partial(_mpslp.find_first_column, MPS, 2, 1),
     "a row that is not there": partial(LOADED.row, 2),
     "a column that is not there": partial(LOADED.column_entries, 2**64),
     "a number below 0": partial(LOADED.row_entries, -1),

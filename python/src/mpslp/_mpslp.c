@@ -1419,6 +1419,49 @@ static PyObject *make_of_doubles(PyObject *module, PyObject *arguments) {
     return arrays != NULL || PyErr_Occurred() ? arrays : Py_NewRef(Py_None);
 }
 
+/* ---- the lines of a text, which may have millions of them */
+
+/* The arguments of a call about a part of a text. Returns whether there is one; otherwise it raises. */
+static int find_part(PyObject *arguments, content *part) {
+    PyObject *source;
+    Py_ssize_t start, end;
+    if (!PyArg_ParseTuple(arguments, "Snn:part", &source, &start, &end) || !find_content(source, part)) return 0;
+    if (start < 0 || start > end || (size_t)end > part->len) {
+        PyErr_SetString(PyExc_IndexError, "the text has no such part");
+        return 0;
+    }
+    part->bytes += start;
+    part->len = (size_t)(end - start);
+    return 1;
+}
+
+/* Where the line feed after a place is, or null. */
+static const uint8_t *line_end(const uint8_t *at, const uint8_t *end) { return memchr(at, '\n', (size_t)(end - at)); }
+
+static PyObject *count_line_feeds(PyObject *Py_UNUSED(module), PyObject *arguments) {
+    content part;
+    size_t count = 0;
+    if (!find_part(arguments, &part)) return NULL;
+    const uint8_t *end = part.bytes + part.len;
+    Py_BEGIN_ALLOW_THREADS
+    for (const uint8_t *at = line_end(part.bytes, end); at != NULL; at = line_end(at + 1, end)) count++;
+    Py_END_ALLOW_THREADS
+    return PyLong_FromSize_t(count);
+}
+
+/* The place, after the start of the part, of the first byte of a line that is a capital letter or `*`; or -1. The first line is left out. */
+static PyObject *find_first_column(PyObject *Py_UNUSED(module), PyObject *arguments) {
+    content part;
+    const uint8_t *at;
+    if (!find_part(arguments, &part)) return NULL;
+    const uint8_t *end = part.bytes + part.len;
+    Py_BEGIN_ALLOW_THREADS
+    at = line_end(part.bytes, end);
+    while (at != NULL && !(at + 1 < end && ((at[1] >= 'A' && at[1] <= 'Z') || at[1] == '*'))) at = line_end(at + 1, end);
+    Py_END_ALLOW_THREADS
+    return PyLong_FromSsize_t(at == NULL ? -1 : at + 1 - part.bytes);
+}
+
 static PyMethodDef calls[] = {
     { "canonical", canonical, METH_VARARGS,
       "canonical($module, source, from_format, to_format, /)\n--\n\nThe canonical text of the model that bytes declare." },
@@ -1426,6 +1469,10 @@ static PyMethodDef calls[] = {
       "same($module, first, first_format, second, second_format, /)\n--\n\nWhether bytes declare the same model." },
     { "is_canonical", is_canonical, METH_VARARGS,
       "is_canonical($module, source, format, /)\n--\n\nWhether bytes are the canonical text of their model." },
+    { "count_line_feeds", count_line_feeds, METH_VARARGS, "count_line_feeds($module, source, start, end, /)\n--\n\nHow many line feeds a part of bytes has." },
+    { "find_first_column", find_first_column, METH_VARARGS,
+      "find_first_column($module, source, start, end, /)\n--\n\n"
+      "After how many bytes of a part of bytes a line begins with a capital letter or *; -1 if none does. The first line is left out." },
     { "load", load, METH_VARARGS,
       "load($module, source, format, /)\n--\n\nThe model that bytes declare." },
     { "store", store, METH_VARARGS,

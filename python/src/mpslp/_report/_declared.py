@@ -170,7 +170,7 @@ class _Mps:
             for line in content[start:end].split(b"\n"):
                 self._line(line)
             return
-        self.declared.coefficients += (len(content[start:end].split()) - content.count(b"\n", start, end)) // 2
+        self.declared.coefficients += (len(content[start:end].split()) - _mpslp.count_line_feeds(content, start, end)) // 2
         if self._in_integers:
             names = dict.fromkeys(self._FIELD.findall(content, start, end))  # each is in several lines
             self.declared.marked.update((name.decode("ascii"), None) for name in names)
