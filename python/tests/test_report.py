@@ -383,10 +383,10 @@ class Magnitudes(unittest.TestCase):
         self.assertIn(f"Coefficients of a magnitude that no double has: {4 * (470 - 308) + 4 * (470 - 324):,}.", reader.text["li"])
 
     def test_coefficients_that_doubles_do_not_distinguish(self):
-        text = "ROWS\n N  c\n L  r\nCOLUMNS\n    x  r  10\n    y  r  -9.99999999999999999999\n    z  r  10.000000000000000000001\nENDATA\n"
+        text = "ROWS\n N  c\n L  r\nCOLUMNS\n    x  r  10\n    y  r  -9.99999999999999999\n    z  r  10.00000000000000001\nENDATA\n"
         reader = read_page(text)
         self.check(mpslp.load(text.encode(), "mps"), reader)
-        self.assertEqual(reader.table("Smallest and largest numbers")["coefficients"][1:5], ["-9.99999999999999999999", "r, y", "10.000000000000000000001", "r, z"])
+        self.assertEqual(reader.table("Smallest and largest numbers")["coefficients"][1:5], ["-9.99999999999999999", "r, y", "10.00000000000000001", "r, z"])
 
     def test_limits_and_bounds_that_no_double_has(self):
         text = "ROWS\n N  c\n E  r\n L  s\nCOLUMNS\n    x  c  1e-470  r  1\n    y  s  1\nRHS\n    r  -3e-450\nBOUNDS\n UP  x  2e-400\nENDATA\n"
