@@ -522,7 +522,7 @@ class Defaults(unittest.TestCase):
             if not given & LOWER:
                 self.assertEqual(column.lower, 0)
             if not given & UPPER:
-                self.assertEqual(column.upper, 1 if declared.upper_is_1(column.name) else INFINITY)
+                self.assertEqual(column.upper, 1 if column.name in declared.columns_with_upper_1() else INFINITY)
         self.assertLessEqual(declared.bounds.keys() | declared.marked.keys() | declared.binaries.keys(), model.columns.keys())
 
     def test_bounds_of_a_sample(self):

@@ -66,10 +66,10 @@ class Declared:
     def give(self, column: str, bounds: int) -> None:
         self.bounds[column] = self.bounds.get(column, 0) | bounds
 
-    def upper_is_1(self, column: str) -> bool:
-        """Whether the default upper bound of a column is 1, and no other is given."""
-        given = self.bounds.get(column, 0)
-        return (column in self.binaries and not given & UPPER) or (column in self.marked and not given)
+    def columns_with_upper_1(self) -> set[str]:
+        """The columns whose default upper bound is 1, with no other given."""
+        binaries = {column for column in self.binaries if not self.bounds.get(column, 0) & UPPER}
+        return binaries | (self.marked.keys() - self.bounds.keys())
 
 
 def declared_by(text: Text, objective: str) -> Declared:
