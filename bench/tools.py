@@ -78,10 +78,12 @@ def commands(source: Path, scratch: Path, python: str) -> Iterator[tuple[str, Ca
     yield "canon", command("canon", str(source))
     yield "check", command("check", str(source), status=1)
     yield "digest", command("digest", str(source))
+    yield "fmt", command("fmt", str(source))
     yield "one bound changed in Python", lambda runs: least([python, "-c", ONE_BOUND, str(source), str(changed)], runs)
     yield "diff", lambda runs: least([*tools, "diff", str(source), str(made(changed, source, python))], runs, 1)
     yield "report", command("report", "-o", str(scratch / "page.html"), str(source))
     yield "adapt --dry-run", command("adapt", "--dry-run", str(source))
+    yield "adapt --dry-run, an LP file of 5 MB that it changes", lambda runs: least([*tools, "adapt", "--dry-run", str(misspelt(scratch))], runs)
     yield "--version", command("--version")
     yield "canon, a small file", command("canon", str(SMALL))
 
@@ -91,6 +93,14 @@ def made(changed: Path, source: Path, python: str) -> Path:
     if not changed.exists():
         subprocess.run([python, "-c", ONE_BOUND, str(source), str(changed)], check=True)
     return changed
+
+
+def misspelt(scratch: Path) -> Path:
+    """An LP file whose first word is not that of the format: adapt reads all of it, and writes another word."""
+    text = generated("default-10M.lp", ["generate.py", "--lp", "--size", "10M"]).read_text()
+    path = scratch / "misspelt.lp"
+    path.write_text(text.replace("Minimize", "Minimise", 1).replace("Maximize", "Maximise", 1))
+    return path
 
 
 def main() -> None:

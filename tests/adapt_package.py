@@ -28,8 +28,15 @@ def _stand_in():
     library = types.ModuleType("mpslp._mpslp")
     library.MPS, library.LP = range(len(FORMATS))
     library.load = _load
+    library.count_line_feeds = lambda content, start, end: content.count(b"\n", start, end)
+    library.find_first_column = _find_first_column
     sys.modules.update({"mpslp": package, "mpslp._mpslp": library})
     package._mpslp = library
+
+
+def _find_first_column(content, start, end):
+    found = re.compile(rb"\n[A-Z*]").search(content, start, end)
+    return -1 if found is None else found.start() + 1 - start
 
 
 class _UnknownArrays:

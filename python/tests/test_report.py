@@ -382,6 +382,12 @@ class Magnitudes(unittest.TestCase):
         self.check(mpslp.load(text.encode(), "mps"), reader)
         self.assertIn(f"Coefficients of a magnitude that no double has: {4 * (470 - 308) + 4 * (470 - 324):,}.", reader.text["li"])
 
+    def test_coefficients_that_doubles_do_not_distinguish(self):
+        text = "ROWS\n N  c\n L  r\nCOLUMNS\n    x  r  10\n    y  r  -9.99999999999999999\n    z  r  10.00000000000000001\nENDATA\n"
+        reader = read_page(text)
+        self.check(mpslp.load(text.encode(), "mps"), reader)
+        self.assertEqual(reader.table("Smallest and largest numbers")["coefficients"][1:5], ["-9.99999999999999999", "r, y", "10.00000000000000001", "r, z"])
+
     def test_limits_and_bounds_that_no_double_has(self):
         text = "ROWS\n N  c\n E  r\n L  s\nCOLUMNS\n    x  c  1e-470  r  1\n    y  s  1\nRHS\n    r  -3e-450\nBOUNDS\n UP  x  2e-400\nENDATA\n"
         self.check(mpslp.load(text.encode(), "mps"), read_page(text))
@@ -516,7 +522,7 @@ class Defaults(unittest.TestCase):
             if not given & LOWER:
                 self.assertEqual(column.lower, 0)
             if not given & UPPER:
-                self.assertEqual(column.upper, 1 if declared.upper_is_1(column.name) else INFINITY)
+                self.assertEqual(column.upper, 1 if column.name in declared.columns_with_upper_1() else INFINITY)
         self.assertLessEqual(declared.bounds.keys() | declared.marked.keys() | declared.binaries.keys(), model.columns.keys())
 
     def test_bounds_of_a_sample(self):

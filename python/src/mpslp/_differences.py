@@ -254,7 +254,8 @@ class Differences(Iterable[Difference]):
     def _column_numbers(self) -> Iterator[_Numbers]:
         first, second, names = self._first, self._second, self._rules.names
         if names is None:
-            return _differing(first.next_column_difference, second)
+            has_same_rows = first.has_same_rows(second)
+            return _differing(lambda j, other, k: first.next_column_difference(j, other, k, has_same_rows), second)
         return zip_longest(map(first.find_column, names[0].columns), map(second.find_column, names[1].columns))
 
 

@@ -386,19 +386,48 @@ static int is_same_name(const mpslp_model *one, mpslp_name name, const mpslp_mod
 
 enum { NUMBERS_OF_COLUMN = offsetof(mpslp_column, first) - offsetof(mpslp_column, lower) }; /* its bounds and its cost */
 
+/* Whether two columns have the same kind and numbers, and as many elements. */
+static int has_same_numbers(const mpslp_model *one, size_t j, const mpslp_model *other, size_t k) {
+    const mpslp_column *column = &one->columns[j], *other_column = &other->columns[k];
+    return column->kind == other_column->kind && memcmp(&column->lower, &other_column->lower, NUMBERS_OF_COLUMN) == 0 &&
+           column_end(one, j) - column->first == column_end(other, k) - other_column->first;
+}
+
 /* Whether two columns are one but for their names; rows are the same if their names are. */
 static int has_same_content(const mpslp_model *one, size_t j, const mpslp_model *other, size_t k) {
-    const mpslp_column *column = &one->columns[j], *other_column = &other->columns[k];
-    const mpslp_element *at = &one->elements[column->first], *other_at = &other->elements[other_column->first];
+    const mpslp_element *at = &one->elements[one->columns[j].first], *other_at = &other->elements[other->columns[k].first];
     const mpslp_element *end = &one->elements[column_end(one, j)];
-    if (column->kind != other_column->kind || memcmp(&column->lower, &other_column->lower, NUMBERS_OF_COLUMN) != 0 ||
-        end - at != (ptrdiff_t)(column_end(other, k) - other_column->first))
-        return 0;
+    if (!has_same_numbers(one, j, other, k)) return 0;
     for (; at < end; at++, other_at++)
         if (memcmp(&at->value, &other_at->value, sizeof at->value) != 0 ||
             !is_same_name(one, one->rows[at->row].name, other, other->rows[other_at->row].name))
             return 0;
     return 1;
+}
+
+/* The same in models whose rows have the same names, so that each row has one number. */
+static int has_same_elements(const mpslp_model *one, size_t j, const mpslp_model *other, size_t k) {
+    const size_t first = one->columns[j].first, len = column_end(one, j) - first;
+    return has_same_numbers(one, j, other, k) &&
+           memcmp(&one->elements[first], &other->elements[other->columns[k].first], len * sizeof *one->elements) == 0;
+}
+
+static int has_same_rows(const mpslp_model *one, const mpslp_model *other) {
+    size_t i = 0;
+    if (one->num_rows != other->num_rows) return 0;
+    while (i < one->num_rows && is_same_name(one, one->rows[i].name, other, other->rows[i].name)) i++;
+    return i == one->num_rows;
+}
+
+/* Whether the rows of two models have the same names. */
+static PyObject *arrays_has_same_rows(PyObject *self, PyObject *arguments) {
+    PyObject *other;
+    int is_same;
+    if (!PyArg_ParseTuple(arguments, "O!:has_same_rows", Py_TYPE(self), &other)) return NULL;
+    Py_BEGIN_ALLOW_THREADS
+    is_same = has_same_rows(model_of(self), model_of(other));
+    Py_END_ALLOW_THREADS
+    return PyBool_FromLong(is_same);
 }
 
 static int has_same_limits(const mpslp_model *one, size_t i, const mpslp_model *other, size_t k) {
@@ -425,13 +454,10 @@ typedef struct {
 } comparison;
 
 /* The next numbers in two models, from those that are given on, where they differ, and the order of their names; or None. */
-static PyObject *next_difference(PyObject *self, PyObject *arguments, size_t (*count)(const mpslp_model *), comparison each) {
-    const mpslp_model *one = model_of(self), *two;
-    PyObject *first, *other, *second;
+static PyObject *next_difference(PyObject *self, PyObject *first, PyObject *other, PyObject *second, size_t (*count)(const mpslp_model *), comparison each) {
+    const mpslp_model *one = model_of(self), *two = model_of(other);
     size_t i, k;
     int order = 0;
-    if (!PyArg_ParseTuple(arguments, "OO!O:next_difference", &first, Py_TYPE(self), &other, &second)) return NULL;
-    two = model_of(other);
     if (!find_number(first, count(one) + 1, &i) || !find_number(second, count(two) + 1, &k)) return NULL;
     Py_BEGIN_ALLOW_THREADS
     for (; i < count(one) && k < count(two); i++, k++) {
@@ -447,12 +473,17 @@ static PyObject *next_difference(PyObject *self, PyObject *arguments, size_t (*c
 
 static PyObject *arrays_next_row(PyObject *self, PyObject *arguments) {
     const comparison of_rows = { compare_rows, has_same_limits };
-    return next_difference(self, arguments, mpslp_num_rows, of_rows);
+    PyObject *first, *other, *second;
+    if (!PyArg_ParseTuple(arguments, "OO!O:next_row_difference", &first, Py_TYPE(self), &other, &second)) return NULL;
+    return next_difference(self, first, other, second, mpslp_num_rows, of_rows);
 }
 
 static PyObject *arrays_next_column(PyObject *self, PyObject *arguments) {
-    const comparison of_columns = { compare_columns, has_same_content };
-    return next_difference(self, arguments, mpslp_num_columns, of_columns);
+    const comparison of_columns = { compare_columns, has_same_content }, with_same_rows = { compare_columns, has_same_elements };
+    PyObject *first, *other, *second;
+    int is_with_same_rows;
+    if (!PyArg_ParseTuple(arguments, "OO!Op:next_column_difference", &first, Py_TYPE(self), &other, &second, &is_with_same_rows)) return NULL;
+    return next_difference(self, first, other, second, mpslp_num_columns, is_with_same_rows ? with_same_rows : of_columns);
 }
 
 /* Sorts the nonzeros by row: counts those of each row, computes where each row begins, then puts each into its place. */
@@ -729,6 +760,154 @@ static PyObject *arrays_lines(PyObject *self, PyObject *number) {
     return made;
 }
 
+/* ---- what is counted of a model */
+
+/* The powers of ten of the numbers of a model, which have exponents of up to 500 and up to 36 digits. */
+enum { LEAST_POWER = -500, MOST_POWER = 535 };
+
+/* A number that is finite and not 0, the power of ten of its first digit, and which row, column or element has it. */
+typedef struct {
+    const mpslp_number *number;
+    int32_t power;
+    size_t at;
+} sized;
+
+/* How many numbers there are by their powers of ten, how many are 0, and the first ones of the least and the greatest size. */
+typedef struct {
+    size_t counts[MOST_POWER - LEAST_POWER + 1], zeros;
+    sized smallest, largest;
+} magnitudes;
+
+static int32_t power_of(const mpslp_number *number) {
+    magnitude size = size_of(number);
+    int32_t power = number->exponent;
+    uint64_t rest;
+    for (; size >> 64 != 0; size /= 10) power++;
+    for (rest = (uint64_t)size; rest >= 10; rest /= 10) power++;
+    return power;
+}
+
+/* The sign of the difference of the sizes of two numbers. With the same power of ten both have up to 36 digits from the smaller exponent on. */
+static int compare_sizes(const sized *one, const sized *other) {
+    magnitude size = size_of(one->number), other_size = size_of(other->number);
+    if (one->power != other->power) return one->power < other->power ? -1 : 1;
+    for (int32_t from = one->number->exponent; from > other->number->exponent; from--) size *= 10;
+    for (int32_t from = other->number->exponent; from > one->number->exponent; from--) other_size *= 10;
+    return (size > other_size) - (size < other_size);
+}
+
+/* Counts a number; one that is infinite is left out. */
+static void count_number(magnitudes *all, const mpslp_number *number, size_t at) {
+    if (number->infinity != 0) return;
+    if (mantissa_of(number) == 0) {
+        all->zeros++;
+        return;
+    }
+    const sized found = { number, power_of(number), at };
+    all->counts[found.power - LEAST_POWER]++;
+    if (all->smallest.number == NULL || compare_sizes(&found, &all->smallest) < 0) all->smallest = found;
+    if (all->largest.number == NULL || compare_sizes(&found, &all->largest) > 0) all->largest = found;
+}
+
+static int is_same_number(const mpslp_number *one, const mpslp_number *other) { return memcmp(one, other, sizeof *one) == 0; }
+
+enum { OF_ELEMENTS, OF_COSTS, OF_ROWS, OF_COLUMNS, SORTS };
+
+/* Counts the elements, the costs, and the limits of rows and of columns. Limits that are equal are one number. */
+static void count_numbers(const mpslp_model *model, magnitudes all[SORTS]) {
+    for (size_t k = 0; k < model->num_elements; k++) count_number(&all[OF_ELEMENTS], &model->elements[k].value, k);
+    for (size_t i = 0; i < model->num_rows; i++) {
+        const mpslp_row *row = &model->rows[i];
+        count_number(&all[OF_ROWS], &row->upper, i);
+        if (!is_same_number(&row->lower, &row->upper)) count_number(&all[OF_ROWS], &row->lower, i);
+    }
+    for (size_t j = 0; j < model->num_columns; j++) {
+        const mpslp_column *column = &model->columns[j];
+        count_number(&all[OF_COSTS], &column->cost, j);
+        count_number(&all[OF_COLUMNS], &column->upper, j);
+        if (!is_same_number(&column->lower, &column->upper)) count_number(&all[OF_COLUMNS], &column->lower, j);
+    }
+}
+
+/* A tuple of a number, and of which row, column or element has it; or None if there is none. */
+static PyObject *sized_of(PyObject *self, const sized *found) {
+    if (found->number == NULL) return Py_NewRef(Py_None);
+    PyObject *made = PyTuple_New(2);
+    return filled(made, made != NULL && put(made, 0, decimal_of(state_at(self), found->number)) && put(made, 1, PyLong_FromSize_t(found->at)));
+}
+
+/* Stores a new object in a dictionary, by a number. Returns whether there was an object. */
+static int put_by_number(PyObject *dictionary, long number, PyObject *item) {
+    PyObject *key = PyLong_FromLong(number);
+    const int is_put = item != NULL && key != NULL && PyDict_SetItem(dictionary, key, item) == 0;
+    Py_XDECREF(key);
+    Py_XDECREF(item);
+    return is_put;
+}
+
+static PyObject *powers_of(const magnitudes *all) {
+    PyObject *made = PyDict_New();
+    int is_filled = made != NULL;
+    for (long power = LEAST_POWER; is_filled && power <= MOST_POWER; power++) {
+        const size_t count = all->counts[power - LEAST_POWER];
+        if (count != 0) is_filled = put_by_number(made, power, PyLong_FromSize_t(count));
+    }
+    return filled(made, is_filled);
+}
+
+static PyObject *magnitudes_of(PyObject *self, const magnitudes *all) {
+    PyObject *made = PyTuple_New(4);
+    return filled(made, made != NULL && put(made, 0, powers_of(all)) && put(made, 1, PyLong_FromSize_t(all->zeros)) &&
+                            put(made, 2, sized_of(self, &all->smallest)) && put(made, 3, sized_of(self, &all->largest)));
+}
+
+static PyObject *arrays_magnitudes(PyObject *self, PyObject *Py_UNUSED(none)) {
+    magnitudes *all = calloc(SORTS, sizeof *all);
+    PyObject *made;
+    int is_filled;
+    if (all == NULL) return PyErr_NoMemory();
+    Py_BEGIN_ALLOW_THREADS
+    count_numbers(model_of(self), all);
+    Py_END_ALLOW_THREADS
+    made = PyTuple_New(SORTS);
+    is_filled = made != NULL;
+    for (Py_ssize_t sort = 0; is_filled && sort < SORTS; sort++) is_filled = put(made, sort, magnitudes_of(self, &all[sort]));
+    free(all);
+    return filled(made, is_filled);
+}
+
+/* What two limits are; the last two are kinds of bounds only. The modules of the package have words for these, in this order. */
+enum { EQUAL, ONLY_UPPER, ONLY_LOWER, BOTH, NEITHER, FROM_0, FROM_0_TO_1 };
+
+static char kind_of_limits(const mpslp_number *lower, const mpslp_number *upper) {
+    const int has_lower = lower->infinity == 0, has_upper = upper->infinity == 0;
+    if (!has_lower) return has_upper ? ONLY_UPPER : NEITHER;
+    if (is_same_number(lower, upper)) return EQUAL;
+    return has_upper ? BOTH : ONLY_LOWER;
+}
+
+static char kind_of_bounds(const mpslp_column *column) {
+    static const mpslp_number one = { 1, 0, 0, 0 };
+    const char kind = kind_of_limits(&column->lower, &column->upper);
+    if (mantissa_of(&column->lower) != 0) return kind;
+    return kind == ONLY_LOWER ? FROM_0 : kind == BOTH && is_same_number(&column->upper, &one) ? FROM_0_TO_1 : kind;
+}
+
+static void write_kinds(const mpslp_model *model, char *rows, char *columns) {
+    for (size_t i = 0; i < model->num_rows; i++) rows[i] = kind_of_limits(&model->rows[i].lower, &model->rows[i].upper);
+    for (size_t j = 0; j < model->num_columns; j++) columns[j] = kind_of_bounds(&model->columns[j]);
+}
+
+static PyObject *arrays_kinds(PyObject *self, PyObject *Py_UNUSED(none)) {
+    const mpslp_model *model = model_of(self);
+    PyObject *made = PyTuple_New(2);
+    const int is_filled = made != NULL && put(made, 0, PyBytes_FromStringAndSize(NULL, (Py_ssize_t)model->num_rows)) &&
+                          put(made, 1, PyBytes_FromStringAndSize(NULL, (Py_ssize_t)model->num_columns));
+    /* Nothing else refers to these objects yet. */
+    if (is_filled) write_kinds(model, PyBytes_AsString(PyTuple_GetItem(made, 0)), PyBytes_AsString(PyTuple_GetItem(made, 1)));
+    return filled(made, is_filled);
+}
+
 static PyMethodDef arrays_methods[] = {
     { "doubles", arrays_doubles, METH_NOARGS, "doubles($self, /)\n--\n\nThe numbers of the model as arrays of doubles and of 32-bit indices." },
     { "names", arrays_names, METH_NOARGS, "names($self, /)\n--\n\nThe names of the rows, and of the columns." },
@@ -744,13 +923,19 @@ static PyMethodDef arrays_methods[] = {
     { "next_row_difference", arrays_next_row, METH_VARARGS,
       "next_row_difference($self, number, other, other_number, /)\n--\n\n"
       "The numbers, from these on, of the next rows that differ, and the order of their names; or None." },
+    { "has_same_rows", arrays_has_same_rows, METH_VARARGS, "has_same_rows($self, other, /)\n--\n\nWhether the rows of two models have the same names." },
     { "next_column_difference", arrays_next_column, METH_VARARGS,
-      "next_column_difference($self, number, other, other_number, /)\n--\n\n"
+      "next_column_difference($self, number, other, other_number, has_same_rows, /)\n--\n\n"
       "The numbers, from these on, of the next columns that differ, and the order of their names; or None." },
     { "row_len", arrays_row_len, METH_O, "row_len($self, number, /)\n--\n\nHow many coefficients of a row are not 0." },
     { "column_len", arrays_column_len, METH_O, "column_len($self, number, /)\n--\n\nHow many coefficients of a column are not 0." },
     { "row_entries", arrays_row_entries, METH_O, "row_entries($self, number, /)\n--\n\nThe columns of a row, and their coefficients." },
     { "column_entries", arrays_column_entries, METH_O, "column_entries($self, number, /)\n--\n\nThe rows of a column, and their coefficients." },
+    { "magnitudes", arrays_magnitudes, METH_NOARGS,
+      "magnitudes($self, /)\n--\n\n"
+      "Of the coefficients, the costs, and the limits of rows and of columns: how many there are by powers of ten, and how many are 0,\n"
+      "and the smallest and the largest, each with the number of the coefficient, the row or the column that has it first." },
+    { "kinds", arrays_kinds, METH_NOARGS, "kinds($self, /)\n--\n\nWhich limits each row has, and each column." },
     { "lines", arrays_lines, METH_O, "lines($self, number, /)\n--\n\nLines of rows, columns and coefficients from this one on, and the number of the next." },
     { NULL, NULL, 0, NULL },
 };
@@ -1234,6 +1419,49 @@ static PyObject *make_of_doubles(PyObject *module, PyObject *arguments) {
     return arrays != NULL || PyErr_Occurred() ? arrays : Py_NewRef(Py_None);
 }
 
+/* ---- the lines of a text, which may have millions of them */
+
+/* The arguments of a call about a part of a text. Returns whether there is one; otherwise it raises. */
+static int find_part(PyObject *arguments, content *part) {
+    PyObject *source;
+    Py_ssize_t start, end;
+    if (!PyArg_ParseTuple(arguments, "Snn:part", &source, &start, &end) || !find_content(source, part)) return 0;
+    if (start < 0 || start > end || (size_t)end > part->len) {
+        PyErr_SetString(PyExc_IndexError, "the text has no such part");
+        return 0;
+    }
+    part->bytes += start;
+    part->len = (size_t)(end - start);
+    return 1;
+}
+
+/* Where the line feed after a place is, or null. */
+static const uint8_t *line_end(const uint8_t *at, const uint8_t *end) { return memchr(at, '\n', (size_t)(end - at)); }
+
+static PyObject *count_line_feeds(PyObject *Py_UNUSED(module), PyObject *arguments) {
+    content part;
+    size_t count = 0;
+    if (!find_part(arguments, &part)) return NULL;
+    const uint8_t *end = part.bytes + part.len;
+    Py_BEGIN_ALLOW_THREADS
+    for (const uint8_t *at = line_end(part.bytes, end); at != NULL; at = line_end(at + 1, end)) count++;
+    Py_END_ALLOW_THREADS
+    return PyLong_FromSize_t(count);
+}
+
+/* The place, after the start of the part, of the first byte of a line that is a capital letter or `*`; or -1. The first line is left out. */
+static PyObject *find_first_column(PyObject *Py_UNUSED(module), PyObject *arguments) {
+    content part;
+    const uint8_t *at;
+    if (!find_part(arguments, &part)) return NULL;
+    const uint8_t *end = part.bytes + part.len;
+    Py_BEGIN_ALLOW_THREADS
+    at = line_end(part.bytes, end);
+    while (at != NULL && !(at + 1 < end && ((at[1] >= 'A' && at[1] <= 'Z') || at[1] == '*'))) at = line_end(at + 1, end);
+    Py_END_ALLOW_THREADS
+    return PyLong_FromSsize_t(at == NULL ? -1 : at + 1 - part.bytes);
+}
+
 static PyMethodDef calls[] = {
     { "canonical", canonical, METH_VARARGS,
       "canonical($module, source, from_format, to_format, /)\n--\n\nThe canonical text of the model that bytes declare." },
@@ -1241,6 +1469,10 @@ static PyMethodDef calls[] = {
       "same($module, first, first_format, second, second_format, /)\n--\n\nWhether bytes declare the same model." },
     { "is_canonical", is_canonical, METH_VARARGS,
       "is_canonical($module, source, format, /)\n--\n\nWhether bytes are the canonical text of their model." },
+    { "count_line_feeds", count_line_feeds, METH_VARARGS, "count_line_feeds($module, source, start, end, /)\n--\n\nHow many line feeds a part of bytes has." },
+    { "find_first_column", find_first_column, METH_VARARGS,
+      "find_first_column($module, source, start, end, /)\n--\n\n"
+      "After how many bytes of a part of bytes a line begins with a capital letter or *; -1 if none does. The first line is left out." },
     { "load", load, METH_VARARGS,
       "load($module, source, format, /)\n--\n\nThe model that bytes declare." },
     { "store", store, METH_VARARGS,

@@ -120,10 +120,12 @@ def readable(text: str) -> str:
 
 
 def _decoded(text: str) -> str:
-    return text.encode("latin-1", "backslashreplace").decode("utf-8", "backslashreplace")
+    return text if text.isascii() else text.encode("latin-1", "backslashreplace").decode("utf-8", "backslashreplace")
 
 
 def _printable(text: str) -> str:
+    if text.isprintable():
+        return text
     return "".join(char if char.isprintable() else char.encode("unicode_escape").decode("ascii") for char in text)
 
 

@@ -15,6 +15,9 @@ from mpslp._output import write_all
 _WIDTH = 24
 """The columns of the names of options, with the space around them."""
 
+_WITHOUT_COMMAND = ("-V", "--version", "-h", "--help")
+"""The first words after which nothing is read, so that no command is imported."""
+
 _MARK = "\0"
 """What no word of a command line begins with."""
 
@@ -70,11 +73,11 @@ class _MainParser(Parser):
 
 
 def parser(prog: str | None, name: str | None = None) -> Parser:
-    """The parser of all commands, with the options of all, or of the one that has this name."""
+    """The parser of all commands, with the options of all, or of the one that has this name; ``name`` is the first word of a command line."""
     made = _MainParser(prog=prog, usage="[--help | --version] COMMAND ..")
     made.add_argument("-V", "--version", action="version", version=f"mpslp {_mpslp.VERSION}")
     commands = made.add_subparsers(dest="command", metavar="COMMAND", required=True, prog=made.prog, parser_class=CommandParser)
-    for each in COMMANDS if name not in COMMANDS else (name,):
+    for each in () if name in _WITHOUT_COMMAND else COMMANDS if name not in COMMANDS else (name,):
         command = command_of(each)
         added = commands.add_parser(each, usage=command.USAGE, description=command.DESCRIPTION, add_help=False)
         command.add(added)

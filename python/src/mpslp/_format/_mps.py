@@ -64,10 +64,11 @@ def _section_of(header: str) -> _Section:
     return _Section(header.rstrip(" \t") if fields[0] == "NAME" else _GAP.join(fields), fields[0])
 
 
-def _with_plain_numbers(keyword: str, fields: Sequence[str]) -> tuple[str, ...]:
+def _with_plain_numbers(keyword: str, fields: list[str]) -> tuple[str, ...]:
     """The fields of a data line with its numbers as number text."""
-    places = frozenset(_places_of_numbers(keyword, fields))
-    return tuple(plain(field) if place in places else field for place, field in enumerate(fields))
+    for place in _places_of_numbers(keyword, fields):
+        fields[place] = plain(fields[place])
+    return tuple(fields)
 
 
 def _places_of_numbers(keyword: str, fields: Sequence[str]) -> Iterable[int]:
@@ -83,13 +84,13 @@ def _places_of_numbers(keyword: str, fields: Sequence[str]) -> Iterable[int]:
 def _widths(lines: Iterable[tuple[str, ...]], has_types: bool) -> list[int]:
     """How wide each field of a section is, if another one follows: a multiple of 8, except for the types of rows and bounds."""
     longest: list[int] = []
-    for fields in lines:
-        longest += [0] * (len(fields) - 1 - len(longest))
-        for place, field in enumerate(fields[:-1]):
-            if longest[place] < len(field) <= _WIDEST:
-                longest[place] = len(field)
+    for lengths in {tuple(map(len, fields[:-1])) for fields in lines}:  # few are different
+        longest += [0] * (len(lengths) - len(longest))
+        for place, length in enumerate(lengths):
+            if longest[place] < length <= _WIDEST:
+                longest[place] = length
     return [width if has_types and place == 0 else -(-max(width, 1) // _STEP) * _STEP for place, width in enumerate(longest)]
 
 
 def _padded(fields: Sequence[str], widths: Sequence[int]) -> str:
-    return _GAP.join((*(field.ljust(width) for field, width in zip(fields[:-1], widths)), fields[-1]))
+    return _GAP.join([*map(str.ljust, fields[:-1], widths), fields[-1]])

@@ -66,10 +66,10 @@ class Declared:
     def give(self, column: str, bounds: int) -> None:
         self.bounds[column] = self.bounds.get(column, 0) | bounds
 
-    def upper_is_1(self, column: str) -> bool:
-        """Whether the default upper bound of a column is 1, and no other is given."""
-        given = self.bounds.get(column, 0)
-        return (column in self.binaries and not given & UPPER) or (column in self.marked and not given)
+    def columns_with_upper_1(self) -> set[str]:
+        """The columns whose default upper bound is 1, with no other given."""
+        binaries = {column for column in self.binaries if not self.bounds.get(column, 0) & UPPER}
+        return binaries | (self.marked.keys() - self.bounds.keys())
 
 
 def declared_by(text: Text, objective: str) -> Declared:
@@ -79,7 +79,12 @@ def declared_by(text: Text, objective: str) -> Declared:
     return reader.declared
 
 
+_MOST_DIGITS_BELOW_LARGE = 20
+
+
 def _is_infinite(literal: bytes) -> bool:
+    if len(literal) <= _MOST_DIGITS_BELOW_LARGE and b"e" not in literal and b"E" not in literal:
+        return False
     return _number(literal).copy_abs() >= LARGE
 
 
@@ -165,9 +170,10 @@ class _Mps:
             for line in content[start:end].split(b"\n"):
                 self._line(line)
             return
-        self.declared.coefficients += (len(content[start:end].split()) - content.count(b"\n", start, end)) // 2
+        self.declared.coefficients += (len(content[start:end].split()) - _mpslp.count_line_feeds(content, start, end)) // 2
         if self._in_integers:
-            self.declared.marked.update((name.decode("ascii"), None) for name in self._FIELD.findall(content, start, end))
+            names = dict.fromkeys(self._FIELD.findall(content, start, end))  # each is in several lines
+            self.declared.marked.update((name.decode("ascii"), None) for name in names)
 
     def _header(self, fields: Fields) -> None:
         self._take = self._sections[fields[0]]

@@ -36,8 +36,9 @@ class GivenBounds(NamedTuple):
 def given_bounds(declared: Declared, model: Model) -> list[GivenBounds]:
     """The columns by the bounds that the file gives."""
     groups: defaultdict[tuple[int, bool], list[str]] = defaultdict(list)
+    with_upper_1 = declared.columns_with_upper_1()
     for column in model.columns:
-        groups[declared.bounds.get(column, 0), declared.upper_is_1(column)].append(column)
+        groups[declared.bounds.get(column, 0), column in with_upper_1].append(column)
     where = "between markers" if declared.is_mps else "under Binaries"
     texts = {
         (0, False): ("none", "0 to infinity"),
@@ -131,7 +132,8 @@ def _infinite_sides(declared: Declared, what: str) -> Iterator[Rule]:
 
 
 def _of_columns(declared: Declared, contents: Contents) -> Iterator[Rule]:
-    unit = [column for column in declared.marked if declared.upper_is_1(column)]
+    with_upper_1 = declared.columns_with_upper_1()
+    unit = [column for column in declared.marked if column in with_upper_1]
     if unit:
         yield Rule("columns between markers without a bound", len(unit), joined(("the bounds are 0 and 1: ", names(unit))), is_remark=True)
     open_ended = [column for column in declared.marked if declared.bounds.get(column) == LOWER]

@@ -47,5 +47,5 @@ def _lines(content: bytes, places: list[int]) -> Iterator[int]:
     """The lines of places that rise."""
     line, before = 1, 0
     for place in places:
-        line, before = line + content.count(b"\n", before, place), place
+        line, before = line + _mpslp.count_line_feeds(content, before, place), place
         yield line

@@ -7,7 +7,8 @@ from collections.abc import Iterator
 from functools import cached_property
 from typing import NamedTuple
 
-_FIRST_COLUMN = re.compile(rb"\n[A-Z*]")
+from mpslp import _mpslp
+
 _WORD = re.compile(rb"[A-Z]+")
 _ROW = re.compile(rb"^[ \t]+N[ \t]+(\S+)", re.M)
 _FIELD = re.compile(rb"\n[ \t]+(\S+)")
@@ -66,7 +67,10 @@ class MpsText:
     def _first_columns(self) -> Iterator[int]:
         if self.content[:1] not in (b"", b"\n", b" ", b"\t", b"\r"):
             yield 0
-        yield from (match.start() + 1 for match in _FIRST_COLUMN.finditer(self.content))
+        place, end = 0, len(self.content)
+        while (distance := _mpslp.find_first_column(self.content, place, end)) >= 0:
+            place += distance
+            yield place
 
     def _end_of_line(self, place: int) -> int:
         end = self.content.find(b"\n", place)
