@@ -1,35 +1,15 @@
 -- The printed bounds of columns declare the bounds.
-use Rattle.std.proofs.Common.{arith, ◌≡◌, refl, sym, ap, subst, ◌∙◌, ℕ, List, [], ◌∷◌, ◌++◌, Bool, true, false, append_assoc, map}
-use Rattle.std.specs.Prelude.{Some, None, ◌||◌, codes, if◌then◌else◌, is_some}
-use Rattle.std.specs.List.{flat_map}
-use Rattle.std.proofs.lemmas.List.{append-nil}
-use Rattle.mpslp_decimal.specs.Decimal.{Number as Decimal, is_zero, is_negative, size_of, have_same_value}
-use Rattle.mpslp_model_core.specs.Model.{Column}
-use Rattle.mpslp_types.specs.Limit.{limit_of}
-use Rattle.mpslp_builder.specs.Declaration.{Draft, Declarations, bounds_declared, with_declarations}
-use Rattle.mpslp_builder.specs.Refusal.{refusals_in_turn}
-use Rattle.mpslp_types.specs.declared.kinds.Limit.{Limit}
-use Rattle.mpslp_types.specs.declared.kinds.Limit.TheVariants.{MinusInf, Finite, PlusInf}
-use Rattle.mpslp_decimal.proofs.CutLemmas.{Each}
-use Rattle.mpslp_lp_tokens.specs.Token.{class_of}
-use Rattle.mpslp_lp_grammar.specs.declared.signs.Sign.{Sign as SignOf}
-use Rattle.mpslp_lp_grammar.specs.declared.signs.Sign.TheVariants.{Minus}
-use Rattle.mpslp_lp_grammar.specs.Terminal.{Terminal, TerminalAt, word_terminal}
-use Rattle.mpslp_lp_grammar.specs.Terminal.Terminal.{Name, Number, Sign, Compares, Infinity}
-use Rattle.mpslp_lp_grammar.specs.Phrase.{Point}
-use Rattle.mpslp_lp_grammar.specs.declared.sections_seen.SectionsSeen.{SectionsSeen}
-use Rattle.mpslp_lp_grammar.specs.declared.states.Place.TheVariants.{InBounds}
-use Rattle.mpslp_lp_grammar.specs.Items.{apply_sign, Limits, limits_by}
-use Rattle.mpslp_lp_grammar.specs.Grammar.{no_limits}
-use Rattle.mpslp_lp_grammar.specs.declared.relations.Relation.{Relation}
-use Rattle.mpslp_lp_grammar.specs.declared.relations.Relation.TheVariants.{AtMost, AtLeast, EqualTo}
-use Rattle.mpslp_canonical_lp.specs.Printed.{Lexeme, word, number, sense, minus_infinity}
-use Rattle.mpslp_canonical_lp.specs.CanonicalLp.{bound_lexemes, line_of_some, bound_lines}
-use Rattle.mpslp_canonical_lp.proofs.LexemeLemmas.{IsGoodName}
-use Rattle.mpslp_canonical_lp.proofs.PrintableLemmas.{IsFitColumn}
-use Rattle.mpslp_canonical_lp.proofs.TerminalLemmas.{at, terminals_in, all_terminals, mapped-append, signed-value, sign_of}
-use Rattle.mpslp_canonical_lp.proofs.PhraseLemmas.{Walks, walks-none, point_at, column_and, AreTaken, infinite-left-walks}
-use Rattle.mpslp_canonical_lp.proofs.ObjectiveWalk.{number_after, terminals-append, parts-taken, parts-walk}
+use Rattle.mpslp_canonical_lp.proofs.Prelude.{arith, ◌≡◌, refl, sym, ap, subst, ◌∙◌, ℕ, List, [], ◌∷◌, ◌++◌, Bool, true, false,
+  append_assoc, map, Some, None, ◌||◌, codes, if◌then◌else◌, is_some, flat_map, append-nil, Decimal, is_zero, is_negative, size_of,
+  have_same_value, Column, limit_of, Draft, Declarations, bounds_declared, with_declarations, refusals_in_turn, Limit, MinusInf, Finite,
+  PlusInf, Each, class_of, SignOf, Minus, Terminal, TerminalAt, word_terminal, Name, Sign, Compares, Infinity, Point, SectionsSeen,
+  InBounds, apply_sign, Limits, limits_by, no_limits, Relation, AtMost, AtLeast, EqualTo, Lexeme, word, number, sense, minus_infinity,
+  bound_lexemes, line_of_some, bound_lines}
+use Rattle.mpslp_lp_grammar.specs.Terminal.Terminal.{Number}
+use Rattle.mpslp_canonical_lp.proofs.{LexemeLemmas.{IsGoodName}, PrintableLemmas.{IsFitColumn},
+  TerminalLemmas.{at, terminals_in, all_terminals, mapped-append, signed-value, sign_of},
+  PhraseLemmas.{Walks, walks-none, point_at, column_and, AreTaken, infinite-left-walks},
+  ObjectiveWalk.{number_after, terminals-append, parts-taken, parts-walk}}
 
 -- ---- a number is read by its sign and its absolute value
 
@@ -54,7 +34,7 @@ bound_made column _ _ = column_and column no_limits
 
 -- none of these is rejected, so the bounds are declared
 taken-from : (all : Draft) (column : List ℕ) (limits : Limits) → (is_some limits.lower || is_some limits.upper) ≡ true → refusals_in_turn all (column_and column limits) ≡ [] → AreTaken all column limits
-taken-from all column limits some h = grind arith
+taken-from = grind arith
 
 -- ---- parts of a line
 
@@ -88,7 +68,7 @@ pieces_terminals n lexemes = map (at n) (flat_map terminals_in lexemes)
 valued-line : (sections_seen : SectionsSeen) (all : Draft) (n : ℕ) (column : List ℕ) (relation : Relation) (value : Decimal) → IsGoodName column → refusals_in_turn all (column_and column (limits_by relation (limit_of value))) ≡ []
     → Walks (bounds_point sections_seen all) (pieces_terminals n (word column ∷ sense relation ∷ number value ∷ [])) (column_and column (limits_by relation (limit_of value)))
     (bounds_point sections_seen (with_declarations all (column_and column (limits_by relation (limit_of value)))))
-valued-line sections_seen all n column relation value good h = grind (arith, column_and, at, append-nil, terminals_in, valued-walk)
+valued-line = grind (arith, column_and, at, append-nil, terminals_in, valued-walk)
 
 -- a number, a column and a number
 between-line : (sections_seen : SectionsSeen) (all : Draft) (n : ℕ) (lower : Decimal) (column : List ℕ) (upper : Decimal) → IsGoodName column
@@ -130,7 +110,7 @@ infinite-line sections_seen all n column upper good h =
 -- a column and `free`
 free-line : (sections_seen : SectionsSeen) (all : Draft) (n : ℕ) (column : List ℕ) → IsGoodName column → refusals_in_turn all (column_and column no_limits) ≡ []
     → Walks (bounds_point sections_seen all) (pieces_terminals n (word column ∷ word (codes "free") ∷ [])) (column_and column no_limits) (bounds_point sections_seen (with_declarations all (column_and column no_limits)))
-free-line sections_seen all n column good h = grind arith
+free-line = grind arith
 
 -- ---- the lines of columns
 
@@ -163,11 +143,8 @@ column-walk sections_seen all n column (Finite a) PlusInf good h = by (is_zero a
         (bounds_point sections_seen (with_declarations all (if t then [] else column_and column (limits_by AtLeast (limit_of a)))))
     by true k = walks-none (bounds_point sections_seen all)
     by false k = some-line _ _ n (word column) (sense AtLeast ∷ number a ∷ []) _ (valued-line sections_seen all n column AtLeast a good k)
-column-walk sections_seen all n column MinusInf MinusInf good h = some-line _ _ n (word column) (word (codes "free") ∷ []) _ (free-line sections_seen all n column good h)
-column-walk sections_seen all n column MinusInf PlusInf good h = some-line _ _ n (word column) (word (codes "free") ∷ []) _ (free-line sections_seen all n column good h)
-column-walk sections_seen all n column PlusInf MinusInf good h = some-line _ _ n (word column) (word (codes "free") ∷ []) _ (free-line sections_seen all n column good h)
-column-walk sections_seen all n column PlusInf (Finite b) good h = some-line _ _ n (word column) (word (codes "free") ∷ []) _ (free-line sections_seen all n column good h)
-column-walk sections_seen all n column PlusInf PlusInf good h = some-line _ _ n (word column) (word (codes "free") ∷ []) _ (free-line sections_seen all n column good h)
+column-walk sections_seen all n column _ _ good h = some-line _ _ n (word column) (word (codes "free") ∷ []) _
+    (free-line sections_seen all n column good h)
 
 abbrev pub column_made : List ℕ × Column → Declarations
 column_made column = bound_made column.0 column.1.lower column.1.upper

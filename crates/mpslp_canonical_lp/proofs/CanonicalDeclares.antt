@@ -1,13 +1,8 @@
 -- The canonical LP text of a well-formed model with LP names declares it.
-use Rattle.std.proofs.Common.{◌≡◌, sym, ap, subst, ◌∙◌, List, ℕ}
-use Rattle.mpslp_model_core.specs.Model.{LinearModel}
-use Rattle.mpslp_lp.specs.LpText.{DeclaresLp}
-use Rattle.mpslp_canonical_lp.specs.CanonicalLp.{canonical_lp}
-use Rattle.mpslp_canonical_lp.specs.Laws.{DeclareTheirModels, DistinguishModels, DeclareWhatFits}
-use Rattle.mpslp_canonical_lp.proofs.CanonicalText.{canonical-declares_if}
-use Rattle.mpslp_canonical_lp.proofs.UnrefusedText.{listed-consistent, plain-text}
-use Rattle.mpslp_canonical_lp.proofs.ListedMeaning.{listed-means}
-use Rattle.mpslp_canonical_lp.proofs.DeclaredFit.{declared-fit}
+use Rattle.mpslp_canonical_lp.proofs.Prelude.{◌≡◌, sym, ap, subst, ◌∙◌, List, ℕ, LinearModel, DeclaresLp, canonical_lp, DeclareTheirModels,
+  DistinguishModels, DeclareWhatFits}
+use Rattle.mpslp_canonical_lp.proofs.{CanonicalText.{canonical-declares_if}, UnrefusedText.{listed-consistent, plain-text},
+  ListedMeaning.{listed-means}, DeclaredFit.{declared-fit}}
 
 pub canonical-declares : DeclareTheirModels
 canonical-declares m sound fits = canonical-declares_if m sound fits (plain-text m sound fits) (listed-means m sound (listed-consistent m sound))

@@ -1,21 +1,10 @@
 -- The outcome of the canonical text of a model, and what it declares, if none of that is rejected.
-use Rattle.std.proofs.Common.{◌≡◌, ap, subst, sym, ◌∙◌, []}
-use Rattle.std.specs.Prelude.{None}
-use Rattle.mpslp_model_core.specs.Model.{LinearModel, IsSound, listing_of}
-use Rattle.mpslp_builder.specs.Declaration.{Draft, empty_draft, Declarations, with_declarations}
-use Rattle.mpslp_builder.specs.Refusal.{refusals_in_turn}
-use Rattle.mpslp_builder.specs.Meaning.{Means}
-use Rattle.mpslp_types.specs.declared.faults.Fault.{Fault}
-use Rattle.mpslp_decimal.proofs.CutLemmas.{Each}
-use Rattle.mpslp_lp_grammar.specs.Rules.{Outcome}
-use Rattle.mpslp_lp_grammar.specs.Rules.Outcome.{Finished}
-use Rattle.mpslp_lp_grammar.specs.Grammar.{text_says, text_declares}
-use Rattle.mpslp_lp.specs.LpText.{numbered_lines, first_own_fault, or_else, outcome, is_finished, declarations_of, DeclaresLp}
-use Rattle.mpslp_canonical_lp.specs.CanonicalLp.{row_terms, canonical_lp}
-use Rattle.mpslp_canonical_lp.specs.Unfit.{unfit}
-use Rattle.mpslp_canonical_lp.proofs.PrintableLemmas.{fit-from_sound}
-use Rattle.mpslp_canonical_lp.proofs.ReadLemmas.{canonical-terminals}
-use Rattle.mpslp_canonical_lp.proofs.TextWalk.{IsRow, listed_declarations, text-ends}
+use Rattle.mpslp_canonical_lp.proofs.Prelude.{◌≡◌, ap, subst, sym, ◌∙◌, [], None, LinearModel, IsSound, listing_of, Draft, empty_draft,
+  Declarations, with_declarations, refusals_in_turn, Means, Fault, Each, Outcome, Finished, text_says, text_declares, numbered_lines,
+  first_own_fault, outcome, is_finished, declarations_of, DeclaresLp, row_terms, canonical_lp, unfit}
+use Rattle.mpslp_lp.specs.LpText.{or_else}
+use Rattle.mpslp_canonical_lp.proofs.{PrintableLemmas.{fit-from_sound}, ReadLemmas.{canonical-terminals},
+  TextWalk.{IsRow, listed_declarations, text-ends}}
 
 -- what is needed of a model besides well-formedness and LP names
 pub record IsPlainText (m : LinearModel) : Type 0 where

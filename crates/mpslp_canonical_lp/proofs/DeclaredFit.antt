@@ -1,29 +1,17 @@
 -- What LP text declares has only LP names, so LP can express it.
-use Rattle.std.proofs.Common.{◌≡◌, refl, sym, ap, subst, ◌∙◌, ℕ, List, [], ◌∷◌, Bool, true, not, map, length, arith}
+use Rattle.mpslp_canonical_lp.proofs.Prelude.{◌≡◌, refl, sym, ap, subst, ◌∙◌, ℕ, List, [], ◌∷◌, Bool, true, not, map, length, arith, Option,
+  Some, None, unwrap_or, if◌then◌else◌, list_all, prefix_len, le-ltb, option_map, option_map_or, first_so, second_so, put, entries,
+  entries-from_sorted, bytes_cmp, is_lp_name, is_mps_name, both_so, zero_number, plain_limits, LinearModel, ColumnOf, Declaration,
+  declare_objective, declare_row, declare_column, Declarations, Draft, with_declaration, with_declarations, RowDefinition, column_of,
+  objective_name, model_of, IsSortedDraft, sorted-draft_of, sorted-mapped, has_lp_name, DeclaresLp, lp_names-declared, is_no_lp_name,
+  first_unfit, or_else, unfit}
 use Rattle.std.proofs.Math.Dec.{T}
-use Rattle.std.specs.Prelude.{Option, Some, None, unwrap_or, if◌then◌else◌}
-use Rattle.std.specs.List.{list_all, prefix_len}
-use Rattle.std.proofs.lemmas.Bool.{le-ltb}
-use Rattle.std.specs.Option.{option_map, option_map_or}
-use Rattle.std.specs.Cmp.{first_so, second_so}
-use Rattle.std.specs.declared.cmp.Ordering.TheVariants as orders
-use Rattle.std.specs.FinMap.{put, entries, entries-from_sorted}
-use Rattle.mpslp_types.specs.Name.{bytes_cmp, is_lp_name, is_mps_name}
 use Rattle.mpslp_types.specs.declared.faults.NameAt.TheVariants.{Objective, Row, Column}
-use Rattle.mpslp_types.proofs.BoolLemmas.{both_so}
 use Rattle.mpslp_types.proofs.EachLemmas.{Each}
-use Rattle.mpslp_decimal.specs.Decimal.{zero_number}
 use Rattle.mpslp_types.specs.declared.kinds.RowType.TheVariants.{Free}
-use Rattle.mpslp_model_core.specs.Limits.{plain_limits}
-use Rattle.mpslp_model_core.specs.Model.{LinearModel, Row as Limits, Column as ColumnOf}
-use Rattle.mpslp_builder.specs.Declaration.{Declaration, declare_objective, declare_row, declare_column, Declarations, Draft, with_declaration, with_declarations, RowDefinition}
-use Rattle.mpslp_builder.specs.Meaning.{column_of, objective_name, row_limits, model_of}
-use Rattle.mpslp_builder.proofs.SortedDrafts.{IsSortedDraft, sorted-draft_of}
-use Rattle.mpslp_builder.proofs.MeaningFromNoFault.{sorted-mapped}
-use Rattle.mpslp_lp.specs.Laws.{has_lp_name}
-use Rattle.mpslp_lp.specs.LpText.{DeclaresLp}
-use Rattle.mpslp_lp.proofs.ModelOrFault.{lp_names-declared}
-use Rattle.mpslp_canonical_lp.specs.Unfit.{is_no_lp_name, first_unfit, or_else, unfit}
+use Rattle.mpslp_model_core.specs.Model.{Row as Limits}
+use Rattle.mpslp_builder.specs.Meaning.{row_limits}
+use Rattle.std.specs.declared.cmp.Ordering.TheVariants as orders
 
 -- ---- the names of a draft
 
@@ -53,14 +41,14 @@ whole-front [] h = refl
 whole-front (name ∷ names) h = grind (arith, arith, whole-front names h.1)
 
 none-unfit : (names : List (List ℕ)) → Each (λ name. is_lp_name name ≡ true) names → first_unfit names ≡ None
-none-unfit names h = grind (arith, whole-front, le-ltb, arith)
+none-unfit = grind (arith, whole-front, le-ltb, arith)
 
 lp-named : {X Y : Type 0} (f : List ℕ × X → Y) (es : List (List ℕ × X)) → list_all (λ e. is_lp_name e.0) es ≡ true
     → Each (λ name. is_lp_name name ≡ true) (map (λ (e : List ℕ × Y). e.0) (map (λ e. (e.0, f e)) es))
 lp-named f [] h = tt
 lp-named {X} f (e ∷ es) h = (
   first_so (is_lp_name e.0) (list_all (λ (x : List ℕ × X). is_lp_name x.0) es) h,
-  lp-named f es (second_so (is_lp_name e.0) (list_all (λ (x : List ℕ × X). is_lp_name x.0) es) h),
+  lp-named f es (second_so _ _ h),
 )
 
 none-found : (objective : List ℕ) (rows columns : List (List ℕ)) → is_lp_name objective ≡ true → first_unfit rows ≡ None → first_unfit columns ≡ None
@@ -68,7 +56,7 @@ none-found : (objective : List ℕ) (rows columns : List (List ℕ)) → is_lp_n
 none-found objective rows columns h r c = rw h (rw r (rw c refl))
 
 some-lp : (o : Option (List ℕ)) → is_mps_name (unwrap_or o []) ≡ true → option_map_or is_lp_name o true ≡ true → is_lp_name (unwrap_or o []) ≡ true
-some-lp o s h = grind arith
+some-lp = grind arith
 
 -- the model of a draft with LP names
 draft-fit : (all : Draft) → is_mps_name (objective_name all) ≡ true → IsSortedDraft all → HasLpNames all → unfit (model_of all) ≡ None
@@ -85,4 +73,4 @@ draft-fit all objective sorted names =
 
 -- LP can express what LP text declares.
 pub declared-fit : (bytes : List ℕ) (m : LinearModel) → DeclaresLp bytes m → unfit m ≡ None
-declared-fit bytes m declares = grind (arith, draft-fit, sorted-draft_of, names-with_declarations, lp_names-declared)
+declared-fit = grind (arith, draft-fit, sorted-draft_of, names-with_declarations, lp_names-declared)

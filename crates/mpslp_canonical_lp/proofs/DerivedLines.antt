@@ -1,42 +1,21 @@
 -- Each printed phrase declares what it was printed from, whatever is declared before.
-use Rattle.std.proofs.Common.{arith, rules, ◌≡◌, refl, sym, ap, subst, ◌∙◌, ℕ, ◌+◌, List, [], ◌∷◌, ◌++◌, Bool, true, false}
-use Rattle.std.specs.Prelude.{Some, None, codes, if◌then◌else◌}
-use Rattle.std.specs.List.{flat_map}
-use Rattle.std.specs.Cmp.{first_so, second_so}
-use Rattle.std.proofs.lemmas.List.{append-nil}
-use Rattle.mpslp_decimal.specs.Decimal.{Number, is_decimal, is_zero, have_same_value}
-use Rattle.mpslp_decimal.proofs.OrderLemmas.{same_decimal}
-use Rattle.mpslp_decimal.proofs.CutLemmas.{Each, Each-weaker}
-use Rattle.mpslp_types.specs.Name.{is_lp_name}
-use Rattle.mpslp_types.specs.Limit.{are_sides, is_lower_side, is_upper_side, is_bounded_decimal, limit_of}
-use Rattle.mpslp_types.specs.declared.kinds.Limit.{Limit}
-use Rattle.mpslp_types.specs.declared.kinds.Limit.TheVariants.{MinusInf, Finite, PlusInf}
-use Rattle.mpslp_types.proofs.EachLemmas.{Each-from_list_all}
-use Rattle.mpslp_model_core.specs.Model.{Row}
-use Rattle.mpslp_builder.specs.Declaration.{RowDefinition, declare_row, declare_column, declare_lower, declare_upper, bounds_declared, Declarations, draft_of, with_declarations}
-use Rattle.mpslp_builder.proofs.SoundParts.{lower_of, upper_of, bounded_so, bounded_finite}
-use Rattle.mpslp_lp_grammar.specs.Rules.{phrases, made_by}
-use Rattle.mpslp_lp_grammar.specs.Terminal.{TerminalAt}
-use Rattle.mpslp_lp_grammar.specs.Phrase.{Point, start}
-use Rattle.mpslp_lp_grammar.specs.Grammar.{phrase_at}
-use Rattle.mpslp_lp_grammar.specs.Rows.{objective_declared, term_declared}
-use Rattle.mpslp_lp_grammar.specs.Items.{limits_by}
-use Rattle.mpslp_lp_grammar.specs.declared.relations.Relation.TheVariants.{AtLeast, EqualTo}
-use Rattle.mpslp_lp_grammar.specs.declared.states.Place.TheVariants.{BeforeItems, InObjective, BetweenRows, InBounds}
-use Rattle.mpslp_canonical_lp.specs.Printed.{PrintedLine, word, semi_continuous}
-use Rattle.mpslp_canonical_lp.specs.CanonicalLp.{Lines, Term, heading, label_line, sense_word, term_line, row_terms, row_lines, bound_lines, name_line, semi_heading}
-use Rattle.mpslp_canonical_lp.specs.PrintedDeclarations.{point_at, terminals_at, AreDerived, AreDerivedAt, is_legal_term, after_objective, EndsObjectiveFrom, DeriveObjectives, AreLegalTerms, row_and_terms, DeriveRows, column_and_bounds, DeriveBounds, DeriveAllKinds, end_heading, DeriveAllHeadings}
-use Rattle.mpslp_canonical_lp.proofs.LexemeLemmas.{IsGoodName}
-use Rattle.mpslp_canonical_lp.proofs.LineLemmas.{line-terminals}
-use Rattle.mpslp_canonical_lp.proofs.TextLemmas.{all-faultless}
-use Rattle.mpslp_canonical_lp.proofs.TerminalLemmas.{line_terminals_in, line-seen, all_terminals}
-use Rattle.mpslp_canonical_lp.proofs.PrintableLemmas.{AllPrintable, IsTerm, code-word, a-line, good-name, sense-good, heading-printable, label-printable, term-printable, constant-printable, subject-printable, sides-decimal, bound-printable, row-printable, in-turn}
-use Rattle.mpslp_canonical_lp.proofs.PhraseLemmas.{Walks, column_and, start-walks, bounds-section-walks, generals-section-walks, semis-section-walks, end-says, end-makes}
-use Rattle.mpslp_canonical_lp.proofs.ObjectiveWalk.{begin-terminals, items_at, one-term, constant-walk}
-use Rattle.mpslp_canonical_lp.proofs.BoundsWalk.{bound_made, column-walk}
-use Rattle.mpslp_canonical_lp.proofs.TailWalk.{one-general, one-semi}
-use Rattle.mpslp_canonical_lp.proofs.TextWalk.{row_by, IsRow, row-walk}
-use Rattle.mpslp_canonical_lp.proofs.MeantRows.{limits-back}
+use Rattle.mpslp_canonical_lp.proofs.Prelude.{arith, rules, ◌≡◌, refl, sym, ap, subst, ◌∙◌, ℕ, ◌+◌, List, [], ◌∷◌, ◌++◌, Bool, true, false,
+  Some, None, codes, if◌then◌else◌, flat_map, first_so, second_so, append-nil, Number, is_zero, have_same_value, same_decimal, Each,
+  are_sides, is_lower_side, is_upper_side, is_bounded_decimal, limit_of, Limit, MinusInf, Finite, PlusInf, Each-from_list_all, Row,
+  RowDefinition, declare_row, declare_column, declare_lower, declare_upper, bounds_declared, Declarations, draft_of, with_declarations,
+  lower_of, upper_of, bounded_so, bounded_finite, phrases, made_by, TerminalAt, Point, start, phrase_at, objective_declared, term_declared,
+  limits_by, AtLeast, EqualTo, BeforeItems, InObjective, BetweenRows, InBounds, PrintedLine, word, semi_continuous, Lines, Term, heading,
+  label_line, sense_word, term_line, row_terms, row_lines, bound_lines, name_line, semi_heading, point_at, terminals_at, AreDerived,
+  AreDerivedAt, is_legal_term, after_objective, EndsObjectiveFrom, DeriveObjectives, AreLegalTerms, row_and_terms, DeriveRows,
+  column_and_bounds, DeriveBounds, DeriveAllKinds, end_heading, DeriveAllHeadings}
+use Rattle.mpslp_decimal.proofs.CutLemmas.{Each-weaker}
+use Rattle.mpslp_canonical_lp.proofs.{LexemeLemmas.{IsGoodName}, LineLemmas.{line-terminals}, TextLemmas.{all-faultless},
+  TerminalLemmas.{line_terminals_in, line-seen, all_terminals}, PrintableLemmas.{AllPrintable, IsTerm, code-word, a-line, good-name,
+  sense-good, heading-printable, label-printable, term-printable, constant-printable, subject-printable, sides-decimal, bound-printable,
+  row-printable, in-turn},
+  PhraseLemmas.{Walks, column_and, start-walks, bounds-section-walks, generals-section-walks, semis-section-walks, end-says, end-makes},
+  ObjectiveWalk.{begin-terminals, items_at, one-term, constant-walk}, BoundsWalk.{bound_made, column-walk},
+  TailWalk.{one-general, one-semi}, TextWalk.{row_by, IsRow, row-walk}, MeantRows.{limits-back}}
 
 -- ---- the tokens are those of the texts of the lines
 
@@ -45,7 +24,7 @@ printed-terminals n [] h = refl
 printed-terminals n (line ∷ lines) h = λ i. (line-terminals n line h.0.each ∙ line-seen n line h.0.each) i ++ printed-terminals (n + 1) lines h.1 i
 
 derive : (from to : Point) (n : ℕ) (lines : Lines) (made : Declarations) → AllPrintable lines → Walks from (all_terminals n lines) made to → AreDerived from n lines made to
-derive from to n lines made printable walk = grind (arith, printed-terminals, all-faultless)
+derive = grind (arith, printed-terminals, all-faultless)
 
 one-line : (from to : Point) (n : ℕ) (line : PrintedLine) (made : Declarations) → Walks from (line_terminals_in n line) made to → Walks from (all_terminals n (line ∷ [])) made to
 one-line from to n line made walk = subst (λ (tokens : List TerminalAt). Walks from tokens made to) (sym (append-nil (line_terminals_in n line))) walk
@@ -53,7 +32,7 @@ one-line from to n line made walk = subst (λ (tokens : List TerminalAt). Walks 
 -- ---- the objective
 
 legal-term : (term : Term) → is_legal_term term ≡ true → IsTerm term
-legal-term term h = (good-name term.0 (first_so (is_lp_name term.0) (is_decimal term.1) h), second_so (is_lp_name term.0) (is_decimal term.1) h)
+legal-term term h = (good-name term.0 (first_so _ _ h), second_so _ _ h)
 
 -- before the first item, or after one
 objective-term : (started : Bool) (name : List ℕ) (term : Term) → is_legal_term term ≡ true → AreDerivedAt (items_at name started) (term_line term ∷ []) (term_declared name term) (InObjective name)

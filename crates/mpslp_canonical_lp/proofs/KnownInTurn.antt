@@ -1,30 +1,12 @@
 -- What the canonical text declares names no row and no column before it is declared.
-use Rattle.std.proofs.Common.{arith, ◌≡◌, refl, ◌∙◌, ℕ, List, [], ◌∷◌, ◌++◌, true, false}
-use Rattle.std.specs.Prelude.{filter, ◌&&◌, Option, Some, None, if◌then◌else◌}
-use Rattle.std.specs.List.{flat_map}
-use Rattle.std.specs.Cmp.{second_so}
-use Rattle.std.specs.FinMap.{put}
-use Rattle.mpslp_decimal.specs.Decimal.{Number, is_zero, have_same_value}
-use Rattle.mpslp_types.specs.Name.{same_bytes, bytes_cmp}
-use Rattle.mpslp_types.specs.Limit.{limit_of}
-use Rattle.mpslp_types.specs.declared.kinds.Limit.{Limit}
-use Rattle.mpslp_types.specs.declared.kinds.Limit.TheVariants.{MinusInf, Finite, PlusInf}
-use Rattle.mpslp_types.proofs.BoolLemmas.{both_so, or_left, or_right}
-use Rattle.mpslp_model_core.specs.Model.{Column, CoefficientKey, Listing}
-use Rattle.mpslp_builder.specs.Declaration.{RowDefinition, declare_constant, declare_row, declare_column, declare_coefficient, bounds_declared, Declarations, Draft, empty_draft, with_declaration, with_declarations, has_name, has_row, has_column}
-use Rattle.mpslp_builder.specs.Consistency.{is_known}
-use Rattle.mpslp_builder.proofs.SlotLemmas.{has-put}
-use Rattle.mpslp_builder.proofs.LaterDrafts.{itself_named}
-use Rattle.mpslp_builder.proofs.RefusalLemmas.{are_known_in_turn}
-use Rattle.mpslp_lp_grammar.specs.Items.{Limits, limits_by}
-use Rattle.mpslp_lp_grammar.specs.Grammar.{no_limits}
-use Rattle.mpslp_lp_grammar.specs.declared.relations.Relation.TheVariants.{AtLeast, EqualTo}
-use Rattle.mpslp_canonical_lp.specs.CanonicalLp.{Term, row_terms, is_integer_column, is_semi_column}
-use Rattle.mpslp_canonical_lp.proofs.PhraseLemmas.{column_and}
-use Rattle.mpslp_canonical_lp.proofs.ObjectiveWalk.{terms_declared, constant_declared, objective_made}
-use Rattle.mpslp_canonical_lp.proofs.BoundsWalk.{bound_made, column_made}
-use Rattle.mpslp_canonical_lp.proofs.TailWalk.{general_made, semi_made}
-use Rattle.mpslp_canonical_lp.proofs.TextWalk.{row_made, listed_declarations}
+use Rattle.mpslp_canonical_lp.proofs.Prelude.{arith, ◌≡◌, refl, ◌∙◌, ℕ, List, [], ◌∷◌, ◌++◌, true, false, filter, Option, Some, None,
+  if◌then◌else◌, flat_map, second_so, put, Number, is_zero, have_same_value, bytes_cmp, limit_of, Limit, MinusInf, Finite, PlusInf, both_so,
+  or_left, or_right, Column, CoefficientKey, Listing, RowDefinition, declare_constant, declare_row, declare_column, declare_coefficient,
+  bounds_declared, Declarations, Draft, empty_draft, with_declaration, with_declarations, has_name, has_row, has_column, has-put,
+  itself_named, are_known_in_turn, Limits, limits_by, no_limits, AtLeast, EqualTo, Term, row_terms, is_integer_column, is_semi_column,
+  is_known}
+use Rattle.mpslp_canonical_lp.proofs.{PhraseLemmas.{column_and}, ObjectiveWalk.{terms_declared, constant_declared, objective_made},
+  BoundsWalk.{bound_made, column_made}, TailWalk.{general_made, semi_made}, TextWalk.{row_made, listed_declarations}}
 
 -- ---- several declarations
 
@@ -45,7 +27,7 @@ always-flat f h [] context = refl
 always-flat f h (x ∷ xs) context = always-append (f x) (flat_map f xs) (h x) (always-flat f h xs) context
 
 there : {X : Type 0} (name : List ℕ) (v : X) (es : List (List ℕ × X)) → has_name (put bytes_cmp name v es) name ≡ true
-there name v es = has-put name name v es ∙ or_left (same_bytes name name) (has_name es name) (itself_named name)
+there name v es = has-put name name v es ∙ or_left _ _ (itself_named name)
 
 -- ---- terms, and a row
 
@@ -54,8 +36,7 @@ terms-known row [] context h = refl
 terms-known row (term ∷ terms) context h =
     let after = with_declaration context (declare_column term.0) in
     let key : CoefficientKey = record { row = row; column = term.0 } in
-    both_so (has_row after row && has_column after term.0) (are_known_in_turn (with_declaration after (declare_coefficient key term.1)) (terms_declared row terms))
-    (both_so (has_row after row) (has_column after term.0) h (there term.0 tt context.columns))
+    both_so _ _ (both_so _ _ h (there term.0 tt context.columns))
     (terms-known row terms (with_declaration after (declare_coefficient key term.1)) h)
 
 row-known : (name : List ℕ) (form : RowDefinition) (terms : List Term) → AlwaysKnown (declare_row name form ∷ terms_declared name terms)
@@ -72,7 +53,7 @@ objective-known m context = grind (arith, terms_declared, known-append, constant
 -- ---- bounds
 
 sides-known : (column : List ℕ) (lower upper : Option Limit) (context : Draft) → has_column context column ≡ true → are_known_in_turn context (bounds_declared column lower upper) ≡ true
-sides-known column lower upper context h = grind arith
+sides-known = grind arith
 
 limited-known : (column : List ℕ) (limits : Limits) → AlwaysKnown (column_and column limits)
 limited-known column limits context = sides-known column limits.lower limits.upper (with_declaration context (declare_column column)) (there column tt context.columns)
@@ -104,10 +85,10 @@ bound-known column PlusInf PlusInf = limited-known column no_limits
 -- ---- types
 
 general-known : (column : List ℕ × Column) → AlwaysKnown (general_made column)
-general-known column context = both_so (has_column (with_declaration context (declare_column column.0)) column.0) true (there column.0 tt context.columns) refl
+general-known column context = both_so _ _ (there column.0 tt context.columns) refl
 
 semi-known : (column : List ℕ × Column) → AlwaysKnown (semi_made column)
-semi-known column context = both_so (has_column (with_declaration context (declare_column column.0)) column.0) true (there column.0 tt context.columns) refl
+semi-known column context = both_so _ _ (there column.0 tt context.columns) refl
 
 -- ---- the whole text
 

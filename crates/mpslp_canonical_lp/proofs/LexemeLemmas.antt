@@ -1,23 +1,13 @@
 -- The tokens of a printed line are those of its pieces.
-use Rattle.std.proofs.Common.{rules, ◌≡◌, refl, sym, subst, ℕ, zero, suc, ◌≤◌, List, [], ◌∷◌, ◌++◌, Bool, true, false, length, replicate, arith, append_assoc}
-use Rattle.std.specs.Prelude.{None, ◌||◌, ◌==◌, ℤ, pos, negsuc, unsigned_abs, int_le, codes, if◌then◌else◌}
-use Rattle.std.specs.List.{flat_map, join_by}
-use Rattle.std.proofs.lemmas.Bool.Decides.{nat_tests}
-use Rattle.mpslp_decimal.specs.Decimal.{Number, IsDecimal, is_negative, size_of}
-use Rattle.mpslp_decimal.specs.Literal.{is_digit}
-use Rattle.mpslp_decimal.specs.NumberText.{number_text}
-use Rattle.mpslp_types.specs.Name.{begins_a_number}
-use Rattle.mpslp_decimal.proofs.CutLemmas.{Each}
-use Rattle.mpslp_lp_tokens.specs.Token.{is_word, tokens, class_of}
-use Rattle.mpslp_lp_grammar.specs.Terminal.{token_fault}
-use Rattle.mpslp_lp_grammar.specs.declared.relations.Relation.{Relation}
+use Rattle.mpslp_canonical_lp.proofs.Prelude.{rules, ◌≡◌, refl, sym, subst, ℕ, zero, suc, ◌≤◌, List, [], ◌∷◌, ◌++◌, Bool, true, false,
+  length, replicate, arith, append_assoc, None, ◌||◌, ◌==◌, ℤ, pos, negsuc, unsigned_abs, int_le, codes, if◌then◌else◌, flat_map, join_by,
+  nat_tests, Number, IsDecimal, is_negative, size_of, is_digit, number_text, begins_a_number, Each, is_word, tokens, class_of, token_fault,
+  Relation, Lexeme, PrintedLine, word, label, number, sign, sense, minus_infinity, sign_bytes, sense_bytes, lexeme_text, line_text,
+  semi_continuous, sign_kind, sense_kind, SeenToken, tokens_in, line_tokens}
+use Rattle.mpslp_canonical_lp.proofs.{TokenLemmas.{seen, Reads, Stops, StopsAt, IsToken, reads-nil, reads-blank, reads-token},
+  StopLemmas.{stops-blank, stops-colon, stops-minus}, TokenTexts.{word-token, unsigned-begins, unsigned-token}}
 use Rattle.mpslp_lp_tokens.specs.declared.tokens.TokenKind.TheVariants as kinds
 use Rattle.mpslp_lp_tokens.specs.declared.words.WordClass.TheVariants as meanings
-use Rattle.mpslp_canonical_lp.specs.Printed.{Lexeme, PrintedLine, word, label, number, sign, sense, minus_infinity, sign_bytes, sense_bytes, lexeme_text, line_text, semi_continuous}
-use Rattle.mpslp_canonical_lp.specs.PrintedDeclarations.{sign_kind, sense_kind, SeenToken, tokens_in, line_tokens}
-use Rattle.mpslp_canonical_lp.proofs.TokenLemmas.{seen, Reads, Stops, StopsAt, IsToken, reads-nil, reads-blank, reads-token}
-use Rattle.mpslp_canonical_lp.proofs.StopLemmas.{stops-blank, stops-colon, stops-minus}
-use Rattle.mpslp_canonical_lp.proofs.TokenTexts.{word-token, unsigned-begins, unsigned-token}
 
 -- ---- pieces that can be printed
 
@@ -45,7 +35,7 @@ Apart [] = Unit {0}
 Apart (byte ∷ _) = byte ≡ 32
 
 stops-apart : (text rest : List ℕ) → Apart rest → Stops text rest
-stops-apart text rest h = grind (arith, stops-blank)
+stops-apart = grind (arith, stops-blank)
 
 -- ---- a piece
 
@@ -63,7 +53,7 @@ minus-token : IsToken kinds.Minus (codes "-")
 minus-token = record { is = refl; begins = (refl, refl) }
 
 number-no_greater : (b : ℕ) → (is_digit b || b == 46) ≡ true → (62 == b) ≡ false
-number-no_greater b h = grind (arith, nat_tests)
+number-no_greater = grind (arith, nat_tests)
 
 -- a minus before a number
 minus-read : (text rest : List ℕ) (expected : List SeenToken) → begins_a_number text ≡ true → Reads (text ++ rest) expected → Reads (45 ∷ (text ++ rest)) ((kinds.Minus, codes "-") ∷ expected)
@@ -76,7 +66,7 @@ size-positive z = refl
 
 -- a negative number is a minus and its absolute value
 pub negative-text : (value : Number) → is_negative value ≡ true → number_text value ≡ 45 ∷ number_text (size_of value)
-negative-text value h = grind arith
+negative-text = grind arith
 
 number-read : (value : Number) (rest : List ℕ) (expected : List SeenToken) → IsDecimal value → Apart rest → Reads rest expected → Reads (number_text value ++ rest) (tokens_in (number value) ++ expected)
 number-read value rest expected h apart more = by (is_negative value) refl
@@ -94,10 +84,10 @@ number-read value rest expected h apart more = by (is_negative value) refl
     by false e = reads-token kinds.Number (number_text value) rest expected (unsigned-token value h e) (stops-apart (number_text value) rest apart) more
 
 sign-token : (minus : Bool) → IsToken (sign_kind minus) (sign_bytes minus)
-sign-token minus = grind arith
+sign-token = grind arith
 
 sense-token : (relation : Relation) → IsToken (sense_kind relation) (sense_bytes relation)
-sense-token relation = grind arith
+sense-token = grind arith
 
 -- a minus ends the word before it
 stops-semi : StopsAt (codes "Semi") 45

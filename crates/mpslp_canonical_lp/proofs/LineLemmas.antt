@@ -1,35 +1,19 @@
 -- A printed line has no error of its own, and its terminals are those of its pieces.
-use Rattle.std.proofs.Common.{rules, ◌≡◌, refl, ap, ◌∙◌, ℕ, zero, suc, ◌*◌, ◌≤◌, List, [], ◌∷◌, Bool, true, false, not, length, replicate, arith, length-append, map}
-use Rattle.std.specs.Prelude.{Option, Some, None, ◌&&◌, ◌==◌, nat_le, codes, filter_map, if◌then◌else◌}
-use Rattle.std.specs.List.{join_by, list_all, list_any, cons_option}
-use Rattle.std.specs.Cmp.{first_so, second_so}
-use Rattle.std.proofs.lemmas.Bool.Decides.{nat_tests}
-use Rattle.std.proofs.lemmas.Bool.{eqb-true}
-use Rattle.std.proofs.lemmas.List.{length-replicate}
-use Rattle.mpslp_decimal.specs.Decimal.{Number, IsDecimal, is_negative, size_of}
-use Rattle.mpslp_decimal.specs.Literal.{is_digit}
-use Rattle.mpslp_decimal.specs.NumberText.{number_text}
-use Rattle.mpslp_decimal.proofs.CutLemmas.{before-none, Each, Each-weaker, Each-append}
-use Rattle.mpslp_decimal.proofs.NumberTextLemmas.{number-text, read-short}
-use Rattle.mpslp_types.specs.Name.{is_letter, is_lp_byte}
+use Rattle.mpslp_canonical_lp.proofs.Prelude.{rules, ◌≡◌, refl, ap, ◌∙◌, ℕ, zero, suc, ◌*◌, ◌≤◌, List, [], ◌∷◌, Bool, true, false, not,
+  length, replicate, arith, length-append, map, Option, Some, None, ◌&&◌, ◌==◌, nat_le, codes, filter_map, if◌then◌else◌, join_by, list_all,
+  list_any, cons_option, first_so, second_so, nat_tests, eqb-true, length-replicate, Number, IsDecimal, is_negative, size_of, is_digit,
+  number_text, before-none, Each, number-text, read-short, is_letter, is_lp_byte, Each-flat_map, Each-from_list_all, list_all-from_Each,
+  has_legal_bytes, begins_comment, is_word, Token, tokens, is_legal_byte, has_legal_length, first_held, number_fault, TerminalAt,
+  terminal_of, line_terminals, token_fault, lexical_fault, AtMost, AtLeast, EqualTo, begins-lp, Lexeme, PrintedLine, word, label, number,
+  sign, sense, minus_infinity, lexeme_text, line_text, semi_continuous, SeenToken, tokens_in, line_tokens}
+use Rattle.mpslp_decimal.proofs.CutLemmas.{Each-weaker, Each-append}
 use Rattle.mpslp_types.specs.FaultOrder.{least_kind}
 use Rattle.mpslp_types.specs.declared.faults.FaultKind.{FaultKind}
-use Rattle.mpslp_types.specs.declared.faults.FaultKind.TheVariants as faults
-use Rattle.mpslp_types.proofs.EachLemmas.{Each-flat_map, Each-from_list_all, list_all-from_Each}
-use Rattle.mpslp_lp.specs.Laws.{has_legal_bytes}
-use Rattle.mpslp_lp_tokens.specs.Token.{begins_comment, begins_word, continues_word, is_word, Token, tokens}
-use Rattle.mpslp_lines.specs.FaultTests.{is_legal_byte, has_legal_length, first_held, number_fault}
-use Rattle.mpslp_lp_grammar.specs.Terminal.{TerminalAt, terminal_of, line_terminals, token_fault, lexical_fault}
 use Rattle.mpslp_lines.specs.declared.legal_line.TheConstants.{MAX_LINE_LEN}
-use Rattle.mpslp_lp_grammar.specs.declared.relations.Relation.TheVariants.{AtMost, AtLeast, EqualTo}
+use Rattle.mpslp_canonical_lp.proofs.{LiteralBytes.{literal-each}, TokenLemmas.{seen}, TokenTexts.{text-literal},
+  LexemeLemmas.{IsPrintable, after_first_piece, line-read}}
+use Rattle.mpslp_types.specs.declared.faults.FaultKind.TheVariants as faults
 use Rattle.mpslp_lp_tokens.specs.declared.tokens.TokenKind.TheVariants as kinds
-use Rattle.mpslp_lp_tokens.proofs.NameTokens.{begins-lp}
-use Rattle.mpslp_canonical_lp.specs.Printed.{Lexeme, PrintedLine, word, label, number, sign, sense, minus_infinity, lexeme_text, line_text, semi_continuous}
-use Rattle.mpslp_canonical_lp.specs.PrintedDeclarations.{SeenToken, tokens_in, line_tokens}
-use Rattle.mpslp_canonical_lp.proofs.LiteralBytes.{literal-each}
-use Rattle.mpslp_canonical_lp.proofs.TokenLemmas.{seen}
-use Rattle.mpslp_canonical_lp.proofs.TokenTexts.{text-literal}
-use Rattle.mpslp_canonical_lp.proofs.LexemeLemmas.{IsPrintable, after_first_piece, line-read}
 
 -- ---- bytes
 
@@ -38,10 +22,10 @@ abbrev pub is_plain : ℕ → Bool
 is_plain byte = nat_le 33 byte && (nat_le byte 126 && not (byte == 92))
 
 letter-plain : (b : ℕ) → is_letter b ≡ true → is_plain b ≡ true
-letter-plain b h = grind (arith, nat_tests)
+letter-plain = grind (arith, nat_tests)
 
 digit-plain : (b : ℕ) → is_digit b ≡ true → is_plain b ≡ true
-digit-plain b h = grind (arith, nat_tests)
+digit-plain = grind (arith, nat_tests)
 
 symbol-plain : (symbols : List ℕ) (b : ℕ) → list_all is_plain symbols ≡ true → list_any (λ s. s == b) symbols ≡ true → is_plain b ≡ true
 symbol-plain [] b all any = cc
@@ -55,8 +39,8 @@ module _ (P : ℕ → Type 0) (plain : (b : ℕ) → is_plain b ≡ true → P b
   each-word : (text : List ℕ) → is_word text ≡ true → Each P text
   each-word [] h = tt
   each-word (b ∷ bytes) h = (
-    plain b (lp-plain b (begins-lp b (first_so (begins_word b) (list_all continues_word bytes) h))),
-    Each-weaker (λ c. is_lp_byte c ≡ true) P (λ c k. plain c (lp-plain c k)) bytes (Each-from_list_all is_lp_byte bytes (second_so (begins_word b) (list_all continues_word bytes) h)),
+    plain b (lp-plain b (begins-lp b (first_so _ _ h))),
+    Each-weaker (λ c. is_lp_byte c ≡ true) P (λ c k. plain c (lp-plain c k)) bytes (Each-from_list_all is_lp_byte bytes (second_so _ _ h)),
   )
 
   each-code : (text : List ℕ) → list_all is_plain text ≡ true → Each P text
@@ -95,10 +79,10 @@ module _ (P : ℕ → Type 0) (plain : (b : ℕ) → is_plain b ≡ true → P b
   each-line_text line h = Each-append P (replicate line.indent 32) (join_by lexeme_text (codes " ") line.lexemes) (each-blank line.indent) (each-joined line.lexemes h)
 
 plain-legal : (b : ℕ) → is_plain b ≡ true → is_legal_byte b ≡ true
-plain-legal b h = grind (arith, nat_tests)
+plain-legal = grind (arith, nat_tests)
 
 plain-no_comment : (b : ℕ) → is_plain b ≡ true → begins_comment b ≡ false
-plain-no_comment b h = grind (arith, nat_tests)
+plain-no_comment = grind (arith, nat_tests)
 
 bytes-legal : (line : PrintedLine) → Each IsPrintable line.lexemes → has_legal_bytes (line_text line) ≡ true
 bytes-legal line h = search (rules, before-none, each-line_text, plain-no_comment, list_all-from_Each, plain-legal)
@@ -135,10 +119,10 @@ length-joined (piece ∷ lexemes) h =
     omega (arith, here, more, length-append (lexeme_text piece) (after_first_piece lexemes))
 
 at_most : (n : ℕ) → n ≤ 2000 → nat_le n MAX_LINE_LEN ≡ true
-at_most n h = grind (arith, nat_tests)
+at_most = grind (arith, nat_tests)
 
 length-legal : (line : PrintedLine) → IsPrintableLine line → has_legal_length (line_text line) ≡ true
-length-legal line h = grind (arith, replicate, length-replicate, length-joined, at_most, arith, length-append)
+length-legal = grind (arith, replicate, length-replicate, length-joined, at_most, arith, length-append)
 
 -- ---- errors of tokens
 

@@ -1,24 +1,13 @@
 -- A property of each kind of declaration holds for every declaration of the canonical text.
-use Rattle.std.proofs.Common.{arith, ◌≡◌, refl, ℕ, List, [], ◌∷◌, ◌++◌, Bool, true, false}
-use Rattle.std.specs.Prelude.{Option, filter, unwrap_or, if◌then◌else◌}
-use Rattle.std.specs.List.{list_any, flat_map}
-use Rattle.mpslp_decimal.specs.Decimal.{Number, is_zero}
-use Rattle.mpslp_types.specs.Limit.{limit_of}
-use Rattle.mpslp_types.specs.declared.kinds.Sense.{Sense}
-use Rattle.mpslp_types.specs.declared.kinds.Limit.{Limit}
-use Rattle.mpslp_types.specs.declared.kinds.Limit.TheVariants.{MinusInf, PlusInf}
-use Rattle.mpslp_types.proofs.BoolLemmas.{both_false}
-use Rattle.mpslp_types.proofs.EachLemmas.{Each, Each-weaker, Each-append, Each-flat_map, Each-all}
-use Rattle.mpslp_model_core.specs.Model.{CoefficientKey, Listing}
-use Rattle.mpslp_builder.specs.Declaration.{RowDefinition, by_limits, Declaration, declare_sense, declare_objective, declare_constant, declare_row, declare_column, declare_coefficient, declare_lower, declare_upper, declare_integer, declare_semi}
-use Rattle.mpslp_lp_grammar.specs.Rows.{row_limits}
-use Rattle.mpslp_lp_grammar.specs.declared.relations.Relation.{Relation}
-use Rattle.mpslp_canonical_lp.specs.CanonicalLp.{Term, row_terms, objective_terms, is_integer_column, is_semi_column}
-use Rattle.mpslp_canonical_lp.proofs.RowWalk.{left_of}
-use Rattle.mpslp_canonical_lp.proofs.ObjectiveWalk.{terms_declared, constant_declared, objective_made}
-use Rattle.mpslp_canonical_lp.proofs.BoundsWalk.{bound_made, column_made}
-use Rattle.mpslp_canonical_lp.proofs.TailWalk.{general_made, semi_made}
-use Rattle.mpslp_canonical_lp.proofs.TextWalk.{row_left, row_relation, row_right, row_made, listed_declarations}
+use Rattle.mpslp_canonical_lp.proofs.Prelude.{arith, ◌≡◌, refl, ℕ, List, [], ◌∷◌, ◌++◌, Bool, true, false, Option, filter, unwrap_or,
+  if◌then◌else◌, list_any, flat_map, Number, is_zero, limit_of, Sense, Limit, MinusInf, PlusInf, both_false, Each-weaker, Each-append,
+  Each-flat_map, Each-all, CoefficientKey, Listing, RowDefinition, by_limits, Declaration, declare_sense, declare_objective,
+  declare_constant, declare_row, declare_column, declare_coefficient, declare_lower, declare_upper, declare_integer, declare_semi,
+  row_limits, Relation, Term, row_terms, objective_terms, is_integer_column, is_semi_column}
+use Rattle.mpslp_types.proofs.EachLemmas.{Each}
+use Rattle.mpslp_canonical_lp.proofs.{RowWalk.{left_of}, ObjectiveWalk.{terms_declared, constant_declared, objective_made},
+  BoundsWalk.{bound_made, column_made}, TailWalk.{general_made, semi_made},
+  TextWalk.{row_left, row_relation, row_right, row_made, listed_declarations}}
 
 -- the limits by which a row is declared
 abbrev pub form_by : Option Number → Relation → Number → RowDefinition
@@ -70,7 +59,7 @@ module _ (P : Declaration → Type 0) where
 
   -- for the declarations of the bounds of a column, whatever the bounds are
   pub each-bound : (name : List ℕ) → P (declare_column name) → ((limit : Limit) → P (declare_lower name limit)) → ((limit : Limit) → P (declare_upper name limit)) → (lower upper : Limit) → Each P (bound_made name lower upper)
-  each-bound name c l u lower upper = grind arith
+  each-bound = grind arith
 
   -- for any row, any bound and any type
   pub each-of_kind : (m : Listing) → ((sense : Sense) → P (declare_sense sense)) → ((name : List ℕ) → P (declare_objective name)) → ((value : Number) → P (declare_constant value))
@@ -91,7 +80,7 @@ module _ (P : Declaration → Type 0) where
 
 pub none-any : {X : Type 0} (p : X → Bool) (xs : List X) → Each (λ x. p x ≡ false) xs → list_any p xs ≡ false
 none-any p [] h = refl
-none-any p (x ∷ xs) h = both_false (p x) (list_any p xs) h.0 (none-any p xs h.1)
+none-any p (x ∷ xs) h = both_false _ _ h.0 (none-any p xs h.1)
 
 pub flat-none : {X Y : Type 0} (f : X → List Y) (xs : List X) → Each (λ x. f x ≡ []) xs → flat_map f xs ≡ []
 flat-none f [] h = refl

@@ -1,21 +1,11 @@
 -- Each map of the draft that the declarations of the canonical text of a listing make.
-use Rattle.std.proofs.Common.{arith, ◌≡◌, refl, ap, ◌∙◌, List, [], ◌∷◌, ◌++◌, ℕ, map}
-use Rattle.std.specs.Prelude.{filter}
-use Rattle.std.specs.List.{flat_map}
-use Rattle.std.proofs.lemmas.List.{append-nil}
-use Rattle.mpslp_decimal.specs.Decimal.{Number}
-use Rattle.mpslp_model_core.specs.Model.{Row, Column, CoefficientKey, Listing}
-use Rattle.mpslp_builder.specs.Declaration.{RowDefinition, Declaration, declare_column, declare_lower, declare_upper}
-use Rattle.mpslp_types.specs.declared.kinds.Limit.{Limit}
-use Rattle.mpslp_builder.proofs.CoefficientLemmas.{flat_map-none}
-use Rattle.mpslp_builder.proofs.DraftLemmas.{row_part, rhs_part, column_part, coefficient_part, lower_part, upper_part, marked_part, integer_part, binary_part, semi_part}
-use Rattle.mpslp_canonical_lp.specs.CanonicalLp.{Term, objective_terms, row_terms, is_integer_column, is_semi_column}
-use Rattle.mpslp_canonical_lp.proofs.BoundsWalk.{bound_made, column_made}
-use Rattle.mpslp_canonical_lp.proofs.TextWalk.{listed_declarations}
-use Rattle.mpslp_builder.proofs.EntryLemmas.{stated, all_stated}
-use Rattle.std.proofs.lemmas.List.Concat.{flat_map_single}
-use Rattle.mpslp_builder.proofs.NamedEntries.{named}
-use Rattle.mpslp_canonical_lp.proofs.ListedParts.{form_stated, lower_stated, upper_stated, column_lower, column_upper, PartsOf, all_parts, listed-parts, nothing, nothing_of, own_name, without-terms, columns-parts, bounds-parts}
+use Rattle.mpslp_canonical_lp.proofs.Prelude.{arith, ◌≡◌, refl, ap, ◌∙◌, List, [], ◌∷◌, ◌++◌, ℕ, map, filter, flat_map, append-nil, Number,
+  Row, Column, CoefficientKey, Listing, RowDefinition, Declaration, declare_column, declare_lower, declare_upper, Limit, flat_map-none,
+  row_part, rhs_part, column_part, coefficient_part, lower_part, upper_part, marked_part, integer_part, binary_part, semi_part, Term,
+  objective_terms, row_terms, is_integer_column, is_semi_column, stated, all_stated, flat_map_single, named}
+use Rattle.mpslp_canonical_lp.proofs.{BoundsWalk.{bound_made, column_made}, TextWalk.{listed_declarations}, ListedParts.{form_stated,
+  lower_stated, upper_stated, column_lower, column_upper, PartsOf, all_parts, listed-parts, nothing, nothing_of, own_name, without-terms,
+  columns-parts, bounds-parts}}
 
 bounds-none : {Y : Type 0} (part : Declaration → List Y) → ((x : List ℕ) → part (declare_column x) ≡ []) → ((x : List ℕ) (l : Limit) → part (declare_lower x l) ≡ []) → ((x : List ℕ) (l : Limit) → part (declare_upper x l) ≡ [])
     → (column : List ℕ × Column) → flat_map part (column_made column) ≡ []
@@ -45,10 +35,10 @@ rows-part m =
 -- ---- bounds
 
 lower-made : (name : List ℕ) (l u : Limit) → flat_map lower_part (bound_made name l u) ≡ stated name (lower_stated l u)
-lower-made name l u = grind arith
+lower-made = grind arith
 
 upper-made : (name : List ℕ) (l u : Limit) → flat_map upper_part (bound_made name l u) ≡ stated name (upper_stated l u)
-upper-made name l u = grind arith
+upper-made = grind arith
 
 pub lowers-part : (m : Listing) → flat_map lower_part (listed_declarations m) ≡ all_stated column_lower m.columns
 lowers-part =

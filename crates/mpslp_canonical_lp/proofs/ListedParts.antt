@@ -1,27 +1,12 @@
 -- What the declarations of the canonical text of a listing put into each map.
-use Rattle.std.proofs.Common.{arith, rules, ◌≡◌, refl, ap, ◌∙◌, List, [], ◌∷◌, ◌++◌, ℕ, true, false}
-use Rattle.std.specs.Prelude.{Option, Some, None, filter, unwrap_or, if◌then◌else◌}
-use Rattle.std.specs.List.{flat_map}
-use Rattle.std.proofs.lemmas.List.{append-nil}
-use Rattle.std.proofs.lemmas.List.Concat.{flat_map-append}
-use Rattle.mpslp_decimal.specs.Decimal.{Number, is_zero, have_same_value}
-use Rattle.mpslp_model_core.specs.Model.{Row, Column, Listing}
-use Rattle.mpslp_types.specs.Limit.{limit_of}
-use Rattle.mpslp_builder.specs.Declaration.{RowDefinition, by_limits, Declaration, declare_sense, declare_objective, declare_constant, declare_row, Declarations, Draft, draft_of}
-use Rattle.mpslp_types.specs.declared.kinds.Sense.{Sense}
-use Rattle.mpslp_types.specs.declared.kinds.Limit.{Limit}
-use Rattle.mpslp_types.specs.declared.kinds.Limit.TheVariants.{MinusInf, Finite, PlusInf}
-use Rattle.mpslp_builder.proofs.CoefficientLemmas.{flat_map-flat_map, flat_map-none}
+use Rattle.mpslp_canonical_lp.proofs.Prelude.{arith, rules, ◌≡◌, refl, ap, ◌∙◌, List, [], ◌∷◌, ◌++◌, ℕ, true, false, Option, Some, None,
+  filter, unwrap_or, if◌then◌else◌, flat_map, append-nil, flat_map-append, Number, is_zero, have_same_value, Row, Column, Listing, limit_of,
+  RowDefinition, by_limits, Declaration, declare_sense, declare_objective, declare_constant, declare_row, Declarations, Draft, draft_of,
+  Sense, Limit, MinusInf, Finite, PlusInf, flat_map-flat_map, flat_map-none, named, Limits, row_limits, term_declared, objective_declared,
+  Term, objective_terms, row_terms, is_integer_column, is_semi_column}
 use Rattle.mpslp_builder.proofs.FlatLemmas.{flat-same}
-use Rattle.mpslp_builder.proofs.NamedEntries.{named}
-use Rattle.mpslp_lp_grammar.specs.Items.{Limits}
-use Rattle.mpslp_lp_grammar.specs.Rows.{row_limits, term_declared, objective_declared}
-use Rattle.mpslp_canonical_lp.specs.CanonicalLp.{Term, objective_terms, row_terms, is_integer_column, is_semi_column}
-use Rattle.mpslp_canonical_lp.proofs.ObjectiveWalk.{terms_declared, constant_declared, objective_made}
-use Rattle.mpslp_canonical_lp.proofs.TailWalk.{general_made, semi_made}
-use Rattle.mpslp_canonical_lp.proofs.BoundsWalk.{column_made}
-use Rattle.mpslp_canonical_lp.proofs.RowWalk.{left_of}
-use Rattle.mpslp_canonical_lp.proofs.TextWalk.{row_left, row_relation, row_right, row_made, listed_declarations}
+use Rattle.mpslp_canonical_lp.proofs.{ObjectiveWalk.{terms_declared, constant_declared, objective_made}, TailWalk.{general_made, semi_made},
+  BoundsWalk.{column_made}, RowWalk.{left_of}, TextWalk.{row_left, row_relation, row_right, row_made, listed_declarations}}
 
 -- ---- what is declared of a row and of a column
 

@@ -1,17 +1,8 @@
 -- The canonical LP text of a model that is given by its lists.
-use Rattle.std.proofs.Common.{◌≡◌, ◌∙◌, ap, subst, List, ℕ, Bool, true}
-use Rattle.std.specs.Prelude.{◌&&◌, Some, None}
-use Rattle.std.specs.Cmp.{first_so, second_so}
-use Rattle.std.specs.FinMap.{is_sorted, from_sorted, entries-from_sorted}
-use Rattle.mpslp_model_core.specs.Model.{LinearModel, key_cmp, Listing, listing_of}
-use Rattle.mpslp_types.specs.Name.{bytes_cmp}
+use Rattle.mpslp_canonical_lp.proofs.Prelude.{◌≡◌, ◌∙◌, ap, subst, List, ℕ, Bool, true, ◌&&◌, Some, None, first_so, second_so, is_sorted,
+  from_sorted, entries-from_sorted, LinearModel, key_cmp, Listing, listing_of, bytes_cmp, T_from, DeclaresLp, Passes, declares-from_passes,
+  text_of, listed_lines, canonical_lp, unfit_in, unfit}
 use Rattle.mpslp_types.specs.declared.faults.NameAt.{NameAt}
-use Rattle.mpslp_types.proofs.BoolLemmas.{T_from}
-use Rattle.mpslp_lp.specs.LpText.{DeclaresLp}
-use Rattle.mpslp_lp.proofs.WorkedFiles.{Passes, declares-from_passes}
-use Rattle.mpslp_canonical_lp.specs.Printed.{text_of}
-use Rattle.mpslp_canonical_lp.specs.CanonicalLp.{listed_lines, canonical_lp}
-use Rattle.mpslp_canonical_lp.specs.Unfit.{unfit_in, unfit}
 
 abbrev pub model_in : Listing → LinearModel
 model_in m = record {
@@ -28,10 +19,10 @@ is_in_order m = is_sorted bytes_cmp m.rows && (is_sorted bytes_cmp m.columns && 
 
 pub listing_of-model_in : (m : Listing) → is_in_order m ≡ true → listing_of (model_in m) ≡ m
 listing_of-model_in m h =
-    let more = second_so (is_sorted bytes_cmp m.rows) (is_sorted bytes_cmp m.columns && is_sorted key_cmp m.coefficients) h in
-    let rows = entries-from_sorted bytes_cmp m.rows (T_from (is_sorted bytes_cmp m.rows) (first_so (is_sorted bytes_cmp m.rows) (is_sorted bytes_cmp m.columns && is_sorted key_cmp m.coefficients) h)) in
-    let columns = entries-from_sorted bytes_cmp m.columns (T_from (is_sorted bytes_cmp m.columns) (first_so (is_sorted bytes_cmp m.columns) (is_sorted key_cmp m.coefficients) more)) in
-    let coefficients = entries-from_sorted key_cmp m.coefficients (T_from (is_sorted key_cmp m.coefficients) (second_so (is_sorted bytes_cmp m.columns) (is_sorted key_cmp m.coefficients) more)) in
+    let more = second_so _ _ h in
+    let rows = entries-from_sorted bytes_cmp m.rows (T_from _ (first_so _ _ h)) in
+    let columns = entries-from_sorted bytes_cmp m.columns (T_from _ (first_so _ _ more)) in
+    let coefficients = entries-from_sorted key_cmp m.coefficients (T_from _ (second_so _ _ more)) in
     λ i. record { sense = m.sense; objective = m.objective; constant = m.constant; rows = rows i; columns = columns i; coefficients = coefficients i }
 
 -- the model of these lists has this text, which declares it, and each name is an LP name

@@ -1,12 +1,8 @@
 -- The bytes of number literals: digits, signs, points and exponent marks.
-use Rattle.std.proofs.Common.{◌≡◌, refl, sym, subst, List, [], ◌∷◌, ◌++◌, length, ℕ, suc, ◌+◌, Bool, true, false, cond, arith, take, drop}
-use Rattle.std.specs.Prelude.{◌||◌, not, nat_lt}
-use Rattle.std.specs.List.{list_any, list_all, before_first, after_first, position_or_len}
-use Rattle.std.specs.Cmp.{first_so, second_so}
-use Rattle.mpslp_decimal.specs.Literal.{is_digit, is_sign, is_point, is_exponent_mark, without_sign, are_digits, unsigned_part, mantissa_digits, exponent_part, is_literal}
-use Rattle.mpslp_decimal.proofs.CutLemmas.{after-none, Each, Each-weaker}
-use Rattle.mpslp_types.proofs.BoolLemmas.{nor}
-use Rattle.mpslp_types.proofs.EachLemmas.{Each-from_list_all}
+use Rattle.mpslp_canonical_lp.proofs.Prelude.{◌≡◌, refl, sym, subst, List, [], ◌∷◌, ◌++◌, ℕ, suc, ◌+◌, Bool, true, false, cond, arith, take,
+  drop, ◌||◌, not, list_any, before_first, after_first, position_or_len, first_so, second_so, is_digit, is_sign, is_point, is_exponent_mark,
+  without_sign, are_digits, unsigned_part, mantissa_digits, exponent_part, is_literal, after-none, Each, nor, Each-from_list_all}
+use Rattle.mpslp_decimal.proofs.CutLemmas.{Each-weaker}
 
 -- a property of each of these bytes holds for each byte of a literal
 module _ (P : ℕ → Type 0) (digit : (b : ℕ) → is_digit b ≡ true → P b) (sign : (b : ℕ) → is_sign b ≡ true → P b)
@@ -29,14 +25,14 @@ module _ (P : ℕ → Type 0) (digit : (b : ℕ) → is_digit b ≡ true → P b
       ] refl h k
 
   signed-each : (xs : List ℕ) → Each P (without_sign xs) → Each P xs
-  signed-each xs h = grind arith
+  signed-each = grind arith
 
   digits-each : (xs : List ℕ) → are_digits xs ≡ true → Each P xs
-  digits-each xs h = Each-weaker (λ b. is_digit b ≡ true) P digit xs (Each-from_list_all is_digit xs (second_so (nat_lt 0 (length xs)) (list_all is_digit xs) h))
+  digits-each xs h = Each-weaker (λ b. is_digit b ≡ true) P digit xs (Each-from_list_all is_digit xs (second_so _ _ h))
 
   none-marked : (xs : List ℕ) → list_any is_exponent_mark xs ≡ false → Each (λ b. is_exponent_mark b ≡ false) xs
   none-marked [] h = tt
-  none-marked (x ∷ xs) h = let both = nor (is_exponent_mark x) (list_any is_exponent_mark xs) h in (both.0, none-marked xs both.1)
+  none-marked (x ∷ xs) h = let both = nor _ _ h in (both.0, none-marked xs both.1)
 
   exponent-each : (text : List ℕ) → (not (list_any is_exponent_mark text) || are_digits (without_sign (exponent_part text))) ≡ true → Each P (exponent_part text)
   exponent-each text h =
@@ -48,7 +44,7 @@ module _ (P : ℕ → Type 0) (digit : (b : ℕ) → is_digit b ≡ true → P b
   pub literal-each : (text : List ℕ) → is_literal text ≡ true → Each P text
   literal-each text h =
       let exponent : Bool = not (list_any is_exponent_mark text) || are_digits (without_sign (exponent_part text)) in
-      let digits = digits-each (mantissa_digits text) (first_so (are_digits (mantissa_digits text)) exponent h) in
+      let digits = digits-each (mantissa_digits text) (first_so _ _ h) in
       let parts = both-parts (before_first is_point (unsigned_part text)) (after_first is_point (unsigned_part text)) digits in
       let front = signed-each (before_first is_exponent_mark text) (around is_point point (unsigned_part text) parts.0 parts.1) in
-      around is_exponent_mark mark text front (exponent-each text (second_so (are_digits (mantissa_digits text)) exponent h))
+      around is_exponent_mark mark text front (exponent-each text (second_so _ _ h))

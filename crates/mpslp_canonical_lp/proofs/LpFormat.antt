@@ -1,13 +1,7 @@
 -- The laws of LP as a format of model files, in terms of the trait `Format`.
-use Rattle.std.proofs.Common.{◌≡◌, sym, ◌∙◌, List, ℕ}
-use Rattle.std.specs.Prelude.{Some, None}
-use Rattle.mpslp_model_core.specs.Model.{LinearModel, IsSound}
-use Rattle.mpslp_types.specs.declared.faults.Fault.{Fault}
-use Rattle.mpslp_lp.specs.LpText.{DeclaresLp}
+use Rattle.mpslp_canonical_lp.proofs.Prelude.{◌≡◌, sym, ◌∙◌, List, ℕ, Some, None, LinearModel, IsSound, Fault, DeclaresLp, model-or_fault,
+  canonical_lp, unfit}
 use Rattle.mpslp_lp.specs.FirstFault.{IsFirstLpFault}
-use Rattle.mpslp_lp.proofs.ModelOrFault.{model-or_fault}
-use Rattle.mpslp_canonical_lp.specs.CanonicalLp.{canonical_lp}
-use Rattle.mpslp_canonical_lp.specs.Unfit.{unfit}
 use Rattle.mpslp_canonical_lp.proofs.CanonicalDeclares.{canonical-declares, one-model, declared-fits}
 
 -- The text of a well-formed model with LP names declares this model.

@@ -1,26 +1,12 @@
 -- The coefficients that are declared, without zeros, are those of the listing.
-use Rattle.std.proofs.Common.{arith, ◌≡◌, ap, ◌∙◌, List, [], ◌++◌, ℕ, Bool, true, not, cond}
-use Rattle.std.specs.Prelude.{Some, None, filter, filter_map}
-use Rattle.std.specs.List.{flat_map, cons_option}
-use Rattle.std.specs.Cmp.{first_so, second_so}
-use Rattle.std.specs.FinMap.{find}
-use Rattle.mpslp_decimal.specs.Decimal.{Number, is_decimal, is_zero}
-use Rattle.mpslp_model_core.specs.Model.{Row, Column, CoefficientKey, key_cmp, Listing}
-use Rattle.mpslp_builder.specs.Declaration.{empty_draft}
-use Rattle.mpslp_types.proofs.EachLemmas.{Each, Each-weaker, Each-append, Each-flat_map, Each-all}
-use Rattle.mpslp_model_core.proofs.PutsLemmas.{puts}
-use Rattle.mpslp_builder.proofs.DraftLemmas.{coefficients-all}
-use Rattle.mpslp_builder.proofs.DraftEntries.{same_key}
-use Rattle.mpslp_builder.proofs.LaterDrafts.{value_in}
-use Rattle.mpslp_builder.proofs.SortedDrafts.{key_total}
-use Rattle.mpslp_canonical_lp.specs.CanonicalLp.{Term, term_in, objective_term, objective_terms, some_term, row_terms}
-use Rattle.mpslp_canonical_lp.proofs.PrintableLemmas.{Holds, each-filter_map}
-use Rattle.mpslp_canonical_lp.proofs.TextWalk.{listed_declarations}
-use Rattle.mpslp_builder.proofs.EntryLemmas.{puts-kept, found-each}
-use Rattle.mpslp_canonical_lp.proofs.SoundListing.{is_sound_entry, IsSoundListing}
-use Rattle.mpslp_canonical_lp.proofs.ListedParts.{drafted}
-use Rattle.mpslp_canonical_lp.proofs.ListedMaps.{own_coefficient, coefficients-part}
-use Rattle.mpslp_canonical_lp.proofs.PrintedTerms.{place_at, no-coefficient, each-line_text}
+use Rattle.mpslp_canonical_lp.proofs.Prelude.{arith, ◌≡◌, ap, ◌∙◌, List, [], ◌++◌, ℕ, Bool, true, not, cond, Some, None, filter, filter_map,
+  flat_map, cons_option, first_so, second_so, find, Number, is_zero, Row, Column, CoefficientKey, key_cmp, Listing, empty_draft,
+  Each-weaker, Each-append, Each-flat_map, Each-all, puts, coefficients-all, same_key, value_in, key_total, Term, term_in, objective_term,
+  objective_terms, some_term, row_terms, puts-kept, found-each}
+use Rattle.mpslp_types.proofs.EachLemmas.{Each}
+use Rattle.mpslp_canonical_lp.proofs.{PrintableLemmas.{Holds, each-filter_map}, TextWalk.{listed_declarations},
+  SoundListing.{is_sound_entry, IsSoundListing}, ListedParts.{drafted}, ListedMaps.{own_coefficient, coefficients-part},
+  PrintedTerms.{place_at, no-coefficient, each-line_text}}
 
 abbrev is_kept : Number → Bool
 is_kept value = not (is_zero value)
@@ -35,10 +21,11 @@ IsTrueTerm m row term = IsTrueEntry m (place_at row term.0, term.1)
 module _ (m : Listing) (h : IsSoundListing m) where
   kept : (key : CoefficientKey) (value : Number) → find key_cmp key m.coefficients ≡ Some value → is_kept value ≡ true
   kept key value is =
-      first_so (is_kept value) _ (second_so (is_decimal value) _ (found-each key_cmp key_total same_key (λ k v. is_sound_entry m (k, v) ≡ true) m.coefficients h.coefficients key value is))
+      first_so _ _ (second_so _ _ (found-each key_cmp key_total same_key (λ k v. is_sound_entry m (k, v) ≡ true) m.coefficients
+      h.coefficients key value is))
 
   term-true : (row : List ℕ) (column : List ℕ × Column) → Holds (IsTrueTerm m row) (term_in m row column)
-  term-true row column = grind (arith, place_at, kept)
+  term-true = grind (arith, place_at, kept)
 
   terms-true : (row : List ℕ) (columns : List (List ℕ × Column)) → Each (IsTrueTerm m row) (filter_map (term_in m row) columns)
   terms-true row columns = each-filter_map (IsTrueTerm m row) (term_in m row) columns (Each-all (λ column. Holds (IsTrueTerm m row) (term_in m row column)) (term-true row) columns)
@@ -46,7 +33,7 @@ module _ (m : Listing) (h : IsSoundListing m) where
   -- ---- the objective
 
   objective-term-true : (column : List ℕ × Column) → Holds (IsTrueTerm m m.objective) (objective_term m column)
-  objective-term-true column = grind (arith, term-true, no-coefficient)
+  objective-term-true = grind (arith, term-true, no-coefficient)
 
   objective-true : Each (IsTrueTerm m m.objective) (objective_terms m)
   objective-true = each-filter_map (IsTrueTerm m m.objective) (objective_term m) m.columns (Each-all (λ column. Holds (IsTrueTerm m m.objective) (objective_term m column)) objective-term-true m.columns)
@@ -54,10 +41,10 @@ module _ (m : Listing) (h : IsSoundListing m) where
   -- ---- rows
 
   none-first : (row : List ℕ) (column : List ℕ × Column) (terms : List Term) → cons_option (term_in m row column) terms ≡ [] → find key_cmp (place_at row column.0) m.coefficients ≡ None
-  none-first row column terms is = grind arith
+  none-first = grind arith
 
   row-true : (row : List ℕ) (columns : List (List ℕ × Column)) → Each (IsTrueTerm m row) (some_term columns (filter_map (term_in m row) columns))
-  row-true row columns = grind (arith, terms-true, none-first)
+  row-true = grind (arith, terms-true, none-first)
 
   -- ---- all entries
 

@@ -1,40 +1,27 @@
 -- The columns that are declared are those of the listing: each has its type and its bounds.
-use Rattle.std.proofs.Common.{arith, ◌≡◌, refl, sym, ap, ◌∙◌, List, [], ◌∷◌, ℕ, Bool, true, false, cond, map}
-use Rattle.std.specs.Prelude.{Option, Some, None, is_some, is_none, unwrap_or, filter, ◌&&◌, ◌||◌, if◌then◌else◌}
-use Rattle.mpslp_decimal.specs.Decimal.{Number, is_zero, have_same_value}
-use Rattle.mpslp_decimal.proofs.OrderLemmas.{same_decimal}
-use Rattle.mpslp_model_core.specs.Model.{Column, Listing}
-use Rattle.mpslp_types.specs.Name.{bytes_cmp}
-use Rattle.mpslp_types.specs.Limit.{limit_of, is_bounded_decimal, is_lower_side, is_upper_side}
-use Rattle.mpslp_types.specs.declared.kinds.Kind.{Kind}
-use Rattle.mpslp_types.specs.declared.kinds.Limit.{Limit}
-use Rattle.mpslp_types.specs.declared.kinds.Limit.TheVariants.{Finite, PlusInf}
-use Rattle.mpslp_builder.specs.Declaration.{empty_draft, at_name, has_name}
+use Rattle.mpslp_canonical_lp.proofs.Prelude.{arith, ◌≡◌, refl, sym, ap, ◌∙◌, List, [], ◌∷◌, ℕ, Bool, true, false, cond, map, Option, Some,
+  None, is_some, is_none, unwrap_or, filter, ◌&&◌, ◌||◌, if◌then◌else◌, Number, is_zero, have_same_value, same_decimal, Column, Listing,
+  bytes_cmp, limit_of, is_bounded_decimal, is_lower_side, is_upper_side, Kind, Limit, Finite, PlusInf, empty_draft, at_name, has_name,
+  column_of, Each-weaker, puts, lowers-all, uppers-all, marked-all, integers-all, binaries-all, semis-all, sorted-mapped, bytes_total,
+  tied_names, is_integer_kind, is_semi_kind, is_integer_column, is_semi_column, then_stated, all_stated, puts-own, find-kept, find-stated,
+  sorted-stated, sorted-kept, column_sides, lower_of, upper_of, bounded_so, bounded_finite, named}
 use Rattle.mpslp_builder.specs.Bounds.{zero_limit, one_limit}
-use Rattle.mpslp_builder.specs.Meaning.{column_of}
-use Rattle.mpslp_types.proofs.EachLemmas.{Each, Each-weaker}
-use Rattle.mpslp_model_core.proofs.PutsLemmas.{puts}
-use Rattle.mpslp_builder.proofs.BoundsLemmas as kinds
+use Rattle.mpslp_types.proofs.EachLemmas.{Each}
 use Rattle.mpslp_builder.proofs.BoundsLemmas.{column_of-is}
-use Rattle.mpslp_builder.proofs.DraftLemmas.{lowers-all, uppers-all, marked-all, integers-all, binaries-all, semis-all}
-use Rattle.mpslp_builder.proofs.MeaningFromNoFault.{sorted-mapped}
-use Rattle.mpslp_builder.proofs.SortedDrafts.{bytes_total, tied_names}
-use Rattle.mpslp_canonical_lp.specs.CanonicalLp.{is_integer_kind, is_semi_kind, is_integer_column, is_semi_column}
-use Rattle.mpslp_canonical_lp.proofs.TextWalk.{listed_declarations}
-use Rattle.mpslp_builder.proofs.EntryLemmas.{then_stated, all_stated, puts-own, find-kept, find-stated, sorted-stated, sorted-kept}
-use Rattle.mpslp_builder.proofs.SoundParts.{column_sides, lower_of, upper_of, bounded_so, bounded_finite}
-use Rattle.mpslp_canonical_lp.proofs.SoundListing.{IsSoundListing, IsOwnColumn, own-columns}
-use Rattle.mpslp_builder.proofs.NamedEntries.{named}
-use Rattle.mpslp_canonical_lp.proofs.ListedParts.{lower_stated, upper_stated, column_lower, column_upper, drafted}
-use Rattle.mpslp_canonical_lp.proofs.ListedMaps.{lowers-part, uppers-part, integers-part, semis-part, no-marks, no-binaries}
+use Rattle.mpslp_canonical_lp.proofs.{TextWalk.{listed_declarations}, SoundListing.{IsSoundListing, IsOwnColumn, own-columns},
+  ListedParts.{lower_stated, upper_stated, column_lower, column_upper, drafted},
+  ListedMaps.{lowers-part, uppers-part, integers-part, semis-part, no-marks, no-binaries}}
+use Rattle.mpslp_builder.proofs.BoundsLemmas as kinds
 
 -- ---- bounds, types
 
 lower-at : (m : Listing) → IsSoundListing m → (q : List ℕ) → at_name (drafted m).lowers q ≡ then_stated column_lower (at_name m.columns q)
-lower-at m h q = grind (arith, lowers-all, listed_declarations, puts, lowers-part, puts-own, bytes_total, tied_names, all_stated, column_lower, sorted-stated, find-stated)
+lower-at = grind (arith, lowers-all, listed_declarations, puts, lowers-part, puts-own, bytes_total, tied_names, all_stated, column_lower,
+    sorted-stated, find-stated)
 
 upper-at : (m : Listing) → IsSoundListing m → (q : List ℕ) → at_name (drafted m).uppers q ≡ then_stated column_upper (at_name m.columns q)
-upper-at m h q = grind (arith, uppers-all, listed_declarations, puts, uppers-part, puts-own, bytes_total, tied_names, all_stated, column_upper, sorted-stated, find-stated)
+upper-at = grind (arith, uppers-all, listed_declarations, puts, uppers-part, puts-own, bytes_total, tied_names, all_stated, column_upper,
+    sorted-stated, find-stated)
 
 -- the names of the columns that pass a test
 named-own : (m : Listing) → IsSoundListing m → (p : List ℕ × Column → Bool) → puts bytes_cmp (map named (filter p m.columns)) [] ≡ map named (filter p m.columns)
@@ -57,10 +44,10 @@ kind-at m h p q column is =
     by false = refl
 
 integers-drafted : (m : Listing) → IsSoundListing m → (drafted m).integers ≡ map named (filter is_integer_column m.columns)
-integers-drafted m h = grind (arith, integers-all, listed_declarations, puts, integers-part, named-own)
+integers-drafted = grind (arith, integers-all, listed_declarations, puts, integers-part, named-own)
 
 semis-drafted : (m : Listing) → IsSoundListing m → (drafted m).semis ≡ map named (filter is_semi_column m.columns)
-semis-drafted m h = grind (arith, semis-all, listed_declarations, puts, semis-part, named-own)
+semis-drafted = grind (arith, semis-all, listed_declarations, puts, semis-part, named-own)
 
 marked-none : (m : Listing) → (drafted m).marked ≡ []
 marked-none m = marked-all (listed_declarations m) empty_draft ∙ ap (λ (es : List (List ℕ × Unit {0})). puts bytes_cmp es []) (no-marks m)
@@ -71,7 +58,7 @@ binaries-none m = binaries-all (listed_declarations m) empty_draft ∙ ap (λ (e
 -- ---- the bounds follow from what is declared and the defaults
 
 unless-zero : (a : Number) → is_bounded_decimal a ≡ true → unwrap_or (if is_zero a then None else Some (limit_of a)) zero_limit ≡ Finite a
-unless-zero a p = grind arith
+unless-zero = grind arith
 
 either-same : (a b : Number) → is_bounded_decimal a ≡ true → is_bounded_decimal b ≡ true → unwrap_or (if have_same_value a b then Some (limit_of b) else Some (limit_of a)) zero_limit ≡ Finite a
 either-same a b p q = by (have_same_value a b) refl
@@ -84,19 +71,19 @@ no_side : false ≡ true → ⊥
 no_side e = cc
 
 lower-back : (l u : Limit) → is_lower_side l ≡ true → is_upper_side u ≡ true → unwrap_or (lower_stated l u) zero_limit ≡ l
-lower-back l u p q = grind (arith, either-same, unless-zero, no_side)
+lower-back = grind (arith, either-same, unless-zero, no_side)
 
 upper-back : (l u : Limit) → is_lower_side l ≡ true → is_upper_side u ≡ true → unwrap_or (upper_stated l u) PlusInf ≡ u
-upper-back l u p q = grind (arith, bounded_finite, no_side)
+upper-back = grind (arith, bounded_finite, no_side)
 
 same_integer : (k : Kind) → is_integer_kind k ≡ kinds.is_integer_kind k
-same_integer k = grind arith
+same_integer = grind arith
 
 same_semi : (k : Kind) → is_semi_kind k ≡ kinds.is_semi_kind k
-same_semi k = grind arith
+same_semi = grind arith
 
 or_none : (b : Bool) → (false || (b || false)) ≡ b
-or_none b = grind arith
+or_none = grind arith
 
 -- each column has its type and bounds
 bounds-back : (m : Listing) → IsSoundListing m → (column : List ℕ × Column) → IsOwnColumn m column → column_of (drafted m) column.0 ≡ column.1

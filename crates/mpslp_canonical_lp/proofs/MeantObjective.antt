@@ -1,30 +1,15 @@
 -- The sense, the objective and the constant that are declared are those of the listing.
-use Rattle.std.proofs.Common.{arith, ◌≡◌, refl, ap, ◌∙◌, List, [], ◌∷◌, ◌++◌, ℕ, true, false}
-use Rattle.std.specs.Prelude.{Option, Some, None, filter, if◌then◌else◌}
-use Rattle.std.specs.List.{flat_map}
-use Rattle.mpslp_decimal.specs.Decimal.{Number, IsDecimal, is_zero}
-use Rattle.mpslp_decimal.proofs.NumberTextLemmas.{zero-is}
-use Rattle.mpslp_model_core.specs.Model.{Row, CoefficientKey, Listing}
-use Rattle.mpslp_types.specs.Name.{bytes_cmp}
-use Rattle.mpslp_types.specs.declared.kinds.Limit.{Limit}
-use Rattle.mpslp_builder.specs.Declaration.{RowDefinition, Declaration, declare_constant, declare_row, declare_column, declare_coefficient, declare_lower, declare_upper, declare_integer, declare_semi, Declarations, Draft, empty_draft, with_declarations, bounds_declared}
-use Rattle.mpslp_builder.specs.Meaning.{constant_of}
-use Rattle.mpslp_types.proofs.EachLemmas.{Each, Each-append, Each-flat_map, Each-all}
-use Rattle.mpslp_model_core.proofs.PutsLemmas.{puts}
-use Rattle.mpslp_builder.proofs.DraftLemmas.{rhs_values-all}
+use Rattle.mpslp_canonical_lp.proofs.Prelude.{arith, ◌≡◌, refl, ap, ◌∙◌, List, [], ◌∷◌, ◌++◌, ℕ, true, false, Option, Some, None, filter,
+  if◌then◌else◌, flat_map, Number, IsDecimal, is_zero, zero-is, Row, CoefficientKey, Listing, bytes_cmp, Limit, RowDefinition, Declaration,
+  declare_constant, declare_row, declare_column, declare_coefficient, declare_lower, declare_upper, declare_integer, declare_semi,
+  Declarations, Draft, empty_draft, with_declarations, bounds_declared, constant_of, Each-append, Each-flat_map, Each-all, puts,
+  rhs_values-all, with_declarations-append, limits_by, term_declared, objective_declared, AtLeast, Term, objective_terms, row_terms,
+  is_integer_column, is_semi_column}
+use Rattle.mpslp_types.proofs.EachLemmas.{Each}
 use Rattle.mpslp_builder.proofs.KeptParts.{Stays, stays-all}
-use Rattle.mpslp_builder.proofs.MadeDrafts.{with_declarations-append}
-use Rattle.mpslp_lp_grammar.specs.Items.{limits_by}
-use Rattle.mpslp_lp_grammar.specs.Rows.{term_declared, objective_declared}
-use Rattle.mpslp_lp_grammar.specs.declared.relations.Relation.TheVariants.{AtLeast}
-use Rattle.mpslp_canonical_lp.specs.CanonicalLp.{Term, objective_terms, row_terms, is_integer_column, is_semi_column}
-use Rattle.mpslp_canonical_lp.proofs.PhraseLemmas.{column_and}
-use Rattle.mpslp_canonical_lp.proofs.ObjectiveWalk.{terms_declared, constant_declared}
-use Rattle.mpslp_canonical_lp.proofs.TailWalk.{general_made, semi_made}
-use Rattle.mpslp_canonical_lp.proofs.BoundsWalk.{bound_made, column_made}
-use Rattle.mpslp_canonical_lp.proofs.TextWalk.{row_made, listed_declarations}
-use Rattle.mpslp_canonical_lp.proofs.ListedParts.{form_stated, drafted}
-use Rattle.mpslp_canonical_lp.proofs.ListedMaps.{no-right_sides}
+use Rattle.mpslp_canonical_lp.proofs.{PhraseLemmas.{column_and}, ObjectiveWalk.{terms_declared, constant_declared},
+  TailWalk.{general_made, semi_made}, BoundsWalk.{bound_made, column_made}, TextWalk.{row_made, listed_declarations},
+  ListedParts.{form_stated, drafted}, ListedMaps.{no-right_sides}}
 
 -- ---- the declarations of terms, rows and columns, by their kinds
 
@@ -58,7 +43,7 @@ module _ (P : Declaration → Type 0) (h : EachKind P) where
   in_turn x a b = (h.of_column x, (h.of_lower x a, (h.of_upper x b, tt)))
 
   each-bound : (x : List ℕ) (lower upper : Limit) → Each P (bound_made x lower upper)
-  each-bound x lower upper = grind arith
+  each-bound = grind arith
 
   each-rest : (m : Listing) → Each P (rest_declared m)
   each-rest m =
@@ -111,14 +96,14 @@ objective-drafted m =
 -- ---- the constant
 
 keeps-constant : (value : Option Number) → EachKind (Stays (λ d. d.constant) value)
-keeps-constant value = grind arith
+keeps-constant = grind arith
 
 -- it is declared unless it is 0
 abbrev stated_constant : Number → Option Number
 stated_constant value = if is_zero value then None else Some value
 
 constant-added : (all : Draft) (value : Number) → all.constant ≡ None → (with_declarations all (constant_declared value)).constant ≡ stated_constant value
-constant-added all value none = grind arith
+constant-added = grind arith
 
 constant-drafted : (m : Listing) → (drafted m).constant ≡ stated_constant m.constant
 constant-drafted m =
@@ -135,4 +120,4 @@ no-right_side : (m : Listing) → (drafted m).rhs_values ≡ []
 no-right_side m = rhs_values-all (listed_declarations m) empty_draft ∙ ap (λ (es : List (List ℕ × Number)). puts bytes_cmp es []) (no-right_sides m)
 
 pub constant-back : (m : Listing) → IsDecimal m.constant → constant_of (drafted m) ≡ m.constant
-constant-back m h = grind (arith, constant-drafted, no-right_side, drafted, zero-is)
+constant-back = grind (arith, constant-drafted, no-right_side, drafted, zero-is)

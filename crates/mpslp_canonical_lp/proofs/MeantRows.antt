@@ -1,31 +1,13 @@
 -- The rows that are declared are those of the listing: each has its limits.
-use Rattle.std.proofs.Common.{arith, ◌≡◌, refl, sym, ap, ◌∙◌, List, [], ◌∷◌, ℕ, Bool, true, false, not, map}
-use Rattle.std.specs.Prelude.{Some, None, is_some, if◌then◌else◌}
-use Rattle.std.specs.List.{list_all}
-use Rattle.mpslp_decimal.specs.Decimal.{Number, have_same_value}
-use Rattle.mpslp_decimal.proofs.OrderLemmas.{same_decimal}
-use Rattle.mpslp_model_core.specs.Model.{Row, is_sound_row, Listing}
-use Rattle.mpslp_model_core.specs.Limits.{has_infinite_rhs}
-use Rattle.mpslp_types.specs.Name.{bytes_cmp}
-use Rattle.mpslp_types.specs.Limit.{limit_of, is_bounded_decimal, are_sides}
-use Rattle.mpslp_types.specs.declared.kinds.Limit.{Limit}
-use Rattle.mpslp_types.specs.declared.kinds.Limit.TheVariants.{Finite}
-use Rattle.mpslp_builder.specs.Declaration.{RowDefinition, by_limits, empty_draft}
-use Rattle.mpslp_builder.specs.Meaning.{row_limits, row_entry, row_passes}
-use Rattle.mpslp_types.proofs.EachLemmas.{Each, Each-map, Each-all, list_all-from_Each}
-use Rattle.mpslp_model_core.proofs.PutsLemmas.{puts}
-use Rattle.mpslp_builder.proofs.DraftLemmas.{rows-all}
-use Rattle.mpslp_builder.proofs.MeaningFromNoFault.{sorted-mapped}
-use Rattle.mpslp_builder.proofs.SortedDrafts.{bytes_total, tied_names}
-use Rattle.mpslp_lp_grammar.specs.Rows.{row_limits as limits_between}
-use Rattle.mpslp_lp_grammar.specs.declared.relations.Relation.TheVariants.{AtMost, EqualTo}
-use Rattle.mpslp_canonical_lp.proofs.RowWalk.{left_of}
-use Rattle.mpslp_canonical_lp.proofs.TextWalk.{listed_declarations}
-use Rattle.mpslp_builder.proofs.EntryLemmas.{puts-own}
-use Rattle.mpslp_builder.proofs.SoundParts.{row_sides, lower_of, upper_of, bounded_so, bounded_finite}
-use Rattle.mpslp_canonical_lp.proofs.SoundListing.{IsSoundListing}
-use Rattle.mpslp_canonical_lp.proofs.ListedParts.{limits_stated, form_of, drafted}
-use Rattle.mpslp_canonical_lp.proofs.ListedMaps.{row_forms, rows-part}
+use Rattle.mpslp_canonical_lp.proofs.Prelude.{arith, ◌≡◌, refl, sym, ap, ◌∙◌, List, [], ◌∷◌, ℕ, Bool, true, false, not, map, Some, None,
+  is_some, if◌then◌else◌, list_all, Number, have_same_value, same_decimal, Row, is_sound_row, Listing, has_infinite_rhs, bytes_cmp,
+  limit_of, is_bounded_decimal, are_sides, Limit, Finite, RowDefinition, by_limits, empty_draft, row_entry, row_passes, Each-map, Each-all,
+  list_all-from_Each, puts, rows-all, sorted-mapped, bytes_total, tied_names, limits_between, AtMost, EqualTo, puts-own, row_sides,
+  lower_of, upper_of, bounded_so, bounded_finite}
+use Rattle.mpslp_builder.specs.Meaning.{row_limits}
+use Rattle.mpslp_types.proofs.EachLemmas.{Each}
+use Rattle.mpslp_canonical_lp.proofs.{RowWalk.{left_of}, TextWalk.{listed_declarations}, SoundListing.{IsSoundListing},
+  ListedParts.{limits_stated, form_of, drafted}, ListedMaps.{row_forms, rows-part}}
 
 -- limits that are equal are the same decimal
 between-stated : (a b : Number) → is_bounded_decimal a ≡ true → is_bounded_decimal b ≡ true → form_of (limits_stated (Finite a) (Finite b)) ≡ by_limits (Finite a) (Finite b)
@@ -38,7 +20,7 @@ between-stated a b p q = by (have_same_value a b) refl
 
 -- what is declared of a row are its limits
 pub limits-back : (lower upper : Limit) → are_sides lower upper ≡ true → form_of (limits_stated lower upper) ≡ by_limits lower upper
-limits-back lower upper h = grind (arith, lower_of, upper_of, form_of, limits_stated, bounded_finite, between-stated)
+limits-back = grind (arith, lower_of, upper_of, form_of, limits_stated, bounded_finite, between-stated)
 
 abbrev own_form : List ℕ × Row → List ℕ × RowDefinition
 own_form row = (row.0, by_limits row.1.lower row.1.upper)

@@ -1,30 +1,14 @@
 -- The columns that are declared are those of a well-formed listing, however often each is named.
-use Rattle.std.proofs.Common.{arith, ◌≡◌, refl, sym, ap, ◌∙◌, List, [], ◌∷◌, ◌++◌, ℕ, Bool, true, false, map, append_assoc}
-use Rattle.std.specs.Prelude.{Some, is_some, filter, filter_map, ◌||◌, if◌then◌else◌}
-use Rattle.std.specs.List.{flat_map, list_any}
-use Rattle.std.specs.FinMap.{find, is_sorted}
-use Rattle.mpslp_decimal.specs.Decimal.{Number, zero_number}
-use Rattle.mpslp_model_core.specs.Model.{Column, CoefficientKey, key_cmp, Listing}
-use Rattle.mpslp_types.specs.Name.{same_bytes, bytes_cmp}
-use Rattle.mpslp_types.specs.declared.kinds.Limit.{Limit}
-use Rattle.mpslp_builder.specs.Declaration.{empty_draft, at_name}
-use Rattle.mpslp_types.proofs.BoolLemmas.{T_from}
-use Rattle.mpslp_types.proofs.EachLemmas.{Each, Each-weaker, Each-append, Each-map, Each-flat_map, Each-filter, Each-all}
-use Rattle.mpslp_model_core.proofs.PutsLemmas.{puts, puts-give, finds_own, some_append_left}
-use Rattle.mpslp_builder.proofs.DraftEntries.{same_key}
-use Rattle.mpslp_builder.proofs.DraftLemmas.{column_part, columns-all}
-use Rattle.mpslp_builder.proofs.MeaningFromNoFault.{sorted-mapped}
-use Rattle.mpslp_builder.proofs.SlotLemmas.{same_name}
-use Rattle.mpslp_builder.proofs.SortedDrafts.{bytes_total, tied_names, key_total}
-use Rattle.mpslp_canonical_lp.specs.CanonicalLp.{Term, term_in, has_coefficients, objective_term, objective_terms, some_term, row_terms, is_integer_column, is_semi_column}
-use Rattle.mpslp_canonical_lp.proofs.PrintableLemmas.{Holds, each-filter_map}
-use Rattle.mpslp_canonical_lp.proofs.BoundsWalk.{bound_made}
-use Rattle.mpslp_canonical_lp.proofs.TextWalk.{listed_declarations}
-use Rattle.mpslp_canonical_lp.proofs.SoundListing.{IsSoundListing, IsOwnColumn, own-columns}
-use Rattle.mpslp_builder.proofs.NamedEntries.{named, found-any}
-use Rattle.mpslp_canonical_lp.proofs.ListedParts.{all_parts, nothing, own_name, drafted}
-use Rattle.mpslp_canonical_lp.proofs.ListedMaps.{bound_names, columns-part}
-use Rattle.mpslp_canonical_lp.proofs.PrintedTerms.{hit, each-line_text}
+use Rattle.mpslp_canonical_lp.proofs.Prelude.{arith, ◌≡◌, refl, sym, ap, ◌∙◌, List, [], ◌∷◌, ◌++◌, ℕ, Bool, true, false, map, append_assoc,
+  Some, is_some, filter, filter_map, ◌||◌, if◌then◌else◌, flat_map, list_any, find, Number, zero_number, Column, CoefficientKey, key_cmp,
+  Listing, same_bytes, bytes_cmp, Limit, empty_draft, at_name, T_from, Each-weaker, Each-append, Each-map, Each-flat_map, Each-filter,
+  Each-all, puts, puts-give, finds_own, some_append_left, same_key, column_part, columns-all, sorted-mapped, same_name, bytes_total,
+  tied_names, key_total, Term, term_in, has_coefficients, objective_term, objective_terms, some_term, row_terms, is_integer_column,
+  is_semi_column, named, found-any}
+use Rattle.mpslp_types.proofs.EachLemmas.{Each}
+use Rattle.mpslp_canonical_lp.proofs.{PrintableLemmas.{Holds, each-filter_map}, BoundsWalk.{bound_made}, TextWalk.{listed_declarations},
+  SoundListing.{IsSoundListing, IsOwnColumn, own-columns}, ListedParts.{all_parts, nothing, own_name, drafted},
+  ListedMaps.{bound_names, columns-part}, PrintedTerms.{hit, each-line_text}}
 
 abbrev Names : Type 0
 Names = List (List ℕ × Unit {0})
@@ -37,7 +21,7 @@ listed_names m = all_parts column_part nothing (λ _. own_name) bound_names own_
 
 module _ (P : List ℕ × Unit {0} → Type 0) where
   bound-names-hold : (name : List ℕ) (l u : Limit) → P (name, tt) → Each P (flat_map column_part (bound_made name l u))
-  bound-names-hold name l u h = grind arith
+  bound-names-hold = grind arith
 
   abbrev HoldsOfColumn : List ℕ × Column → Type 0
   HoldsOfColumn column = P (named column)
@@ -46,13 +30,13 @@ module _ (P : List ℕ × Unit {0} → Type 0) where
   HoldsOfTerm term = P (named term)
 
   term-holds : (m : Listing) (row : List ℕ) (column : List ℕ × Column) → HoldsOfColumn column → Holds HoldsOfTerm (term_in m row column)
-  term-holds m row column h = grind arith
+  term-holds = grind arith
 
   objective-term-holds : (m : Listing) (column : List ℕ × Column) → HoldsOfColumn column → Holds HoldsOfTerm (objective_term m column)
-  objective-term-holds m column h = grind arith
+  objective-term-holds = grind arith
 
   some-holds : (columns : List (List ℕ × Column)) (terms : List Term) → Each HoldsOfColumn columns → Each HoldsOfTerm terms → Each HoldsOfTerm (some_term columns terms)
-  some-holds columns terms c h = grind arith
+  some-holds = grind arith
 
   terms-named : (terms : List Term) → Each HoldsOfTerm terms → Each P (flat_map own_name terms)
   terms-named terms h = Each-flat_map P own_name terms (Each-weaker HoldsOfTerm (λ term. Each P (own_name term)) (λ term is. (is, tt)) terms h)
@@ -94,7 +78,7 @@ module _ (m : Listing) (h : IsSoundListing m) where
 
   -- a term comes first
   in-listed : (name : List ℕ) → IsNamed name term_names → IsNamed name (listed_names m)
-  in-listed name is = grind (arith, bound_names, own_name, append_assoc, some_append_left, bytes_total, tied_names)
+  in-listed = grind (arith, bound_names, own_name, append_assoc, some_append_left, bytes_total, tied_names)
 
   with-coefficient : (column : List ℕ × Column) → has_coefficients m column ≡ true → IsNamed column.0 term_names
   with-coefficient column some =
@@ -102,7 +86,7 @@ module _ (m : Listing) (h : IsSoundListing m) where
       (λ entry e is.
       ap (λ (name : List ℕ). is_some (at_name term_names name)) (sym (same_name entry.0.column column.0 e))
       ∙ each-line_text bytes_cmp bytes_total tied_names (λ _ name. name) (λ _. tt) m h entry.0 entry.1 is)
-      m.coefficients some (finds_own key_cmp key_total same_key m.coefficients (T_from (is_sorted key_cmp m.coefficients) h.coefficients_sorted))
+      m.coefficients some (finds_own key_cmp key_total same_key m.coefficients (T_from _ h.coefficients_sorted))
 
   -- one without coefficients is in the objective
   without-coefficients : (column : List ℕ × Column) → IsOwnColumn m column → has_coefficients m column ≡ false → IsNamed column.0 term_names
@@ -115,7 +99,7 @@ module _ (m : Listing) (h : IsSoundListing m) where
       alike c e = ap (λ (name : List ℕ). list_any (λ (entry : CoefficientKey × Number). same_bytes entry.0.column name) m.coefficients) (sym (same_name column.0 c.0 e))
 
   each-named : (column : List ℕ × Column) → IsOwnColumn m column → IsNamed column.0 (listed_names m)
-  each-named column own = grind (arith, in-listed, with-coefficient, without-coefficients)
+  each-named = grind (arith, in-listed, with-coefficient, without-coefficients)
 
 -- ---- the columns of the draft
 
@@ -126,7 +110,7 @@ unmapped Q (column ∷ columns) h = (h.0, unmapped Q columns h.1)
 pub columns-drafted : (m : Listing) → IsSoundListing m → (drafted m).columns ≡ map named m.columns
 columns-drafted m h =
     let target = map named m.columns in
-    let sorted = T_from (is_sorted bytes_cmp target) (sorted-mapped (λ _. tt) m.columns ∙ h.columns_sorted) in
+    let sorted = T_from _ (sorted-mapped (λ _. tt) m.columns ∙ h.columns_sorted) in
     columns-all (listed_declarations m) empty_draft ∙ ap (λ (es : Names). puts bytes_cmp es []) (columns-part m)
     ∙ puts-give bytes_cmp bytes_total tied_names target (listed_names m) sorted
     (listed-named (λ e. find bytes_cmp e.0 target ≡ Some e.1) m (unmapped (λ e. find bytes_cmp e.0 target ≡ Some e.1) m.columns (finds_own bytes_cmp bytes_total tied_names target sorted)))

@@ -1,20 +1,11 @@
 -- The terms that are printed of the objective or of a row are of different columns.
-use Rattle.std.proofs.Common.{◌≡◌, refl, subst, ◌∙◌, ℕ, ◌<◌, arith, List, [], ◌∷◌, ◌++◌, false, length}
-use Rattle.std.specs.Prelude.{Option, Some, None, ◌||◌, filter_map, if◌then◌else◌}
-use Rattle.std.specs.List.{list_any, cons_option}
-use Rattle.std.specs.Option.{option_map}
-use Rattle.std.specs.FinMap.{find}
+use Rattle.mpslp_canonical_lp.proofs.Prelude.{◌≡◌, refl, subst, ◌∙◌, ℕ, ◌<◌, arith, List, [], ◌∷◌, ◌++◌, false, length, Option, Some, None,
+  filter_map, if◌then◌else◌, list_any, cons_option, option_map, find, Number, zero_number, same_bytes, both_false, Each-both, Each-all,
+  Column, key_cmp, Listing, Term, term_in, has_coefficients, objective_term, objective_terms, some_term, row_terms, ◌||◌}
 use Rattle.std.proofs.lemmas.List.Folds.{list_any-append}
-use Rattle.mpslp_decimal.specs.Decimal.{Number, zero_number}
-use Rattle.mpslp_types.specs.Name.{same_bytes}
-use Rattle.mpslp_types.proofs.BoolLemmas.{both_false}
-use Rattle.mpslp_types.proofs.EachLemmas.{Each, Each-both, Each-all}
-use Rattle.mpslp_model_core.specs.Model.{Column, key_cmp, Listing}
-use Rattle.mpslp_canonical_lp.specs.CanonicalLp.{Term, term_in, has_coefficients, objective_term, objective_terms, some_term, row_terms}
-use Rattle.mpslp_canonical_lp.proofs.PrintableLemmas.{IsTerm, IsFit, terms-fit, some-fits}
-use Rattle.mpslp_canonical_lp.proofs.RowWalk.{AreNew}
-use Rattle.mpslp_canonical_lp.proofs.TextWalk.{IsRow}
-use Rattle.mpslp_canonical_lp.proofs.RankedSlots.{AreOther}
+use Rattle.mpslp_types.proofs.EachLemmas.{Each}
+use Rattle.mpslp_canonical_lp.proofs.{PrintableLemmas.{IsTerm, IsFit, terms-fit, some-fits}, RowWalk.{AreNew}, TextWalk.{IsRow},
+  RankedSlots.{AreOther}}
 
 -- a term for each column that has a value
 abbrev terms_by : (List ℕ × Column → Option Number) → List (List ℕ × Column) → List Term
@@ -38,7 +29,7 @@ abbrev objective_value : Listing → List ℕ × Column → Option Number
 objective_value m column = if has_coefficients m column then find key_cmp (record { row = m.objective; column = column.0 }) m.coefficients else Some zero_number
 
 objective-by : (m : Listing) (column : List ℕ × Column) → option_map (λ (value : Number). (column.0, value)) (objective_value m column) ≡ objective_term m column
-objective-by m column = grind arith
+objective-by = grind arith
 
 pub objective-other : (m : Listing) → AreOther m.columns → AreOther (objective_terms m)
 objective-other m h = subst AreOther (λ i. filter_map (λ column. objective-by m column i) m.columns) (other-terms (objective_value m) m.columns h)
@@ -46,7 +37,7 @@ objective-other m h = subst AreOther (λ i. filter_map (λ column. objective-by 
 -- ---- rows
 
 some-other : (columns : List (List ℕ × Column)) (terms : List Term) → AreOther terms → AreOther (some_term columns terms)
-some-other columns terms h = grind arith
+some-other = grind arith
 
 pub row-other : (m : Listing) (row : List ℕ) → AreOther m.columns → AreOther (row_terms m row)
 row-other m row h = some-other m.columns (filter_map (term_in m row) m.columns) (other-terms (λ column. find key_cmp (record { row = row; column = column.0 }) m.coefficients) m.columns h)
@@ -57,7 +48,7 @@ new-after seen [] h other = tt
 new-after seen (term ∷ terms) h other = grind (arith, list_any-append, both_false, new-after (seen ++ term ∷ []) terms (Each-both (λ (later : Term). list_any (λ (earlier : Term). same_bytes later.0 earlier.0) seen ≡ false) (λ (later : Term). same_bytes later.0 term.0 ≡ false) (λ (later : Term). list_any (λ (earlier : Term). same_bytes later.0 earlier.0) (seen ++ term ∷ []) ≡ false) (λ later no apart. list_any-append (λ (earlier : Term). same_bytes later.0 earlier.0) seen (term ∷ []) ∙ both_false (list_any (λ (earlier : Term). same_bytes later.0 earlier.0) seen) (same_bytes later.0 term.0 || false) no (both_false (same_bytes later.0 term.0) false apart refl)) terms h.1 other.0) other.1)
 
 some-row : (columns : List (List ℕ × Column)) (terms : List Term) → 0 < length columns → (P : List Term → Type 0) → ((term : Term) (more : List Term) → P (term ∷ more)) → P (some_term columns terms)
-some-row columns terms some P h = grind arith
+some-row = grind arith
 
 -- Each row is printed with terms, none of them of the same column twice.
 pub plain-row : (m : Listing) → IsFit m → AreOther m.columns → 0 < length m.columns → (row : List ℕ) → IsRow (row_terms m row)

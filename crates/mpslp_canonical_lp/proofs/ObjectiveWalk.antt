@@ -1,30 +1,18 @@
 -- The printed objective, up to `Subject To`, declares the sense, the objective, its terms and its constant.
-use Rattle.std.proofs.Common.{arith, ◌≡◌, refl, sym, ap, subst, ◌∙◌, ℕ, ◌+◌, List, [], ◌∷◌, ◌++◌, Bool, true, false, append_assoc, map}
-use Rattle.std.specs.Prelude.{None, codes, if◌then◌else◌}
-use Rattle.std.specs.List.{flat_map}
-use Rattle.mpslp_decimal.specs.Decimal.{Number as Decimal, is_negative, size_of}
-use Rattle.mpslp_builder.specs.Declaration.{Draft, empty_draft, Declarations, with_declarations}
-use Rattle.mpslp_builder.specs.Refusal.{refusals_in_turn}
-use Rattle.mpslp_types.specs.declared.kinds.Sense.{Sense}
+use Rattle.mpslp_canonical_lp.proofs.Prelude.{arith, ◌≡◌, refl, sym, ap, subst, ◌∙◌, ℕ, ◌+◌, List, [], ◌∷◌, ◌++◌, Bool, true, false,
+  append_assoc, map, None, codes, if◌then◌else◌, flat_map, Decimal, is_negative, size_of, Draft, empty_draft, Declarations,
+  with_declarations, refusals_in_turn, Sense, with_declarations-append, refusals_in_turn-append, Each, TerminalAt, word_terminal, Opens,
+  Name, Sign, Colon, no_section_seen, with_section, section_fault, start, SectionsSeen, Place, AtStart, BeforeItems, InObjective,
+  BetweenRows, term_declared, objective_declared, PrintedLine, Listing, Lines, Term, heading, label_line, sense_word, term_line,
+  objective_terms, constant_lines, objective_section}
 use Rattle.mpslp_types.specs.declared.faults.BuildFault.{BuildFault}
-use Rattle.mpslp_builder.proofs.MadeDrafts.{with_declarations-append, refusals_in_turn-append}
-use Rattle.mpslp_decimal.proofs.CutLemmas.{Each}
-use Rattle.mpslp_lp_grammar.specs.Terminal.{TerminalAt, word_terminal}
-use Rattle.mpslp_lp_grammar.specs.Terminal.Terminal.{Opens, Name, Number, Sign, Colon}
-use Rattle.mpslp_lp_grammar.specs.Phrase.{no_section_seen, with_section, section_fault, start}
-use Rattle.mpslp_lp_grammar.specs.declared.sections_seen.SectionsSeen.{SectionsSeen}
-use Rattle.mpslp_lp_grammar.specs.declared.states.Place.{Place}
-use Rattle.mpslp_lp_grammar.specs.declared.states.Place.TheVariants.{AtStart, BeforeItems, InObjective, BetweenRows}
-use Rattle.mpslp_lp_grammar.specs.Rows.{term_declared, objective_declared}
+use Rattle.mpslp_lp_grammar.specs.Terminal.Terminal.{Number}
+use Rattle.mpslp_canonical_lp.proofs.{PrintableLemmas.{IsTerm, IsFit, objective-fits},
+  TerminalLemmas.{at, line_terminals_in, all_terminals, signed-value, sign_of},
+  PhraseLemmas.{Walks, walks-none, walks-then, point_at, sense_opens, start-walks, first-term-walks, term-walks}}
 use Rattle.mpslp_lp_tokens.specs.declared.words.Section.TheVariants as sections
 use Rattle.mpslp_lp_tokens.specs.declared.words.SectionWord.TheVariants as section_words
-use Rattle.mpslp_canonical_lp.specs.Printed.{PrintedLine}
-use Rattle.mpslp_model_core.specs.Model.{Listing}
-use Rattle.mpslp_canonical_lp.specs.CanonicalLp.{Lines, Term, heading, label_line, sense_word, term_line, objective_terms, constant_lines, objective_section}
 pub use Rattle.mpslp_canonical_lp.specs.PrintedDeclarations.{constant_declared}
-use Rattle.mpslp_canonical_lp.proofs.PrintableLemmas.{IsTerm, IsFit, objective-fits}
-use Rattle.mpslp_canonical_lp.proofs.TerminalLemmas.{at, line_terminals_in, all_terminals, signed-value, sign_of}
-use Rattle.mpslp_canonical_lp.proofs.PhraseLemmas.{Walks, walks-none, walks-then, point_at, sense_opens, start-walks, first-term-walks, term-walks}
 
 -- ---- lists of lines
 
@@ -52,7 +40,7 @@ pub parts-walk : (from : Place) (between to : Place) (sections_seen later last :
     → Walks (point_at from sections_seen all) xs made (point_at between later (with_declarations all made))
     → Walks (point_at between later (with_declarations all made)) ys more (point_at to last (with_declarations (with_declarations all made) more))
     → Walks (point_at from sections_seen all) (xs ++ ys) (made ++ more) (point_at to last (with_declarations all (made ++ more)))
-parts-walk from between to sections_seen later last all xs ys made more h k = grind (arith, point_at, with_declarations-append, walks-then)
+parts-walk = grind (arith, point_at, with_declarations-append, walks-then)
 
 -- ---- terms
 
@@ -69,7 +57,7 @@ items_at name started = if started then InObjective name else BeforeItems name
 
 pub one-term : (started : Bool) (sections_seen : SectionsSeen) (all : Draft) (name : List ℕ) (n : ℕ) (term : Term) → IsTerm term → refusals_in_turn all (term_declared name term) ≡ []
     → Walks (point_at (items_at name started) sections_seen all) (line_terminals_in n (term_line term)) (term_declared name term) (point_at (InObjective name) sections_seen (with_declarations all (term_declared name term)))
-one-term started sections_seen all name n term good h = grind (arith, point_at, term-terminals, signed-value, at, sign_of, term-walks, first-term-walks)
+one-term = grind (arith, point_at, term-terminals, signed-value, at, sign_of, term-walks, first-term-walks)
 
 abbrev pub after_terms : Bool → List Term → Bool
 after_terms started [] = started
@@ -95,7 +83,7 @@ subject_heading = heading (codes "Subject" ∷ codes "To" ∷ [])
 pub constant-walk : (started : Bool) (sections_seen : SectionsSeen) (all : Draft) (name : List ℕ) (n : ℕ) (value : Decimal) → refusals_in_turn all (constant_declared value) ≡ [] → section_fault sections_seen sections.Rows ≡ None
     → Walks (point_at (items_at name started) sections_seen all) (all_terminals n (constant_lines value ++ subject_heading ∷ [])) (constant_declared value)
     (point_at BetweenRows (with_section sections_seen sections.Rows) (with_declarations all (constant_declared value)))
-constant-walk started sections_seen all name n value h fault = grind arith
+constant-walk = grind arith
 
 -- ---- the whole section, from the start on
 
@@ -107,7 +95,7 @@ in_rows = with_section (with_section no_section_seen sections.Objective) section
 
 pub begin-terminals : (n : ℕ) (sense : Sense) (name : List ℕ) → all_terminals n (heading (sense_word sense ∷ []) ∷ label_line name ∷ [])
     ≡ at n (Opens (sense_opens sense)) ∷ at (n + 1) (Name name) ∷ at (n + 1) Colon ∷ []
-begin-terminals n sense name = grind arith
+begin-terminals = grind arith
 
 pub objective-walk : (m : Listing) → IsFit m → refusals_in_turn empty_draft (objective_made m) ≡ []
     → Walks start (all_terminals 1 (objective_section m ++ subject_heading ∷ [])) (objective_made m) (point_at BetweenRows in_rows (with_declarations empty_draft (objective_made m)))

@@ -1,36 +1,23 @@
 -- The canonical lines of a well-formed model with LP names can be printed: names, decimals, signs and words of the language.
-use Rattle.std.proofs.Common.{rules, ◌≡◌, refl, ap, ◌∙◌, List, [], ◌∷◌, ◌++◌, length, ℕ, ◌+◌, ◌<◌, arith, Bool, true, false, not, cond, map}
-use Rattle.std.specs.Prelude.{Option, Some, None, nat_le, ◌&&◌, ◌||◌, filter, filter_map, position, codes, if◌then◌else◌}
-use Rattle.std.specs.List.{list_all, list_any, flat_map, position_or_len}
-use Rattle.std.specs.Option.{option_map}
-use Rattle.std.specs.Cmp.{first_so, second_so}
-use Rattle.std.specs.declared.cmp.Ordering.{Ordering}
-use Rattle.std.specs.FinMap.{entries, find}
-use Rattle.std.proofs.lemmas.Bool.{leb-true, lt-ltb}
-use Rattle.mpslp_decimal.specs.Decimal.{Number, IsDecimal, is_decimal, is_negative, is_infinite_size, size_of, zero_number, have_same_value}
-use Rattle.mpslp_types.specs.Name.{marker, same_bytes, has_name_length, is_mps_name, is_lp_byte, is_like_exponent, is_reserved, begins_a_number, is_lp_name}
-use Rattle.mpslp_model_core.specs.Model.{LinearModel, Row, Column, key_cmp, is_sound_row, is_sound_column, is_sound_coefficient, IsSound, suits, Listing, listing_of}
-use Rattle.mpslp_types.specs.Limit.{is_bounded_decimal, is_lower_side, are_sides, has_bounded_distance}
+use Rattle.mpslp_canonical_lp.proofs.Prelude.{rules, ◌≡◌, refl, ap, ◌∙◌, List, [], ◌∷◌, ◌++◌, length, ℕ, ◌+◌, ◌<◌, arith, Bool, true, false,
+  not, cond, map, Option, Some, None, nat_le, ◌&&◌, ◌||◌, filter, filter_map, position, codes, if◌then◌else◌, list_all, list_any, flat_map,
+  position_or_len, option_map, first_so, second_so, Ordering, entries, find, leb-true, lt-ltb, Number, IsDecimal, is_negative, size_of,
+  zero_number, have_same_value, marker, same_bytes, has_name_length, is_mps_name, is_lp_byte, is_like_exponent, is_reserved,
+  begins_a_number, is_lp_name, LinearModel, Row, Column, key_cmp, is_sound_row, is_sound_column, is_sound_coefficient, IsSound, Listing,
+  listing_of, is_bounded_decimal, is_lower_side, are_sides, Sense, Limit, MinusInf, Finite, PlusInf, not_so, nor, Each-both, Each-map,
+  Each-flat_map, Each-filter, Each-from_list_all, Each, is_word, name_fault, word_fault, token_fault, AtMost, EqualTo, Lexeme, word, label,
+  number, sign, sense, semi_continuous, Lines, heading, under_heading, label_line, Term, term_line, sense_word, term_in, objective_term,
+  objective_terms, constant_lines, objective_section, left_lines, last_line, some_term, row_terms, row_lines, rows_section, bound_lexemes,
+  line_of_some, bound_lines, bounds_section, is_integer_column, name_line, generals_section, listed_lines, canonical_lines, is_semi_column,
+  semis_section, under_semi_heading, is_no_lp_name, first_unfit, or_else, unfit_in, unfit}
+use Rattle.mpslp_types.proofs.NameLemmas.{mps_name-from_lp}
+use Rattle.mpslp_decimal.proofs.CutLemmas.{Each-weaker, Each-append}
+use Rattle.mpslp_lp_tokens.proofs.WordLemmas.{word_class-name}
+use Rattle.mpslp_canonical_lp.proofs.{TokenTexts.{name-word}, LexemeLemmas.{IsGoodWord, IsGoodName, IsPrintable},
+  LineLemmas.{IsPrintableLine}}
 use Rattle.mpslp_types.specs.declared.faults.FaultKind.TheVariants as faults
 use Rattle.mpslp_types.specs.declared.faults.NameAt.TheVariants as places
-use Rattle.mpslp_types.specs.declared.kinds.Sense.{Sense}
-use Rattle.mpslp_types.specs.declared.kinds.Limit.{Limit}
-use Rattle.mpslp_types.specs.declared.kinds.Limit.TheVariants.{MinusInf, Finite, PlusInf}
-use Rattle.mpslp_types.proofs.BoolLemmas.{not_so, nor}
-use Rattle.mpslp_types.proofs.NameLemmas.{mps_name-from_lp}
-use Rattle.mpslp_types.proofs.EachLemmas.{Each-both, Each-map, Each-flat_map, Each-filter, Each-from_list_all}
-use Rattle.mpslp_decimal.proofs.CutLemmas.{Each, Each-weaker, Each-append}
-use Rattle.mpslp_lp_tokens.specs.Token.{is_word}
-use Rattle.mpslp_lp_grammar.specs.Terminal.{name_fault, word_fault, token_fault}
-use Rattle.mpslp_lp_grammar.specs.declared.relations.Relation.TheVariants.{AtMost, EqualTo}
 use Rattle.mpslp_lp_tokens.specs.declared.tokens.TokenKind.TheVariants as kinds
-use Rattle.mpslp_lp_tokens.proofs.WordLemmas.{word_class-name}
-use Rattle.mpslp_canonical_lp.specs.Printed.{Lexeme, word, label, number, sign, sense, semi_continuous}
-use Rattle.mpslp_canonical_lp.specs.CanonicalLp.{Lines, heading, under_heading, label_line, Term, term_line, sense_word, term_in, objective_term, objective_terms, constant_lines, objective_section, left_lines, last_line, some_term, row_terms, row_lines, rows_section, bound_lexemes, line_of_some, bound_lines, bounds_section, is_integer_column, name_line, generals_section, listed_lines, canonical_lines, is_semi_column, semis_section, under_semi_heading}
-use Rattle.mpslp_canonical_lp.specs.Unfit.{is_no_lp_name, first_unfit, or_else, unfit_in, unfit}
-use Rattle.mpslp_canonical_lp.proofs.TokenTexts.{name-word}
-use Rattle.mpslp_canonical_lp.proofs.LexemeLemmas.{IsGoodWord, IsGoodName, IsPrintable}
-use Rattle.mpslp_canonical_lp.proofs.LineLemmas.{IsPrintableLine}
 
 -- ---- words
 
@@ -39,7 +26,7 @@ pub code-word : (w : List ℕ) → is_word w ≡ true → nat_le (length w) 255 
 code-word w is short faultless = record { is = is; short = leb-true (length w) 255 short; faultless = faultless }
 
 no-fault : (name : List ℕ) → is_mps_name name ≡ true → is_like_exponent name ≡ false → name_fault name ≡ None
-no-fault name h plain = grind arith
+no-fault = grind arith
 
 -- what an LP name is
 record IsName (name : List ℕ) : Type 0 where
@@ -66,7 +53,7 @@ good-word name h =
     let parts = name-parts name h in
     record {
       is = name-word name h;
-      short = leb-true (length name) 255 (second_so (nat_le 1 (length name)) (nat_le (length name) 255) parts.sized);
+      short = leb-true (length name) 255 (second_so _ _ parts.sized);
       faultless =
           ap (word_fault name) (word_class-name name parts.free) ∙ no-fault name (mps_name-from_lp name h) parts.plain;
     }
@@ -86,7 +73,7 @@ pub heading-printable : (w : List ℕ) → IsGoodWord w → IsPrintableLine (hea
 heading-printable w h = a-line 0 (word w ∷ []) refl refl (h, tt)
 
 under-printable : (section : List ℕ) (lines : Lines) → IsGoodWord section → AllPrintable lines → AllPrintable (under_heading section lines)
-under-printable section lines w h = grind arith
+under-printable = grind arith
 
 pub label-printable : (name : List ℕ) → IsGoodName name → IsPrintableLine (label_line name)
 label-printable name h = a-line 1 (label name ∷ []) refl refl (h, tt)
@@ -101,7 +88,7 @@ terms-printable : (terms : List Term) → Each IsTerm terms → AllPrintable (ma
 terms-printable terms h = Each-map IsPrintableLine term_line terms (Each-weaker IsTerm (λ term. IsPrintableLine (term_line term)) term-printable terms h)
 
 pub constant-printable : (value : Number) → IsDecimal value → AllPrintable (constant_lines value)
-constant-printable value h = grind arith
+constant-printable = grind arith
 
 -- ---- limits
 
@@ -111,23 +98,23 @@ IsDecimalLimit (Finite a) = IsDecimal a
 IsDecimalLimit PlusInf = Unit {0}
 
 bounded-decimal : (d : Number) → is_bounded_decimal d ≡ true → IsDecimal d
-bounded-decimal d h = first_so (is_decimal d) (not (is_infinite_size d)) h
+bounded-decimal d h = first_so _ _ h
 
 lower-decimal : (lower : Limit) → is_lower_side lower ≡ true → IsDecimalLimit lower
-lower-decimal lower h = grind arith
+lower-decimal = grind arith
 
 -- two limits
 abbrev pub IsLimits : Limit → Limit → Type 0
 IsLimits lower upper = IsDecimalLimit lower × IsDecimalLimit upper
 
 pub sides-decimal : (lower upper : Limit) → are_sides lower upper ≡ true → IsLimits lower upper
-sides-decimal lower upper h = grind arith
+sides-decimal = grind arith
 
 left-printable : (lower upper : Limit) → IsLimits lower upper → AllPrintable (left_lines lower upper)
-left-printable lower upper h = grind arith
+left-printable = grind arith
 
 last-printable : (lower upper : Limit) → IsLimits lower upper → IsPrintableLine (last_line lower upper)
-last-printable lower upper h = grind arith
+last-printable = grind arith
 
 free-word : IsGoodWord (codes "free")
 free-word = code-word (codes "free") refl refl refl
@@ -141,11 +128,7 @@ bound-printable column (Finite a) (Finite b) w h =
     ]
 bound-printable column (Finite a) MinusInf w h = grind (arith, a-line)
 bound-printable column (Finite a) PlusInf w h = grind (arith, a-line)
-bound-printable column MinusInf MinusInf w h = (a-line 1 (word column ∷ word (codes "free") ∷ []) refl refl (w, (free-word, tt)), tt)
-bound-printable column MinusInf PlusInf w h = (a-line 1 (word column ∷ word (codes "free") ∷ []) refl refl (w, (free-word, tt)), tt)
-bound-printable column PlusInf MinusInf w h = (a-line 1 (word column ∷ word (codes "free") ∷ []) refl refl (w, (free-word, tt)), tt)
-bound-printable column PlusInf (Finite b) w h = (a-line 1 (word column ∷ word (codes "free") ∷ []) refl refl (w, (free-word, tt)), tt)
-bound-printable column PlusInf PlusInf w h = (a-line 1 (word column ∷ word (codes "free") ∷ []) refl refl (w, (free-word, tt)), tt)
+bound-printable column _ _ w h = (a-line 1 (word column ∷ word (codes "free") ∷ []) refl refl (w, (free-word, tt)), tt)
 
 -- ---- terms
 
@@ -202,7 +185,7 @@ objective-fits m h =
     (Each-weaker IsFitColumn (λ column. Holds IsTerm (objective_term m column)) (λ column c. objective-term-fits m h column c) m.columns h.columns)
 
 pub some-fits : (columns : List (List ℕ × Column)) (terms : List Term) → Each IsFitColumn columns → Each IsTerm terms → Each IsTerm (some_term columns terms)
-some-fits columns terms c h = grind arith
+some-fits = grind arith
 
 -- ---- all lines
 
@@ -210,13 +193,14 @@ pub in-turn : (xs ys : Lines) → AllPrintable xs → AllPrintable ys → AllPri
 in-turn xs ys h k = Each-append IsPrintableLine xs ys h k
 
 pub sense-good : (s : Sense) → IsGoodWord (sense_word s)
-sense-good s = grind arith
+sense-good = grind arith
 
 objective-printable : (m : Listing) → IsFit m → AllPrintable (objective_section m)
-objective-printable m h = grind (arith, heading-printable, sense-good, label-printable, in-turn, terms-printable, objective-fits, constant-printable)
+objective-printable = grind (arith, heading-printable, sense-good, label-printable, in-turn, terms-printable, objective-fits,
+    constant-printable)
 
 pub row-printable : (m : Listing) (row : List ℕ × Row) → IsFitRow row → Each IsTerm (row_terms m row.0) → AllPrintable (row_lines m row)
-row-printable m row r good = grind (arith, label-printable, in-turn, left-printable, terms-printable, last-printable)
+row-printable = grind (arith, label-printable, in-turn, left-printable, terms-printable, last-printable)
 
 pub subject-printable : IsPrintableLine (heading (codes "Subject" ∷ codes "To" ∷ []))
 subject-printable = grind arith
@@ -281,7 +265,7 @@ no-any {X} p xs h = grind (arith, lt-ltb, any-below)
 
 none-of : {X : Type 0} (p : X → Bool) (xs : List X) → list_any p xs ≡ false → Each (λ x. p x ≡ false) xs
 none-of p [] h = tt
-none-of p (x ∷ xs) h = let both = nor (p x) (list_any p xs) h in (both.0, none-of p xs both.1)
+none-of p (x ∷ xs) h = let both = nor _ _ h in (both.0, none-of p xs both.1)
 
 none-at : {X : Type 0} (p : X → Bool) (xs : List X) → position p xs ≡ None → Each (λ x. p x ≡ false) xs
 none-at p xs h = none-of p xs (no-any p xs h)
@@ -300,7 +284,7 @@ record HasLpNames (m : Listing) : Type 0 where
   columns : Each (λ column. is_lp_name column.0 ≡ true) m.columns
 
 is-lp : (b : Bool) → not b ≡ false → b ≡ true
-is-lp b e = grind arith
+is-lp = grind arith
 
 each-named : {X : Type 0} (named : List (List ℕ × X)) → Each (λ name. is_lp_name name ≡ true) (map (λ (entry : List ℕ × X). entry.0) named) → Each (λ (entry : List ℕ × X). is_lp_name entry.0 ≡ true) named
 each-named [] h = tt
@@ -326,8 +310,8 @@ row-fits : (row : List ℕ × Row) → is_lp_name row.0 ≡ true → is_sound_ro
 row-fits row name h =
     record {
       name = good-name row.0 name;
-      limits = sides-decimal row.1.lower row.1.upper (first_so (are_sides row.1.lower row.1.upper) (has_bounded_distance row.1.lower row.1.upper)
-          (second_so (is_mps_name row.0) (are_sides row.1.lower row.1.upper && has_bounded_distance row.1.lower row.1.upper) h));
+      limits = sides-decimal row.1.lower row.1.upper (first_so _ _
+          (second_so _ _ h));
     }
 
 column-fits : (column : List ℕ × Column) → is_lp_name column.0 ≡ true → is_sound_column column ≡ true → IsFitColumn column
@@ -335,8 +319,8 @@ column-fits column name h =
     record {
       name = good-name column.0 name;
       limits = sides-decimal column.1.lower column.1.upper
-          (first_so (are_sides column.1.lower column.1.upper) (suits column.1.kind column.1.lower column.1.upper)
-          (second_so (is_mps_name column.0) (are_sides column.1.lower column.1.upper && suits column.1.kind column.1.lower column.1.upper) h));
+          (first_so _ _
+          (second_so _ _ h));
     }
 
 pub fit-from_sound : (m : LinearModel) → IsSound m → unfit m ≡ None → IsFit (listing_of m)
@@ -348,7 +332,8 @@ fit-from_sound m sound fits =
       rows = Each-both (λ row. is_lp_name row.0 ≡ true) (λ row. is_sound_row row ≡ true) IsFitRow row-fits (entries m.rows) names.rows (Each-from_list_all is_sound_row (entries m.rows) sound.rows);
       columns = Each-both (λ column. is_lp_name column.0 ≡ true) (λ column. is_sound_column column ≡ true) IsFitColumn column-fits (entries m.columns) names.columns (Each-from_list_all is_sound_column (entries m.columns) sound.columns);
       coefficients = Each-weaker (λ entry. is_sound_coefficient m entry ≡ true) (λ entry. IsDecimal entry.1)
-          (λ entry k. first_so (is_decimal entry.1) _ k) (entries m.coefficients) (Each-from_list_all (is_sound_coefficient m) (entries m.coefficients) sound.coefficients);
+          (λ entry k. first_so _ _ k) (entries m.coefficients)
+          (Each-from_list_all (is_sound_coefficient m) (entries m.coefficients) sound.coefficients);
     }
 
 -- each canonical line of a well-formed model with LP names can be printed

@@ -1,26 +1,10 @@
 -- Each coefficient of a well-formed listing is printed as a term of its row or of the objective.
-use Rattle.std.proofs.Common.{arith, ◌≡◌, refl, sym, ap, ◌∙◌, List, [], ◌∷◌, ◌++◌, ℕ, Bool, true, false, not, cond}
-use Rattle.std.specs.Prelude.{Option, Some, None, is_some, filter_map, ◌&&◌, ◌||◌, if◌then◌else◌}
-use Rattle.std.specs.List.{flat_map, list_any, cons_option}
-use Rattle.std.specs.Option.{option_map}
-use Rattle.std.specs.Ordering.{eq_by_cmp}
-use Rattle.std.specs.Cmp.{IsTotalOrder, first_so, second_so}
-use Rattle.std.specs.declared.cmp.Ordering.{Ordering}
+use Rattle.mpslp_canonical_lp.proofs.Prelude.{arith, ◌≡◌, refl, sym, ap, ◌∙◌, List, [], ◌∷◌, ◌++◌, ℕ, Bool, true, false, cond, Option, Some,
+  None, is_some, filter_map, ◌&&◌, ◌||◌, if◌then◌else◌, flat_map, list_any, cons_option, option_map, eq_by_cmp, IsTotalOrder, first_so,
+  second_so, Ordering, find, Number, zero_number, same_bytes, is_one_of, Row, Column, CoefficientKey, key_cmp, Listing, names_in, or_left,
+  or_right, equal_from, find-front, some_cons, some_append_left, some_append_right, same_key, itself_named, any-name, same_name, key_total,
+  Term, term_in, has_coefficients, objective_term, objective_terms, some_term, row_terms, found-each, not, is_decimal, is_zero}
 use Rattle.std.specs.declared.cmp.Ordering.TheVariants.{Equal}
-use Rattle.std.specs.FinMap.{find}
-use Rattle.mpslp_decimal.specs.Decimal.{Number, is_decimal, is_zero, zero_number}
-use Rattle.mpslp_types.specs.Name.{same_bytes, is_one_of}
-use Rattle.mpslp_model_core.specs.Model.{Row, Column, CoefficientKey, key_cmp, Listing}
-use Rattle.mpslp_builder.specs.Declaration.{names_in}
-use Rattle.mpslp_types.proofs.BoolLemmas.{or_left, or_right}
-use Rattle.mpslp_model_core.proofs.PutsLemmas.{equal_from, find-front, some_cons, some_append_left, some_append_right}
-use Rattle.mpslp_builder.proofs.DraftEntries.{same_key}
-use Rattle.mpslp_builder.proofs.LaterDrafts.{itself_named}
-use Rattle.mpslp_builder.proofs.NamedEntries.{any-name}
-use Rattle.mpslp_builder.proofs.SlotLemmas.{same_name}
-use Rattle.mpslp_builder.proofs.SortedDrafts.{key_total}
-use Rattle.mpslp_canonical_lp.specs.CanonicalLp.{Term, term_in, has_coefficients, objective_term, objective_terms, some_term, row_terms}
-use Rattle.mpslp_builder.proofs.EntryLemmas.{found-each}
 use Rattle.mpslp_canonical_lp.proofs.SoundListing.{is_sound_entry, IsSoundListing}
 
 abbrev pub place_at : List ℕ → List ℕ → CoefficientKey
@@ -38,12 +22,12 @@ has-some row column value (e ∷ es) is = by (eq_by_cmp key_cmp (place_at row co
     by : (b : Bool) → eq_by_cmp key_cmp (place_at row column) e.0 ≡ b → cond b (Some e.1) (find key_cmp (place_at row column) es) ≡ Some value
         → (find key_cmp (place_at row column) es ≡ Some value → any ≡ true) → (same_bytes e.0.column column || any) ≡ true
     by true tie at more =
-        or_left (same_bytes e.0.column column) any
+        or_left _ _
         (ap (λ (key : CoefficientKey). same_bytes key.column column) (sym (same_key (place_at row column) e.0 (equal_from (key_cmp (place_at row column) e.0) tie))) ∙ itself_named column)
-    by false tie at more = or_right (same_bytes e.0.column column) any (more at)
+    by false tie at more = or_right _ _ (more at)
 
 pub no-coefficient : (m : Listing) (row : List ℕ) (column : List ℕ × Column) → has_coefficients m column ≡ false → find key_cmp (place_at row column.0) m.coefficients ≡ None
-no-coefficient m row column h = grind (arith, has-some)
+no-coefficient = grind (arith, has-some)
 
 -- ---- what terms put into a map
 
@@ -91,7 +75,7 @@ module _ {K X : Type 0} (R : K → K → Ordering) (total : IsTotalOrder R) (sam
 
   -- a row with terms has no other
   some-kept : (q : K) (row : List ℕ) (columns : List (List ℕ × Column)) (terms : List Term) → SomeAt q (flat_map (own_entry row) terms) → SomeAt q (flat_map (own_entry row) (some_term columns terms))
-  some-kept q row columns terms h = grind arith
+  some-kept = grind arith
 
   module _ (m : Listing) (h : IsSoundListing m) where
     term-there : (key : CoefficientKey) (value : Number) → find key_cmp key m.coefficients ≡ Some value → (row : List ℕ) → key.row ≡ row → (column : List ℕ × Column) → same_bytes key.column column.0 ≡ true

@@ -1,22 +1,11 @@
 -- Slots in sections of rising rank: if no section fills a slot twice, all together do not.
-use Rattle.std.proofs.Common.{rules, ◌≡◌, refl, sym, ap, ◌∙◌, ℕ, suc, ◌<◌, arith, List, [], ◌∷◌, ◌++◌, true, false, not, append_assoc}
-use Rattle.std.specs.Prelude.{◌&&◌, Option, Some, None}
-use Rattle.std.specs.List.{list_any, flat_map}
-use Rattle.std.specs.Cmp.{second_so}
-use Rattle.std.specs.FinMap.{is_sorted}
+use Rattle.mpslp_canonical_lp.proofs.Prelude.{rules, ◌≡◌, refl, sym, ap, ◌∙◌, ℕ, suc, ◌<◌, arith, List, [], ◌∷◌, ◌++◌, true, false,
+  append_assoc, ◌&&◌, Option, Some, None, list_any, flat_map, second_so, is_sorted, is_lt, same_bytes, bytes_cmp, both_so, both_false,
+  so_not, Each-weaker, Each-append, CoefficientKey, are_distinct, Declarations, names_in, Slot, row_slot, rhs_slot, range_slot,
+  coefficient_slot, lower_slot, upper_slot, same_slot, slots_of, all_slots, IsNew, Apart, distinct-append, same_name, bytes_total,
+  itself_named}
 use Rattle.std.specs.FinMap.Entries.{below_all}
-use Rattle.std.specs.Ordering.{is_lt}
-use Rattle.mpslp_types.specs.Name.{same_bytes, bytes_cmp}
-use Rattle.mpslp_types.proofs.BoolLemmas.{both_so, both_false, so_not}
-use Rattle.mpslp_types.proofs.EachLemmas.{Each, Each-weaker, Each-append}
-use Rattle.mpslp_model_core.specs.Model.{CoefficientKey}
-use Rattle.mpslp_types.specs.Lists.{are_distinct}
-use Rattle.mpslp_builder.specs.Declaration.{Declarations, names_in}
-use Rattle.mpslp_builder.specs.Consistency.{Slot, row_slot, rhs_slot, range_slot, coefficient_slot, lower_slot, upper_slot, same_slot, slots_of, all_slots}
-use Rattle.mpslp_builder.proofs.DistinctLemmas.{IsNew, Apart, distinct-append}
-use Rattle.mpslp_builder.proofs.SlotLemmas.{same_name}
-use Rattle.mpslp_builder.proofs.SortedDrafts.{bytes_total}
-use Rattle.mpslp_builder.proofs.LaterDrafts.{itself_named}
+use Rattle.mpslp_types.proofs.EachLemmas.{Each}
 
 -- ---- the same slot
 
@@ -68,7 +57,7 @@ AreOther [] = Unit {0}
 AreOther (e ∷ es) = Each (λ later. same_bytes later.0 e.0 ≡ false) es × AreOther es
 
 no_tie : (a b : List ℕ) → is_lt (bytes_cmp a b) ≡ true → same_bytes b a ≡ false
-no_tie a b below = grind (arith, same_name, bytes_total)
+no_tie = grind (arith, same_name, bytes_total)
 
 above-other : {X : Type 0} (name : List ℕ) (es : List (List ℕ × X)) → below_all bytes_cmp name es ≡ true → Each (λ later. same_bytes later.0 name ≡ false) es
 above-other name [] h = tt
@@ -80,13 +69,12 @@ other-from_sorted (e ∷ es) h = grind (arith, above-other, other-from_sorted es
 
 none_named : {X : Type 0} (name : List ℕ) (es : List (List ℕ × X)) → Each (λ later. same_bytes later.0 name ≡ false) es → list_any (λ later. same_bytes later name) (names_in es) ≡ false
 none_named name [] h = refl
-none_named name (e ∷ es) h = both_false (same_bytes e.0 name) (list_any (λ later. same_bytes later name) (names_in es)) h.0 (none_named name es h.1)
+none_named name (e ∷ es) h = both_false _ _ h.0 (none_named name es h.1)
 
 pub names-distinct : {X : Type 0} (es : List (List ℕ × X)) → AreOther es → are_distinct same_bytes (names_in es) ≡ true
 names-distinct [] h = refl
 names-distinct (e ∷ es) h =
-    both_so (not (list_any (λ later. same_bytes later e.0) (names_in es))) (are_distinct same_bytes (names_in es))
-    (so_not (list_any (λ later. same_bytes later e.0) (names_in es)) (none_named e.0 es h.0)) (names-distinct es h.1)
+    both_so _ _ (so_not _ (none_named e.0 es h.0)) (names-distinct es h.1)
 
 -- ---- slots of entries
 
@@ -101,7 +89,7 @@ owner (upper_slot name) = Some name
 owner _ = None
 
 some_name : (a b : List ℕ) → Some a ≡ Some b → same_bytes b a ≡ false → ⊥
-some_name a b e other = grind (arith, itself_named)
+some_name = grind (arith, itself_named)
 
 -- The slots of entries of different names are different, if each has the name of its entry.
 pub owners-apart : {X : Type 0} (f : List ℕ × X → List Slot) → ((e : List ℕ × X) → Each (λ slot. owner slot ≡ Some e.0) (f e)) → (es : List (List ℕ × X)) → AreOther es → Apart same_slot f es

@@ -1,15 +1,8 @@
 -- The canonical LP text of a well-formed model with LP names is read as it was printed.
-use Rattle.std.proofs.Common.{rules, ◌≡◌, ap, ◌∙◌, List, ℕ}
-use Rattle.std.specs.Prelude.{None}
-use Rattle.std.specs.List.{enumerate_from}
-use Rattle.mpslp_model_core.specs.Model.{LinearModel, IsSound}
-use Rattle.mpslp_lp.specs.LpText.{sound_terminals, numbered_lines}
-use Rattle.mpslp_canonical_lp.specs.CanonicalLp.{canonical_lines, canonical_lp}
-use Rattle.mpslp_canonical_lp.specs.Unfit.{unfit}
-use Rattle.mpslp_canonical_lp.specs.Laws.{AreReadAsPrinted}
-use Rattle.mpslp_canonical_lp.proofs.TextLemmas.{lines-text, all-faultless, all-tokens, sound-terminals}
-use Rattle.mpslp_canonical_lp.proofs.TerminalLemmas.{all_terminals, lines-seen}
-use Rattle.mpslp_canonical_lp.proofs.PrintableLemmas.{canonical-printable}
+use Rattle.mpslp_canonical_lp.proofs.Prelude.{rules, ◌≡◌, ap, ◌∙◌, List, ℕ, None, enumerate_from, LinearModel, IsSound, sound_terminals,
+  numbered_lines, canonical_lines, canonical_lp, unfit, AreReadAsPrinted}
+use Rattle.mpslp_canonical_lp.proofs.{TextLemmas.{lines-text, all-faultless, all-tokens, sound-terminals},
+  TerminalLemmas.{all_terminals, lines-seen}, PrintableLemmas.{canonical-printable}}
 
 pub read-as-line_text : AreReadAsPrinted
 read-as-line_text m sound fits = search (rules, canonical-printable, lines-text, all-faultless, all-tokens)

@@ -1,33 +1,14 @@
 -- A printed row declares its name, its limits and its terms.
-use Rattle.std.proofs.Common.{arith, rules, ◌≡◌, sym, subst, ℕ, ◌+◌, List, [], ◌∷◌, ◌++◌, true, false, append_assoc, map}
-use Rattle.std.specs.Prelude.{Option, Some, None}
-use Rattle.std.specs.List.{list_any}
-use Rattle.std.specs.Option.{option_map}
-use Rattle.std.proofs.lemmas.List.{append-nil}
-use Rattle.mpslp_decimal.specs.Decimal.{Number as Decimal, is_negative, size_of}
-use Rattle.mpslp_types.specs.Name.{same_bytes}
-use Rattle.mpslp_types.specs.Limit.{limit_of}
-use Rattle.mpslp_builder.specs.Declaration.{Draft, with_declarations}
-use Rattle.mpslp_builder.specs.Refusal.{refusals_in_turn}
-use Rattle.mpslp_types.specs.declared.kinds.Limit.{Limit}
-use Rattle.mpslp_decimal.proofs.CutLemmas.{Each}
-use Rattle.mpslp_lp_grammar.specs.Terminal.{Terminal, TerminalAt}
-use Rattle.mpslp_lp_grammar.specs.Terminal.Terminal.{Name, Number, Sign, Compares, Colon}
-use Rattle.mpslp_lp_grammar.specs.Phrase.{Point}
-use Rattle.mpslp_lp_grammar.specs.declared.sections_seen.SectionsSeen.{SectionsSeen}
-use Rattle.mpslp_lp_grammar.specs.PartialRow.{PartialRow}
-use Rattle.mpslp_lp_grammar.specs.declared.states.Place.TheVariants.{BetweenRows, InRow}
-use Rattle.mpslp_lp_grammar.specs.Rows.{fits_left}
-use Rattle.mpslp_lp_grammar.specs.declared.relations.Relation.{Relation}
-use Rattle.mpslp_lp_grammar.specs.declared.relations.Relation.TheVariants.{AtMost}
-use Rattle.mpslp_canonical_lp.specs.Printed.{number, sense}
-use Rattle.mpslp_canonical_lp.specs.CanonicalLp.{Lines, Term, long_line, label_line, term_line, right_line}
+use Rattle.mpslp_canonical_lp.proofs.Prelude.{arith, rules, ◌≡◌, sym, subst, ℕ, ◌+◌, List, [], ◌∷◌, ◌++◌, true, false, append_assoc, map,
+  Option, Some, None, list_any, option_map, append-nil, Decimal, is_negative, size_of, same_bytes, limit_of, Draft, with_declarations,
+  refusals_in_turn, Limit, Each, Terminal, TerminalAt, Name, Sign, Compares, Colon, Point, SectionsSeen, PartialRow, BetweenRows, InRow,
+  fits_left, Relation, AtMost, number, sense, Lines, Term, long_line, label_line, term_line, right_line}
+use Rattle.mpslp_lp_grammar.specs.Terminal.Terminal.{Number}
+use Rattle.mpslp_canonical_lp.proofs.{PrintableLemmas.{IsTerm},
+  TerminalLemmas.{at, terminals_in, line_terminals_in, all_terminals, mapped-append, signed-value, sign_of}, PhraseLemmas.{Walks,
+  walks-none, walks-then, point_at, left-row-walks, signed-row-walks, row-term-walks, ended_by, row-end-walks, signed-end-walks},
+  ObjectiveWalk.{term-terminals}, BoundsWalk.{number-either}}
 pub use Rattle.mpslp_canonical_lp.specs.PrintedDeclarations.{AreNew}
-use Rattle.mpslp_canonical_lp.proofs.PrintableLemmas.{IsTerm}
-use Rattle.mpslp_canonical_lp.proofs.TerminalLemmas.{at, terminals_in, line_terminals_in, all_terminals, mapped-append, signed-value, sign_of}
-use Rattle.mpslp_canonical_lp.proofs.PhraseLemmas.{Walks, walks-none, walks-then, point_at, left-row-walks, signed-row-walks, row-term-walks, ended_by, row-end-walks, signed-end-walks}
-use Rattle.mpslp_canonical_lp.proofs.ObjectiveWalk.{term-terminals}
-use Rattle.mpslp_canonical_lp.proofs.BoundsWalk.{number-either}
 
 -- a limit before the terms, with its relation, if there is one
 abbrev pub left_of : Option Decimal → Option (Limit × Relation)
@@ -50,12 +31,12 @@ term_tokens n term = at n (Sign (sign_of (is_negative term.1))) ∷ at n (Number
 
 begin-plain : (sections_seen : SectionsSeen) (all : Draft) (name : List ℕ) (k n : ℕ) (term : Term)
     → Walks (point_at BetweenRows sections_seen all) (at k (Name name) ∷ at k Colon ∷ term_tokens n term) [] (in_row sections_seen all (partial name None (term ∷ [])))
-begin-plain sections_seen all name k n term = grind arith
+begin-plain = grind arith
 
 begin-left : (sections_seen : SectionsSeen) (all : Draft) (name : List ℕ) (k j n : ℕ) (left : Decimal) (term : Term)
     → Walks (point_at BetweenRows sections_seen all) (at k (Name name) ∷ at k Colon ∷ (map (at j) (terminals_in (number left)) ++ at j (Compares AtMost) ∷ term_tokens n term)) []
     (in_row sections_seen all (partial name (Some left) (term ∷ [])))
-begin-left sections_seen all name k j n left term = grind (arith, point_at, at, terminals_in, signed-value, number-either, sign_of, left-row-walks, signed-row-walks)
+begin-left = grind (arith, point_at, at, terminals_in, signed-value, number-either, sign_of, left-row-walks, signed-row-walks)
 
 -- the label, the limit before the terms if there is one, and the first term
 pub begin-walk : (sections_seen : SectionsSeen) (all : Draft) (name : List ℕ) (n : ℕ) (left : Option Decimal) (term : Term) → IsTerm term

@@ -1,25 +1,13 @@
 -- What the canonical text declares fills no slot twice.
-use Rattle.std.proofs.Common.{arith, ◌≡◌, refl, ap, ◌∙◌, ℕ, List, [], ◌∷◌, ◌++◌, Bool, true, false, not, map, append_assoc}
-use Rattle.std.specs.Prelude.{◌&&◌, ◌||◌, Some, if◌then◌else◌}
-use Rattle.std.specs.List.{list_any, flat_map}
-use Rattle.mpslp_decimal.specs.Decimal.{Number}
-use Rattle.mpslp_types.specs.Name.{same_bytes}
-use Rattle.mpslp_types.specs.declared.kinds.Limit.{Limit}
-use Rattle.mpslp_types.proofs.BoolLemmas.{both_so, both_false, so_not}
-use Rattle.mpslp_types.proofs.EachLemmas.{Each, Each-weaker, Each-flat_map, Each-all}
-use Rattle.mpslp_model_core.specs.Model.{Row, Column, Listing}
-use Rattle.mpslp_types.specs.Lists.{are_distinct}
-use Rattle.mpslp_builder.specs.Declaration.{Declarations, names_in}
-use Rattle.mpslp_builder.specs.Consistency.{Slot, sense_slot, objective_slot, constant_slot, row_slot, rhs_slot, range_slot, coefficient_slot, lower_slot, upper_slot, same_slot, all_slots}
-use Rattle.mpslp_builder.proofs.DistinctLemmas.{distinct-flat_map}
-use Rattle.mpslp_builder.proofs.LaterDrafts.{itself_named}
-use Rattle.mpslp_canonical_lp.specs.CanonicalLp.{Term, row_terms, objective_terms}
-use Rattle.mpslp_canonical_lp.proofs.ObjectiveWalk.{terms_declared, constant_declared, objective_made}
-use Rattle.mpslp_canonical_lp.proofs.BoundsWalk.{bound_made, column_made}
-use Rattle.mpslp_canonical_lp.proofs.TailWalk.{general_made, semi_made}
-use Rattle.mpslp_canonical_lp.proofs.TextWalk.{row_made, listed_declarations}
-use Rattle.mpslp_canonical_lp.proofs.RankedSlots.{Section, Sections, joined-once, AreOther, names-distinct, owner, owners-apart, slots-append, slots-flat}
-use Rattle.mpslp_canonical_lp.proofs.NamedTerms.{objective-other, row-other}
+use Rattle.mpslp_canonical_lp.proofs.Prelude.{arith, ◌≡◌, refl, ap, ◌∙◌, ℕ, List, [], ◌∷◌, ◌++◌, Bool, true, false, not, map, append_assoc,
+  ◌&&◌, ◌||◌, Some, if◌then◌else◌, list_any, flat_map, Number, same_bytes, Limit, both_so, both_false, so_not, Each-weaker, Each-flat_map,
+  Each-all, Row, Column, Listing, are_distinct, Declarations, names_in, Slot, sense_slot, objective_slot, constant_slot, row_slot, rhs_slot,
+  range_slot, coefficient_slot, same_slot, all_slots, distinct-flat_map, itself_named, Term, row_terms, objective_terms}
+use Rattle.mpslp_types.proofs.EachLemmas.{Each}
+use Rattle.mpslp_canonical_lp.proofs.{ObjectiveWalk.{terms_declared, constant_declared, objective_made},
+  BoundsWalk.{bound_made, column_made}, TailWalk.{general_made, semi_made}, TextWalk.{row_made, listed_declarations},
+  RankedSlots.{Section, Sections, joined-once, AreOther, names-distinct, owner, owners-apart, slots-append, slots-flat},
+  NamedTerms.{objective-other, row-other}}
 
 -- ---- ranks: the row of the objective is separate from the others
 
@@ -34,8 +22,7 @@ rank objective (row_slot name) = of_row (same_bytes name objective)
 rank objective (rhs_slot name) = of_row (same_bytes name objective)
 rank objective (range_slot name) = of_row (same_bytes name objective)
 rank objective (coefficient_slot key) = of_row (same_bytes key.row objective)
-rank objective (lower_slot name) = 5
-rank objective (upper_slot name) = 5
+rank objective _ = 5
 
 -- ---- coefficients
 
@@ -69,17 +56,14 @@ terms-once row terms other = ap (are_distinct same_slot) (cells-fill row terms) 
 
 no_cell : (slot : Slot) (row : List ℕ) (terms : List Term) → ((column : List ℕ) → same_slot (cell_slot row column) slot ≡ false) → list_any (λ later. same_slot later slot) (all_slots (terms_declared row terms)) ≡ false
 no_cell slot row [] h = refl
-no_cell slot row (term ∷ terms) h = both_false (same_slot (cell_slot row term.0) slot) (list_any (λ later. same_slot later slot) (all_slots (terms_declared row terms))) (h term.0) (no_cell slot row terms h)
+no_cell slot row (term ∷ terms) h = both_false _ _ (h term.0) (no_cell slot row terms h)
 
 row-once : (name : List ℕ) (terms : List Term) → AreOther terms → are_distinct same_slot (row_slot name ∷ rhs_slot name ∷ range_slot name ∷ all_slots (terms_declared name terms)) ≡ true
 row-once name terms other =
     let cells = all_slots (terms_declared name terms) in
-    both_so (not (list_any (λ later. same_slot later (row_slot name)) cells)) (are_distinct same_slot (rhs_slot name ∷ range_slot name ∷ cells))
-    (so_not (list_any (λ later. same_slot later (row_slot name)) cells) (no_cell (row_slot name) name terms (λ _. refl)))
-    (both_so (not (list_any (λ later. same_slot later (rhs_slot name)) cells)) (are_distinct same_slot (range_slot name ∷ cells))
-    (so_not (list_any (λ later. same_slot later (rhs_slot name)) cells) (no_cell (rhs_slot name) name terms (λ _. refl)))
-    (both_so (not (list_any (λ later. same_slot later (range_slot name)) cells)) (are_distinct same_slot cells)
-    (so_not (list_any (λ later. same_slot later (range_slot name)) cells) (no_cell (range_slot name) name terms (λ _. refl)))
+    both_so _ _ (so_not _ (no_cell (row_slot name) name terms (λ _. refl)))
+    (both_so _ _ (so_not _ (no_cell (rhs_slot name) name terms (λ _. refl)))
+    (both_so _ _ (so_not _ (no_cell (range_slot name) name terms (λ _. refl)))
     (terms-once name terms other)))
 
 abbrev row_slots : Listing → List ℕ × Row → List Slot
@@ -103,14 +87,14 @@ objective-section : (m : Listing) → AreOther m.columns → Section (rank m.obj
 objective-section m columns =
     let cells = all_slots (terms_declared m.objective (objective_terms m)) in
     record {
-      once = both_so (not (list_any (λ later. same_slot later (row_slot m.objective)) cells)) (are_distinct same_slot cells)
-          (so_not (list_any (λ later. same_slot later (row_slot m.objective)) cells) (no_cell (row_slot m.objective) m.objective (objective_terms m) (λ _. refl)))
+      once = both_so _ _
+          (so_not _ (no_cell (row_slot m.objective) m.objective (objective_terms m) (λ _. refl)))
           (terms-once m.objective (objective_terms m) (objective-other m columns));
       ranked = (ap of_row (itself_named m.objective), each-cell (λ slot. rank m.objective slot ≡ 2) m.objective (objective_terms m) (λ _. ap of_row (itself_named m.objective)));
     }
 
 constant-section : (objective : List ℕ) (value : Number) → Section (rank objective) 3 (all_slots (constant_declared value))
-constant-section objective value = grind arith
+constant-section = grind arith
 
 -- ---- bounds
 
@@ -121,7 +105,7 @@ record IsOfColumn (objective column : List ℕ) (slots : List Slot) : Type 0 whe
   pub ranked : Each (λ slot. rank objective slot ≡ 5) slots
 
 bound-slots : (objective column : List ℕ) (lower upper : Limit) → IsOfColumn objective column (all_slots (bound_made column lower upper))
-bound-slots objective column lower upper = grind arith
+bound-slots = grind arith
 
 abbrev bound_slots : List ℕ × Column → List Slot
 bound_slots column = all_slots (column_made column)
@@ -148,7 +132,8 @@ kinds-fill make h [] = refl
 kinds-fill make h (column ∷ columns) = slots-append (make column) (flat_map make columns) ∙ (λ i. h column i ++ kinds-fill make h columns i)
 
 sections-fill : (m : Listing) → all_slots (listed_declarations m) ≡ flat_map (λ (section : List Slot). section) (sections m)
-sections-fill m = grind (arith, terms_declared, constant_declared, row_made, column_made, general_made, semi_made, slots-append, kinds-fill, slots-flat, objective_made, append_assoc)
+sections-fill = grind (arith, terms_declared, constant_declared, row_made, column_made, general_made, semi_made, slots-append, kinds-fill,
+    slots-flat, objective_made, append_assoc)
 
 -- No slot is filled twice, if rows and columns have different names, and no row has that of the objective.
 pub listed-once : (m : Listing) → AreOther m.columns → AreOther m.rows → Each (λ row. same_bytes row.0 m.objective ≡ false) m.rows → are_distinct same_slot (all_slots (listed_declarations m)) ≡ true

@@ -1,14 +1,8 @@
 -- The listing of a well-formed model.
-use Rattle.std.proofs.Common.{◌≡◌, List, ◌∷◌, ℕ, Bool, true, not}
-use Rattle.std.specs.Prelude.{Some, ◌&&◌}
-use Rattle.std.specs.FinMap.{is_sorted, entries, entries_sorted}
-use Rattle.mpslp_decimal.specs.Decimal.{Number, IsDecimal, is_decimal, is_zero}
-use Rattle.mpslp_types.specs.Name.{is_one_of, bytes_cmp}
-use Rattle.mpslp_model_core.specs.Model.{LinearModel, Column, CoefficientKey, key_cmp, is_sound_row, is_sound_column, is_sound_coefficient, IsSound, Listing, listing_of}
-use Rattle.mpslp_builder.specs.Declaration.{at_name, names_in}
-use Rattle.mpslp_types.proofs.BoolLemmas.{true_from}
-use Rattle.mpslp_types.proofs.EachLemmas.{Each, Each-both, Each-from_list_all}
-use Rattle.mpslp_builder.proofs.NamedEntries.{own-found}
+use Rattle.mpslp_canonical_lp.proofs.Prelude.{◌≡◌, List, ◌∷◌, ℕ, Bool, true, not, Some, ◌&&◌, is_sorted, entries, entries_sorted, Number,
+  IsDecimal, is_decimal, is_zero, is_one_of, bytes_cmp, LinearModel, Column, CoefficientKey, key_cmp, is_sound_row, is_sound_column,
+  is_sound_coefficient, IsSound, Listing, listing_of, at_name, names_in, true_from, Each-both, Each-from_list_all, own-found}
+use Rattle.mpslp_types.proofs.EachLemmas.{Each}
 
 -- a decimal other than 0, of a row or the objective and of a column that exist
 abbrev pub is_sound_entry : Listing → CoefficientKey × Number → Bool
@@ -30,9 +24,9 @@ sound-listing m h = record {
   rows = Each-from_list_all is_sound_row (entries m.rows) h.rows;
   columns = Each-from_list_all is_sound_column (entries m.columns) h.columns;
   coefficients = Each-from_list_all (is_sound_coefficient m) (entries m.coefficients) h.coefficients;
-  rows_sorted = true_from (is_sorted bytes_cmp (entries m.rows)) (entries_sorted m.rows);
-  columns_sorted = true_from (is_sorted bytes_cmp (entries m.columns)) (entries_sorted m.columns);
-  coefficients_sorted = true_from (is_sorted key_cmp (entries m.coefficients)) (entries_sorted m.coefficients);
+  rows_sorted = true_from _ (entries_sorted m.rows);
+  columns_sorted = true_from _ (entries_sorted m.columns);
+  coefficients_sorted = true_from _ (entries_sorted m.coefficients);
 }
 
 -- ---- columns that are well-formed, and found by their names

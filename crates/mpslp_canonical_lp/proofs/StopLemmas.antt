@@ -1,20 +1,10 @@
 -- What ends a token: a space ends each, a colon ends a name, and a minus is a token by itself unless `>` follows.
-use Rattle.std.proofs.Common.{rules, ◌≡◌, refl, ap, ℕ, List, [], ◌∷◌, ◌++◌, Bool, true, false, not, arith}
-use Rattle.std.specs.Prelude.{Option, Some, None, ◌&&◌, ◌||◌, ◌==◌, codes}
-use Rattle.std.specs.List.{find, list_all, list_any}
-use Rattle.std.specs.Cmp.{second_so}
-use Rattle.std.proofs.lemmas.Bool.Decides.{nat_tests}
-use Rattle.std.proofs.lemmas.Bool.{eqb-true}
-use Rattle.mpslp_decimal.specs.Literal.{is_digit, is_literal}
-use Rattle.mpslp_types.specs.Name.{is_letter}
-use Rattle.mpslp_types.proofs.BoolLemmas.{not_so}
-use Rattle.mpslp_decimal.proofs.CutLemmas.{Each}
-use Rattle.mpslp_lp_tokens.specs.Token.{begins_word, continues_word, is_word, is_number, operator_kind, kind_of}
-use Rattle.mpslp_lp_tokens.specs.declared.tokens.TokenKind.{TokenKind}
+use Rattle.mpslp_canonical_lp.proofs.Prelude.{rules, ◌≡◌, refl, ap, ℕ, List, [], ◌∷◌, ◌++◌, Bool, true, false, not, arith, Option, Some,
+  None, ◌&&◌, ◌||◌, ◌==◌, codes, list_all, list_any, second_so, nat_tests, eqb-true, is_digit, is_literal, is_letter, not_so, Each,
+  begins_word, continues_word, is_word, is_number, operator_kind, kind_of, TokenKind, begins-no_number}
+use Rattle.std.specs.List.{find}
+use Rattle.mpslp_canonical_lp.proofs.{LiteralBytes.{literal-each}, TokenLemmas.{StopsAt}}
 use Rattle.mpslp_lp_tokens.specs.declared.tokens.TokenKind.TheVariants as kinds
-use Rattle.mpslp_lp_tokens.proofs.NameTokens.{begins-no_number}
-use Rattle.mpslp_canonical_lp.proofs.LiteralBytes.{literal-each}
-use Rattle.mpslp_canonical_lp.proofs.TokenLemmas.{StopsAt}
 
 -- ---- no token
 
@@ -45,7 +35,7 @@ none-found p [] h = refl
 none-found p (entry ∷ table) h = rw h.0 (none-found p table h.1)
 
 and-false : (a : Bool) → (a && false) ≡ false
-and-false a = grind arith
+and-false = grind arith
 
 -- ---- a space
 
@@ -53,17 +43,17 @@ abbrev NotBlank : ℕ → Type 0
 NotBlank b = (b == 32) ≡ false
 
 literal-solid : (text : List ℕ) → is_literal text ≡ true → Each NotBlank text
-literal-solid text h = grind (arith, literal-each, arith, nat_tests)
+literal-solid = grind (arith, literal-each, arith, nat_tests)
 
 blank-in : (xs ys : List ℕ) → Each NotBlank (xs ++ 32 ∷ ys) → ⊥
 blank-in [] ys h = cc
 blank-in (x ∷ xs) ys h = blank-in xs ys h.1
 
 number-blank : (text more : List ℕ) → is_number (text ++ 32 ∷ more) ≡ false
-number-blank text more = grind (arith, blank-in, literal-solid)
+number-blank = grind (arith, blank-in, literal-solid)
 
 second-blank : (c : ℕ) → operator_kind (c ∷ 32 ∷ []) ≡ None
-second-blank c = grind arith
+second-blank = grind arith
 
 operator-blank : (text more : List ℕ) → operator_kind (text ++ 32 ∷ more) ≡ None
 operator-blank [] [] = refl
@@ -87,14 +77,14 @@ symbol-apart [] c all any = cc
 symbol-apart (s ∷ symbols) c all any = grind (arith, eqb-true, not_so, symbol-apart symbols c (second_so (not (is_operator_byte s)) (list_all (λ x. not (is_operator_byte x)) symbols) all))
 
 letter-apart : (c : ℕ) → is_letter c ≡ true → is_operator_byte c ≡ false
-letter-apart c h = grind (arith, nat_tests)
+letter-apart = grind (arith, nat_tests)
 
 first-apart : (c : ℕ) → begins_word c ≡ true → is_operator_byte c ≡ false
 first-apart c h = search (rules, letter-apart, symbol-apart)
 
 -- an operator of two bytes begins with the byte of an operator
 first-found : (c d : ℕ) → is_operator_byte c ≡ false → operator_kind (c ∷ d ∷ []) ≡ None
-first-found c d h = grind arith
+first-found = grind arith
 
 operator-colon : (c : ℕ) (text more : List ℕ) → is_operator_byte c ≡ false → operator_kind ((c ∷ text) ++ 58 ∷ more) ≡ None
 operator-colon c [] [] h = first-found c 58 h
@@ -103,7 +93,7 @@ operator-colon c (d ∷ []) more h = refl
 operator-colon c (d ∷ e ∷ text) more h = refl
 
 begins-word : (c : ℕ) → begins_word c ≡ true → (is_digit c || c == 46) ≡ false
-begins-word c h = not_so (is_digit c || c == 46) (begins-no_number c h)
+begins-word c h = not_so _ (begins-no_number c h)
 
 pub stops-colon : (c : ℕ) (text : List ℕ) → begins_word c ≡ true → StopsAt (c ∷ text) 58
 stops-colon c text h more =
@@ -114,7 +104,7 @@ stops-colon c text h more =
 -- ---- a minus
 
 operator-minus : (b : ℕ) (more : List ℕ) → (62 == b) ≡ false → operator_kind (45 ∷ b ∷ more) ≡ None
-operator-minus b more h = grind arith
+operator-minus = grind arith
 
 pub stops-minus : (b : ℕ) → (62 == b) ≡ false → StopsAt (codes "-") b
 stops-minus b h more = no-kind (45 ∷ b ∷ more) refl refl (operator-minus b more h)

@@ -1,32 +1,15 @@
 -- The printed bounds and integer columns, and the end of the text.
-use Rattle.std.proofs.Common.{arith, ◌≡◌, refl, sym, ap, subst, ℕ, ◌+◌, List, [], ◌∷◌, ◌++◌, true, not, map}
-use Rattle.std.specs.Prelude.{Option, None, ◌||◌, codes, is_some}
-use Rattle.std.specs.List.{flat_map}
-use Rattle.std.proofs.lemmas.List.{append-nil}
-use Rattle.mpslp_model_core.specs.Model.{Column}
-use Rattle.mpslp_builder.specs.Declaration.{Draft, Declarations, declare_column, declare_integer, bounds_declared, with_declarations, declare_semi}
-use Rattle.mpslp_builder.specs.Refusal.{refusals_in_turn, bounds_refusals}
-use Rattle.mpslp_types.specs.declared.kinds.Limit.{Limit}
-use Rattle.mpslp_builder.proofs.MadeDrafts.{with_declarations-append}
-use Rattle.mpslp_decimal.proofs.CutLemmas.{Each}
-use Rattle.mpslp_lp_grammar.specs.declared.signs.Sign.TheVariants.{Minus}
-use Rattle.mpslp_lp_grammar.specs.Terminal.{TerminalAt}
-use Rattle.mpslp_lp_grammar.specs.Terminal.Terminal.{Opens, Name, Sign}
-use Rattle.mpslp_lp_grammar.specs.Rules.{phrases, made_by}
-use Rattle.mpslp_lp_grammar.specs.Rules.Outcome.{Finished}
-use Rattle.mpslp_lp_grammar.specs.Phrase.{with_section, section_fault, Point}
-use Rattle.mpslp_lp_grammar.specs.declared.sections_seen.SectionsSeen.{SectionsSeen}
-use Rattle.mpslp_lp_grammar.specs.declared.states.Place.{Place}
-use Rattle.mpslp_lp_grammar.specs.declared.states.Place.TheVariants.{InGenerals, InSemis}
-use Rattle.mpslp_lp_grammar.specs.Grammar.{phrase_at, may_begin_section}
+use Rattle.mpslp_canonical_lp.proofs.Prelude.{arith, ◌≡◌, refl, sym, ap, subst, ℕ, ◌+◌, List, [], ◌∷◌, ◌++◌, true, map, Option, None, ◌||◌,
+  codes, is_some, flat_map, append-nil, Column, Draft, Declarations, declare_column, declare_integer, bounds_declared, with_declarations,
+  declare_semi, refusals_in_turn, bounds_refusals, Limit, with_declarations-append, Each, Minus, TerminalAt, Opens, Name, Sign, phrases,
+  made_by, Finished, with_section, section_fault, Point, SectionsSeen, Place, InGenerals, InSemis, phrase_at, may_begin_section, Lines,
+  heading, under_heading, name_line, under_semi_heading}
+use Rattle.mpslp_canonical_lp.proofs.{LexemeLemmas.{IsGoodName}, PrintableLemmas.{IsFitColumn},
+  TerminalLemmas.{at, line_terminals_in, all_terminals},
+  PhraseLemmas.{Walks, walks-none, point_at, generals-section-walks, end-says, end-makes, semis-section-walks},
+  ObjectiveWalk.{number_after, terminals-append, parts-taken, parts-walk}}
 use Rattle.mpslp_lp_tokens.specs.declared.words.Section.TheVariants as sections
 use Rattle.mpslp_lp_tokens.specs.declared.words.SectionWord.TheVariants as section_words
-use Rattle.mpslp_canonical_lp.specs.CanonicalLp.{Lines, heading, under_heading, name_line, under_semi_heading}
-use Rattle.mpslp_canonical_lp.proofs.LexemeLemmas.{IsGoodName}
-use Rattle.mpslp_canonical_lp.proofs.PrintableLemmas.{IsFitColumn}
-use Rattle.mpslp_canonical_lp.proofs.TerminalLemmas.{at, line_terminals_in, all_terminals}
-use Rattle.mpslp_canonical_lp.proofs.PhraseLemmas.{Walks, walks-none, point_at, generals-section-walks, end-says, end-makes, semis-section-walks}
-use Rattle.mpslp_canonical_lp.proofs.ObjectiveWalk.{number_after, terminals-append, parts-taken, parts-walk}
 
 -- ---- where the text ends
 
@@ -38,7 +21,7 @@ pub record EndsWith (from : Point) (tokens : List TerminalAt) (made : Declaratio
 pub walk-ends : (place between : Place) (sections_seen later : SectionsSeen) (all : Draft) (xs ys : List TerminalAt) (made more : Declarations)
     → Walks (point_at place sections_seen all) xs made (point_at between later (with_declarations all made)) → EndsWith (point_at between later (with_declarations all made)) ys more
     → EndsWith (point_at place sections_seen all) (xs ++ ys) (made ++ more)
-walk-ends place between sections_seen later all xs ys made more h k = grind (arith, with_declarations-append)
+walk-ends = grind (arith, with_declarations-append)
 
 pub end-ends : (place : Place) (sections_seen : SectionsSeen) (all : Draft) (n : ℕ) → may_begin_section place ≡ true → section_fault sections_seen sections.End ≡ None
     → EndsWith (point_at place sections_seen all) (all_terminals n (heading (codes "End" ∷ []) ∷ [])) []
@@ -51,7 +34,7 @@ general_made column = declare_column column.0 ∷ declare_integer column.0 ∷ [
 
 pub one-general : (sections_seen : SectionsSeen) (all : Draft) (n : ℕ) (column : List ℕ × Column) → IsGoodName column.0 → refusals_in_turn all (general_made column) ≡ []
     → Walks (point_at InGenerals sections_seen all) (line_terminals_in n (name_line column)) (general_made column) (point_at InGenerals sections_seen (with_declarations all (general_made column)))
-one-general sections_seen all n column good h = grind arith
+one-general = grind arith
 
 pub generals-walk : (sections_seen : SectionsSeen) (all : Draft) (n : ℕ) (columns : List (List ℕ × Column)) → Each IsFitColumn columns → refusals_in_turn all (flat_map general_made columns) ≡ []
     → Walks (point_at InGenerals sections_seen all) (all_terminals n (map name_line columns)) (flat_map general_made columns) (point_at InGenerals sections_seen (with_declarations all (flat_map general_made columns)))
@@ -69,7 +52,7 @@ semi_made column = declare_column column.0 ∷ declare_semi column.0 ∷ []
 
 pub one-semi : (sections_seen : SectionsSeen) (all : Draft) (n : ℕ) (column : List ℕ × Column) → IsGoodName column.0 → refusals_in_turn all (semi_made column) ≡ []
     → Walks (point_at InSemis sections_seen all) (line_terminals_in n (name_line column)) (semi_made column) (point_at InSemis sections_seen (with_declarations all (semi_made column)))
-one-semi sections_seen all n column good h = grind arith
+one-semi = grind arith
 
 pub semis-walk : (sections_seen : SectionsSeen) (all : Draft) (n : ℕ) (columns : List (List ℕ × Column)) → Each IsFitColumn columns → refusals_in_turn all (flat_map semi_made columns) ≡ []
     → Walks (point_at InSemis sections_seen all) (all_terminals n (map name_line columns)) (flat_map semi_made columns) (point_at InSemis sections_seen (with_declarations all (flat_map semi_made columns)))
@@ -134,4 +117,4 @@ generals-end place sections_seen all n (column ∷ columns) semis fit whole may 
 
 pub sides-taken : (all : Draft) (column : List ℕ) (lower upper : Option Limit) → refusals_in_turn all (bounds_declared column lower upper) ≡ [] → is_some lower || is_some upper ≡ true
     → bounds_refusals all column lower upper ≡ []
-sides-taken all column lower upper h some = grind arith
+sides-taken = grind arith

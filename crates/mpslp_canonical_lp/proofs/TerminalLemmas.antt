@@ -1,27 +1,13 @@
 -- What the grammar sees of a printed line.
-use Rattle.std.proofs.Common.{arith, ◌≡◌, refl, ap, ℕ, ◌+◌, List, [], ◌∷◌, ◌++◌, Bool, true, false, map}
-use Rattle.mpslp_lp_tokens.specs.declared.words.SectionWord.TheVariants as section_words
-use Rattle.std.specs.Prelude.{codes, if◌then◌else◌}
-use Rattle.std.specs.List.{flat_map}
+use Rattle.mpslp_canonical_lp.proofs.Prelude.{arith, ◌≡◌, refl, ap, ℕ, ◌+◌, List, [], ◌∷◌, ◌++◌, Bool, true, false, map, codes,
+  if◌then◌else◌, flat_map, Decimal, IsDecimal, is_negative, size_of, zero_number, number_text, number-text, Each, class_of, SignOf, Plus,
+  Minus, Terminal, TerminalAt, word_terminal, value_of, Name, Sign, Compares, Colon, Infinity, Opens, apply_sign, AtMost, AtLeast, EqualTo,
+  Lexeme, PrintedLine, word, label, number, sign, sense, minus_infinity, semi_continuous, tokens_in, line_tokens}
 use Rattle.std.specs.Result.{result_unwrap_or}
-use Rattle.mpslp_decimal.specs.Decimal.{Number as Decimal, IsDecimal, is_negative, size_of, zero_number}
-use Rattle.mpslp_decimal.specs.NumberText.{number_text}
-use Rattle.mpslp_decimal.proofs.NumberTextLemmas.{number-text}
-use Rattle.mpslp_decimal.proofs.CutLemmas.{Each}
-use Rattle.mpslp_lp_tokens.specs.Token.{class_of}
-use Rattle.mpslp_lp_grammar.specs.declared.signs.Sign.{Sign as SignOf}
-use Rattle.mpslp_lp_grammar.specs.declared.signs.Sign.TheVariants.{Plus, Minus}
-use Rattle.mpslp_lp_grammar.specs.Terminal.{Terminal, TerminalAt, word_terminal}
-use Rattle.mpslp_lines.specs.FaultTests.{value_of}
-use Rattle.mpslp_lp_grammar.specs.Terminal.Terminal.{Name, Number, Sign, Compares, Colon, Infinity, Opens}
-use Rattle.mpslp_lp_grammar.specs.Items.{apply_sign}
-use Rattle.mpslp_lp_grammar.specs.declared.relations.Relation.TheVariants.{AtMost, AtLeast, EqualTo}
+use Rattle.mpslp_lp_grammar.specs.Terminal.Terminal.{Number}
+use Rattle.mpslp_canonical_lp.proofs.{LineLemmas.{seen_at, IsPrintableLine}, LexemeLemmas.{IsPrintable}, TextLemmas.{terminals_from}}
+use Rattle.mpslp_lp_tokens.specs.declared.words.SectionWord.TheVariants as section_words
 use Rattle.mpslp_lp_tokens.specs.declared.tokens.TokenKind.TheVariants as kinds
-use Rattle.mpslp_canonical_lp.specs.Printed.{Lexeme, PrintedLine, word, label, number, sign, sense, minus_infinity, semi_continuous}
-use Rattle.mpslp_canonical_lp.specs.PrintedDeclarations.{tokens_in, line_tokens}
-use Rattle.mpslp_canonical_lp.proofs.LineLemmas.{seen_at, IsPrintableLine}
-use Rattle.mpslp_canonical_lp.proofs.LexemeLemmas.{IsPrintable}
-use Rattle.mpslp_canonical_lp.proofs.TextLemmas.{terminals_from}
 
 abbrev pub at : ℕ → Terminal → TerminalAt
 at n terminal = record { line = n; terminal = terminal }
@@ -86,4 +72,4 @@ lines-seen n (line ∷ lines) h = λ i. line-seen n line h.0.each i ++ lines-see
 
 -- a sign and an absolute value give the number
 pub signed-value : (value : Decimal) → apply_sign (sign_of (is_negative value)) (size_of value) ≡ value
-signed-value value = grind arith
+signed-value = grind arith

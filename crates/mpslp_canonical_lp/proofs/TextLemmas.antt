@@ -1,19 +1,10 @@
 -- A text of printed lines consists of these lines, and its terminals are those of their pieces.
-use Rattle.std.proofs.Common.{◌≡◌, refl, List, [], ◌∷◌, ◌++◌, ℕ, ◌+◌, true, map, arith}
-use Rattle.std.specs.Prelude.{is_none}
-use Rattle.std.specs.List.{list_all, enumerate_from}
+use Rattle.mpslp_canonical_lp.proofs.Prelude.{◌≡◌, refl, List, [], ◌∷◌, ◌++◌, ℕ, ◌+◌, true, map, arith, is_none, list_all, enumerate_from,
+  nat_tests, both_so, Each, TerminalAt, lexical_fault, sound_terminals, PrintedLine, line_text, text_of, line_tokens, tokens_seen}
 use Rattle.std.specs.Str.Lines.{lines}
-use Rattle.std.proofs.lemmas.Bool.Decides.{nat_tests}
-use Rattle.mpslp_types.proofs.BoolLemmas.{both_so}
-use Rattle.mpslp_decimal.proofs.CutLemmas.{Each}
-use Rattle.mpslp_lp_grammar.specs.Terminal.{TerminalAt, lexical_fault}
-use Rattle.mpslp_lp.specs.LpText.{sound_terminals}
 use Rattle.mpslp_lines.proofs.WrittenLineLemmas.{IsPlain, lines-with_line_feeds}
-use Rattle.mpslp_canonical_lp.specs.Printed.{PrintedLine, line_text, text_of}
-use Rattle.mpslp_canonical_lp.specs.PrintedDeclarations.{line_tokens}
-use Rattle.mpslp_canonical_lp.specs.Laws.{tokens_seen}
-use Rattle.mpslp_canonical_lp.proofs.LexemeLemmas.{line-read}
-use Rattle.mpslp_canonical_lp.proofs.LineLemmas.{is_plain, each-line_text, IsPrintableLine, line-faultless, line-terminals, seen_at}
+use Rattle.mpslp_canonical_lp.proofs.{LexemeLemmas.{line-read},
+  LineLemmas.{is_plain, each-line_text, IsPrintableLine, line-faultless, line-terminals, seen_at}}
 
 -- ---- printed lines
 

@@ -1,35 +1,19 @@
 -- The whole canonical text: what it declares, if none of that is rejected.
-use Rattle.std.proofs.Common.{arith, ◌≡◌, refl, sym, ap, subst, ◌∙◌, ℕ, ◌+◌, List, [], ◌∷◌, ◌++◌, true, append_assoc, map}
-use Rattle.std.specs.Prelude.{Option, Some, None, codes, if◌then◌else◌, filter}
-use Rattle.std.specs.List.{flat_map}
-use Rattle.std.proofs.lemmas.List.{append-nil}
-use Rattle.mpslp_decimal.specs.Decimal.{Number as Decimal, have_same_value}
-use Rattle.mpslp_model_core.specs.Model.{Row, Column, Listing}
-use Rattle.mpslp_types.specs.Limit.{limit_of}
-use Rattle.mpslp_builder.specs.Declaration.{Draft, empty_draft, Declarations, with_declarations}
-use Rattle.mpslp_builder.specs.Refusal.{refusals_in_turn}
-use Rattle.mpslp_types.specs.declared.kinds.Limit.{Limit}
-use Rattle.mpslp_types.specs.declared.kinds.Limit.TheVariants.{Finite}
-use Rattle.mpslp_types.proofs.EachLemmas.{Each-filter}
-use Rattle.mpslp_decimal.proofs.CutLemmas.{Each, Each-weaker}
-use Rattle.mpslp_lp_grammar.specs.Terminal.{TerminalAt}
-use Rattle.mpslp_lp_grammar.specs.Terminal.Terminal.{Opens}
-use Rattle.mpslp_lp_grammar.specs.Phrase.{no_section_seen, with_section, start}
-use Rattle.mpslp_lp_grammar.specs.declared.sections_seen.SectionsSeen.{SectionsSeen}
-use Rattle.mpslp_lp_grammar.specs.declared.states.Place.TheVariants.{AtStart, BetweenRows, InBounds, InRow}
-use Rattle.mpslp_lp_grammar.specs.Rows.{fits_left}
-use Rattle.mpslp_lp_grammar.specs.declared.relations.Relation.{Relation}
-use Rattle.mpslp_lp_grammar.specs.declared.relations.Relation.TheVariants.{AtMost, AtLeast, EqualTo}
+use Rattle.mpslp_canonical_lp.proofs.Prelude.{arith, ◌≡◌, refl, sym, ap, subst, ◌∙◌, ℕ, ◌+◌, List, [], ◌∷◌, ◌++◌, true, append_assoc, map,
+  Option, Some, None, codes, if◌then◌else◌, filter, flat_map, append-nil, Decimal, have_same_value, Row, Column, Listing, limit_of, Draft,
+  empty_draft, Declarations, with_declarations, refusals_in_turn, Limit, Finite, Each-filter, Each, TerminalAt, Opens, no_section_seen,
+  with_section, start, SectionsSeen, AtStart, BetweenRows, InBounds, InRow, fits_left, Relation, AtMost, AtLeast, EqualTo, Lines, Term,
+  under_heading, label_line, term_line, right_line, left_lines, last_line, minus_large, row_terms, row_lines, line_of_some, bound_lexemes,
+  bound_lines, is_integer_column, name_line, objective_section, bounds_section, generals_section, listed_lines, under_semi_heading,
+  is_semi_column, semis_section}
+use Rattle.mpslp_decimal.proofs.CutLemmas.{Each-weaker}
+use Rattle.mpslp_canonical_lp.proofs.{PrintableLemmas.{IsTerm, IsFitColumn, IsFit}, TerminalLemmas.{line_terminals_in, all_terminals, at},
+  PhraseLemmas.{Walks, walks-none, walks-then, point_at, ended_by, bounds-section-walks},
+  ObjectiveWalk.{number_after, terminals-append, parts-taken, parts-walk, in_rows, subject_heading, objective_made, objective-walk},
+  TailWalk.{EndsWith, walk-ends, general_made, generals-end, ending, semi_made}, BoundsWalk.{bound_made, column_made, bounds-walk},
+  RowWalk.{left_of, left_line, partial, AreNew, begin-walk, row-terms-walk, row-end-walk}}
 use Rattle.mpslp_lp_tokens.specs.declared.words.Section.TheVariants as sections
 use Rattle.mpslp_lp_tokens.specs.declared.words.SectionWord.TheVariants as section_words
-use Rattle.mpslp_canonical_lp.specs.CanonicalLp.{Lines, Term, under_heading, label_line, term_line, right_line, left_lines, last_line, minus_large, row_terms, row_lines, line_of_some, bound_lexemes, bound_lines, is_integer_column, name_line, objective_section, bounds_section, generals_section, listed_lines, under_semi_heading, is_semi_column, semis_section}
-use Rattle.mpslp_canonical_lp.proofs.PrintableLemmas.{IsTerm, IsFitColumn, IsFit}
-use Rattle.mpslp_canonical_lp.proofs.TerminalLemmas.{line_terminals_in, all_terminals, at}
-use Rattle.mpslp_canonical_lp.proofs.PhraseLemmas.{Walks, walks-none, walks-then, point_at, ended_by, bounds-section-walks}
-use Rattle.mpslp_canonical_lp.proofs.ObjectiveWalk.{number_after, terminals-append, parts-taken, parts-walk, in_rows, subject_heading, objective_made, objective-walk}
-use Rattle.mpslp_canonical_lp.proofs.TailWalk.{EndsWith, walk-ends, general_made, generals-end, ending, semi_made}
-use Rattle.mpslp_canonical_lp.proofs.BoundsWalk.{bound_made, column_made, bounds-walk}
-use Rattle.mpslp_canonical_lp.proofs.RowWalk.{left_of, left_line, partial, AreNew, begin-walk, row-terms-walk, row-end-walk}
 
 -- ---- a row, by what is printed of its limits
 
@@ -54,7 +38,7 @@ pub record IsShaped (lower upper : Limit) : Type 0 where
   pub fits : fits_left (left_of (row_left lower upper)) (row_relation lower upper) ≡ true
 
 pub shaped : (lower upper : Limit) → IsShaped lower upper
-shaped lower upper = grind arith
+shaped = grind arith
 
 -- what a row of these terms declares
 abbrev pub row_by : List ℕ → Limit → Limit → List Term → Declarations
@@ -120,7 +104,7 @@ rows-walk m sections_seen all n (row ∷ rows) good h =
 -- ---- columns without a line declare nothing
 
 no-line : (column : List ℕ) (lower upper : Limit) → line_of_some (bound_lexemes column lower upper) ≡ [] → bound_made column lower upper ≡ []
-no-line column lower upper h = grind arith
+no-line = grind arith
 
 both-none : {X : Type 0} (xs ys : List X) → xs ++ ys ≡ [] → (xs ≡ []) × (ys ≡ [])
 both-none [] ys h = (refl, h)

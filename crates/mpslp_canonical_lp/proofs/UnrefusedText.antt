@@ -1,45 +1,21 @@
 -- Nothing that the canonical text of a well-formed model declares is rejected, and the declarations are consistent.
-use Rattle.std.proofs.Common.{arith, rules, ◌≡◌, refl, sym, ap, ◌∙◌, ℕ, ◌<◌, List, [], ◌∷◌, ◌++◌, Bool, true, false, not, length, suc, map}
-use Rattle.std.specs.Prelude.{Option, Some, None, is_some, ◌&&◌, ◌||◌, filter, if◌then◌else◌}
-use Rattle.std.specs.List.{list_all, list_any, flat_map}
-use Rattle.std.specs.Option.{option_map_or}
+use Rattle.mpslp_canonical_lp.proofs.Prelude.{arith, rules, ◌≡◌, refl, sym, ap, ◌∙◌, ℕ, ◌<◌, List, [], ◌∷◌, ◌++◌, Bool, true, false, not,
+  length, suc, map, Option, Some, None, is_some, ◌&&◌, ◌||◌, filter, if◌then◌else◌, list_all, list_any, flat_map, option_map_or, entries,
+  Number, have_same_value, same_bytes, bytes_cmp, is_one_of, limit_of, is_plus_infinite, is_minus_infinite, is_bounded_decimal, are_sides,
+  Kind, Limit, MinusInf, Finite, PlusInf, both_false, so_not, nor, Each-weaker, Each-filter, Each-all, list_all-from_Each, LinearModel,
+  Column, is_sound_row, is_sound_column, IsSound, Listing, listing_of, puts, Declaration, declare_marked, declare_integer, declare_binary,
+  declare_semi, bounds_declared, Declarations, Draft, empty_draft, with_declaration, with_declarations, at_name, has_name, names_in,
+  is_integer, is_semi, have_infinite_side, refusals_in_turn, is_allowed, has_objective_rhs, has_one_constant, AreConsistent, rhs_part,
+  rhs_values-all, has-put, same_name, consistent-from_none, none-from_fine_in_turn, limits_by, AtMost, AtLeast, EqualTo, row_terms,
+  is_integer_kind, is_semi_kind, is_integer_column, is_semi_column, unfit, own-found, row_sides, column_sides, lower_of, upper_of,
+  bounded_finite}
 use Rattle.std.specs.Cmp.Lexicographic.{nat_list_eq_equiv}
-use Rattle.std.specs.FinMap.{entries}
-use Rattle.mpslp_decimal.specs.Decimal.{Number, have_same_value}
-use Rattle.mpslp_types.specs.Name.{same_bytes, bytes_cmp, is_one_of}
-use Rattle.mpslp_types.specs.Limit.{limit_of, is_plus_infinite, is_minus_infinite, is_bounded_decimal, are_sides}
-use Rattle.mpslp_types.specs.declared.kinds.Kind.{Kind}
-use Rattle.mpslp_types.specs.declared.kinds.Limit.{Limit}
-use Rattle.mpslp_types.specs.declared.kinds.Limit.TheVariants.{MinusInf, Finite, PlusInf}
-use Rattle.mpslp_types.proofs.BoolLemmas.{both_false, so_not, nor}
-use Rattle.mpslp_types.proofs.EachLemmas.{Each, Each-weaker, Each-filter, Each-all, list_all-from_Each}
-use Rattle.mpslp_model_core.specs.Model.{LinearModel, Column, is_sound_row, is_sound_column, IsSound, Listing, listing_of}
-use Rattle.mpslp_model_core.proofs.PutsLemmas.{puts}
-use Rattle.mpslp_builder.specs.Declaration.{Declaration, declare_marked, declare_integer, declare_binary, declare_semi, bounds_declared, Declarations, Draft, empty_draft, with_declaration, with_declarations, at_name, has_name, names_in, is_integer, is_semi, have_infinite_side}
-use Rattle.mpslp_builder.specs.Refusal.{refusals_in_turn}
-use Rattle.mpslp_builder.specs.Consistency.{is_allowed, has_objective_rhs, has_one_constant, AreConsistent}
-use Rattle.mpslp_builder.proofs.DraftLemmas.{rhs_part, rhs_values-all}
-use Rattle.mpslp_builder.proofs.SlotLemmas.{has-put, same_name}
+use Rattle.mpslp_types.proofs.EachLemmas.{Each}
 use Rattle.mpslp_builder.proofs.WellFormed.{fresh-from_once}
-use Rattle.mpslp_builder.proofs.RefusalLemmas.{consistent-from_none, none-from_fine_in_turn}
-use Rattle.mpslp_lp_grammar.specs.Items.{limits_by}
-use Rattle.mpslp_lp_grammar.specs.declared.relations.Relation.TheVariants.{AtMost, AtLeast, EqualTo}
-use Rattle.mpslp_canonical_lp.specs.CanonicalLp.{row_terms, is_integer_kind, is_semi_kind, is_integer_column, is_semi_column}
-use Rattle.mpslp_canonical_lp.specs.Unfit.{unfit}
-use Rattle.mpslp_canonical_lp.proofs.PrintableLemmas.{fit-from_sound}
-use Rattle.mpslp_canonical_lp.proofs.PhraseLemmas.{column_and}
-use Rattle.mpslp_canonical_lp.proofs.BoundsWalk.{bound_made, column_made}
-use Rattle.mpslp_canonical_lp.proofs.TextWalk.{IsRow, listed_declarations}
-use Rattle.mpslp_canonical_lp.proofs.CanonicalText.{IsPlainText}
-use Rattle.mpslp_builder.proofs.NamedEntries.{own-found}
-use Rattle.mpslp_builder.proofs.SoundParts.{row_sides, column_sides, lower_of, upper_of, bounded_finite}
-use Rattle.mpslp_canonical_lp.proofs.SoundListing.{IsSoundListing, sound-listing}
-use Rattle.mpslp_canonical_lp.proofs.ListedParts.{drafted}
-use Rattle.mpslp_canonical_lp.proofs.RankedSlots.{AreOther, other-from_sorted}
-use Rattle.mpslp_canonical_lp.proofs.NamedTerms.{plain-row}
-use Rattle.mpslp_canonical_lp.proofs.KnownInTurn.{listed-known}
-use Rattle.mpslp_canonical_lp.proofs.SlotsOfText.{listed-once}
-use Rattle.mpslp_canonical_lp.proofs.ListedEach.{form_by, form_made, each-listed, each-of_kind, none-any, flat-none}
+use Rattle.mpslp_canonical_lp.proofs.{PrintableLemmas.{fit-from_sound}, PhraseLemmas.{column_and}, BoundsWalk.{bound_made, column_made},
+  TextWalk.{IsRow, listed_declarations}, CanonicalText.{IsPlainText}, SoundListing.{IsSoundListing, sound-listing}, ListedParts.{drafted},
+  RankedSlots.{AreOther, other-from_sorted}, NamedTerms.{plain-row}, KnownInTurn.{listed-known}, SlotsOfText.{listed-once},
+  ListedEach.{form_by, form_made, each-listed, each-of_kind, none-any, flat-none}}
 
 -- ---- bounds
 
@@ -52,7 +28,7 @@ is-above d h = ap is_minus_infinite (bounded_finite d h)
 -- ---- rows and bounds have no infinite limit in the wrong direction
 
 neither : (l u : Limit) → is_plus_infinite l ≡ false → is_minus_infinite u ≡ false → not (is_plus_infinite l || is_minus_infinite u) ≡ true
-neither l u a b = ap not (both_false (is_plus_infinite l) (is_minus_infinite u) a b)
+neither l u a b = ap not (both_false _ _ a b)
 
 row-allowed : (l u : Limit) → are_sides l u ≡ true → not (have_infinite_side (form_made l u)) ≡ true
 row-allowed (Finite a) (Finite b) h =
@@ -66,40 +42,34 @@ row-allowed MinusInf (Finite b) h = neither MinusInf (limit_of b) refl (is-above
 row-allowed (Finite a) PlusInf h = neither (limit_of a) PlusInf (is-below a (lower_of (Finite a) PlusInf h)) refl
 row-allowed (Finite a) MinusInf h = neither (limit_of a) PlusInf (is-below a (lower_of (Finite a) MinusInf h)) refl
 row-allowed MinusInf PlusInf h = refl
-row-allowed MinusInf MinusInf h = cc
-row-allowed PlusInf MinusInf h = cc
-row-allowed PlusInf (Finite b) h = cc
-row-allowed PlusInf PlusInf h = cc
+row-allowed _ _ h = cc
 
 bound-allowed : (all : Draft) (name : List ℕ) (l u : Limit) → are_sides l u ≡ true → Each (λ d. is_allowed all d ≡ true) (bound_made name l u)
-bound-allowed all name MinusInf (Finite b) h = (refl, (refl, (so_not (is_minus_infinite (limit_of b)) (is-above b (upper_of MinusInf (Finite b) h)), tt)))
+bound-allowed all name MinusInf (Finite b) h = (refl, (refl, (so_not _ (is-above b (upper_of MinusInf (Finite b) h)), tt)))
 bound-allowed all name (Finite a) (Finite b) h =
     let low : is_bounded_decimal a ≡ true = lower_of (Finite a) (Finite b) h in
     let up : is_bounded_decimal b ≡ true = upper_of (Finite a) (Finite b) h in
-    let last = so_not (is_minus_infinite (limit_of b)) (is-above b up) in
+    let last = so_not _ (is-above b up) in
     elim (have_same_value a b) as (λ t. Each (λ d. is_allowed all d ≡ true) (if t then column_and name (limits_by EqualTo (limit_of b)) else column_and name (limits_by AtLeast (limit_of a)) ++ bounds_declared name None (Some (limit_of b)))) [
-      | true ↦ (refl, (so_not (is_plus_infinite (limit_of b)) (is-below b up), (last, tt)))
-      | false ↦ (refl, (so_not (is_plus_infinite (limit_of a)) (is-below a low), (last, tt)))
+      | true ↦ (refl, (so_not _ (is-below b up), (last, tt)))
+      | false ↦ (refl, (so_not _ (is-below a low), (last, tt)))
     ]
 bound-allowed all name (Finite a) MinusInf h = grind (arith, column_and, so_not, is-below, lower_of)
 bound-allowed all name (Finite a) PlusInf h = grind (arith, column_and, so_not, is-below, lower_of)
 bound-allowed all name MinusInf PlusInf h = (refl, (refl, (refl, tt)))
-bound-allowed all name MinusInf MinusInf h = cc
-bound-allowed all name PlusInf MinusInf h = cc
-bound-allowed all name PlusInf (Finite b) h = cc
-bound-allowed all name PlusInf PlusInf h = cc
+bound-allowed all name _ _ h = cc
 
 -- ---- types
 
 or_in : (a b c : Bool) → (b || (a || c)) ≡ ((a || b) || c)
-or_in a b c = grind arith
+or_in = grind arith
 
 abbrev says_semi : List ℕ → Declaration → Bool
 says_semi q (declare_semi column) = same_bytes q column
 says_semi q _ = false
 
 semi-one : (all : Draft) (d : Declaration) (q : List ℕ) → is_semi (with_declaration all d) q ≡ (says_semi q d || is_semi all q)
-semi-one all d q = grind (arith, has-put)
+semi-one = grind (arith, has-put)
 
 semis-said : (ds : Declarations) (all : Draft) (q : List ℕ) → is_semi (with_declarations all ds) q ≡ (list_any (says_semi q) ds || is_semi all q)
 semis-said [] all q = refl
@@ -112,16 +82,16 @@ says_integer q (declare_binary column) = same_bytes q column
 says_integer q _ = false
 
 in_first : (s a b c : Bool) → ((s || a) || (b || c)) ≡ (s || (a || (b || c)))
-in_first s a b c = grind arith
+in_first = grind arith
 
 in_second : (s a b c : Bool) → (a || ((s || b) || c)) ≡ (s || (a || (b || c)))
-in_second s a b c = grind arith
+in_second = grind arith
 
 in_third : (s a b c : Bool) → (a || (b || (s || c))) ≡ (s || (a || (b || c)))
-in_third s a b c = grind arith
+in_third = grind arith
 
 integer-one : (all : Draft) (d : Declaration) (q : List ℕ) → is_integer (with_declaration all d) q ≡ (says_integer q d || is_integer all q)
-integer-one all d q = grind (arith, has-put, in_first, in_second, in_third)
+integer-one = grind (arith, has-put, in_first, in_second, in_third)
 
 integers-said : (ds : Declarations) (all : Draft) (q : List ℕ) → is_integer (with_declarations all ds) q ≡ (list_any (says_integer q) ds || is_integer all q)
 integers-said [] all q = refl
@@ -136,7 +106,7 @@ abbrev found_semi : Option Column → Bool
 found_semi o = option_map_or (λ (column : Column). is_semi_kind column.kind) o false
 
 one_kind : (kind : Kind) → is_integer_kind kind ≡ true → is_semi_kind kind ≡ false
-one_kind kind h = grind arith
+one_kind = grind arith
 
 kinds-apart : (m : Listing) (x y : List ℕ × Column) → IsFound m x → is_integer_column x ≡ true → IsFound m y → is_semi_column y ≡ true → (same_bytes x.0 y.0 ≡ false) × (same_bytes y.0 x.0 ≡ false)
 kinds-apart m x y found whole there partly = search (rules, one_kind, same_name)
@@ -167,10 +137,8 @@ module _ (m : Listing) (own : Each (IsFound m) m.columns) where
   general-allowed =
       Each-weaker (λ x. Each (λ y. same_bytes x.0 y.0 ≡ false) (filter is_semi_column m.columns)) (λ x. is_allowed (drafted m) (declare_integer x.0) ≡ true)
       (λ x apart.
-      so_not (is_semi (drafted m) x.0)
-      (semis-said (listed_declarations m) empty_draft x.0
-      ∙ both_false (list_any (says_semi x.0) (listed_declarations m)) false
-      (none-any (says_semi x.0) (listed_declarations m)
+      so_not _ (semis-said (listed_declarations m) empty_draft x.0
+      ∙ both_false _ _ (none-any (says_semi x.0) (listed_declarations m)
       (each-of_kind (λ d. says_semi x.0 d ≡ false) m (λ _. refl) (λ _. refl) (λ _. refl) (λ _. refl) (λ _ _. refl) (λ _ _. refl) (λ _ _. refl) (λ _ _. refl)
       (Each-all (λ c. says_semi x.0 (declare_integer c.0) ≡ false) (λ _. refl) (filter is_integer_column m.columns)) apart)) refl))
       (filter is_integer_column m.columns) whole-apart
@@ -180,10 +148,8 @@ module _ (m : Listing) (own : Each (IsFound m) m.columns) where
   semi-allowed =
       Each-weaker (λ y. Each (λ x. same_bytes y.0 x.0 ≡ false) (filter is_integer_column m.columns)) (λ y. is_allowed (drafted m) (declare_semi y.0) ≡ true)
       (λ y apart.
-      so_not (is_integer (drafted m) y.0)
-      (integers-said (listed_declarations m) empty_draft y.0
-      ∙ both_false (list_any (says_integer y.0) (listed_declarations m)) false
-      (none-any (says_integer y.0) (listed_declarations m)
+      so_not _ (integers-said (listed_declarations m) empty_draft y.0
+      ∙ both_false _ _ (none-any (says_integer y.0) (listed_declarations m)
       (each-of_kind (λ d. says_integer y.0 d ≡ false) m (λ _. refl) (λ _. refl) (λ _. refl) (λ _. refl) (λ _ _. refl) (λ _ _. refl) (λ _ _. refl) (λ _ _. refl)
       apart (Each-all (λ c. says_integer y.0 (declare_semi c.0) ≡ false) (λ _. refl) (filter is_semi_column m.columns)))) refl))
       (filter is_semi_column m.columns) partly-apart
@@ -191,10 +157,10 @@ module _ (m : Listing) (own : Each (IsFound m) m.columns) where
 -- ---- the constant
 
 no_rhs : (o : Option (List ℕ)) → option_map_or (λ name. has_name {X = Number} [] name) o false ≡ false
-no_rhs o = grind arith
+no_rhs = grind arith
 
 not_both : (a b : Bool) → b ≡ false → not (a && b) ≡ true
-not_both a b h = grind arith
+not_both = grind arith
 
 one-constant : (m : Listing) → has_one_constant (drafted m) ≡ true
 one-constant m =
@@ -218,7 +184,7 @@ record HasOtherNames (m : Listing) : Type 0 where
 none-named : {X : Type 0} (name : List ℕ) (es : List (List ℕ × X)) → is_one_of (names_in es) name ≡ false → Each (λ e. same_bytes e.0 name ≡ false) es
 none-named name [] h = tt
 none-named name (e ∷ es) h =
-    let parts = nor (same_bytes name e.0) (is_one_of (names_in es) name) h in
+    let parts = nor _ _ h in
     (sym (nat_list_eq_equiv.symm name e.0) ∙ parts.0, none-named name es parts.1)
 
 same-length : {X Y : Type 0} (f : X → Y) (xs : List X) → length (map f xs) ≡ length xs
@@ -226,7 +192,7 @@ same-length f [] = refl
 same-length f (x ∷ xs) = ap suc (same-length f xs)
 
 other-names : (m : LinearModel) → IsSound m → HasOtherNames (listing_of m)
-other-names m sound = grind (arith, sound-listing, none-named, other-from_sorted, same-length)
+other-names = grind (arith, sound-listing, none-named, other-from_sorted, same-length)
 
 all-allowed : (m : Listing) → IsSoundListing m → list_all (is_allowed (drafted m)) (listed_declarations m) ≡ true
 all-allowed m h = list_all-from_Each (is_allowed (drafted m)) (listed_declarations m) (each-listed (λ d. is_allowed (drafted m) d ≡ true) m (record {
