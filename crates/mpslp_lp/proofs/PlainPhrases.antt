@@ -36,7 +36,7 @@ use Rattle.mpslp_lp.specs.PlainPhrase.{BeginsWithSide, BeginsWithRight, TakesSom
 use Rattle.mpslp_lp.proofs.LineTokens.{tokens-refused}
 use Rattle.mpslp_lp.proofs.PlainTerms.{step}
 
-begins-fewer : (found more : List Token) (terminal : Terminal) → Begins found terminal more → length more ≤ length found
+pub begins-fewer : (found more : List Token) (terminal : Terminal) → Begins found terminal more → length more ≤ length found
 begins-fewer found more terminal b =
     let longer : length found ≡ suc (length more) = ap length b.tokens in
     omega (arith, longer)

@@ -9,3 +9,4 @@ pub mod FedLaws
 -- ---- what only the code cites
 pub mod PlainTerm
 pub mod PlainPhrase
+pub mod PlainStart

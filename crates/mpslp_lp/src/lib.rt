@@ -13,6 +13,7 @@ mod line_reader;
 mod plain_bounds;
 mod plain_names;
 mod plain_phrases;
+mod plain_row_starts;
 mod plain_rows;
 mod plain_terms;
 mod plain_tokens;

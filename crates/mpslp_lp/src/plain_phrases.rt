@@ -7,7 +7,8 @@ ghost use Rattle.mpslp_lp.specs.LineByLine.{take_tokens};
 
 use crate::plain_bounds::take_bound;
 use crate::plain_names::take_names;
-use crate::plain_rows::{take_label, take_row};
+use crate::plain_row_starts::take_new_row;
+use crate::plain_rows::take_row;
 use mpslp_lines::LineError;
 use mpslp_lp_grammar::{Context, ListSection, Place, State};
 use mpslp_lp_tokens::Tokens;
@@ -24,10 +25,7 @@ pub(crate) fn take_phrases<'a>(
         (λ error. TakesToken (take_tokens context.old state.old tokens.entry) (Err error) context.new) }
 {
     match state {
-        State::Between(Place::BetweenRows) => {
-            let left = take_label(context, state, tokens)?;
-            take_row(context, state, left)
-        }
+        State::Between(Place::BetweenRows) => take_new_row(context, state, tokens),
         State::Between(Place::InBounds(_)) => take_bound(context, state, tokens),
         State::Between(Place::InGenerals) => take_names(context, ListSection::Generals, tokens),
         State::Between(Place::InBinaries) => take_names(context, ListSection::Binaries, tokens),

@@ -1,4 +1,4 @@
-//! Labels and right-hand sides of rows, taken as a whole and not token by token.
+//! Further terms and right-hand sides of rows, taken as a whole and not token by token.
 
 ghost use Rattle.std.specs.Prelude.{◌≡◌, IsTrue, List};
 ghost use Rattle.mpslp_lp_grammar.specs.Rows.{fits_left};
@@ -8,37 +8,16 @@ ghost use Rattle.mpslp_lp_tokens.specs.Token.{Token};
 ghost use Rattle.mpslp_lp.specs.PlainPhrase.{BeginsWithRight, TakesSome};
 
 use crate::plain_terms::{set_state, take_terms};
-use crate::plain_tokens::{RightSide, next_colon, next_name, next_right_side};
+use crate::plain_tokens::{RightSide, next_right_side};
 use crate::read_line::error_before;
 use mpslp_lines::LineError;
 use mpslp_lp_grammar::{Context, PartialRow, Place, State, declare_row, fits_left};
 use mpslp_lp_tokens::Tokens;
 use std::mem::replace;
 
-/// Takes the label of a row, if it comes next.
-#[inline(always)]
-pub(crate) fn take_label<'a>(
-    context: &Context,
-    state: &mut State,
-    tokens: Tokens<'a>,
-) -> Result<Tokens<'a>, LineError>
-    ensures { state.old ≡ State.Between Place.BetweenRows → TakesSome context.now state.old tokens.entry result context.now state.new }
-{
-    let mut left = tokens.again();
-    let Some(label) = next_name(&mut left) else {
-        return Ok(tokens);
-    };
-    let Some(()) = next_colon(&mut left) else {
-        return Ok(tokens);
-    };
-    let name = context.copied(label)?;
-    set_state(state, State::RowLabel(name));
-    Ok(left)
-}
-
 /// Declares a row with this right-hand side. `left` are the tokens after it on its line: their lexical errors are reported before
 /// the error of the row.
-fn end_row<'a>(
+pub(crate) fn end_row<'a>(
     context: &mut Context,
     row: PartialRow,
     right: &RightSide,

@@ -66,18 +66,6 @@ pub(crate) fn next_relation(tokens: &mut Tokens<'_>) -> Option<Relation>
     }
 }
 
-/// The next token, if it is a colon.
-#[inline(always)]
-pub(crate) fn next_colon(tokens: &mut Tokens<'_>) -> Option<()>
-    ensures { IfSome result (λ _. Begins tokens.old Terminal.Colon tokens.new) }
-{
-    let token = tokens.next()?;
-    match classify(token.kind, token.text) {
-        Ok(TerminalKind::Colon) => Some(()),
-        _ => None,
-    }
-}
-
 /// The limit that the next token gives after this sign.
 #[inline(always)]
 fn next_unsigned(sign: Sign, tokens: &mut Tokens<'_>) -> Option<GivenLimit>

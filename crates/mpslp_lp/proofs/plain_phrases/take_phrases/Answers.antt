@@ -9,7 +9,6 @@ use Rattle.mpslp_lp_grammar.specs.declared.states.State.{State}
 use Rattle.mpslp_lp_grammar.specs.declared.states.State.TheVariants.{Between}
 use Rattle.mpslp_lp.specs.LineByLine.{take_tokens}
 use Rattle.mpslp_lp.specs.PlainPhrase.{TakesSome}
-use Rattle.mpslp_lp.proofs.PlainPhrases.{some-after}
 use Rattle.mpslp_lp.proofs.plain_phrases.take_phrases.Goals as goal
 
 stated : (context after : Context) (state next : State) (found : List Token) (result : Result (List Token) LineError) → TakesSome context state found result after next
@@ -17,14 +16,10 @@ stated : (context after : Context) (state next : State) (found : List Token) (re
 stated context after state next found (Ok left) some = some
 stated context after state next found (Err error) some = some
 
-pub returns-in_ok-left-in-Between-BetweenRows : goal.returns-in_ok-left-in-Between-BetweenRows
-returns-in_ok-left-in-Between-BetweenRows c =
-    let context = c.args.context.now in
+pub returns-in-Between-BetweenRows : goal.returns-in-Between-BetweenRows
+returns-in-Between-BetweenRows c =
     let there : c.args.state.now ≡ Between BetweenRows = search rules in
-    let left = c.in_ok-left-in-Between-BetweenRows in
-    let label = left.ensures there in
-    stated context c.take_row.new.context c.args.state.now c.take_row.new.state c.args.tokens c.take_row.result
-    (some-after context context c.take_row.new.context c.args.state.now c.take_label.new.state c.take_row.new.state c.args.tokens left.left c.take_row.result label.0 label.1 c.take_row.ensures)
+    stated c.args.context.now c.take_new_row.new.context c.args.state.now c.take_new_row.new.state c.args.tokens c.take_new_row.result (c.take_new_row.ensures there)
 
 pub returns-in-Between-InBounds : goal.returns-in-Between-InBounds
 returns-in-Between-InBounds c =

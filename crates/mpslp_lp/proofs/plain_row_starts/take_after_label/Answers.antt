@@ -1,0 +1,25 @@
+use Rattle.std.proofs.Common.{ap, ◌∙◌, subst, arith, ℕ, List}
+use Rattle.mpslp_lp_tokens.specs.Token.{Token}
+use Rattle.mpslp_lp_grammar.specs.declared.states.State.{State}
+use Rattle.mpslp_lp_grammar.specs.declared.states.State.TheVariants.{RowLabel}
+use Rattle.mpslp_lp.specs.LineByLine.{take_tokens}
+use Rattle.mpslp_lp.specs.PlainPhrase.{TakesSome}
+use Rattle.mpslp_lp.proofs.plain_row_starts.take_after_label.Goals as goal
+
+pub returns-in-Some : goal.returns-in-Some
+returns-in-Some c =
+    let context = c.args.context.now in
+    let after = c.take_first_term.new.context in
+    let next = c.take_first_term.new.state in
+    let result = c.take_first_term.result in
+    subst (λ (name : List ℕ). TakesSome context (RowLabel name) c.args.tokens result after next) c.in_ok-name.ensures
+    (subst (λ (found : List Token). TakesSome context (RowLabel c.in_ok-name.name) found result after next) c.again-left.ensures
+    (c.take_first_term.ensures c.again-left.result c.in-Some.ensures.term))
+
+pub returns-in-None : goal.returns-in-None
+returns-in-None c =
+    let context = c.args.context.now in
+    let tokens = c.args.tokens in (
+      ap (λ (next : State). take_tokens context next tokens) c.set_state.ensures ∙ ap (λ (name : List ℕ). take_tokens context (RowLabel name) tokens) c.in_ok-name.ensures,
+      omega arith,
+    )

@@ -1,0 +1,27 @@
+use Rattle.std.proofs.Common.{rules, ◌≡◌, ◌∙◌, ap}
+use Rattle.mpslp_lp_grammar.specs.PartialRow.{PartialRow}
+use Rattle.mpslp_lp_grammar.specs.declared.context.Context.{Context}
+use Rattle.mpslp_lp_grammar.specs.declared.states.Place.TheVariants.{InRow}
+use Rattle.mpslp_lp_grammar.specs.declared.states.State.{State}
+use Rattle.mpslp_lp_grammar.specs.declared.states.State.TheVariants.{Between}
+use Rattle.mpslp_lp.specs.LineByLine.{take_tokens}
+use Rattle.mpslp_lp.specs.PlainStart.{row_of_term}
+use Rattle.mpslp_lp.proofs.PlainStarts.{first-taken}
+use Rattle.mpslp_lp.proofs.plain_row_starts.take_first_term.Goals as goal
+
+pub returns : goal.returns
+returns c = λ found begins.
+    let context = c.args.context.now in
+    let after = c.row_of_term.new.context in
+    let left = c.args.left in
+    let term = c.args.term in
+    let the_row = row_of_term c.args.name term.column.now term.value in
+    let row : c.in_ok-row.row ≡ the_row = search rules in
+    let same : after ≡ context = search rules in
+    let taken = first-taken context c.args.name found left term.value term.column.now begins in (
+      ap (λ (state : State). take_tokens after state left) c.set_state.ensures
+          ∙ ap (λ (made : PartialRow). take_tokens after (Between (InRow made)) left) row
+          ∙ ap (λ (it : Context). take_tokens it (Between (InRow the_row)) left) same
+          ∙ taken.0,
+      taken.1,
+    )

@@ -1,0 +1,30 @@
+use Rattle.std.proofs.Common.{◌≡◌, sym, subst, refl, List, inl, inr}
+use Rattle.mpslp_lp_tokens.specs.Token.{Token}
+use Rattle.mpslp_lp_grammar.specs.Rows.{default_row}
+use Rattle.mpslp_lp_grammar.specs.TerminalToken.{terminal_of_token, terminal_with_text}
+use Rattle.mpslp_lp_grammar.specs.TokenStep.{take}
+use Rattle.mpslp_lp_grammar.specs.declared.terminals.TerminalKind.{TerminalKind}
+use Rattle.mpslp_lp_grammar.specs.declared.states.Place.TheVariants.{BetweenRows}
+use Rattle.mpslp_lp_grammar.specs.declared.states.State.TheVariants.{Between, RowLabel}
+use Rattle.mpslp_lp.specs.PlainTerm.{Begins}
+use Rattle.mpslp_lp.proofs.plain_row_starts.take_row_start.Goals as goal
+
+pub returns-in-Name : goal.returns-in-Name
+returns-in-Name c =
+    let first = c.in-Some.first in
+    let rest = c.next_terminal.new.tokens in
+    c.take_after_name.ensures
+    (subst (λ (kind : TerminalKind). Begins c.args.tokens (terminal_with_text kind first.text.now) rest) c.in-Name.is
+    (subst (λ (found : List Token). Begins found (terminal_of_token first) rest) c.again-left.ensures c.in-Some.ensures.next))
+
+pub returns-in-Sign : goal.returns-in-Sign
+returns-in-Sign c =
+    let context = c.args.context.now in
+    let first = c.in-Some.first in
+    let SameAt = λ (kind : TerminalKind). take context (Between BetweenRows) (terminal_with_text kind first.text.now) ≡ take context (RowLabel (default_row context)) (terminal_with_text kind first.text.now) in
+    c.take_unlabelled_term.ensures
+    (elim c.in-Sign.is as (λ _. SameAt first.kind) [
+      | inl sign ↦ subst SameAt (sym sign.1) refl
+      | inr number ↦ subst SameAt (sym number.1) refl
+    ])
+    (subst (λ (found : List Token). Begins found (terminal_of_token first) c.next_terminal.new.tokens) c.again-left.ensures c.in-Some.ensures.next)

@@ -1,0 +1,20 @@
+use Rattle.std.proofs.Common.{refl, subst, inr}
+use Rattle.mpslp_lp_grammar.specs.declared.signs.Sign.TheVariants.{Plus}
+use Rattle.mpslp_lp_grammar.specs.TerminalToken.{terminal_with_text}
+use Rattle.mpslp_lp_grammar.specs.declared.terminals.TerminalKind.{TerminalKind}
+use Rattle.mpslp_lp.specs.PlainTerm.{Begins}
+use Rattle.mpslp_lp.proofs.plain_row_starts.term_from.Goals as goal
+
+pub returns-in-Some-clause-term : goal.returns-in-Some-clause-term
+returns-in-Some-clause-term c = λ found begins.
+    c.in-Some.ensures.term found (subst (λ (kind : TerminalKind). Begins found (terminal_with_text kind c.args.token.now.text.now) c.args.tokens.now) c.in-Sign.is begins)
+
+pub returns-in-Some-unsigned_from-clause-term : goal.returns-in-Some-unsigned_from-clause-term
+returns-in-Some-unsigned_from-clause-term c = λ found begins. record {
+  sign = Plus;
+  size = c.in-Some-unsigned_from.term.value;
+  after_sign = found;
+  signed = inr (refl, refl);
+  term = c.in-Some-unsigned_from.ensures.term found begins;
+  gives = refl;
+}
