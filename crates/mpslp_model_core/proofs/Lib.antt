@@ -12,6 +12,7 @@ pub mod ElementLemmas
 pub mod NumberLemmas
 pub mod CountLemmas
 pub mod ViewLemmas
+pub mod IteratorLemmas
 pub mod ByRowLemmas
 pub mod FillLemmas
 pub mod RowNameLemmas

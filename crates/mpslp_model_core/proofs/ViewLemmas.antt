@@ -1,5 +1,5 @@
 -- The results of a model's accessors, from its parts.
-use Rattle.std.proofs.Common.{◌≡◌, refl, sym, ap, ◌∙◌, ℕ, zero, suc, ◌<◌, ◌+◌, List, [], ◌∷◌, length, map, Bool, true, false, cond, not, arith}
+use Rattle.std.proofs.Common.{◌≡◌, refl, sym, ap, ◌∙◌, ℕ, zero, suc, ◌<◌, ◌+◌, ◌-◌, List, [], ◌∷◌, length, map, Bool, true, false, cond, not, arith}
 use Rattle.std.specs.Prelude.{Option, Some, None, slice_get, position, nat_lt, ◌&&◌, is_some, unwrap_or, filter}
 use Rattle.std.specs.Option.{option_map, option_map_or, option_and_then}
 use Rattle.std.specs.List.{position_or_len, list_all}
@@ -19,6 +19,7 @@ use Rattle.mpslp_model_core.specs.Views.{num_rows, row_names, row_name, row_inde
 use Rattle.mpslp_model_core.specs.Model.{CoefficientKey, Column, Row, LinearModel, key_cmp}
 use Rattle.mpslp_model_core.specs.Numbered.{sorted_of, each_part, column_cells, all_cells, IsInjective, IsOnce}
 use Rattle.mpslp_model_core.specs.Columned.{row_cells, count_row_cells}
+use Rattle.mpslp_model_core.specs.Iterators.{entry_of_cell}
 use Rattle.mpslp_model_core.specs.ModelParts.{linear_model, AreModelParts, bounds_in, cells_in, columns_in, cells_by_name, name_of_row_key}
 use Rattle.mpslp_model_core.specs.declared.model.ModelColumn.{ModelColumn}
 use Rattle.mpslp_model_core.specs.declared.model.ModelParts.{ModelParts}
@@ -205,6 +206,27 @@ module _ (m : ModelParts) (parts : AreModelParts m) where
   entry_numbered v seen j cells are k e here n is =
       ap (λ (es : List (CoefficientKey × Number)). slice_get (map (numbered_in v) es) k) (elements_seen v seen j cells are)
       ∙ numbered v seen (column_name v j) cells k e are.named here n is
+
+  -- all of them, each with the number of its row
+  all_numbered : (v : LinearModel) → linear_model m ≡ v → (c : List ℕ) (es : List (ℕ × Number)) → list_all (λ d. is_some (name_of_row_key m d.0)) es ≡ true
+      → map (λ (e : ℕ × Number). (Some e.0, e.1)) (map entry_of_cell (row_cells es)) ≡ map (numbered_in v) (column_cells (name_of_row_key m) c (row_cells es))
+  all_numbered v seen c [] named = refl
+  all_numbered v seen c ((zero, x) ∷ es) named = all_numbered v seen c es (second_so (is_some (name_of_row_key m zero)) (list_all (λ d. is_some (name_of_row_key m d.0)) es) named)
+  all_numbered v seen c ((suc i, x) ∷ es) named =
+      let cells = column_cells (name_of_row_key m) c (row_cells es) in
+      let later = all_numbered v seen c es (second_so (is_some (name_of_row_key m (suc i))) (list_all (λ d. is_some (name_of_row_key m d.0)) es) named) in
+      let one_less : suc i - 1 ≡ i = omega arith in
+      elim (name_of_row_key m (suc i)) as (λ o. name_of_row_key m (suc i) ≡ o → is_some o ≡ true
+      → map (λ (e : ℕ × Number). (Some e.0, e.1)) (map entry_of_cell ((suc i, x) ∷ row_cells es)) ≡ map (numbered_in v) (option_map_or (λ row. (at row c, x) ∷ cells) o cells)) [
+        | None ↦ λ _ no. absurd cc
+        | Some r ↦ λ row _.
+            let own : Some (suc i - 1) ≡ row_index v r = ap (λ (n : ℕ). Some n) one_less ∙ sym (number_seen seen parts i r row) in
+            λ t. (own t, x) ∷ later t
+      ] refl (first_so (is_some (name_of_row_key m (suc i))) (list_all (λ d. is_some (name_of_row_key m d.0)) es) named)
+
+  pub entries_seen : (v : LinearModel) → linear_model m ≡ v → (j : ℕ) (cells : List (ℕ × Number)) → AreCellsAt v j cells
+      → map (λ (e : ℕ × Number). (Some e.0, e.1)) (map entry_of_cell (row_cells cells)) ≡ numbered_elements v (column_name v j)
+  entries_seen v seen j cells are = all_numbered v seen (column_name v j) cells are.named ∙ ap (map (numbered_in v)) (sym (elements_seen v seen j cells are))
 
   pub length_seen : (v : LinearModel) → linear_model m ≡ v → (j : ℕ) (cells : List (ℕ × Number)) → AreCellsAt v j cells → length (row_cells cells) ≡ length (column_elements v (column_name v j))
   length_seen v seen j cells are =

@@ -14,6 +14,7 @@ pub mod ModelCode
 pub mod Columned
 pub mod RowNames
 pub mod ByRow
+pub mod Iterators
 pub mod Packed
 pub mod PackedRowDefinition
 pub mod ModelRow

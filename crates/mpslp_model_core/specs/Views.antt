@@ -114,3 +114,7 @@ has_coefficient m row column = is_some (maps.find key_cmp (record { row = row; c
 -- the numbers of the columns in which this row has a coefficient, ascending
 abbrev pub row_columns : LinearModel → List ℕ → List ℕ
 row_columns m row = filter (λ j. has_coefficient m row (column_name m j)) (range_with_len 0 (num_columns m))
+
+-- the nonzeros of a row in the order of columns, each with the number of its column
+abbrev pub row_elements : LinearModel → List ℕ → List (ℕ × Number)
+row_elements m row = map (λ j. (j, coefficient_at m row (column_name m j))) (row_columns m row)

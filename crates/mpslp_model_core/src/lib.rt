@@ -11,6 +11,7 @@
 mod bounds;
 mod by_row;
 mod columns;
+mod iterators;
 mod joined;
 pub mod laws;
 mod limits;
@@ -18,10 +19,12 @@ mod model;
 mod model_row;
 mod packed;
 mod packed_row_definition;
+mod row_entries;
 mod row_names;
 mod sides;
 
 pub use bounds::{ColumnFault, DeclaredColumn, kind_of_column_fault};
+pub use iterators::{ColumnEntries, Columns, Rows};
 pub use limits::{
     RowFault, UnpackedRowDefinition, is_faulty_row, kind_of_row_fault, limits_of, plain_limits,
     row_has,
@@ -30,4 +33,5 @@ pub use model::{Model, ModelColumn, ModelParts};
 pub use model_row::{ModelBounds, ModelRow};
 pub use packed::{PackedColumn, PackedLimit, PackedRow};
 pub use packed_row_definition::PackedRowDefinition;
+pub use row_entries::RowEntries;
 pub use sides::{ColumnBounds, RowLimits};

@@ -1,15 +1,15 @@
 //! Models and their accessors.
 
-ghost use Rattle.std.specs.Prelude.{◌≡◌, ◌<◌, IfOk, IsTrue, Some, length, position, slice_get, unwrap_or, if◌then◌else◌};
+ghost use Rattle.std.specs.Prelude.{◌≡◌, ◌<◌, IfOk, IsTrue, Some, length, map, position, slice_get, unwrap_or, if◌then◌else◌};
 ghost use Rattle.std.specs.Option.{option_map};
 ghost use Rattle.mpslp_decimal.specs.Decimal.{negated, zero_number, decimal_cmp, difference_of};
 ghost use Rattle.std.specs.Bool.{Decides};
 ghost use Rattle.std.specs.Ordering.{is_eq};
-ghost use Rattle.std.specs.FinMap.{is_sorted};
+ghost use Rattle.std.specs.FinMap.{entries, is_sorted};
 ghost use Rattle.mpslp_types.specs.Name.{same_bytes, bytes_cmp};
 ghost use Rattle.mpslp_model_core.specs.Same.{IsSameObjective};
 ghost use Rattle.mpslp_model_core.specs.ModelParts.{linear_model, AreModelParts};
-ghost use Rattle.mpslp_model_core.specs.Views.{letter_E, letter_R, row_names, column_names, rows_of, columns_of, num_rows, num_columns, num_elements, row_name, column_name, row_index, column_index, row_sense, right_hand_side, row_range, coefficient_at, column_elements, numbered_elements, row_columns};
+ghost use Rattle.mpslp_model_core.specs.Views.{letter_E, letter_R, row_names, column_names, rows_of, columns_of, num_rows, num_columns, num_elements, row_name, column_name, row_index, column_index, row_sense, right_hand_side, row_range, coefficient_at, column_elements, numbered_elements, row_columns, row_elements};
 ghost use Rattle.mpslp_model_core.specs.Model.{is_integer_column};
 
 use crate::by_row::{
@@ -18,7 +18,9 @@ use crate::by_row::{
 use crate::columns::{
     cells_at, count_elements, first_value, row_cells, row_of, same_columns, value_at,
 };
+use crate::iterators::{ColumnEntries, Columns, Rows};
 use crate::model_row::{ModelBounds, ModelRow};
+use crate::row_entries::RowEntries;
 use crate::row_names::{RowNames, name_at, names_of};
 use crate::sides::{ColumnBounds, RowLimits};
 use mpslp_decimal::laws::each_value_is_a_decimal;
@@ -254,6 +256,20 @@ impl Model {
         self.parts.constant.negate()
     }
 
+    /// The rows in the order of their numbers, each as its name and its limits. The objective is not a row.
+    pub fn rows(&self) -> Rows<'_>
+        ensures { result ≡ entries self.now.rows }
+    {
+        Rows::of(&self.parts.rows)
+    }
+
+    /// The columns in the order of their numbers, each as its name, and its type and bounds.
+    pub fn columns(&self) -> Columns<'_>
+        ensures { result ≡ entries self.now.columns }
+    {
+        Columns::of(&self.parts.columns)
+    }
+
     /// The name of the row of number `i`.
     pub fn row_name(&self, i: usize) -> &Name
         requires { i < num_rows self.now }
@@ -440,6 +456,15 @@ impl Model {
         (row_of(cell.0), cell.1.value())
     }
 
+    /// The nonzero coefficients of the column of number `j` in the order of rows, without the objective's: for each the number of
+    /// the row, and the value.
+    pub fn column_entries(&self, j: usize) -> ColumnEntries<'_>
+        requires { j < num_columns self.now }
+        ensures { map (λ entry. (Some entry.0, entry.1)) result ≡ numbered_elements self.now (column_name self.now j) }
+    {
+        ColumnEntries::of(row_cells(cells_at(&self.parts.columns, j)))
+    }
+
     /// The number of nonzero coefficients in the row of number `i`. Takes constant time if the model has lists by rows, and else
     /// searches in all columns.
     pub fn row_len(&self, i: usize) -> usize
@@ -468,5 +493,14 @@ impl Model {
         let j = element.column as usize;
         let cell = entry_at(cells_at(&self.parts.columns, j), element.place as usize);
         (j, cell.1.value())
+    }
+
+    /// The nonzero coefficients of the row of number `i` in the order of columns: for each the number of the column, and the
+    /// value. Each takes constant time if the model has lists by rows, and else a search in all columns.
+    pub fn row_entries(&self, i: usize) -> RowEntries<'_>
+        requires { i < num_rows self.now }
+        ensures { result ≡ row_elements self.now (row_name self.now i) }
+    {
+        RowEntries::of(self, i)
     }
 }
