@@ -1,15 +1,16 @@
 -- The printed bounds of columns declare the bounds.
-use Rattle.mpslp_canonical_lp.proofs.Prelude.{arith, ◌≡◌, refl, sym, ap, subst, ◌∙◌, ℕ, List, [], ◌∷◌, ◌++◌, Bool, true, false,
-  append_assoc, map, Some, None, ◌||◌, codes, if◌then◌else◌, is_some, flat_map, append-nil, Decimal, is_zero, is_negative, size_of,
-  have_same_value, Column, limit_of, Draft, Declarations, bounds_declared, with_declarations, refusals_in_turn, Limit, MinusInf, Finite,
-  PlusInf, Each, class_of, SignOf, Minus, Terminal, TerminalAt, word_terminal, Name, Sign, Compares, Infinity, Point, SectionsSeen,
-  InBounds, apply_sign, Limits, limits_by, no_limits, Relation, AtMost, AtLeast, EqualTo, Lexeme, word, number, sense, minus_infinity,
-  bound_lexemes, line_of_some, bound_lines}
+use Rattle.mpslp_canonical_lp.proofs.Prelude
+use Prelude.{arith, ◌≡◌, refl, sym, ap, subst, ◌∙◌, ℕ, List, [], ◌∷◌, ◌++◌, Bool, true, false, append_assoc, map, Some, None, ◌||◌, codes}
+use Prelude.{if◌then◌else◌, is_some, flat_map, append-nil, Decimal, is_zero, is_negative, size_of, have_same_value, Column, limit_of, Draft}
+use Prelude.{Declarations, bounds_declared, with_declarations, refusals_in_turn, Limit, MinusInf, Finite, PlusInf, Each, class_of, SignOf}
+use Prelude.{Minus, Terminal, TerminalAt, word_terminal, Name, Sign, Compares, Infinity, Point, SectionsSeen, InBounds, apply_sign, Limits}
+use Prelude.{limits_by, no_limits, Relation, AtMost, AtLeast, EqualTo, Lexeme, word, number, sense, minus_infinity, bound_lexemes}
+use Prelude.{line_of_some, bound_lines}
 use Rattle.mpslp_lp_grammar.specs.Terminal.Terminal.{Number}
-use Rattle.mpslp_canonical_lp.proofs.{LexemeLemmas.{IsGoodName}, PrintableLemmas.{IsFitColumn},
-  TerminalLemmas.{at, terminals_in, all_terminals, mapped-append, signed-value, sign_of},
-  PhraseLemmas.{Walks, walks-none, point_at, column_and, AreTaken, infinite-left-walks},
-  ObjectiveWalk.{number_after, terminals-append, parts-taken, parts-walk}}
+use Rattle.mpslp_canonical_lp.proofs.{LexemeLemmas.{IsGoodName}, PrintableLemmas.{IsFitColumn}}
+use Rattle.mpslp_canonical_lp.proofs.TerminalLemmas.{at, terminals_in, all_terminals, mapped-append, signed-value, sign_of}
+use Rattle.mpslp_canonical_lp.proofs.PhraseLemmas.{Walks, walks-none, point_at, column_and, AreTaken, infinite-left-walks}
+use Rattle.mpslp_canonical_lp.proofs.ObjectiveWalk.{number_after, terminals-append, parts-taken, parts-walk}
 
 -- ---- a number is read by its sign and its absolute value
 

@@ -1,8 +1,9 @@
 -- The canonical LP text of a well-formed model with LP names declares it.
-use Rattle.mpslp_canonical_lp.proofs.Prelude.{◌≡◌, sym, ap, subst, ◌∙◌, List, ℕ, LinearModel, DeclaresLp, canonical_lp, DeclareTheirModels,
-  DistinguishModels, DeclareWhatFits}
-use Rattle.mpslp_canonical_lp.proofs.{CanonicalText.{canonical-declares_if}, UnrefusedText.{listed-consistent, plain-text},
-  ListedMeaning.{listed-means}, DeclaredFit.{declared-fit}}
+use Rattle.mpslp_canonical_lp.proofs.Prelude
+use Prelude.{◌≡◌, sym, ap, subst, ◌∙◌, List, ℕ, LinearModel, DeclaresLp, canonical_lp, DeclareTheirModels, DistinguishModels}
+use Prelude.{DeclareWhatFits}
+use Rattle.mpslp_canonical_lp.proofs.{CanonicalText.{canonical-declares_if}, UnrefusedText.{listed-consistent, plain-text}}
+use Rattle.mpslp_canonical_lp.proofs.{ListedMeaning.{listed-means}, DeclaredFit.{declared-fit}}
 
 pub canonical-declares : DeclareTheirModels
 canonical-declares m sound fits = canonical-declares_if m sound fits (plain-text m sound fits) (listed-means m sound (listed-consistent m sound))

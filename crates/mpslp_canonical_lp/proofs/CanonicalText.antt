@@ -1,10 +1,11 @@
 -- The outcome of the canonical text of a model, and what it declares, if none of that is rejected.
-use Rattle.mpslp_canonical_lp.proofs.Prelude.{◌≡◌, ap, subst, sym, ◌∙◌, [], None, LinearModel, IsSound, listing_of, Draft, empty_draft,
-  Declarations, with_declarations, refusals_in_turn, Means, Fault, Each, Outcome, Finished, text_says, text_declares, numbered_lines,
-  first_own_fault, outcome, is_finished, declarations_of, DeclaresLp, row_terms, canonical_lp, unfit}
+use Rattle.mpslp_canonical_lp.proofs.Prelude
+use Prelude.{◌≡◌, ap, subst, sym, ◌∙◌, [], None, LinearModel, IsSound, listing_of, Draft, empty_draft, Declarations, with_declarations}
+use Prelude.{refusals_in_turn, Means, Fault, Each, Outcome, Finished, text_says, text_declares, numbered_lines, first_own_fault, outcome}
+use Prelude.{is_finished, declarations_of, DeclaresLp, row_terms, canonical_lp, unfit}
 use Rattle.mpslp_lp.specs.LpText.{or_else}
-use Rattle.mpslp_canonical_lp.proofs.{PrintableLemmas.{fit-from_sound}, ReadLemmas.{canonical-terminals},
-  TextWalk.{IsRow, listed_declarations, text-ends}}
+use Rattle.mpslp_canonical_lp.proofs.{PrintableLemmas.{fit-from_sound}, ReadLemmas.{canonical-terminals}}
+use Rattle.mpslp_canonical_lp.proofs.TextWalk.{IsRow, listed_declarations, text-ends}
 
 -- what is needed of a model besides well-formedness and LP names
 pub record IsPlainText (m : LinearModel) : Type 0 where

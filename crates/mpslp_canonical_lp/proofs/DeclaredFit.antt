@@ -1,10 +1,11 @@
 -- What LP text declares has only LP names, so LP can express it.
-use Rattle.mpslp_canonical_lp.proofs.Prelude.{◌≡◌, refl, sym, ap, subst, ◌∙◌, ℕ, List, [], ◌∷◌, Bool, true, not, map, length, arith, Option,
-  Some, None, unwrap_or, if◌then◌else◌, list_all, prefix_len, le-ltb, option_map, option_map_or, first_so, second_so, put, entries,
-  entries-from_sorted, bytes_cmp, is_lp_name, is_mps_name, both_so, zero_number, plain_limits, LinearModel, ColumnOf, Declaration,
-  declare_objective, declare_row, declare_column, Declarations, Draft, with_declaration, with_declarations, RowDefinition, column_of,
-  objective_name, model_of, IsSortedDraft, sorted-draft_of, sorted-mapped, has_lp_name, DeclaresLp, lp_names-declared, is_no_lp_name,
-  first_unfit, or_else, unfit}
+use Rattle.mpslp_canonical_lp.proofs.Prelude
+use Prelude.{◌≡◌, refl, sym, ap, subst, ◌∙◌, ℕ, List, [], ◌∷◌, Bool, true, not, map, length, arith, Option, Some, None, unwrap_or}
+use Prelude.{if◌then◌else◌, list_all, prefix_len, le-ltb, option_map, option_map_or, first_so, second_so, put, entries, entries-from_sorted}
+use Prelude.{bytes_cmp, is_lp_name, is_mps_name, both_so, zero_number, plain_limits, LinearModel, ColumnOf, Declaration, declare_objective}
+use Prelude.{declare_row, declare_column, Declarations, Draft, with_declaration, with_declarations, RowDefinition, column_of}
+use Prelude.{objective_name, model_of, IsSortedDraft, sorted-draft_of, sorted-mapped, has_lp_name, DeclaresLp, lp_names-declared}
+use Prelude.{is_no_lp_name, first_unfit, or_else, unfit}
 use Rattle.std.proofs.Math.Dec.{T}
 use Rattle.mpslp_types.specs.declared.faults.NameAt.TheVariants.{Objective, Row, Column}
 use Rattle.mpslp_types.proofs.EachLemmas.{Each}

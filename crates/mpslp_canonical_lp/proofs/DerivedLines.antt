@@ -1,21 +1,26 @@
 -- Each printed phrase declares what it was printed from, whatever is declared before.
-use Rattle.mpslp_canonical_lp.proofs.Prelude.{arith, rules, ◌≡◌, refl, sym, ap, subst, ◌∙◌, ℕ, ◌+◌, List, [], ◌∷◌, ◌++◌, Bool, true, false,
-  Some, None, codes, if◌then◌else◌, flat_map, first_so, second_so, append-nil, Number, is_zero, have_same_value, same_decimal, Each,
-  are_sides, is_lower_side, is_upper_side, is_bounded_decimal, limit_of, Limit, MinusInf, Finite, PlusInf, Each-from_list_all, Row,
-  RowDefinition, declare_row, declare_column, declare_lower, declare_upper, bounds_declared, Declarations, draft_of, with_declarations,
-  lower_of, upper_of, bounded_so, bounded_finite, phrases, made_by, TerminalAt, Point, start, phrase_at, objective_declared, term_declared,
-  limits_by, AtLeast, EqualTo, BeforeItems, InObjective, BetweenRows, InBounds, PrintedLine, word, semi_continuous, Lines, Term, heading,
-  label_line, sense_word, term_line, row_terms, row_lines, bound_lines, name_line, semi_heading, point_at, terminals_at, AreDerived,
-  AreDerivedAt, is_legal_term, after_objective, EndsObjectiveFrom, DeriveObjectives, AreLegalTerms, row_and_terms, DeriveRows,
-  column_and_bounds, DeriveBounds, DeriveAllKinds, end_heading, DeriveAllHeadings}
+use Rattle.mpslp_canonical_lp.proofs.Prelude
+use Prelude.{arith, rules, ◌≡◌, refl, sym, ap, subst, ◌∙◌, ℕ, ◌+◌, List, [], ◌∷◌, ◌++◌, Bool, true, false, Some, None, codes, if◌then◌else◌}
+use Prelude.{flat_map, first_so, second_so, append-nil, Number, is_zero, have_same_value, same_decimal, Each, are_sides, is_lower_side}
+use Prelude.{is_upper_side, is_bounded_decimal, limit_of, Limit, MinusInf, Finite, PlusInf, Each-from_list_all, Row, RowDefinition}
+use Prelude.{declare_row, declare_column, declare_lower, declare_upper, bounds_declared, Declarations, draft_of, with_declarations}
+use Prelude.{lower_of, upper_of, bounded_so, bounded_finite, phrases, made_by, TerminalAt, Point, start, phrase_at, objective_declared}
+use Prelude.{term_declared, limits_by, AtLeast, EqualTo, BeforeItems, InObjective, BetweenRows, InBounds, PrintedLine, word}
+use Prelude.{semi_continuous, Lines, Term, heading, label_line, sense_word, term_line, row_terms, row_lines, bound_lines, name_line}
+use Prelude.{semi_heading, point_at, terminals_at, AreDerived, AreDerivedAt, is_legal_term, after_objective, EndsObjectiveFrom}
+use Prelude.{DeriveObjectives, AreLegalTerms, row_and_terms, DeriveRows, column_and_bounds, DeriveBounds, DeriveAllKinds, end_heading}
+use Prelude.{DeriveAllHeadings}
 use Rattle.mpslp_decimal.proofs.CutLemmas.{Each-weaker}
-use Rattle.mpslp_canonical_lp.proofs.{LexemeLemmas.{IsGoodName}, LineLemmas.{line-terminals}, TextLemmas.{all-faultless},
-  TerminalLemmas.{line_terminals_in, line-seen, all_terminals}, PrintableLemmas.{AllPrintable, IsTerm, code-word, a-line, good-name,
-  sense-good, heading-printable, label-printable, term-printable, constant-printable, subject-printable, sides-decimal, bound-printable,
-  row-printable, in-turn},
-  PhraseLemmas.{Walks, column_and, start-walks, bounds-section-walks, generals-section-walks, semis-section-walks, end-says, end-makes},
-  ObjectiveWalk.{begin-terminals, items_at, one-term, constant-walk}, BoundsWalk.{bound_made, column-walk},
-  TailWalk.{one-general, one-semi}, TextWalk.{row_by, IsRow, row-walk}, MeantRows.{limits-back}}
+use Rattle.mpslp_canonical_lp.proofs.{LexemeLemmas.{IsGoodName}, LineLemmas.{line-terminals}, TextLemmas.{all-faultless}}
+use Rattle.mpslp_canonical_lp.proofs.TerminalLemmas.{line_terminals_in, line-seen, all_terminals}
+use Rattle.mpslp_canonical_lp.proofs.PrintableLemmas.{AllPrintable, IsTerm, code-word, a-line, good-name, sense-good, heading-printable}
+use Rattle.mpslp_canonical_lp.proofs.PrintableLemmas.{label-printable, term-printable, constant-printable, subject-printable, sides-decimal}
+use Rattle.mpslp_canonical_lp.proofs.PrintableLemmas.{bound-printable, row-printable, in-turn}
+use Rattle.mpslp_canonical_lp.proofs.PhraseLemmas.{Walks, column_and, start-walks, bounds-section-walks, generals-section-walks}
+use Rattle.mpslp_canonical_lp.proofs.PhraseLemmas.{semis-section-walks, end-says, end-makes}
+use Rattle.mpslp_canonical_lp.proofs.ObjectiveWalk.{begin-terminals, items_at, one-term, constant-walk}
+use Rattle.mpslp_canonical_lp.proofs.{BoundsWalk.{bound_made, column-walk}, TailWalk.{one-general, one-semi}}
+use Rattle.mpslp_canonical_lp.proofs.{TextWalk.{row_by, IsRow, row-walk}, MeantRows.{limits-back}}
 
 -- ---- the tokens are those of the texts of the lines
 

@@ -1,12 +1,14 @@
 -- What the canonical text declares names no row and no column before it is declared.
-use Rattle.mpslp_canonical_lp.proofs.Prelude.{arith, ◌≡◌, refl, ◌∙◌, ℕ, List, [], ◌∷◌, ◌++◌, true, false, filter, Option, Some, None,
-  if◌then◌else◌, flat_map, second_so, put, Number, is_zero, have_same_value, bytes_cmp, limit_of, Limit, MinusInf, Finite, PlusInf, both_so,
-  or_left, or_right, Column, CoefficientKey, Listing, RowDefinition, declare_constant, declare_row, declare_column, declare_coefficient,
-  bounds_declared, Declarations, Draft, empty_draft, with_declaration, with_declarations, has_name, has_row, has_column, has-put,
-  itself_named, are_known_in_turn, Limits, limits_by, no_limits, AtLeast, EqualTo, Term, row_terms, is_integer_column, is_semi_column,
-  is_known}
-use Rattle.mpslp_canonical_lp.proofs.{PhraseLemmas.{column_and}, ObjectiveWalk.{terms_declared, constant_declared, objective_made},
-  BoundsWalk.{bound_made, column_made}, TailWalk.{general_made, semi_made}, TextWalk.{row_made, listed_declarations}}
+use Rattle.mpslp_canonical_lp.proofs.Prelude
+use Prelude.{arith, ◌≡◌, refl, ◌∙◌, ℕ, List, [], ◌∷◌, ◌++◌, true, false, filter, Option, Some, None, if◌then◌else◌, flat_map, second_so}
+use Prelude.{put, Number, is_zero, have_same_value, bytes_cmp, limit_of, Limit, MinusInf, Finite, PlusInf, both_so, or_left, or_right}
+use Prelude.{Column, CoefficientKey, Listing, RowDefinition, declare_constant, declare_row, declare_column, declare_coefficient}
+use Prelude.{bounds_declared, Declarations, Draft, empty_draft, with_declaration, with_declarations, has_name, has_row, has_column, has-put}
+use Prelude.{itself_named, are_known_in_turn, Limits, limits_by, no_limits, AtLeast, EqualTo, Term, row_terms, is_integer_column}
+use Prelude.{is_semi_column, is_known}
+use Rattle.mpslp_canonical_lp.proofs.{PhraseLemmas.{column_and}, ObjectiveWalk.{terms_declared, constant_declared, objective_made}}
+use Rattle.mpslp_canonical_lp.proofs.{BoundsWalk.{bound_made, column_made}, TailWalk.{general_made, semi_made}}
+use Rattle.mpslp_canonical_lp.proofs.TextWalk.{row_made, listed_declarations}
 
 -- ---- several declarations
 

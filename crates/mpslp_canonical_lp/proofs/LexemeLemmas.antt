@@ -1,11 +1,13 @@
 -- The tokens of a printed line are those of its pieces.
-use Rattle.mpslp_canonical_lp.proofs.Prelude.{rules, ◌≡◌, refl, sym, subst, ℕ, zero, suc, ◌≤◌, List, [], ◌∷◌, ◌++◌, Bool, true, false,
-  length, replicate, arith, append_assoc, None, ◌||◌, ◌==◌, ℤ, pos, negsuc, unsigned_abs, int_le, codes, if◌then◌else◌, flat_map, join_by,
-  nat_tests, Number, IsDecimal, is_negative, size_of, is_digit, number_text, begins_a_number, Each, is_word, tokens, class_of, token_fault,
-  Relation, Lexeme, PrintedLine, word, label, number, sign, sense, minus_infinity, sign_bytes, sense_bytes, lexeme_text, line_text,
-  semi_continuous, sign_kind, sense_kind, SeenToken, tokens_in, line_tokens}
-use Rattle.mpslp_canonical_lp.proofs.{TokenLemmas.{seen, Reads, Stops, StopsAt, IsToken, reads-nil, reads-blank, reads-token},
-  StopLemmas.{stops-blank, stops-colon, stops-minus}, TokenTexts.{word-token, unsigned-begins, unsigned-token}}
+use Rattle.mpslp_canonical_lp.proofs.Prelude
+use Prelude.{rules, ◌≡◌, refl, sym, subst, ℕ, zero, suc, ◌≤◌, List, [], ◌∷◌, ◌++◌, Bool, true, false, length, replicate, arith}
+use Prelude.{append_assoc, None, ◌||◌, ◌==◌, ℤ, pos, negsuc, unsigned_abs, int_le, codes, if◌then◌else◌, flat_map, join_by, nat_tests}
+use Prelude.{Number, IsDecimal, is_negative, size_of, is_digit, number_text, begins_a_number, Each, is_word, tokens, class_of, token_fault}
+use Prelude.{Relation, Lexeme, PrintedLine, word, label, number, sign, sense, minus_infinity, sign_bytes, sense_bytes, lexeme_text}
+use Prelude.{line_text, semi_continuous, sign_kind, sense_kind, SeenToken, tokens_in, line_tokens}
+use Rattle.mpslp_canonical_lp.proofs.TokenLemmas.{seen, Reads, Stops, StopsAt, IsToken, reads-nil, reads-blank, reads-token}
+use Rattle.mpslp_canonical_lp.proofs.StopLemmas.{stops-blank, stops-colon, stops-minus}
+use Rattle.mpslp_canonical_lp.proofs.TokenTexts.{word-token, unsigned-begins, unsigned-token}
 use Rattle.mpslp_lp_tokens.specs.declared.tokens.TokenKind.TheVariants as kinds
 use Rattle.mpslp_lp_tokens.specs.declared.words.WordClass.TheVariants as meanings
 

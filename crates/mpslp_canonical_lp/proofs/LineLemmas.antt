@@ -1,17 +1,19 @@
 -- A printed line has no error of its own, and its terminals are those of its pieces.
-use Rattle.mpslp_canonical_lp.proofs.Prelude.{rules, ◌≡◌, refl, ap, ◌∙◌, ℕ, zero, suc, ◌*◌, ◌≤◌, List, [], ◌∷◌, Bool, true, false, not,
-  length, replicate, arith, length-append, map, Option, Some, None, ◌&&◌, ◌==◌, nat_le, codes, filter_map, if◌then◌else◌, join_by, list_all,
-  list_any, cons_option, first_so, second_so, nat_tests, eqb-true, length-replicate, Number, IsDecimal, is_negative, size_of, is_digit,
-  number_text, before-none, Each, number-text, read-short, is_letter, is_lp_byte, Each-flat_map, Each-from_list_all, list_all-from_Each,
-  has_legal_bytes, begins_comment, is_word, Token, tokens, is_legal_byte, has_legal_length, first_held, number_fault, TerminalAt,
-  terminal_of, line_terminals, token_fault, lexical_fault, AtMost, AtLeast, EqualTo, begins-lp, Lexeme, PrintedLine, word, label, number,
-  sign, sense, minus_infinity, lexeme_text, line_text, semi_continuous, SeenToken, tokens_in, line_tokens}
+use Rattle.mpslp_canonical_lp.proofs.Prelude
+use Prelude.{rules, ◌≡◌, refl, ap, ◌∙◌, ℕ, zero, suc, ◌*◌, ◌≤◌, List, [], ◌∷◌, Bool, true, false, not, length, replicate, arith}
+use Prelude.{length-append, map, Option, Some, None, ◌&&◌, ◌==◌, nat_le, codes, filter_map, if◌then◌else◌, join_by, list_all, list_any}
+use Prelude.{cons_option, first_so, second_so, nat_tests, eqb-true, length-replicate, Number, IsDecimal, is_negative, size_of, is_digit}
+use Prelude.{number_text, before-none, Each, number-text, read-short, is_letter, is_lp_byte, Each-flat_map, Each-from_list_all}
+use Prelude.{list_all-from_Each, has_legal_bytes, begins_comment, is_word, Token, tokens, is_legal_byte, has_legal_length, first_held}
+use Prelude.{number_fault, TerminalAt, terminal_of, line_terminals, token_fault, lexical_fault, AtMost, AtLeast, EqualTo, begins-lp, Lexeme}
+use Prelude.{PrintedLine, word, label, number, sign, sense, minus_infinity, lexeme_text, line_text, semi_continuous, SeenToken, tokens_in}
+use Prelude.{line_tokens}
 use Rattle.mpslp_decimal.proofs.CutLemmas.{Each-weaker, Each-append}
 use Rattle.mpslp_types.specs.FaultOrder.{least_kind}
 use Rattle.mpslp_types.specs.declared.faults.FaultKind.{FaultKind}
 use Rattle.mpslp_lines.specs.declared.legal_line.TheConstants.{MAX_LINE_LEN}
-use Rattle.mpslp_canonical_lp.proofs.{LiteralBytes.{literal-each}, TokenLemmas.{seen}, TokenTexts.{text-literal},
-  LexemeLemmas.{IsPrintable, after_first_piece, line-read}}
+use Rattle.mpslp_canonical_lp.proofs.{LiteralBytes.{literal-each}, TokenLemmas.{seen}, TokenTexts.{text-literal}}
+use Rattle.mpslp_canonical_lp.proofs.LexemeLemmas.{IsPrintable, after_first_piece, line-read}
 use Rattle.mpslp_types.specs.declared.faults.FaultKind.TheVariants as faults
 use Rattle.mpslp_lp_tokens.specs.declared.tokens.TokenKind.TheVariants as kinds
 

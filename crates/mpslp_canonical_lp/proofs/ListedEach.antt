@@ -1,13 +1,14 @@
 -- A property of each kind of declaration holds for every declaration of the canonical text.
-use Rattle.mpslp_canonical_lp.proofs.Prelude.{arith, ◌≡◌, refl, ℕ, List, [], ◌∷◌, ◌++◌, Bool, true, false, Option, filter, unwrap_or,
-  if◌then◌else◌, list_any, flat_map, Number, is_zero, limit_of, Sense, Limit, MinusInf, PlusInf, both_false, Each-weaker, Each-append,
-  Each-flat_map, Each-all, CoefficientKey, Listing, RowDefinition, by_limits, Declaration, declare_sense, declare_objective,
-  declare_constant, declare_row, declare_column, declare_coefficient, declare_lower, declare_upper, declare_integer, declare_semi,
-  row_limits, Relation, Term, row_terms, objective_terms, is_integer_column, is_semi_column}
+use Rattle.mpslp_canonical_lp.proofs.Prelude
+use Prelude.{arith, ◌≡◌, refl, ℕ, List, [], ◌∷◌, ◌++◌, Bool, true, false, Option, filter, unwrap_or, if◌then◌else◌, list_any, flat_map}
+use Prelude.{Number, is_zero, limit_of, Sense, Limit, MinusInf, PlusInf, both_false, Each-weaker, Each-append, Each-flat_map, Each-all}
+use Prelude.{CoefficientKey, Listing, RowDefinition, by_limits, Declaration, declare_sense, declare_objective, declare_constant}
+use Prelude.{declare_row, declare_column, declare_coefficient, declare_lower, declare_upper, declare_integer, declare_semi, row_limits}
+use Prelude.{Relation, Term, row_terms, objective_terms, is_integer_column, is_semi_column}
 use Rattle.mpslp_types.proofs.EachLemmas.{Each}
-use Rattle.mpslp_canonical_lp.proofs.{RowWalk.{left_of}, ObjectiveWalk.{terms_declared, constant_declared, objective_made},
-  BoundsWalk.{bound_made, column_made}, TailWalk.{general_made, semi_made},
-  TextWalk.{row_left, row_relation, row_right, row_made, listed_declarations}}
+use Rattle.mpslp_canonical_lp.proofs.{RowWalk.{left_of}, ObjectiveWalk.{terms_declared, constant_declared, objective_made}}
+use Rattle.mpslp_canonical_lp.proofs.{BoundsWalk.{bound_made, column_made}, TailWalk.{general_made, semi_made}}
+use Rattle.mpslp_canonical_lp.proofs.TextWalk.{row_left, row_relation, row_right, row_made, listed_declarations}
 
 -- the limits by which a row is declared
 abbrev pub form_by : Option Number → Relation → Number → RowDefinition

@@ -1,11 +1,12 @@
 -- Each map of the draft that the declarations of the canonical text of a listing make.
-use Rattle.mpslp_canonical_lp.proofs.Prelude.{arith, ◌≡◌, refl, ap, ◌∙◌, List, [], ◌∷◌, ◌++◌, ℕ, map, filter, flat_map, append-nil, Number,
-  Row, Column, CoefficientKey, Listing, RowDefinition, Declaration, declare_column, declare_lower, declare_upper, Limit, flat_map-none,
-  row_part, rhs_part, column_part, coefficient_part, lower_part, upper_part, marked_part, integer_part, binary_part, semi_part, Term,
-  objective_terms, row_terms, is_integer_column, is_semi_column, stated, all_stated, flat_map_single, named}
-use Rattle.mpslp_canonical_lp.proofs.{BoundsWalk.{bound_made, column_made}, TextWalk.{listed_declarations}, ListedParts.{form_stated,
-  lower_stated, upper_stated, column_lower, column_upper, PartsOf, all_parts, listed-parts, nothing, nothing_of, own_name, without-terms,
-  columns-parts, bounds-parts}}
+use Rattle.mpslp_canonical_lp.proofs.Prelude
+use Prelude.{arith, ◌≡◌, refl, ap, ◌∙◌, List, [], ◌∷◌, ◌++◌, ℕ, map, filter, flat_map, append-nil, Number, Row, Column, CoefficientKey}
+use Prelude.{Listing, RowDefinition, Declaration, declare_column, declare_lower, declare_upper, Limit, flat_map-none, row_part, rhs_part}
+use Prelude.{column_part, coefficient_part, lower_part, upper_part, marked_part, integer_part, binary_part, semi_part, Term}
+use Prelude.{objective_terms, row_terms, is_integer_column, is_semi_column, stated, all_stated, flat_map_single, named}
+use Rattle.mpslp_canonical_lp.proofs.{BoundsWalk.{bound_made, column_made}, TextWalk.{listed_declarations}}
+use Rattle.mpslp_canonical_lp.proofs.ListedParts.{form_stated, lower_stated, upper_stated, column_lower, column_upper, PartsOf, all_parts}
+use Rattle.mpslp_canonical_lp.proofs.ListedParts.{listed-parts, nothing, nothing_of, own_name, without-terms, columns-parts, bounds-parts}
 
 bounds-none : {Y : Type 0} (part : Declaration → List Y) → ((x : List ℕ) → part (declare_column x) ≡ []) → ((x : List ℕ) (l : Limit) → part (declare_lower x l) ≡ []) → ((x : List ℕ) (l : Limit) → part (declare_upper x l) ≡ [])
     → (column : List ℕ × Column) → flat_map part (column_made column) ≡ []

@@ -1,10 +1,12 @@
 -- The draft of what the canonical text of a well-formed model declares means the model.
-use Rattle.mpslp_canonical_lp.proofs.Prelude.{ap, List, [], ℕ, Option, unwrap_or, LinearModel, IsSound, listing_of, Sense, Minimize,
-  draft_of, AreConsistent, DraftMeans, Means}
+use Rattle.mpslp_canonical_lp.proofs.Prelude
+use Prelude.{ap, List, [], ℕ, Option, unwrap_or, LinearModel, IsSound, listing_of, Sense, Minimize, draft_of, AreConsistent, DraftMeans}
+use Prelude.{Means}
 use Rattle.mpslp_builder.proofs.GivenBack.{model-back, columns-back, no-negative_upper, binary-within}
-use Rattle.mpslp_canonical_lp.proofs.{TextWalk.{listed_declarations}, SoundListing.{sound-listing}, ListedParts.{drafted},
-  MeantObjective.{sense-drafted, objective-drafted, constant-back}, MeantRows.{rows-back, finite-rows, exact-rows},
-  NamedColumns.{columns-drafted}, MeantColumns.{binaries-none, each-back}, MeantCoefficients.{coefficients-kept}}
+use Rattle.mpslp_canonical_lp.proofs.{TextWalk.{listed_declarations}, SoundListing.{sound-listing}, ListedParts.{drafted}}
+use Rattle.mpslp_canonical_lp.proofs.MeantObjective.{sense-drafted, objective-drafted, constant-back}
+use Rattle.mpslp_canonical_lp.proofs.{MeantRows.{rows-back, finite-rows, exact-rows}, NamedColumns.{columns-drafted}}
+use Rattle.mpslp_canonical_lp.proofs.{MeantColumns.{binaries-none, each-back}, MeantCoefficients.{coefficients-kept}}
 
 -- The draft of what is printed for a well-formed model means it.
 pub draft-means : (m : LinearModel) → IsSound m → DraftMeans (draft_of (listed_declarations (listing_of m))) m

@@ -1,7 +1,8 @@
 -- The canonical LP text of a model that is given by its lists.
-use Rattle.mpslp_canonical_lp.proofs.Prelude.{◌≡◌, ◌∙◌, ap, subst, List, ℕ, Bool, true, ◌&&◌, Some, None, first_so, second_so, is_sorted,
-  from_sorted, entries-from_sorted, LinearModel, key_cmp, Listing, listing_of, bytes_cmp, T_from, DeclaresLp, Passes, declares-from_passes,
-  text_of, listed_lines, canonical_lp, unfit_in, unfit}
+use Rattle.mpslp_canonical_lp.proofs.Prelude
+use Prelude.{◌≡◌, ◌∙◌, ap, subst, List, ℕ, Bool, true, ◌&&◌, Some, None, first_so, second_so, is_sorted, from_sorted, entries-from_sorted}
+use Prelude.{LinearModel, key_cmp, Listing, listing_of, bytes_cmp, T_from, DeclaresLp, Passes, declares-from_passes, text_of, listed_lines}
+use Prelude.{canonical_lp, unfit_in, unfit}
 use Rattle.mpslp_types.specs.declared.faults.NameAt.{NameAt}
 
 abbrev pub model_in : Listing → LinearModel

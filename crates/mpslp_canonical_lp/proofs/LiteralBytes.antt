@@ -1,7 +1,8 @@
 -- The bytes of number literals: digits, signs, points and exponent marks.
-use Rattle.mpslp_canonical_lp.proofs.Prelude.{◌≡◌, refl, sym, subst, List, [], ◌∷◌, ◌++◌, ℕ, suc, ◌+◌, Bool, true, false, cond, arith, take,
-  drop, ◌||◌, not, list_any, before_first, after_first, position_or_len, first_so, second_so, is_digit, is_sign, is_point, is_exponent_mark,
-  without_sign, are_digits, unsigned_part, mantissa_digits, exponent_part, is_literal, after-none, Each, nor, Each-from_list_all}
+use Rattle.mpslp_canonical_lp.proofs.Prelude
+use Prelude.{◌≡◌, refl, sym, subst, List, [], ◌∷◌, ◌++◌, ℕ, suc, ◌+◌, Bool, true, false, cond, arith, take, drop, ◌||◌, not, list_any}
+use Prelude.{before_first, after_first, position_or_len, first_so, second_so, is_digit, is_sign, is_point, is_exponent_mark, without_sign}
+use Prelude.{are_digits, unsigned_part, mantissa_digits, exponent_part, is_literal, after-none, Each, nor, Each-from_list_all}
 use Rattle.mpslp_decimal.proofs.CutLemmas.{Each-weaker}
 
 -- a property of each of these bytes holds for each byte of a literal

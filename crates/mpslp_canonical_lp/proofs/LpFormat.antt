@@ -1,6 +1,6 @@
 -- The laws of LP as a format of model files, in terms of the trait `Format`.
-use Rattle.mpslp_canonical_lp.proofs.Prelude.{◌≡◌, sym, ◌∙◌, List, ℕ, Some, None, LinearModel, IsSound, Fault, DeclaresLp, model-or_fault,
-  canonical_lp, unfit}
+use Rattle.mpslp_canonical_lp.proofs.Prelude
+use Prelude.{◌≡◌, sym, ◌∙◌, List, ℕ, Some, None, LinearModel, IsSound, Fault, DeclaresLp, model-or_fault, canonical_lp, unfit}
 use Rattle.mpslp_lp.specs.FirstFault.{IsFirstLpFault}
 use Rattle.mpslp_canonical_lp.proofs.CanonicalDeclares.{canonical-declares, one-model, declared-fits}
 

@@ -1,12 +1,14 @@
 -- The coefficients that are declared, without zeros, are those of the listing.
-use Rattle.mpslp_canonical_lp.proofs.Prelude.{arith, ◌≡◌, ap, ◌∙◌, List, [], ◌++◌, ℕ, Bool, true, not, cond, Some, None, filter, filter_map,
-  flat_map, cons_option, first_so, second_so, find, Number, is_zero, Row, Column, CoefficientKey, key_cmp, Listing, empty_draft,
-  Each-weaker, Each-append, Each-flat_map, Each-all, puts, coefficients-all, same_key, value_in, key_total, Term, term_in, objective_term,
-  objective_terms, some_term, row_terms, puts-kept, found-each}
+use Rattle.mpslp_canonical_lp.proofs.Prelude
+use Prelude.{arith, ◌≡◌, ap, ◌∙◌, List, [], ◌++◌, ℕ, Bool, true, not, cond, Some, None, filter, filter_map, flat_map, cons_option, first_so}
+use Prelude.{second_so, find, Number, is_zero, Row, Column, CoefficientKey, key_cmp, Listing, empty_draft, Each-weaker, Each-append}
+use Prelude.{Each-flat_map, Each-all, puts, coefficients-all, same_key, value_in, key_total, Term, term_in, objective_term, objective_terms}
+use Prelude.{some_term, row_terms, puts-kept, found-each}
 use Rattle.mpslp_types.proofs.EachLemmas.{Each}
-use Rattle.mpslp_canonical_lp.proofs.{PrintableLemmas.{Holds, each-filter_map}, TextWalk.{listed_declarations},
-  SoundListing.{is_sound_entry, IsSoundListing}, ListedParts.{drafted}, ListedMaps.{own_coefficient, coefficients-part},
-  PrintedTerms.{place_at, no-coefficient, each-line_text}}
+use Rattle.mpslp_canonical_lp.proofs.{PrintableLemmas.{Holds, each-filter_map}, TextWalk.{listed_declarations}}
+use Rattle.mpslp_canonical_lp.proofs.{SoundListing.{is_sound_entry, IsSoundListing}, ListedParts.{drafted}}
+use Rattle.mpslp_canonical_lp.proofs.ListedMaps.{own_coefficient, coefficients-part}
+use Rattle.mpslp_canonical_lp.proofs.PrintedTerms.{place_at, no-coefficient, each-line_text}
 
 abbrev is_kept : Number → Bool
 is_kept value = not (is_zero value)

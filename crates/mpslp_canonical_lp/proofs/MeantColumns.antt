@@ -1,27 +1,26 @@
 -- The columns that are declared are those of the listing: each has its type and its bounds.
-use Rattle.mpslp_canonical_lp.proofs.Prelude.{arith, ◌≡◌, refl, sym, ap, ◌∙◌, List, [], ◌∷◌, ℕ, Bool, true, false, cond, map, Option, Some,
-  None, is_some, is_none, unwrap_or, filter, ◌&&◌, ◌||◌, if◌then◌else◌, Number, is_zero, have_same_value, same_decimal, Column, Listing,
-  bytes_cmp, limit_of, is_bounded_decimal, is_lower_side, is_upper_side, Kind, Limit, Finite, PlusInf, empty_draft, at_name, has_name,
-  column_of, Each-weaker, puts, lowers-all, uppers-all, marked-all, integers-all, binaries-all, semis-all, sorted-mapped, bytes_total,
-  tied_names, is_integer_kind, is_semi_kind, is_integer_column, is_semi_column, then_stated, all_stated, puts-own, find-kept, find-stated,
-  sorted-stated, sorted-kept, column_sides, lower_of, upper_of, bounded_so, bounded_finite, named}
+use Rattle.mpslp_canonical_lp.proofs.Prelude
+use Prelude.{arith, ◌≡◌, refl, sym, ap, ◌∙◌, List, [], ◌∷◌, ℕ, Bool, true, false, cond, map, Option, Some, None, is_some, is_none}
+use Prelude.{unwrap_or, filter, ◌&&◌, ◌||◌, if◌then◌else◌, Number, is_zero, have_same_value, same_decimal, Column, Listing, bytes_cmp}
+use Prelude.{limit_of, is_bounded_decimal, is_lower_side, is_upper_side, Kind, Limit, Finite, PlusInf, empty_draft, at_name, has_name}
+use Prelude.{column_of, Each-weaker, puts, lowers-all, uppers-all, marked-all, integers-all, binaries-all, semis-all, sorted-mapped}
+use Prelude.{bytes_total, tied_names, is_integer_kind, is_semi_kind, is_integer_column, is_semi_column, then_stated, all_stated, puts-own}
+use Prelude.{find-kept, find-stated, sorted-stated, sorted-kept, column_sides, lower_of, upper_of, bounded_so, bounded_finite, named}
 use Rattle.mpslp_builder.specs.Bounds.{zero_limit, one_limit}
 use Rattle.mpslp_types.proofs.EachLemmas.{Each}
 use Rattle.mpslp_builder.proofs.BoundsLemmas.{column_of-is}
-use Rattle.mpslp_canonical_lp.proofs.{TextWalk.{listed_declarations}, SoundListing.{IsSoundListing, IsOwnColumn, own-columns},
-  ListedParts.{lower_stated, upper_stated, column_lower, column_upper, drafted},
-  ListedMaps.{lowers-part, uppers-part, integers-part, semis-part, no-marks, no-binaries}}
+use Rattle.mpslp_canonical_lp.proofs.{TextWalk.{listed_declarations}, SoundListing.{IsSoundListing, IsOwnColumn, own-columns}}
+use Rattle.mpslp_canonical_lp.proofs.ListedParts.{lower_stated, upper_stated, column_lower, column_upper, drafted}
+use Rattle.mpslp_canonical_lp.proofs.ListedMaps.{lowers-part, uppers-part, integers-part, semis-part, no-marks, no-binaries}
 use Rattle.mpslp_builder.proofs.BoundsLemmas as kinds
 
 -- ---- bounds, types
 
 lower-at : (m : Listing) → IsSoundListing m → (q : List ℕ) → at_name (drafted m).lowers q ≡ then_stated column_lower (at_name m.columns q)
-lower-at = grind (arith, lowers-all, listed_declarations, puts, lowers-part, puts-own, bytes_total, tied_names, all_stated, column_lower,
-    sorted-stated, find-stated)
+lower-at = grind (arith, lowers-all, listed_declarations, puts, lowers-part, puts-own, bytes_total, tied_names, all_stated, column_lower, sorted-stated, find-stated)
 
 upper-at : (m : Listing) → IsSoundListing m → (q : List ℕ) → at_name (drafted m).uppers q ≡ then_stated column_upper (at_name m.columns q)
-upper-at = grind (arith, uppers-all, listed_declarations, puts, uppers-part, puts-own, bytes_total, tied_names, all_stated, column_upper,
-    sorted-stated, find-stated)
+upper-at = grind (arith, uppers-all, listed_declarations, puts, uppers-part, puts-own, bytes_total, tied_names, all_stated, column_upper, sorted-stated, find-stated)
 
 -- the names of the columns that pass a test
 named-own : (m : Listing) → IsSoundListing m → (p : List ℕ × Column → Bool) → puts bytes_cmp (map named (filter p m.columns)) [] ≡ map named (filter p m.columns)

@@ -1,15 +1,17 @@
 -- The sense, the objective and the constant that are declared are those of the listing.
-use Rattle.mpslp_canonical_lp.proofs.Prelude.{arith, ◌≡◌, refl, ap, ◌∙◌, List, [], ◌∷◌, ◌++◌, ℕ, true, false, Option, Some, None, filter,
-  if◌then◌else◌, flat_map, Number, IsDecimal, is_zero, zero-is, Row, CoefficientKey, Listing, bytes_cmp, Limit, RowDefinition, Declaration,
-  declare_constant, declare_row, declare_column, declare_coefficient, declare_lower, declare_upper, declare_integer, declare_semi,
-  Declarations, Draft, empty_draft, with_declarations, bounds_declared, constant_of, Each-append, Each-flat_map, Each-all, puts,
-  rhs_values-all, with_declarations-append, limits_by, term_declared, objective_declared, AtLeast, Term, objective_terms, row_terms,
-  is_integer_column, is_semi_column}
+use Rattle.mpslp_canonical_lp.proofs.Prelude
+use Prelude.{arith, ◌≡◌, refl, ap, ◌∙◌, List, [], ◌∷◌, ◌++◌, ℕ, true, false, Option, Some, None, filter, if◌then◌else◌, flat_map, Number}
+use Prelude.{IsDecimal, is_zero, zero-is, Row, CoefficientKey, Listing, bytes_cmp, Limit, RowDefinition, Declaration, declare_constant}
+use Prelude.{declare_row, declare_column, declare_coefficient, declare_lower, declare_upper, declare_integer, declare_semi, Declarations}
+use Prelude.{Draft, empty_draft, with_declarations, bounds_declared, constant_of, Each-append, Each-flat_map, Each-all, puts}
+use Prelude.{rhs_values-all, with_declarations-append, limits_by, term_declared, objective_declared, AtLeast, Term, objective_terms}
+use Prelude.{row_terms, is_integer_column, is_semi_column}
 use Rattle.mpslp_types.proofs.EachLemmas.{Each}
 use Rattle.mpslp_builder.proofs.KeptParts.{Stays, stays-all}
-use Rattle.mpslp_canonical_lp.proofs.{PhraseLemmas.{column_and}, ObjectiveWalk.{terms_declared, constant_declared},
-  TailWalk.{general_made, semi_made}, BoundsWalk.{bound_made, column_made}, TextWalk.{row_made, listed_declarations},
-  ListedParts.{form_stated, drafted}, ListedMaps.{no-right_sides}}
+use Rattle.mpslp_canonical_lp.proofs.{PhraseLemmas.{column_and}, ObjectiveWalk.{terms_declared, constant_declared}}
+use Rattle.mpslp_canonical_lp.proofs.{TailWalk.{general_made, semi_made}, BoundsWalk.{bound_made, column_made}}
+use Rattle.mpslp_canonical_lp.proofs.{TextWalk.{row_made, listed_declarations}, ListedParts.{form_stated, drafted}}
+use Rattle.mpslp_canonical_lp.proofs.ListedMaps.{no-right_sides}
 
 -- ---- the declarations of terms, rows and columns, by their kinds
 

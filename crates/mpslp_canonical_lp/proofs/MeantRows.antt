@@ -1,13 +1,14 @@
 -- The rows that are declared are those of the listing: each has its limits.
-use Rattle.mpslp_canonical_lp.proofs.Prelude.{arith, ◌≡◌, refl, sym, ap, ◌∙◌, List, [], ◌∷◌, ℕ, Bool, true, false, not, map, Some, None,
-  is_some, if◌then◌else◌, list_all, Number, have_same_value, same_decimal, Row, is_sound_row, Listing, has_infinite_rhs, bytes_cmp,
-  limit_of, is_bounded_decimal, are_sides, Limit, Finite, RowDefinition, by_limits, empty_draft, row_entry, row_passes, Each-map, Each-all,
-  list_all-from_Each, puts, rows-all, sorted-mapped, bytes_total, tied_names, limits_between, AtMost, EqualTo, puts-own, row_sides,
-  lower_of, upper_of, bounded_so, bounded_finite}
+use Rattle.mpslp_canonical_lp.proofs.Prelude
+use Prelude.{arith, ◌≡◌, refl, sym, ap, ◌∙◌, List, [], ◌∷◌, ℕ, Bool, true, false, not, map, Some, None, is_some, if◌then◌else◌, list_all}
+use Prelude.{Number, have_same_value, same_decimal, Row, is_sound_row, Listing, has_infinite_rhs, bytes_cmp, limit_of, is_bounded_decimal}
+use Prelude.{are_sides, Limit, Finite, RowDefinition, by_limits, empty_draft, row_entry, row_passes, Each-map, Each-all, list_all-from_Each}
+use Prelude.{puts, rows-all, sorted-mapped, bytes_total, tied_names, limits_between, AtMost, EqualTo, puts-own, row_sides, lower_of}
+use Prelude.{upper_of, bounded_so, bounded_finite}
 use Rattle.mpslp_builder.specs.Meaning.{row_limits}
 use Rattle.mpslp_types.proofs.EachLemmas.{Each}
-use Rattle.mpslp_canonical_lp.proofs.{RowWalk.{left_of}, TextWalk.{listed_declarations}, SoundListing.{IsSoundListing},
-  ListedParts.{limits_stated, form_of, drafted}, ListedMaps.{row_forms, rows-part}}
+use Rattle.mpslp_canonical_lp.proofs.{RowWalk.{left_of}, TextWalk.{listed_declarations}, SoundListing.{IsSoundListing}}
+use Rattle.mpslp_canonical_lp.proofs.{ListedParts.{limits_stated, form_of, drafted}, ListedMaps.{row_forms, rows-part}}
 
 -- limits that are equal are the same decimal
 between-stated : (a b : Number) → is_bounded_decimal a ≡ true → is_bounded_decimal b ≡ true → form_of (limits_stated (Finite a) (Finite b)) ≡ by_limits (Finite a) (Finite b)

@@ -1,14 +1,16 @@
 -- The columns that are declared are those of a well-formed listing, however often each is named.
-use Rattle.mpslp_canonical_lp.proofs.Prelude.{arith, ◌≡◌, refl, sym, ap, ◌∙◌, List, [], ◌∷◌, ◌++◌, ℕ, Bool, true, false, map, append_assoc,
-  Some, is_some, filter, filter_map, ◌||◌, if◌then◌else◌, flat_map, list_any, find, Number, zero_number, Column, CoefficientKey, key_cmp,
-  Listing, same_bytes, bytes_cmp, Limit, empty_draft, at_name, T_from, Each-weaker, Each-append, Each-map, Each-flat_map, Each-filter,
-  Each-all, puts, puts-give, finds_own, some_append_left, same_key, column_part, columns-all, sorted-mapped, same_name, bytes_total,
-  tied_names, key_total, Term, term_in, has_coefficients, objective_term, objective_terms, some_term, row_terms, is_integer_column,
-  is_semi_column, named, found-any}
+use Rattle.mpslp_canonical_lp.proofs.Prelude
+use Prelude.{arith, ◌≡◌, refl, sym, ap, ◌∙◌, List, [], ◌∷◌, ◌++◌, ℕ, Bool, true, false, map, append_assoc, Some, is_some, filter}
+use Prelude.{filter_map, ◌||◌, if◌then◌else◌, flat_map, list_any, find, Number, zero_number, Column, CoefficientKey, key_cmp, Listing}
+use Prelude.{same_bytes, bytes_cmp, Limit, empty_draft, at_name, T_from, Each-weaker, Each-append, Each-map, Each-flat_map, Each-filter}
+use Prelude.{Each-all, puts, puts-give, finds_own, some_append_left, same_key, column_part, columns-all, sorted-mapped, same_name}
+use Prelude.{bytes_total, tied_names, key_total, Term, term_in, has_coefficients, objective_term, objective_terms, some_term, row_terms}
+use Prelude.{is_integer_column, is_semi_column, named, found-any}
 use Rattle.mpslp_types.proofs.EachLemmas.{Each}
-use Rattle.mpslp_canonical_lp.proofs.{PrintableLemmas.{Holds, each-filter_map}, BoundsWalk.{bound_made}, TextWalk.{listed_declarations},
-  SoundListing.{IsSoundListing, IsOwnColumn, own-columns}, ListedParts.{all_parts, nothing, own_name, drafted},
-  ListedMaps.{bound_names, columns-part}, PrintedTerms.{hit, each-line_text}}
+use Rattle.mpslp_canonical_lp.proofs.{PrintableLemmas.{Holds, each-filter_map}, BoundsWalk.{bound_made}, TextWalk.{listed_declarations}}
+use Rattle.mpslp_canonical_lp.proofs.SoundListing.{IsSoundListing, IsOwnColumn, own-columns}
+use Rattle.mpslp_canonical_lp.proofs.{ListedParts.{all_parts, nothing, own_name, drafted}, ListedMaps.{bound_names, columns-part}}
+use Rattle.mpslp_canonical_lp.proofs.PrintedTerms.{hit, each-line_text}
 
 abbrev Names : Type 0
 Names = List (List ℕ × Unit {0})

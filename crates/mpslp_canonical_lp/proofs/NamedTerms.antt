@@ -1,11 +1,12 @@
 -- The terms that are printed of the objective or of a row are of different columns.
-use Rattle.mpslp_canonical_lp.proofs.Prelude.{◌≡◌, refl, subst, ◌∙◌, ℕ, ◌<◌, arith, List, [], ◌∷◌, ◌++◌, false, length, Option, Some, None,
-  filter_map, if◌then◌else◌, list_any, cons_option, option_map, find, Number, zero_number, same_bytes, both_false, Each-both, Each-all,
-  Column, key_cmp, Listing, Term, term_in, has_coefficients, objective_term, objective_terms, some_term, row_terms, ◌||◌}
+use Rattle.mpslp_canonical_lp.proofs.Prelude
+use Prelude.{◌≡◌, refl, subst, ◌∙◌, ℕ, ◌<◌, arith, List, [], ◌∷◌, ◌++◌, false, length, Option, Some, None, filter_map, if◌then◌else◌}
+use Prelude.{list_any, cons_option, option_map, find, Number, zero_number, same_bytes, both_false, Each-both, Each-all, Column, key_cmp}
+use Prelude.{Listing, Term, term_in, has_coefficients, objective_term, objective_terms, some_term, row_terms, ◌||◌}
 use Rattle.std.proofs.lemmas.List.Folds.{list_any-append}
 use Rattle.mpslp_types.proofs.EachLemmas.{Each}
-use Rattle.mpslp_canonical_lp.proofs.{PrintableLemmas.{IsTerm, IsFit, terms-fit, some-fits}, RowWalk.{AreNew}, TextWalk.{IsRow},
-  RankedSlots.{AreOther}}
+use Rattle.mpslp_canonical_lp.proofs.{PrintableLemmas.{IsTerm, IsFit, terms-fit, some-fits}, RowWalk.{AreNew}, TextWalk.{IsRow}}
+use Rattle.mpslp_canonical_lp.proofs.RankedSlots.{AreOther}
 
 -- a term for each column that has a value
 abbrev terms_by : (List ℕ × Column → Option Number) → List (List ℕ × Column) → List Term

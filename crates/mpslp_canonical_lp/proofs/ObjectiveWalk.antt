@@ -1,15 +1,17 @@
 -- The printed objective, up to `Subject To`, declares the sense, the objective, its terms and its constant.
-use Rattle.mpslp_canonical_lp.proofs.Prelude.{arith, ◌≡◌, refl, sym, ap, subst, ◌∙◌, ℕ, ◌+◌, List, [], ◌∷◌, ◌++◌, Bool, true, false,
-  append_assoc, map, None, codes, if◌then◌else◌, flat_map, Decimal, is_negative, size_of, Draft, empty_draft, Declarations,
-  with_declarations, refusals_in_turn, Sense, with_declarations-append, refusals_in_turn-append, Each, TerminalAt, word_terminal, Opens,
-  Name, Sign, Colon, no_section_seen, with_section, section_fault, start, SectionsSeen, Place, AtStart, BeforeItems, InObjective,
-  BetweenRows, term_declared, objective_declared, PrintedLine, Listing, Lines, Term, heading, label_line, sense_word, term_line,
-  objective_terms, constant_lines, objective_section}
+use Rattle.mpslp_canonical_lp.proofs.Prelude
+use Prelude.{arith, ◌≡◌, refl, sym, ap, subst, ◌∙◌, ℕ, ◌+◌, List, [], ◌∷◌, ◌++◌, Bool, true, false, append_assoc, map, None, codes}
+use Prelude.{if◌then◌else◌, flat_map, Decimal, is_negative, size_of, Draft, empty_draft, Declarations, with_declarations, refusals_in_turn}
+use Prelude.{Sense, with_declarations-append, refusals_in_turn-append, Each, TerminalAt, word_terminal, Opens, Name, Sign, Colon}
+use Prelude.{no_section_seen, with_section, section_fault, start, SectionsSeen, Place, AtStart, BeforeItems, InObjective, BetweenRows}
+use Prelude.{term_declared, objective_declared, PrintedLine, Listing, Lines, Term, heading, label_line, sense_word, term_line}
+use Prelude.{objective_terms, constant_lines, objective_section}
 use Rattle.mpslp_types.specs.declared.faults.BuildFault.{BuildFault}
 use Rattle.mpslp_lp_grammar.specs.Terminal.Terminal.{Number}
-use Rattle.mpslp_canonical_lp.proofs.{PrintableLemmas.{IsTerm, IsFit, objective-fits},
-  TerminalLemmas.{at, line_terminals_in, all_terminals, signed-value, sign_of},
-  PhraseLemmas.{Walks, walks-none, walks-then, point_at, sense_opens, start-walks, first-term-walks, term-walks}}
+use Rattle.mpslp_canonical_lp.proofs.PrintableLemmas.{IsTerm, IsFit, objective-fits}
+use Rattle.mpslp_canonical_lp.proofs.TerminalLemmas.{at, line_terminals_in, all_terminals, signed-value, sign_of}
+use Rattle.mpslp_canonical_lp.proofs.PhraseLemmas.{Walks, walks-none, walks-then, point_at, sense_opens, start-walks, first-term-walks}
+use Rattle.mpslp_canonical_lp.proofs.PhraseLemmas.{term-walks}
 use Rattle.mpslp_lp_tokens.specs.declared.words.Section.TheVariants as sections
 use Rattle.mpslp_lp_tokens.specs.declared.words.SectionWord.TheVariants as section_words
 pub use Rattle.mpslp_canonical_lp.specs.PrintedDeclarations.{constant_declared}

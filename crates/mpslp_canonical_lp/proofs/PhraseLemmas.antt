@@ -1,10 +1,11 @@
 -- How the grammar reads the printed forms: each declares what it was printed from, if none of it is rejected.
-use Rattle.mpslp_canonical_lp.proofs.Prelude.{arith, ◌≡◌, refl, ℕ, List, [], ◌∷◌, ◌++◌, true, false, append_assoc, Some, None, codes,
-  list_any, Decimal, same_bytes, limit_of, Draft, empty_draft, Declarations, declare_column, bounds_declared, with_declarations,
-  refusals_in_turn, bounds_refusals, Sense, Minimize, Maximize, Limit, MinusInf, SignOf, Minus, TerminalAt, Opens, Name, Sign, Compares,
-  Colon, Infinity, phrases, made_by, Finished, no_section_seen, with_section, section_fault, Point, start, SectionsSeen, PartialRow, Place,
-  BeforeItems, InObjective, BetweenRows, InRow, InBounds, InGenerals, InSemis, apply_sign, Limits, limits_by, flip, term_declared,
-  objective_declared, fits_left, row_limits, row_declared, may_begin_section, phrase_at, Relation}
+use Rattle.mpslp_canonical_lp.proofs.Prelude
+use Prelude.{arith, ◌≡◌, refl, ℕ, List, [], ◌∷◌, ◌++◌, true, false, append_assoc, Some, None, codes, list_any, Decimal, same_bytes}
+use Prelude.{limit_of, Draft, empty_draft, Declarations, declare_column, bounds_declared, with_declarations, refusals_in_turn}
+use Prelude.{bounds_refusals, Sense, Minimize, Maximize, Limit, MinusInf, SignOf, Minus, TerminalAt, Opens, Name, Sign, Compares, Colon}
+use Prelude.{Infinity, phrases, made_by, Finished, no_section_seen, with_section, section_fault, Point, start, SectionsSeen, PartialRow}
+use Prelude.{Place, BeforeItems, InObjective, BetweenRows, InRow, InBounds, InGenerals, InSemis, apply_sign, Limits, limits_by, flip}
+use Prelude.{term_declared, objective_declared, fits_left, row_limits, row_declared, may_begin_section, phrase_at, Relation}
 use Rattle.mpslp_lp_grammar.specs.Terminal.Terminal.{Number}
 use Rattle.mpslp_lp_tokens.specs.declared.words.SectionWord.{SectionWord}
 use Rattle.mpslp_canonical_lp.proofs.TerminalLemmas.{at}

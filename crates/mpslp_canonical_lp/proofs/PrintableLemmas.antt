@@ -1,20 +1,22 @@
 -- The canonical lines of a well-formed model with LP names can be printed: names, decimals, signs and words of the language.
-use Rattle.mpslp_canonical_lp.proofs.Prelude.{rules, ◌≡◌, refl, ap, ◌∙◌, List, [], ◌∷◌, ◌++◌, length, ℕ, ◌+◌, ◌<◌, arith, Bool, true, false,
-  not, cond, map, Option, Some, None, nat_le, ◌&&◌, ◌||◌, filter, filter_map, position, codes, if◌then◌else◌, list_all, list_any, flat_map,
-  position_or_len, option_map, first_so, second_so, Ordering, entries, find, leb-true, lt-ltb, Number, IsDecimal, is_negative, size_of,
-  zero_number, have_same_value, marker, same_bytes, has_name_length, is_mps_name, is_lp_byte, is_like_exponent, is_reserved,
-  begins_a_number, is_lp_name, LinearModel, Row, Column, key_cmp, is_sound_row, is_sound_column, is_sound_coefficient, IsSound, Listing,
-  listing_of, is_bounded_decimal, is_lower_side, are_sides, Sense, Limit, MinusInf, Finite, PlusInf, not_so, nor, Each-both, Each-map,
-  Each-flat_map, Each-filter, Each-from_list_all, Each, is_word, name_fault, word_fault, token_fault, AtMost, EqualTo, Lexeme, word, label,
-  number, sign, sense, semi_continuous, Lines, heading, under_heading, label_line, Term, term_line, sense_word, term_in, objective_term,
-  objective_terms, constant_lines, objective_section, left_lines, last_line, some_term, row_terms, row_lines, rows_section, bound_lexemes,
-  line_of_some, bound_lines, bounds_section, is_integer_column, name_line, generals_section, listed_lines, canonical_lines, is_semi_column,
-  semis_section, under_semi_heading, is_no_lp_name, first_unfit, or_else, unfit_in, unfit}
+use Rattle.mpslp_canonical_lp.proofs.Prelude
+use Prelude.{rules, ◌≡◌, refl, ap, ◌∙◌, List, [], ◌∷◌, ◌++◌, length, ℕ, ◌+◌, ◌<◌, arith, Bool, true, false, not, cond, map, Option, Some}
+use Prelude.{None, nat_le, ◌&&◌, ◌||◌, filter, filter_map, position, codes, if◌then◌else◌, list_all, list_any, flat_map, position_or_len}
+use Prelude.{option_map, first_so, second_so, Ordering, entries, find, leb-true, lt-ltb, Number, IsDecimal, is_negative, size_of}
+use Prelude.{zero_number, have_same_value, marker, same_bytes, has_name_length, is_mps_name, is_lp_byte, is_like_exponent, is_reserved}
+use Prelude.{begins_a_number, is_lp_name, LinearModel, Row, Column, key_cmp, is_sound_row, is_sound_column, is_sound_coefficient, IsSound}
+use Prelude.{Listing, listing_of, is_bounded_decimal, is_lower_side, are_sides, Sense, Limit, MinusInf, Finite, PlusInf, not_so, nor}
+use Prelude.{Each-both, Each-map, Each-flat_map, Each-filter, Each-from_list_all, Each, is_word, name_fault, word_fault, token_fault}
+use Prelude.{AtMost, EqualTo, Lexeme, word, label, number, sign, sense, semi_continuous, Lines, heading, under_heading, label_line, Term}
+use Prelude.{term_line, sense_word, term_in, objective_term, objective_terms, constant_lines, objective_section, left_lines, last_line}
+use Prelude.{some_term, row_terms, row_lines, rows_section, bound_lexemes, line_of_some, bound_lines, bounds_section, is_integer_column}
+use Prelude.{name_line, generals_section, listed_lines, canonical_lines, is_semi_column, semis_section, under_semi_heading, is_no_lp_name}
+use Prelude.{first_unfit, or_else, unfit_in, unfit}
 use Rattle.mpslp_types.proofs.NameLemmas.{mps_name-from_lp}
 use Rattle.mpslp_decimal.proofs.CutLemmas.{Each-weaker, Each-append}
 use Rattle.mpslp_lp_tokens.proofs.WordLemmas.{word_class-name}
-use Rattle.mpslp_canonical_lp.proofs.{TokenTexts.{name-word}, LexemeLemmas.{IsGoodWord, IsGoodName, IsPrintable},
-  LineLemmas.{IsPrintableLine}}
+use Rattle.mpslp_canonical_lp.proofs.{TokenTexts.{name-word}, LexemeLemmas.{IsGoodWord, IsGoodName, IsPrintable}}
+use Rattle.mpslp_canonical_lp.proofs.LineLemmas.{IsPrintableLine}
 use Rattle.mpslp_types.specs.declared.faults.FaultKind.TheVariants as faults
 use Rattle.mpslp_types.specs.declared.faults.NameAt.TheVariants as places
 use Rattle.mpslp_lp_tokens.specs.declared.tokens.TokenKind.TheVariants as kinds
@@ -196,8 +198,7 @@ pub sense-good : (s : Sense) → IsGoodWord (sense_word s)
 sense-good = grind arith
 
 objective-printable : (m : Listing) → IsFit m → AllPrintable (objective_section m)
-objective-printable = grind (arith, heading-printable, sense-good, label-printable, in-turn, terms-printable, objective-fits,
-    constant-printable)
+objective-printable = grind (arith, heading-printable, sense-good, label-printable, in-turn, terms-printable, objective-fits, constant-printable)
 
 pub row-printable : (m : Listing) (row : List ℕ × Row) → IsFitRow row → Each IsTerm (row_terms m row.0) → AllPrintable (row_lines m row)
 row-printable = grind (arith, label-printable, in-turn, left-printable, terms-printable, last-printable)

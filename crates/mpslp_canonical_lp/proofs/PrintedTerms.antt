@@ -1,9 +1,10 @@
 -- Each coefficient of a well-formed listing is printed as a term of its row or of the objective.
-use Rattle.mpslp_canonical_lp.proofs.Prelude.{arith, ◌≡◌, refl, sym, ap, ◌∙◌, List, [], ◌∷◌, ◌++◌, ℕ, Bool, true, false, cond, Option, Some,
-  None, is_some, filter_map, ◌&&◌, ◌||◌, if◌then◌else◌, flat_map, list_any, cons_option, option_map, eq_by_cmp, IsTotalOrder, first_so,
-  second_so, Ordering, find, Number, zero_number, same_bytes, is_one_of, Row, Column, CoefficientKey, key_cmp, Listing, names_in, or_left,
-  or_right, equal_from, find-front, some_cons, some_append_left, some_append_right, same_key, itself_named, any-name, same_name, key_total,
-  Term, term_in, has_coefficients, objective_term, objective_terms, some_term, row_terms, found-each, not, is_decimal, is_zero}
+use Rattle.mpslp_canonical_lp.proofs.Prelude
+use Prelude.{arith, ◌≡◌, refl, sym, ap, ◌∙◌, List, [], ◌∷◌, ◌++◌, ℕ, Bool, true, false, cond, Option, Some, None, is_some, filter_map, ◌&&◌}
+use Prelude.{◌||◌, if◌then◌else◌, flat_map, list_any, cons_option, option_map, eq_by_cmp, IsTotalOrder, first_so, second_so, Ordering, find}
+use Prelude.{Number, zero_number, same_bytes, is_one_of, Row, Column, CoefficientKey, key_cmp, Listing, names_in, or_left, or_right}
+use Prelude.{equal_from, find-front, some_cons, some_append_left, some_append_right, same_key, itself_named, any-name, same_name, key_total}
+use Prelude.{Term, term_in, has_coefficients, objective_term, objective_terms, some_term, row_terms, found-each, not, is_decimal, is_zero}
 use Rattle.std.specs.declared.cmp.Ordering.TheVariants.{Equal}
 use Rattle.mpslp_canonical_lp.proofs.SoundListing.{is_sound_entry, IsSoundListing}
 

@@ -1,9 +1,9 @@
 -- Slots in sections of rising rank: if no section fills a slot twice, all together do not.
-use Rattle.mpslp_canonical_lp.proofs.Prelude.{rules, ◌≡◌, refl, sym, ap, ◌∙◌, ℕ, suc, ◌<◌, arith, List, [], ◌∷◌, ◌++◌, true, false,
-  append_assoc, ◌&&◌, Option, Some, None, list_any, flat_map, second_so, is_sorted, is_lt, same_bytes, bytes_cmp, both_so, both_false,
-  so_not, Each-weaker, Each-append, CoefficientKey, are_distinct, Declarations, names_in, Slot, row_slot, rhs_slot, range_slot,
-  coefficient_slot, lower_slot, upper_slot, same_slot, slots_of, all_slots, IsNew, Apart, distinct-append, same_name, bytes_total,
-  itself_named}
+use Rattle.mpslp_canonical_lp.proofs.Prelude
+use Prelude.{rules, ◌≡◌, refl, sym, ap, ◌∙◌, ℕ, suc, ◌<◌, arith, List, [], ◌∷◌, ◌++◌, true, false, append_assoc, ◌&&◌, Option, Some, None}
+use Prelude.{list_any, flat_map, second_so, is_sorted, is_lt, same_bytes, bytes_cmp, both_so, both_false, so_not, Each-weaker, Each-append}
+use Prelude.{CoefficientKey, are_distinct, Declarations, names_in, Slot, row_slot, rhs_slot, range_slot, coefficient_slot, lower_slot}
+use Prelude.{upper_slot, same_slot, slots_of, all_slots, IsNew, Apart, distinct-append, same_name, bytes_total, itself_named}
 use Rattle.std.specs.FinMap.Entries.{below_all}
 use Rattle.mpslp_types.proofs.EachLemmas.{Each}
 

@@ -1,8 +1,9 @@
 -- The canonical LP text of a well-formed model with LP names is read as it was printed.
-use Rattle.mpslp_canonical_lp.proofs.Prelude.{rules, ◌≡◌, ap, ◌∙◌, List, ℕ, None, enumerate_from, LinearModel, IsSound, sound_terminals,
-  numbered_lines, canonical_lines, canonical_lp, unfit, AreReadAsPrinted}
-use Rattle.mpslp_canonical_lp.proofs.{TextLemmas.{lines-text, all-faultless, all-tokens, sound-terminals},
-  TerminalLemmas.{all_terminals, lines-seen}, PrintableLemmas.{canonical-printable}}
+use Rattle.mpslp_canonical_lp.proofs.Prelude
+use Prelude.{rules, ◌≡◌, ap, ◌∙◌, List, ℕ, None, enumerate_from, LinearModel, IsSound, sound_terminals, numbered_lines, canonical_lines}
+use Prelude.{canonical_lp, unfit, AreReadAsPrinted}
+use Rattle.mpslp_canonical_lp.proofs.TextLemmas.{lines-text, all-faultless, all-tokens, sound-terminals}
+use Rattle.mpslp_canonical_lp.proofs.{TerminalLemmas.{all_terminals, lines-seen}, PrintableLemmas.{canonical-printable}}
 
 pub read-as-line_text : AreReadAsPrinted
 read-as-line_text m sound fits = search (rules, canonical-printable, lines-text, all-faultless, all-tokens)

@@ -1,13 +1,16 @@
 -- A printed row declares its name, its limits and its terms.
-use Rattle.mpslp_canonical_lp.proofs.Prelude.{arith, rules, ◌≡◌, sym, subst, ℕ, ◌+◌, List, [], ◌∷◌, ◌++◌, true, false, append_assoc, map,
-  Option, Some, None, list_any, option_map, append-nil, Decimal, is_negative, size_of, same_bytes, limit_of, Draft, with_declarations,
-  refusals_in_turn, Limit, Each, Terminal, TerminalAt, Name, Sign, Compares, Colon, Point, SectionsSeen, PartialRow, BetweenRows, InRow,
-  fits_left, Relation, AtMost, number, sense, Lines, Term, long_line, label_line, term_line, right_line}
+use Rattle.mpslp_canonical_lp.proofs.Prelude
+use Prelude.{arith, rules, ◌≡◌, sym, subst, ℕ, ◌+◌, List, [], ◌∷◌, ◌++◌, true, false, append_assoc, map, Option, Some, None, list_any}
+use Prelude.{option_map, append-nil, Decimal, is_negative, size_of, same_bytes, limit_of, Draft, with_declarations, refusals_in_turn, Limit}
+use Prelude.{Each, Terminal, TerminalAt, Name, Sign, Compares, Colon, Point, SectionsSeen, PartialRow, BetweenRows, InRow, fits_left}
+use Prelude.{Relation, AtMost, number, sense, Lines, Term, long_line, label_line, term_line, right_line}
 use Rattle.mpslp_lp_grammar.specs.Terminal.Terminal.{Number}
-use Rattle.mpslp_canonical_lp.proofs.{PrintableLemmas.{IsTerm},
-  TerminalLemmas.{at, terminals_in, line_terminals_in, all_terminals, mapped-append, signed-value, sign_of}, PhraseLemmas.{Walks,
-  walks-none, walks-then, point_at, left-row-walks, signed-row-walks, row-term-walks, ended_by, row-end-walks, signed-end-walks},
-  ObjectiveWalk.{term-terminals}, BoundsWalk.{number-either}}
+use Rattle.mpslp_canonical_lp.proofs.PrintableLemmas.{IsTerm}
+use Rattle.mpslp_canonical_lp.proofs.TerminalLemmas.{at, terminals_in, line_terminals_in, all_terminals, mapped-append, signed-value}
+use Rattle.mpslp_canonical_lp.proofs.TerminalLemmas.{sign_of}
+use Rattle.mpslp_canonical_lp.proofs.PhraseLemmas.{Walks, walks-none, walks-then, point_at, left-row-walks, signed-row-walks}
+use Rattle.mpslp_canonical_lp.proofs.PhraseLemmas.{row-term-walks, ended_by, row-end-walks, signed-end-walks}
+use Rattle.mpslp_canonical_lp.proofs.{ObjectiveWalk.{term-terminals}, BoundsWalk.{number-either}}
 pub use Rattle.mpslp_canonical_lp.specs.PrintedDeclarations.{AreNew}
 
 -- a limit before the terms, with its relation, if there is one

@@ -1,13 +1,16 @@
 -- What the canonical text declares fills no slot twice.
-use Rattle.mpslp_canonical_lp.proofs.Prelude.{arith, ◌≡◌, refl, ap, ◌∙◌, ℕ, List, [], ◌∷◌, ◌++◌, Bool, true, false, not, map, append_assoc,
-  ◌&&◌, ◌||◌, Some, if◌then◌else◌, list_any, flat_map, Number, same_bytes, Limit, both_so, both_false, so_not, Each-weaker, Each-flat_map,
-  Each-all, Row, Column, Listing, are_distinct, Declarations, names_in, Slot, sense_slot, objective_slot, constant_slot, row_slot, rhs_slot,
-  range_slot, coefficient_slot, same_slot, all_slots, distinct-flat_map, itself_named, Term, row_terms, objective_terms}
+use Rattle.mpslp_canonical_lp.proofs.Prelude
+use Prelude.{arith, ◌≡◌, refl, ap, ◌∙◌, ℕ, List, [], ◌∷◌, ◌++◌, Bool, true, false, not, map, append_assoc, ◌&&◌, ◌||◌, Some, if◌then◌else◌}
+use Prelude.{list_any, flat_map, Number, same_bytes, Limit, both_so, both_false, so_not, Each-weaker, Each-flat_map, Each-all, Row, Column}
+use Prelude.{Listing, are_distinct, Declarations, names_in, Slot, sense_slot, objective_slot, constant_slot, row_slot, rhs_slot, range_slot}
+use Prelude.{coefficient_slot, same_slot, all_slots, distinct-flat_map, itself_named, Term, row_terms, objective_terms}
 use Rattle.mpslp_types.proofs.EachLemmas.{Each}
-use Rattle.mpslp_canonical_lp.proofs.{ObjectiveWalk.{terms_declared, constant_declared, objective_made},
-  BoundsWalk.{bound_made, column_made}, TailWalk.{general_made, semi_made}, TextWalk.{row_made, listed_declarations},
-  RankedSlots.{Section, Sections, joined-once, AreOther, names-distinct, owner, owners-apart, slots-append, slots-flat},
-  NamedTerms.{objective-other, row-other}}
+use Rattle.mpslp_canonical_lp.proofs.ObjectiveWalk.{terms_declared, constant_declared, objective_made}
+use Rattle.mpslp_canonical_lp.proofs.{BoundsWalk.{bound_made, column_made}, TailWalk.{general_made, semi_made}}
+use Rattle.mpslp_canonical_lp.proofs.TextWalk.{row_made, listed_declarations}
+use Rattle.mpslp_canonical_lp.proofs.RankedSlots.{Section, Sections, joined-once, AreOther, names-distinct, owner, owners-apart}
+use Rattle.mpslp_canonical_lp.proofs.RankedSlots.{slots-append, slots-flat}
+use Rattle.mpslp_canonical_lp.proofs.NamedTerms.{objective-other, row-other}
 
 -- ---- ranks: the row of the objective is separate from the others
 
@@ -132,8 +135,7 @@ kinds-fill make h [] = refl
 kinds-fill make h (column ∷ columns) = slots-append (make column) (flat_map make columns) ∙ (λ i. h column i ++ kinds-fill make h columns i)
 
 sections-fill : (m : Listing) → all_slots (listed_declarations m) ≡ flat_map (λ (section : List Slot). section) (sections m)
-sections-fill = grind (arith, terms_declared, constant_declared, row_made, column_made, general_made, semi_made, slots-append, kinds-fill,
-    slots-flat, objective_made, append_assoc)
+sections-fill = grind (arith, terms_declared, constant_declared, row_made, column_made, general_made, semi_made, slots-append, kinds-fill, slots-flat, objective_made, append_assoc)
 
 -- No slot is filled twice, if rows and columns have different names, and no row has that of the objective.
 pub listed-once : (m : Listing) → AreOther m.columns → AreOther m.rows → Each (λ row. same_bytes row.0 m.objective ≡ false) m.rows → are_distinct same_slot (all_slots (listed_declarations m)) ≡ true

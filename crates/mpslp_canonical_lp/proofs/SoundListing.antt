@@ -1,7 +1,8 @@
 -- The listing of a well-formed model.
-use Rattle.mpslp_canonical_lp.proofs.Prelude.{◌≡◌, List, ◌∷◌, ℕ, Bool, true, not, Some, ◌&&◌, is_sorted, entries, entries_sorted, Number,
-  IsDecimal, is_decimal, is_zero, is_one_of, bytes_cmp, LinearModel, Column, CoefficientKey, key_cmp, is_sound_row, is_sound_column,
-  is_sound_coefficient, IsSound, Listing, listing_of, at_name, names_in, true_from, Each-both, Each-from_list_all, own-found}
+use Rattle.mpslp_canonical_lp.proofs.Prelude
+use Prelude.{◌≡◌, List, ◌∷◌, ℕ, Bool, true, not, Some, ◌&&◌, is_sorted, entries, entries_sorted, Number, IsDecimal, is_decimal, is_zero}
+use Prelude.{is_one_of, bytes_cmp, LinearModel, Column, CoefficientKey, key_cmp, is_sound_row, is_sound_column, is_sound_coefficient}
+use Prelude.{IsSound, Listing, listing_of, at_name, names_in, true_from, Each-both, Each-from_list_all, own-found}
 use Rattle.mpslp_types.proofs.EachLemmas.{Each}
 
 -- a decimal other than 0, of a row or the objective and of a column that exist

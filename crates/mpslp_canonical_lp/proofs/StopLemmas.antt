@@ -1,7 +1,8 @@
 -- What ends a token: a space ends each, a colon ends a name, and a minus is a token by itself unless `>` follows.
-use Rattle.mpslp_canonical_lp.proofs.Prelude.{rules, ◌≡◌, refl, ap, ℕ, List, [], ◌∷◌, ◌++◌, Bool, true, false, not, arith, Option, Some,
-  None, ◌&&◌, ◌||◌, ◌==◌, codes, list_all, list_any, second_so, nat_tests, eqb-true, is_digit, is_literal, is_letter, not_so, Each,
-  begins_word, continues_word, is_word, is_number, operator_kind, kind_of, TokenKind, begins-no_number}
+use Rattle.mpslp_canonical_lp.proofs.Prelude
+use Prelude.{rules, ◌≡◌, refl, ap, ℕ, List, [], ◌∷◌, ◌++◌, Bool, true, false, not, arith, Option, Some, None, ◌&&◌, ◌||◌, ◌==◌, codes}
+use Prelude.{list_all, list_any, second_so, nat_tests, eqb-true, is_digit, is_literal, is_letter, not_so, Each, begins_word, continues_word}
+use Prelude.{is_word, is_number, operator_kind, kind_of, TokenKind, begins-no_number}
 use Rattle.std.specs.List.{find}
 use Rattle.mpslp_canonical_lp.proofs.{LiteralBytes.{literal-each}, TokenLemmas.{StopsAt}}
 use Rattle.mpslp_lp_tokens.specs.declared.tokens.TokenKind.TheVariants as kinds

@@ -1,13 +1,15 @@
 -- The printed bounds and integer columns, and the end of the text.
-use Rattle.mpslp_canonical_lp.proofs.Prelude.{arith, ◌≡◌, refl, sym, ap, subst, ℕ, ◌+◌, List, [], ◌∷◌, ◌++◌, true, map, Option, None, ◌||◌,
-  codes, is_some, flat_map, append-nil, Column, Draft, Declarations, declare_column, declare_integer, bounds_declared, with_declarations,
-  declare_semi, refusals_in_turn, bounds_refusals, Limit, with_declarations-append, Each, Minus, TerminalAt, Opens, Name, Sign, phrases,
-  made_by, Finished, with_section, section_fault, Point, SectionsSeen, Place, InGenerals, InSemis, phrase_at, may_begin_section, Lines,
-  heading, under_heading, name_line, under_semi_heading}
-use Rattle.mpslp_canonical_lp.proofs.{LexemeLemmas.{IsGoodName}, PrintableLemmas.{IsFitColumn},
-  TerminalLemmas.{at, line_terminals_in, all_terminals},
-  PhraseLemmas.{Walks, walks-none, point_at, generals-section-walks, end-says, end-makes, semis-section-walks},
-  ObjectiveWalk.{number_after, terminals-append, parts-taken, parts-walk}}
+use Rattle.mpslp_canonical_lp.proofs.Prelude
+use Prelude.{arith, ◌≡◌, refl, sym, ap, subst, ℕ, ◌+◌, List, [], ◌∷◌, ◌++◌, true, map, Option, None, ◌||◌, codes, is_some, flat_map}
+use Prelude.{append-nil, Column, Draft, Declarations, declare_column, declare_integer, bounds_declared, with_declarations, declare_semi}
+use Prelude.{refusals_in_turn, bounds_refusals, Limit, with_declarations-append, Each, Minus, TerminalAt, Opens, Name, Sign, phrases}
+use Prelude.{made_by, Finished, with_section, section_fault, Point, SectionsSeen, Place, InGenerals, InSemis, phrase_at, may_begin_section}
+use Prelude.{Lines, heading, under_heading, name_line, under_semi_heading}
+use Rattle.mpslp_canonical_lp.proofs.{LexemeLemmas.{IsGoodName}, PrintableLemmas.{IsFitColumn}}
+use Rattle.mpslp_canonical_lp.proofs.TerminalLemmas.{at, line_terminals_in, all_terminals}
+use Rattle.mpslp_canonical_lp.proofs.PhraseLemmas.{Walks, walks-none, point_at, generals-section-walks, end-says, end-makes}
+use Rattle.mpslp_canonical_lp.proofs.PhraseLemmas.{semis-section-walks}
+use Rattle.mpslp_canonical_lp.proofs.ObjectiveWalk.{number_after, terminals-append, parts-taken, parts-walk}
 use Rattle.mpslp_lp_tokens.specs.declared.words.Section.TheVariants as sections
 use Rattle.mpslp_lp_tokens.specs.declared.words.SectionWord.TheVariants as section_words
 

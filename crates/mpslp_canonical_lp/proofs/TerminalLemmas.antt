@@ -1,8 +1,9 @@
 -- What the grammar sees of a printed line.
-use Rattle.mpslp_canonical_lp.proofs.Prelude.{arith, ◌≡◌, refl, ap, ℕ, ◌+◌, List, [], ◌∷◌, ◌++◌, Bool, true, false, map, codes,
-  if◌then◌else◌, flat_map, Decimal, IsDecimal, is_negative, size_of, zero_number, number_text, number-text, Each, class_of, SignOf, Plus,
-  Minus, Terminal, TerminalAt, word_terminal, value_of, Name, Sign, Compares, Colon, Infinity, Opens, apply_sign, AtMost, AtLeast, EqualTo,
-  Lexeme, PrintedLine, word, label, number, sign, sense, minus_infinity, semi_continuous, tokens_in, line_tokens}
+use Rattle.mpslp_canonical_lp.proofs.Prelude
+use Prelude.{arith, ◌≡◌, refl, ap, ℕ, ◌+◌, List, [], ◌∷◌, ◌++◌, Bool, true, false, map, codes, if◌then◌else◌, flat_map, Decimal, IsDecimal}
+use Prelude.{is_negative, size_of, zero_number, number_text, number-text, Each, class_of, SignOf, Plus, Minus, Terminal, TerminalAt}
+use Prelude.{word_terminal, value_of, Name, Sign, Compares, Colon, Infinity, Opens, apply_sign, AtMost, AtLeast, EqualTo, Lexeme}
+use Prelude.{PrintedLine, word, label, number, sign, sense, minus_infinity, semi_continuous, tokens_in, line_tokens}
 use Rattle.std.specs.Result.{result_unwrap_or}
 use Rattle.mpslp_lp_grammar.specs.Terminal.Terminal.{Number}
 use Rattle.mpslp_canonical_lp.proofs.{LineLemmas.{seen_at, IsPrintableLine}, LexemeLemmas.{IsPrintable}, TextLemmas.{terminals_from}}

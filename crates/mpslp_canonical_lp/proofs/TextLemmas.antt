@@ -1,10 +1,11 @@
 -- A text of printed lines consists of these lines, and its terminals are those of their pieces.
-use Rattle.mpslp_canonical_lp.proofs.Prelude.{◌≡◌, refl, List, [], ◌∷◌, ◌++◌, ℕ, ◌+◌, true, map, arith, is_none, list_all, enumerate_from,
-  nat_tests, both_so, Each, TerminalAt, lexical_fault, sound_terminals, PrintedLine, line_text, text_of, line_tokens, tokens_seen}
+use Rattle.mpslp_canonical_lp.proofs.Prelude
+use Prelude.{◌≡◌, refl, List, [], ◌∷◌, ◌++◌, ℕ, ◌+◌, true, map, arith, is_none, list_all, enumerate_from, nat_tests, both_so, Each}
+use Prelude.{TerminalAt, lexical_fault, sound_terminals, PrintedLine, line_text, text_of, line_tokens, tokens_seen}
 use Rattle.std.specs.Str.Lines.{lines}
 use Rattle.mpslp_lines.proofs.WrittenLineLemmas.{IsPlain, lines-with_line_feeds}
-use Rattle.mpslp_canonical_lp.proofs.{LexemeLemmas.{line-read},
-  LineLemmas.{is_plain, each-line_text, IsPrintableLine, line-faultless, line-terminals, seen_at}}
+use Rattle.mpslp_canonical_lp.proofs.LexemeLemmas.{line-read}
+use Rattle.mpslp_canonical_lp.proofs.LineLemmas.{is_plain, each-line_text, IsPrintableLine, line-faultless, line-terminals, seen_at}
 
 -- ---- printed lines
 

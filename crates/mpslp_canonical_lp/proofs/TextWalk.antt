@@ -1,17 +1,20 @@
 -- The whole canonical text: what it declares, if none of that is rejected.
-use Rattle.mpslp_canonical_lp.proofs.Prelude.{arith, ◌≡◌, refl, sym, ap, subst, ◌∙◌, ℕ, ◌+◌, List, [], ◌∷◌, ◌++◌, true, append_assoc, map,
-  Option, Some, None, codes, if◌then◌else◌, filter, flat_map, append-nil, Decimal, have_same_value, Row, Column, Listing, limit_of, Draft,
-  empty_draft, Declarations, with_declarations, refusals_in_turn, Limit, Finite, Each-filter, Each, TerminalAt, Opens, no_section_seen,
-  with_section, start, SectionsSeen, AtStart, BetweenRows, InBounds, InRow, fits_left, Relation, AtMost, AtLeast, EqualTo, Lines, Term,
-  under_heading, label_line, term_line, right_line, left_lines, last_line, minus_large, row_terms, row_lines, line_of_some, bound_lexemes,
-  bound_lines, is_integer_column, name_line, objective_section, bounds_section, generals_section, listed_lines, under_semi_heading,
-  is_semi_column, semis_section}
+use Rattle.mpslp_canonical_lp.proofs.Prelude
+use Prelude.{arith, ◌≡◌, refl, sym, ap, subst, ◌∙◌, ℕ, ◌+◌, List, [], ◌∷◌, ◌++◌, true, append_assoc, map, Option, Some, None, codes}
+use Prelude.{if◌then◌else◌, filter, flat_map, append-nil, Decimal, have_same_value, Row, Column, Listing, limit_of, Draft, empty_draft}
+use Prelude.{Declarations, with_declarations, refusals_in_turn, Limit, Finite, Each-filter, Each, TerminalAt, Opens, no_section_seen}
+use Prelude.{with_section, start, SectionsSeen, AtStart, BetweenRows, InBounds, InRow, fits_left, Relation, AtMost, AtLeast, EqualTo, Lines}
+use Prelude.{Term, under_heading, label_line, term_line, right_line, left_lines, last_line, minus_large, row_terms, row_lines, line_of_some}
+use Prelude.{bound_lexemes, bound_lines, is_integer_column, name_line, objective_section, bounds_section, generals_section, listed_lines}
+use Prelude.{under_semi_heading, is_semi_column, semis_section}
 use Rattle.mpslp_decimal.proofs.CutLemmas.{Each-weaker}
-use Rattle.mpslp_canonical_lp.proofs.{PrintableLemmas.{IsTerm, IsFitColumn, IsFit}, TerminalLemmas.{line_terminals_in, all_terminals, at},
-  PhraseLemmas.{Walks, walks-none, walks-then, point_at, ended_by, bounds-section-walks},
-  ObjectiveWalk.{number_after, terminals-append, parts-taken, parts-walk, in_rows, subject_heading, objective_made, objective-walk},
-  TailWalk.{EndsWith, walk-ends, general_made, generals-end, ending, semi_made}, BoundsWalk.{bound_made, column_made, bounds-walk},
-  RowWalk.{left_of, left_line, partial, AreNew, begin-walk, row-terms-walk, row-end-walk}}
+use Rattle.mpslp_canonical_lp.proofs.{PrintableLemmas.{IsTerm, IsFitColumn, IsFit}, TerminalLemmas.{line_terminals_in, all_terminals, at}}
+use Rattle.mpslp_canonical_lp.proofs.PhraseLemmas.{Walks, walks-none, walks-then, point_at, ended_by, bounds-section-walks}
+use Rattle.mpslp_canonical_lp.proofs.ObjectiveWalk.{number_after, terminals-append, parts-taken, parts-walk, in_rows, subject_heading}
+use Rattle.mpslp_canonical_lp.proofs.ObjectiveWalk.{objective_made, objective-walk}
+use Rattle.mpslp_canonical_lp.proofs.TailWalk.{EndsWith, walk-ends, general_made, generals-end, ending, semi_made}
+use Rattle.mpslp_canonical_lp.proofs.BoundsWalk.{bound_made, column_made, bounds-walk}
+use Rattle.mpslp_canonical_lp.proofs.RowWalk.{left_of, left_line, partial, AreNew, begin-walk, row-terms-walk, row-end-walk}
 use Rattle.mpslp_lp_tokens.specs.declared.words.Section.TheVariants as sections
 use Rattle.mpslp_lp_tokens.specs.declared.words.SectionWord.TheVariants as section_words
 

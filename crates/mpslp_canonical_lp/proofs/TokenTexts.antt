@@ -1,10 +1,11 @@
 -- The texts of names and of numbers are tokens.
-use Rattle.mpslp_canonical_lp.proofs.Prelude.{rules, ◌≡◌, refl, sym, subst, ℕ, ◌+◌, ◌-◌, ◌<◌, List, [], ◌∷◌, ◌++◌, Bool, true, false, not,
-  length, take, replicate, arith, append_assoc, ◌^◌, Some, ◌&&◌, ◌||◌, ◌==◌, ℤ, pos, negsuc, unsigned_abs, nat_lt, if◌then◌else◌, codes,
-  list_all, list_any, first_so, second_so, decimal, nat_tests, eqb-true, ltb-true, Number, IsDecimal, is_negative, is_digit, is_literal,
-  with_point, scaled_text, number_text, AreDigits, decimal-spells, zeros_are_digits, number-text, marker, same_bytes, is_letter, is_lp_byte,
-  is_like_exponent, is_reserved, begins_a_number, is_lp_name, both_so, not_so, nor, is_blank, begins_comment, begins_word, is_word, kind_of,
-  begins-no_number}
+use Rattle.mpslp_canonical_lp.proofs.Prelude
+use Prelude.{rules, ◌≡◌, refl, sym, subst, ℕ, ◌+◌, ◌-◌, ◌<◌, List, [], ◌∷◌, ◌++◌, Bool, true, false, not, length, take, replicate, arith}
+use Prelude.{append_assoc, ◌^◌, Some, ◌&&◌, ◌||◌, ◌==◌, ℤ, pos, negsuc, unsigned_abs, nat_lt, if◌then◌else◌, codes, list_all, list_any}
+use Prelude.{first_so, second_so, decimal, nat_tests, eqb-true, ltb-true, Number, IsDecimal, is_negative, is_digit, is_literal, with_point}
+use Prelude.{scaled_text, number_text, AreDigits, decimal-spells, zeros_are_digits, number-text, marker, same_bytes, is_letter, is_lp_byte}
+use Prelude.{is_like_exponent, is_reserved, begins_a_number, is_lp_name, both_so, not_so, nor, is_blank, begins_comment, begins_word}
+use Prelude.{is_word, kind_of, begins-no_number}
 use Rattle.mpslp_decimal.proofs.CutLemmas.{Each-append}
 use Rattle.mpslp_decimal.proofs.SpellsLemmas.{spells-from_number}
 use Rattle.mpslp_canonical_lp.proofs.TokenLemmas.{BeginsToken, IsToken}

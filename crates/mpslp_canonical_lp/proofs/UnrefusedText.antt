@@ -1,21 +1,24 @@
 -- Nothing that the canonical text of a well-formed model declares is rejected, and the declarations are consistent.
-use Rattle.mpslp_canonical_lp.proofs.Prelude.{arith, rules, ◌≡◌, refl, sym, ap, ◌∙◌, ℕ, ◌<◌, List, [], ◌∷◌, ◌++◌, Bool, true, false, not,
-  length, suc, map, Option, Some, None, is_some, ◌&&◌, ◌||◌, filter, if◌then◌else◌, list_all, list_any, flat_map, option_map_or, entries,
-  Number, have_same_value, same_bytes, bytes_cmp, is_one_of, limit_of, is_plus_infinite, is_minus_infinite, is_bounded_decimal, are_sides,
-  Kind, Limit, MinusInf, Finite, PlusInf, both_false, so_not, nor, Each-weaker, Each-filter, Each-all, list_all-from_Each, LinearModel,
-  Column, is_sound_row, is_sound_column, IsSound, Listing, listing_of, puts, Declaration, declare_marked, declare_integer, declare_binary,
-  declare_semi, bounds_declared, Declarations, Draft, empty_draft, with_declaration, with_declarations, at_name, has_name, names_in,
-  is_integer, is_semi, have_infinite_side, refusals_in_turn, is_allowed, has_objective_rhs, has_one_constant, AreConsistent, rhs_part,
-  rhs_values-all, has-put, same_name, consistent-from_none, none-from_fine_in_turn, limits_by, AtMost, AtLeast, EqualTo, row_terms,
-  is_integer_kind, is_semi_kind, is_integer_column, is_semi_column, unfit, own-found, row_sides, column_sides, lower_of, upper_of,
-  bounded_finite}
+use Rattle.mpslp_canonical_lp.proofs.Prelude
+use Prelude.{arith, rules, ◌≡◌, refl, sym, ap, ◌∙◌, ℕ, ◌<◌, List, [], ◌∷◌, ◌++◌, Bool, true, false, not, length, suc, map, Option, Some}
+use Prelude.{None, is_some, ◌&&◌, ◌||◌, filter, if◌then◌else◌, list_all, list_any, flat_map, option_map_or, entries, Number}
+use Prelude.{have_same_value, same_bytes, bytes_cmp, is_one_of, limit_of, is_plus_infinite, is_minus_infinite, is_bounded_decimal}
+use Prelude.{are_sides, Kind, Limit, MinusInf, Finite, PlusInf, both_false, so_not, nor, Each-weaker, Each-filter, Each-all}
+use Prelude.{list_all-from_Each, LinearModel, Column, is_sound_row, is_sound_column, IsSound, Listing, listing_of, puts, Declaration}
+use Prelude.{declare_marked, declare_integer, declare_binary, declare_semi, bounds_declared, Declarations, Draft, empty_draft}
+use Prelude.{with_declaration, with_declarations, at_name, has_name, names_in, is_integer, is_semi, have_infinite_side, refusals_in_turn}
+use Prelude.{is_allowed, has_objective_rhs, has_one_constant, AreConsistent, rhs_part, rhs_values-all, has-put, same_name}
+use Prelude.{consistent-from_none, none-from_fine_in_turn, limits_by, AtMost, AtLeast, EqualTo, row_terms, is_integer_kind, is_semi_kind}
+use Prelude.{is_integer_column, is_semi_column, unfit, own-found, row_sides, column_sides, lower_of, upper_of, bounded_finite}
 use Rattle.std.specs.Cmp.Lexicographic.{nat_list_eq_equiv}
 use Rattle.mpslp_types.proofs.EachLemmas.{Each}
 use Rattle.mpslp_builder.proofs.WellFormed.{fresh-from_once}
-use Rattle.mpslp_canonical_lp.proofs.{PrintableLemmas.{fit-from_sound}, PhraseLemmas.{column_and}, BoundsWalk.{bound_made, column_made},
-  TextWalk.{IsRow, listed_declarations}, CanonicalText.{IsPlainText}, SoundListing.{IsSoundListing, sound-listing}, ListedParts.{drafted},
-  RankedSlots.{AreOther, other-from_sorted}, NamedTerms.{plain-row}, KnownInTurn.{listed-known}, SlotsOfText.{listed-once},
-  ListedEach.{form_by, form_made, each-listed, each-of_kind, none-any, flat-none}}
+use Rattle.mpslp_canonical_lp.proofs.{PrintableLemmas.{fit-from_sound}, PhraseLemmas.{column_and}, BoundsWalk.{bound_made, column_made}}
+use Rattle.mpslp_canonical_lp.proofs.{TextWalk.{IsRow, listed_declarations}, CanonicalText.{IsPlainText}}
+use Rattle.mpslp_canonical_lp.proofs.{SoundListing.{IsSoundListing, sound-listing}, ListedParts.{drafted}}
+use Rattle.mpslp_canonical_lp.proofs.{RankedSlots.{AreOther, other-from_sorted}, NamedTerms.{plain-row}, KnownInTurn.{listed-known}}
+use Rattle.mpslp_canonical_lp.proofs.SlotsOfText.{listed-once}
+use Rattle.mpslp_canonical_lp.proofs.ListedEach.{form_by, form_made, each-listed, each-of_kind, none-any, flat-none}
 
 -- ---- bounds
 

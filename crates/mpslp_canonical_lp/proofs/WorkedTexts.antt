@@ -1,7 +1,8 @@
 -- The canonical LP texts of worked models, by computation: each text is that of the model, and declares it.
-use Rattle.mpslp_canonical_lp.proofs.Prelude.{◌≡◌, refl, ℕ, ℤ, pos, negsuc, Some, None, List, ◌∷◌, [], ◌++◌, codes, length, true, list_all,
-  Number, zero_number, CoefficientKey, Row, Column, Listing, Sense, Minimize, Maximize, Kind, Limit, MinusInf, Finite, PlusInf, empty_draft,
-  has_objective, model_of, refusals_in_turn, is_lp_text, declarations_of, draft_in, listed_lines, text_of, unfit, unfit_in}
+use Rattle.mpslp_canonical_lp.proofs.Prelude
+use Prelude.{◌≡◌, refl, ℕ, ℤ, pos, negsuc, Some, None, List, ◌∷◌, [], ◌++◌, codes, length, true, list_all, Number, zero_number}
+use Prelude.{CoefficientKey, Row, Column, Listing, Sense, Minimize, Maximize, Kind, Limit, MinusInf, Finite, PlusInf, empty_draft}
+use Prelude.{has_objective, model_of, refusals_in_turn, is_lp_text, declarations_of, draft_in, listed_lines, text_of, unfit, unfit_in}
 use Prim.Native.String.{String}
 use Rattle.std.specs.Fmt.{digits}
 use Rattle.mpslp_decimal.specs.Decimal.{trailing_zeros}

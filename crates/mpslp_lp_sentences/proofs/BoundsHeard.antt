@@ -1,42 +1,22 @@
 -- How the grammar reads bounds and lists of names.
-use Rattle.std.proofs.Common.{arith, ◌≡◌, refl, sym, subst, ◌∙◌, ℕ, List, [], ◌∷◌, ◌++◌, true, append_assoc}
-use Rattle.std.specs.Prelude.{Option, Some, None}
-use Rattle.std.specs.List.{flat_map}
-use Rattle.mpslp_types.specs.declared.kinds.Limit.{Limit}
-use Rattle.mpslp_builder.specs.Declaration.{Declaration, Declarations, Draft, declare_column, bounds_declared, with_declarations}
-use Rattle.mpslp_builder.specs.Refusal.{refusals_in_turn, bounds_refusals}
-use Rattle.mpslp_builder.proofs.MadeDrafts.{with_declarations-append}
-use Rattle.mpslp_lp_grammar.specs.Terminal.{Terminal}
-use Rattle.mpslp_lp_grammar.specs.Terminal.Terminal.{Name, Compares}
-use Rattle.mpslp_lp_grammar.specs.declared.sections_seen.SectionsSeen.{SectionsSeen}
-use Rattle.mpslp_lp_grammar.specs.declared.relations.Relation.{Relation}
-use Rattle.mpslp_lp_grammar.specs.declared.relations.Relation.TheVariants.{AtMost, AtLeast}
-use Rattle.mpslp_lp_grammar.specs.declared.states.Place.{Place}
-use Rattle.mpslp_lp_grammar.specs.declared.states.Place.TheVariants.{InBounds}
-use Rattle.mpslp_lp_grammar.specs.Phrase.{declares}
-use Rattle.mpslp_lp_grammar.specs.Items.{Limits, limits_by, flip}
-use Rattle.mpslp_lp_grammar.specs.Grammar.{may_begin_section, phrase_at}
-use Rattle.mpslp_canonical_lp.specs.PrintedDeclarations.{point_at}
-use Rattle.mpslp_canonical_lp.proofs.TerminalLemmas.{at}
-use Rattle.mpslp_canonical_lp.proofs.ObjectiveWalk.{parts-taken}
+use Rattle.mpslp_lp_sentences.proofs.Prelude.{arith, ◌≡◌, refl, sym, subst, ◌∙◌, ℕ, List, [], ◌∷◌, ◌++◌, true, append_assoc, Option, Some,
+  None, flat_map, Limit, Declaration, Declarations, Draft, declare_column, bounds_declared, with_declarations, refusals_in_turn,
+  bounds_refusals, with_declarations-append, Terminal, Name, Compares, SectionsSeen, Relation, AtMost, AtLeast, Place, InBounds, declares,
+  Limits, limits_by, flip, may_begin_section, phrase_at, point_at, at, parts-taken, Side, Bound, bounds_between, bounds_from_above,
+  side_tokens, bound_tokens, name_tokens, limit, bounds_by, turned, bound_declares, names_declare}
 use Rattle.mpslp_canonical_lp.proofs.TailWalk.{sides-taken}
-use Rattle.mpslp_lp_sentences.specs.Phrases.{Side, Bound}
-use Rattle.mpslp_lp_sentences.specs.Phrases.Side.{side}
-use Rattle.mpslp_lp_sentences.specs.Phrases.Bound.{bound, bounds_between, bounds_from_above}
-use Rattle.mpslp_lp_sentences.specs.Spelling.{side_tokens, bound_tokens, name_tokens}
-use Rattle.mpslp_lp_sentences.specs.Meaning.{limit, bounds_by, turned, bound_declares, names_declare}
-use Rattle.mpslp_lp_sentences.proofs.Whole.{Tokens, listened}
-use Rattle.mpslp_lp_sentences.proofs.Stamped.{stamped, ending, here, IsWhole, IsWholeAnywhere, whole-begins, hears-declares, whole-joined}
+use Rattle.mpslp_lp_sentences.proofs.{Whole.{Tokens, listened},
+  Stamped.{stamped, ending, here, IsWhole, IsWholeAnywhere, whole-begins, hears-declares, whole-joined}}
 
 -- what bounds of a column declare
 abbrev pub limits_declared : List ℕ → Limits → Declarations
 limits_declared column limits = bounds_declared column limits.lower limits.upper
 
 pub by-relation : (column : List ℕ) (relation : Relation) (value : Limit) → limits_declared column (limits_by relation value) ≡ bounds_by column relation value
-by-relation column relation value = grind arith
+by-relation = grind arith
 
 pub flipped : (relation : Relation) → flip relation ≡ turned relation
-flipped relation = grind arith
+flipped = grind arith
 
 -- the limits of a column that is declared with them
 abbrev Taken : Draft → List ℕ → Limits → Type 0
@@ -51,20 +31,20 @@ module _ (last : ℕ) (later : Tokens) where
       → IsWhole last later (point_at (InBounds (Some (column, relation))) sections_seen (with_declarations earlier (declare_column column ∷ limits_declared column (limits_by (flip relation) (limit part))))) xs made
       → IsWhole last later (point_at (InBounds left) sections_seen earlier) (side_tokens part ++ Compares relation ∷ Name column ∷ xs)
       ((declare_column column ∷ limits_declared column (limits_by (flip relation) (limit part))) ++ made)
-  whole-left left sections_seen earlier part relation column xs made taken rest = grind arith
+  whole-left = grind arith
 
   -- the second side of a column between two sides
   whole-second_most : (sections_seen : SectionsSeen) (earlier : Draft) (column : List ℕ) (part : Side) (xs : List Terminal) (made : Declarations)
       → bounds_refusals earlier column None (Some (limit part)) ≡ []
       → IsWhole last later (point_at (InBounds None) sections_seen (with_declarations earlier (bounds_declared column None (Some (limit part))))) xs made
       → IsWhole last later (point_at (InBounds (Some (column, AtMost))) sections_seen earlier) (Compares AtMost ∷ (side_tokens part ++ xs)) (bounds_declared column None (Some (limit part)) ++ made)
-  whole-second_most sections_seen earlier column part xs made taken rest = grind arith
+  whole-second_most = grind arith
 
   whole-second_least : (sections_seen : SectionsSeen) (earlier : Draft) (column : List ℕ) (part : Side) (xs : List Terminal) (made : Declarations)
       → bounds_refusals earlier column (Some (limit part)) None ≡ []
       → IsWhole last later (point_at (InBounds None) sections_seen (with_declarations earlier (bounds_declared column (Some (limit part)) None))) xs made
       → IsWhole last later (point_at (InBounds (Some (column, AtLeast))) sections_seen earlier) (Compares AtLeast ∷ (side_tokens part ++ xs)) (bounds_declared column (Some (limit part)) None ++ made)
-  whole-second_least sections_seen earlier column part xs made taken rest = grind arith
+  whole-second_least = grind arith
 
   -- after a bound
   abbrev After : SectionsSeen → Draft → List Terminal → Declarations → Type 0

@@ -1,61 +1,28 @@
 -- What was declared is shown by the tokens before, so that a bound, a constant or a kind of a column that was declared before
 -- is as `FaultsInWords` defines it.
-use Rattle.std.proofs.Common.{arith, rules, ◌≡◌, refl, ap, ◌∙◌, subst, ℕ, List, [], ◌∷◌, ◌++◌, Bool, true, false}
-use Rattle.std.specs.Prelude.{Option, Some, None, is_some, ◌||◌, ◌&&◌, not, unwrap_or, if◌then◌else◌}
-use Rattle.std.specs.List.{list_all, flat_map, cons_option}
-use Rattle.std.specs.Option.{option_map_or}
-use Rattle.std.specs.Cmp.{first_so, second_so}
-use Rattle.std.specs.FinMap.{put}
-use Rattle.std.proofs.lemmas.List.Folds.{list_all-append}
-use Rattle.mpslp_decimal.specs.Decimal.{Number as Decimal}
-use Rattle.mpslp_types.specs.Limit.{is_plus_infinite, is_minus_infinite}
-use Rattle.mpslp_types.specs.Name.{bytes_cmp}
-use Rattle.mpslp_types.specs.declared.faults.BuildFault.{BuildFault}
+use Rattle.mpslp_lp_sentences.proofs.Prelude.{arith, rules, ◌≡◌, refl, ap, ◌∙◌, subst, ℕ, List, [], ◌∷◌, ◌++◌, Bool, true, false, Option,
+  Some, None, is_some, ◌||◌, ◌&&◌, not, unwrap_or, if◌then◌else◌, list_all, flat_map, cons_option, option_map_or, first_so, second_so, put,
+  list_all-append, Decimal, is_plus_infinite, is_minus_infinite, bytes_cmp, BuildFault, FaultKind, Limit, Sense, both_so, or_left, or_right,
+  so_not, either, those_of, Declaration, Declarations, Draft, with_declaration, with_declarations, declare_constant, declare_rhs,
+  declare_column, declare_lower, declare_upper, declare_marked, declare_integer, declare_binary, declare_semi, bounds_declared, has_name,
+  has_column, is_integer, is_semi, has_constant, refusals_in_turn, itself_named, has-put, same_name, kind_of_build_fault, section_of,
+  Section, Objective, Bounds, Generals, Binaries, SemiContinuous, SectionWord, Context, Relation, SignOf, ItemOwner, OfObjective, OfRow,
+  Place, AtStart, BeforeItems, InObjective, BetweenRows, InBounds, InGenerals, InBinaries, InSemis, SideOwner, SideOfRow, SideOfBound,
+  State, Between, AtObjective, ObjectiveName, AtSemi, Signs, ItemNumber, RowLabel, BoundName, BoundLeftRelation, AtSide, SideSign,
+  AfterToken, Goes, Refuses, refuse, with_made, declare_unless_refused, take_after_declarations, declare_at, take_term, take_after_signs,
+  begin_item, take_bound, take_side, no_limits, open_section, begin_row, take_second_relation, begin_phrase, begin, one, Limits, limits_by,
+  flip, term_declared, objective_declared, default_objective, first_item_declared, row_limits, row_declared, PartialRow, start, has_seen,
+  is_out_of_order, Terminal, Opens, Name, Number, Sign, Compares, Colon, Infinity, Free, new_column, begin_after, take_lone, take,
+  IsInWords, is_section, current_section, is_under, is_named, collected, names_again, ends_in_number, ends_in_sign, may_follow_constant,
+  completes_constant, has_constant_before, repeats_constant, gives_lower, gives_upper, last_name, last_relation, column_before, after_sign,
+  completed, completes_bound, repeats_bound, names_integer, names_semi, changes_kind}
+use Rattle.mpslp_lp_sentences.proofs.{FaultedTokens.{in-words}, Refusals.{refuses, first-refused, terms-refuse},
+  RowShapes.{PlaceShape, RelatedTo, SideShape, SignedSideShape, NumberShape, Shape, Shaped, shaped-later},
+  SectionFaults.{section_at_place, section_of_item, section_of_side, section_at}, TokenCases.{signs-by, item-by, limit-by, listed-by,
+  lone-by, bound_name-by, bound_column-by, side-by, begin-by, objective-by, objective_name-by, item_number-by, semi-by}}
 use Rattle.mpslp_types.specs.declared.faults.BuildFault.TheVariants as builds
-use Rattle.mpslp_types.specs.declared.faults.FaultKind.{FaultKind}
 use Rattle.mpslp_types.specs.declared.faults.FaultKind.TheVariants as kinds
-use Rattle.mpslp_types.specs.declared.kinds.Limit.{Limit}
-use Rattle.mpslp_types.specs.declared.kinds.Sense.{Sense}
-use Rattle.mpslp_types.proofs.BoolLemmas.{both_so, or_left, or_right, so_not, either}
-use Rattle.mpslp_types.specs.Lists.{those_of}
-use Rattle.mpslp_builder.specs.Declaration.{Declaration, Declarations, Draft, with_declaration, with_declarations, declare_constant, declare_rhs, declare_column, declare_lower, declare_upper, declare_marked, declare_integer, declare_binary, declare_semi, bounds_declared, has_name, has_column, is_integer, is_semi}
-use Rattle.mpslp_builder.specs.Refusal.{has_constant, refusals_in_turn}
-use Rattle.mpslp_builder.proofs.LaterDrafts.{itself_named}
-use Rattle.mpslp_builder.proofs.SlotLemmas.{has-put, same_name}
-use Rattle.mpslp_lines.specs.FaultTests.{kind_of_build_fault}
-use Rattle.mpslp_lp_tokens.specs.Token.{section_of}
-use Rattle.mpslp_lp_tokens.specs.declared.words.Section.{Section}
-use Rattle.mpslp_lp_tokens.specs.declared.words.Section.TheVariants.{Objective, Bounds, Generals, Binaries, SemiContinuous}
-use Rattle.mpslp_lp_tokens.specs.declared.words.SectionWord.{SectionWord}
 use Rattle.mpslp_lp_tokens.specs.declared.words.SectionWord.TheVariants as words
-use Rattle.mpslp_lp_grammar.specs.declared.context.Context.{Context}
-use Rattle.mpslp_lp_grammar.specs.declared.relations.Relation.{Relation}
-use Rattle.mpslp_lp_grammar.specs.declared.signs.Sign.{Sign as SignOf}
-use Rattle.mpslp_lp_grammar.specs.declared.states.ItemOwner.{ItemOwner}
-use Rattle.mpslp_lp_grammar.specs.declared.states.ItemOwner.TheVariants.{OfObjective, OfRow}
-use Rattle.mpslp_lp_grammar.specs.declared.states.Place.{Place}
-use Rattle.mpslp_lp_grammar.specs.declared.states.Place.TheVariants.{AtStart, BeforeItems, InObjective, BetweenRows, InBounds, InGenerals, InBinaries, InSemis}
-use Rattle.mpslp_lp_grammar.specs.declared.states.SideOwner.{SideOwner}
-use Rattle.mpslp_lp_grammar.specs.declared.states.SideOwner.TheVariants.{SideOfRow, SideOfBound}
-use Rattle.mpslp_lp_grammar.specs.declared.states.State.{State}
-use Rattle.mpslp_lp_grammar.specs.declared.states.State.TheVariants.{Between, AtObjective, ObjectiveName, AtSemi, Signs, ItemNumber, RowLabel, BoundName, BoundLeftRelation, AtSide, SideSign}
-use Rattle.mpslp_lp_grammar.specs.AfterToken.{AfterToken, Goes, Refuses, refuse, with_made, declare_unless_refused, take_after_declarations, declare_at, take_term, take_after_signs, begin_item, take_bound, take_side}
-use Rattle.mpslp_lp_grammar.specs.Grammar.{no_limits}
-use Rattle.mpslp_lp_grammar.specs.FirstToken.{open_section, begin_row, take_second_relation, begin_phrase, begin}
-use Rattle.mpslp_lp_grammar.specs.Items.{one, infinity, Limits, limits_by, flip}
-use Rattle.mpslp_lp_grammar.specs.Rows.{term_declared, objective_declared, default_objective, first_item_declared, row_limits, row_declared}
-use Rattle.mpslp_lp_grammar.specs.PartialRow.{PartialRow}
-use Rattle.mpslp_lp_grammar.specs.Phrase.{start, has_seen, is_out_of_order}
-use Rattle.mpslp_lp_grammar.specs.Terminal.{Terminal}
-use Rattle.mpslp_lp_grammar.specs.Terminal.Terminal.{Opens, Name, Number, Sign, Compares, Colon, Infinity, Free}
-use Rattle.mpslp_lp_grammar.specs.TokenByToken.{new_column}
-use Rattle.mpslp_lp_grammar.specs.TokenStep.{begin_after, take_lone, take}
-use Rattle.mpslp_lp_sentences.specs.FaultsInWords.{IsInWords, is_section, current_section, is_under, is_named, collected, names_again, ends_in_number, ends_in_sign, may_follow_constant, completes_constant, has_constant_before, repeats_constant, gives_lower, gives_upper, last_name, last_relation, column_before, after_sign, completed, completes_bound, repeats_bound, names_integer, names_semi, changes_kind}
-use Rattle.mpslp_lp_sentences.proofs.FaultedTokens.{in-words}
-use Rattle.mpslp_lp_sentences.proofs.Refusals.{refuses, first-refused, terms-refuse}
-use Rattle.mpslp_lp_sentences.proofs.RowShapes.{PlaceShape, RelatedTo, SideShape, SignedSideShape, NumberShape, Shape, Shaped, shaped-later}
-use Rattle.mpslp_lp_sentences.proofs.SectionFaults.{section_at_place, section_of_item, section_of_side, section_at}
-use Rattle.mpslp_lp_sentences.proofs.TokenCases.{signs-by, item-by, limit-by, listed-by, lone-by, bound_name-by, bound_column-by, side-by, begin-by, objective-by, objective_name-by, item_number-by, semi-by}
 
 -- ---- what was declared is shown by the tokens
 
@@ -97,16 +64,18 @@ shown-one _ all earlier h k = grind arith
 
 shown-all : (ds : Declarations) (all : Draft) (earlier : List Terminal) → Shown earlier all → list_all (is_shown earlier) ds ≡ true → Shown earlier (with_declarations all ds)
 shown-all [] all earlier h k = h
-shown-all (d ∷ ds) all earlier h k = grind (arith, shown-one, shown-all ds (with_declaration all d) earlier (shown-one d all earlier h (first_so (is_shown earlier d) (list_all (is_shown earlier) ds) k)) (second_so (is_shown earlier d) (list_all (is_shown earlier) ds) k))
+shown-all (d ∷ ds) all earlier h k = grind (arith, shown-one, shown-all ds (with_declaration all d) earlier
+    (shown-one d all earlier h (first_so (is_shown earlier d) (list_all (is_shown earlier) ds) k))
+    (second_so (is_shown earlier d) (list_all (is_shown earlier) ds) k))
 
 -- ---- one token more
 
 named-more : (name : List ℕ) (new : Option (List ℕ)) (names : List (List ℕ)) → is_named name names ≡ true → is_named name (cons_option new names) ≡ true
-named-more name new names h = grind arith
+named-more = grind arith
 
 -- a name that the last token names
 named-now : (name : List ℕ) (new : Option (List ℕ)) (names : List (List ℕ)) → new ≡ Some name → is_named name (cons_option new names) ≡ true
-named-now name new names h = grind (arith, or_left, itself_named)
+named-now = grind (arith, or_left, itself_named)
 
 shown-later : (token : Terminal) (earlier : List Terminal) (all : Draft) → Shown earlier all → Shown (token ∷ earlier) all
 shown-later token earlier all h = record {
@@ -114,7 +83,7 @@ shown-later token earlier all h = record {
   uppers = λ name e. named-more name (completes_bound gives_upper earlier token) (collected (completes_bound gives_upper) earlier) (h.uppers name e);
   integers = λ name e. named-more name (names_integer earlier token) (collected names_integer earlier) (h.integers name e);
   semis = λ name e. named-more name (names_semi earlier token) (collected names_semi earlier) (h.semis name e);
-  constant = λ e. or_right (completes_constant earlier token) (has_constant_before earlier) (h.constant e);
+  constant = λ e. or_right _ _ (h.constant e);
   no_rhs = h.no_rhs;
 }
 
@@ -138,14 +107,14 @@ refused : (context : Context) (earlier : List Terminal) (token : Terminal) (kind
 refused context earlier (Opens word) kind h = by (has_seen context.sections_seen (section_of word)) (is_out_of_order context.sections_seen (section_of word))
   where
     by : (a b : Bool) → Says earlier (Opens word) (unwrap_or (if a then Some kinds.SectionRepeated else (if b then Some kinds.SectionOrder else None)) kind)
-    by a b = grind arith
+    by = grind arith
 refused context earlier _ kind h = h
 
 bad : (context : Context) (earlier : List Terminal) (all : Draft) (token : Terminal) → Steps earlier all token (refuse context token kinds.BadToken)
 bad context earlier all token n = grind arith
 
 branch : (earlier : List Terminal) (token : Terminal) (b : Bool) (x y : AfterToken) → KeepsShown earlier token x → KeepsShown earlier token y → KeepsShown earlier token (if b then x else y)
-branch earlier token b x y h k = grind arith
+branch = grind arith
 
 -- ---- declarations
 
@@ -157,7 +126,7 @@ record Refused (earlier : List Terminal) (token : Terminal) (all : Draft) (made 
 
 says-by : (earlier : List Terminal) (token : Terminal) (all : Draft) (made : Declarations) → Refused earlier token all made → (first : BuildFault) → refuses (kind_of_build_fault first) all made ≡ true
     → Says earlier token (kind_of_build_fault first)
-says-by earlier token all made h first k = grind arith
+says-by = grind arith
 
 declared : (context : Context) (earlier : List Terminal) (token : Terminal) (place : Place) (made : Declarations) → list_all (is_shown (token ∷ earlier)) made ≡ true → Refused earlier token context.earlier made
     → Steps earlier context.earlier token (declare_at context token place made)
@@ -208,7 +177,7 @@ record Completes (earlier : List Terminal) (token : Terminal) (column : List ℕ
 -- a name that an earlier token has named
 again : (naming : List Terminal → Terminal → Option (List ℕ)) (earlier : List Terminal) (token : Terminal) (column : List ℕ) → naming earlier token ≡ Some column → is_named column (collected naming earlier) ≡ true
     → names_again naming naming earlier token ≡ true
-again naming earlier token column h k = grind arith
+again = grind arith
 
 bounds-shown : (earlier : List Terminal) (token : Terminal) (column : List ℕ) (limits : Limits) → Completes earlier token column limits → list_all (is_shown (token ∷ earlier)) (bounds_declared column limits.lower limits.upper) ≡ true
 bounds-shown earlier token column limits h = search (rules, both_so, named-now)
@@ -227,17 +196,15 @@ bound context is_new column limits earlier token place shown h =
     fine false = refl
 
     one : (a b : Bool) → (a && b) ≡ true → (a ≡ true) × (b ≡ true)
-    one a b e = grind arith
+    one = grind arith
 
     repeated : ((is_some limits.lower && has_name context.earlier.lowers column) || (is_some limits.upper && has_name context.earlier.uppers column)) ≡ true → repeats_bound earlier token ≡ true
     repeated e =
         either (is_some limits.lower && has_name context.earlier.lowers column) (is_some limits.upper && has_name context.earlier.uppers column) (repeats_bound earlier token)
         (λ a. let parts = one (is_some limits.lower) (has_name context.earlier.lowers column) a in
-        or_left (names_again (completes_bound gives_lower) (completes_bound gives_lower) earlier token) (names_again (completes_bound gives_upper) (completes_bound gives_upper) earlier token)
-        (again (completes_bound gives_lower) earlier token column (h.lower parts.0) (shown.lowers column parts.1)))
+        or_left _ _ (again (completes_bound gives_lower) earlier token column (h.lower parts.0) (shown.lowers column parts.1)))
         (λ a. let parts = one (is_some limits.upper) (has_name context.earlier.uppers column) a in
-        or_right (names_again (completes_bound gives_lower) (completes_bound gives_lower) earlier token) (names_again (completes_bound gives_upper) (completes_bound gives_upper) earlier token)
-        (again (completes_bound gives_upper) earlier token column (h.upper parts.0) (shown.uppers column parts.1))) e
+        or_right _ _ (again (completes_bound gives_upper) earlier token column (h.upper parts.0) (shown.uppers column parts.1))) e
 
     twice : (b : Bool)
         → ((is_some limits.lower && has_name (with_declarations context.earlier (new_column b column)).lowers column)
@@ -254,32 +221,32 @@ bound context is_new column limits earlier token place shown h =
     by false false false k =
         shown-all (new_column is_new column ++ bounds_declared column limits.lower limits.upper) context.earlier (token ∷ earlier) (shown-later token earlier context.earlier shown)
         (list_all-append (is_shown (token ∷ earlier)) (new_column is_new column) (bounds_declared column limits.lower limits.upper)
-        ∙ both_so (list_all (is_shown (token ∷ earlier)) (new_column is_new column)) _ (fine is_new) (bounds-shown earlier token column limits h))
+        ∙ both_so _ _ (fine is_new) (bounds-shown earlier token column limits h))
 
 -- the relation of a bound gives the limits
 gives-lower : (relation : Relation) (l : Limit) → is_some (limits_by relation l).lower ≡ true → gives_lower relation ≡ true
-gives-lower relation l h = grind arith
+gives-lower = grind arith
 
 gives-upper : (relation : Relation) (l : Limit) → is_some (limits_by relation l).upper ≡ true → gives_upper relation ≡ true
-gives-upper relation l h = grind arith
+gives-upper = grind arith
 
 within : (gives : Relation → Bool) (earlier : List Terminal) (token : Terminal) (column : List ℕ) → current_section earlier ≡ Some Bounds → completed gives earlier token ≡ Some column → completes_bound gives earlier token ≡ Some column
-within gives earlier token column here h = grind arith
+within = grind arith
 
 free-completes : (earlier : List Terminal) (column : List ℕ) → current_section earlier ≡ Some Bounds → last_name earlier ≡ Some column → Completes earlier Free column no_limits
-free-completes earlier column here h = grind arith
+free-completes = grind arith
 
 name-completes : (earlier : List Terminal) (relation : Relation) (l : Limit) (column : List ℕ) → current_section earlier ≡ Some Bounds → last_relation earlier ≡ Some relation
     → Completes earlier (Name column) column (limits_by (flip relation) l)
-name-completes earlier relation l column here h = grind arith
+name-completes = grind arith
 
 -- a side without a sign, or with one
 side-completed : (gives : Relation → Bool) (earlier : List Terminal) (relation : Relation) (column : List ℕ) → RelatedTo column relation earlier → gives relation ≡ true → after_sign (column_before gives) earlier ≡ Some column
-side-completed gives earlier relation column h k = grind arith
+side-completed = grind arith
 
 signed-completed : (gives : Relation → Bool) (earlier : List Terminal) (is_new : Bool) (relation : Relation) (column : List ℕ) → SignedSideShape (SideOfBound is_new column relation) earlier → gives relation ≡ true
     → after_sign (column_before gives) earlier ≡ Some column
-signed-completed gives earlier is_new relation column h k = grind arith
+signed-completed = grind arith
 
 -- a number or an infinity
 abbrev IsValue : Terminal → Type 0
@@ -295,41 +262,44 @@ side-completes earlier token relation l column value here h = record {
 -- ---- names in Generals, Binaries and among the semi-continuous columns
 
 only : (b : Bool) → ((b || false) || false) ≡ true → b ≡ true
-only b h = grind arith
+only = grind arith
 
 integer-named : (earlier : List Terminal) (column : List ℕ) → (is_under Generals earlier || is_under Binaries earlier) ≡ true → names_integer earlier (Name column) ≡ Some column
-integer-named earlier column h = grind arith
+integer-named = grind arith
 
 semi-named : (earlier : List Terminal) (column : List ℕ) → (is_under SemiContinuous earlier && not (ends_in_sign earlier)) ≡ true → names_semi earlier (Name column) ≡ Some column
-semi-named earlier column h = grind arith
+semi-named = grind arith
 
 integer-refused : (earlier : List Terminal) (column : List ℕ) (all : Draft) (made : Declarations) → (is_under Generals earlier || is_under Binaries earlier) ≡ true → Shown earlier all → is_semi all column ≡ true
     → changes_kind earlier (Name column) ≡ true
-integer-refused earlier column all made under shown h = grind arith
+integer-refused = grind arith
 
 integers_listed : (context : Context) (earlier : List Terminal) → (is_under Generals earlier || is_under Binaries earlier) ≡ true → Shown earlier context.earlier → (column : List ℕ)
     → Steps earlier context.earlier (Name column) (declare_at context (Name column) InGenerals (declare_column column ∷ declare_integer column ∷ []))
 integers_listed context earlier under shown column n =
     declared context earlier (Name column) InGenerals (declare_column column ∷ declare_integer column ∷ [])
-    (both_so _ true (named-now column (names_integer earlier (Name column)) (collected names_integer earlier) (integer-named earlier column under)) refl)
+    (both_so _ _ (named-now column (names_integer earlier (Name column)) (collected names_integer earlier)
+    (integer-named earlier column under)) refl)
     (record { bound = λ e. absurd cc; semi = λ e. integer-refused earlier column context.earlier [] under shown (only (is_semi context.earlier column) e); rhs = λ e. absurd cc }) n
 
 binaries_listed : (context : Context) (earlier : List Terminal) → (is_under Generals earlier || is_under Binaries earlier) ≡ true → Shown earlier context.earlier → (column : List ℕ)
     → Steps earlier context.earlier (Name column) (declare_at context (Name column) InBinaries (declare_column column ∷ declare_binary column ∷ []))
 binaries_listed context earlier under shown column n =
     declared context earlier (Name column) InBinaries (declare_column column ∷ declare_binary column ∷ [])
-    (both_so _ true (named-now column (names_integer earlier (Name column)) (collected names_integer earlier) (integer-named earlier column under)) refl)
+    (both_so _ _ (named-now column (names_integer earlier (Name column)) (collected names_integer earlier)
+    (integer-named earlier column under)) refl)
     (record { bound = λ e. absurd cc; semi = λ e. integer-refused earlier column context.earlier [] under shown (only (is_semi context.earlier column) e); rhs = λ e. absurd cc }) n
 
 semis_listed : (context : Context) (earlier : List Terminal) → (is_under SemiContinuous earlier && not (ends_in_sign earlier)) ≡ true → Shown earlier context.earlier → (column : List ℕ)
     → Steps earlier context.earlier (Name column) (declare_at context (Name column) InSemis (declare_column column ∷ declare_semi column ∷ []))
 semis_listed context earlier under shown column n =
     declared context earlier (Name column) InSemis (declare_column column ∷ declare_semi column ∷ [])
-    (both_so _ true (named-now column (names_semi earlier (Name column)) (collected names_semi earlier) (semi-named earlier column under)) refl)
+    (both_so _ _ (named-now column (names_semi earlier (Name column)) (collected names_semi earlier) (semi-named earlier column under))
+    refl)
     (record {
       bound = λ e. absurd cc;
       semi = λ e.
-          or_right (names_again names_integer names_semi earlier (Name column)) (names_again names_semi names_integer earlier (Name column))
+          or_right _ _
           (ap (λ (o : Option (List ℕ)). option_map_or (λ c. is_named c (collected names_integer earlier)) o false) (semi-named earlier column under)
           ∙ shown.integers column (only (is_integer context.earlier column) e));
       rhs = λ e. absurd cc;
@@ -338,10 +308,10 @@ semis_listed context earlier under shown column n =
 -- ---- the constant
 
 constant-completes : (earlier : List Terminal) (token : Terminal) → current_section earlier ≡ Some Objective → ends_in_number earlier ≡ true → may_follow_constant token ≡ true → completes_constant earlier token ≡ true
-constant-completes earlier token here last may = grind arith
+constant-completes = grind arith
 
 constant-there : (earlier : List Terminal) (all : Draft) → Shown earlier all → has_constant all ≡ true → has_constant_before earlier ≡ true
-constant-there earlier all shown h = grind arith
+constant-there = grind arith
 
 -- ---- the first token of a phrase
 
@@ -349,13 +319,13 @@ opened : (context : Context) (earlier : List Terminal) (word : SectionWord) → 
 opened context earlier word n = grind arith
 
 signs : (context : Context) (owner : ItemOwner) (sign : SignOf) (earlier : List Terminal) (token : Terminal) → Steps earlier context.earlier token (take_after_signs context owner sign token)
-signs context owner sign earlier token = grind (arith, signs-by, bad, term)
+signs = grind (arith, signs-by, bad, term)
 
 item : (context : Context) (owner : ItemOwner) (earlier : List Terminal) (token : Terminal) → Steps earlier context.earlier token (begin_item context owner token)
-item context owner earlier token = grind (arith, item-by, bad, term)
+item = grind (arith, item-by, bad, term)
 
 row : (context : Context) (label : List ℕ) (earlier : List Terminal) (token : Terminal) → Steps earlier context.earlier token (begin_row context label token)
-row context label earlier token = grind arith
+row = grind arith
 
 second : (context : Context) (left : Option (List ℕ × Relation)) (earlier : List Terminal) (relation : Relation) → Steps earlier context.earlier (Compares relation) (take_second_relation context left relation (Compares relation))
 second context left earlier relation n = grind arith
@@ -378,11 +348,11 @@ phrase InBinaries context earlier h token =
 phrase InSemis context earlier h token =
     listed-by (Steps earlier context.earlier) context InSemis declare_semi (bad context earlier context.earlier)
     (semis_listed context earlier
-    (both_so (is_under SemiContinuous earlier) (not (ends_in_sign earlier)) (ap (λ (o : Option Section). option_map_or (is_section SemiContinuous) o false) h.0) (so_not (ends_in_sign earlier) h.2)) h.1) token
+    (both_so _ _ (ap (λ (o : Option Section). option_map_or (is_section SemiContinuous) o false) h.0) (so_not _ h.2)) h.1) token
 phrase _ context earlier h token = grind arith
 
 first : (place : Place) (context : Context) (earlier : List Terminal) → Listed place earlier context.earlier → (token : Terminal) → Steps earlier context.earlier token (begin place context token)
-first place context earlier h token = grind (arith, begin-by, branch, opened, bad, phrase)
+first = grind (arith, begin-by, branch, opened, bad, phrase)
 
 lone : (context : Context) (owner : ItemOwner) (value : Decimal) (earlier : List Terminal) → Shown earlier context.earlier → current_section earlier ≡ section_of_item owner → NumberShape owner earlier → (token : Terminal)
     → Steps earlier context.earlier token (take_lone context owner value token)
@@ -393,11 +363,11 @@ lone context (OfObjective objective) value earlier shown here last token =
     complete t may =
         let now = constant-completes earlier t here last may in
         declared-before context earlier t (declare_constant value ∷ []) (begin (InObjective objective) (with_made context (declare_constant value ∷ [])) t)
-        (both_so (has_constant_before (t ∷ earlier)) true (or_left (completes_constant earlier t) (has_constant_before earlier) now) refl)
+        (both_so _ _ (or_left _ _ now) refl)
         (record {
           bound = λ e. absurd cc;
           semi = λ e. absurd cc;
-          rhs = λ e. both_so (completes_constant earlier t) (has_constant_before earlier) now (constant-there earlier context.earlier shown (only (has_constant context.earlier) e));
+          rhs = λ e. both_so _ _ now (constant-there earlier context.earlier shown (only (has_constant context.earlier) e));
         })
         (first (InObjective objective) (with_made context (declare_constant value ∷ [])) earlier tt t)
 lone context (OfRow partial) value earlier shown here last token = grind arith
@@ -407,16 +377,16 @@ lone context (OfRow partial) value earlier shown here last token = grind arith
 -- the declarations at the start of the objective
 started : (context : Context) (earlier : List Terminal) (made : Declarations) (place : Place) → Listed place earlier (with_declarations context.earlier made) → (token : Terminal)
     → list_all (is_shown (token ∷ earlier)) made ≡ true → Refused earlier token context.earlier made → Steps earlier context.earlier token (begin_after context made place token)
-started context earlier made place h token shown refusal = grind (arith, declared-before, first)
+started = grind (arith, declared-before, first)
 
 nothing-refused : (earlier : List Terminal) (token : Terminal) (all : Draft) (sense : Sense) (label : List ℕ) → Refused earlier token all (objective_declared sense label)
-nothing-refused earlier token all sense label = grind arith
+nothing-refused = grind arith
 
 first-refused_none : (earlier : List Terminal) (token : Terminal) (all : Draft) (sense : Sense) (column : List ℕ) → Refused earlier token all (first_item_declared sense column)
-first-refused_none earlier token all sense column = grind arith
+first-refused_none = grind arith
 
 listed-at : (place : Place) (earlier : List Terminal) (all : Draft) → Shown earlier all → current_section earlier ≡ section_at_place place → PlaceShape place earlier → Listed place earlier all
-listed-at place earlier all shown here shape = grind arith
+listed-at = grind arith
 
 number-value : (value : Decimal) → IsValue (Number value)
 number-value value gives earlier = refl

@@ -1,64 +1,27 @@
 -- A second term of a column in a row or in the objective is as `FaultsInWords` defines it.
-use Rattle.std.proofs.Common.{arith, ◌≡◌, refl, ap, ◌∙◌, subst, ℕ, List, [], ◌∷◌, ◌++◌, append_assoc, Bool, true, false, rules}
-use Rattle.std.specs.Prelude.{Option, Some, None, is_some, ◌||◌, ◌&&◌, not, unwrap_or, if◌then◌else◌}
-use Rattle.std.specs.List.{list_any, flat_map}
-use Rattle.std.specs.Option.{option_map_or}
-use Rattle.std.proofs.lemmas.List.{append-nil}
-use Rattle.std.proofs.lemmas.List.Folds.{list_any-append}
-use Rattle.mpslp_decimal.specs.Decimal.{Number as Decimal}
-use Rattle.mpslp_types.specs.Limit.{limit_of, is_plus_infinite, is_minus_infinite}
-use Rattle.mpslp_types.specs.Name.{same_bytes}
-use Rattle.mpslp_types.specs.declared.faults.BuildFault.{BuildFault}
-use Rattle.mpslp_types.specs.declared.faults.BuildFault.TheVariants as builds
-use Rattle.mpslp_types.specs.declared.faults.FaultKind.{FaultKind}
-use Rattle.mpslp_types.specs.declared.faults.FaultKind.TheVariants as kinds
-use Rattle.mpslp_types.specs.declared.kinds.Limit.{Limit}
-use Rattle.mpslp_types.specs.declared.kinds.Sense.{Sense}
-use Rattle.mpslp_types.specs.declared.kinds.Limit.TheVariants.{MinusInf, PlusInf}
-use Rattle.mpslp_types.proofs.BoolLemmas.{or_left, or_right}
-use Rattle.mpslp_types.specs.Lists.{those_of}
-use Rattle.mpslp_builder.specs.Declaration.{RowDefinition, Declaration, Declarations, Draft, by_limits, empty_draft, with_declaration, with_declarations, declare_row, declare_column, declare_semi, bounds_declared, has_name, has_coefficient, has_column, has_row, is_objective, have_infinite_side}
-use Rattle.mpslp_builder.specs.Refusal.{refusals_in_turn}
-use Rattle.mpslp_builder.proofs.LaterDrafts.{itself_named}
-use Rattle.mpslp_builder.proofs.SlotLemmas.{has-put, has-put_key, same_name}
+use Rattle.mpslp_lp_sentences.proofs.Prelude.{arith, ◌≡◌, refl, ap, ◌∙◌, subst, ℕ, List, [], ◌∷◌, ◌++◌, append_assoc, Bool, true, false,
+  rules, Option, Some, None, is_some, ◌||◌, ◌&&◌, not, unwrap_or, if◌then◌else◌, list_any, flat_map, option_map_or, append-nil,
+  list_any-append, Decimal, limit_of, is_plus_infinite, is_minus_infinite, same_bytes, BuildFault, FaultKind, Limit, Sense, MinusInf,
+  PlusInf, or_left, or_right, those_of, RowDefinition, Declaration, Declarations, Draft, by_limits, empty_draft, with_declaration,
+  with_declarations, declare_row, declare_column, declare_semi, bounds_declared, has_name, has_coefficient, has_column, has_row,
+  have_infinite_side, refusals_in_turn, itself_named, has-put, has-put_key, same_name, kind_of_build_fault, section_of, Section, Objective,
+  Rows, SectionWord, Context, Relation, SignOf, ItemOwner, OfObjective, OfRow, Place, AtStart, BeforeItems, InObjective, BetweenRows, InRow,
+  InBounds, InSemis, SideOwner, SideOfRow, SideOfBound, State, Between, AtObjective, ObjectiveName, AtSemi, Signs, ItemNumber,
+  RowLeftRelation, BoundName, BoundLeftRelation, AtSide, SideSign, AfterEnd, AfterToken, Goes, Refuses, refuse, with_made,
+  declare_unless_refused, take_after_declarations, declare_at, take_term, take_after_signs, begin_item, take_bound, take_side, no_limits,
+  may_begin_section, open_section, begin_row, take_second_relation, name_taken, begin_phrase, begin, one, apply_sign, infinity, Limits,
+  limits_by, flip, term_declared, objective_declared, default_objective, first_item_declared, without_terms, row_limits, row_declared,
+  PartialRow, start, has_seen, is_out_of_order, Terminal, Opens, Name, Number, Sign, Compares, Colon, Infinity, Free, new_column, take_lone,
+  take, AreNew, IsInWords, is_section, current_section, is_under, is_named, last_name, ends_in_first_word, term_columns, repeats_entry}
+use Rattle.mpslp_builder.specs.Declaration.{is_objective}
 use Rattle.mpslp_model_core.specs.Model.{CoefficientKey}
-use Rattle.mpslp_lines.specs.FaultTests.{kind_of_build_fault}
-use Rattle.mpslp_lp_tokens.specs.Token.{section_of}
-use Rattle.mpslp_lp_tokens.specs.declared.words.Section.{Section}
-use Rattle.mpslp_lp_tokens.specs.declared.words.Section.TheVariants.{Objective, Rows}
-use Rattle.mpslp_lp_tokens.specs.declared.words.SectionWord.{SectionWord}
+use Rattle.mpslp_lp_sentences.proofs.{FaultedTokens.{in-words}, Refusals.{refuses, first-refused},
+  RowShapes.{PlaceShape, SignsShape, NumberShape, Shape, HasTerms}, RowNames.{ObjectiveAt}, RowNameFaults.{Known, known-later},
+  SectionFaults.{section_at_place, section_of_item, section_at}, TokenCases.{signs-by, item-by, limit-by, listed-by, bound_name-by,
+  bound_column-by, side-by, begin-by, objective-by, objective_name-by, item_number-by, semi-by}}
+use Rattle.mpslp_types.specs.declared.faults.BuildFault.TheVariants as builds
+use Rattle.mpslp_types.specs.declared.faults.FaultKind.TheVariants as kinds
 use Rattle.mpslp_lp_tokens.specs.declared.words.SectionWord.TheVariants as words
-use Rattle.mpslp_lp_grammar.specs.declared.context.Context.{Context}
-use Rattle.mpslp_lp_grammar.specs.declared.relations.Relation.{Relation}
-use Rattle.mpslp_lp_grammar.specs.declared.signs.Sign.{Sign as SignOf}
-use Rattle.mpslp_lp_grammar.specs.declared.states.ItemOwner.{ItemOwner}
-use Rattle.mpslp_lp_grammar.specs.declared.states.ItemOwner.TheVariants.{OfObjective, OfRow}
-use Rattle.mpslp_lp_grammar.specs.declared.states.Place.{Place}
-use Rattle.mpslp_lp_grammar.specs.declared.states.Place.TheVariants.{AtStart, BeforeItems, InObjective, BetweenRows, InRow, InBounds, InSemis}
-use Rattle.mpslp_lp_grammar.specs.declared.states.SideOwner.{SideOwner}
-use Rattle.mpslp_lp_grammar.specs.declared.states.SideOwner.TheVariants.{SideOfRow, SideOfBound}
-use Rattle.mpslp_lp_grammar.specs.declared.states.State.{State}
-use Rattle.mpslp_lp_grammar.specs.declared.states.State.TheVariants.{Between, AtObjective, ObjectiveName, AtSemi, Signs, ItemNumber, RowLeftRelation, BoundName, BoundLeftRelation, AtSide, SideSign, AfterEnd}
-use Rattle.mpslp_lp_grammar.specs.AfterToken.{AfterToken, Goes, Refuses, refuse, with_made, declare_unless_refused, take_after_declarations, declare_at, take_term, take_after_signs, begin_item, take_bound, take_side}
-use Rattle.mpslp_lp_grammar.specs.Grammar.{no_limits, may_begin_section}
-use Rattle.mpslp_lp_grammar.specs.FirstToken.{open_section, begin_row, take_second_relation, name_taken, begin_phrase, begin}
-use Rattle.mpslp_lp_grammar.specs.Items.{one, apply_sign, infinity, Limits, limits_by, flip}
-use Rattle.mpslp_lp_grammar.specs.Rows.{term_declared, objective_declared, default_objective, first_item_declared, without_terms, row_limits, row_declared}
-use Rattle.mpslp_lp_grammar.specs.PartialRow.{PartialRow}
-use Rattle.mpslp_lp_grammar.specs.Phrase.{start, has_seen, is_out_of_order}
-use Rattle.mpslp_lp_grammar.specs.Terminal.{Terminal}
-use Rattle.mpslp_lp_grammar.specs.Terminal.Terminal.{Opens, Name, Number, Sign, Compares, Colon, Infinity, Free}
-use Rattle.mpslp_lp_grammar.specs.TokenByToken.{new_column}
-use Rattle.mpslp_lp_grammar.specs.TokenStep.{take_lone, take}
-use Rattle.mpslp_canonical_lp.specs.PrintedDeclarations.{AreNew}
-use Rattle.mpslp_lp_sentences.specs.FaultsInWords.{IsInWords, is_section, current_section, is_under, is_named, last_name, ends_in_first_word, term_columns, repeats_entry}
-use Rattle.mpslp_lp_sentences.proofs.FaultedTokens.{in-words}
-use Rattle.mpslp_lp_sentences.proofs.Refusals.{refuses, first-refused}
-use Rattle.mpslp_lp_sentences.proofs.RowShapes.{PlaceShape, SignsShape, NumberShape, Shape, HasTerms}
-use Rattle.mpslp_lp_sentences.proofs.RowNames.{ObjectiveAt}
-use Rattle.mpslp_lp_sentences.proofs.RowNameFaults.{Known, known-later}
-use Rattle.mpslp_lp_sentences.proofs.SectionFaults.{section_at_place, section_of_item, section_at}
-use Rattle.mpslp_lp_sentences.proofs.TokenCases.{signs-by, item-by, limit-by, listed-by, bound_name-by, bound_column-by, side-by, begin-by, objective-by, objective_name-by, item_number-by, semi-by}
 
 abbrev Tokens : Type 0
 Tokens = List Terminal
@@ -117,21 +80,21 @@ refused : (context : Context) (earlier : Tokens) (token : Terminal) (kind : Faul
 refused context earlier (Opens word) kind h = by (has_seen context.sections_seen (section_of word)) (is_out_of_order context.sections_seen (section_of word))
   where
     by : (a b : Bool) → Says earlier (Opens word) (unwrap_or (if a then Some kinds.SectionRepeated else (if b then Some kinds.SectionOrder else None)) kind)
-    by a b = grind arith
+    by = grind arith
 refused context earlier _ kind h = h
 
 bad : (context : Context) (earlier : Tokens) (token : Terminal) → KeepsEntries earlier token (refuse context token kinds.BadToken)
-bad context earlier token = grind arith
+bad = grind arith
 
 branch : (earlier : Tokens) (token : Terminal) (b : Bool) (x y : AfterToken) → (b ≡ true → KeepsEntries earlier token x) → (b ≡ false → KeepsEntries earlier token y) → KeepsEntries earlier token (if b then x else y)
-branch earlier token b x y h k = grind arith
+branch = grind arith
 
-never : (b : Bool) {X : Type 0} → b ≡ false → b ≡ true → X
-never b e k = grind arith
+never : {b : Bool} {X : Type 0} → b ≡ false → b ≡ true → X
+never e k = grind arith
 
 says-by : (earlier : Tokens) (token : Terminal) (all : Draft) (made : Declarations) → (refuses kinds.DuplicateEntry all made ≡ true → repeats_entry earlier token ≡ true) → (first : BuildFault)
     → refuses (kind_of_build_fault first) all made ≡ true → Says earlier token (kind_of_build_fault first)
-says-by earlier token all made h first k = grind arith
+says-by = grind arith
 
 -- ---- declarations
 
@@ -152,7 +115,7 @@ declared-before context earlier token made next unrefused h = by (refusals_in_tu
     by [] e = h
     by (first ∷ more) e =
         refused context earlier token (kind_of_build_fault first)
-        (says-by earlier token context.earlier made (λ k. never (refuses kinds.DuplicateEntry context.earlier made) unrefused k) first (first-refused made context.earlier first more e))
+        (says-by earlier token context.earlier made (λ k. never unrefused k) first (first-refused made context.earlier first more e))
 
 bound : (context : Context) (is_new : Bool) (column : List ℕ) (limits : Limits) (earlier : Tokens) (token : Terminal) (left : Option (List ℕ × Relation)) → AreKnown context.earlier
     → KeepsEntries earlier token (take_bound context (new_column is_new column) column limits token (InBounds left))
@@ -163,13 +126,10 @@ bound context is_new column limits earlier token left known =
     front : Draft
     front = with_declarations context.earlier (new_column is_new column)
 
-    same : (b : Bool) (l u : Option Limit) → AreKnown (with_declarations context.earlier (new_column b column ++ bounds_declared column l u))
-    same b l u = grind arith
-
     by : (a b c : Bool)
         → KeepsEntries earlier token (declare_unless_refused context token (those_of ((a, builds.UnknownColumn) ∷ (b, builds.DuplicateBound) ∷ (c, builds.InfiniteValue) ∷ [])) (InBounds left)
         (new_column is_new column ++ bounds_declared column limits.lower limits.upper))
-    by a b c = grind arith
+    by = grind arith
 
 -- ---- terms
 
@@ -193,10 +153,10 @@ terms-unrefused name (term ∷ terms) seen all new known =
     (terms-unrefused name terms (seen ++ term ∷ []) (with_declarations all (term_declared name term)) new.1 further)
   where
     none : (b : Bool) → has_coefficient all (key name term.0) ≡ b → (rest : Bool) → rest ≡ false → ((b || false) || rest) ≡ false
-    none b e rest r = grind arith
+    none = grind arith
 
     further : (column : List ℕ) → has_coefficient (with_declarations all (term_declared name term)) (key name column) ≡ true → list_any (λ (t : Pair). same_bytes column t.0) (seen ++ term ∷ []) ≡ true
-    further column h = grind (arith, list_any-append, has-put_key, or_right, or_left)
+    further = grind (arith, list_any-append, has-put_key, or_right, or_left)
 
 row_ended : (context : Context) (row : PartialRow) (relation : Relation) (l : Limit) (earlier : Tokens) (token : Terminal) → AreKnown context.earlier → AreNew [] row.terms
     → KeepsEntries earlier token (take_side context (SideOfRow row relation) l token)
@@ -217,19 +177,19 @@ row_ended context row relation l earlier token known new = by (has_row context.e
     after e (first ∷ more) k =
         refused context earlier token (kind_of_build_fault first)
         (says-by earlier token all (flat_map (term_declared row.name) row.terms)
-        (λ m. never (refuses kinds.DuplicateEntry all (flat_map (term_declared row.name) row.terms))
-        (terms-unrefused row.name row.terms [] all new (λ column n. never (has_row context.earlier row.name) e (known (key row.name column) n))) m) first
+        (λ m. never
+        (terms-unrefused row.name row.terms [] all new (λ column n. never e (known (key row.name column) n))) m) first
         (first-refused (flat_map (term_declared row.name) row.terms) all first more k))
 
     by : (b : Bool) → has_row context.earlier row.name ≡ b → (c : Bool)
         → KeepsEntries earlier token (declare_unless_refused context token (those_of ((b, builds.DuplicateRow) ∷ (c, builds.InfiniteValue) ∷ []) ++ refusals_in_turn all (flat_map (term_declared row.name) row.terms)) BetweenRows
         (row_declared row (row_limits row.left relation l)))
-    by b e c = grind (arith, refused, after, all)
+    by = grind (arith, refused, after, all)
 
 -- ---- items
 
 objective-no_word : (earlier : Tokens) → current_section earlier ≡ Some Objective → ends_in_first_word earlier ≡ false
-objective-no_word earlier h = grind arith
+objective-no_word = grind arith
 
 new-more : (terms seen : List Pair) (column : List ℕ) (value : Decimal) → AreNew seen terms → list_any (λ (t : Pair). same_bytes column t.0) (seen ++ terms) ≡ false → AreNew seen (terms ++ (column, value) ∷ [])
 new-more [] seen column value new h = grind (arith, append-nil)
@@ -241,10 +201,10 @@ Owned (OfObjective name) earlier all = ObjectiveEntries name earlier all × (cur
 Owned (OfRow row) earlier all = AreNew [] row.terms × HasTerms row.terms earlier × (current_section earlier ≡ Some Rows)
 
 repeats : (earlier : Tokens) (column : List ℕ) → (is_under Objective earlier || is_under Rows earlier) ≡ true → is_named column (term_columns earlier) ≡ true → repeats_entry earlier (Name column) ≡ true
-repeats earlier column under h = grind arith
+repeats = grind arith
 
 under-owner : (section : Section) → (is_section Objective section || is_section Rows section) ≡ true → (earlier : Tokens) → current_section earlier ≡ Some section → (is_under Objective earlier || is_under Rows earlier) ≡ true
-under-owner section h earlier here = grind arith
+under-owner = grind arith
 
 term : (context : Context) (owner : ItemOwner) (column : List ℕ) (value : Decimal) (earlier : Tokens) → AreKnown context.earlier → Owned owner earlier context.earlier
     → KeepsEntries earlier (Name column) (take_term context owner column value (Name column))
@@ -256,20 +216,20 @@ term context (OfRow row) column value earlier known h =
     (λ e. (known, new-more row.terms [] column value h.0 e))
 
 owner-signed : (owner : ItemOwner) (sign : SignOf) (earlier : Tokens) (all : Draft) → OwnerEntries owner earlier all → OwnerEntries owner (Sign sign ∷ earlier) all
-owner-signed owner sign earlier all h = grind arith
+owner-signed = grind arith
 
 owner-numbered : (owner : ItemOwner) (value : Decimal) (earlier : Tokens) (all : Draft) → OwnerEntries owner earlier all → OwnerEntries owner (Number value ∷ earlier) all
-owner-numbered owner value earlier all h = grind arith
+owner-numbered = grind arith
 
 owner-entries : (owner : ItemOwner) (earlier : Tokens) (all : Draft) → Owned owner earlier all → OwnerEntries owner earlier all
-owner-entries owner earlier all h = grind arith
+owner-entries = grind arith
 
 signs : (context : Context) (owner : ItemOwner) (sign : SignOf) (earlier : Tokens) → AreKnown context.earlier → Owned owner earlier context.earlier → (token : Terminal)
     → KeepsEntries earlier token (take_after_signs context owner sign token)
-signs context owner sign earlier known h token = grind (arith, owner-entries, signs-by, bad, owner-signed, term, owner-numbered)
+signs = grind (arith, owner-entries, signs-by, bad, owner-signed, term, owner-numbered)
 
 item : (context : Context) (owner : ItemOwner) (earlier : Tokens) → AreKnown context.earlier → Owned owner earlier context.earlier → (token : Terminal) → KeepsEntries earlier token (begin_item context owner token)
-item context owner earlier known h token = grind (arith, owner-entries, item-by, bad, owner-signed, term, owner-numbered)
+item = grind (arith, owner-entries, item-by, bad, owner-signed, term, owner-numbered)
 
 -- a row without terms
 no_terms : (label : List ℕ) (earlier : Tokens) (all : Draft) → current_section earlier ≡ Some Rows → Owned (OfRow (without_terms label None)) earlier all
@@ -278,13 +238,13 @@ no_terms label earlier all here = (tt, λ column e. absurd cc, here)
 -- ---- the first token of a phrase
 
 opened : (context : Context) (earlier : Tokens) (word : SectionWord) → AreKnown context.earlier → KeepsEntries earlier (Opens word) (open_section context word)
-opened context earlier word known = grind arith
+opened = grind arith
 
 row : (context : Context) (label : List ℕ) (earlier : Tokens) → AreKnown context.earlier → current_section earlier ≡ Some Rows → (token : Terminal) → KeepsEntries earlier token (begin_row context label token)
-row context label earlier known here token = grind arith
+row = grind arith
 
 second : (context : Context) (left : Option (List ℕ × Relation)) (earlier : Tokens) → AreKnown context.earlier → (relation : Relation) → KeepsEntries earlier (Compares relation) (take_second_relation context left relation (Compares relation))
-second context left earlier known relation = grind arith
+second = grind arith
 
 listed : (place : Place) (kind_declared : List ℕ → Declaration) (context : Context) (earlier : Tokens) → AreKnown context.earlier
     → ((column : List ℕ) → refuses kinds.DuplicateEntry context.earlier (declare_column column ∷ kind_declared column ∷ []) ≡ false)
@@ -294,7 +254,7 @@ listed : (place : Place) (kind_declared : List ℕ → Declaration) (context : C
 listed place kind_declared context earlier known none same entries token =
     listed-by (KeepsEntries earlier) context place kind_declared (bad context earlier)
     (λ column. declared context earlier (Name column) place (declare_column column ∷ kind_declared column ∷ [])
-    (λ e. never (refuses kinds.DuplicateEntry context.earlier (declare_column column ∷ kind_declared column ∷ [])) (none column) e) (same column) (entries column)) token
+    (λ e. never (none column) e) (same column) (entries column)) token
 
 phrase : (place : Place) (context : Context) (earlier : Tokens) → AreKnown context.earlier → PlaceEntries place earlier context.earlier → PlaceShape place earlier → current_section earlier ≡ section_at_place place → (token : Terminal)
     → KeepsEntries earlier token (begin_phrase place context token)
@@ -317,7 +277,7 @@ lone context owner value earlier known h here token = grind arith
 -- ---- the objective
 
 none-there : (all : Draft) → all ≡ empty_draft → (k : CoefficientKey) → has_coefficient all k ≡ false
-none-there all none k = grind arith
+none-there = grind arith
 
 first_objective : (context : Context) (sense : Sense) (earlier : Tokens) → AreKnown context.earlier → context.earlier ≡ empty_draft → current_section earlier ≡ Some Objective → (token : Terminal)
     → KeepsEntries earlier token (take context (AtObjective sense) token)
@@ -325,34 +285,35 @@ first_objective context sense earlier known none here token =
     objective-by (KeepsEntries earlier) context sense (λ label. (known, tt))
     (λ t. declared-before context earlier t (objective_declared sense default_objective) (begin (BeforeItems default_objective) (with_made context (objective_declared sense default_objective)) t)
     (ap (λ (d : Draft). refuses kinds.DuplicateEntry d (objective_declared sense default_objective)) none)
-    (first (BeforeItems default_objective) (with_made context (objective_declared sense default_objective)) earlier (λ k e. never (has_coefficient context.earlier k) (none-there context.earlier none k) e)
-    (record { named = itself_named default_objective; columns = λ column e. never (has_coefficient context.earlier (key default_objective column)) (none-there context.earlier none (key default_objective column)) e }) tt here t)) token
+    (first (BeforeItems default_objective) (with_made context (objective_declared sense default_objective)) earlier
+    (λ k e. never (none-there context.earlier none k) e)
+    (record { named = itself_named default_objective; columns = λ column e. never
+    (none-there context.earlier none (key default_objective column)) e }) tt here t)) token
 
 named_objective : (context : Context) (sense : Sense) (label : List ℕ) (earlier : Tokens) → context.earlier ≡ empty_draft → last_name earlier ≡ Some label → current_section earlier ≡ Some Objective → (token : Terminal)
     → KeepsEntries earlier token (take context (ObjectiveName sense label) token)
 named_objective context sense label earlier none last here token =
     objective_name-by (KeepsEntries earlier) context sense label
     (declared context earlier Colon (BeforeItems label) (objective_declared sense label)
-    (λ e. never (refuses kinds.DuplicateEntry context.earlier (objective_declared sense label)) (ap (λ (d : Draft). refuses kinds.DuplicateEntry d (objective_declared sense label)) none) e)
-    (λ k e. never (has_coefficient context.earlier k) (none-there context.earlier none k) e)
-    (record { named = itself_named label; columns = λ column e. never (has_coefficient context.earlier (key label column)) (none-there context.earlier none (key label column)) e }))
+    (λ e. never (ap (λ (d : Draft). refuses kinds.DuplicateEntry d (objective_declared sense label)) none) e)
+    (λ k e. never (none-there context.earlier none k) e)
+    (record { named = itself_named label; columns = λ column e. never (none-there context.earlier none (key label column)) e }))
     (λ t. declared-before context earlier t (first_item_declared sense label) (begin (InObjective default_objective) (with_made context (first_item_declared sense label)) t)
     (ap (λ (d : Draft). refuses kinds.DuplicateEntry d (first_item_declared sense label)) none)
     (first (InObjective default_objective) (with_made context (first_item_declared sense label)) earlier known entries tt here t)) token
   where
-    front : Draft
-    front = grind arith
-
     known : AreKnown (with_declarations context.earlier (first_item_declared sense label))
     known =
-        known-more (with_declarations context.earlier (objective_declared sense default_objective)) default_objective label one (λ k e. never (has_coefficient context.earlier k) (none-there context.earlier none k) e)
-        (or_left (same_bytes default_objective default_objective) (has_name context.earlier.rows default_objective) (itself_named default_objective))
+        known-more (with_declarations context.earlier (objective_declared sense default_objective)) default_objective label one
+        (λ k e. never (none-there context.earlier none k) e)
+        (or_left (same_bytes default_objective default_objective) (has_name context.earlier.rows default_objective)
+        (itself_named default_objective))
 
     last_of : (a b : Bool) → (a && b) ≡ true → b ≡ true
-    last_of a b e = grind arith
+    last_of = grind arith
 
     columns : (column : List ℕ) → has_coefficient (with_declarations context.earlier (first_item_declared sense label)) (key default_objective column) ≡ true → is_named column (term_columns earlier) ≡ true
-    columns column e = grind (arith, has-put_key, same_name, last_of, never, none-there)
+    columns = grind (arith, has-put_key, same_name, last_of, never, none-there)
 
     entries : ObjectiveEntries default_objective earlier (with_declarations context.earlier (first_item_declared sense label))
     entries = grind (arith, itself_named, columns)
@@ -360,10 +321,10 @@ named_objective context sense label earlier none last here token =
 -- ---- each state
 
 owned : (owner : ItemOwner) (earlier : Tokens) (all : Draft) → OwnerEntries owner earlier all → SignsShape owner earlier → current_section earlier ≡ section_of_item owner → Owned owner earlier all
-owned owner earlier all h shape here = grind arith
+owned = grind arith
 
 owned-number : (owner : ItemOwner) (earlier : Tokens) (all : Draft) → OwnerEntries owner earlier all → NumberShape owner earlier → current_section earlier ≡ section_of_item owner → Owned owner earlier all
-owned-number owner earlier all h shape here = grind arith
+owned-number = grind arith
 
 side : (context : Context) (sided : SideOwner) (l : Limit) (earlier : Tokens) (token : Terminal) → AreKnown context.earlier → SideEntries sided → KeepsEntries earlier token (take_side context sided l token)
 side context (SideOfRow row relation) l earlier token known h = row_ended context row relation l earlier token known h
@@ -401,7 +362,7 @@ none-entered : Entered [] start.context (Between AtStart)
 none-entered = grind arith
 
 taken : (earlier : Tokens) (context : Context) (state : State) (token : Terminal) → Entered earlier context state → KeepsEntries earlier token (take context state token)
-taken earlier context state token h = grind (arith, step, opened)
+taken = grind (arith, step, opened)
 
 entered-later : (earlier : Tokens) (context : Context) (state : State) (token : Terminal) (after : Context) (next : State) → Entered earlier context state → take context state token ≡ Goes after next → Entered (token ∷ earlier) after next
 entered-later earlier context state token after next h e =
@@ -409,7 +370,7 @@ entered-later earlier context state token after next h e =
     record { rows = known-later earlier context state token after next h.rows e; known = parts.0; entries = parts.1 }
 
 repeated : (earlier : Tokens) (context : Context) (state : State) (token : Terminal) → Entered earlier context state → take context state token ≡ Refuses kinds.DuplicateEntry → repeats_entry earlier token ≡ true
-repeated earlier context state token h e = grind (arith, taken)
+repeated = grind (arith, taken)
 
 pub duplicate-entry : IsInWords kinds.DuplicateEntry repeats_entry
 duplicate-entry = in-words kinds.DuplicateEntry repeats_entry Entered (record { at_start = none-entered; goes = entered-later; refuses = repeated }) refl refl

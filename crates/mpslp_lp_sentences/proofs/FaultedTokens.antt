@@ -1,33 +1,13 @@
 -- The first token of a text with an error of the grammar: what is known before each token is known before this one.
-use Rattle.std.proofs.Common.{◌≡◌, refl, sym, ap, ◌∙◌, subst, List, [], ◌∷◌, ◌++◌, append_assoc, ℕ, suc, ◌+◌, ◌-◌, ◌^◌, Bool, true, false, reverse, arith}
-use Rattle.std.specs.Prelude.{Option, Some, None, is_none, min, length}
-use Rattle.std.specs.List.{list_all, flat_map, enumerate_from}
-use Rattle.std.specs.Str.Lines.{lines}
-use Rattle.std.proofs.lemmas.List.{append-nil, reverse-append}
+use Rattle.mpslp_lp_sentences.proofs.Prelude.{◌≡◌, refl, sym, ap, ◌∙◌, subst, List, [], ◌∷◌, ◌++◌, append_assoc, ℕ, suc, ◌+◌, ◌-◌, ◌^◌,
+  Bool, true, false, reverse, arith, Option, Some, None, is_none, min, length, list_all, flat_map, enumerate_from, lines, append-nil,
+  reverse-append, Fault, FaultKind, both_so, Draft, fault_on_line, Outcome, Finished, Refused, Open, Terminal, lexical_fault, terminals,
+  start, AfterToken, Goes, Refuses, take, is_at_end, Context, AtStart, State, Between, outcome, fault_of, IsAtToken, IsInWords, false≢true}
 use Rattle.std.proofs.lemmas.Grind.{reverse_onto}
-use Rattle.mpslp_types.specs.declared.faults.Fault.{Fault}
-use Rattle.mpslp_types.specs.declared.faults.FaultKind.{FaultKind}
-use Rattle.mpslp_types.specs.declared.faults.FaultKind.TheVariants as kinds
-use Rattle.mpslp_types.proofs.BoolLemmas.{both_so}
-use Rattle.mpslp_builder.specs.Declaration.{Draft}
-use Rattle.mpslp_lines.specs.FaultTests.{fault_on_line}
-use Rattle.mpslp_lp_grammar.specs.Rules.{Outcome}
-use Rattle.mpslp_lp_grammar.specs.Rules.Outcome.{Finished, Refused, Open}
-use Rattle.mpslp_lp_grammar.specs.Terminal.{Terminal, lexical_fault}
-use Rattle.mpslp_lp_grammar.specs.TerminalToken.{terminals}
-use Rattle.mpslp_lp_grammar.specs.Phrase.{start}
-use Rattle.mpslp_lp_grammar.specs.AfterToken.{AfterToken, Goes, Refuses}
-use Rattle.mpslp_lp_grammar.specs.TokenStep.{take, is_at_end}
-use Rattle.mpslp_lp_grammar.specs.declared.context.Context.{Context}
-use Rattle.mpslp_lp_grammar.specs.declared.states.Place.TheVariants.{AtStart}
-use Rattle.mpslp_lp_grammar.specs.declared.states.State.{State}
-use Rattle.mpslp_lp_grammar.specs.declared.states.State.TheVariants.{Between}
 use Rattle.mpslp_lp.specs.LineByLine.{take_all, take_line, read_from}
-use Rattle.mpslp_lp.specs.LpText.{outcome}
-use Rattle.mpslp_lp.specs.FirstFault.{fault_of}
 use Rattle.mpslp_lp.proofs.ReadingLemmas.{outcome-read}
-use Rattle.mpslp_lp_sentences.specs.FaultsInWords.{IsAtToken, IsInWords}
 use Rattle.mpslp_lp_sentences.proofs.LexicalKinds.{is_lexical, lexical-kind, is_of_whole, file-kind}
+use Rattle.mpslp_types.specs.declared.faults.FaultKind.TheVariants as kinds
 
 -- What is known of the tokens before one, of the context and of the state, and what follows from it for a kind of errors.
 pub record Knowing (kind : FaultKind) (is_such : List Terminal → Terminal → Bool) (Knows : List Terminal → Context → State → Type 0) : Type 0 where
@@ -72,7 +52,7 @@ module _ (kind : FaultKind) (is_such : List Terminal → Terminal → Bool) (Kno
   IsAfter earlier xs (Refuses other) = other ≡ kind → OnToken is_such earlier xs
 
   turned : (x : Terminal) (xs earlier : List Terminal) → reverse xs ++ (x ∷ earlier) ≡ reverse (x ∷ xs) ++ earlier
-  turned x xs earlier = grind (arith, reverse_onto, append_assoc, reverse)
+  turned = grind (arith, reverse_onto, append_assoc, reverse)
 
   tokens-taken : (xs earlier : List Terminal) (context : Context) (state : State) → Knows earlier context state → IsAfter earlier xs (take_all context state xs)
   tokens-taken [] earlier context state known = known
@@ -108,7 +88,7 @@ module _ (kind : FaultKind) (is_such : List Terminal → Terminal → Bool) (Kno
   none-before n = omega arith
 
   joined : (xs ys earlier : List Terminal) → reverse ys ++ (reverse xs ++ earlier) ≡ reverse (xs ++ ys) ++ earlier
-  joined xs ys earlier = grind (arith, reverse-append, append_assoc, reverse)
+  joined = grind (arith, reverse-append, append_assoc, reverse)
 
   -- the lines after this one
   abbrev Rest : List (List ℕ) → ℕ → List ℕ → List Terminal → Fault → Type 0
@@ -133,7 +113,7 @@ module _ (kind : FaultKind) (is_such : List Terminal → Terminal → Bool) (Kno
             later = found.later;
             text = ap (λ (more : List (List ℕ)). l ∷ more) found.text;
             number = found.number ∙ ap (λ (m : ℕ). min m (2 ^ 64 - 1)) (one-less (length found.before) n);
-            sound = both_so (is_none (lexical_fault l)) (list_all (λ x. is_none (lexical_fault x)) (found.before ++ found.line ∷ [])) (ap is_none fine) found.sound;
+            sound = both_so _ _ (ap is_none fine) found.sound;
             front = found.front;
             token = found.token;
             back = found.back;
@@ -151,7 +131,7 @@ module _ (kind : FaultKind) (is_such : List Terminal → Terminal → Bool) (Kno
             later = ls;
             text = refl;
             number = sym (ap (λ (f : Fault). f.line) e) ∙ ap (λ (m : ℕ). min m (2 ^ 64 - 1)) (none-before n);
-            sound = both_so (is_none (lexical_fault l)) true (ap is_none fine) refl;
+            sound = both_so _ _ (ap is_none fine) refl;
             front = found.front;
             token = found.token;
             back = found.back;
@@ -164,7 +144,7 @@ module _ (kind : FaultKind) (is_such : List Terminal → Terminal → Bool) (Kno
             | Goes after next ↦ read_from after next (enumerate_from (n + 1) ls)
             | Refuses other ↦ Refused (fault_on_line n other)
           ] ≡ Refused fault → OnLine is_such earlier (l ∷ ls) n fault
-      taken rest answer fine known_after e = grind (arith, later_line, one_fault, this_line)
+      taken = grind (arith, later_line, one_fault, this_line)
 
       own_fault : Rest ls n l earlier fault → (o : Option FaultKind) → lexical_fault l ≡ o
           → elim (elim o as (λ _. AfterToken) [
@@ -191,11 +171,8 @@ module _ (kind : FaultKind) (is_such : List Terminal → Terminal → Bool) (Kno
   pub in-words : is_lexical kind ≡ false → is_of_whole kind ≡ false → IsInWords kind is_such
   in-words own early bytes fault first k = by (outcome bytes) refl first
     where
-      clash : false ≡ true → ⊥
-      clash e = cc
-
       by : (o : Outcome Fault Draft) → outcome bytes ≡ o → fault_of o ≡ Some fault → IsAtToken is_such bytes fault
-      by (Finished all) e f = absurd (clash (sym early ∙ ap is_of_whole (sym k) ∙ file-kind all fault f))
+      by (Finished all) e f = absurd (false≢true (sym early ∙ ap is_of_whole (sym k) ∙ file-kind all fault f))
       by Open e f = grind arith
       by (Refused other) e f =
           let found = lines-read (lines bytes) 1 [] start.context (Between AtStart) fault own k knowing.at_start (sym (outcome-read bytes) ∙ e ∙ ap (λ (x : Fault). Refused x) (same f)) in

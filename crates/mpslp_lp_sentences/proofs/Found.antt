@@ -1,33 +1,13 @@
 -- What tokens have to be if a rule reads them: the phrases of the text, from the first token on.
-use Rattle.std.proofs.Common.{arith, ◌≡◌, refl, sym, ap, subst, ◌∙◌, ℕ, List, [], ◌∷◌, ◌++◌}
-use Rattle.std.specs.Prelude.{Option, Some, None, unwrap_or}
-use Rattle.std.proofs.lemmas.Option.{none-some}
-use Rattle.mpslp_decimal.specs.Decimal.{Number as Decimal}
-use Rattle.mpslp_types.specs.Limit.{limit_of}
-use Rattle.mpslp_types.specs.declared.kinds.Limit.{Limit}
-use Rattle.mpslp_types.specs.declared.faults.BuildFault.{BuildFault}
-use Rattle.mpslp_builder.specs.Declaration.{Declarations, with_declarations}
-use Rattle.mpslp_lp_grammar.specs.declared.signs.Sign.{Sign as SignOf}
-use Rattle.mpslp_lp_grammar.specs.declared.signs.Sign.TheVariants.{Plus}
-use Rattle.mpslp_lp_grammar.specs.declared.relations.Relation.{Relation}
-use Rattle.mpslp_lp_grammar.specs.Rules.{◌>>=◌, gives, next, ahead}
-use Rattle.mpslp_lp_grammar.specs.Terminal.{Terminal, TerminalAt}
-use Rattle.mpslp_lp_grammar.specs.Terminal.Terminal.{Name, Number, Sign, Compares, Infinity}
-use Rattle.mpslp_lp_grammar.specs.Phrase.{Point, PhraseRule, Follows, goes_to, unless_refused}
-use Rattle.mpslp_lp_grammar.specs.declared.context.Context.{Context}
-use Rattle.mpslp_lp_grammar.specs.declared.states.Place.{Place}
-use Rattle.mpslp_lp_grammar.specs.Items.{Side as SideOf, apply_sign, unsigned_side, side_from, side as side_rule, next_relation, Item, product, number_item, signed_item, item_from, Item as items}
-use Rattle.mpslp_lp_grammar.specs.Grammar.{phrase_at}
-use Rattle.mpslp_canonical_lp.specs.PrintedDeclarations.{point_at}
-use Rattle.mpslp_canonical_lp.proofs.TerminalLemmas.{at}
-use Rattle.mpslp_lp_sentences.specs.Phrases.{Side}
-use Rattle.mpslp_lp_sentences.specs.Phrases.Side.{side}
-use Rattle.mpslp_lp_sentences.specs.Phrases.Term.{term}
-use Rattle.mpslp_lp_sentences.specs.Spelling.{sign_tokens, side_tokens, term_tokens}
-use Rattle.mpslp_lp_sentences.specs.Meaning.{product_of, signed, one, coefficient, limit}
-use Rattle.mpslp_lp_sentences.proofs.Whole.{Tokens, whole, listened, listened-gives, listened-one, listened-none, heard-later}
-use Rattle.mpslp_lp_sentences.proofs.Stamped.{stamped, onward}
-use Rattle.mpslp_lp_sentences.proofs.ItemsHeard.{multiplied, multiplied-value, signed-is, infinity-is}
+use Rattle.mpslp_lp_sentences.proofs.Prelude.{arith, ◌≡◌, refl, sym, ap, subst, ◌∙◌, ℕ, List, [], ◌∷◌, ◌++◌, Option, Some, None, unwrap_or,
+  none-some, Decimal, limit_of, Limit, BuildFault, Declarations, with_declarations, SignOf, Plus, Relation, ◌>>=◌, gives, next, ahead,
+  Terminal, TerminalAt, Name, Number, Sign, Compares, Infinity, Point, PhraseRule, Follows, goes_to, unless_refused, Context, Place, SideOf,
+  apply_sign, unsigned_side, side_from, side_rule, next_relation, product, number_item, signed_item, item_from, items, phrase_at, point_at,
+  at, Side, side, term, sign_tokens, side_tokens, term_tokens, product_of, signed, coefficient, limit}
+use Rattle.mpslp_lp_grammar.specs.Items.{Item}
+use Rattle.mpslp_lp_sentences.specs.Meaning.{one}
+use Rattle.mpslp_lp_sentences.proofs.{Whole.{Tokens, whole, listened, listened-gives, listened-one, listened-none, heard-later},
+  Stamped.{stamped, onward}, ItemsHeard.{multiplied, multiplied-value, signed-is, infinity-is}}
 
 -- ---- tokens on their lines
 
@@ -52,15 +32,15 @@ abbrev pub Complete : Point → (ℕ → ℕ) → List Terminal → Declarations
 Complete point line xs made = whole point 0 (all_at line xs) ≡ Some made
 
 pub complete-phrase : (point : Point) (line : ℕ → ℕ) (x : Terminal) (xs : List Terminal) (made : Declarations) → Complete point line (x ∷ xs) made → Heard (phrase_at point (at (line 0) x)) (onward line) xs made
-complete-phrase point line x xs made h = grind arith
+complete-phrase = grind arith
 
 pub heard-next : (following : TerminalAt → PhraseRule Follows) (line : ℕ → ℕ) (x : Terminal) (xs : List Terminal) (made : Declarations) → Heard (next >>= following) line (x ∷ xs) made
     → Heard (following (at (line 0) x)) (onward line) xs made
-heard-next following line x xs made h = grind arith
+heard-next = grind arith
 
 pub heard-ahead : (following : TerminalAt → PhraseRule Follows) (line : ℕ → ℕ) (x : Terminal) (xs : List Terminal) (made : Declarations) → Heard (ahead >>= following) line (x ∷ xs) made
     → Heard (following (at (line 0) x)) line (x ∷ xs) made
-heard-ahead following line x xs made h = grind arith
+heard-ahead = grind arith
 
 -- ---- what follows a phrase
 
@@ -72,7 +52,7 @@ pub record Goes (point : Point) (first : Declarations) (line : ℕ → ℕ) (xs 
 
 pub goes-heard : (context : Context) (place : Place) (first : Declarations) (line : ℕ → ℕ) (xs : List Terminal) (made : Declarations) → Heard (goes_to context place first) line xs made
     → Goes (point_at place context.sections_seen (with_declarations context.earlier first)) first line xs made
-goes-heard context place first line xs made h = grind arith
+goes-heard = grind arith
 
 pub record GoesUnrefused (context : Context) (refusals : List BuildFault) (place : Place) (first : Declarations) (line : ℕ → ℕ) (xs : List Terminal) (made : Declarations) : Type 0 where
   pub none : refusals ≡ []
@@ -80,7 +60,7 @@ pub record GoesUnrefused (context : Context) (refusals : List BuildFault) (place
 
 pub unless-heard : (context : Context) (token : TerminalAt) (refusals : List BuildFault) (place : Place) (first : Declarations) (line : ℕ → ℕ) (xs : List Terminal) (made : Declarations)
     → Heard (unless_refused context token refusals place first) line xs made → GoesUnrefused context refusals place first line xs made
-unless-heard context token refusals place first line xs made h = grind arith
+unless-heard = grind arith
 
 -- ---- items
 
@@ -173,7 +153,7 @@ pub record ASide (following : SideOf → PhraseRule Follows) (line : ℕ → ℕ
   pub heard : Heard (following (record { limit = limit part; last = last })) (onwards (side_tokens part) line) rest made
 
 limit-heard : (following : SideOf → PhraseRule Follows) (found : SideOf) (line : ℕ → ℕ) (xs : List Terminal) (made : Declarations) → Heard (gives found >>= following) line xs made → Heard (following found) line xs made
-limit-heard following found line xs made h = grind arith
+limit-heard = grind arith
 
 pub side_from-heard : (x : Terminal) (xs : List Terminal) (context : Context) (following : SideOf → PhraseRule Follows) (line : ℕ → ℕ) (made : Declarations)
     → Heard (side_from context (at (line 0) x) >>= following) (onward line) xs made → ASide following line (x ∷ xs) made

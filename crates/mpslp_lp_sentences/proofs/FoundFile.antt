@@ -1,35 +1,16 @@
 -- What tokens have to be if the grammar reads a whole text.
-use Rattle.std.proofs.Common.{◌≡◌, refl, sym, ap, subst, ◌∙◌, ℕ, ◌+◌, List, [], ◌∷◌, ◌++◌, true, false, append_assoc, length, arith}
-use Rattle.std.specs.Prelude.{◌&&◌}
-use Rattle.std.specs.List.{flat_map, list_all, enumerate_from}
-use Rattle.mpslp_types.proofs.BoolLemmas.{both_so}
-use Rattle.mpslp_builder.specs.Declaration.{Declarations, Draft, empty_draft, with_declarations}
-use Rattle.mpslp_builder.specs.Refusal.{refusals_in_turn}
-use Rattle.mpslp_builder.proofs.SortedDrafts.{IsSortedDraft, sorted-draft_of}
-use Rattle.mpslp_lp_grammar.specs.Terminal.{Terminal}
-use Rattle.mpslp_lp_grammar.specs.Terminal.Terminal.{Opens, Name}
-use Rattle.mpslp_lp_grammar.specs.Phrase.{start}
-use Rattle.mpslp_lp_grammar.specs.declared.states.Place.{Place}
-use Rattle.mpslp_lp_grammar.specs.declared.states.Place.TheVariants.{BetweenRows}
-use Rattle.mpslp_lp_grammar.specs.declared.states.LastWord.TheVariants.{To, That}
-use Rattle.mpslp_lp_grammar.specs.Grammar.{may_begin_section}
-use Rattle.mpslp_lp_tokens.specs.declared.words.SectionWord.{SectionWord}
+use Rattle.mpslp_lp_sentences.proofs.Prelude.{◌≡◌, refl, sym, ap, subst, ◌∙◌, ℕ, ◌+◌, List, [], ◌∷◌, ◌++◌, true, false, append_assoc,
+  length, arith, flat_map, enumerate_from, both_so, Declarations, Draft, empty_draft, with_declarations, refusals_in_turn, IsSortedDraft,
+  sorted-draft_of, Terminal, Opens, Name, start, Place, BetweenRows, To, That, may_begin_section, SectionWord, point_at, parts-taken,
+  RowSection, File, no_rows, rows, file, objective_tokens, row_tokens, row_section_tokens, section_tokens, opens_rows, is_row,
+  is_row_section, are_sections, is_file, objective_declares, row_declares, row_section_declares, section_declares, file_declares}
+use Rattle.mpslp_lp_sentences.specs.Phrases.{Section}
+use Rattle.mpslp_lp_sentences.proofs.{Stamped.{is_elsewhere, here, onward}, ObjectiveHeard.{after_word},
+  SectionsHeard.{front_tokens, after_rows, objective-rows}, Found.{all_at, onwards, onwards-append, Complete},
+  FoundParts.{all-phrases, all_declare, Anything}, FoundObjective.{objective-heard},
+  FoundRows.{row_declared_at, between_rows, one-row, rows-numbered},
+  FoundSections.{opened-heard, Closed, is_rows, no-rows, sections-found, moved, last_word-heard}}
 use Rattle.mpslp_lp_tokens.specs.declared.words.SectionWord.TheVariants as words
-use Rattle.mpslp_canonical_lp.specs.PrintedDeclarations.{point_at}
-use Rattle.mpslp_canonical_lp.proofs.ObjectiveWalk.{parts-taken}
-use Rattle.mpslp_lp_sentences.specs.Phrases.{RowSection, Section, File}
-use Rattle.mpslp_lp_sentences.specs.Phrases.RowSection.{no_rows, rows}
-use Rattle.mpslp_lp_sentences.specs.Phrases.File.{file}
-use Rattle.mpslp_lp_sentences.specs.Spelling.{objective_tokens, row_tokens, row_section_tokens, section_tokens, opens_rows, is_row, is_row_section, is_objective, are_sections, is_file}
-use Rattle.mpslp_lp_sentences.specs.Meaning.{objective_declares, row_declares, row_section_declares, section_declares, file_declares}
-use Rattle.mpslp_lp_sentences.proofs.Stamped.{is_elsewhere, here, onward}
-use Rattle.mpslp_lp_sentences.proofs.ObjectiveHeard.{after_word}
-use Rattle.mpslp_lp_sentences.proofs.SectionsHeard.{front_tokens, after_rows, objective-rows}
-use Rattle.mpslp_lp_sentences.proofs.Found.{all_at, onwards, onwards-append, Complete}
-use Rattle.mpslp_lp_sentences.proofs.FoundParts.{all-phrases, all_declare, Anything}
-use Rattle.mpslp_lp_sentences.proofs.FoundObjective.{objective-heard}
-use Rattle.mpslp_lp_sentences.proofs.FoundRows.{row_declared_at, between_rows, one-row, rows-numbered}
-use Rattle.mpslp_lp_sentences.proofs.FoundSections.{opened-heard, Closed, is_rows, no-rows, sections-found, moved, last_word-heard}
 
 -- ---- the rows, and the sections after them
 
@@ -62,7 +43,7 @@ rows-found opening earlier line tail made ok none sorted unrefused h =
     record {
       second = rows opening all.its;
       parts = tail_found.parts;
-      good_second = both_so (opens_rows opening) (list_all is_row all.its) ok all.good_its;
+      good_second = both_so _ _ ok all.good_its;
       good = tail_found.good;
       after = tail_found.after;
       same = ap (λ (ys : List Terminal). opening ++ ys) (all.same ∙ ap (λ (ys : List Terminal). flat_map row_tokens all.its ++ ys) tail_found.same)
@@ -76,7 +57,7 @@ rows-found opening earlier line tail made ok none sorted unrefused h =
     no_more e = cc
 
     joined : (a b c d : List Terminal) → a ++ (b ++ (c ++ d)) ≡ ((a ++ b) ++ c) ++ d
-    joined a b c d = grind (arith, append_assoc)
+    joined = grind (arith, append_assoc)
 
 no-rows-found : (place : Place) (earlier : Draft) (line : ℕ → ℕ) (word : SectionWord) (xs : List Terminal) (made : Declarations) → may_begin_section place ≡ true → is_rows word ≡ false
     → Complete (point_at place after_word earlier) line (Opens word ∷ xs) made → SecondFound line (Opens word ∷ xs) made
@@ -122,7 +103,7 @@ file-found line xs made unrefused h =
     let tokens : List Terminal = row_section_tokens second.second ++ flat_map section_tokens second.parts in
     record {
       whole = file first.part second.second second.parts;
-      right = both_so (is_objective first.part) (is_row_section second.second && are_sections second.parts) first.good (both_so (is_row_section second.second) (are_sections second.parts) second.good_second second.good);
+      right = both_so _ _ first.good (both_so _ _ second.good_second second.good);
       after = second.after;
       same = first.same ∙ ap (λ (ys : List Terminal). objective_tokens first.part ++ ys) second.same ∙ sym (append_assoc (objective_tokens first.part) tokens (Opens words.End ∷ second.after));
       is = first.is ∙ ap (λ (ds : Declarations). declared ++ ds) second.is;

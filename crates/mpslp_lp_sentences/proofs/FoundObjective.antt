@@ -1,39 +1,16 @@
 -- What tokens have to be if the grammar reads an objective.
-use Rattle.std.proofs.Common.{◌≡◌, ◌<◌, refl, sym, ap, subst, ◌∙◌, ℕ, List, [], ◌∷◌, ◌++◌, Bool, true, append_assoc, length, arith}
-use Rattle.std.specs.Prelude.{Option, Some, None}
-use Rattle.std.specs.List.{flat_map, list_all}
-use Rattle.std.proofs.lemmas.Bool.{false≢true}
-use Rattle.std.proofs.lemmas.Option.{none-some}
-use Rattle.mpslp_types.specs.declared.kinds.Sense.{Sense}
-use Rattle.mpslp_types.specs.declared.kinds.Sense.TheVariants.{Minimize, Maximize}
-use Rattle.mpslp_builder.specs.Declaration.{Declarations, Draft, empty_draft, with_declarations}
-use Rattle.mpslp_builder.specs.Refusal.{refusals_in_turn}
-use Rattle.mpslp_lp_grammar.specs.declared.signs.Sign.{Sign as SignOf}
-use Rattle.mpslp_lp_grammar.specs.Rules.{ahead, ◌>>=◌}
-use Rattle.mpslp_lp_grammar.specs.Terminal.{Terminal, TerminalAt}
-use Rattle.mpslp_lp_grammar.specs.Terminal.Terminal.{Opens, Name, Number, Sign, Colon}
-use Rattle.mpslp_lp_grammar.specs.Phrase.{start, declares}
-use Rattle.mpslp_lp_grammar.specs.declared.sections_seen.SectionsSeen.{SectionsSeen}
-use Rattle.mpslp_lp_grammar.specs.declared.context.Context.{Context}
-use Rattle.mpslp_lp_grammar.specs.declared.states.Place.{Place}
-use Rattle.mpslp_lp_grammar.specs.declared.states.Place.TheVariants.{BeforeItems, InObjective}
-use Rattle.mpslp_lp_grammar.specs.Items.{Item as items}
-use Rattle.mpslp_lp_grammar.specs.Rows.{objective_item, objective_declared, default_objective, first_item_declared, objective_named, objective_from, objective as objective_rule}
-use Rattle.mpslp_lp_grammar.specs.Grammar.{may_begin_section}
-use Rattle.mpslp_lp_tokens.specs.declared.words.SectionWord.{SectionWord}
+use Rattle.mpslp_lp_sentences.proofs.Prelude.{◌≡◌, ◌<◌, refl, sym, ap, subst, ◌∙◌, ℕ, List, [], ◌∷◌, ◌++◌, Bool, true, append_assoc, length,
+  arith, Option, Some, None, flat_map, list_all, false≢true, none-some, Sense, Minimize, Maximize, Declarations, Draft, empty_draft,
+  with_declarations, refusals_in_turn, SignOf, ahead, ◌>>=◌, Terminal, TerminalAt, Opens, Name, Number, Sign, Colon, start, declares,
+  SectionsSeen, Context, Place, BeforeItems, InObjective, items, objective_item, objective_declared, default_objective, first_item_declared,
+  objective_named, objective_from, objective_rule, may_begin_section, SectionWord, point_at, at, Item, term, a_term, a_constant, objective,
+  sense_word, item_tokens, label_tokens, objective_tokens, is_signed_item, are_items, is_objective, product_of, signed, item_declares,
+  objective_declares}
+use Rattle.mpslp_lp_sentences.specs.Phrases.{Objective}
+use Rattle.mpslp_lp_sentences.proofs.{Stamped.{here, onward}, ObjectiveHeard.{after_word}, Found.{onwards, Heard, Complete, complete-phrase,
+  heard-next, heard-ahead, unless-heard, AnItem, found_term, found_lone, constant_tokens, sign-heard, item-heard},
+  FoundParts.{rest-shorter, complete-joined, Reading, all-phrases, all_declare, all-flat, Anything}}
 use Rattle.mpslp_lp_tokens.specs.declared.words.SectionWord.TheVariants as words
-use Rattle.mpslp_canonical_lp.specs.PrintedDeclarations.{point_at}
-use Rattle.mpslp_canonical_lp.proofs.TerminalLemmas.{at}
-use Rattle.mpslp_lp_sentences.specs.Phrases.{Item, Objective}
-use Rattle.mpslp_lp_sentences.specs.Phrases.Term.{term}
-use Rattle.mpslp_lp_sentences.specs.Phrases.Item.{a_term, a_constant}
-use Rattle.mpslp_lp_sentences.specs.Phrases.Objective.{objective}
-use Rattle.mpslp_lp_sentences.specs.Spelling.{sense_word, item_tokens, label_tokens, objective_tokens, is_signed_item, are_items, is_objective}
-use Rattle.mpslp_lp_sentences.specs.Meaning.{product_of, signed, item_declares, objective_declares}
-use Rattle.mpslp_lp_sentences.proofs.Stamped.{here, onward}
-use Rattle.mpslp_lp_sentences.proofs.ObjectiveHeard.{after_word}
-use Rattle.mpslp_lp_sentences.proofs.Found.{onwards, Heard, Complete, complete-phrase, heard-next, heard-ahead, unless-heard, AnItem, found_term, found_lone, constant_tokens, sign-heard, item-heard}
-use Rattle.mpslp_lp_sentences.proofs.FoundParts.{rest-shorter, complete-joined, Reading, all-phrases, all_declare, all-flat, Anything}
 
 -- ---- one item
 
@@ -71,14 +48,14 @@ item-found name seen earlier line xs made (found_lone signs value y rest n same 
 
 -- an item that begins with a sign has one
 sign-first : (part : Item) (sign : SignOf) (xs rest : List Terminal) → Sign sign ∷ xs ≡ item_tokens part ++ rest → is_signed_item part ≡ true
-sign-first part sign xs rest e = grind arith
+sign-first = grind arith
 
 -- an item has a token
 item-shorter : (part : Item) (rest xs : List Terminal) → xs ≡ item_tokens part ++ rest → length rest < length xs
 item-shorter part rest xs same = subst (λ (ys : List Terminal). length rest < length ys) (sym same) (by part)
   where
     of_more : (x : Terminal) (ys : List Terminal) → length rest < length (x ∷ (ys ++ rest))
-    of_more x ys = grind (arith, rest-shorter)
+    of_more = grind (arith, rest-shorter)
 
     by : (it : Item) → length rest < length (item_tokens it ++ rest)
     by (a_term (term [] None column)) = of_more (Name column) []

@@ -1,40 +1,18 @@
 -- One phrase after another up to a section word; bounds and names.
-use Rattle.std.proofs.Common.{◌≡◌, ◌≤◌, ◌<◌, refl, sym, ap, subst, ◌∙◌, ℕ, zero, suc, ◌+◌, List, [], ◌∷◌, ◌++◌, Bool, true, false, append_assoc, length, arith}
-use Rattle.std.specs.Prelude.{Option, Some, None}
-use Rattle.std.specs.List.{flat_map, list_all}
-use Rattle.std.proofs.lemmas.List.{length-append}
-use Rattle.std.proofs.lemmas.Bool.{false≢true}
-use Rattle.std.proofs.lemmas.Option.{none-some}
-use Rattle.mpslp_types.proofs.BoolLemmas.{both_so}
-use Rattle.mpslp_types.specs.declared.kinds.Limit.{Limit}
-use Rattle.mpslp_builder.specs.Declaration.{Declaration, Declarations, Draft, declare_column, with_declarations}
-use Rattle.mpslp_builder.specs.Refusal.{refusals_in_turn}
-use Rattle.mpslp_builder.proofs.MadeDrafts.{with_declarations-append}
-use Rattle.mpslp_lp_grammar.specs.Rules.{◌>>=◌, next}
-use Rattle.mpslp_lp_grammar.specs.Terminal.{Terminal, TerminalAt}
-use Rattle.mpslp_lp_grammar.specs.Terminal.Terminal.{Opens, Name, Number, Sign, Compares, Infinity, Free}
-use Rattle.mpslp_lp_grammar.specs.declared.sections_seen.SectionsSeen.{SectionsSeen}
-use Rattle.mpslp_lp_grammar.specs.declared.relations.Relation.{Relation}
-use Rattle.mpslp_lp_grammar.specs.declared.relations.Relation.TheVariants.{AtMost, AtLeast}
-use Rattle.mpslp_lp_grammar.specs.declared.states.Place.{Place}
-use Rattle.mpslp_lp_grammar.specs.declared.states.Place.TheVariants.{InBounds}
-use Rattle.mpslp_lp_grammar.specs.Items.{Limits, limits_by, flip, side as side_rule}
-use Rattle.mpslp_lp_grammar.specs.Grammar.{bound_sides, no_limits, bound_right, bound_after, bound_column, bound_left, name_in_section, phrase_at}
-use Rattle.mpslp_lp_tokens.specs.declared.words.SectionWord.{SectionWord}
-use Rattle.mpslp_canonical_lp.specs.PrintedDeclarations.{point_at}
-use Rattle.mpslp_canonical_lp.proofs.TerminalLemmas.{at}
-use Rattle.mpslp_lp_sentences.specs.Phrases.{Side, Bound}
-use Rattle.mpslp_lp_sentences.specs.Phrases.Bound.{bound, free_bound, turned_bound, bounds_between, bounds_from_above}
-use Rattle.mpslp_lp_sentences.specs.Spelling.{side_tokens, bound_tokens}
-use Rattle.mpslp_lp_sentences.specs.Meaning.{limit, turned, bound_declares}
-use Rattle.mpslp_lp_sentences.proofs.Whole.{Tokens, listened}
-use Rattle.mpslp_lp_sentences.proofs.Stamped.{first_of_all, here, onward}
-use Rattle.mpslp_lp_sentences.proofs.BoundsHeard.{limits_declared, by-relation, flipped}
-use Rattle.mpslp_lp_sentences.proofs.Found.{all_at, onwards, onwards-append, Heard, Complete, complete-phrase, heard-next, Goes, unless-heard, ASide, side_from-heard, side-heard, relation-heard}
+use Rattle.mpslp_lp_sentences.proofs.Prelude.{◌≡◌, ◌≤◌, ◌<◌, refl, sym, ap, subst, ◌∙◌, ℕ, zero, suc, ◌+◌, List, [], ◌∷◌, ◌++◌, Bool, true,
+  false, append_assoc, length, arith, Option, Some, None, flat_map, list_all, length-append, false≢true, none-some, both_so, Limit,
+  Declaration, Declarations, Draft, declare_column, with_declarations, refusals_in_turn, with_declarations-append, ◌>>=◌, next, Terminal,
+  TerminalAt, Opens, Name, Number, Sign, Compares, Infinity, Free, SectionsSeen, Relation, AtMost, AtLeast, Place, InBounds, Limits,
+  limits_by, flip, side_rule, bound_sides, no_limits, bound_right, bound_after, bound_column, bound_left, name_in_section, phrase_at,
+  SectionWord, point_at, at, Side, Bound, bound, free_bound, turned_bound, bounds_between, bounds_from_above, side_tokens, bound_tokens,
+  limit, turned, bound_declares}
+use Rattle.mpslp_lp_sentences.proofs.{Whole.{Tokens, listened}, Stamped.{first_of_all, here, onward},
+  BoundsHeard.{limits_declared, by-relation, flipped}, Found.{all_at, onwards, onwards-append, Heard, Complete, complete-phrase, heard-next,
+  Goes, unless-heard, ASide, side_from-heard, side-heard, relation-heard}}
 
 -- the rest of tokens is not longer than all of them
 pub rest-shorter : (front rest xs : List Terminal) → xs ≡ front ++ rest → length rest ≤ length xs
-rest-shorter front rest xs same = grind (arith, length-append, arith)
+rest-shorter = grind (arith, length-append, arith)
 
 abbrev pub is_no_opening : Terminal → Bool
 is_no_opening (Opens word) = false
@@ -44,7 +22,7 @@ is_no_opening _ = true
 pub complete-joined : (place : Place) (seen : SectionsSeen) (earlier : Draft) (first more : Declarations) (front next : List Terminal) (line : ℕ → ℕ) (xs : List Terminal) (made : Declarations)
     → Complete (point_at place seen (with_declarations (with_declarations earlier first) more)) (onwards next (onwards front line)) xs made
     → Complete (point_at place seen (with_declarations earlier (first ++ more))) (onwards (front ++ next) line) xs made
-complete-joined place seen earlier first more front next line xs made h = grind (arith, onwards, with_declarations-append, onwards-append)
+complete-joined = grind (arith, onwards, with_declarations-append, onwards-append)
 
 -- what parts declare, each after those before it
 abbrev pub all_declare : {A : Type 0} → (Draft → A → Declarations) → Draft → List A → Declarations
@@ -89,7 +67,7 @@ module _ {A S : Type 0} (tokens_of : A → List Terminal) (declares : Draft → 
       let first = declares earlier one.it in
       record {
         its = one.it ∷ all.its;
-        good_its = both_so (good one.it) (list_all good all.its) one.good_it all.good_its;
+        good_its = both_so _ _ one.good_it all.good_its;
         word = all.word;
         rest = all.rest;
         more = all.more;
@@ -166,13 +144,13 @@ OneBound seen earlier line xs made = OnePhrase bound_tokens bound_declared any_b
 
 -- after a bound without a left side no relation follows
 pub none-follows : (seen : SectionsSeen) (earlier : Draft) (line : ℕ → ℕ) (xs : List Terminal) (made : Declarations) → Complete (point_at (InBounds None) seen earlier) line xs made → is_no_relation (first_of_all xs) ≡ true
-none-follows seen earlier line xs made h = grind arith
+none-follows = grind arith
 
 -- bounds of a column that were read
 sides-heard : (seen : SectionsSeen) (earlier : Draft) (front : Declarations) (column : List ℕ) (limits : Limits) (token : TerminalAt) (place : Place) (line : ℕ → ℕ) (xs : List Terminal) (made : Declarations)
     → Heard (bound_sides (here seen earlier) front column limits token place) line xs made
     → Goes (point_at place seen (with_declarations earlier (front ++ limits_declared column limits))) (front ++ limits_declared column limits) line xs made
-sides-heard seen earlier front column limits token place line xs made h = grind arith
+sides-heard = grind arith
 
 -- a column first
 column-heard : (seen : SectionsSeen) (earlier : Draft) (column : List ℕ) (line : ℕ → ℕ) (xs : List Terminal) (made : Declarations) → Heard (next >>= bound_after (here seen earlier) column) (onward line) xs made

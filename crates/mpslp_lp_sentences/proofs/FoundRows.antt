@@ -1,50 +1,19 @@
 -- What tokens have to be if the grammar reads rows.
-use Rattle.std.proofs.Common.{rules, ◌≡◌, ◌≤◌, ◌<◌, refl, sym, ap, subst, ◌∙◌, ℕ, zero, suc, ◌+◌, List, [], ◌∷◌, ◌++◌, Bool, true, false, append_assoc, length, map, arith}
-use Rattle.std.specs.Prelude.{Option, Some, None, if◌then◌else◌}
-use Rattle.std.specs.List.{flat_map, list_all, list_any, enumerate_from}
-use Rattle.std.proofs.lemmas.List.{append-nil}
-use Rattle.std.proofs.lemmas.Bool.{false≢true}
-use Rattle.std.proofs.lemmas.Option.{none-some}
-use Rattle.mpslp_decimal.specs.Decimal.{Number as Decimal}
-use Rattle.mpslp_types.specs.Name.{same_bytes}
-use Rattle.mpslp_types.specs.Limit.{limit_of}
-use Rattle.mpslp_types.specs.declared.kinds.Limit.{Limit}
-use Rattle.mpslp_types.specs.declared.kinds.Limit.TheVariants.{PlusInf}
-use Rattle.mpslp_types.specs.declared.faults.FaultKind.TheVariants.{MixedSenses, DuplicateEntry}
-use Rattle.mpslp_types.proofs.BoolLemmas.{both_so}
-use Rattle.mpslp_builder.specs.Declaration.{by_limits, Declarations, Draft, declare_row, with_declarations}
-use Rattle.mpslp_builder.specs.Refusal.{refusals_in_turn}
-use Rattle.mpslp_builder.proofs.SortedDrafts.{IsSortedDraft, sorted-with_declarations}
-use Rattle.mpslp_lp_grammar.specs.declared.signs.Sign.{Sign as SignOf}
-use Rattle.mpslp_lp_grammar.specs.Rules.{◌>>=◌, next}
-use Rattle.mpslp_lp_grammar.specs.Terminal.{Terminal, TerminalAt}
-use Rattle.mpslp_lp_grammar.specs.Terminal.Terminal.{Opens, Name, Number, Sign, Compares, Colon, Infinity}
-use Rattle.mpslp_lp_grammar.specs.declared.sections_seen.SectionsSeen.{SectionsSeen}
-use Rattle.mpslp_lp_grammar.specs.declared.relations.Relation.{Relation}
-use Rattle.mpslp_lp_grammar.specs.declared.relations.Relation.TheVariants.{AtMost, AtLeast}
-use Rattle.mpslp_lp_grammar.specs.declared.states.Place.{Place}
-use Rattle.mpslp_lp_grammar.specs.declared.states.Place.TheVariants.{BetweenRows, InRow}
-use Rattle.mpslp_lp_grammar.specs.PartialRow.{PartialRow}
-use Rattle.mpslp_lp_grammar.specs.Phrase.{refuses, goes_to}
-use Rattle.mpslp_lp_grammar.specs.Items.{side as side_rule, number_item, colon, Item as items}
+use Rattle.mpslp_lp_sentences.proofs.Prelude.{rules, ◌≡◌, ◌≤◌, ◌<◌, refl, sym, ap, subst, ◌∙◌, ℕ, zero, suc, ◌+◌, List, [], ◌∷◌, ◌++◌, Bool,
+  true, false, append_assoc, length, map, arith, Option, Some, None, if◌then◌else◌, flat_map, list_all, list_any, enumerate_from,
+  append-nil, false≢true, none-some, Decimal, same_bytes, limit_of, Limit, PlusInf, MixedSenses, DuplicateEntry, both_so, by_limits,
+  Declarations, Draft, declare_row, with_declarations, refusals_in_turn, IsSortedDraft, sorted-with_declarations, SignOf, ◌>>=◌, next,
+  Terminal, TerminalAt, Opens, Name, Number, Sign, Compares, Colon, Infinity, SectionsSeen, Relation, AtMost, AtLeast, Place, BetweenRows,
+  InRow, PartialRow, refuses, goes_to, side_rule, number_item, colon, items, default_row, without_terms, row_item, row_first,
+  row_after_left, row_number, row_signed, row_from, row_named, fits_left, row_limits, row_declared, row_whole, row_end, point_at, at,
+  parts-taken, Side, Term, Row, side, term, row, row_between, row_from_above, label_tokens, side_tokens, term_tokens, terms_tokens,
+  row_tokens, is_signed_term, is_row, product_of, signed, coefficient, limit, row_name, row_declares}
+use Rattle.mpslp_lp_sentences.proofs.{Whole.{listened-one, listened-none}, Stamped.{here, onward}, ItemsHeard.{infinity-is, times-plus},
+  RowFacts.{Pair}, RowsHeard.{pair, row_at, in_row, terms-declare, declared-is, row-counted}, Found.{all_at, onwards, onwards-append, Heard,
+  Complete, complete-phrase, heard-next, heard-ahead, unless-heard, AnItem, found_term, found_lone, constant_tokens, number-heard,
+  item-from_signed, sign-heard, first_number-heard, item-heard, side-heard, relation-heard},
+  FoundParts.{rest-shorter, is_no_opening, Reading, all_declare, Anything}}
 use Rattle.mpslp_lp_grammar.specs.Items as rules
-use Rattle.mpslp_lp_grammar.specs.Rows.{default_row, without_terms, row_item, row_first, row_after_left, row_number, row_signed, row_from, row_named, fits_left, row_limits, row_declared, row_whole, row_end}
-use Rattle.mpslp_canonical_lp.specs.PrintedDeclarations.{point_at}
-use Rattle.mpslp_canonical_lp.proofs.TerminalLemmas.{at}
-use Rattle.mpslp_canonical_lp.proofs.ObjectiveWalk.{parts-taken}
-use Rattle.mpslp_lp_sentences.specs.Phrases.{Side, Term, Row}
-use Rattle.mpslp_lp_sentences.specs.Phrases.Side.{side}
-use Rattle.mpslp_lp_sentences.specs.Phrases.Term.{term}
-use Rattle.mpslp_lp_sentences.specs.Phrases.Row.{row, row_between, row_from_above}
-use Rattle.mpslp_lp_sentences.specs.Spelling.{label_tokens, side_tokens, term_tokens, terms_tokens, row_tokens, is_signed_term, is_row}
-use Rattle.mpslp_lp_sentences.specs.Meaning.{product_of, signed, coefficient, limit, row_name, row_declares}
-use Rattle.mpslp_lp_sentences.proofs.Whole.{listened-one, listened-none}
-use Rattle.mpslp_lp_sentences.proofs.Stamped.{here, onward}
-use Rattle.mpslp_lp_sentences.proofs.ItemsHeard.{infinity-is, times-plus}
-use Rattle.mpslp_lp_sentences.proofs.RowFacts.{Pair}
-use Rattle.mpslp_lp_sentences.proofs.RowsHeard.{pair, row_at, in_row, terms-declare, declared-is, row-counted}
-use Rattle.mpslp_lp_sentences.proofs.Found.{all_at, onwards, onwards-append, Heard, Complete, complete-phrase, heard-next, heard-ahead, unless-heard, AnItem, found_term, found_lone, constant_tokens, number-heard, item-from_signed, sign-heard, first_number-heard, item-heard, side-heard, relation-heard}
-use Rattle.mpslp_lp_sentences.proofs.FoundParts.{rest-shorter, is_no_opening, Reading, all_declare, Anything}
 
 -- ---- the first term
 
@@ -60,16 +29,16 @@ record TermFound (seen : SectionsSeen) (earlier : Draft) (name : List ℕ) (left
 -- what goes on and declares nothing
 still : (seen : SectionsSeen) (earlier : Draft) (partial : PartialRow) (line : ℕ → ℕ) (xs : List Terminal) (made : Declarations) → Heard (goes_to (here seen earlier) (InRow partial) []) line xs made
     → Complete (point_at (InRow partial) seen earlier) line xs made
-still seen earlier partial line xs made h = grind arith
+still = grind arith
 
 -- a number without a name is no term
 no_constant : (seen : SectionsSeen) (earlier : Draft) (partial : PartialRow) (value : Decimal) (y : Terminal) (n : ℕ) (line : ℕ → ℕ) (xs : List Terminal) (made : Declarations)
     → Heard (row_item (here seen earlier) partial (items.Lone value (at n y))) line xs made → ⊥
-no_constant seen earlier partial value y n line xs made h = grind arith
+no_constant = grind arith
 
 term-found : (seen : SectionsSeen) (earlier : Draft) (name : List ℕ) (left : Option (Limit × Relation)) (line : ℕ → ℕ) (xs : List Terminal) (made : Declarations) → AnItem (row_item (here seen earlier) (without_terms name left)) line xs made
     → TermFound seen earlier name left line xs made
-term-found seen earlier name left line xs made h = grind arith
+term-found = grind arith
 
 -- ---- the left side
 
@@ -110,7 +79,7 @@ record Begun (seen : SectionsSeen) (earlier : Draft) (name : List ℕ) (line : �
   first : TermFound seen earlier name (left_of left) (onwards (left_tokens left) line) tail made
 
 begun-plain : (seen : SectionsSeen) (earlier : Draft) (name : List ℕ) (line : ℕ → ℕ) (xs : List Terminal) (made : Declarations) → TermFound seen earlier name None line xs made → Begun seen earlier name line xs made
-begun-plain seen earlier name line xs made first = grind arith
+begun-plain = grind arith
 
 begun-sided : (seen : SectionsSeen) (earlier : Draft) (name : List ℕ) (part : Side) (line : ℕ → ℕ) (xs rest : List Terminal) (made : Declarations) → xs ≡ side_tokens part ++ rest
     → AfterLeft seen earlier name (limit part) (onwards (side_tokens part) line) rest made → Begun seen earlier name line xs made
@@ -129,7 +98,8 @@ IsSide signs value = (part : Side) × (limit part ≡ limit_of (signed (product_
 number-begins : (seen : SectionsSeen) (earlier : Draft) (name : List ℕ) (line : ℕ → ℕ) (xs : List Terminal) (made : Declarations)
     → ((signs : List SignOf) (value : Decimal) (rest : List Terminal) → xs ≡ constant_tokens signs value ++ rest → IsSide signs value)
     → AnItem (row_number (here seen earlier) name) line xs made → Begun seen earlier name line xs made
-number-begins seen earlier name line xs made sided h = grind (arith, found_term, begun-plain, term-found, found_lone, constant_tokens, here, at, onwards, begun-sided, after_left-heard, no_constant)
+number-begins = grind (arith, found_term, begun-plain, term-found, found_lone, constant_tokens, here, at, onwards, begun-sided,
+    after_left-heard, no_constant)
 
 plain-side : (v : Decimal) (tail : List Terminal) (signs : List SignOf) (value : Decimal) (rest : List Terminal) → Number v ∷ tail ≡ constant_tokens signs value ++ rest → IsSide signs value
 plain-side v tail [] value rest e = (side None (Some value), refl, refl)
@@ -180,7 +150,7 @@ after_colon seen earlier name line (y ∷ xs) made h = begun-heard seen earlier 
 
 unlabelled-heard : (seen : SectionsSeen) (earlier : Draft) (line : ℕ → ℕ) (x : Terminal) (xs : List Terminal) (made : Declarations)
     → Heard (row_from (here seen earlier) (default_row (here seen earlier)) (at (line 0) x)) (onward line) xs made → Labelled seen earlier line (x ∷ xs) made
-unlabelled-heard seen earlier line x xs made h = grind (arith, begun-heard, here)
+unlabelled-heard = grind (arith, begun-heard, here)
 
 named-heard : (seen : SectionsSeen) (earlier : Draft) (name : List ℕ) (line : ℕ → ℕ) (xs : List Terminal) (made : Declarations) → Heard (colon >>= row_named (here seen earlier) name) (onward line) xs made
     → Labelled seen earlier line (Name name ∷ xs) made
@@ -235,9 +205,6 @@ end-heard : (seen : SectionsSeen) (earlier : Draft) (name : List ℕ) (left : Op
     → Heard (row_end (here seen earlier) (row_at name left before) relation (at n (Compares relation))) (onward line) xs made → Ended seen earlier name left before line (Compares relation ∷ xs) made
 end-heard seen earlier name left before line relation n xs made h = by (fits_left left relation) refl h
   where
-    partial : PartialRow
-    partial = row_at name left before
-
     by : (b : Bool) → fits_left left relation ≡ b
         → Heard (if b then (side_rule (here seen earlier) >>= row_whole (here seen earlier) (row_at name left before) relation) else refuses (here seen earlier) (at n (Compares relation)) MixedSenses) (onward line) xs made
         → Ended seen earlier name left before line (Compares relation ∷ xs) made
@@ -263,14 +230,14 @@ end-heard seen earlier name left before line relation n xs made h = by (fits_lef
 
 -- a term that begins with a sign has one
 term-sign : (signs : List SignOf) (number : Option Decimal) (column : List ℕ) (sign : SignOf) (xs rest : List Terminal) → Sign sign ∷ xs ≡ term_tokens (term signs number column) ++ rest → is_signed_term (term signs number column) ≡ true
-term-sign signs number column sign xs rest e = grind arith
+term-sign = grind arith
 
 -- what follows a term that begins with a sign is shorter
 term-shorter : (signs : List SignOf) (number : Option Decimal) (column : List ℕ) (rest xs : List Terminal) → xs ≡ term_tokens (term signs number column) ++ rest → length rest < length xs
 term-shorter signs number column rest xs same = subst (λ (ys : List Terminal). length rest < length ys) (sym same) (by signs number)
   where
     of_more : (x : Terminal) (ys : List Terminal) → length rest < length (x ∷ (ys ++ rest))
-    of_more x ys = grind (arith, rest-shorter)
+    of_more = grind (arith, rest-shorter)
 
     by : (ss : List SignOf) (v : Option Decimal) → length rest < length (term_tokens (term ss v column) ++ rest)
     by [] None = of_more (Name column) []
@@ -296,7 +263,7 @@ terms-heard (suc n) seen earlier name left before line (Sign sign ∷ xs) made f
         let declared : List Pair → Declarations = λ ts. row_declared (row_at name left ts) (row_limits left later.relation (limit later.part)) in
         record {
           terms = first ∷ later.terms;
-          good = both_so (is_signed_term first) (list_all is_signed_term later.terms) (term-sign signs number column sign xs rest same) later.good;
+          good = both_so _ _ (term-sign signs number column sign xs rest same) later.good;
           relation = later.relation;
           part = later.part;
           rest = later.rest;
@@ -312,7 +279,7 @@ terms-heard (suc n) seen earlier name left before line (Sign sign ∷ xs) made f
     taken : (signs : List SignOf) (number : Option Decimal) (column : List ℕ) (rest : List Terminal) (n : ℕ) (l : ℕ → ℕ) (b : Bool)
         → Heard (if b then refuses (here seen earlier) (at n (Name column)) DuplicateEntry else goes_to (here seen earlier) (InRow (row_at name left (before ++ (column, coefficient signs number) ∷ []))) []) l rest made
         → Complete (in_row seen earlier name left (before ++ (column, coefficient signs number) ∷ [])) l rest made
-    taken signs number column rest n l b k = grind arith
+    taken = grind arith
 
     by : AnItem (row_item (here seen earlier) (row_at name left before)) line (Sign sign ∷ xs) made
         → ((more : List Pair) (tokens : List Terminal) (l : ℕ → ℕ) → length tokens < length (Sign sign ∷ xs) → Complete (in_row seen earlier name left more) l tokens made → Ended seen earlier name left more l tokens made)
@@ -328,10 +295,10 @@ terms-heard n seen earlier name left before line _ made fits h = absurd (none-so
 
 -- five parts of tokens
 parts-joined : (a b c d e rest : List Terminal) → a ++ (b ++ (c ++ (d ++ (e ++ rest)))) ≡ (a ++ (b ++ (c ++ (d ++ e)))) ++ rest
-parts-joined a b c d e rest = grind (arith, append_assoc)
+parts-joined = grind (arith, append_assoc)
 
 parts-onwards : (a b c d : List Terminal) (line : ℕ → ℕ) → onwards (a ++ (b ++ (c ++ d))) line ≡ onwards d (onwards c (onwards b (onwards a line)))
-parts-onwards a b c d line = grind (arith, onwards-append, onwards)
+parts-onwards = grind (arith, onwards-append, onwards)
 
 abbrev pub row_declared_at : Draft → Row → Declarations
 row_declared_at earlier part = row_declares (length earlier.rows + 1, part)
@@ -346,7 +313,7 @@ record RowOf (place : ℕ) (label : Option (List ℕ)) (left : Option (Side × R
 between-tokens : (label : Option (List ℕ)) (left : Side) (relation : Relation) (first : Term) (terms : List Term) (end : List Terminal)
     → label_tokens label ++ (side_tokens left ++ Compares relation ∷ ((term_tokens first ++ terms_tokens terms) ++ end))
     ≡ label_tokens label ++ ((side_tokens left ++ Compares relation ∷ []) ++ (term_tokens first ++ (terms_tokens terms ++ end)))
-between-tokens label left relation first terms end = grind (arith, append_assoc)
+between-tokens = grind (arith, append_assoc)
 
 row-of : (place : ℕ) (label : Option (List ℕ)) (left : Option (Side × Relation)) (first : Term) (terms : List Term) (relation : Relation) (part : Side) → list_all is_signed_term terms ≡ true → fits_left (left_of left) relation ≡ true
     → RowOf place label left first terms relation part

@@ -1,39 +1,20 @@
 -- What tokens have to be if the grammar reads the sections of a file.
-use Rattle.std.proofs.Common.{◌≡◌, ◌≤◌, ◌<◌, refl, sym, ap, subst, ◌∙◌, ℕ, zero, suc, ◌+◌, List, [], ◌∷◌, ◌++◌, Bool, true, false, not, append_assoc, length, arith}
-use Rattle.std.specs.Prelude.{None, ◌&&◌}
-use Rattle.std.specs.List.{flat_map, list_all, list_any}
-use Rattle.std.specs.Cmp.{first_so, second_so}
-use Rattle.std.proofs.lemmas.Option.{none-some}
-use Rattle.mpslp_types.proofs.BoolLemmas.{both_so, both_false, so_not}
-use Rattle.mpslp_builder.specs.Declaration.{Declaration, Declarations, Draft, declare_column, declare_integer, declare_binary, declare_semi, with_declarations}
-use Rattle.mpslp_lp_grammar.specs.declared.signs.Sign.TheVariants.{Plus, Minus}
-use Rattle.mpslp_lp_grammar.specs.Rules.{◌>>=◌, next, ahead}
-use Rattle.mpslp_lp_grammar.specs.Terminal.{Terminal, TerminalAt}
-use Rattle.mpslp_lp_grammar.specs.Terminal.Terminal.{Opens, Name, Sign}
-use Rattle.mpslp_lp_grammar.specs.Phrase.{section_fault, with_section, has_seen, is_out_of_order, goes_to}
-use Rattle.mpslp_lp_grammar.specs.declared.sections_seen.SectionsSeen.{SectionsSeen}
-use Rattle.mpslp_lp_grammar.specs.declared.context.Context.{Context}
-use Rattle.mpslp_lp_grammar.specs.declared.states.Place.{Place}
-use Rattle.mpslp_lp_grammar.specs.declared.states.Place.TheVariants.{InBounds, InGenerals, InBinaries, InSemis}
-use Rattle.mpslp_lp_grammar.specs.declared.states.LastWord.{LastWord}
-use Rattle.mpslp_lp_grammar.specs.declared.states.LastWord.TheVariants.{Continuous}
-use Rattle.mpslp_lp_grammar.specs.Grammar.{line_end, opened_by, is_last_word, last_word, semi_from, section_start, may_begin_section}
-use Rattle.mpslp_lp_tokens.specs.Token.{section_of}
-use Rattle.mpslp_lp_tokens.specs.declared.words.Section.{Section as Kind}
-use Rattle.mpslp_lp_tokens.specs.declared.words.Section.TheVariants as kinds
-use Rattle.mpslp_lp_tokens.specs.declared.words.SectionWord.{SectionWord}
-use Rattle.mpslp_lp_tokens.specs.declared.words.SectionWord.TheVariants as words
-use Rattle.mpslp_canonical_lp.specs.PrintedDeclarations.{point_at}
-use Rattle.mpslp_canonical_lp.proofs.TerminalLemmas.{at}
+use Rattle.mpslp_lp_sentences.proofs.Prelude.{◌≡◌, ◌≤◌, ◌<◌, refl, sym, ap, subst, ◌∙◌, ℕ, zero, suc, ◌+◌, List, [], ◌∷◌, ◌++◌, Bool, true,
+  false, append_assoc, length, arith, None, flat_map, list_all, list_any, first_so, second_so, none-some, both_so, both_false, so_not,
+  Declaration, Declarations, Draft, declare_column, declare_integer, declare_binary, declare_semi, with_declarations, Plus, Minus, ◌>>=◌,
+  next, ahead, Terminal, TerminalAt, Opens, Name, Sign, section_fault, with_section, has_seen, is_out_of_order, goes_to, SectionsSeen,
+  Context, Place, InBounds, InGenerals, InBinaries, InSemis, LastWord, Continuous, line_end, opened_by, is_last_word, last_word, semi_from,
+  section_start, may_begin_section, section_of, Kind, SectionWord, point_at, at, bounds, generals, binaries, semis, bound_tokens,
+  name_tokens, section_tokens, opens_semis, same_section, are_sections, bound_declares, names_declare, section_declares}
 use Rattle.mpslp_lp_sentences.specs.Phrases.{Section}
-use Rattle.mpslp_lp_sentences.specs.Phrases.Section.{bounds, generals, binaries, semis}
-use Rattle.mpslp_lp_sentences.specs.Spelling.{bound_tokens, name_tokens, section_tokens, opens_semis, is_section, same_section, are_sections}
-use Rattle.mpslp_lp_sentences.specs.Meaning.{bound_declares, names_declare, section_declares}
-use Rattle.mpslp_lp_sentences.proofs.Whole.{heard}
-use Rattle.mpslp_lp_sentences.proofs.Stamped.{is_elsewhere, here, onward}
-use Rattle.mpslp_lp_sentences.proofs.SectionsHeard.{kind_of, IsInside, inside-after, is_fresh}
-use Rattle.mpslp_lp_sentences.proofs.Found.{all_at, onwards, onwards-append, Heard, Complete, heard-next, heard-ahead, goes-heard}
-use Rattle.mpslp_lp_sentences.proofs.FoundParts.{ReadsNames, rest-shorter, all-phrases, all_declare, all-flat, name_token, name_declares, Anything, any_name, one-name, bound_declared, any_bound, NoRelation, none-follows, one-bound}
+use Rattle.mpslp_lp_sentences.specs.Spelling.{is_section}
+use Rattle.mpslp_lp_sentences.proofs.{Whole.{heard}, Stamped.{is_elsewhere, here, onward},
+  SectionsHeard.{kind_of, IsInside, inside-after, is_fresh},
+  Found.{all_at, onwards, onwards-append, Heard, Complete, heard-next, heard-ahead, goes-heard}, FoundParts.{ReadsNames, rest-shorter,
+  all-phrases, all_declare, all-flat, name_token, name_declares, Anything, any_name, one-name, bound_declared, any_bound, NoRelation,
+  none-follows, one-bound}}
+use Rattle.mpslp_lp_tokens.specs.declared.words.Section.TheVariants as kinds
+use Rattle.mpslp_lp_tokens.specs.declared.words.SectionWord.TheVariants as words
 
 -- ---- the word of a section
 
@@ -43,19 +24,19 @@ pub record Opened (seen : SectionsSeen) (earlier : Draft) (line : ℕ → ℕ) (
 
 pub opened-heard : (place : Place) (seen : SectionsSeen) (earlier : Draft) (line : ℕ → ℕ) (word : SectionWord) (xs : List Terminal) (made : Declarations) → may_begin_section place ≡ true
     → Complete (point_at place seen earlier) line (Opens word ∷ xs) made → Opened seen earlier line word xs made
-opened-heard place seen earlier line word xs made may h = grind arith
+opened-heard = grind arith
 
 -- `end`
 at-end : (context : Context) (line : ℕ → ℕ) (xs : List Terminal) (made : Declarations) → Heard (line_end context (line 0)) (onward line) xs made → (is_elsewhere (line 0) (all_at (onward line) xs) ≡ true) × (made ≡ [])
-at-end context line xs made h = grind arith
+at-end = grind arith
 
 -- ---- sections that were opened
 
 unseen : (seen : SectionsSeen) (kind : Kind) → section_fault seen kind ≡ None → has_seen seen kind ≡ false
-unseen seen kind h = grind arith
+unseen = grind arith
 
 in-order : (seen : SectionsSeen) (kind : Kind) → section_fault seen kind ≡ None → is_out_of_order seen kind ≡ false
-in-order seen kind h = grind arith
+in-order = grind arith
 
 clash : {b : Bool} → b ≡ true → b ≡ false → ⊥
 clash h k = grind arith
@@ -74,20 +55,20 @@ is_rows words.Such = true
 is_rows _ = false
 
 pub no-rows : (word : SectionWord) (seen : SectionsSeen) → Closed seen → section_fault seen (section_of word) ≡ None → is_rows word ≡ false
-no-rows word seen closed h = grind arith
+no-rows = grind arith
 
 -- a section that may come after another is of another kind
 fresh-apart : (first part : Section) (seen : SectionsSeen) → is_fresh (with_section seen (kind_of first)) part ≡ true → (same_section first part ≡ false) × (is_fresh seen part ≡ true)
-fresh-apart first part seen h = grind arith
+fresh-apart = grind arith
 
 all-fresh_apart : (first : Section) (parts : List Section) (seen : SectionsSeen) → list_all (is_fresh (with_section seen (kind_of first))) parts ≡ true
     → (list_any (same_section first) parts ≡ false) × (list_all (is_fresh seen) parts ≡ true)
 all-fresh_apart first [] seen h = (refl, refl)
 all-fresh_apart first (part ∷ parts) seen h =
     let fresh = is_fresh (with_section seen (kind_of first)) in
-    let one = fresh-apart first part seen (first_so (fresh part) (list_all fresh parts) h) in
-    let more = all-fresh_apart first parts seen (second_so (fresh part) (list_all fresh parts) h) in
-    (both_false (same_section first part) (list_any (same_section first) parts) one.0 more.0, both_so (is_fresh seen part) (list_all (is_fresh seen) parts) one.1 more.1)
+    let one = fresh-apart first part seen (first_so _ _ h) in
+    let more = all-fresh_apart first parts seen (second_so _ _ h) in
+    (both_false _ _ one.0 more.0, both_so _ _ one.1 more.1)
 
 -- ---- the sections up to the end
 
@@ -107,9 +88,9 @@ section-joined part seen line xs rest made more ok new same is tail =
     let apart = all-fresh_apart part tail.parts seen tail.fresh in
     record {
       parts = part ∷ tail.parts;
-      good = both_so (is_section part) (not (list_any (same_section part) tail.parts) && are_sections tail.parts) ok
-          (both_so (not (list_any (same_section part) tail.parts)) (are_sections tail.parts) (so_not (list_any (same_section part) tail.parts) apart.0) tail.good);
-      fresh = both_so (is_fresh seen part) (list_all (is_fresh seen) tail.parts) (so_not (has_seen seen (kind_of part)) new) apart.1;
+      good = both_so _ _ ok
+          (both_so _ _ (so_not _ apart.0) tail.good);
+      fresh = both_so _ _ (so_not _ new) apart.1;
       after = tail.after;
       same = same ∙ ap (λ (ys : List Terminal). section_tokens part ++ ys) tail.same ∙ sym (append_assoc (section_tokens part) (flat_map section_tokens tail.parts) (Opens words.End ∷ tail.after));
       is = is ∙ ap (λ (ds : Declarations). section_declares part ++ ds) tail.is;
@@ -144,7 +125,7 @@ shorter-tail x front rest xs word same = by (ap (λ (ys : List Terminal). length
     by e less = omega (arith, e, less)
 
 heading-shorter : (opening front rest xs : List Terminal) (word : SectionWord) → opens_semis opening ≡ true → xs ≡ (opening ++ front) ++ Opens word ∷ rest → length rest + 1 < length xs
-heading-shorter opening front rest xs word ok same = grind (arith, shorter-tail)
+heading-shorter = grind (arith, shorter-tail)
 
 bounds-body : (seen : SectionsSeen) (earlier : Draft) (line : ℕ → ℕ) (xs : List Terminal) (made : Declarations)
     → Heard (goes_to (here (with_section seen kinds.Bounds) earlier) (InBounds None) []) (onward line) xs made → SomeBody kinds.Bounds seen line (Opens words.Bounds ∷ xs) made
@@ -290,7 +271,7 @@ semis-body opening seen earlier line tail made ok h =
 
 -- what goes on and declares nothing
 pub moved : (context : Context) (place : Place) (line : ℕ → ℕ) (xs : List Terminal) (made : Declarations) → Heard (goes_to context place []) line xs made → Complete (point_at place context.sections_seen context.earlier) line xs made
-moved context place line xs made h = grind arith
+moved = grind arith
 
 -- the last word of a heading
 pub record LastWordFound (wanted : LastWord) (context : Context) (line : ℕ → ℕ) (xs : List Terminal) (made : Declarations) : Type 0 where
@@ -324,7 +305,7 @@ after-section : (kind : Kind) (seen : SectionsSeen) (line : ℕ → ℕ) (xs : L
     → ((inside : SectionsSeen) → IsInside inside → is_rows some.body.word ≡ false → (place : Place) (later : Draft) (on : ℕ → ℕ) → may_begin_section place ≡ true
     → Complete (point_at place inside later) on (Opens some.body.word ∷ some.body.rest) some.body.more → TailFound inside on (Opens some.body.word ∷ some.body.rest) some.body.more)
     → TailFound seen line xs made
-after-section kind seen line xs made some none inside rec = grind (arith, kind_of, opened-heard, onwards, heard, section-joined, unseen, inside-after, no-rows, closed-after)
+after-section = grind (arith, kind_of, opened-heard, onwards, heard, section-joined, unseen, inside-after, no-rows, closed-after)
 
 pub sections-found : (n : ℕ) (place : Place) (seen : SectionsSeen) (earlier : Draft) (line : ℕ → ℕ) (word : SectionWord) (xs : List Terminal) (made : Declarations) → length xs < n → may_begin_section place ≡ true → IsInside seen
     → is_rows word ≡ false → Complete (point_at place seen earlier) line (Opens word ∷ xs) made → TailFound seen line (Opens word ∷ xs) made

@@ -1,28 +1,15 @@
 -- How the grammar reads items and sides.
-use Rattle.std.proofs.Common.{arith, rules, ◌≡◌, sym, ap, subst, ◌∙◌, ℕ, List, [], ◌∷◌, ◌++◌, Bool, true, false, append_assoc}
-use Rattle.std.specs.Prelude.{Option, Some, None}
-use Rattle.mpslp_decimal.specs.Decimal.{Number as Decimal}
-use Rattle.mpslp_types.specs.declared.kinds.Limit.{Limit}
-use Rattle.mpslp_builder.specs.Declaration.{Declarations}
-use Rattle.mpslp_lp_grammar.specs.declared.signs.Sign.{Sign as SignOf}
-use Rattle.mpslp_lp_grammar.specs.declared.signs.Sign.TheVariants.{Plus}
-use Rattle.mpslp_lp_grammar.specs.Rules.{◌>>=◌, next}
-use Rattle.mpslp_lp_grammar.specs.Terminal.{Terminal, TerminalAt}
-use Rattle.mpslp_lp_grammar.specs.Terminal.Terminal.{Name, Number, Sign, Compares, Infinity}
-use Rattle.mpslp_lp_grammar.specs.declared.context.Context.{Context}
-use Rattle.mpslp_lp_grammar.specs.declared.relations.Relation.{Relation}
-use Rattle.mpslp_lp_grammar.specs.Phrase.{PhraseRule, Follows}
-use Rattle.mpslp_lp_grammar.specs.Items.{Side as SideOf, apply_sign, next_relation, Item, product, number_item, signed_item, item_from, Item as items}
+use Rattle.mpslp_lp_sentences.proofs.Prelude.{arith, rules, ◌≡◌, sym, ap, subst, ◌∙◌, ℕ, List, [], ◌∷◌, ◌++◌, Bool, true, false,
+  append_assoc, Option, Some, None, Decimal, Limit, Declarations, SignOf, Plus, ◌>>=◌, next, Terminal, TerminalAt, Name, Number, Sign,
+  Compares, Infinity, Context, Relation, PhraseRule, Follows, SideOf, apply_sign, next_relation, product, number_item, signed_item,
+  item_from, items, at, Side, side, term, sign_tokens, number_tokens, side_tokens, term_tokens, times, product_of, signed, coefficient,
+  limit}
+use Rattle.mpslp_lp_grammar.specs.Items.{Item}
+use Rattle.mpslp_lp_sentences.specs.Meaning.{one, infinity}
+use Rattle.mpslp_lp_sentences.proofs.{Whole.{Tokens, heard-later, listened-none},
+  Stamped.{stamped, onward, first_of_all, ending, Hears, hears-next}}
 use Rattle.mpslp_lp_grammar.specs.Items as rules
 use Rattle.mpslp_lp_tokens.specs.declared.words.SectionWord.TheVariants as words
-use Rattle.mpslp_canonical_lp.proofs.TerminalLemmas.{at}
-use Rattle.mpslp_lp_sentences.specs.Phrases.{Side}
-use Rattle.mpslp_lp_sentences.specs.Phrases.Side.{side}
-use Rattle.mpslp_lp_sentences.specs.Phrases.Term.{term}
-use Rattle.mpslp_lp_sentences.specs.Spelling.{sign_tokens, number_tokens, side_tokens, term_tokens}
-use Rattle.mpslp_lp_sentences.specs.Meaning.{times, product_of, signed, one, coefficient, infinity, limit}
-use Rattle.mpslp_lp_sentences.proofs.Whole.{Tokens, heard-later, listened-none}
-use Rattle.mpslp_lp_sentences.proofs.Stamped.{stamped, onward, first_of_all, ending, Hears, hears-next}
 
 -- ---- signs
 
@@ -32,13 +19,13 @@ multiplied sign [] = sign
 multiplied sign (next_one ∷ more) = multiplied (product sign next_one) more
 
 pub signed-is : (sign : SignOf) (value : Decimal) → apply_sign sign value ≡ signed sign value
-signed-is sign value = grind arith
+signed-is = grind arith
 
 pub times-plus : (sign : SignOf) → times sign Plus ≡ sign
-times-plus sign = grind arith
+times-plus = grind arith
 
 times-product : (a b c : SignOf) → times (product a b) c ≡ times a (times b c)
-times-product a b c = grind arith
+times-product = grind arith
 
 multiplied-is : (signs : List SignOf) (sign : SignOf) → multiplied sign signs ≡ product_of (sign ∷ signs)
 multiplied-is [] sign = sym (times-plus sign)
@@ -52,14 +39,14 @@ abbrev pub term_before : List SignOf → Option Decimal → List ℕ → List Te
 term_before signs number column xs = sign_tokens signs ++ (number_tokens number ++ Name column ∷ xs)
 
 pub term-before : (signs : List SignOf) (number : Option Decimal) (column : List ℕ) (xs : List Terminal) → term_before signs number column xs ≡ term_tokens (term signs number column) ++ xs
-term-before signs number column xs = grind (arith, append_assoc)
+term-before = grind (arith, append_assoc)
 
 abbrev pub is_no_name : Terminal → Bool
 is_no_name (Name name) = false
 is_no_name _ = true
 
 pub infinity-is : (sign : SignOf) → rules.infinity sign ≡ infinity sign
-infinity-is sign = grind arith
+infinity-is = grind arith
 
 -- the first token of a side, and its others before further tokens
 abbrev pub side_first : Side → Terminal
@@ -73,7 +60,7 @@ side_rest (side (Some sign) None) xs = Infinity ∷ xs
 side_rest (side (Some sign) (Some value)) xs = Number value ∷ xs
 
 pub side-split : (part : Side) (xs : List Terminal) → side_first part ∷ side_rest part xs ≡ side_tokens part ++ xs
-side-split part xs = grind arith
+side-split = grind arith
 
 module _ (last : ℕ) (later : Tokens) where
   -- ---- items

@@ -1,23 +1,15 @@
 -- The kinds of the errors of a line by itself, and of those of a whole file.
-use Rattle.std.proofs.Common.{arith, ◌≡◌, refl, sym, ap, ◌∙◌, List, [], ◌∷◌, ℕ, Bool, true, false}
-use Rattle.std.specs.Prelude.{Option, Some, None, not, nat_le, filter_map, if◌then◌else◌}
-use Rattle.std.specs.List.{list_any, list_all, cons_option}
-use Rattle.std.specs.Option.{option_map, option_map_or}
-use Rattle.std.specs.Cmp.{second_so}
-use Rattle.mpslp_decimal.specs.declared.literal.NumberFault.TheVariants as numbers
+use Rattle.mpslp_lp_sentences.proofs.Prelude.{arith, ◌≡◌, refl, sym, ap, ◌∙◌, List, [], ◌∷◌, ℕ, Bool, true, false, Option, Some, None, not,
+  nat_le, filter_map, if◌then◌else◌, list_any, list_all, cons_option, option_map, option_map_or, second_so, Fault, FaultKind, is_nonempty,
+  head_of, Draft, is_kind, number_fault, FaultTests, first_held, has_legal_length, is_legal_byte, outside_comment, Token, tokens,
+  name_fault, word_fault, token_fault, lexical_fault}
 use Rattle.mpslp_types.specs.FaultOrder.{kind_rank, least_kind}
-use Rattle.mpslp_types.specs.declared.faults.Fault.{Fault}
-use Rattle.mpslp_types.specs.declared.faults.FaultKind.{FaultKind}
-use Rattle.mpslp_types.specs.declared.faults.FaultKind.TheVariants as kinds
-use Rattle.mpslp_types.specs.Lists.{is_nonempty, head_of}
-use Rattle.mpslp_builder.specs.Declaration.{Draft}
 use Rattle.mpslp_builder.specs.FileFault.{named_kinds, whole_fault, names_with, named_faults, file_fault}
-use Rattle.mpslp_lines.specs.FaultTests.{is_kind, number_fault, FaultTests, first_held, has_legal_length, is_legal_byte}
-use Rattle.mpslp_lp_tokens.specs.Token.{outside_comment, Token, tokens}
 use Rattle.mpslp_lp_tokens.specs.declared.tokens.TokenKind.{TokenKind}
 use Rattle.mpslp_lp_tokens.specs.declared.words.WordClass.{WordClass}
 use Rattle.mpslp_lp_tokens.specs.declared.words.WordClass.TheVariants.{Sos}
-use Rattle.mpslp_lp_grammar.specs.Terminal.{name_fault, word_fault, token_fault, lexical_fault}
+use Rattle.mpslp_decimal.specs.declared.literal.NumberFault.TheVariants as numbers
+use Rattle.mpslp_types.specs.declared.faults.FaultKind.TheVariants as kinds
 
 -- ---- a line by itself
 
@@ -31,19 +23,20 @@ AreLexical o = option_map_or is_lexical o true ≡ true
 
 held-lexical : (tests : FaultTests) → list_all (λ test. is_lexical test.1) tests ≡ true → AreLexical (first_held tests)
 held-lexical [] h = refl
-held-lexical ((held, kind) ∷ more) h = grind (arith, held-lexical more (second_so (is_lexical kind) (list_all (λ test. is_lexical test.1) more) h))
+held-lexical ((held, kind) ∷ more) h =
+    grind (arith, held-lexical more (second_so (is_lexical kind) (list_all (λ test. is_lexical test.1) more) h))
 
 number-lexical : (literal : List ℕ) → AreLexical (number_fault literal)
-number-lexical literal = grind arith
+number-lexical = grind arith
 
 name-lexical : (text : List ℕ) → AreLexical (name_fault text)
-name-lexical text = grind arith
+name-lexical = grind arith
 
 word-lexical : (text : List ℕ) (word_class : WordClass) → AreLexical (word_fault text word_class)
-word-lexical text word_class = grind (arith, name-lexical)
+word-lexical = grind (arith, name-lexical)
 
 token-lexical : (kind : TokenKind) (text : List ℕ) → AreLexical (token_fault kind text)
-token-lexical kind text = grind (arith, word-lexical, number-lexical)
+token-lexical = grind (arith, word-lexical, number-lexical)
 
 tokens-lexical : (found : List Token) → AreLexical (least_kind (filter_map (λ (token : Token). token_fault token.kind token.text) found))
 tokens-lexical [] = refl
@@ -53,13 +46,13 @@ tokens-lexical (token ∷ found) = by (token_fault token.kind token.text) (token
     rest = filter_map (λ (token : Token). token_fault token.kind token.text) found
 
     lesser : (kind other : FaultKind) → is_lexical kind ≡ true → is_lexical other ≡ true → (b : Bool) → is_lexical (if b then other else kind) ≡ true
-    lesser kind other a b b1 = grind arith
+    lesser = grind arith
 
     least : (kind : FaultKind) → is_lexical kind ≡ true → (o : Option FaultKind) → least_kind rest ≡ o → AreLexical o → AreLexical (least_kind (kind ∷ rest))
-    least kind a o e h = grind (arith, lesser)
+    least = grind (arith, lesser)
 
     by : (o : Option FaultKind) → AreLexical o → AreLexical (least_kind rest) → AreLexical (least_kind (cons_option o rest))
-    by o a h = grind (arith, least, rest)
+    by = grind (arith, least, rest)
 
 pub lexical-kind : (line : List ℕ) (kind : FaultKind) → lexical_fault line ≡ Some kind → is_lexical kind ≡ true
 lexical-kind line kind h = sym (ap (λ (o : Option FaultKind). option_map_or is_lexical o true) h) ∙ line_lexical (first_held tests) (held-lexical tests refl)
@@ -82,7 +75,8 @@ is_of_whole kind = nat_le (kind_rank kinds.MissingEnd) (kind_rank kind)
 named-whole : (all : Draft) (ks : List FaultKind) (fault : Fault) → list_all is_of_whole ks ≡ true
     → head_of (filter_map (λ kind. option_map (λ name. whole_fault kind (Some name)) (head_of (names_with all kind))) ks) ≡ Some fault → is_of_whole fault.kind ≡ true
 named-whole all [] fault h e = cc
-named-whole all (kind ∷ ks) fault h e = grind (arith, named-whole all ks fault (second_so (is_of_whole kind) (list_all is_of_whole ks) h))
+named-whole all (kind ∷ ks) fault h e =
+    grind (arith, named-whole all ks fault (second_so (is_of_whole kind) (list_all is_of_whole ks) h))
 
 pub file-kind : (all : Draft) (fault : Fault) → file_fault all ≡ Some fault → is_of_whole fault.kind ≡ true
 file-kind all fault h = by (is_nonempty all.columns) h

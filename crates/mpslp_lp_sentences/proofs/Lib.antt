@@ -1,3 +1,4 @@
+mod Prelude
 pub mod Whole
 pub mod Stamped
 pub mod ItemsHeard

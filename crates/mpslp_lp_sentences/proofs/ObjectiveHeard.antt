@@ -1,37 +1,18 @@
 -- How the grammar reads the objective.
-use Rattle.std.proofs.Common.{arith, ◌≡◌, refl, sym, subst, ℕ, List, [], ◌∷◌, ◌++◌, Bool, true, false, append_assoc}
-use Rattle.std.specs.Prelude.{Option, Some, None}
-use Rattle.std.specs.List.{flat_map, list_all}
-use Rattle.std.specs.Cmp.{first_so, second_so}
-use Rattle.mpslp_decimal.specs.Decimal.{Number as Decimal}
-use Rattle.mpslp_types.specs.declared.kinds.Sense.{Sense}
-use Rattle.mpslp_builder.specs.Declaration.{Declarations, Draft, empty_draft, declare_constant, with_declarations}
-use Rattle.mpslp_builder.specs.Refusal.{refusals_in_turn}
-use Rattle.mpslp_builder.proofs.MadeDrafts.{with_declarations-append}
-use Rattle.mpslp_lp_grammar.specs.declared.signs.Sign.{Sign as SignOf}
-use Rattle.mpslp_lp_grammar.specs.Rules.{◌>>=◌, ahead}
-use Rattle.mpslp_lp_grammar.specs.Terminal.{Terminal}
-use Rattle.mpslp_lp_grammar.specs.Terminal.Terminal.{Opens, Name, Number, Sign, Colon}
-use Rattle.mpslp_lp_grammar.specs.Phrase.{start, no_section_seen, with_section, declares}
-use Rattle.mpslp_lp_grammar.specs.declared.sections_seen.SectionsSeen.{SectionsSeen}
-use Rattle.mpslp_lp_grammar.specs.declared.context.Context.{Context}
-use Rattle.mpslp_lp_grammar.specs.declared.states.Place.TheVariants.{BeforeItems, InObjective}
-use Rattle.mpslp_lp_grammar.specs.Items.{signed_item, Item as items}
-use Rattle.mpslp_lp_grammar.specs.Rows.{objective_item, objective_declared, default_objective, first_item_declared, objective_named, objective_from, objective as objective_rule}
+use Rattle.mpslp_lp_sentences.proofs.Prelude.{arith, ◌≡◌, refl, sym, subst, ℕ, List, [], ◌∷◌, ◌++◌, Bool, true, false, append_assoc, Option,
+  Some, None, flat_map, list_all, first_so, second_so, Decimal, Sense, Declarations, Draft, empty_draft, declare_constant,
+  with_declarations, refusals_in_turn, with_declarations-append, SignOf, ◌>>=◌, ahead, Terminal, Opens, Name, Number, Sign, Colon, start,
+  no_section_seen, with_section, declares, SectionsSeen, Context, BeforeItems, InObjective, signed_item, items, objective_item,
+  objective_declared, default_objective, first_item_declared, objective_named, objective_from, objective_rule, point_at, at, parts-taken,
+  Item, term, a_term, a_constant, objective, sign_tokens, label_tokens, item_tokens, is_objective, objective_tokens, sense_word,
+  is_signed_item, are_items, product_of, signed, coefficient, item_declares, objective_declares}
+use Rattle.mpslp_lp_sentences.specs.Phrases.{Objective}
+use Rattle.mpslp_lp_sentences.proofs.{Whole.{Tokens},
+  Stamped.{first_of_all, here, Hears, IsWhole, IsWholeAnywhere, whole-begins, hears-next, hears-ahead, hears-declares, whole-joined},
+  ItemsHeard.{multiplied, multiplied-value, term_before, term-before, is_no_name, hears-lone, hears-signs, hears-signed_number, hears-term,
+  HearsTerm}}
 use Rattle.mpslp_lp_tokens.specs.declared.words.Section.TheVariants as sections
 use Rattle.mpslp_lp_tokens.specs.declared.words.SectionWord.TheVariants as words
-use Rattle.mpslp_canonical_lp.specs.PrintedDeclarations.{point_at}
-use Rattle.mpslp_canonical_lp.proofs.TerminalLemmas.{at}
-use Rattle.mpslp_canonical_lp.proofs.ObjectiveWalk.{parts-taken}
-use Rattle.mpslp_lp_sentences.specs.Phrases.{Item, Objective}
-use Rattle.mpslp_lp_sentences.specs.Phrases.Term.{term}
-use Rattle.mpslp_lp_sentences.specs.Phrases.Item.{a_term, a_constant}
-use Rattle.mpslp_lp_sentences.specs.Phrases.Objective.{objective}
-use Rattle.mpslp_lp_sentences.specs.Spelling.{sign_tokens, label_tokens, item_tokens, is_objective, objective_tokens, sense_word, is_signed_item, are_items}
-use Rattle.mpslp_lp_sentences.specs.Meaning.{product_of, signed, coefficient, item_declares, objective_declares}
-use Rattle.mpslp_lp_sentences.proofs.Whole.{Tokens}
-use Rattle.mpslp_lp_sentences.proofs.Stamped.{first_of_all, here, Hears, IsWhole, IsWholeAnywhere, whole-begins, hears-next, hears-ahead, hears-declares, whole-joined}
-use Rattle.mpslp_lp_sentences.proofs.ItemsHeard.{multiplied, multiplied-value, term_before, term-before, is_no_name, hears-lone, hears-signs, hears-signed_number, hears-term, HearsTerm}
 
 -- what may follow a constant
 abbrev pub is_opening : Terminal → Bool
@@ -44,7 +25,7 @@ is_section_word (Opens word) = true
 is_section_word _ = false
 
 no_name-opening : (x : Terminal) → is_opening x ≡ true → is_no_name x ≡ true
-no_name-opening x h = grind arith
+no_name-opening = grind arith
 
 -- tokens after items begin with an item's sign or as the tokens after them
 opening-items : (parts : List Item) (xs : List Terminal) → list_all is_signed_item parts ≡ true → is_section_word (first_of_all xs) ≡ true → is_opening (first_of_all (flat_map item_tokens parts ++ xs)) ≡ true
@@ -70,7 +51,7 @@ module _ (last : ℕ) (later : Tokens) where
       → refusals_in_turn earlier (declare_constant value ∷ []) ≡ []
       → IsWhole last later (point_at (InObjective name) sections_seen (with_declarations earlier (declare_constant value ∷ []))) xs made
       → Hears last later (objective_item (here sections_seen earlier) name (items.Lone value (at n x))) xs (declare_constant value ∷ made)
-  heard-constant name sections_seen earlier value x n xs made opens h rest = grind arith
+  heard-constant = grind arith
 
   -- a constant after its first sign
   heard-signed_constant : (name : List ℕ) (sections_seen : SectionsSeen) (earlier : Draft) (sign : SignOf) (signs : List SignOf) (value : Decimal) (xs : List Terminal) (made : Declarations)
@@ -136,9 +117,10 @@ module _ (last : ℕ) (later : Tokens) where
       let first = item_declares name part in
       let more = flat_map (item_declares name) parts in
       let taken = parts-taken earlier first more h in
-      let signs = second_so (is_signed_item part) (list_all is_signed_item parts) sign in
+      let signs = second_so _ _ sign in
       whole-joined last later (point_at (InObjective name) sections_seen earlier) (item_tokens part) (flat_map item_tokens parts) xs first more made
-      (whole-later name sections_seen earlier part (flat_map item_tokens parts ++ xs) (more ++ made) (first_so (is_signed_item part) (list_all is_signed_item parts) sign) (opening-items parts xs signs opens) taken.0
+      (whole-later name sections_seen earlier part (flat_map item_tokens parts ++ xs) (more ++ made) (first_so _ _ sign)
+      (opening-items parts xs signs opens) taken.0
       (whole-items name sections_seen parts (with_declarations earlier first) xs made signs opens taken.1
       (subst (λ (draft : Draft). IsWholeAnywhere last later sections_seen draft xs made) (with_declarations-append first more earlier) rest)))
 
@@ -162,14 +144,14 @@ module _ (last : ℕ) (later : Tokens) where
   hears-plain : (sense : Sense) (xs : List Terminal) (made : Declarations) → is_no_name (first_of_all xs) ≡ true
       → IsWhole last later (point_at (BeforeItems default_objective) after_word (with_declarations empty_draft (objective_declared sense default_objective))) xs made
       → Hears last later (objective_rule (here after_word empty_draft) sense) xs (objective_declared sense default_objective ++ made)
-  hears-plain sense xs made no_name rest = grind arith
+  hears-plain = grind arith
 
   -- a name that is no label: it is the first item
   hears-second : (sense : Sense) (column : List ℕ) (x : Terminal) (n : ℕ) (xs : List Terminal) (made : Declarations) → is_opening x ≡ true
       → refusals_in_turn empty_draft (first_item_declared sense column) ≡ []
       → IsWhole last later (point_at (InObjective default_objective) after_word (with_declarations empty_draft (first_item_declared sense column))) xs made
       → Hears last later (objective_named (here after_word empty_draft) sense column (at n x)) xs (first_item_declared sense column ++ made)
-  hears-second sense column x n xs made opens h rest = grind arith
+  hears-second = grind arith
 
   hears-objective : (sense : Sense) (label : Option (List ℕ)) (parts : List Item) (xs : List Terminal) (made : Declarations) → are_items parts ≡ true → is_section_word (first_of_all xs) ≡ true
       → refusals_in_turn empty_draft (objective_declares (objective sense label parts)) ≡ []
@@ -211,7 +193,7 @@ module _ (last : ℕ) (later : Tokens) where
       (subst (λ (draft : Draft). IsWholeAnywhere last later after_word draft xs made) (with_declarations-append first more empty_draft) rest)))))
 
   begun : (sense : Sense) (xs : List Terminal) (made : Declarations) → Hears last later (objective_rule (here after_word empty_draft) sense) xs made → IsWhole last later start (Opens (sense_word sense) ∷ xs) made
-  begun sense xs made h = grind arith
+  begun = grind arith
 
   -- the objective, and then a section or the end
   pub whole-objective : (part : Objective) (xs : List Terminal) (made : Declarations) → is_objective part ≡ true → is_section_word (first_of_all xs) ≡ true

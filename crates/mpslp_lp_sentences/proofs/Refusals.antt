@@ -1,20 +1,9 @@
 -- The kind of the first error of declarations is that of a test that fails.
-use Rattle.std.proofs.Common.{arith, ◌≡◌, refl, List, [], ◌∷◌, ℕ, Bool, true, false, cond, map}
-use Rattle.std.specs.Prelude.{◌||◌, if◌then◌else◌}
-use Rattle.std.specs.List.{list_any, flat_map}
+use Rattle.mpslp_lp_sentences.proofs.Prelude.{arith, ◌≡◌, refl, List, [], ◌∷◌, ℕ, Bool, true, false, cond, map, ◌||◌, if◌then◌else◌,
+  list_any, flat_map, map-append, list_any-append, Decimal, BuildFault, FaultKind, true_from, those_of, Declarations, Draft,
+  with_declaration, with_declarations, refusal_tests, refusals_in_turn, kind_of_build_fault, is_kind, term_declared}
 use Rattle.std.proofs.Math.Dec.{eqb_refl}
-use Rattle.std.proofs.lemmas.List.{map-append}
-use Rattle.std.proofs.lemmas.List.Folds.{list_any-append}
-use Rattle.mpslp_decimal.specs.Decimal.{Number as Decimal}
-use Rattle.mpslp_types.specs.declared.faults.BuildFault.{BuildFault}
-use Rattle.mpslp_types.specs.declared.faults.FaultKind.{FaultKind}
 use Rattle.mpslp_types.specs.declared.faults.FaultKind.TheVariants as kinds
-use Rattle.mpslp_types.proofs.BoolLemmas.{true_from}
-use Rattle.mpslp_types.specs.Lists.{those_of}
-use Rattle.mpslp_builder.specs.Declaration.{Declarations, Draft, with_declaration, with_declarations}
-use Rattle.mpslp_builder.specs.Refusal.{refusal_tests, refusals_in_turn}
-use Rattle.mpslp_lines.specs.FaultTests.{kind_of_build_fault, is_kind}
-use Rattle.mpslp_lp_grammar.specs.Rows.{term_declared}
 
 -- one of the tests of this kind fails
 abbrev pub refused_as : FaultKind → List (Bool × BuildFault) → Bool
@@ -31,14 +20,14 @@ any-refused kind ((held, other) ∷ more) = by (any-refused kind more) held (is_
   where
     by : list_any (is_kind kind) (map kind_of_build_fault (those_of more)) ≡ refused_as kind more → (b c : Bool) → is_kind kind (kind_of_build_fault other) ≡ c
         → list_any (is_kind kind) (map kind_of_build_fault (cond b (other ∷ those_of more) (those_of more))) ≡ cond c (b || refused_as kind more) (refused_as kind more)
-    by rest b c e = grind arith
+    by = grind arith
 
 any-declaring : (kind : FaultKind) (ds : Declarations) (earlier : Draft) → list_any (is_kind kind) (map kind_of_build_fault (refusals_in_turn earlier ds)) ≡ refuses kind earlier ds
 any-declaring kind [] earlier = refl
 any-declaring kind (d ∷ ds) earlier = grind (arith, map-append, list_any-append, any-refused, any-declaring kind ds (with_declaration earlier d))
 
 pub first-refused : (ds : Declarations) (earlier : Draft) (first : BuildFault) (more : List BuildFault) → refusals_in_turn earlier ds ≡ first ∷ more → refuses (kind_of_build_fault first) earlier ds ≡ true
-first-refused ds earlier first more h = grind (arith, any-declaring, true_from, eqb_refl)
+first-refused = grind (arith, any-declaring, true_from, eqb_refl)
 
 -- the errors of terms have no other kinds
 pub terms-refuse : (kind : FaultKind) → is_kind kind kinds.UnknownRow ≡ false → is_kind kind kinds.UnknownColumn ≡ false → is_kind kind kinds.DuplicateEntry ≡ false

@@ -1,22 +1,10 @@
 -- What is known of rows that are not rejected: their columns are new in the row, and each row adds one to their number.
-use Rattle.std.proofs.Common.{arith, ◌≡◌, refl, ap, ◌∙◌, ℕ, ◌+◌, List, [], ◌∷◌, ◌++◌, Bool, false, not, length}
-use Rattle.std.specs.Prelude.{◌||◌, cond, is_some}
-use Rattle.std.specs.List.{flat_map, list_any}
+use Rattle.mpslp_lp_sentences.proofs.Prelude.{arith, ◌≡◌, refl, ap, ◌∙◌, ℕ, ◌+◌, List, [], ◌∷◌, ◌++◌, Bool, false, length, ◌||◌, cond,
+  is_some, flat_map, list_any, find, Decimal, same_bytes, bytes_cmp, nor, RowDefinition, Draft, declare_row, with_declaration,
+  with_declarations, has_coefficient, refusals_in_turn, itself_named, has-put_key, IsSortedDraft, term_declared, AreNew, parts-taken}
 use Rattle.std.specs.Cmp.Lexicographic.{nat_list_cmp_total}
-use Rattle.std.specs.FinMap.{find}
 use Rattle.std.specs.FinMap.Entries.{length-put}
-use Rattle.mpslp_decimal.specs.Decimal.{Number as Decimal}
-use Rattle.mpslp_types.specs.Name.{same_bytes, bytes_cmp}
-use Rattle.mpslp_types.proofs.BoolLemmas.{nor}
-use Rattle.mpslp_builder.specs.Declaration.{RowDefinition, Draft, declare_row, with_declaration, with_declarations, has_coefficient}
-use Rattle.mpslp_builder.specs.Refusal.{refusals_in_turn}
 use Rattle.mpslp_types.specs.declared.faults.BuildFault.TheVariants as builds
-use Rattle.mpslp_builder.proofs.LaterDrafts.{itself_named}
-use Rattle.mpslp_builder.proofs.SlotLemmas.{has-put_key}
-use Rattle.mpslp_builder.proofs.SortedDrafts.{IsSortedDraft}
-use Rattle.mpslp_lp_grammar.specs.Rows.{term_declared}
-use Rattle.mpslp_canonical_lp.specs.PrintedDeclarations.{AreNew}
-use Rattle.mpslp_canonical_lp.proofs.ObjectiveWalk.{parts-taken}
 
 abbrev pub Pair : Type 0
 Pair = List ℕ × Decimal
@@ -25,7 +13,7 @@ Pair = List ℕ × Decimal
 
 -- a coefficient that is not rejected was not there
 absent : (earlier : Draft) (row : List ℕ) (term : Pair) → refusals_in_turn earlier (term_declared row term) ≡ [] → has_coefficient earlier (record { row = row; column = term.0 }) ≡ false
-absent earlier row term h = grind arith
+absent = grind arith
 
 -- so the columns of terms that are not rejected are new
 pub terms-new : (row : List ℕ) (terms : List Pair) (earlier : Draft) (seen : List Pair) → refusals_in_turn earlier (flat_map (term_declared row) terms) ≡ []
@@ -39,12 +27,12 @@ terms-new row (term ∷ terms) earlier seen h known =
     any-append : (column : List ℕ) (xs : List Pair) → list_any (λ (t : Pair). same_bytes column t.0) xs ≡ false → same_bytes column term.0 ≡ false → list_any (λ (t : Pair). same_bytes column t.0) (xs ++ term ∷ []) ≡ false
     any-append column [] a b = ap (λ (s : Bool). s || false) b
     any-append column (x ∷ xs) a b =
-        let parts = nor (same_bytes column x.0) (list_any (λ (t : Pair). same_bytes column t.0) xs) a in
+        let parts = nor _ _ a in
         ap (λ (s : Bool). s || list_any (λ (t : Pair). same_bytes column t.0) (xs ++ term ∷ [])) parts.0 ∙ any-append column xs parts.1 b
 
     further : (column : List ℕ) → has_coefficient (with_declarations earlier (term_declared row term)) (record { row = row; column = column }) ≡ false
         → list_any (λ (t : Pair). same_bytes column t.0) (seen ++ term ∷ []) ≡ false
-    further column absent_now = grind (arith, nor, has-put_key, any-append, itself_named)
+    further = grind (arith, nor, has-put_key, any-append, itself_named)
 
 -- ---- the number of rows
 
@@ -53,7 +41,7 @@ terms-rows row [] earlier = refl
 terms-rows row (term ∷ terms) earlier = terms-rows row terms (with_declarations earlier (term_declared row term))
 
 new_name : (earlier : Draft) (name : List ℕ) (form : RowDefinition) → refusals_in_turn earlier (declare_row name form ∷ []) ≡ [] → is_some (find bytes_cmp name earlier.rows) ≡ false
-new_name earlier name form h = grind arith
+new_name = grind arith
 
 -- a row that is not rejected adds one
 pub row-adds : (earlier : Draft) (name : List ℕ) (form : RowDefinition) (terms : List Pair) → IsSortedDraft earlier → refusals_in_turn earlier (declare_row name form ∷ flat_map (term_declared name) terms) ≡ []

@@ -1,48 +1,25 @@
 -- A row with the name of an earlier row or of the objective is as `FaultsInWords` defines it: in each state, what is known of
 -- the rows before is known after each token.
-use Rattle.std.proofs.Common.{arith, ◌≡◌, refl, ap, subst, ℕ, List, [], ◌∷◌, Bool, true, false}
-use Rattle.std.specs.Prelude.{Option, Some, None, ◌-◌}
-use Rattle.mpslp_decimal.specs.Decimal.{Number as Decimal}
-use Rattle.mpslp_types.specs.declared.faults.BuildFault.{BuildFault}
+use Rattle.mpslp_lp_sentences.proofs.Prelude.{arith, ◌≡◌, refl, ap, subst, ℕ, List, [], ◌∷◌, Bool, true, false, Option, Some, None, ◌-◌,
+  Decimal, BuildFault, Limit, Sense, Declarations, Draft, empty_draft, with_declarations, declare_column, declare_integer, declare_binary,
+  declare_semi, refusals_in_turn, sorted-with_declarations, Section, Objective, Rows, SectionWord, Context, Relation, SignOf, ItemOwner,
+  OfObjective, OfRow, LastWord, Place, AtStart, BeforeItems, InObjective, BetweenRows, InRow, InBounds, InGenerals, InBinaries, InSemis,
+  SideOwner, SideOfRow, SideOfBound, State, Between, AtObjective, ObjectiveName, AtLastWord, AtSemi, Signs, ItemNumber, RowName, RowLabel,
+  RowSign, RowNumber, RowLeft, RowLeftRelation, BoundName, BoundSign, BoundLeft, BoundLeftRelation, AtSide, SideSign, AfterEnd, AfterToken,
+  Goes, Refuses, refuse, with_made, declare_unless_refused, take_term, take_after_signs, begin_item, take_side, no_limits, opened_by,
+  is_last_word, open_section, begin_row, take_second_relation, begin_phrase, begin, limits_by, flip, term_declared, objective_declared,
+  default_objective, first_item_declared, fits_left, PartialRow, start, Terminal, Opens, Name, Number, Sign, Compares, Colon, Free,
+  take_lone, take, IsInWords, is_section, has_opened, current_section, last_name, follows_terms, is_right_side, is_value, ends_row,
+  label_before, repeats_row}
+use Rattle.mpslp_lp_sentences.proofs.{FaultedTokens.{in-words}, Refusals.{refuses}, RowShapes.{PlaceShape, SideShape, SignedSideShape,
+  SignsShape, NameShape, SignShape, Shape, Shaped, shaped-later, in-row, relation-no_side},
+  SectionFaults.{section_at_place, section_of_item, section_of_side, section_at}, TokenCases.{first_named, signs-by, item-by, limit-by,
+  listed-by, in_row-by, last_word-by, bound_name-by, bound_column-by, side-by, begin-by, objective-by, objective_name-by, item_number-by,
+  row_sign-by, semi-by}, RowNames.{Tokens, Rowed, HasObjective, IsEmpty, ObjectiveAt, IsNameOf, ItemName, SideName, PlaceName, NameAt,
+  KeepsRows, refused, bad, branch, rowed-later, rowed-same, is_no_colon, ends-no_side, name-kept, Here, rowed-on, objective-on, declared,
+  declared-before, bound, row_ended}}
 use Rattle.mpslp_types.specs.declared.faults.FaultKind.TheVariants as kinds
-use Rattle.mpslp_types.specs.declared.kinds.Limit.{Limit}
-use Rattle.mpslp_types.specs.declared.kinds.Sense.{Sense}
-use Rattle.mpslp_builder.specs.Declaration.{Declarations, Draft, empty_draft, with_declarations, declare_column, declare_integer, declare_binary, declare_semi}
-use Rattle.mpslp_builder.specs.Refusal.{refusals_in_turn}
-use Rattle.mpslp_builder.proofs.SortedDrafts.{sorted-with_declarations}
-use Rattle.mpslp_lp_tokens.specs.declared.words.Section.{Section}
-use Rattle.mpslp_lp_tokens.specs.declared.words.Section.TheVariants.{Objective, Rows}
-use Rattle.mpslp_lp_tokens.specs.declared.words.SectionWord.{SectionWord}
 use Rattle.mpslp_lp_tokens.specs.declared.words.SectionWord.TheVariants as words
-use Rattle.mpslp_lp_grammar.specs.declared.context.Context.{Context}
-use Rattle.mpslp_lp_grammar.specs.declared.relations.Relation.{Relation}
-use Rattle.mpslp_lp_grammar.specs.declared.signs.Sign.{Sign as SignOf}
-use Rattle.mpslp_lp_grammar.specs.declared.states.ItemOwner.{ItemOwner}
-use Rattle.mpslp_lp_grammar.specs.declared.states.ItemOwner.TheVariants.{OfObjective, OfRow}
-use Rattle.mpslp_lp_grammar.specs.declared.states.LastWord.{LastWord}
-use Rattle.mpslp_lp_grammar.specs.declared.states.Place.{Place}
-use Rattle.mpslp_lp_grammar.specs.declared.states.Place.TheVariants.{AtStart, BeforeItems, InObjective, BetweenRows, InRow, InBounds, InGenerals, InBinaries, InSemis}
-use Rattle.mpslp_lp_grammar.specs.declared.states.SideOwner.{SideOwner}
-use Rattle.mpslp_lp_grammar.specs.declared.states.SideOwner.TheVariants.{SideOfRow, SideOfBound}
-use Rattle.mpslp_lp_grammar.specs.declared.states.State.{State}
-use Rattle.mpslp_lp_grammar.specs.declared.states.State.TheVariants.{Between, AtObjective, ObjectiveName, AtLastWord, AtSemi, Signs, ItemNumber, RowName, RowLabel, RowSign, RowNumber, RowLeft, RowLeftRelation, BoundName, BoundSign, BoundLeft, BoundLeftRelation, AtSide, SideSign, AfterEnd}
-use Rattle.mpslp_lp_grammar.specs.AfterToken.{AfterToken, Goes, Refuses, refuse, with_made, declare_unless_refused, take_term, take_after_signs, begin_item, take_side}
-use Rattle.mpslp_lp_grammar.specs.Grammar.{no_limits, opened_by, is_last_word}
-use Rattle.mpslp_lp_grammar.specs.FirstToken.{open_section, begin_row, take_second_relation, begin_phrase, begin}
-use Rattle.mpslp_lp_grammar.specs.Items.{one, infinity, limits_by, flip}
-use Rattle.mpslp_lp_grammar.specs.Rows.{term_declared, objective_declared, default_objective, first_item_declared, fits_left}
-use Rattle.mpslp_lp_grammar.specs.PartialRow.{PartialRow}
-use Rattle.mpslp_lp_grammar.specs.Phrase.{start}
-use Rattle.mpslp_lp_grammar.specs.Terminal.{Terminal}
-use Rattle.mpslp_lp_grammar.specs.Terminal.Terminal.{Opens, Name, Number, Sign, Compares, Colon, Free}
-use Rattle.mpslp_lp_grammar.specs.TokenStep.{take_lone, take}
-use Rattle.mpslp_lp_sentences.specs.FaultsInWords.{IsInWords, is_section, has_opened, current_section, last_name, follows_terms, is_right_side, is_value, ends_row, label_before, objective_before, repeats_row}
-use Rattle.mpslp_lp_sentences.proofs.FaultedTokens.{in-words}
-use Rattle.mpslp_lp_sentences.proofs.Refusals.{refuses}
-use Rattle.mpslp_lp_sentences.proofs.RowShapes.{PlaceShape, SideShape, SignedSideShape, SignsShape, NameShape, SignShape, Shape, Shaped, shaped-later, in-row, relation-no_side}
-use Rattle.mpslp_lp_sentences.proofs.SectionFaults.{section_at_place, section_of_item, section_of_side, section_at}
-use Rattle.mpslp_lp_sentences.proofs.TokenCases.{first_named, signs-by, item-by, limit-by, listed-by, in_row-by, last_word-by, bound_name-by, bound_column-by, side-by, begin-by, objective-by, objective_name-by, item_number-by, row_sign-by, semi-by}
-use Rattle.mpslp_lp_sentences.proofs.RowNames.{Tokens, Rowed, HasObjective, IsEmpty, ObjectiveAt, IsNameOf, ItemName, SideName, PlaceName, NameAt, KeepsRows, refused, bad, branch, rowed-later, rowed-same, is_no_colon, ends-no_side, name-kept, Here, rowed-on, objective-on, declared, declared-before, bound, row_ended}
 
 -- ---- items
 
@@ -51,10 +28,10 @@ abbrev NoEnd : Tokens → Type 0
 NoEnd earlier = (token : Terminal) → ends_row earlier token ≡ false
 
 item-kept : (owner : ItemOwner) (value : Decimal) (earlier : Tokens) → ends_row earlier (Number value) ≡ false → ItemName owner earlier → ItemName owner (Number value ∷ earlier)
-item-kept owner value earlier none name = grind arith
+item-kept = grind arith
 
 item-signed : (owner : ItemOwner) (sign : SignOf) (earlier : Tokens) → ItemName owner earlier → ItemName owner (Sign sign ∷ earlier)
-item-signed owner sign earlier name = grind arith
+item-signed = grind arith
 
 term : (context : Context) (owner : ItemOwner) (column : List ℕ) (value : Decimal) (earlier : Tokens) → Here earlier context → ItemName owner earlier → KeepsRows earlier (Name column) (take_term context owner column value (Name column))
 term context (OfObjective objective) column value earlier h name =
@@ -62,10 +39,10 @@ term context (OfObjective objective) column value earlier h name =
 term context (OfRow row) column value earlier h name = grind arith
 
 signs : (context : Context) (owner : ItemOwner) (sign : SignOf) (earlier : Tokens) → Here earlier context → ItemName owner earlier → NoEnd earlier → (token : Terminal) → KeepsRows earlier token (take_after_signs context owner sign token)
-signs context owner sign earlier h name none token = grind (arith, signs-by, bad, rowed-on, objective-on, item-signed, term, item-kept)
+signs = grind (arith, signs-by, bad, rowed-on, objective-on, item-signed, term, item-kept)
 
 item : (context : Context) (owner : ItemOwner) (earlier : Tokens) → Here earlier context → ItemName owner earlier → NoEnd earlier → (token : Terminal) → KeepsRows earlier token (begin_item context owner token)
-item context owner earlier h name none token = grind (arith, item-by, bad, rowed-on, objective-on, item-signed, term, item-kept)
+item = grind (arith, item-by, bad, rowed-on, objective-on, item-signed, term, item-kept)
 
 -- ---- sections
 
@@ -75,19 +52,19 @@ record IsStart (earlier : Tokens) (context : Context) : Type 0 where
   unseen : context.sections_seen.objective ≡ false
 
 opened : (context : Context) (earlier : Tokens) (word : SectionWord) → Here earlier context → KeepsRows earlier (Opens word) (open_section context word)
-opened context earlier word h = grind arith
+opened = grind arith
 
 -- at the start only the objective may begin
 begun : (context : Context) (earlier : Tokens) (word : SectionWord) → Rowed earlier context.earlier → IsStart earlier context → KeepsRows earlier (Opens word) (open_section context word)
-begun context earlier word rowed h = grind arith
+begun = grind arith
 
 -- ---- the first token of a phrase
 
 row : (context : Context) (label : List ℕ) (earlier : Tokens) → Here earlier context → IsNameOf label earlier → NoEnd earlier → (token : Terminal) → KeepsRows earlier token (begin_row context label token)
-row context label earlier h name none token = grind arith
+row = grind arith
 
 second : (context : Context) (left : Option (List ℕ × Relation)) (earlier : Tokens) → Here earlier context → (relation : Relation) → KeepsRows earlier (Compares relation) (take_second_relation context left relation (Compares relation))
-second context left earlier h relation = grind arith
+second = grind arith
 
 elsewhere-no_end : (earlier : Tokens) (section : Section) → current_section earlier ≡ Some section → is_section Rows section ≡ false → NoEnd earlier
 elsewhere-no_end earlier section here other token = grind arith
@@ -120,7 +97,7 @@ phrase InSemis context earlier h name shape here token =
 
 first : (place : Place) (context : Context) (earlier : Tokens) → Here earlier context → PlaceName place earlier → PlaceShape place earlier → current_section earlier ≡ section_at_place place → (token : Terminal)
     → KeepsRows earlier token (begin place context token)
-first place context earlier h name shape here token = grind (arith, begin-by, branch, opened, bad, phrase)
+first = grind (arith, begin-by, branch, opened, bad, phrase)
 
 lone : (context : Context) (owner : ItemOwner) (value : Decimal) (earlier : Tokens) → Here earlier context → current_section earlier ≡ section_of_item owner → (token : Terminal)
     → KeepsRows earlier token (take_lone context owner value token)
@@ -129,16 +106,16 @@ lone context owner value earlier h here token = grind arith
 -- ---- each state
 
 here_from : (earlier : Tokens) (context : Context) → Rowed earlier context.earlier → HasObjective earlier context.earlier → context.sections_seen.objective ≡ has_opened earlier Objective → Here earlier context
-here_from earlier context rowed objective seen = grind arith
+here_from = grind arith
 
 -- the objective gets its name without a label
 unlabelled : (context : Context) (earlier : Tokens) (made : Declarations) → Rowed earlier context.earlier → IsEmpty earlier context.earlier → context.sections_seen.objective ≡ has_opened earlier Objective
     → (with_declarations context.earlier made).rows ≡ context.earlier.rows → (with_declarations context.earlier made).objective ≡ Some default_objective → Here earlier (with_made context made)
-unlabelled context earlier made rowed empty seen rows objective = grind (arith, rowed-same, sorted-with_declarations, opened)
+unlabelled = grind (arith, rowed-same, sorted-with_declarations, opened)
 
 first_objective : (context : Context) (sense : Sense) (earlier : Tokens) → Rowed earlier context.earlier → IsEmpty earlier context.earlier → context.sections_seen.objective ≡ has_opened earlier Objective
     → current_section earlier ≡ Some Objective → (token : Terminal) → KeepsRows earlier token (take context (AtObjective sense) token)
-first_objective context sense earlier rowed empty seen here token = grind (arith, objective-by, rowed-later, opened, declared-before, refuses, first, unlabelled)
+first_objective = grind (arith, objective-by, rowed-later, opened, declared-before, refuses, first, unlabelled)
 
 named_objective : (context : Context) (sense : Sense) (label : List ℕ) (earlier : Tokens) → Rowed earlier context.earlier → IsEmpty earlier context.earlier → last_name earlier ≡ Some label
     → context.sections_seen.objective ≡ has_opened earlier Objective → current_section earlier ≡ Some Objective → (token : Terminal) → KeepsRows earlier token (take context (ObjectiveName sense label) token)
@@ -149,12 +126,9 @@ named_objective context sense label earlier rowed empty last seen here token =
     (first (InObjective default_objective) (with_made context (first_item_declared sense label)) earlier
     (unlabelled context earlier (first_item_declared sense label) rowed empty seen refl refl) tt tt here t)) token
   where
-    labelled : objective_before (Colon ∷ earlier) ≡ label
-    labelled = grind arith
-
     by : (refusals : List BuildFault) → refusals_in_turn context.earlier (objective_declared sense label) ≡ refusals
         → KeepsRows earlier Colon (declare_unless_refused context Colon refusals (BeforeItems label) (objective_declared sense label))
-    by refusals e = grind arith
+    by = grind arith
 
 last_word : (context : Context) (wanted : LastWord) (earlier : Tokens) → Here earlier context → NameAt (AtLastWord wanted) earlier → (token : Terminal) → KeepsRows earlier token (take context (AtLastWord wanted) token)
 last_word context wanted earlier h name token =
@@ -162,35 +136,35 @@ last_word context wanted earlier h name token =
     (λ word. branch earlier (Name word) (is_last_word wanted word) (Goes (with_made context []) (Between (opened_by wanted))) (refuse context (Name word) kinds.BadToken) (by wanted word name) (bad context earlier (Name word))) token
   where
     by : (w : LastWord) (word : List ℕ) → NameAt (AtLastWord w) earlier → KeepsRows earlier (Name word) (Goes (with_made context []) (Between (opened_by w)))
-    by w word k = grind arith
+    by = grind arith
 
 item_no_end : (owner : ItemOwner) (earlier : Tokens) → SignsShape owner earlier → current_section earlier ≡ section_of_item owner → NoEnd earlier
-item_no_end owner earlier shape here = grind arith
+item_no_end = grind arith
 
 row_named : (context : Context) (label : List ℕ) (earlier : Tokens) → Here earlier context → label_before earlier ≡ None → NameShape label earlier → PlaceShape (InRow (first_named context label)) earlier
     → current_section earlier ≡ Some Rows → (token : Terminal) → KeepsRows earlier token (take context (RowName label) token)
-row_named context label earlier h none shape in_row here token = grind arith
+row_named = grind arith
 
 -- the sign of a row, and then a number or an infinity
 signed-no_end : (earlier : Tokens) → SignShape earlier → NoEnd earlier
 signed-no_end earlier h token = grind arith
 
 row_signed : (context : Context) (label : List ℕ) (sign : SignOf) (earlier : Tokens) → Here earlier context → IsNameOf label earlier → SignShape earlier → (token : Terminal) → KeepsRows earlier token (take context (RowSign label sign) token)
-row_signed context label sign earlier h name shape token = grind (arith, row_sign-by, bad, rowed-on, objective-on, name-kept, term, signed-no_end)
+row_signed = grind (arith, row_sign-by, bad, rowed-on, objective-on, name-kept, term, signed-no_end)
 
 row_numbered : (context : Context) (label : List ℕ) (sign : SignOf) (value : Decimal) (earlier : Tokens) → Here earlier context → IsNameOf label earlier → (token : Terminal)
     → KeepsRows earlier token (take context (RowNumber label sign value) token)
-row_numbered context label sign value earlier h name token = grind arith
+row_numbered = grind arith
 
 -- a right side without a sign, or with one
 terms-right : (earlier : Tokens) → follows_terms earlier ≡ true → is_right_side earlier ≡ true
-terms-right earlier h = grind arith
+terms-right = grind arith
 
 signed-right : (row : PartialRow) (relation : Relation) (earlier : Tokens) → SignedSideShape (SideOfRow row relation) earlier → is_right_side earlier ≡ true
-signed-right row relation earlier h = grind arith
+signed-right = grind arith
 
 value-no_label : (token : Terminal) → is_value token ≡ true → is_no_colon token ≡ true
-value-no_label token k = grind arith
+value-no_label = grind arith
 
 side : (context : Context) (sided : SideOwner) (l : Limit) (earlier : Tokens) (token : Terminal) → Here earlier context → SideName sided earlier → SideShape sided earlier → current_section earlier ≡ section_of_side sided
     → is_value token ≡ true → KeepsRows earlier token (take_side context sided l token)
@@ -203,7 +177,7 @@ signed_side context (SideOfRow row relation) l earlier token h name shape here v
 signed_side context (SideOfBound is_new column relation) l earlier token h name shape here value = grind (arith, bound, elsewhere-no_end, value-no_label)
 
 side-signed : (sided : SideOwner) (sign : SignOf) (earlier : Tokens) → SideName sided earlier → SideName sided (Sign sign ∷ earlier)
-side-signed sided sign earlier h = grind arith
+side-signed = grind arith
 
 step : (context : Context) (state : State) (earlier : Tokens) → Rowed earlier context.earlier → ObjectiveAt state earlier context.earlier → NameAt state earlier → Shape state earlier → current_section earlier ≡ section_at state
     → context.sections_seen.objective ≡ has_opened earlier Objective → (token : Terminal) → KeepsRows earlier token (take context state token)
@@ -255,7 +229,7 @@ known-later earlier context state token after next known h =
     record { shaped = shaped-later earlier context state token after next known.shaped h; rowed = parts.0; objective = parts.1; name = parts.2 }
 
 repeated : (earlier : Tokens) (context : Context) (state : State) (token : Terminal) → Known earlier context state → take context state token ≡ Refuses kinds.DuplicateRow → repeats_row earlier token ≡ true
-repeated earlier context state token known h = grind (arith, taken)
+repeated = grind (arith, taken)
 
 pub duplicate-row : IsInWords kinds.DuplicateRow repeats_row
 duplicate-row = in-words kinds.DuplicateRow repeats_row Known (record { at_start = none-known; goes = known-later; refuses = repeated }) refl refl

@@ -1,50 +1,19 @@
 -- The rows that were declared are those that tokens have ended, each with the name that its label or its position gives.
-use Rattle.std.proofs.Common.{arith, ◌≡◌, refl, sym, ap, ◌∙◌, subst, ℕ, List, [], ◌∷◌, ◌++◌, ◌+◌, Bool, true, false, length}
-use Rattle.std.specs.Prelude.{Option, Some, None, is_some, codes, ◌||◌, ◌&&◌, not, unwrap_or, if◌then◌else◌}
-use Rattle.std.specs.List.{flat_map, cons_option}
-use Rattle.std.specs.Option.{option_map_or}
-use Rattle.mpslp_decimal.specs.Decimal.{Number as Decimal}
-use Rattle.mpslp_types.specs.Name.{same_bytes}
-use Rattle.mpslp_types.specs.declared.faults.BuildFault.{BuildFault}
+use Rattle.mpslp_lp_sentences.proofs.Prelude.{arith, ◌≡◌, refl, sym, ap, ◌∙◌, subst, ℕ, List, [], ◌∷◌, ◌++◌, ◌+◌, Bool, true, false, length,
+  Option, Some, None, is_some, codes, ◌||◌, ◌&&◌, not, unwrap_or, if◌then◌else◌, flat_map, cons_option, option_map_or, Decimal, same_bytes,
+  BuildFault, FaultKind, Limit, MinusInf, PlusInf, is_plus_infinite, is_minus_infinite, or_left, or_right, either, those_of, RowDefinition,
+  Declarations, Draft, by_limits, empty_draft, with_declaration, with_declarations, declare_row, bounds_declared, has_name, has_column,
+  has_row, refusals_in_turn, itself_named, has-put, same_name, IsSortedDraft, sorted-with_declarations, kind_of_build_fault, section_of,
+  Objective, Rows, Context, Relation, ItemOwner, OfObjective, OfRow, To, That, Place, AtStart, BetweenRows, InRow, InBounds, SideOwner,
+  SideOfRow, SideOfBound, State, Between, AtObjective, ObjectiveName, AtLastWord, Signs, ItemNumber, RowName, RowLabel, RowSign, RowNumber,
+  RowLeft, RowLeftRelation, AtSide, SideSign, AfterToken, Goes, Refuses, refuse, declare_unless_refused, take_after_declarations,
+  declare_at, take_bound, take_side, term_declared, row_limits, row_declared, PartialRow, has_seen, is_out_of_order, Limits, Terminal,
+  Opens, Colon, new_column, has_opened, current_section, is_named, collected, last_name, is_right_side, is_value, ends_row, rows_before,
+  label_before, names_row, objective_before, names_objective, repeats_row, row_name}
+use Rattle.mpslp_builder.specs.Declaration.{is_objective}
+use Rattle.mpslp_lp_sentences.proofs.{Refusals.{refuses, first-refused, terms-refuse}, RowFacts.{row-adds}}
 use Rattle.mpslp_types.specs.declared.faults.BuildFault.TheVariants as builds
-use Rattle.mpslp_types.specs.declared.faults.FaultKind.{FaultKind}
 use Rattle.mpslp_types.specs.declared.faults.FaultKind.TheVariants as kinds
-use Rattle.mpslp_types.specs.declared.kinds.Limit.{Limit}
-use Rattle.mpslp_types.specs.declared.kinds.Limit.TheVariants.{MinusInf, PlusInf}
-use Rattle.mpslp_types.specs.Limit.{is_plus_infinite, is_minus_infinite}
-use Rattle.mpslp_types.proofs.BoolLemmas.{or_left, or_right, either}
-use Rattle.mpslp_types.specs.Lists.{those_of}
-use Rattle.mpslp_builder.specs.Declaration.{RowDefinition, Declarations, Draft, by_limits, empty_draft, with_declaration, with_declarations, declare_row, bounds_declared, has_name, has_column, has_row, is_objective}
-use Rattle.mpslp_builder.specs.Refusal.{refusals_in_turn}
-use Rattle.mpslp_builder.proofs.LaterDrafts.{itself_named}
-use Rattle.mpslp_builder.proofs.SlotLemmas.{has-put, same_name}
-use Rattle.mpslp_builder.proofs.SortedDrafts.{IsSortedDraft, sorted-with_declarations}
-use Rattle.mpslp_lines.specs.FaultTests.{kind_of_build_fault}
-use Rattle.mpslp_lp_tokens.specs.Token.{section_of}
-use Rattle.mpslp_lp_tokens.specs.declared.words.Section.TheVariants.{Objective, Rows}
-use Rattle.mpslp_lp_grammar.specs.declared.context.Context.{Context}
-use Rattle.mpslp_lp_grammar.specs.declared.relations.Relation.{Relation}
-use Rattle.mpslp_lp_grammar.specs.declared.states.ItemOwner.{ItemOwner}
-use Rattle.mpslp_lp_grammar.specs.declared.states.ItemOwner.TheVariants.{OfObjective, OfRow}
-use Rattle.mpslp_lp_grammar.specs.declared.states.LastWord.TheVariants.{To, That}
-use Rattle.mpslp_lp_grammar.specs.declared.states.Place.{Place}
-use Rattle.mpslp_lp_grammar.specs.declared.states.Place.TheVariants.{AtStart, BetweenRows, InRow, InBounds}
-use Rattle.mpslp_lp_grammar.specs.declared.states.SideOwner.{SideOwner}
-use Rattle.mpslp_lp_grammar.specs.declared.states.SideOwner.TheVariants.{SideOfRow, SideOfBound}
-use Rattle.mpslp_lp_grammar.specs.declared.states.State.{State}
-use Rattle.mpslp_lp_grammar.specs.declared.states.State.TheVariants.{Between, AtObjective, ObjectiveName, AtLastWord, Signs, ItemNumber, RowName, RowLabel, RowSign, RowNumber, RowLeft, RowLeftRelation, AtSide, SideSign}
-use Rattle.mpslp_lp_grammar.specs.AfterToken.{AfterToken, Goes, Refuses, refuse, declare_unless_refused, take_after_declarations, declare_at, take_bound, take_side}
-use Rattle.mpslp_lp_grammar.specs.Rows.{term_declared, row_limits, row_declared}
-use Rattle.mpslp_lp_grammar.specs.PartialRow.{PartialRow}
-use Rattle.mpslp_lp_grammar.specs.Phrase.{has_seen, is_out_of_order}
-use Rattle.mpslp_lp_grammar.specs.Items.{Limits}
-use Rattle.mpslp_lp_grammar.specs.Terminal.{Terminal}
-use Rattle.mpslp_lp_grammar.specs.Terminal.Terminal.{Opens, Colon}
-use Rattle.mpslp_lp_grammar.specs.TokenByToken.{new_column}
-use Rattle.mpslp_lp_sentences.specs.FaultsInWords.{has_opened, current_section, is_named, collected, names_again, last_name, is_right_side, is_value, ends_row, rows_before, label_before, names_row, objective_before, names_objective, repeats_row}
-use Rattle.mpslp_lp_sentences.specs.Meaning.{row_name}
-use Rattle.mpslp_lp_sentences.proofs.Refusals.{refuses, first-refused, terms-refuse}
-use Rattle.mpslp_lp_sentences.proofs.RowFacts.{row-adds}
 
 -- ---- what is known of rows
 
@@ -120,31 +89,31 @@ pub refused : (context : Context) (earlier : Tokens) (token : Terminal) (kind : 
 refused context earlier (Opens word) kind h = by (has_seen context.sections_seen (section_of word)) (is_out_of_order context.sections_seen (section_of word))
   where
     by : (a b : Bool) → Says earlier (Opens word) (unwrap_or (if a then Some kinds.SectionRepeated else (if b then Some kinds.SectionOrder else None)) kind)
-    by a b = grind arith
+    by = grind arith
 refused context earlier _ kind h = h
 
 pub bad : (context : Context) (earlier : Tokens) (token : Terminal) → KeepsRows earlier token (refuse context token kinds.BadToken)
-bad context earlier token = grind arith
+bad = grind arith
 
 pub branch : (earlier : Tokens) (token : Terminal) (b : Bool) (x y : AfterToken) → KeepsRows earlier token x → KeepsRows earlier token y → KeepsRows earlier token (if b then x else y)
-branch earlier token b x y h k = grind arith
+branch = grind arith
 
 pub says-by : (earlier : Tokens) (token : Terminal) (all : Draft) (made : Declarations) → (refuses kinds.DuplicateRow all made ≡ true → repeats_row earlier token ≡ true) → (first : BuildFault)
     → refuses (kind_of_build_fault first) all made ≡ true → Says earlier token (kind_of_build_fault first)
-says-by earlier token all made h first k = grind arith
+says-by = grind arith
 
 -- ---- one token more
 
 pub named-more : (name : List ℕ) (new : Option (List ℕ)) (names : List (List ℕ)) → is_named name names ≡ true → is_named name (cons_option new names) ≡ true
-named-more name new names h = grind arith
+named-more = grind arith
 
 -- a token that ends no row, and declarations of other things
 pub rowed-later : (token : Terminal) (earlier : Tokens) (all later : Draft) → ends_row earlier token ≡ false → later.rows ≡ all.rows → IsSortedDraft later → Rowed earlier all → Rowed (token ∷ earlier) later
-rowed-later token earlier all later none same sorted h = grind arith
+rowed-later = grind arith
 
 -- declarations of other things
 pub rowed-same : (earlier : Tokens) (all later : Draft) → later.rows ≡ all.rows → IsSortedDraft later → Rowed earlier all → Rowed earlier later
-rowed-same earlier all later same sorted h = grind arith
+rowed-same = grind arith
 
 -- the token is no label, or the section is that of the rows
 abbrev pub is_no_colon : Terminal → Bool
@@ -152,17 +121,17 @@ is_no_colon Colon = false
 is_no_colon _ = true
 
 pub objective-later : (token : Terminal) (earlier : Tokens) (all later : Draft) → is_no_colon token ≡ true → later.objective ≡ all.objective → HasObjective earlier all → HasObjective (token ∷ earlier) later
-objective-later token earlier all later h same o = grind arith
+objective-later = grind arith
 
 -- ---- a value that is no right side of a row
 
 pub ends-no_side : (earlier : Tokens) (token : Terminal) → is_right_side earlier ≡ false → ends_row earlier token ≡ false
-ends-no_side earlier token h = grind arith
+ends-no_side = grind arith
 
 -- what a value that ends no row keeps
 pub name-kept : (name : List ℕ) (earlier : Tokens) (b : Bool) → b ≡ false → IsNameOf name earlier
     → name ≡ row_name ((if b then rows_before earlier + 1 else rows_before earlier) + 1) (if b then None else label_before earlier)
-name-kept name earlier b e h = grind arith
+name-kept = grind arith
 
 -- ---- declarations
 
@@ -174,10 +143,10 @@ pub record Here (earlier : Tokens) (context : Context) : Type 0 where
 
 -- a token that ends no row and declares nothing
 pub rowed-on : (token : Terminal) (earlier : Tokens) (context : Context) → ends_row earlier token ≡ false → Here earlier context → Rowed (token ∷ earlier) context.earlier
-rowed-on token earlier context none h = grind arith
+rowed-on = grind arith
 
 pub objective-on : (token : Terminal) (earlier : Tokens) (context : Context) → is_no_colon token ≡ true → Here earlier context → HasObjective (token ∷ earlier) context.earlier
-objective-on token earlier context keeps h = grind arith
+objective-on = grind arith
 
 pub never : (b : Bool) {X : Type 0} → b ≡ false → b ≡ true → X
 never b e k = grind arith
@@ -213,14 +182,11 @@ bound context is_new column limits earlier token left h none keeps =
     front : Draft
     front = with_declarations context.earlier (new_column is_new column)
 
-    made : Bool → Declarations
-    made b = grind arith
-
     rows : (b : Bool) → (with_declarations context.earlier (new_column b column ++ bounds_declared column limits.lower limits.upper)).rows ≡ context.earlier.rows
-    rows b = grind arith
+    rows = grind arith
 
     objective : (b : Bool) → (with_declarations context.earlier (new_column b column ++ bounds_declared column limits.lower limits.upper)).objective ≡ context.earlier.objective
-    objective b = grind arith
+    objective = grind arith
 
     by : (a b c : Bool)
         → KeepsRows earlier token (declare_unless_refused context token (those_of ((a, builds.UnknownColumn) ∷ (b, builds.DuplicateBound) ∷ (c, builds.InfiniteValue) ∷ [])) (InBounds left)
@@ -266,12 +232,12 @@ row_ended context row relation l earlier token h name value here right = by (ref
     repeated : has_row context.earlier row.name ≡ true → repeats_row earlier token ≡ true
     repeated k =
         either (is_objective context.earlier row.name) (has_name context.earlier.rows row.name) (repeats_row earlier token)
-        (λ e. or_right (names_again names_row names_row earlier token) (names_objective names_row earlier token) (is_objective-named context.earlier.objective h.objective.name e))
-        (λ e. or_left (names_again names_row names_row earlier token) (names_objective names_row earlier token)
+        (λ e. or_right _ _ (is_objective-named context.earlier.objective h.objective.name e))
+        (λ e. or_left _ _
         (ap (λ (o : Option (List ℕ)). option_map_or (λ c. is_named c (collected names_row earlier)) o false) named ∙ h.rowed.rows row.name e)) k
 
     only : (b c : Bool) → c ≡ false → ((b || false) || c) ≡ true → b ≡ true
-    only b c e k = grind arith
+    only = grind arith
 
     rowed : refusals_in_turn context.earlier made ≡ [] → Rowed (token ∷ earlier) (with_declarations context.earlier made)
     rowed none = record {
@@ -285,14 +251,14 @@ row_ended context row relation l earlier token h name value here right = by (ref
       where
         found : (other : List ℕ) (b : Bool) → same_bytes other row.name ≡ b → (b || has_name context.earlier.rows other) ≡ true → is_named other (cons_option (names_row earlier token) (collected names_row earlier)) ≡ true
         found other true e k =
-            ap (λ (o : Option (List ℕ)). is_named other (cons_option o (collected names_row earlier))) named ∙ or_left (same_bytes other row.name) (is_named other (collected names_row earlier)) e
+            ap (λ (o : Option (List ℕ)). is_named other (cons_option o (collected names_row earlier))) named ∙ or_left _ _ e
         found other false e k = named-more other (names_row earlier token) (collected names_row earlier) (h.rowed.rows other k)
 
     keeps : (t : Terminal) → is_value t ≡ true → is_no_colon t ≡ true
-    keeps t k = grind arith
+    keeps = grind arith
 
     no_label : (t : Terminal) → is_value t ≡ true → ends_row earlier t ≡ true → label_before (t ∷ earlier) ≡ None
-    no_label t k e = grind arith
+    no_label = grind arith
 
     by : (refusals : List BuildFault) → refusals_in_turn context.earlier made ≡ refusals → KeepsRows earlier token (declare_unless_refused context token refusals BetweenRows made)
     by [] e = (

@@ -1,53 +1,24 @@
 -- What the tokens before one are in each state of a row, and that a constant in a row and a second relation are as
 -- `FaultsInWords` defines them.
-use Rattle.std.proofs.Common.{arith, ◌≡◌, refl, subst, ℕ, List, [], ◌∷◌, ◌++◌, Bool, true, false}
-use Rattle.std.specs.Prelude.{Option, Some, None, not, unwrap_or, if◌then◌else◌}
-use Rattle.std.specs.List.{list_any}
-use Rattle.std.proofs.lemmas.List.Folds.{list_any-append}
-use Rattle.mpslp_decimal.specs.Decimal.{Number as Decimal}
-use Rattle.mpslp_types.specs.Name.{same_bytes}
-use Rattle.mpslp_types.specs.declared.faults.BuildFault.{BuildFault}
+use Rattle.mpslp_lp_sentences.proofs.Prelude.{arith, ◌≡◌, refl, subst, ℕ, List, [], ◌∷◌, ◌++◌, Bool, true, false, Option, Some, None, not,
+  unwrap_or, if◌then◌else◌, list_any, list_any-append, Decimal, same_bytes, BuildFault, FaultKind, Limit, both_so, or_left, or_right,
+  Declaration, Declarations, with_declarations, declare_column, declare_constant, bounds_declared, refusals_in_turn, bounds_refusals,
+  kind_of_build_fault, section_of, Section, Objective, Rows, Bounds, SemiContinuous, SectionWord, Context, Relation, SignOf, ItemOwner,
+  OfObjective, OfRow, LastWord, To, That, Place, AtStart, BeforeItems, InObjective, BetweenRows, InRow, InBounds, InSemis, SideOwner,
+  SideOfRow, SideOfBound, State, Between, AtObjective, ObjectiveName, AtLastWord, AtSemi, Signs, ItemNumber, RowName, RowLabel, RowSign,
+  RowNumber, RowLeft, RowLeftRelation, BoundName, BoundLeftRelation, AtSide, SideSign, AfterToken, Goes, Refuses, refuse, with_made,
+  declare_unless_refused, take_after_declarations, take_term, take_after_signs, begin_item, take_side, may_begin_section, open_section,
+  begin_row, begin_bound, take_second_relation, name_taken, begin_phrase, begin, one, apply_sign, fits_second, limits_by, flip,
+  objective_declared, default_objective, first_item_declared, fits_left, PartialRow, start, has_seen, is_out_of_order, Terminal, Opens,
+  Name, Number, Sign, Compares, Colon, new_column, begin_after, take_lone, take, IsInWords, ends_in_number, ends_in_sign, last_name,
+  ends_in_name, ends_in_value, ends_in_first_word, begins_row, follows_terms, may_be_left_side, is_right_side, ends_in_constant,
+  follows_constant, left_relation, last_relation, bound_relation, agree, mixes_under, mixes_senses, term_columns, is_named}
+use Rattle.mpslp_lp_sentences.proofs.{FaultedTokens.{in-words}, TokenCases.{first_named, signs-by, item-by, limit-by, listed-by, lone-by,
+  bound_column-by, side-by, begin-by, objective-by, objective_name-by, item_number-by, semi-by},
+  SectionFaults.{section_at_place, section_of_item, section_of_side, section_at, Opened, opened-later}}
 use Rattle.mpslp_types.specs.declared.faults.BuildFault.TheVariants as builds
-use Rattle.mpslp_types.specs.declared.faults.FaultKind.{FaultKind}
 use Rattle.mpslp_types.specs.declared.faults.FaultKind.TheVariants as kinds
-use Rattle.mpslp_types.specs.declared.kinds.Limit.{Limit}
-use Rattle.mpslp_types.proofs.BoolLemmas.{both_so, or_left, or_right}
-use Rattle.mpslp_builder.specs.Declaration.{Declaration, Declarations, with_declarations, declare_column, declare_constant, bounds_declared}
-use Rattle.mpslp_builder.specs.Refusal.{refusals_in_turn, bounds_refusals}
-use Rattle.mpslp_lines.specs.FaultTests.{kind_of_build_fault}
-use Rattle.mpslp_lp_tokens.specs.Token.{section_of}
-use Rattle.mpslp_lp_tokens.specs.declared.words.Section.{Section}
-use Rattle.mpslp_lp_tokens.specs.declared.words.Section.TheVariants.{Objective, Rows, Bounds, SemiContinuous}
-use Rattle.mpslp_lp_tokens.specs.declared.words.SectionWord.{SectionWord}
 use Rattle.mpslp_lp_tokens.specs.declared.words.SectionWord.TheVariants as words
-use Rattle.mpslp_lp_grammar.specs.declared.context.Context.{Context}
-use Rattle.mpslp_lp_grammar.specs.declared.relations.Relation.{Relation}
-use Rattle.mpslp_lp_grammar.specs.declared.signs.Sign.{Sign as SignOf}
-use Rattle.mpslp_lp_grammar.specs.declared.states.ItemOwner.{ItemOwner}
-use Rattle.mpslp_lp_grammar.specs.declared.states.ItemOwner.TheVariants.{OfObjective, OfRow}
-use Rattle.mpslp_lp_grammar.specs.declared.states.LastWord.{LastWord}
-use Rattle.mpslp_lp_grammar.specs.declared.states.LastWord.TheVariants.{To, That}
-use Rattle.mpslp_lp_grammar.specs.declared.states.Place.{Place}
-use Rattle.mpslp_lp_grammar.specs.declared.states.Place.TheVariants.{AtStart, BeforeItems, InObjective, BetweenRows, InRow, InBounds, InSemis}
-use Rattle.mpslp_lp_grammar.specs.declared.states.SideOwner.{SideOwner}
-use Rattle.mpslp_lp_grammar.specs.declared.states.SideOwner.TheVariants.{SideOfRow, SideOfBound}
-use Rattle.mpslp_lp_grammar.specs.declared.states.State.{State}
-use Rattle.mpslp_lp_grammar.specs.declared.states.State.TheVariants.{Between, AtObjective, ObjectiveName, AtLastWord, AtSemi, Signs, ItemNumber, RowName, RowLabel, RowSign, RowNumber, RowLeft, RowLeftRelation, BoundName, BoundLeftRelation, AtSide, SideSign}
-use Rattle.mpslp_lp_grammar.specs.AfterToken.{AfterToken, Goes, Refuses, refuse, with_made, declare_unless_refused, take_after_declarations, take_term, take_after_signs, begin_item, take_side}
-use Rattle.mpslp_lp_grammar.specs.Grammar.{may_begin_section}
-use Rattle.mpslp_lp_grammar.specs.FirstToken.{open_section, begin_row, begin_bound, take_second_relation, name_taken, begin_phrase, begin}
-use Rattle.mpslp_lp_grammar.specs.Items.{one, apply_sign, fits_second, limits_by, flip}
-use Rattle.mpslp_lp_grammar.specs.Rows.{objective_declared, default_objective, first_item_declared, fits_left}
-use Rattle.mpslp_lp_grammar.specs.PartialRow.{PartialRow}
-use Rattle.mpslp_lp_grammar.specs.Phrase.{start, has_seen, is_out_of_order}
-use Rattle.mpslp_lp_grammar.specs.Terminal.{Terminal}
-use Rattle.mpslp_lp_grammar.specs.Terminal.Terminal.{Opens, Name, Number, Sign, Compares, Colon}
-use Rattle.mpslp_lp_grammar.specs.TokenByToken.{new_column}
-use Rattle.mpslp_lp_grammar.specs.TokenStep.{begin_after, take_lone, take}
-use Rattle.mpslp_lp_sentences.specs.FaultsInWords.{IsInWords, ends_in_number, ends_in_sign, last_name, ends_in_name, ends_in_value, ends_in_first_word, begins_row, follows_terms, may_be_left_side, is_right_side, ends_in_constant, follows_constant, left_relation, last_relation, bound_relation, agree, mixes_under, mixes_senses, term_columns, is_named}
-use Rattle.mpslp_lp_sentences.proofs.FaultedTokens.{in-words}
-use Rattle.mpslp_lp_sentences.proofs.TokenCases.{first_named, signs-by, item-by, limit-by, listed-by, lone-by, bound_column-by, side-by, begin-by, objective-by, objective_name-by, item_number-by, semi-by}
-use Rattle.mpslp_lp_sentences.proofs.SectionFaults.{section_at_place, section_of_item, section_of_side, section_at, Opened, opened-later}
 
 -- ---- the tokens before, in each state
 
@@ -149,18 +120,18 @@ refused : (context : Context) (here : Option Section) (earlier : List Terminal) 
 refused context here earlier (Opens word) kind h = by (has_seen context.sections_seen (section_of word)) (is_out_of_order context.sections_seen (section_of word))
   where
     by : (a b : Bool) → Says here earlier (Opens word) (unwrap_or (if a then Some kinds.SectionRepeated else (if b then Some kinds.SectionOrder else None)) kind)
-    by a b = grind arith
+    by = grind arith
 refused context here earlier _ kind h = h
 
 bad : (context : Context) (here : Option Section) (earlier : List Terminal) (token : Terminal) → KeepsShape here earlier token (refuse context token kinds.BadToken)
-bad context here earlier token = grind arith
+bad = grind arith
 
 build-fault : (here : Option Section) (earlier : List Terminal) (token : Terminal) (fault : BuildFault) → Says here earlier token (kind_of_build_fault fault)
-build-fault here earlier token fault = grind arith
+build-fault = grind arith
 
 either : (here : Option Section) (earlier : List Terminal) (token : Terminal) (b : Bool) (x y : AfterToken) → KeepsShape here earlier token x → (b ≡ false → KeepsShape here earlier token y)
     → KeepsShape here earlier token (if b then x else y)
-either here earlier token b x y h k = grind arith
+either = grind arith
 
 -- ---- declarations
 
@@ -178,7 +149,7 @@ declared-before context here earlier token (refusal ∷ more) made next h = refu
 
 -- after the relation of a left side, with or without a sign
 pub relation-no_side : (earlier : List Terminal) → ends_in_relation earlier ≡ true → follows_terms earlier ≡ false → NoSide earlier
-relation-no_side earlier h k = grind arith
+relation-no_side = grind arith
 
 -- ---- what each function does
 
@@ -188,7 +159,7 @@ no_terms earlier column h = absurd cc
 -- one more term
 row-longer : (row : PartialRow) (column : List ℕ) (value : Decimal) (earlier : List Terminal) → ends_in_first_word earlier ≡ false → IsRow row earlier
     → PlaceShape (InRow (record row { terms = row.terms ++ (column, value) ∷ [] })) (Name column ∷ earlier)
-row-longer row column value earlier none h = grind (arith, list_any-append, or_right, or_left)
+row-longer = grind (arith, list_any-append, or_right, or_left)
 
 -- what is known of the row of an item, if it has one
 abbrev OwnerShape : ItemOwner → List Terminal → Type 0
@@ -208,13 +179,13 @@ signs context owner sign earlier h token =
     signs-by (KeepsShape (section_of_item owner) earlier) context owner sign (bad context (section_of_item owner) earlier) (λ more. next owner more h) (λ name. term context owner name (apply_sign sign one) earlier (named owner h)) (λ value. number owner value h) token
   where
     next : (o : ItemOwner) (more : SignOf) → SignsShape o earlier → SignsShape o (Sign more ∷ earlier)
-    next o more k = grind arith
+    next = grind arith
 
     named : (o : ItemOwner) → SignsShape o earlier → OwnerShape o earlier
-    named o k = grind arith
+    named = grind arith
 
     number : (o : ItemOwner) (value : Decimal) → SignsShape o earlier → NumberShape o (Number value ∷ earlier)
-    number o value k = grind arith
+    number = grind arith
 
 -- after the relation of a left side, or at the start of the objective
 abbrev ItemShape : ItemOwner → List Terminal → Type 0
@@ -226,13 +197,13 @@ item context owner earlier h token =
     item-by (KeepsShape (section_of_item owner) earlier) context owner (bad context (section_of_item owner) earlier) (λ more. next owner more h) (λ name. term context owner name one earlier (named owner h)) (λ value. number owner value h) token
   where
     next : (o : ItemOwner) (more : SignOf) → ItemShape o earlier → SignsShape o (Sign more ∷ earlier)
-    next o more k = grind arith
+    next = grind arith
 
     named : (o : ItemOwner) → ItemShape o earlier → OwnerShape o earlier
-    named o k = grind arith
+    named = grind arith
 
     number : (o : ItemOwner) (value : Decimal) → ItemShape o earlier → NumberShape o (Number value ∷ earlier)
-    number o value k = grind arith
+    number = grind arith
 
 side : (context : Context) (sided : SideOwner) (l : Limit) (earlier : List Terminal) (token : Terminal) → begins_row (token ∷ earlier) ≡ true → KeepsShape (section_of_side sided) earlier token (take_side context sided l token)
 side context (SideOfRow row relation) l earlier token h = grind (arith, row, declared)
@@ -242,24 +213,24 @@ side context (SideOfBound is_new column relation) l earlier token h =
     (new_column is_new column ++ bounds_declared column limits.lower limits.upper) tt
 
 opened : (context : Context) (here : Option Section) (earlier : List Terminal) (word : SectionWord) → KeepsShape here earlier (Opens word) (open_section context word)
-opened context here earlier word = grind arith
+opened = grind arith
 
 row : (context : Context) (label : List ℕ) (earlier : List Terminal) → begins_row earlier ≡ true → (token : Terminal) → KeepsShape (Some Rows) earlier token (begin_row context label token)
-row context label earlier h token = grind arith
+row = grind arith
 
 bound : (context : Context) (earlier : List Terminal) (token : Terminal) → KeepsShape (Some Bounds) earlier token (begin_bound context token)
-bound context earlier token = grind arith
+bound = grind arith
 
 differ : (first second : Relation) → fits_second first second ≡ false → not (agree first second) ≡ true
-differ first second h = grind arith
+differ = grind arith
 
 second : (context : Context) (left : Option (List ℕ × Relation)) (earlier : List Terminal) → PlaceShape (InBounds left) earlier → (relation : Relation)
     → KeepsShape (Some Bounds) earlier (Compares relation) (take_second_relation context left relation (Compares relation))
-second context left earlier h relation = grind arith
+second = grind arith
 
 ended : (context : Context) (row : PartialRow) (earlier : List Terminal) → IsRow row earlier → ends_in_name earlier ≡ true → (relation : Relation)
     → KeepsShape (Some Rows) earlier (Compares relation) (if fits_left row.left relation then Goes context (AtSide (SideOfRow row relation)) else refuse context (Compares relation) kinds.MixedSenses)
-ended context row earlier h last relation = grind arith
+ended = grind arith
 
 listed : (place : Place) (kind_declared : List ℕ → Declaration) (context : Context) (earlier : List Terminal) → ((name : List ℕ) → PlaceShape place (Name name ∷ earlier)) → (token : Terminal)
     → KeepsShape (section_at_place place) earlier token (name_taken place kind_declared context token)
@@ -279,7 +250,7 @@ first place context earlier h token =
     (phrase place context earlier h) token
 
 later : (context : Context) (made : Declarations) (place : Place) (earlier : List Terminal) → PlaceShape place earlier → (token : Terminal) → KeepsShape (section_at_place place) earlier token (begin_after context made place token)
-later context made place earlier h token = grind (arith, declared-before, section_at_place, first)
+later = grind (arith, declared-before, section_at_place, first)
 
 lone : (context : Context) (owner : ItemOwner) (value : Decimal) (earlier : List Terminal) → NumberShape owner earlier → (token : Terminal) → KeepsShape (section_of_item owner) earlier token (take_lone context owner value token)
 lone context (OfObjective objective) value earlier h token =
@@ -288,25 +259,25 @@ lone context (OfObjective objective) value earlier h token =
 lone context (OfRow partial) value earlier h token = grind arith
 
 last_word : (context : Context) (wanted : LastWord) (earlier : List Terminal) → Shape (AtLastWord wanted) earlier → (token : Terminal) → KeepsShape (section_at (AtLastWord wanted)) earlier token (take context (AtLastWord wanted) token)
-last_word context wanted earlier h token = grind arith
+last_word = grind arith
 
 row_signed : (context : Context) (label : List ℕ) (sign : SignOf) (earlier : List Terminal) → SignShape earlier → (token : Terminal) → KeepsShape (Some Rows) earlier token (take context (RowSign label sign) token)
-row_signed context label sign earlier h token = grind arith
+row_signed = grind arith
 
 -- the first number of a row
 number-value : (earlier : List Terminal) → LeftNumberShape earlier → ends_in_value earlier ≡ true
-number-value earlier h = grind arith
+number-value = grind arith
 
 row_numbered : (context : Context) (label : List ℕ) (sign : SignOf) (value : Decimal) (earlier : List Terminal) → LeftNumberShape earlier → (token : Terminal)
     → KeepsShape (Some Rows) earlier token (take context (RowNumber label sign value) token)
-row_numbered context label sign value earlier h token = grind arith
+row_numbered = grind arith
 
 -- a name that is no label, but that of the first term
 pub in-row : (context : Context) (label : List ℕ) (earlier : List Terminal) → NameShape label earlier → PlaceShape (InRow (first_named context label)) earlier
-in-row context label earlier h = grind arith
+in-row = grind arith
 
 row_named : (context : Context) (label : List ℕ) (earlier : List Terminal) → NameShape label earlier → (token : Terminal) → KeepsShape (Some Rows) earlier token (take context (RowName label) token)
-row_named context label earlier h token = grind arith
+row_named = grind arith
 
 item_numbered : (context : Context) (owner : ItemOwner) (sign : SignOf) (value : Decimal) (earlier : List Terminal) → NumberShape owner earlier → (token : Terminal)
     → KeepsShape (section_of_item owner) earlier token (take context (ItemNumber owner sign value) token)
@@ -353,10 +324,10 @@ shaped-later earlier context state token after next known h = record {
 }
 
 mixed : (earlier : List Terminal) (context : Context) (state : State) (token : Terminal) → Shaped earlier context state → take context state token ≡ Refuses kinds.MixedSenses → mixes_senses earlier token ≡ true
-mixed earlier context state token known h = grind (arith, opened, section_at, step)
+mixed = grind (arith, opened, section_at, step)
 
 constant : (earlier : List Terminal) (context : Context) (state : State) (token : Terminal) → Shaped earlier context state → take context state token ≡ Refuses kinds.ConstantInRow → follows_constant earlier token ≡ true
-constant earlier context state token known h = grind (arith, section_at, step, both_so, opened)
+constant = grind (arith, section_at, step, both_so, opened)
 
 pub mixed-senses : IsInWords kinds.MixedSenses mixes_senses
 mixed-senses = in-words kinds.MixedSenses mixes_senses Shaped (record { at_start = none-shaped; goes = shaped-later; refuses = mixed }) refl refl

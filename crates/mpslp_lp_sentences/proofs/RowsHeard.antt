@@ -1,45 +1,19 @@
 -- How the grammar reads rows.
-use Rattle.std.proofs.Common.{arith, ◌≡◌, refl, sym, ap, subst, ◌∙◌, ℕ, ◌+◌, List, [], ◌∷◌, ◌++◌, Bool, true, false, append_assoc, map, length}
-use Rattle.std.specs.Prelude.{Option, Some, None, if◌then◌else◌, unwrap_or}
-use Rattle.std.specs.List.{flat_map, list_all, enumerate_from}
-use Rattle.std.specs.Cmp.{first_so, second_so}
-use Rattle.std.proofs.lemmas.List.{append-nil}
-use Rattle.mpslp_decimal.specs.Decimal.{Number as Decimal}
-use Rattle.mpslp_types.specs.declared.kinds.Limit.{Limit}
-use Rattle.mpslp_types.specs.declared.kinds.Limit.TheVariants.{MinusInf, PlusInf}
-use Rattle.mpslp_types.specs.declared.faults.FaultKind.TheVariants.{DuplicateEntry}
-use Rattle.mpslp_builder.specs.Declaration.{by_limits, RowDefinition, Declarations, Draft, declare_row, with_declarations}
-use Rattle.mpslp_builder.specs.Refusal.{refusals_in_turn}
-use Rattle.mpslp_builder.proofs.MadeDrafts.{with_declarations-append}
-use Rattle.mpslp_builder.proofs.SortedDrafts.{IsSortedDraft, sorted-with_declarations}
-use Rattle.mpslp_lp_grammar.specs.declared.signs.Sign.{Sign as SignOf}
-use Rattle.mpslp_lp_grammar.specs.Rules.{◌>>=◌, next}
-use Rattle.mpslp_lp_grammar.specs.Terminal.{Terminal}
-use Rattle.mpslp_lp_grammar.specs.Terminal.Terminal.{Name, Number, Sign, Compares, Colon}
-use Rattle.mpslp_lp_grammar.specs.Phrase.{Point, refuses, goes_to}
-use Rattle.mpslp_lp_grammar.specs.declared.sections_seen.SectionsSeen.{SectionsSeen}
-use Rattle.mpslp_lp_grammar.specs.declared.context.Context.{Context}
-use Rattle.mpslp_lp_grammar.specs.declared.relations.Relation.{Relation}
-use Rattle.mpslp_lp_grammar.specs.declared.relations.Relation.TheVariants.{AtMost, AtLeast}
-use Rattle.mpslp_lp_grammar.specs.declared.states.Place.TheVariants.{BetweenRows, InRow}
-use Rattle.mpslp_lp_grammar.specs.PartialRow.{PartialRow}
-use Rattle.mpslp_lp_grammar.specs.Items.{Limits, limits_by as sides_by, colon}
+use Rattle.mpslp_lp_sentences.proofs.Prelude.{arith, ◌≡◌, refl, sym, ap, subst, ◌∙◌, ℕ, ◌+◌, List, [], ◌∷◌, ◌++◌, Bool, true, false,
+  append_assoc, map, length, Option, Some, None, if◌then◌else◌, unwrap_or, flat_map, list_all, enumerate_from, first_so, second_so,
+  append-nil, Decimal, Limit, MinusInf, PlusInf, DuplicateEntry, by_limits, RowDefinition, Declarations, Draft, declare_row,
+  with_declarations, refusals_in_turn, with_declarations-append, IsSortedDraft, sorted-with_declarations, SignOf, ◌>>=◌, next, Terminal,
+  Name, Number, Sign, Compares, Colon, Point, refuses, goes_to, SectionsSeen, Context, Relation, AtMost, AtLeast, BetweenRows, InRow,
+  PartialRow, Limits, sides_by, colon, term_declared, default_row, without_terms, row_item, row_first, row_after_left, row_signed, row_from,
+  row_named, fits_left, row_limits, row_declared, phrase_at, point_at, AreNew, at, parts-taken, Side, Term, Row, term, row, row_between,
+  row_from_above, label_tokens, side_tokens, term_tokens, terms_tokens, row_tokens, is_signed_term, is_row, coefficient, limit,
+  term_declares, row_name, row_with, row_declares}
+use Rattle.mpslp_lp_sentences.specs.Meaning.{limits_by}
+use Rattle.mpslp_lp_sentences.proofs.{Whole.{Tokens, listened, listened-one}, Stamped.{stamped, onward, ending, first_of_all, here, Hears,
+  IsWhole, IsWholeAnywhere, whole-begins, hears-next, hears-ahead, hears-goes, whole-joined},
+  ItemsHeard.{term_before, term-before, side_first, side_rest, side-split, hears-term, hears-first, HearsTerm, hears-relation},
+  RowFacts.{Pair, terms-new, row-adds}}
 use Rattle.mpslp_lp_grammar.specs.Items as rules
-use Rattle.mpslp_lp_grammar.specs.Rows.{term_declared, default_row, without_terms, row_item, row_first, row_after_left, row_signed, row_from, row_named, fits_left, row_limits, row_declared}
-use Rattle.mpslp_lp_grammar.specs.Grammar.{phrase_at}
-use Rattle.mpslp_canonical_lp.specs.PrintedDeclarations.{point_at, AreNew}
-use Rattle.mpslp_canonical_lp.proofs.TerminalLemmas.{at}
-use Rattle.mpslp_canonical_lp.proofs.ObjectiveWalk.{parts-taken}
-use Rattle.mpslp_lp_sentences.specs.Phrases.{Side, Term, Row}
-use Rattle.mpslp_lp_sentences.specs.Phrases.Side.{side}
-use Rattle.mpslp_lp_sentences.specs.Phrases.Term.{term}
-use Rattle.mpslp_lp_sentences.specs.Phrases.Row.{row, row_between, row_from_above}
-use Rattle.mpslp_lp_sentences.specs.Spelling.{label_tokens, side_tokens, term_tokens, terms_tokens, row_tokens, is_signed_term, is_row}
-use Rattle.mpslp_lp_sentences.specs.Meaning.{coefficient, limit, term_declares, row_name, limits_by, row_with, row_declares}
-use Rattle.mpslp_lp_sentences.proofs.Whole.{Tokens, listened, listened-one}
-use Rattle.mpslp_lp_sentences.proofs.Stamped.{stamped, onward, ending, first_of_all, here, Hears, IsWhole, IsWholeAnywhere, whole-begins, hears-next, hears-ahead, hears-goes, whole-joined}
-use Rattle.mpslp_lp_sentences.proofs.ItemsHeard.{term_before, term-before, side_first, side_rest, side-split, hears-term, hears-first, HearsTerm, hears-relation}
-use Rattle.mpslp_lp_sentences.proofs.RowFacts.{Pair, terms-new, row-adds}
 
 -- a column and its coefficient
 abbrev pub pair : Term → Pair
@@ -67,7 +41,7 @@ term_rest [] None column xs = xs
 term_rest [] (Some size) column xs = Name column ∷ xs
 
 term-split : (signs : List SignOf) (number : Option Decimal) (column : List ℕ) (xs : List Terminal) → term_first signs number column ∷ term_rest signs number column xs ≡ term_before signs number column xs
-term-split signs number column xs = grind arith
+term-split = grind arith
 
 abbrev is_no_colon : Terminal → Bool
 is_no_colon Colon = false
@@ -76,7 +50,7 @@ is_no_colon _ = true
 left-begins : (sections_seen : SectionsSeen) (earlier : Draft) (part : Side) (n : ℕ) (tokens : Tokens)
     → listened (phrase_at (point_at BetweenRows sections_seen earlier) (at n (side_first part))) tokens
     ≡ listened (row_from (here sections_seen earlier) (default_row (here sections_seen earlier)) (at n (side_first part))) tokens
-left-begins sections_seen earlier part n tokens = grind arith
+left-begins = grind arith
 
 module _ (last : ℕ) (later : Tokens) (sections_seen : SectionsSeen) (earlier : Draft) where
   -- ---- the first term
@@ -103,7 +77,7 @@ module _ (last : ℕ) (later : Tokens) (sections_seen : SectionsSeen) (earlier :
   hears-left : (name : List ℕ) (part : Side) (relation : Relation) (xs : List Terminal) (made : Declarations)
       → Hears last later (row_after_left (here sections_seen earlier) name (limit part)) (Compares relation ∷ xs) made
       → (n : ℕ) → Hears last later (row_from (here sections_seen earlier) name (at n (side_first part))) (side_rest part (Compares relation ∷ xs)) made
-  hears-left name part relation xs made rest n = grind arith
+  hears-left = grind arith
 
   hears-after_left : (name : List ℕ) (value : Limit) (relation : Relation) (signs : List SignOf) (number : Option Decimal) (column : List ℕ) (xs : List Terminal) (made : Declarations)
       → IsWhole last later (in_row sections_seen earlier name (Some (value, relation)) ((column, coefficient signs number) ∷ [])) xs made
@@ -185,12 +159,12 @@ module _ (last : ℕ) (later : Tokens) (sections_seen : SectionsSeen) (earlier :
       → refusals_in_turn earlier (row_declared (row_at name left terms) (row_limits left relation (limit part))) ≡ []
       → IsWhole last later (point_at BetweenRows sections_seen (with_declarations earlier (row_declared (row_at name left terms) (row_limits left relation (limit part))))) xs made
       → IsWhole last later (in_row sections_seen earlier name left terms) (Compares relation ∷ (side_tokens part ++ xs)) (row_declared (row_at name left terms) (row_limits left relation (limit part)) ++ made)
-  whole-end name left terms relation part xs made fits h rest = grind arith
+  whole-end = grind arith
 
 -- ---- whole rows
 
 pub declared-is : (name : List ℕ) (relation : Relation) (value : Limit) (terms : List Term) → row_declared (row_at name None (map pair terms)) (sides_by relation value) ≡ row_with name (limits_by relation value) terms
-declared-is name relation value terms = grind (arith, terms-declare)
+declared-is = grind (arith, terms-declare)
 
 -- the limits of a row, of which one may be missing
 abbrev definition_of : Limits → RowDefinition
@@ -203,15 +177,15 @@ colon-free _ relation xs h = refl
 
 -- the columns of a row that is not rejected
 row-new : (earlier : Draft) (name : List ℕ) (form : RowDefinition) (terms : List Pair) → refusals_in_turn earlier (declare_row name form ∷ flat_map (term_declared name) terms) ≡ [] → AreNew [] terms
-row-new earlier name form terms h = grind (arith, terms-new, parts-taken)
+row-new = grind (arith, terms-new, parts-taken)
 
 -- the tokens of a row, in the order in which they are read
 pub row-order : (label first more end xs : List Terminal) → (label ++ ((first ++ more) ++ end)) ++ xs ≡ label ++ (first ++ (more ++ (end ++ xs)))
-row-order label first more end xs = grind (arith, append_assoc)
+row-order = grind (arith, append_assoc)
 
 pub between-order : (label left first more end xs : List Terminal) (relation : Terminal)
     → (label ++ (left ++ relation ∷ ((first ++ more) ++ end))) ++ xs ≡ label ++ (left ++ relation ∷ (first ++ (more ++ (end ++ xs))))
-between-order label left first more end xs relation = grind (arith, append_assoc)
+between-order = grind (arith, append_assoc)
 
 -- a row adds one to the rows
 adds-one : (earlier : Draft) (name : List ℕ) (form : RowDefinition) (terms : List Term) → IsSortedDraft earlier → refusals_in_turn earlier (row_with name form terms) ≡ []
@@ -288,9 +262,9 @@ module _ (last : ℕ) (later : Tokens) (sections_seen : SectionsSeen) where
       let more = flat_map row_declares (enumerate_from (place + 1) parts) in
       let taken = parts-taken earlier first more h in
       whole-joined last later (point_at BetweenRows sections_seen earlier) (row_tokens part) (flat_map row_tokens parts) xs first more made
-      (subst (λ (p : ℕ). Reads earlier (row_tokens part) (row_declares (p, part))) (sym is) (reads-row part earlier (first_so (is_row part) (list_all is_row parts) ok))
+      (subst (λ (p : ℕ). Reads earlier (row_tokens part) (row_declares (p, part))) (sym is) (reads-row part earlier (first_so _ _ ok))
       (flat_map row_tokens parts ++ xs) (more ++ made) taken.0
-      (whole-rows parts (place + 1) (with_declarations earlier first) xs made (second_so (is_row part) (list_all is_row parts) ok)
+      (whole-rows parts (place + 1) (with_declarations earlier first) xs made (second_so _ _ ok)
       (ap (λ (p : ℕ). p + 1) (is ∙ sym (row-counted place part earlier sorted taken.0)))
       (sorted-with_declarations first earlier sorted) taken.1
       (subst (λ (draft : Draft). IsWholeAnywhere last later sections_seen draft xs made) (with_declarations-append first more earlier) rest)))

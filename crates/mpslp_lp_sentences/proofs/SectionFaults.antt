@@ -1,47 +1,21 @@
 -- A section word that is repeated or out of order is as `FaultsInWords` defines it.
-use Rattle.std.proofs.Common.{◌≡◌, refl, sym, ap, ◌∙◌, ℕ, List, [], ◌∷◌, Bool, true, false, arith}
-use Rattle.std.specs.Prelude.{Option, Some, None, ◌||◌, not, nat_lt, if◌then◌else◌}
-use Rattle.std.specs.List.{list_any}
-use Rattle.mpslp_decimal.specs.Decimal.{Number as Decimal}
-use Rattle.mpslp_types.specs.declared.faults.BuildFault.{BuildFault}
+use Rattle.mpslp_lp_sentences.proofs.Prelude.{◌≡◌, refl, sym, ap, ◌∙◌, ℕ, List, [], ◌∷◌, Bool, true, false, arith, Option, Some, None, ◌||◌,
+  not, nat_lt, if◌then◌else◌, list_any, Decimal, BuildFault, FaultKind, Limit, both_so, or_left, or_right, so_not, Declaration,
+  Declarations, declare_column, declare_integer, declare_binary, declare_semi, kind_of_build_fault, section_of, Section, Objective, Rows,
+  Bounds, Generals, Binaries, SemiContinuous, End, SectionWord, Context, Relation, SectionsSeen, SignOf, ItemOwner, OfObjective, OfRow,
+  LastWord, To, That, Continuous, Place, AtStart, BeforeItems, InObjective, BetweenRows, InRow, InBounds, InGenerals, InBinaries, InSemis,
+  SideOwner, SideOfRow, SideOfBound, State, Between, AtObjective, ObjectiveName, AtLastWord, AtSemi, Signs, ItemNumber, RowName, RowLabel,
+  RowSign, RowNumber, RowLeft, RowLeftRelation, BoundName, BoundSign, BoundLeft, BoundLeftRelation, AtSide, SideSign, AfterEnd, AfterToken,
+  Goes, Refuses, refuse, with_made, declare_unless_refused, take_after_declarations, take_term, take_after_signs, begin_item, declare_at,
+  take_bound, take_side, no_limits, opened_by, may_begin_section, is_last_word, open_section, begin_row, begin_bound, take_second_relation,
+  name_taken, begin_phrase, begin, one, apply_sign, Limits, limits_by, flip, objective_declared, default_objective, first_item_declared,
+  terminal_fault, start, has_seen, with_section, is_out_of_order, Terminal, Opens, Name, Compares, Colon, Free, begin_after, take_lone,
+  take, IsInWords, opens, has_opened, current_section, repeats_section, section_rank, opens_later, comes_late, comes_early, breaks_order}
+use Rattle.mpslp_lp_sentences.proofs.{FaultedTokens.{in-words}, TokenCases.{signs-by, item-by, limit-by, listed-by, last_word-by,
+  bound_name-by, bound_column-by, side-by, begin-by, objective-by, objective_name-by, item_number-by, semi-by}}
 use Rattle.mpslp_types.specs.declared.faults.BuildFault.TheVariants as builds
-use Rattle.mpslp_types.specs.declared.faults.FaultKind.{FaultKind}
 use Rattle.mpslp_types.specs.declared.faults.FaultKind.TheVariants as kinds
-use Rattle.mpslp_types.specs.declared.kinds.Limit.{Limit}
-use Rattle.mpslp_types.proofs.BoolLemmas.{both_so, or_left, or_right, so_not}
-use Rattle.mpslp_builder.specs.Declaration.{Declaration, Declarations, declare_column, declare_integer, declare_binary, declare_semi}
-use Rattle.mpslp_lines.specs.FaultTests.{kind_of_build_fault}
-use Rattle.mpslp_lp_tokens.specs.Token.{section_of}
-use Rattle.mpslp_lp_tokens.specs.declared.words.Section.{Section}
-use Rattle.mpslp_lp_tokens.specs.declared.words.Section.TheVariants.{Objective, Rows, Bounds, Generals, Binaries, SemiContinuous, End}
-use Rattle.mpslp_lp_tokens.specs.declared.words.SectionWord.{SectionWord}
 use Rattle.mpslp_lp_tokens.specs.declared.words.SectionWord.TheVariants as words
-use Rattle.mpslp_lp_grammar.specs.declared.context.Context.{Context}
-use Rattle.mpslp_lp_grammar.specs.declared.relations.Relation.{Relation}
-use Rattle.mpslp_lp_grammar.specs.declared.sections_seen.SectionsSeen.{SectionsSeen}
-use Rattle.mpslp_lp_grammar.specs.declared.signs.Sign.{Sign as SignOf}
-use Rattle.mpslp_lp_grammar.specs.declared.states.ItemOwner.{ItemOwner}
-use Rattle.mpslp_lp_grammar.specs.declared.states.ItemOwner.TheVariants.{OfObjective, OfRow}
-use Rattle.mpslp_lp_grammar.specs.declared.states.LastWord.{LastWord}
-use Rattle.mpslp_lp_grammar.specs.declared.states.LastWord.TheVariants.{To, That, Continuous}
-use Rattle.mpslp_lp_grammar.specs.declared.states.Place.{Place}
-use Rattle.mpslp_lp_grammar.specs.declared.states.Place.TheVariants.{AtStart, BeforeItems, InObjective, BetweenRows, InRow, InBounds, InGenerals, InBinaries, InSemis}
-use Rattle.mpslp_lp_grammar.specs.declared.states.SideOwner.{SideOwner}
-use Rattle.mpslp_lp_grammar.specs.declared.states.SideOwner.TheVariants.{SideOfRow, SideOfBound}
-use Rattle.mpslp_lp_grammar.specs.declared.states.State.{State}
-use Rattle.mpslp_lp_grammar.specs.declared.states.State.TheVariants.{Between, AtObjective, ObjectiveName, AtLastWord, AtSemi, Signs, ItemNumber, RowName, RowLabel, RowSign, RowNumber, RowLeft, RowLeftRelation, BoundName, BoundSign, BoundLeft, BoundLeftRelation, AtSide, SideSign, AfterEnd}
-use Rattle.mpslp_lp_grammar.specs.AfterToken.{AfterToken, Goes, Refuses, refuse, with_made, declare_unless_refused, take_after_declarations, take_term, take_after_signs, begin_item, declare_at, take_bound, take_side}
-use Rattle.mpslp_lp_grammar.specs.Grammar.{no_limits, opened_by, may_begin_section, is_last_word}
-use Rattle.mpslp_lp_grammar.specs.FirstToken.{open_section, begin_row, begin_bound, take_second_relation, name_taken, begin_phrase, begin}
-use Rattle.mpslp_lp_grammar.specs.Items.{one, apply_sign, Limits, limits_by, flip}
-use Rattle.mpslp_lp_grammar.specs.Rows.{objective_declared, default_objective, first_item_declared}
-use Rattle.mpslp_lp_grammar.specs.Phrase.{terminal_fault, start, has_seen, with_section, is_out_of_order}
-use Rattle.mpslp_lp_grammar.specs.Terminal.{Terminal}
-use Rattle.mpslp_lp_grammar.specs.Terminal.Terminal.{Opens, Name, Compares, Colon, Free}
-use Rattle.mpslp_lp_grammar.specs.TokenStep.{begin_after, take_lone, take}
-use Rattle.mpslp_lp_sentences.specs.FaultsInWords.{IsInWords, is_section, opens, has_opened, current_section, repeats_section, section_rank, opens_later, comes_late, comes_early, breaks_order}
-use Rattle.mpslp_lp_sentences.proofs.FaultedTokens.{in-words}
-use Rattle.mpslp_lp_sentences.proofs.TokenCases.{signs-by, item-by, limit-by, listed-by, last_word-by, bound_name-by, bound_column-by, side-by, begin-by, objective-by, objective_name-by, item_number-by, semi-by}
 
 -- ---- what a token does to the sections that were opened
 
@@ -112,16 +86,16 @@ KeepsSections context here token (Goes after next) = (after.sections_seen ≡ gr
 KeepsSections context here token (Refuses kind) = States (terminal_fault context token) kind
 
 refused : (context : Context) (here : Option Section) (token : Terminal) (kind : FaultKind) → is_of_sections kind ≡ false → KeepsSections context here token (refuse context token kind)
-refused context here token kind other = grind arith
+refused = grind arith
 
 bad : (context : Context) (here : Option Section) (token : Terminal) → KeepsSections context here token (refuse context token kinds.BadToken)
-bad context here token = grind arith
+bad = grind arith
 
 build-fault : (fault : BuildFault) → is_of_sections (kind_of_build_fault fault) ≡ false
-build-fault fault = grind arith
+build-fault = grind arith
 
 either : (context : Context) (here : Option Section) (token : Terminal) (b : Bool) (x y : AfterToken) → KeepsSections context here token x → KeepsSections context here token y → KeepsSections context here token (if b then x else y)
-either context here token b x y h k = grind arith
+either = grind arith
 
 -- ---- declarations
 
@@ -132,24 +106,24 @@ opens_none _ = true
 
 declared : (context : Context) (here : Option Section) (token : Terminal) (refusals : List BuildFault) (place : Place) (made : Declarations) → opens_none token ≡ true → section_at_place place ≡ here
     → KeepsSections context here token (declare_unless_refused context token refusals place made)
-declared context here token refusals place made none is = grind arith
+declared = grind arith
 
 declared-before : (context : Context) (here : Option Section) (token : Terminal) (refusals : List BuildFault) (made : Declarations) (next : AfterToken) → KeepsSections context here token next
     → KeepsSections context here token (take_after_declarations context token refusals made next)
-declared-before context here token refusals made next h = grind arith
+declared-before = grind arith
 
 -- ---- what each function does
 
 stays : (context : Context) (here : Option Section) (token : Terminal) (place : Place) (made : Declarations) → opens_none token ≡ true → section_at_place place ≡ here
     → KeepsSections context here token (declare_at context token place made)
-stays context here token place made none is = grind arith
+stays = grind arith
 
 bounded : (context : Context) (front : Declarations) (column : List ℕ) (limits : Limits) (token : Terminal) (place : Place) → opens_none token ≡ true → section_at_place place ≡ Some Bounds
     → KeepsSections context (Some Bounds) token (take_bound context front column limits token place)
 bounded context front column limits token place none is = grind arith
 
 term : (context : Context) (owner : ItemOwner) (column name : List ℕ) (value : Decimal) → KeepsSections context (section_of_item owner) (Name name) (take_term context owner column value (Name name))
-term context owner column name value = grind arith
+term = grind arith
 
 signs : (context : Context) (owner : ItemOwner) (sign : SignOf) (token : Terminal) → KeepsSections context (section_of_item owner) token (take_after_signs context owner sign token)
 signs context owner sign token =
@@ -164,16 +138,16 @@ side context (SideOfRow row relation) l token none = grind arith
 side context (SideOfBound is_new column relation) l token none = grind arith
 
 opened : (context : Context) (here : Option Section) (word : SectionWord) → KeepsSections context here (Opens word) (open_section context word)
-opened context here word = grind arith
+opened = grind arith
 
 row : (context : Context) (label : List ℕ) (token : Terminal) → KeepsSections context (Some Rows) token (begin_row context label token)
-row context label token = grind arith
+row = grind arith
 
 bound : (context : Context) (token : Terminal) → KeepsSections context (Some Bounds) token (begin_bound context token)
-bound context token = grind arith
+bound = grind arith
 
 second : (context : Context) (left : Option (List ℕ × Relation)) (relation : Relation) → KeepsSections context (Some Bounds) (Compares relation) (take_second_relation context left relation (Compares relation))
-second context left relation = grind arith
+second = grind arith
 
 listed : (place : Place) (kind_declared : List ℕ → Declaration) (context : Context) (token : Terminal) → KeepsSections context (section_at_place place) token (name_taken place kind_declared context token)
 listed place kind_declared context token =
@@ -200,10 +174,10 @@ first place context token =
 
 -- a token that completes what is before it, and is taken at the place that follows
 first-later : (context : Context) (made : Declarations) (place : Place) (token : Terminal) → KeepsSections context (section_at_place place) token (begin place (with_made context made) token)
-first-later context made place token = grind (arith, first)
+first-later = grind (arith, first)
 
 later : (context : Context) (made : Declarations) (place : Place) (token : Terminal) → KeepsSections context (section_at_place place) token (begin_after context made place token)
-later context made place token = grind (arith, first-later)
+later = grind (arith, first-later)
 
 lone : (context : Context) (owner : ItemOwner) (value : Decimal) (token : Terminal) → KeepsSections context (section_of_item owner) token (take_lone context owner value token)
 lone context owner value token = grind arith
@@ -217,7 +191,7 @@ last_word context wanted token =
     here = section_at (AtLastWord wanted)
 
     by : (w : LastWord) → section_at_place (opened_by w) ≡ section_at (AtLastWord w)
-    by w = grind arith
+    by = grind arith
 
 -- ---- each state
 
@@ -256,28 +230,28 @@ abbrev AreSeen : List Terminal → Context → Type 0
 AreSeen earlier context = (section : Section) → has_seen context.sections_seen section ≡ has_opened earlier section
 
 seen-grown : (seen : SectionsSeen) (token : Terminal) (section : Section) → has_seen (grown seen token) section ≡ (opens section token || has_seen seen section)
-seen-grown seen token section = grind arith
+seen-grown = grind arith
 
 pub opened-later : (earlier : List Terminal) (context : Context) (state : State) (token : Terminal) (after : Context) (next : State) → Opened earlier context state → take context state token ≡ Goes after next
     → Opened (token ∷ earlier) after next
-opened-later earlier context state token after next known h = grind (arith, step, seen-grown)
+opened-later = grind (arith, step, seen-grown)
 
 -- ---- the errors
 
 own-fault : (context : Context) (state : State) (token : Terminal) (kind : FaultKind) → is_of_sections kind ≡ true → take context state token ≡ Refuses kind → terminal_fault context token ≡ Some kind
-own-fault context state token kind of h = grind (arith, step)
+own-fault = grind (arith, step)
 
 abbrev choice : Bool → Bool → Option FaultKind
 choice repeated late = if repeated then Some kinds.SectionRepeated else (if late then Some kinds.SectionOrder else None)
 
 chosen-order : (a b : Bool) → choice a b ≡ Some kinds.SectionOrder → (a ≡ false) × (b ≡ true)
-chosen-order a b h = grind arith
+chosen-order = grind arith
 
 repeated : (earlier : List Terminal) (context : Context) (state : State) (token : Terminal) → Opened earlier context state → take context state token ≡ Refuses kinds.SectionRepeated → repeats_section earlier token ≡ true
 repeated earlier context state token known h = by token (own-fault context state token kinds.SectionRepeated refl h)
   where
     by : (t : Terminal) → terminal_fault context t ≡ Some kinds.SectionRepeated → repeats_section earlier t ≡ true
-    by t e = grind arith
+    by = grind arith
 
 any-more : {X : Type 0} (p q : X → Bool) (xs : List X) → ((x : X) → p x ≡ true → q x ≡ true) → list_any p xs ≡ true → list_any q xs ≡ true
 any-more p q [] more h = cc
@@ -287,11 +261,8 @@ any-more {X} p q (x ∷ xs) more h = grind (arith, or_left, or_right, any-more p
 late : (earlier : List Terminal) (section other : Section) → nat_lt (section_rank section) (section_rank other) ≡ true → has_opened earlier other ≡ true → comes_late earlier section ≡ true
 late earlier section other above h = any-more (opens other) (opens_later section) earlier of h
   where
-    same : (s : Section) → is_section other s ≡ true → nat_lt (section_rank section) (section_rank s) ≡ true
-    same s e = grind arith
-
     of : (t : Terminal) → opens other t ≡ true → opens_later section t ≡ true
-    of t e = grind arith
+    of = grind arith
 
 out_of_order : (earlier : List Terminal) (context : Context) (section : Section) → AreSeen earlier context → is_out_of_order context.sections_seen section ≡ true
     → (comes_early earlier section || comes_late earlier section) ≡ true
@@ -300,20 +271,17 @@ out_of_order earlier context section known h = of section h
     seen : SectionsSeen
     seen = context.sections_seen
 
-    early : (e l : Bool) → e ≡ true → (e || l) ≡ true
-    early e l k = or_left e l k
-
     -- the objective was not opened, or one of these was
     without : (s : Section) → comes_early earlier s ≡ not (has_opened earlier Objective) → (rest : Bool) → (rest ≡ true → comes_late earlier s ≡ true) → (not seen.objective || rest) ≡ true
         → (comes_early earlier s || comes_late earlier s) ≡ true
     without s is rest more k = by seen.objective (known Objective) k
       where
         by : (b : Bool) → b ≡ has_opened earlier Objective → (not b || rest) ≡ true → (comes_early earlier s || comes_late earlier s) ≡ true
-        by true e m = or_right (comes_early earlier s) (comes_late earlier s) (more m)
-        by false e m = or_left (comes_early earlier s) (comes_late earlier s) (is ∙ ap not (sym e))
+        by true e m = or_right _ _ (more m)
+        by false e m = or_left _ _ (is ∙ ap not (sym e))
 
     one_of : (a b : Bool) (X : Type 0) → (a ≡ true → X) → (b ≡ true → X) → (a || b) ≡ true → X
-    one_of a b X f g k = grind arith
+    one_of = grind arith
 
     opened_later : (s other : Section) → nat_lt (section_rank s) (section_rank other) ≡ true → has_seen seen other ≡ true → comes_late earlier s ≡ true
     opened_later s other above k = late earlier s other above (sym (known other) ∙ k)
@@ -327,7 +295,7 @@ out_of_order earlier context section known h = of section h
         (one_of seen.generals (seen.binaries || (seen.semis || seen.end)) late_rows (opened_later Rows Generals refl)
         (one_of seen.binaries (seen.semis || seen.end) late_rows (opened_later Rows Binaries refl)
         (one_of seen.semis seen.end late_rows (opened_later Rows SemiContinuous refl) (opened_later Rows End refl))))) k
-    of End k = or_left (comes_early earlier End) (comes_late earlier End) (sym (ap not (known Objective)) ∙ k)
+    of End k = or_left _ _ (sym (ap not (known Objective)) ∙ k)
     of Bounds k = without Bounds refl seen.end (opened_later Bounds End refl) k
     of Generals k = without Generals refl seen.end (opened_later Generals End refl) k
     of Binaries k = without Binaries refl seen.end (opened_later Binaries End refl) k
@@ -339,8 +307,8 @@ misplaced earlier context state token known h = by token (own-fault context stat
     by : (t : Terminal) → terminal_fault context t ≡ Some kinds.SectionOrder → breaks_order earlier t ≡ true
     by (Opens word) e =
         let parts = chosen-order (has_seen context.sections_seen (section_of word)) (is_out_of_order context.sections_seen (section_of word)) e in
-        both_so (not (has_opened earlier (section_of word))) (comes_early earlier (section_of word) || comes_late earlier (section_of word))
-        (so_not (has_opened earlier (section_of word)) (sym (known.seen (section_of word)) ∙ parts.0)) (out_of_order earlier context (section_of word) known.seen parts.1)
+        both_so _ _
+        (so_not _ (sym (known.seen (section_of word)) ∙ parts.0)) (out_of_order earlier context (section_of word) known.seen parts.1)
     by _ e = absurd cc
 
 pub none-opened : Opened [] start.context (Between AtStart)

@@ -1,41 +1,19 @@
 -- How the grammar reads the sections of a file, and the file.
-use Rattle.std.proofs.Common.{arith, ◌≡◌, refl, sym, ap, subst, ◌∙◌, ℕ, ◌+◌, List, [], ◌∷◌, ◌++◌, Bool, true, false, not, append_assoc, length}
-use Rattle.std.specs.Prelude.{None, ◌&&◌}
-use Rattle.std.specs.List.{flat_map, list_all, list_any, enumerate_from}
-use Rattle.std.specs.Cmp.{first_so, second_so}
-use Rattle.mpslp_types.proofs.BoolLemmas.{nor, not_so, both_so}
-use Rattle.mpslp_builder.specs.Declaration.{Declarations, Draft, empty_draft, with_declarations, declare_semi}
-use Rattle.mpslp_builder.specs.Refusal.{refusals_in_turn}
-use Rattle.mpslp_builder.proofs.MadeDrafts.{with_declarations-append}
-use Rattle.mpslp_builder.proofs.SortedDrafts.{IsSortedDraft, sorted-draft_of}
-use Rattle.mpslp_lp_grammar.specs.declared.signs.Sign.TheVariants.{Minus}
-use Rattle.mpslp_lp_grammar.specs.Terminal.{Terminal}
-use Rattle.mpslp_lp_grammar.specs.Terminal.Terminal.{Opens, Name, Sign}
-use Rattle.mpslp_lp_grammar.specs.Phrase.{section_fault, with_section, has_seen, start}
-use Rattle.mpslp_lp_grammar.specs.declared.sections_seen.SectionsSeen.{SectionsSeen}
-use Rattle.mpslp_lp_grammar.specs.declared.context.Context.{Context}
-use Rattle.mpslp_lp_grammar.specs.declared.states.Place.{Place}
-use Rattle.mpslp_lp_grammar.specs.declared.states.Place.TheVariants.{BetweenRows, InSemis}
-use Rattle.mpslp_lp_grammar.specs.declared.states.LastWord.{LastWord}
-use Rattle.mpslp_lp_grammar.specs.Grammar.{opened_by, is_last_word, last_word, semi_from, may_begin_section}
-use Rattle.mpslp_lp_tokens.specs.declared.words.Section.{Section as Kind}
+use Rattle.mpslp_lp_sentences.proofs.Prelude.{arith, ◌≡◌, refl, sym, ap, subst, ◌∙◌, ℕ, ◌+◌, List, [], ◌∷◌, ◌++◌, Bool, true, false, not,
+  append_assoc, length, None, flat_map, list_all, list_any, enumerate_from, first_so, second_so, nor, not_so, both_so, Declarations, Draft,
+  empty_draft, with_declarations, declare_semi, refusals_in_turn, with_declarations-append, IsSortedDraft, sorted-draft_of, Minus, Terminal,
+  Opens, Name, Sign, section_fault, with_section, has_seen, start, SectionsSeen, Context, Place, BetweenRows, InSemis, LastWord, opened_by,
+  is_last_word, last_word, semi_from, may_begin_section, Kind, point_at, at, parts-taken, Item, RowSection, File, objective, no_rows, rows,
+  bounds, generals, binaries, semis, file, name_tokens, row_tokens, objective_tokens, row_section_tokens, section_tokens, opens_rows,
+  is_row_section, same_section, are_sections, is_file, item_declares, objective_declares, objective_name, row_declares,
+  row_section_declares, section_declares, file_declares}
+use Rattle.mpslp_lp_sentences.specs.Phrases.{Objective, Section}
+use Rattle.mpslp_lp_sentences.specs.Spelling.{is_section}
+use Rattle.mpslp_lp_sentences.proofs.{Whole.{Tokens},
+  Stamped.{first_of_all, is_elsewhere, here, Hears, IsWhole, IsWholeAnywhere, hears-next, hears-ahead, hears-goes, whole-opens},
+  ObjectiveHeard.{is_section_word, after_word, whole-objective}, BoundsHeard.{whole-bounds, whole-names}, RowsHeard.{whole-rows}}
 use Rattle.mpslp_lp_tokens.specs.declared.words.Section.TheVariants as kinds
 use Rattle.mpslp_lp_tokens.specs.declared.words.SectionWord.TheVariants as words
-use Rattle.mpslp_canonical_lp.specs.PrintedDeclarations.{point_at}
-use Rattle.mpslp_canonical_lp.proofs.TerminalLemmas.{at}
-use Rattle.mpslp_canonical_lp.proofs.ObjectiveWalk.{parts-taken}
-use Rattle.mpslp_lp_sentences.specs.Phrases.{Item, Objective, RowSection, Section, File}
-use Rattle.mpslp_lp_sentences.specs.Phrases.Objective.{objective}
-use Rattle.mpslp_lp_sentences.specs.Phrases.RowSection.{no_rows, rows}
-use Rattle.mpslp_lp_sentences.specs.Phrases.Section.{bounds, generals, binaries, semis}
-use Rattle.mpslp_lp_sentences.specs.Phrases.File.{file}
-use Rattle.mpslp_lp_sentences.specs.Spelling.{name_tokens, row_tokens, objective_tokens, row_section_tokens, section_tokens, opens_rows, is_row, is_row_section, is_section, same_section, are_sections, is_objective, is_file}
-use Rattle.mpslp_lp_sentences.specs.Meaning.{item_declares, objective_declares, objective_name, row_declares, row_section_declares, section_declares, file_declares}
-use Rattle.mpslp_lp_sentences.proofs.Whole.{Tokens}
-use Rattle.mpslp_lp_sentences.proofs.Stamped.{first_of_all, is_elsewhere, here, Hears, IsWhole, IsWholeAnywhere, hears-next, hears-ahead, hears-goes, whole-opens}
-use Rattle.mpslp_lp_sentences.proofs.ObjectiveHeard.{is_section_word, after_word, whole-objective}
-use Rattle.mpslp_lp_sentences.proofs.BoundsHeard.{whole-bounds, whole-names}
-use Rattle.mpslp_lp_sentences.proofs.RowsHeard.{whole-rows}
 
 -- the tokens of a file before its `end`
 abbrev pub front_tokens : File → List Terminal
@@ -55,25 +33,24 @@ pub record IsInside (seen : SectionsSeen) : Type 0 where
   pub open_still : seen.end ≡ false
 
 pub inside-after : (part : Section) (seen : SectionsSeen) → IsInside seen → IsInside (with_section seen (kind_of part))
-inside-after part seen h = grind arith
+inside-after = grind arith
 
 abbrev pub is_fresh : SectionsSeen → Section → Bool
 is_fresh seen part = not (has_seen seen (kind_of part))
 
 may-open : (part : Section) (seen : SectionsSeen) → IsInside seen → has_seen seen (kind_of part) ≡ false → section_fault seen (kind_of part) ≡ None
-may-open part seen h fresh = grind arith
+may-open = grind arith
 
 fresh-still : (first part : Section) (seen : SectionsSeen) → same_section first part ≡ false → has_seen (with_section seen (kind_of first)) (kind_of part) ≡ has_seen seen (kind_of part)
-fresh-still first part seen apart = grind arith
+fresh-still = grind arith
 
 all-fresh_still : (first : Section) (parts : List Section) (seen : SectionsSeen) → list_any (same_section first) parts ≡ false → list_all (is_fresh seen) parts ≡ true
     → list_all (is_fresh (with_section seen (kind_of first))) parts ≡ true
 all-fresh_still first [] seen apart fresh = refl
 all-fresh_still first (part ∷ parts) seen apart fresh =
-    let both = nor (same_section first part) (list_any (same_section first) parts) apart in
-    both_so (is_fresh (with_section seen (kind_of first)) part) (list_all (is_fresh (with_section seen (kind_of first))) parts)
-    (ap not (fresh-still first part seen both.0) ∙ first_so (is_fresh seen part) (list_all (is_fresh seen) parts) fresh)
-    (all-fresh_still first parts seen both.1 (second_so (is_fresh seen part) (list_all (is_fresh seen) parts) fresh))
+    let both = nor _ _ apart in
+    both_so _ _ (ap not (fresh-still first part seen both.0) ∙ first_so _ _ fresh)
+    (all-fresh_still first parts seen both.1 (second_so _ _ fresh))
 
 -- ---- first tokens
 
@@ -83,26 +60,26 @@ is_plain (Sign sign) = false
 is_plain _ = true
 
 plain-word : (x : Terminal) → is_section_word x ≡ true → is_plain x ≡ true
-plain-word x h = grind arith
+plain-word = grind arith
 
 plain-names : (names : List (List ℕ)) (xs : List Terminal) → is_section_word (first_of_all xs) ≡ true → is_plain (first_of_all (name_tokens names ++ xs)) ≡ true
 plain-names [] xs h = plain-word (first_of_all xs) h
 plain-names (name ∷ names) xs h = refl
 
 section-begins : (part : Section) (xs : List Terminal) → is_section part ≡ true → is_section_word (first_of_all (section_tokens part ++ xs)) ≡ true
-section-begins part xs h = grind arith
+section-begins = grind arith
 
 sections-begin : (parts : List Section) → are_sections parts ≡ true → is_section_word (first_of_all (flat_map section_tokens parts)) ≡ true
 sections-begin [] h = refl
 sections-begin (part ∷ parts) h = grind (arith, section-begins)
 
 row_section-begins : (part : RowSection) (xs : List Terminal) → is_row_section part ≡ true → is_section_word (first_of_all xs) ≡ true → is_section_word (first_of_all (row_section_tokens part ++ xs)) ≡ true
-row_section-begins part xs h k = grind arith
+row_section-begins = grind arith
 
 -- ---- the objective declares no rows
 
 item-rows : (name : List ℕ) (part : Item) (earlier : Draft) → (with_declarations earlier (item_declares name part)).rows ≡ earlier.rows
-item-rows name part earlier = grind arith
+item-rows = grind arith
 
 items-rows : (name : List ℕ) (parts : List Item) (earlier : Draft) → (with_declarations earlier (flat_map (item_declares name) parts)).rows ≡ earlier.rows
 items-rows name [] earlier = refl
@@ -141,7 +118,7 @@ module _ (last : ℕ) (later : Tokens) where
   -- what follows `semi` if no dash does
   hears-semi : (context : Context) (x : Terminal) (n : ℕ) (xs : List Terminal) (made : Declarations) → is_plain x ≡ true
       → IsWhole last later (point_at InSemis context.sections_seen context.earlier) xs made → Hears last later (semi_from context (at n x)) xs made
-  hears-semi context x n xs made plain rest = grind arith
+  hears-semi = grind arith
 
   whole-section : (part : Section) (place : Place) (seen : SectionsSeen) (earlier : Draft) (xs : List Terminal) (made : Declarations) → may_begin_section place ≡ true → section_fault seen (kind_of part) ≡ None → is_section part ≡ true
       → is_section_word (first_of_all xs) ≡ true → refusals_in_turn earlier (section_declares part) ≡ []
@@ -168,21 +145,21 @@ module _ (last : ℕ) (later : Tokens) where
   whole-sections (part ∷ parts) seen earlier elsewhere inside fresh ok h place may =
       let more = flat_map section_declares parts in
       let taken = parts-taken earlier (section_declares part) more h in
-      let good = first_so (is_section part) (not (list_any (same_section part) parts) && are_sections parts) ok in
-      let others = second_so (is_section part) (not (list_any (same_section part) parts) && are_sections parts) ok in
-      let apart = not_so (list_any (same_section part) parts) (first_so (not (list_any (same_section part) parts)) (are_sections parts) others) in
-      let later_ok = second_so (not (list_any (same_section part) parts)) (are_sections parts) others in
+      let good = first_so _ _ ok in
+      let others = second_so _ _ ok in
+      let apart = not_so _ (first_so _ _ others) in
+      let later_ok = second_so _ _ others in
       whole-section part place seen earlier (flat_map section_tokens parts) more may
-      (may-open part seen inside (not_so (has_seen seen (kind_of part)) (first_so (is_fresh seen part) (list_all (is_fresh seen) parts) fresh))) good
+      (may-open part seen inside (not_so _ (first_so _ _ fresh))) good
       (sections-begin parts later_ok) taken.0
       (whole-sections parts (with_section seen (kind_of part)) (with_declarations earlier (section_declares part)) elsewhere (inside-after part seen inside)
-      (all-fresh_still part parts seen apart (second_so (is_fresh seen part) (list_all (is_fresh seen) parts) fresh)) later_ok taken.1)
+      (all-fresh_still part parts seen apart (second_so _ _ fresh)) later_ok taken.1)
 
   -- ---- the rows
 
   whole-opening : (opening : List Terminal) (place : Place) (earlier : Draft) (xs : List Terminal) (made : Declarations) → may_begin_section place ≡ true → opens_rows opening ≡ true
       → IsWhole last later (point_at BetweenRows after_rows earlier) xs made → IsWhole last later (point_at place after_word earlier) (opening ++ xs) made
-  whole-opening opening place earlier xs made may ok rest = grind arith
+  whole-opening = grind arith
 
   whole-second : (second : RowSection) (parts : List Section) (earlier : Draft) → earlier.rows ≡ [] → IsSortedDraft earlier → is_row_section second ≡ true → is_elsewhere last later ≡ true → are_sections parts ≡ true
       → refusals_in_turn earlier (row_section_declares second ++ flat_map section_declares parts) ≡ []
@@ -193,8 +170,8 @@ module _ (last : ℕ) (later : Tokens) where
       let taken = parts-taken earlier made (flat_map section_declares parts) h in
       subst (λ (tokens : List Terminal). IsWhole last later (point_at place after_word earlier) tokens (made ++ flat_map section_declares parts))
       (sym (append_assoc opening (flat_map row_tokens lines) (flat_map section_tokens parts)))
-      (whole-opening opening place earlier (flat_map row_tokens lines ++ flat_map section_tokens parts) _ may (first_so (opens_rows opening) (list_all is_row lines) ok)
-      (whole-rows last later after_rows lines 1 earlier (flat_map section_tokens parts) (flat_map section_declares parts) (second_so (opens_rows opening) (list_all is_row lines) ok)
+      (whole-opening opening place earlier (flat_map row_tokens lines ++ flat_map section_tokens parts) _ may (first_so _ _ ok)
+      (whole-rows last later after_rows lines 1 earlier (flat_map section_tokens parts) (flat_map section_declares parts) (second_so _ _ ok)
       (ap (λ (entries : List _). length entries + 1) (sym none)) sorted taken.0
       (whole-sections parts after_rows (with_declarations earlier made) elsewhere (record { begun = refl; open_still = refl }) (after-rows parts) good taken.1)))
 
@@ -204,9 +181,10 @@ module _ (last : ℕ) (later : Tokens) where
   whole-file (file first second parts) ok elsewhere h =
       let more = row_section_declares second ++ flat_map section_declares parts in
       let taken = parts-taken empty_draft (objective_declares first) more h in
-      let others = second_so (is_objective first) (is_row_section second && are_sections parts) ok in
-      let good = second_so (is_row_section second) (are_sections parts) others in
-      whole-objective last later first (row_section_tokens second ++ flat_map section_tokens parts) more (first_so (is_objective first) (is_row_section second && are_sections parts) ok)
-      (row_section-begins second (flat_map section_tokens parts) (first_so (is_row_section second) (are_sections parts) others) (sections-begin parts good)) taken.0
-      (whole-second second parts (with_declarations empty_draft (objective_declares first)) (objective-rows first) (sorted-draft_of (objective_declares first)) (first_so (is_row_section second) (are_sections parts) others)
+      let others = second_so _ _ ok in
+      let good = second_so _ _ others in
+      whole-objective last later first (row_section_tokens second ++ flat_map section_tokens parts) more (first_so _ _ ok)
+      (row_section-begins second (flat_map section_tokens parts) (first_so _ _ others) (sections-begin parts good)) taken.0
+      (whole-second second parts (with_declarations empty_draft (objective_declares first)) (objective-rows first)
+      (sorted-draft_of (objective_declares first)) (first_so _ _ others)
       elsewhere good taken.1)

@@ -1,32 +1,15 @@
 -- LP text is a sentence: its tokens up to `end` are those of its first lines.
-use Rattle.std.proofs.Common.{arith, ◌≡◌, refl, sym, ap, subst, ◌∙◌, ℕ, zero, suc, ◌+◌, List, [], ◌∷◌, ◌++◌, true, false, not, append_assoc, map, take}
-use Rattle.std.specs.Prelude.{Option, Some, None, is_none}
-use Rattle.std.specs.List.{flat_map, list_all, enumerate_from}
-use Rattle.std.specs.Str.Lines.{lines}
-use Rattle.std.proofs.lemmas.Bool.{eq-eqb}
-use Rattle.std.proofs.lemmas.List.{append-nil}
-use Rattle.mpslp_types.proofs.BoolLemmas.{both_so}
-use Rattle.mpslp_types.specs.declared.faults.Fault.{Fault}
-use Rattle.mpslp_types.specs.declared.faults.FaultKind.{FaultKind}
-use Rattle.mpslp_builder.specs.Declaration.{Draft}
-use Rattle.mpslp_lp_tokens.specs.Token.{Token, tokens}
-use Rattle.mpslp_lp_tokens.specs.declared.words.SectionWord.TheVariants as words
-use Rattle.mpslp_lp_grammar.specs.Rules.{Outcome}
-use Rattle.mpslp_lp_grammar.specs.Terminal.{Terminal, TerminalAt, terminal_of, line_terminals, lexical_fault}
-use Rattle.mpslp_lp_grammar.specs.TerminalToken.{terminals}
-use Rattle.mpslp_lp_grammar.specs.Terminal.Terminal.{Opens}
-use Rattle.mpslp_lp_grammar.specs.Phrase.{start}
-use Rattle.mpslp_lp_grammar.specs.Grammar.{text_says}
-use Rattle.mpslp_lp.specs.LpText.{numbered_lines, sound_terminals, first_own_fault, or_else, is_finished, declarations_of}
+use Rattle.mpslp_lp_sentences.proofs.Prelude.{arith, ◌≡◌, refl, sym, ap, subst, ◌∙◌, ℕ, zero, suc, ◌+◌, List, [], ◌∷◌, ◌++◌, true, not,
+  append_assoc, map, Option, Some, None, is_none, flat_map, list_all, enumerate_from, lines, eq-eqb, append-nil, both_so, Fault, FaultKind,
+  Draft, Token, tokens, Outcome, Terminal, TerminalAt, terminal_of, line_terminals, lexical_fault, terminals, Opens, start, text_says,
+  numbered_lines, sound_terminals, first_own_fault, or_else, is_finished, declarations_of, at, mapped-append, ReadTextsAreSentences,
+  false≢true}
+use Rattle.std.proofs.Common.{take}
 use Rattle.mpslp_lp.proofs.ModelOrFault.{whole-fine}
-use Rattle.mpslp_canonical_lp.proofs.TerminalLemmas.{at, mapped-append}
-use Rattle.mpslp_lp_sentences.specs.Laws.{ReadTextsAreSentences}
-use Rattle.mpslp_lp_sentences.proofs.Whole.{Tokens, whole, whole-from_finished}
-use Rattle.mpslp_lp_sentences.proofs.Stamped.{is_elsewhere, onward}
-use Rattle.mpslp_lp_sentences.proofs.SectionsHeard.{front_tokens}
-use Rattle.mpslp_lp_sentences.proofs.SentenceRead.{first_or, rest_of, none-longer, seen, line-seen, front-end}
-use Rattle.mpslp_lp_sentences.proofs.Found.{all_at, onwards, Complete}
-use Rattle.mpslp_lp_sentences.proofs.FoundFile.{FileFound, file-found}
+use Rattle.mpslp_lp_sentences.proofs.{Whole.{Tokens, whole, whole-from_finished}, Stamped.{is_elsewhere, onward},
+  SectionsHeard.{front_tokens}, SentenceRead.{first_or, rest_of, none-longer, seen, line-seen, front-end},
+  Found.{all_at, onwards, Complete}, FoundFile.{FileFound, file-found}}
+use Rattle.mpslp_lp_tokens.specs.declared.words.SectionWord.TheVariants as words
 
 -- ---- tokens by their lines
 
@@ -92,13 +75,10 @@ all-on_line n (token ∷ found) (y ∷ f) e more h = all-on_line n found f e mor
 -- of tokens after `end` none is on its line
 none-after : (n : ℕ) (found : List Token) (f : Tokens) (e second : TerminalAt) (more rest : Tokens) → line_tokens n found ≡ f ++ e ∷ second ∷ more → is_elsewhere e.line (second ∷ rest) ≡ true → ⊥
 none-after n found f e second more rest h elsewhere =
-    no_truth (sym (ap not (eq-eqb second.line e.line (second_line ∙ sym (all-on_line n found f e (second ∷ more) h)))) ∙ elsewhere)
+    false≢true (sym (ap not (eq-eqb second.line e.line (second_line ∙ sym (all-on_line n found f e (second ∷ more) h)))) ∙ elsewhere)
   where
     second_line : second.line ≡ n
     second_line = all-on_line n found (f ++ e ∷ []) second more (h ∙ sym (append_assoc f (e ∷ []) (second ∷ more)))
-
-    no_truth : false ≡ true → ⊥
-    no_truth k = cc
 
 lines-cut : (ls : List (List ℕ)) (n : ℕ) (f : Tokens) (e : TerminalAt) (a : Tokens) → sound_terminals (enumerate_from n ls) ≡ f ++ e ∷ a → is_elsewhere e.line a ≡ true → FirstLines ls (map seen (f ++ e ∷ []))
 lines-cut [] n [] e a h elsewhere = absurd (none-longer e a (sym h))
@@ -115,7 +95,7 @@ lines-cut (l ∷ ls) n f e a h elsewhere = by (lexical_fault l) refl h (λ more 
         let later = rec more rest in
         record {
           count = suc later.count;
-          sound = both_so (is_none (lexical_fault l)) (list_all (λ line. is_none (lexical_fault line)) (take later.count ls)) (ap is_none fine) later.sound;
+          sound = both_so _ _ (ap is_none fine) later.sound;
           found = (λ i. sym (line-seen n (tokens l)) i ++ later.found i)
               ∙ sym (mapped-append seen (line_tokens n (tokens l)) (more ++ e ∷ []))
               ∙ ap (λ (ts : Tokens). map seen ts) (sym (append_assoc (line_tokens n (tokens l)) more (e ∷ [])) ∙ ap (λ (ts : Tokens). ts ++ e ∷ []) (sym same));
@@ -123,7 +103,7 @@ lines-cut (l ∷ ls) n f e a h elsewhere = by (lexical_fault l) refl h (λ more 
     from fine (within [] same rest) rec =
         record {
           count = 1;
-          sound = both_so (is_none (lexical_fault l)) true (ap is_none fine) refl;
+          sound = both_so _ _ (ap is_none fine) refl;
           found = append-nil (terminals l) ∙ sym (line-seen n (tokens l)) ∙ ap (λ (ts : Tokens). map seen ts) same;
         }
     from fine (within (second ∷ more) same rest) rec =
@@ -147,7 +127,7 @@ never_finished [] h = cc
 never_finished (line ∷ more) h = grind (arith, never_finished more)
 
 finished-by_tokens : (numbered : List (ℕ × List ℕ)) (outcome : Outcome Fault Draft) → is_finished (or_else outcome (first_own_fault numbered)) ≡ true → is_finished outcome ≡ true
-finished-by_tokens numbered outcome h = grind (arith, never_finished)
+finished-by_tokens = grind (arith, never_finished)
 
 pub texts-found : ReadTextsAreSentences
 texts-found bytes text = record {

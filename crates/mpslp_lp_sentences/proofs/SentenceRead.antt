@@ -1,30 +1,13 @@
 -- The tokens of the first lines of a sentence are a file, and so it is LP text.
-use Rattle.std.proofs.Common.{◌≡◌, ◌<◌, refl, sym, ap, ◌∙◌, ℕ, zero, suc, ◌+◌, List, [], ◌∷◌, ◌++◌, Bool, true, not, append_assoc, map, take, drop, length, ◌≤◌, arith}
-use Rattle.std.specs.Prelude.{Option, Some, None, ◌==◌, is_none}
-use Rattle.std.specs.List.{flat_map, list_all, enumerate_from}
-use Rattle.std.specs.Cmp.{first_so, second_so}
-use Rattle.std.specs.Str.Lines.{lines}
-use Rattle.mpslp_types.specs.declared.faults.Fault.{Fault}
-use Rattle.mpslp_types.specs.declared.faults.FaultKind.{FaultKind}
-use Rattle.mpslp_builder.specs.Declaration.{Declarations, Draft, empty_draft}
-use Rattle.mpslp_builder.specs.Refusal.{refusals_in_turn}
-use Rattle.mpslp_lp_tokens.specs.Token.{Token, tokens}
+use Rattle.mpslp_lp_sentences.proofs.Prelude.{◌≡◌, ◌<◌, refl, sym, ap, ◌∙◌, ℕ, zero, suc, ◌+◌, List, [], ◌∷◌, ◌++◌, Bool, true, not,
+  append_assoc, map, drop, length, ◌≤◌, arith, Option, Some, None, ◌==◌, is_none, flat_map, list_all, enumerate_from, first_so, second_so,
+  lines, Fault, FaultKind, Declarations, Draft, empty_draft, refusals_in_turn, Token, tokens, Outcome, phrases, made_by, Terminal,
+  TerminalAt, terminal_of, line_terminals, lexical_fault, as_terminal, terminals, Opens, start, phrase_at, numbered_lines, sound_terminals,
+  first_own_fault, or_else, is_finished, mapped-append, File, file_tokens, SentencesAreRead}
+use Rattle.std.proofs.Common.{take}
+use Rattle.mpslp_lp_sentences.proofs.{Whole.{Tokens, whole as heard_whole, finished-from_whole}, Stamped.{stamped, ending, is_elsewhere},
+  SectionsHeard.{front_tokens, whole-file}}
 use Rattle.mpslp_lp_tokens.specs.declared.words.SectionWord.TheVariants as words
-use Rattle.mpslp_lp_grammar.specs.Rules.{Outcome, phrases, made_by}
-use Rattle.mpslp_lp_grammar.specs.Terminal.{Terminal, TerminalAt, terminal_of, line_terminals, lexical_fault}
-use Rattle.mpslp_lp_grammar.specs.TerminalToken.{as_terminal, terminals}
-use Rattle.mpslp_lp_grammar.specs.Terminal.Terminal.{Opens}
-use Rattle.mpslp_lp_grammar.specs.Phrase.{start}
-use Rattle.mpslp_lp_grammar.specs.Grammar.{phrase_at}
-use Rattle.mpslp_lp.specs.LpText.{numbered_lines, sound_terminals, first_own_fault, or_else, is_finished}
-use Rattle.mpslp_canonical_lp.proofs.TerminalLemmas.{mapped-append}
-use Rattle.mpslp_lp_sentences.specs.Phrases.{File}
-use Rattle.mpslp_lp_sentences.specs.Phrases.File.{file}
-use Rattle.mpslp_lp_sentences.specs.Spelling.{file_tokens}
-use Rattle.mpslp_lp_sentences.specs.Laws.{SentencesAreRead}
-use Rattle.mpslp_lp_sentences.proofs.Whole.{Tokens, whole as heard_whole, finished-from_whole}
-use Rattle.mpslp_lp_sentences.proofs.Stamped.{stamped, ending, is_elsewhere}
-use Rattle.mpslp_lp_sentences.proofs.SectionsHeard.{front_tokens, whole-file}
 
 -- ---- lists
 
@@ -81,8 +64,8 @@ lines-split : (k n : ℕ) (ls : List (List ℕ)) → list_all (λ line. is_none 
 lines-split zero n ls h = grind arith
 lines-split (suc k) n [] h = refl
 lines-split (suc k) n (l ∷ ls) h =
-    let good = first_so (is_none (lexical_fault l)) (list_all (λ line. is_none (lexical_fault line)) (take k ls)) h in
-    let others = second_so (is_none (lexical_fault l)) (list_all (λ line. is_none (lexical_fault line)) (take k ls)) h in
+    let good = first_so _ _ h in
+    let others = second_so _ _ h in
     by (lexical_fault l) good
     ∙ ap (λ (more : Tokens). line_terminals (n, l) ++ more) (lines-split k (n + 1) ls others ∙ ap (λ (m : ℕ). tokens_from (n + 1) (take k ls) ++ sound_terminals (enumerate_from m (drop k ls))) (numbers (length (take k ls))))
     ∙ sym (append_assoc (line_terminals (n, l)) (tokens_from (n + 1) (take k ls)) _)
@@ -102,7 +85,7 @@ lines-elsewhere [] last m h = refl
 lines-elsewhere (l ∷ ls) last m h = by (lexical_fault l) (lines-elsewhere ls last (m + 1) (omega (arith, h)))
   where
     other : (b : Bool) → (m == last) ≡ b → not b ≡ true
-    other b e = grind arith
+    other = grind arith
 
     of_line : (found : List Token) (more : Tokens) → is_elsewhere last more ≡ true
         → is_elsewhere last (map (λ (token : Token). record { line = m; terminal = terminal_of token.kind token.text }) found ++ more) ≡ true
@@ -142,10 +125,10 @@ stamped-from m (x ∷ xs) (token ∷ found) later h e =
 -- ---- the text
 
 pub front-end : (whole : File) → file_tokens whole ≡ front_tokens whole ++ Opens words.End ∷ []
-front-end whole = grind (arith, append_assoc)
+front-end = grind (arith, append_assoc)
 
 finished-first : (one other : Outcome Fault Draft) → is_finished one ≡ true → is_finished (or_else one other) ≡ true
-finished-first one other h = grind arith
+finished-first = grind arith
 
 pub sentences-read : SentencesAreRead
 sentences-read bytes declared h = (finished-first (phrases phrase_at start 0 (sound_terminals (numbered_lines bytes))) (first_own_fault (numbered_lines bytes)) read.0, read.1)

@@ -1,23 +1,11 @@
 -- Tokens with their lines, before the `end` of a text, and how the rules of the grammar listen to them.
-use Rattle.std.proofs.Common.{arith, rules, ◌≡◌, ap, ◌∙◌, ℕ, suc, List, [], ◌∷◌, ◌++◌, Bool, true, not, append_assoc}
-use Rattle.std.specs.Prelude.{Some, None, ◌==◌}
-use Rattle.mpslp_builder.specs.Declaration.{Declarations, Draft, with_declarations}
-use Rattle.mpslp_builder.specs.Refusal.{refusals_in_turn}
-use Rattle.mpslp_lp_grammar.specs.Rules.{◌>>=◌, next, ahead}
-use Rattle.mpslp_lp_grammar.specs.Terminal.{Terminal, TerminalAt}
-use Rattle.mpslp_lp_grammar.specs.Terminal.Terminal.{Opens}
-use Rattle.mpslp_lp_grammar.specs.Phrase.{Point, section_fault, with_section, PhraseRule, Follows, goes_to, declares}
-use Rattle.mpslp_lp_grammar.specs.declared.sections_seen.SectionsSeen.{SectionsSeen}
-use Rattle.mpslp_lp_grammar.specs.declared.context.Context.{Context}
-use Rattle.mpslp_lp_grammar.specs.declared.states.Place.{Place}
-use Rattle.mpslp_lp_grammar.specs.Grammar.{section_start, may_begin_section, phrase_at}
-use Rattle.mpslp_lp_tokens.specs.Token.{section_of}
-use Rattle.mpslp_lp_tokens.specs.declared.words.Section.TheVariants as sections
-use Rattle.mpslp_lp_tokens.specs.declared.words.SectionWord.{SectionWord}
-use Rattle.mpslp_lp_tokens.specs.declared.words.SectionWord.TheVariants as words
-use Rattle.mpslp_canonical_lp.specs.PrintedDeclarations.{point_at}
-use Rattle.mpslp_canonical_lp.proofs.TerminalLemmas.{at}
+use Rattle.mpslp_lp_sentences.proofs.Prelude.{arith, rules, ◌≡◌, ap, ◌∙◌, ℕ, suc, List, [], ◌∷◌, ◌++◌, Bool, true, not, append_assoc, Some,
+  None, ◌==◌, Declarations, Draft, with_declarations, refusals_in_turn, ◌>>=◌, next, ahead, Terminal, TerminalAt, Opens, Point,
+  section_fault, with_section, PhraseRule, Follows, goes_to, declares, SectionsSeen, Context, Place, section_start, may_begin_section,
+  phrase_at, section_of, SectionWord, point_at, at}
 use Rattle.mpslp_lp_sentences.proofs.Whole.{Tokens, preceded, whole, listened, listened-ahead}
+use Rattle.mpslp_lp_tokens.specs.declared.words.Section.TheVariants as sections
+use Rattle.mpslp_lp_tokens.specs.declared.words.SectionWord.TheVariants as words
 
 -- tokens, each on its line, before others
 abbrev pub stamped : (ℕ → ℕ) → List Terminal → Tokens → Tokens
@@ -76,7 +64,7 @@ module _ (last : ℕ) (later : Tokens) where
 
   pub hears-declares : (context : Context) (token : TerminalAt) (place : Place) (made : Declarations) (xs : List Terminal) (more : Declarations) → refusals_in_turn context.earlier made ≡ []
       → IsWhole (point_at place context.sections_seen (with_declarations context.earlier made)) xs more → Hears (declares context token place made) xs (made ++ more)
-  hears-declares context token place made xs more none h = grind arith
+  hears-declares = grind arith
 
   -- two phrases, and what they declare
   pub whole-joined : (point : Point) (xs ys zs : List Terminal) (made more all : Declarations) → IsWhole point (xs ++ (ys ++ zs)) (made ++ (more ++ all)) → IsWhole point ((xs ++ ys) ++ zs) ((made ++ more) ++ all)
@@ -87,7 +75,7 @@ module _ (last : ℕ) (later : Tokens) where
       → section_fault sections_seen (section_of word) ≡ None
       → listened (phrase_at (point_at place sections_seen earlier) (at n (Opens word))) tokens
       ≡ listened (section_start (here (with_section sections_seen (section_of word)) earlier) (at n (Opens word)) word) tokens
-  opened place sections_seen earlier word n tokens may fault = grind arith
+  opened = grind arith
 
   pub whole-opens : (place : Place) (sections_seen : SectionsSeen) (earlier : Draft) (word : SectionWord) (xs : List Terminal) (made : Declarations) → may_begin_section place ≡ true
       → section_fault sections_seen (section_of word) ≡ None

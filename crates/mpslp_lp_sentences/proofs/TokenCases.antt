@@ -1,36 +1,13 @@
 -- What a reader does with a token, by cases on the token: what has to be shown of each token that a state accepts.
-use Rattle.std.proofs.Common.{arith, ℕ, List, [], ◌∷◌, true}
-use Rattle.std.specs.Prelude.{Some, None, if◌then◌else◌}
-use Rattle.mpslp_decimal.specs.Decimal.{Number as Decimal}
-use Rattle.mpslp_types.specs.Limit.{limit_of}
+use Rattle.mpslp_lp_sentences.proofs.Prelude.{arith, ℕ, List, [], ◌∷◌, true, Some, None, if◌then◌else◌, Decimal, limit_of, Limit, PlusInf,
+  Sense, Declaration, declare_column, declare_constant, SectionWord, Context, Relation, SignOf, Plus, Minus, ItemOwner, OfObjective, OfRow,
+  LastWord, Continuous, Place, BeforeItems, InObjective, InRow, InBounds, InSemis, SideOwner, SideOfRow, SideOfBound, Between, AtObjective,
+  ObjectiveName, AtLastWord, AtSemi, Signs, ItemNumber, RowSign, RowNumber, RowLeft, BoundName, BoundLeftRelation, AtSide, SideSign,
+  AfterToken, Goes, refuse, with_made, declare_at, take_term, take_after_signs, begin_item, take_bound, take_side, take_limit, no_limits,
+  opened_by, may_begin_section, is_last_word, open_section, name_taken, begin_phrase, begin, one, product, apply_sign, infinity, limits_by,
+  flip, objective_declared, default_objective, first_item_declared, default_row, without_terms, fits_left, PartialRow, Terminal, Opens,
+  Name, Number, Sign, Compares, Colon, Infinity, Free, begin_after, take_lone, take}
 use Rattle.mpslp_types.specs.declared.faults.FaultKind.TheVariants as kinds
-use Rattle.mpslp_types.specs.declared.kinds.Limit.{Limit}
-use Rattle.mpslp_types.specs.declared.kinds.Limit.TheVariants.{PlusInf}
-use Rattle.mpslp_types.specs.declared.kinds.Sense.{Sense}
-use Rattle.mpslp_builder.specs.Declaration.{Declaration, declare_column, declare_constant}
-use Rattle.mpslp_lp_tokens.specs.declared.words.SectionWord.{SectionWord}
-use Rattle.mpslp_lp_grammar.specs.declared.context.Context.{Context}
-use Rattle.mpslp_lp_grammar.specs.declared.relations.Relation.{Relation}
-use Rattle.mpslp_lp_grammar.specs.declared.signs.Sign.{Sign as SignOf}
-use Rattle.mpslp_lp_grammar.specs.declared.signs.Sign.TheVariants.{Plus, Minus}
-use Rattle.mpslp_lp_grammar.specs.declared.states.ItemOwner.{ItemOwner}
-use Rattle.mpslp_lp_grammar.specs.declared.states.ItemOwner.TheVariants.{OfObjective, OfRow}
-use Rattle.mpslp_lp_grammar.specs.declared.states.LastWord.{LastWord}
-use Rattle.mpslp_lp_grammar.specs.declared.states.LastWord.TheVariants.{Continuous}
-use Rattle.mpslp_lp_grammar.specs.declared.states.Place.{Place}
-use Rattle.mpslp_lp_grammar.specs.declared.states.Place.TheVariants.{BeforeItems, InObjective, InRow, InBounds, InSemis}
-use Rattle.mpslp_lp_grammar.specs.declared.states.SideOwner.{SideOwner}
-use Rattle.mpslp_lp_grammar.specs.declared.states.SideOwner.TheVariants.{SideOfRow, SideOfBound}
-use Rattle.mpslp_lp_grammar.specs.declared.states.State.TheVariants.{Between, AtObjective, ObjectiveName, AtLastWord, AtSemi, Signs, ItemNumber, RowSign, RowNumber, RowLeft, BoundName, BoundLeftRelation, AtSide, SideSign}
-use Rattle.mpslp_lp_grammar.specs.AfterToken.{AfterToken, Goes, refuse, with_made, declare_at, take_term, take_after_signs, begin_item, take_bound, take_side, take_limit}
-use Rattle.mpslp_lp_grammar.specs.Grammar.{no_limits, opened_by, may_begin_section, is_last_word}
-use Rattle.mpslp_lp_grammar.specs.FirstToken.{open_section, name_taken, begin_phrase, begin}
-use Rattle.mpslp_lp_grammar.specs.Items.{one, product, apply_sign, infinity, limits_by, flip}
-use Rattle.mpslp_lp_grammar.specs.Rows.{objective_declared, default_objective, first_item_declared, default_row, without_terms, fits_left}
-use Rattle.mpslp_lp_grammar.specs.PartialRow.{PartialRow}
-use Rattle.mpslp_lp_grammar.specs.Terminal.{Terminal}
-use Rattle.mpslp_lp_grammar.specs.Terminal.Terminal.{Opens, Name, Number, Sign, Compares, Colon, Infinity, Free}
-use Rattle.mpslp_lp_grammar.specs.TokenStep.{begin_after, take_lone, take}
 
 -- a row without a label, whose first term has only this name
 abbrev pub first_named : Context → List ℕ → PartialRow
@@ -43,7 +20,7 @@ module _ (P : Terminal → AfterToken → Type 0) where
       → ((name : List ℕ) → P (Name name) (take_term context owner name (apply_sign before one) (Name name)))
       → ((value : Decimal) → P (Number value) (Goes context (ItemNumber owner before value)))
       → (t : Terminal) → P t (take_after_signs context owner before t)
-  signs-by context owner before bad more term number t = grind arith
+  signs-by = grind arith
 
   -- the first token of an item
   pub item-by : (context : Context) (owner : ItemOwner) → ((t : Terminal) → P t (refuse context t kinds.BadToken))
@@ -51,53 +28,53 @@ module _ (P : Terminal → AfterToken → Type 0) where
       → ((name : List ℕ) → P (Name name) (take_term context owner name one (Name name)))
       → ((value : Decimal) → P (Number value) (Goes context (ItemNumber owner Plus value)))
       → (t : Terminal) → P t (begin_item context owner t)
-  item-by context owner bad more term number t = grind arith
+  item-by = grind arith
 
   -- a number or infinity
   pub limit-by : (context : Context) (goes : Limit → Terminal → AfterToken) (before : SignOf) → ((t : Terminal) → P t (refuse context t kinds.BadToken))
       → ((value : Decimal) → P (Number value) (goes (limit_of (apply_sign before value)) (Number value)))
       → (P Infinity (goes (infinity before) Infinity))
       → (t : Terminal) → P t (take_limit (λ l. goes l t) context before t)
-  limit-by context goes before bad number infinite t = grind arith
+  limit-by = grind arith
 
   -- a name in Generals, Binaries or among the semi-continuous columns
   pub listed-by : (context : Context) (place : Place) (kind_declared : List ℕ → Declaration) → ((t : Terminal) → P t (refuse context t kinds.BadToken))
       → ((name : List ℕ) → P (Name name) (declare_at context (Name name) place (declare_column name ∷ kind_declared name ∷ [])))
       → (t : Terminal) → P t (name_taken place kind_declared context t)
-  listed-by context place kind_declared bad column t = grind arith
+  listed-by = grind arith
 
   -- after a term of a row
   pub in_row-by : (context : Context) (partial : PartialRow) → ((t : Terminal) → P t (refuse context t kinds.BadToken))
       → ((sign : SignOf) → P (Sign sign) (Goes context (Signs (OfRow partial) sign)))
       → ((relation : Relation) → P (Compares relation) (if fits_left partial.left relation then Goes context (AtSide (SideOfRow partial relation)) else refuse context (Compares relation) kinds.MixedSenses))
       → (t : Terminal) → P t (begin_phrase (InRow partial) context t)
-  in_row-by context partial bad more end t = grind arith
+  in_row-by = grind arith
 
   -- after a number of the objective that no name follows
   pub lone-by : (context : Context) (objective : List ℕ) (number : Decimal) → ((t : Terminal) → P t (refuse context t kinds.BadToken))
       → ((sign : SignOf) → P (Sign sign) (begin_after context (declare_constant number ∷ []) (InObjective objective) (Sign sign)))
       → ((word : SectionWord) → P (Opens word) (begin_after context (declare_constant number ∷ []) (InObjective objective) (Opens word)))
       → (t : Terminal) → P t (take_lone context (OfObjective objective) number t)
-  lone-by context objective number bad more section t = grind arith
+  lone-by = grind arith
 
   -- the last word of a heading
   pub last_word-by : (context : Context) (wanted : LastWord) → ((t : Terminal) → P t (refuse context t kinds.BadToken))
       → ((name : List ℕ) → P (Name name) (if is_last_word wanted name then Goes (with_made context []) (Between (opened_by wanted)) else refuse context (Name name) kinds.BadToken))
       → (t : Terminal) → P t (take context (AtLastWord wanted) t)
-  last_word-by context wanted bad final t = grind arith
+  last_word-by = grind arith
 
   -- after the column of a bound
   pub bound_name-by : (context : Context) (column : List ℕ) → ((t : Terminal) → P t (refuse context t kinds.BadToken))
       → (P Free (take_bound context (declare_column column ∷ []) column no_limits Free (InBounds None)))
       → ((relation : Relation) → P (Compares relation) (Goes context (AtSide (SideOfBound true column relation))))
       → (t : Terminal) → P t (take context (BoundName column) t)
-  bound_name-by context column bad free end t = grind arith
+  bound_name-by = grind arith
 
   -- after the left side of a bound and its relation
   pub bound_column-by : (context : Context) (left : Limit) (before : Relation) → ((t : Terminal) → P t (refuse context t kinds.BadToken))
       → ((name : List ℕ) → P (Name name) (take_bound context (declare_column name ∷ []) name (limits_by (flip before) left) (Name name) (InBounds (Some (name, before)))))
       → (t : Terminal) → P t (take context (BoundLeftRelation left before) t)
-  bound_column-by context left before bad column t = grind arith
+  bound_column-by = grind arith
 
   -- a right side
   pub side-by : (context : Context) (sided : SideOwner) → ((t : Terminal) → P t (refuse context t kinds.BadToken))
@@ -105,35 +82,35 @@ module _ (P : Terminal → AfterToken → Type 0) where
       → ((value : Decimal) → P (Number value) (take_side context sided (limit_of value) (Number value)))
       → (P Infinity (take_side context sided PlusInf Infinity))
       → (t : Terminal) → P t (take context (AtSide sided) t)
-  side-by context sided bad more number infinite t = grind arith
+  side-by = grind arith
 
   -- a token at a place
   pub begin-by : (context : Context) (place : Place)
       → ((word : SectionWord) → P (Opens word) (if may_begin_section place then open_section context word else refuse context (Opens word) kinds.BadToken))
       → ((t : Terminal) → P t (begin_phrase place context t))
       → (t : Terminal) → P t (begin place context t)
-  begin-by context place section others t = grind arith
+  begin-by = grind arith
 
   -- the first token of the objective
   pub objective-by : (context : Context) (sense : Sense)
       → ((name : List ℕ) → P (Name name) (Goes context (ObjectiveName sense name)))
       → ((t : Terminal) → P t (begin_after context (objective_declared sense default_objective) (BeforeItems default_objective) t))
       → (t : Terminal) → P t (take context (AtObjective sense) t)
-  objective-by context sense label others t = grind arith
+  objective-by = grind arith
 
   -- after the first name of the objective
   pub objective_name-by : (context : Context) (sense : Sense) (label : List ℕ)
       → (P Colon (declare_at context Colon (BeforeItems label) (objective_declared sense label)))
       → ((t : Terminal) → P t (begin_after context (first_item_declared sense label) (InObjective default_objective) t))
       → (t : Terminal) → P t (take context (ObjectiveName sense label) t)
-  objective_name-by context sense label colon others t = grind arith
+  objective_name-by = grind arith
 
   -- after the number of an item
   pub item_number-by : (context : Context) (owner : ItemOwner) (before : SignOf) (number : Decimal)
       → ((name : List ℕ) → P (Name name) (take_term context owner name (apply_sign before number) (Name name)))
       → ((t : Terminal) → P t (take_lone context owner (apply_sign before number) t))
       → (t : Terminal) → P t (take context (ItemNumber owner before number) t)
-  item_number-by context owner before number term others t = grind arith
+  item_number-by = grind arith
 
   -- after the first sign of a row
   pub row_sign-by : (context : Context) (label : List ℕ) (before : SignOf) → ((t : Terminal) → P t (refuse context t kinds.BadToken))
@@ -142,8 +119,8 @@ module _ (P : Terminal → AfterToken → Type 0) where
       → ((sign : SignOf) → P (Sign sign) (Goes context (Signs (OfRow (without_terms label None)) (product before sign))))
       → ((name : List ℕ) → P (Name name) (take_term context (OfRow (without_terms label None)) name (apply_sign before one) (Name name)))
       → (t : Terminal) → P t (take context (RowSign label before) t)
-  row_sign-by context label before bad infinite number more term t = grind arith
+  row_sign-by = grind arith
 
   -- after `semi`
   pub semi-by : (context : Context) → P (Sign Minus) (Goes context (AtLastWord Continuous)) → ((t : Terminal) → P t (begin InSemis (with_made context []) t)) → (t : Terminal) → P t (take context AtSemi t)
-  semi-by context dash others t = grind arith
+  semi-by = grind arith

@@ -1,16 +1,9 @@
 -- What complete tokens declare, phrase by phrase: the outcome and the declarations of the grammar by rules in one.
-use Rattle.std.proofs.Common.{rules, ◌≡◌, refl, ℕ, zero, suc, ◌+◌, List, [], ◌∷◌, ◌++◌, true, arith}
-use Rattle.std.specs.Prelude.{Option, Some, None, if◌then◌else◌}
-use Rattle.mpslp_builder.specs.Declaration.{Declarations, Draft}
-use Rattle.mpslp_types.specs.declared.faults.Fault.{Fault}
-use Rattle.mpslp_lp_grammar.specs.Rules.{Parsed, after_taking, and_then, ◌>>=◌, gives, ahead, Outcome, phrases, made_by}
+use Rattle.mpslp_lp_sentences.proofs.Prelude.{◌≡◌, refl, ℕ, zero, suc, ◌+◌, List, [], ◌∷◌, ◌++◌, true, arith, Option, Some, None,
+  if◌then◌else◌, Declarations, Draft, Fault, Parsed, after_taking, and_then, ◌>>=◌, gives, ahead, Outcome, phrases, made_by, Finished,
+  Refused, Open, TerminalAt, Point, PhraseRule, Follows, phrase_at, is_finished}
 use Rattle.mpslp_lp_grammar.specs.Rules.Parsed.{Reads, Refuses, Unfinished}
 use Rattle.mpslp_lp_grammar.specs.Rules.AfterPhrase.{Goes, Ends}
-use Rattle.mpslp_lp_grammar.specs.Rules.Outcome.{Finished, Refused, Open}
-use Rattle.mpslp_lp_grammar.specs.Terminal.{TerminalAt}
-use Rattle.mpslp_lp_grammar.specs.Phrase.{Point, PhraseRule, Follows}
-use Rattle.mpslp_lp_grammar.specs.Grammar.{phrase_at}
-use Rattle.mpslp_lp.specs.LpText.{is_finished}
 
 abbrev pub Tokens : Type 0
 Tokens = List TerminalAt
@@ -70,27 +63,27 @@ whole-joined (token ∷ tokens) zero point = by (phrase_at point token tokens) (
           | Refuses fault ↦ []
           | Unfinished ↦ []
         ])
-    by reading later = grind arith
+    by = grind arith
 
 -- complete tokens that declare these
 pub finished-from_whole : (tokens : Tokens) (point : Point) (made : Declarations) → whole point 0 tokens ≡ Some made
     → (is_finished (phrases phrase_at point 0 tokens) ≡ true) × (made_by phrase_at point 0 tokens ≡ made)
-finished-from_whole tokens point made h = grind (arith, whole-joined)
+finished-from_whole = grind (arith, whole-joined)
 
 pub whole-from_finished : (tokens : Tokens) (point : Point) → is_finished (phrases phrase_at point 0 tokens) ≡ true → whole point 0 tokens ≡ Some (made_by phrase_at point 0 tokens)
-whole-from_finished tokens point h = grind (arith, whole-joined)
+whole-from_finished = grind (arith, whole-joined)
 
 -- ---- how rules listen
 
 heard-one_more : (reading : Parsed Fault Follows) (token : TerminalAt) (tokens : Tokens) → heard (after_taking 1 reading) (token ∷ tokens) ≡ heard reading tokens
-heard-one_more reading token tokens = grind arith
+heard-one_more = grind arith
 
 heard-none_more : (reading : Parsed Fault Follows) (tokens : Tokens) → heard (after_taking 0 reading) tokens ≡ heard reading tokens
-heard-none_more reading tokens = grind arith
+heard-none_more = grind arith
 
 pub listened-ahead : (following : TerminalAt → PhraseRule Follows) (token : TerminalAt) (tokens : Tokens)
     → listened (ahead >>= following) (token ∷ tokens) ≡ listened (following token) (token ∷ tokens)
-listened-ahead following token tokens = grind arith
+listened-ahead = grind arith
 
 pub listened-gives : {A : Type 0} (value : A) (following : A → PhraseRule Follows) (tokens : Tokens) → listened (gives value >>= following) tokens ≡ listened (following value) tokens
 listened-gives value following tokens = grind arith
