@@ -15,7 +15,9 @@ mod readers;
 pub use formats::Format;
 pub use mpslp_builder::Builder;
 pub use mpslp_io::{FromRead, IoFailed, Sink, Source, ToWrite, put_all};
-pub use mpslp_model_core::Model;
+pub use mpslp_model_core::{
+    ColumnBounds, ColumnEntries, Columns, Model, RowEntries, RowLimits, Rows,
+};
 pub use mpslp_types::{
     BuildFault, FIXED_SEED, Fault, FaultKind, HashSeed, Kind, Limit, MAX_NAME_LEN, Name, NameAt,
     NameFault, ReadFault, RowType, Sense, WriteFault,

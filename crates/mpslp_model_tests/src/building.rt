@@ -2,6 +2,7 @@
 
 mod calls;
 mod columns;
+mod iterators;
 mod lines;
 mod lp;
 mod row_lists;
