@@ -1,12 +1,13 @@
 -- How the grammar reads bounds and lists of names.
-use Rattle.mpslp_lp_sentences.proofs.Prelude.{arith, ◌≡◌, refl, sym, subst, ◌∙◌, ℕ, List, [], ◌∷◌, ◌++◌, true, append_assoc, Option, Some,
-  None, flat_map, Limit, Declaration, Declarations, Draft, declare_column, bounds_declared, with_declarations, refusals_in_turn,
-  bounds_refusals, with_declarations-append, Terminal, Name, Compares, SectionsSeen, Relation, AtMost, AtLeast, Place, InBounds, declares,
-  Limits, limits_by, flip, may_begin_section, phrase_at, point_at, at, parts-taken, Side, Bound, bounds_between, bounds_from_above,
-  side_tokens, bound_tokens, name_tokens, limit, bounds_by, turned, bound_declares, names_declare}
+use Rattle.mpslp_lp_sentences.proofs.Prelude
+use Prelude.{arith, ◌≡◌, refl, sym, subst, ◌∙◌, ℕ, List, [], ◌∷◌, ◌++◌, true, append_assoc, Option, Some, None, flat_map, Limit}
+use Prelude.{Declaration, Declarations, Draft, declare_column, bounds_declared, with_declarations, refusals_in_turn, bounds_refusals}
+use Prelude.{with_declarations-append, Terminal, Name, Compares, SectionsSeen, Relation, AtMost, AtLeast, Place, InBounds, declares, Limits}
+use Prelude.{limits_by, flip, may_begin_section, phrase_at, point_at, at, parts-taken, Side, Bound, bounds_between, bounds_from_above}
+use Prelude.{side_tokens, bound_tokens, name_tokens, limit, bounds_by, turned, bound_declares, names_declare}
 use Rattle.mpslp_canonical_lp.proofs.TailWalk.{sides-taken}
-use Rattle.mpslp_lp_sentences.proofs.{Whole.{Tokens, listened},
-  Stamped.{stamped, ending, here, IsWhole, IsWholeAnywhere, whole-begins, hears-declares, whole-joined}}
+use Rattle.mpslp_lp_sentences.proofs.Whole.{Tokens, listened}
+use Rattle.mpslp_lp_sentences.proofs.Stamped.{stamped, ending, here, IsWhole, IsWholeAnywhere, whole-begins, hears-declares, whole-joined}
 
 -- what bounds of a column declare
 abbrev pub limits_declared : List ℕ → Limits → Declarations

@@ -1,25 +1,28 @@
 -- What was declared is shown by the tokens before, so that a bound, a constant or a kind of a column that was declared before
 -- is as `FaultsInWords` defines it.
-use Rattle.mpslp_lp_sentences.proofs.Prelude.{arith, rules, ◌≡◌, refl, ap, ◌∙◌, subst, ℕ, List, [], ◌∷◌, ◌++◌, Bool, true, false, Option,
-  Some, None, is_some, ◌||◌, ◌&&◌, not, unwrap_or, if◌then◌else◌, list_all, flat_map, cons_option, option_map_or, first_so, second_so, put,
-  list_all-append, Decimal, is_plus_infinite, is_minus_infinite, bytes_cmp, BuildFault, FaultKind, Limit, Sense, both_so, or_left, or_right,
-  so_not, either, those_of, Declaration, Declarations, Draft, with_declaration, with_declarations, declare_constant, declare_rhs,
-  declare_column, declare_lower, declare_upper, declare_marked, declare_integer, declare_binary, declare_semi, bounds_declared, has_name,
-  has_column, is_integer, is_semi, has_constant, refusals_in_turn, itself_named, has-put, same_name, kind_of_build_fault, section_of,
-  Section, Objective, Bounds, Generals, Binaries, SemiContinuous, SectionWord, Context, Relation, SignOf, ItemOwner, OfObjective, OfRow,
-  Place, AtStart, BeforeItems, InObjective, BetweenRows, InBounds, InGenerals, InBinaries, InSemis, SideOwner, SideOfRow, SideOfBound,
-  State, Between, AtObjective, ObjectiveName, AtSemi, Signs, ItemNumber, RowLabel, BoundName, BoundLeftRelation, AtSide, SideSign,
-  AfterToken, Goes, Refuses, refuse, with_made, declare_unless_refused, take_after_declarations, declare_at, take_term, take_after_signs,
-  begin_item, take_bound, take_side, no_limits, open_section, begin_row, take_second_relation, begin_phrase, begin, one, Limits, limits_by,
-  flip, term_declared, objective_declared, default_objective, first_item_declared, row_limits, row_declared, PartialRow, start, has_seen,
-  is_out_of_order, Terminal, Opens, Name, Number, Sign, Compares, Colon, Infinity, Free, new_column, begin_after, take_lone, take,
-  IsInWords, is_section, current_section, is_under, is_named, collected, names_again, ends_in_number, ends_in_sign, may_follow_constant,
-  completes_constant, has_constant_before, repeats_constant, gives_lower, gives_upper, last_name, last_relation, column_before, after_sign,
-  completed, completes_bound, repeats_bound, names_integer, names_semi, changes_kind}
-use Rattle.mpslp_lp_sentences.proofs.{FaultedTokens.{in-words}, Refusals.{refuses, first-refused, terms-refuse},
-  RowShapes.{PlaceShape, RelatedTo, SideShape, SignedSideShape, NumberShape, Shape, Shaped, shaped-later},
-  SectionFaults.{section_at_place, section_of_item, section_of_side, section_at}, TokenCases.{signs-by, item-by, limit-by, listed-by,
-  lone-by, bound_name-by, bound_column-by, side-by, begin-by, objective-by, objective_name-by, item_number-by, semi-by}}
+use Rattle.mpslp_lp_sentences.proofs.Prelude
+use Prelude.{arith, rules, ◌≡◌, refl, ap, ◌∙◌, subst, ℕ, List, [], ◌∷◌, ◌++◌, Bool, true, false, Option, Some, None, is_some, ◌||◌, ◌&&◌}
+use Prelude.{not, unwrap_or, if◌then◌else◌, list_all, flat_map, cons_option, option_map_or, first_so, second_so, put, list_all-append}
+use Prelude.{Decimal, is_plus_infinite, is_minus_infinite, bytes_cmp, BuildFault, FaultKind, Limit, Sense, both_so, or_left, or_right}
+use Prelude.{so_not, either, those_of, Declaration, Declarations, Draft, with_declaration, with_declarations, declare_constant, declare_rhs}
+use Prelude.{declare_column, declare_lower, declare_upper, declare_marked, declare_integer, declare_binary, declare_semi, bounds_declared}
+use Prelude.{has_name, has_column, is_integer, is_semi, has_constant, refusals_in_turn, itself_named, has-put, same_name}
+use Prelude.{kind_of_build_fault, section_of, Section, Objective, Bounds, Generals, Binaries, SemiContinuous, SectionWord, Context}
+use Prelude.{Relation, SignOf, ItemOwner, OfObjective, OfRow, Place, AtStart, BeforeItems, InObjective, BetweenRows, InBounds, InGenerals}
+use Prelude.{InBinaries, InSemis, SideOwner, SideOfRow, SideOfBound, State, Between, AtObjective, ObjectiveName, AtSemi, Signs, ItemNumber}
+use Prelude.{RowLabel, BoundName, BoundLeftRelation, AtSide, SideSign, AfterToken, Goes, Refuses, refuse, with_made, declare_unless_refused}
+use Prelude.{take_after_declarations, declare_at, take_term, take_after_signs, begin_item, take_bound, take_side, no_limits, open_section}
+use Prelude.{begin_row, take_second_relation, begin_phrase, begin, one, Limits, limits_by, flip, term_declared, objective_declared}
+use Prelude.{default_objective, first_item_declared, row_limits, row_declared, PartialRow, start, has_seen, is_out_of_order, Terminal}
+use Prelude.{Opens, Name, Number, Sign, Compares, Colon, Infinity, Free, new_column, begin_after, take_lone, take, IsInWords, is_section}
+use Prelude.{current_section, is_under, is_named, collected, names_again, ends_in_number, ends_in_sign, may_follow_constant}
+use Prelude.{completes_constant, has_constant_before, repeats_constant, gives_lower, gives_upper, last_name, last_relation, column_before}
+use Prelude.{after_sign, completed, completes_bound, repeats_bound, names_integer, names_semi, changes_kind}
+use Rattle.mpslp_lp_sentences.proofs.{FaultedTokens.{in-words}, Refusals.{refuses, first-refused, terms-refuse}}
+use Rattle.mpslp_lp_sentences.proofs.RowShapes.{PlaceShape, RelatedTo, SideShape, SignedSideShape, NumberShape, Shape, Shaped, shaped-later}
+use Rattle.mpslp_lp_sentences.proofs.SectionFaults.{section_at_place, section_of_item, section_of_side, section_at}
+use Rattle.mpslp_lp_sentences.proofs.TokenCases.{signs-by, item-by, limit-by, listed-by, lone-by, bound_name-by, bound_column-by, side-by}
+use Rattle.mpslp_lp_sentences.proofs.TokenCases.{begin-by, objective-by, objective_name-by, item_number-by, semi-by}
 use Rattle.mpslp_types.specs.declared.faults.BuildFault.TheVariants as builds
 use Rattle.mpslp_types.specs.declared.faults.FaultKind.TheVariants as kinds
 use Rattle.mpslp_lp_tokens.specs.declared.words.SectionWord.TheVariants as words
@@ -64,9 +67,13 @@ shown-one _ all earlier h k = grind arith
 
 shown-all : (ds : Declarations) (all : Draft) (earlier : List Terminal) → Shown earlier all → list_all (is_shown earlier) ds ≡ true → Shown earlier (with_declarations all ds)
 shown-all [] all earlier h k = h
-shown-all (d ∷ ds) all earlier h k = grind (arith, shown-one, shown-all ds (with_declaration all d) earlier
-    (shown-one d all earlier h (first_so (is_shown earlier d) (list_all (is_shown earlier) ds) k))
-    (second_so (is_shown earlier d) (list_all (is_shown earlier) ds) k))
+shown-all (d ∷ ds) all earlier h k = grind (
+  arith,
+  shown-one,
+  shown-all ds (with_declaration all d) earlier
+      (shown-one d all earlier h (first_so (is_shown earlier d) (list_all (is_shown earlier) ds) k))
+      (second_so (is_shown earlier d) (list_all (is_shown earlier) ds) k),
+)
 
 -- ---- one token more
 

@@ -1,24 +1,27 @@
 -- A second term of a column in a row or in the objective is as `FaultsInWords` defines it.
-use Rattle.mpslp_lp_sentences.proofs.Prelude.{arith, ◌≡◌, refl, ap, ◌∙◌, subst, ℕ, List, [], ◌∷◌, ◌++◌, append_assoc, Bool, true, false,
-  rules, Option, Some, None, is_some, ◌||◌, ◌&&◌, not, unwrap_or, if◌then◌else◌, list_any, flat_map, option_map_or, append-nil,
-  list_any-append, Decimal, limit_of, is_plus_infinite, is_minus_infinite, same_bytes, BuildFault, FaultKind, Limit, Sense, MinusInf,
-  PlusInf, or_left, or_right, those_of, RowDefinition, Declaration, Declarations, Draft, by_limits, empty_draft, with_declaration,
-  with_declarations, declare_row, declare_column, declare_semi, bounds_declared, has_name, has_coefficient, has_column, has_row,
-  have_infinite_side, refusals_in_turn, itself_named, has-put, has-put_key, same_name, kind_of_build_fault, section_of, Section, Objective,
-  Rows, SectionWord, Context, Relation, SignOf, ItemOwner, OfObjective, OfRow, Place, AtStart, BeforeItems, InObjective, BetweenRows, InRow,
-  InBounds, InSemis, SideOwner, SideOfRow, SideOfBound, State, Between, AtObjective, ObjectiveName, AtSemi, Signs, ItemNumber,
-  RowLeftRelation, BoundName, BoundLeftRelation, AtSide, SideSign, AfterEnd, AfterToken, Goes, Refuses, refuse, with_made,
-  declare_unless_refused, take_after_declarations, declare_at, take_term, take_after_signs, begin_item, take_bound, take_side, no_limits,
-  may_begin_section, open_section, begin_row, take_second_relation, name_taken, begin_phrase, begin, one, apply_sign, infinity, Limits,
-  limits_by, flip, term_declared, objective_declared, default_objective, first_item_declared, without_terms, row_limits, row_declared,
-  PartialRow, start, has_seen, is_out_of_order, Terminal, Opens, Name, Number, Sign, Compares, Colon, Infinity, Free, new_column, take_lone,
-  take, AreNew, IsInWords, is_section, current_section, is_under, is_named, last_name, ends_in_first_word, term_columns, repeats_entry}
+use Rattle.mpslp_lp_sentences.proofs.Prelude
+use Prelude.{arith, ◌≡◌, refl, ap, ◌∙◌, subst, ℕ, List, [], ◌∷◌, ◌++◌, append_assoc, Bool, true, false, rules, Option, Some, None, is_some}
+use Prelude.{◌||◌, ◌&&◌, not, unwrap_or, if◌then◌else◌, list_any, flat_map, option_map_or, append-nil, list_any-append, Decimal, limit_of}
+use Prelude.{is_plus_infinite, is_minus_infinite, same_bytes, BuildFault, FaultKind, Limit, Sense, MinusInf, PlusInf, or_left, or_right}
+use Prelude.{those_of, RowDefinition, Declaration, Declarations, Draft, by_limits, empty_draft, with_declaration, with_declarations}
+use Prelude.{declare_row, declare_column, declare_semi, bounds_declared, has_name, has_coefficient, has_column, has_row, have_infinite_side}
+use Prelude.{refusals_in_turn, itself_named, has-put, has-put_key, same_name, kind_of_build_fault, section_of, Section, Objective, Rows}
+use Prelude.{SectionWord, Context, Relation, SignOf, ItemOwner, OfObjective, OfRow, Place, AtStart, BeforeItems, InObjective, BetweenRows}
+use Prelude.{InRow, InBounds, InSemis, SideOwner, SideOfRow, SideOfBound, State, Between, AtObjective, ObjectiveName, AtSemi, Signs}
+use Prelude.{ItemNumber, RowLeftRelation, BoundName, BoundLeftRelation, AtSide, SideSign, AfterEnd, AfterToken, Goes, Refuses, refuse}
+use Prelude.{with_made, declare_unless_refused, take_after_declarations, declare_at, take_term, take_after_signs, begin_item, take_bound}
+use Prelude.{take_side, no_limits, may_begin_section, open_section, begin_row, take_second_relation, name_taken, begin_phrase, begin, one}
+use Prelude.{apply_sign, infinity, Limits, limits_by, flip, term_declared, objective_declared, default_objective, first_item_declared}
+use Prelude.{without_terms, row_limits, row_declared, PartialRow, start, has_seen, is_out_of_order, Terminal, Opens, Name, Number, Sign}
+use Prelude.{Compares, Colon, Infinity, Free, new_column, take_lone, take, AreNew, IsInWords, is_section, current_section, is_under}
+use Prelude.{is_named, last_name, ends_in_first_word, term_columns, repeats_entry}
 use Rattle.mpslp_builder.specs.Declaration.{is_objective}
 use Rattle.mpslp_model_core.specs.Model.{CoefficientKey}
-use Rattle.mpslp_lp_sentences.proofs.{FaultedTokens.{in-words}, Refusals.{refuses, first-refused},
-  RowShapes.{PlaceShape, SignsShape, NumberShape, Shape, HasTerms}, RowNames.{ObjectiveAt}, RowNameFaults.{Known, known-later},
-  SectionFaults.{section_at_place, section_of_item, section_at}, TokenCases.{signs-by, item-by, limit-by, listed-by, bound_name-by,
-  bound_column-by, side-by, begin-by, objective-by, objective_name-by, item_number-by, semi-by}}
+use Rattle.mpslp_lp_sentences.proofs.{FaultedTokens.{in-words}, Refusals.{refuses, first-refused}}
+use Rattle.mpslp_lp_sentences.proofs.{RowShapes.{PlaceShape, SignsShape, NumberShape, Shape, HasTerms}, RowNames.{ObjectiveAt}}
+use Rattle.mpslp_lp_sentences.proofs.{RowNameFaults.{Known, known-later}, SectionFaults.{section_at_place, section_of_item, section_at}}
+use Rattle.mpslp_lp_sentences.proofs.TokenCases.{signs-by, item-by, limit-by, listed-by, bound_name-by, bound_column-by, side-by, begin-by}
+use Rattle.mpslp_lp_sentences.proofs.TokenCases.{objective-by, objective_name-by, item_number-by, semi-by}
 use Rattle.mpslp_types.specs.declared.faults.BuildFault.TheVariants as builds
 use Rattle.mpslp_types.specs.declared.faults.FaultKind.TheVariants as kinds
 use Rattle.mpslp_lp_tokens.specs.declared.words.SectionWord.TheVariants as words
@@ -287,8 +290,11 @@ first_objective context sense earlier known none here token =
     (ap (λ (d : Draft). refuses kinds.DuplicateEntry d (objective_declared sense default_objective)) none)
     (first (BeforeItems default_objective) (with_made context (objective_declared sense default_objective)) earlier
     (λ k e. never (none-there context.earlier none k) e)
-    (record { named = itself_named default_objective; columns = λ column e. never
-    (none-there context.earlier none (key default_objective column)) e }) tt here t)) token
+    (record {
+      named = itself_named default_objective;
+      columns = λ column e. never
+          (none-there context.earlier none (key default_objective column)) e;
+    }) tt here t)) token
 
 named_objective : (context : Context) (sense : Sense) (label : List ℕ) (earlier : Tokens) → context.earlier ≡ empty_draft → last_name earlier ≡ Some label → current_section earlier ≡ Some Objective → (token : Terminal)
     → KeepsEntries earlier token (take context (ObjectiveName sense label) token)

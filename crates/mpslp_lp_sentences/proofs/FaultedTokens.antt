@@ -1,8 +1,10 @@
 -- The first token of a text with an error of the grammar: what is known before each token is known before this one.
-use Rattle.mpslp_lp_sentences.proofs.Prelude.{◌≡◌, refl, sym, ap, ◌∙◌, subst, List, [], ◌∷◌, ◌++◌, append_assoc, ℕ, suc, ◌+◌, ◌-◌, ◌^◌,
-  Bool, true, false, reverse, arith, Option, Some, None, is_none, min, length, list_all, flat_map, enumerate_from, lines, append-nil,
-  reverse-append, Fault, FaultKind, both_so, Draft, fault_on_line, Outcome, Finished, Refused, Open, Terminal, lexical_fault, terminals,
-  start, AfterToken, Goes, Refuses, take, is_at_end, Context, AtStart, State, Between, outcome, fault_of, IsAtToken, IsInWords, false≢true}
+use Rattle.mpslp_lp_sentences.proofs.Prelude
+use Prelude.{◌≡◌, refl, sym, ap, ◌∙◌, subst, List, [], ◌∷◌, ◌++◌, append_assoc, ℕ, suc, ◌+◌, ◌-◌, ◌^◌, Bool, true, false, reverse, arith}
+use Prelude.{Option, Some, None, is_none, min, length, list_all, flat_map, enumerate_from, lines, append-nil, reverse-append, Fault}
+use Prelude.{FaultKind, both_so, Draft, fault_on_line, Outcome, Finished, Refused, Open, Terminal, lexical_fault, terminals, start}
+use Prelude.{AfterToken, Goes, Refuses, take, is_at_end, Context, AtStart, State, Between, outcome, fault_of, IsAtToken, IsInWords}
+use Prelude.{false≢true}
 use Rattle.std.proofs.lemmas.Grind.{reverse_onto}
 use Rattle.mpslp_lp.specs.LineByLine.{take_all, take_line, read_from}
 use Rattle.mpslp_lp.proofs.ReadingLemmas.{outcome-read}

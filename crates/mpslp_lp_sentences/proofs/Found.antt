@@ -1,13 +1,14 @@
 -- What tokens have to be if a rule reads them: the phrases of the text, from the first token on.
-use Rattle.mpslp_lp_sentences.proofs.Prelude.{arith, ◌≡◌, refl, sym, ap, subst, ◌∙◌, ℕ, List, [], ◌∷◌, ◌++◌, Option, Some, None, unwrap_or,
-  none-some, Decimal, limit_of, Limit, BuildFault, Declarations, with_declarations, SignOf, Plus, Relation, ◌>>=◌, gives, next, ahead,
-  Terminal, TerminalAt, Name, Number, Sign, Compares, Infinity, Point, PhraseRule, Follows, goes_to, unless_refused, Context, Place, SideOf,
-  apply_sign, unsigned_side, side_from, side_rule, next_relation, product, number_item, signed_item, item_from, items, phrase_at, point_at,
-  at, Side, side, term, sign_tokens, side_tokens, term_tokens, product_of, signed, coefficient, limit}
+use Rattle.mpslp_lp_sentences.proofs.Prelude
+use Prelude.{arith, ◌≡◌, refl, sym, ap, subst, ◌∙◌, ℕ, List, [], ◌∷◌, ◌++◌, Option, Some, None, unwrap_or, none-some, Decimal, limit_of}
+use Prelude.{Limit, BuildFault, Declarations, with_declarations, SignOf, Plus, Relation, ◌>>=◌, gives, next, ahead, Terminal, TerminalAt}
+use Prelude.{Name, Number, Sign, Compares, Infinity, Point, PhraseRule, Follows, goes_to, unless_refused, Context, Place, SideOf}
+use Prelude.{apply_sign, unsigned_side, side_from, side_rule, next_relation, product, number_item, signed_item, item_from, items, phrase_at}
+use Prelude.{point_at, at, Side, side, term, sign_tokens, side_tokens, term_tokens, product_of, signed, coefficient, limit}
 use Rattle.mpslp_lp_grammar.specs.Items.{Item}
 use Rattle.mpslp_lp_sentences.specs.Meaning.{one}
-use Rattle.mpslp_lp_sentences.proofs.{Whole.{Tokens, whole, listened, listened-gives, listened-one, listened-none, heard-later},
-  Stamped.{stamped, onward}, ItemsHeard.{multiplied, multiplied-value, signed-is, infinity-is}}
+use Rattle.mpslp_lp_sentences.proofs.Whole.{Tokens, whole, listened, listened-gives, listened-one, listened-none, heard-later}
+use Rattle.mpslp_lp_sentences.proofs.{Stamped.{stamped, onward}, ItemsHeard.{multiplied, multiplied-value, signed-is, infinity-is}}
 
 -- ---- tokens on their lines
 

@@ -1,15 +1,16 @@
 -- What tokens have to be if the grammar reads a whole text.
-use Rattle.mpslp_lp_sentences.proofs.Prelude.{◌≡◌, refl, sym, ap, subst, ◌∙◌, ℕ, ◌+◌, List, [], ◌∷◌, ◌++◌, true, false, append_assoc,
-  length, arith, flat_map, enumerate_from, both_so, Declarations, Draft, empty_draft, with_declarations, refusals_in_turn, IsSortedDraft,
-  sorted-draft_of, Terminal, Opens, Name, start, Place, BetweenRows, To, That, may_begin_section, SectionWord, point_at, parts-taken,
-  RowSection, File, no_rows, rows, file, objective_tokens, row_tokens, row_section_tokens, section_tokens, opens_rows, is_row,
-  is_row_section, are_sections, is_file, objective_declares, row_declares, row_section_declares, section_declares, file_declares}
+use Rattle.mpslp_lp_sentences.proofs.Prelude
+use Prelude.{◌≡◌, refl, sym, ap, subst, ◌∙◌, ℕ, ◌+◌, List, [], ◌∷◌, ◌++◌, true, false, append_assoc, length, arith, flat_map}
+use Prelude.{enumerate_from, both_so, Declarations, Draft, empty_draft, with_declarations, refusals_in_turn, IsSortedDraft, sorted-draft_of}
+use Prelude.{Terminal, Opens, Name, start, Place, BetweenRows, To, That, may_begin_section, SectionWord, point_at, parts-taken, RowSection}
+use Prelude.{File, no_rows, rows, file, objective_tokens, row_tokens, row_section_tokens, section_tokens, opens_rows, is_row}
+use Prelude.{is_row_section, are_sections, is_file, objective_declares, row_declares, row_section_declares, section_declares, file_declares}
 use Rattle.mpslp_lp_sentences.specs.Phrases.{Section}
-use Rattle.mpslp_lp_sentences.proofs.{Stamped.{is_elsewhere, here, onward}, ObjectiveHeard.{after_word},
-  SectionsHeard.{front_tokens, after_rows, objective-rows}, Found.{all_at, onwards, onwards-append, Complete},
-  FoundParts.{all-phrases, all_declare, Anything}, FoundObjective.{objective-heard},
-  FoundRows.{row_declared_at, between_rows, one-row, rows-numbered},
-  FoundSections.{opened-heard, Closed, is_rows, no-rows, sections-found, moved, last_word-heard}}
+use Rattle.mpslp_lp_sentences.proofs.{Stamped.{is_elsewhere, here, onward}, ObjectiveHeard.{after_word}}
+use Rattle.mpslp_lp_sentences.proofs.SectionsHeard.{front_tokens, after_rows, objective-rows}
+use Rattle.mpslp_lp_sentences.proofs.{Found.{all_at, onwards, onwards-append, Complete}, FoundParts.{all-phrases, all_declare, Anything}}
+use Rattle.mpslp_lp_sentences.proofs.{FoundObjective.{objective-heard}, FoundRows.{row_declared_at, between_rows, one-row, rows-numbered}}
+use Rattle.mpslp_lp_sentences.proofs.FoundSections.{opened-heard, Closed, is_rows, no-rows, sections-found, moved, last_word-heard}
 use Rattle.mpslp_lp_tokens.specs.declared.words.SectionWord.TheVariants as words
 
 -- ---- the rows, and the sections after them

@@ -1,15 +1,17 @@
 -- What tokens have to be if the grammar reads an objective.
-use Rattle.mpslp_lp_sentences.proofs.Prelude.{◌≡◌, ◌<◌, refl, sym, ap, subst, ◌∙◌, ℕ, List, [], ◌∷◌, ◌++◌, Bool, true, append_assoc, length,
-  arith, Option, Some, None, flat_map, list_all, false≢true, none-some, Sense, Minimize, Maximize, Declarations, Draft, empty_draft,
-  with_declarations, refusals_in_turn, SignOf, ahead, ◌>>=◌, Terminal, TerminalAt, Opens, Name, Number, Sign, Colon, start, declares,
-  SectionsSeen, Context, Place, BeforeItems, InObjective, items, objective_item, objective_declared, default_objective, first_item_declared,
-  objective_named, objective_from, objective_rule, may_begin_section, SectionWord, point_at, at, Item, term, a_term, a_constant, objective,
-  sense_word, item_tokens, label_tokens, objective_tokens, is_signed_item, are_items, is_objective, product_of, signed, item_declares,
-  objective_declares}
+use Rattle.mpslp_lp_sentences.proofs.Prelude
+use Prelude.{◌≡◌, ◌<◌, refl, sym, ap, subst, ◌∙◌, ℕ, List, [], ◌∷◌, ◌++◌, Bool, true, append_assoc, length, arith, Option, Some, None}
+use Prelude.{flat_map, list_all, false≢true, none-some, Sense, Minimize, Maximize, Declarations, Draft, empty_draft, with_declarations}
+use Prelude.{refusals_in_turn, SignOf, ahead, ◌>>=◌, Terminal, TerminalAt, Opens, Name, Number, Sign, Colon, start, declares, SectionsSeen}
+use Prelude.{Context, Place, BeforeItems, InObjective, items, objective_item, objective_declared, default_objective, first_item_declared}
+use Prelude.{objective_named, objective_from, objective_rule, may_begin_section, SectionWord, point_at, at, Item, term, a_term, a_constant}
+use Prelude.{objective, sense_word, item_tokens, label_tokens, objective_tokens, is_signed_item, are_items, is_objective, product_of}
+use Prelude.{signed, item_declares, objective_declares}
 use Rattle.mpslp_lp_sentences.specs.Phrases.{Objective}
-use Rattle.mpslp_lp_sentences.proofs.{Stamped.{here, onward}, ObjectiveHeard.{after_word}, Found.{onwards, Heard, Complete, complete-phrase,
-  heard-next, heard-ahead, unless-heard, AnItem, found_term, found_lone, constant_tokens, sign-heard, item-heard},
-  FoundParts.{rest-shorter, complete-joined, Reading, all-phrases, all_declare, all-flat, Anything}}
+use Rattle.mpslp_lp_sentences.proofs.{Stamped.{here, onward}, ObjectiveHeard.{after_word}}
+use Rattle.mpslp_lp_sentences.proofs.Found.{onwards, Heard, Complete, complete-phrase, heard-next, heard-ahead, unless-heard, AnItem}
+use Rattle.mpslp_lp_sentences.proofs.Found.{found_term, found_lone, constant_tokens, sign-heard, item-heard}
+use Rattle.mpslp_lp_sentences.proofs.FoundParts.{rest-shorter, complete-joined, Reading, all-phrases, all_declare, all-flat, Anything}
 use Rattle.mpslp_lp_tokens.specs.declared.words.SectionWord.TheVariants as words
 
 -- ---- one item

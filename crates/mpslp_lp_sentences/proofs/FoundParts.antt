@@ -1,14 +1,16 @@
 -- One phrase after another up to a section word; bounds and names.
-use Rattle.mpslp_lp_sentences.proofs.Prelude.{◌≡◌, ◌≤◌, ◌<◌, refl, sym, ap, subst, ◌∙◌, ℕ, zero, suc, ◌+◌, List, [], ◌∷◌, ◌++◌, Bool, true,
-  false, append_assoc, length, arith, Option, Some, None, flat_map, list_all, length-append, false≢true, none-some, both_so, Limit,
-  Declaration, Declarations, Draft, declare_column, with_declarations, refusals_in_turn, with_declarations-append, ◌>>=◌, next, Terminal,
-  TerminalAt, Opens, Name, Number, Sign, Compares, Infinity, Free, SectionsSeen, Relation, AtMost, AtLeast, Place, InBounds, Limits,
-  limits_by, flip, side_rule, bound_sides, no_limits, bound_right, bound_after, bound_column, bound_left, name_in_section, phrase_at,
-  SectionWord, point_at, at, Side, Bound, bound, free_bound, turned_bound, bounds_between, bounds_from_above, side_tokens, bound_tokens,
-  limit, turned, bound_declares}
-use Rattle.mpslp_lp_sentences.proofs.{Whole.{Tokens, listened}, Stamped.{first_of_all, here, onward},
-  BoundsHeard.{limits_declared, by-relation, flipped}, Found.{all_at, onwards, onwards-append, Heard, Complete, complete-phrase, heard-next,
-  Goes, unless-heard, ASide, side_from-heard, side-heard, relation-heard}}
+use Rattle.mpslp_lp_sentences.proofs.Prelude
+use Prelude.{◌≡◌, ◌≤◌, ◌<◌, refl, sym, ap, subst, ◌∙◌, ℕ, zero, suc, ◌+◌, List, [], ◌∷◌, ◌++◌, Bool, true, false, append_assoc, length}
+use Prelude.{arith, Option, Some, None, flat_map, list_all, length-append, false≢true, none-some, both_so, Limit, Declaration, Declarations}
+use Prelude.{Draft, declare_column, with_declarations, refusals_in_turn, with_declarations-append, ◌>>=◌, next, Terminal, TerminalAt, Opens}
+use Prelude.{Name, Number, Sign, Compares, Infinity, Free, SectionsSeen, Relation, AtMost, AtLeast, Place, InBounds, Limits, limits_by}
+use Prelude.{flip, side_rule, bound_sides, no_limits, bound_right, bound_after, bound_column, bound_left, name_in_section, phrase_at}
+use Prelude.{SectionWord, point_at, at, Side, Bound, bound, free_bound, turned_bound, bounds_between, bounds_from_above, side_tokens}
+use Prelude.{bound_tokens, limit, turned, bound_declares}
+use Rattle.mpslp_lp_sentences.proofs.{Whole.{Tokens, listened}, Stamped.{first_of_all, here, onward}}
+use Rattle.mpslp_lp_sentences.proofs.BoundsHeard.{limits_declared, by-relation, flipped}
+use Rattle.mpslp_lp_sentences.proofs.Found.{all_at, onwards, onwards-append, Heard, Complete, complete-phrase, heard-next, Goes}
+use Rattle.mpslp_lp_sentences.proofs.Found.{unless-heard, ASide, side_from-heard, side-heard, relation-heard}
 
 -- the rest of tokens is not longer than all of them
 pub rest-shorter : (front rest xs : List Terminal) → xs ≡ front ++ rest → length rest ≤ length xs

@@ -1,18 +1,20 @@
 -- What tokens have to be if the grammar reads rows.
-use Rattle.mpslp_lp_sentences.proofs.Prelude.{rules, ◌≡◌, ◌≤◌, ◌<◌, refl, sym, ap, subst, ◌∙◌, ℕ, zero, suc, ◌+◌, List, [], ◌∷◌, ◌++◌, Bool,
-  true, false, append_assoc, length, map, arith, Option, Some, None, if◌then◌else◌, flat_map, list_all, list_any, enumerate_from,
-  append-nil, false≢true, none-some, Decimal, same_bytes, limit_of, Limit, PlusInf, MixedSenses, DuplicateEntry, both_so, by_limits,
-  Declarations, Draft, declare_row, with_declarations, refusals_in_turn, IsSortedDraft, sorted-with_declarations, SignOf, ◌>>=◌, next,
-  Terminal, TerminalAt, Opens, Name, Number, Sign, Compares, Colon, Infinity, SectionsSeen, Relation, AtMost, AtLeast, Place, BetweenRows,
-  InRow, PartialRow, refuses, goes_to, side_rule, number_item, colon, items, default_row, without_terms, row_item, row_first,
-  row_after_left, row_number, row_signed, row_from, row_named, fits_left, row_limits, row_declared, row_whole, row_end, point_at, at,
-  parts-taken, Side, Term, Row, side, term, row, row_between, row_from_above, label_tokens, side_tokens, term_tokens, terms_tokens,
-  row_tokens, is_signed_term, is_row, product_of, signed, coefficient, limit, row_name, row_declares}
-use Rattle.mpslp_lp_sentences.proofs.{Whole.{listened-one, listened-none}, Stamped.{here, onward}, ItemsHeard.{infinity-is, times-plus},
-  RowFacts.{Pair}, RowsHeard.{pair, row_at, in_row, terms-declare, declared-is, row-counted}, Found.{all_at, onwards, onwards-append, Heard,
-  Complete, complete-phrase, heard-next, heard-ahead, unless-heard, AnItem, found_term, found_lone, constant_tokens, number-heard,
-  item-from_signed, sign-heard, first_number-heard, item-heard, side-heard, relation-heard},
-  FoundParts.{rest-shorter, is_no_opening, Reading, all_declare, Anything}}
+use Rattle.mpslp_lp_sentences.proofs.Prelude
+use Prelude.{rules, ◌≡◌, ◌≤◌, ◌<◌, refl, sym, ap, subst, ◌∙◌, ℕ, zero, suc, ◌+◌, List, [], ◌∷◌, ◌++◌, Bool, true, false, append_assoc}
+use Prelude.{length, map, arith, Option, Some, None, if◌then◌else◌, flat_map, list_all, list_any, enumerate_from, append-nil, false≢true}
+use Prelude.{none-some, Decimal, same_bytes, limit_of, Limit, PlusInf, MixedSenses, DuplicateEntry, both_so, by_limits, Declarations, Draft}
+use Prelude.{declare_row, with_declarations, refusals_in_turn, IsSortedDraft, sorted-with_declarations, SignOf, ◌>>=◌, next, Terminal}
+use Prelude.{TerminalAt, Opens, Name, Number, Sign, Compares, Colon, Infinity, SectionsSeen, Relation, AtMost, AtLeast, Place, BetweenRows}
+use Prelude.{InRow, PartialRow, refuses, goes_to, side_rule, number_item, colon, items, default_row, without_terms, row_item, row_first}
+use Prelude.{row_after_left, row_number, row_signed, row_from, row_named, fits_left, row_limits, row_declared, row_whole, row_end, point_at}
+use Prelude.{at, parts-taken, Side, Term, Row, side, term, row, row_between, row_from_above, label_tokens, side_tokens, term_tokens}
+use Prelude.{terms_tokens, row_tokens, is_signed_term, is_row, product_of, signed, coefficient, limit, row_name, row_declares}
+use Rattle.mpslp_lp_sentences.proofs.{Whole.{listened-one, listened-none}, Stamped.{here, onward}, ItemsHeard.{infinity-is, times-plus}}
+use Rattle.mpslp_lp_sentences.proofs.{RowFacts.{Pair}, RowsHeard.{pair, row_at, in_row, terms-declare, declared-is, row-counted}}
+use Rattle.mpslp_lp_sentences.proofs.Found.{all_at, onwards, onwards-append, Heard, Complete, complete-phrase, heard-next, heard-ahead}
+use Rattle.mpslp_lp_sentences.proofs.Found.{unless-heard, AnItem, found_term, found_lone, constant_tokens, number-heard, item-from_signed}
+use Rattle.mpslp_lp_sentences.proofs.Found.{sign-heard, first_number-heard, item-heard, side-heard, relation-heard}
+use Rattle.mpslp_lp_sentences.proofs.FoundParts.{rest-shorter, is_no_opening, Reading, all_declare, Anything}
 use Rattle.mpslp_lp_grammar.specs.Items as rules
 
 -- ---- the first term
@@ -98,8 +100,7 @@ IsSide signs value = (part : Side) × (limit part ≡ limit_of (signed (product_
 number-begins : (seen : SectionsSeen) (earlier : Draft) (name : List ℕ) (line : ℕ → ℕ) (xs : List Terminal) (made : Declarations)
     → ((signs : List SignOf) (value : Decimal) (rest : List Terminal) → xs ≡ constant_tokens signs value ++ rest → IsSide signs value)
     → AnItem (row_number (here seen earlier) name) line xs made → Begun seen earlier name line xs made
-number-begins = grind (arith, found_term, begun-plain, term-found, found_lone, constant_tokens, here, at, onwards, begun-sided,
-    after_left-heard, no_constant)
+number-begins = grind (arith, found_term, begun-plain, term-found, found_lone, constant_tokens, here, at, onwards, begun-sided, after_left-heard, no_constant)
 
 plain-side : (v : Decimal) (tail : List Terminal) (signs : List SignOf) (value : Decimal) (rest : List Terminal) → Number v ∷ tail ≡ constant_tokens signs value ++ rest → IsSide signs value
 plain-side v tail [] value rest e = (side None (Some value), refl, refl)

@@ -1,18 +1,21 @@
 -- What tokens have to be if the grammar reads the sections of a file.
-use Rattle.mpslp_lp_sentences.proofs.Prelude.{◌≡◌, ◌≤◌, ◌<◌, refl, sym, ap, subst, ◌∙◌, ℕ, zero, suc, ◌+◌, List, [], ◌∷◌, ◌++◌, Bool, true,
-  false, append_assoc, length, arith, None, flat_map, list_all, list_any, first_so, second_so, none-some, both_so, both_false, so_not,
-  Declaration, Declarations, Draft, declare_column, declare_integer, declare_binary, declare_semi, with_declarations, Plus, Minus, ◌>>=◌,
-  next, ahead, Terminal, TerminalAt, Opens, Name, Sign, section_fault, with_section, has_seen, is_out_of_order, goes_to, SectionsSeen,
-  Context, Place, InBounds, InGenerals, InBinaries, InSemis, LastWord, Continuous, line_end, opened_by, is_last_word, last_word, semi_from,
-  section_start, may_begin_section, section_of, Kind, SectionWord, point_at, at, bounds, generals, binaries, semis, bound_tokens,
-  name_tokens, section_tokens, opens_semis, same_section, are_sections, bound_declares, names_declare, section_declares}
+use Rattle.mpslp_lp_sentences.proofs.Prelude
+use Prelude.{◌≡◌, ◌≤◌, ◌<◌, refl, sym, ap, subst, ◌∙◌, ℕ, zero, suc, ◌+◌, List, [], ◌∷◌, ◌++◌, Bool, true, false, append_assoc, length}
+use Prelude.{arith, None, flat_map, list_all, list_any, first_so, second_so, none-some, both_so, both_false, so_not, Declaration}
+use Prelude.{Declarations, Draft, declare_column, declare_integer, declare_binary, declare_semi, with_declarations, Plus, Minus, ◌>>=◌}
+use Prelude.{next, ahead, Terminal, TerminalAt, Opens, Name, Sign, section_fault, with_section, has_seen, is_out_of_order, goes_to}
+use Prelude.{SectionsSeen, Context, Place, InBounds, InGenerals, InBinaries, InSemis, LastWord, Continuous, line_end, opened_by}
+use Prelude.{is_last_word, last_word, semi_from, section_start, may_begin_section, section_of, Kind, SectionWord, point_at, at, bounds}
+use Prelude.{generals, binaries, semis, bound_tokens, name_tokens, section_tokens, opens_semis, same_section, are_sections, bound_declares}
+use Prelude.{names_declare, section_declares}
 use Rattle.mpslp_lp_sentences.specs.Phrases.{Section}
 use Rattle.mpslp_lp_sentences.specs.Spelling.{is_section}
-use Rattle.mpslp_lp_sentences.proofs.{Whole.{heard}, Stamped.{is_elsewhere, here, onward},
-  SectionsHeard.{kind_of, IsInside, inside-after, is_fresh},
-  Found.{all_at, onwards, onwards-append, Heard, Complete, heard-next, heard-ahead, goes-heard}, FoundParts.{ReadsNames, rest-shorter,
-  all-phrases, all_declare, all-flat, name_token, name_declares, Anything, any_name, one-name, bound_declared, any_bound, NoRelation,
-  none-follows, one-bound}}
+use Rattle.mpslp_lp_sentences.proofs.{Whole.{heard}, Stamped.{is_elsewhere, here, onward}}
+use Rattle.mpslp_lp_sentences.proofs.SectionsHeard.{kind_of, IsInside, inside-after, is_fresh}
+use Rattle.mpslp_lp_sentences.proofs.Found.{all_at, onwards, onwards-append, Heard, Complete, heard-next, heard-ahead, goes-heard}
+use Rattle.mpslp_lp_sentences.proofs.FoundParts.{ReadsNames, rest-shorter, all-phrases, all_declare, all-flat, name_token, name_declares}
+use Rattle.mpslp_lp_sentences.proofs.FoundParts.{Anything, any_name, one-name, bound_declared, any_bound, NoRelation, none-follows}
+use Rattle.mpslp_lp_sentences.proofs.FoundParts.{one-bound}
 use Rattle.mpslp_lp_tokens.specs.declared.words.Section.TheVariants as kinds
 use Rattle.mpslp_lp_tokens.specs.declared.words.SectionWord.TheVariants as words
 

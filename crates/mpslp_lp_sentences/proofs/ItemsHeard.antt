@@ -1,13 +1,13 @@
 -- How the grammar reads items and sides.
-use Rattle.mpslp_lp_sentences.proofs.Prelude.{arith, rules, ◌≡◌, sym, ap, subst, ◌∙◌, ℕ, List, [], ◌∷◌, ◌++◌, Bool, true, false,
-  append_assoc, Option, Some, None, Decimal, Limit, Declarations, SignOf, Plus, ◌>>=◌, next, Terminal, TerminalAt, Name, Number, Sign,
-  Compares, Infinity, Context, Relation, PhraseRule, Follows, SideOf, apply_sign, next_relation, product, number_item, signed_item,
-  item_from, items, at, Side, side, term, sign_tokens, number_tokens, side_tokens, term_tokens, times, product_of, signed, coefficient,
-  limit}
+use Rattle.mpslp_lp_sentences.proofs.Prelude
+use Prelude.{arith, rules, ◌≡◌, sym, ap, subst, ◌∙◌, ℕ, List, [], ◌∷◌, ◌++◌, Bool, true, false, append_assoc, Option, Some, None, Decimal}
+use Prelude.{Limit, Declarations, SignOf, Plus, ◌>>=◌, next, Terminal, TerminalAt, Name, Number, Sign, Compares, Infinity, Context}
+use Prelude.{Relation, PhraseRule, Follows, SideOf, apply_sign, next_relation, product, number_item, signed_item, item_from, items, at}
+use Prelude.{Side, side, term, sign_tokens, number_tokens, side_tokens, term_tokens, times, product_of, signed, coefficient, limit}
 use Rattle.mpslp_lp_grammar.specs.Items.{Item}
 use Rattle.mpslp_lp_sentences.specs.Meaning.{one, infinity}
-use Rattle.mpslp_lp_sentences.proofs.{Whole.{Tokens, heard-later, listened-none},
-  Stamped.{stamped, onward, first_of_all, ending, Hears, hears-next}}
+use Rattle.mpslp_lp_sentences.proofs.Whole.{Tokens, heard-later, listened-none}
+use Rattle.mpslp_lp_sentences.proofs.Stamped.{stamped, onward, first_of_all, ending, Hears, hears-next}
 use Rattle.mpslp_lp_grammar.specs.Items as rules
 use Rattle.mpslp_lp_tokens.specs.declared.words.SectionWord.TheVariants as words
 

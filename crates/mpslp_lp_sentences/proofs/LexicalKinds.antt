@@ -1,8 +1,9 @@
 -- The kinds of the errors of a line by itself, and of those of a whole file.
-use Rattle.mpslp_lp_sentences.proofs.Prelude.{arith, ◌≡◌, refl, sym, ap, ◌∙◌, List, [], ◌∷◌, ℕ, Bool, true, false, Option, Some, None, not,
-  nat_le, filter_map, if◌then◌else◌, list_any, list_all, cons_option, option_map, option_map_or, second_so, Fault, FaultKind, is_nonempty,
-  head_of, Draft, is_kind, number_fault, FaultTests, first_held, has_legal_length, is_legal_byte, outside_comment, Token, tokens,
-  name_fault, word_fault, token_fault, lexical_fault}
+use Rattle.mpslp_lp_sentences.proofs.Prelude
+use Prelude.{arith, ◌≡◌, refl, sym, ap, ◌∙◌, List, [], ◌∷◌, ℕ, Bool, true, false, Option, Some, None, not, nat_le, filter_map}
+use Prelude.{if◌then◌else◌, list_any, list_all, cons_option, option_map, option_map_or, second_so, Fault, FaultKind, is_nonempty, head_of}
+use Prelude.{Draft, is_kind, number_fault, FaultTests, first_held, has_legal_length, is_legal_byte, outside_comment, Token, tokens}
+use Prelude.{name_fault, word_fault, token_fault, lexical_fault}
 use Rattle.mpslp_types.specs.FaultOrder.{kind_rank, least_kind}
 use Rattle.mpslp_builder.specs.FileFault.{named_kinds, whole_fault, names_with, named_faults, file_fault}
 use Rattle.mpslp_lp_tokens.specs.declared.tokens.TokenKind.{TokenKind}

@@ -1,16 +1,18 @@
 -- How the grammar reads the objective.
-use Rattle.mpslp_lp_sentences.proofs.Prelude.{arith, ◌≡◌, refl, sym, subst, ℕ, List, [], ◌∷◌, ◌++◌, Bool, true, false, append_assoc, Option,
-  Some, None, flat_map, list_all, first_so, second_so, Decimal, Sense, Declarations, Draft, empty_draft, declare_constant,
-  with_declarations, refusals_in_turn, with_declarations-append, SignOf, ◌>>=◌, ahead, Terminal, Opens, Name, Number, Sign, Colon, start,
-  no_section_seen, with_section, declares, SectionsSeen, Context, BeforeItems, InObjective, signed_item, items, objective_item,
-  objective_declared, default_objective, first_item_declared, objective_named, objective_from, objective_rule, point_at, at, parts-taken,
-  Item, term, a_term, a_constant, objective, sign_tokens, label_tokens, item_tokens, is_objective, objective_tokens, sense_word,
-  is_signed_item, are_items, product_of, signed, coefficient, item_declares, objective_declares}
+use Rattle.mpslp_lp_sentences.proofs.Prelude
+use Prelude.{arith, ◌≡◌, refl, sym, subst, ℕ, List, [], ◌∷◌, ◌++◌, Bool, true, false, append_assoc, Option, Some, None, flat_map, list_all}
+use Prelude.{first_so, second_so, Decimal, Sense, Declarations, Draft, empty_draft, declare_constant, with_declarations, refusals_in_turn}
+use Prelude.{with_declarations-append, SignOf, ◌>>=◌, ahead, Terminal, Opens, Name, Number, Sign, Colon, start, no_section_seen}
+use Prelude.{with_section, declares, SectionsSeen, Context, BeforeItems, InObjective, signed_item, items, objective_item}
+use Prelude.{objective_declared, default_objective, first_item_declared, objective_named, objective_from, objective_rule, point_at, at}
+use Prelude.{parts-taken, Item, term, a_term, a_constant, objective, sign_tokens, label_tokens, item_tokens, is_objective, objective_tokens}
+use Prelude.{sense_word, is_signed_item, are_items, product_of, signed, coefficient, item_declares, objective_declares}
 use Rattle.mpslp_lp_sentences.specs.Phrases.{Objective}
-use Rattle.mpslp_lp_sentences.proofs.{Whole.{Tokens},
-  Stamped.{first_of_all, here, Hears, IsWhole, IsWholeAnywhere, whole-begins, hears-next, hears-ahead, hears-declares, whole-joined},
-  ItemsHeard.{multiplied, multiplied-value, term_before, term-before, is_no_name, hears-lone, hears-signs, hears-signed_number, hears-term,
-  HearsTerm}}
+use Rattle.mpslp_lp_sentences.proofs.Whole.{Tokens}
+use Rattle.mpslp_lp_sentences.proofs.Stamped.{first_of_all, here, Hears, IsWhole, IsWholeAnywhere, whole-begins, hears-next, hears-ahead}
+use Rattle.mpslp_lp_sentences.proofs.Stamped.{hears-declares, whole-joined}
+use Rattle.mpslp_lp_sentences.proofs.ItemsHeard.{multiplied, multiplied-value, term_before, term-before, is_no_name, hears-lone}
+use Rattle.mpslp_lp_sentences.proofs.ItemsHeard.{hears-signs, hears-signed_number, hears-term, HearsTerm}
 use Rattle.mpslp_lp_tokens.specs.declared.words.Section.TheVariants as sections
 use Rattle.mpslp_lp_tokens.specs.declared.words.SectionWord.TheVariants as words
 

@@ -1,7 +1,8 @@
 -- The kind of the first error of declarations is that of a test that fails.
-use Rattle.mpslp_lp_sentences.proofs.Prelude.{arith, ◌≡◌, refl, List, [], ◌∷◌, ℕ, Bool, true, false, cond, map, ◌||◌, if◌then◌else◌,
-  list_any, flat_map, map-append, list_any-append, Decimal, BuildFault, FaultKind, true_from, those_of, Declarations, Draft,
-  with_declaration, with_declarations, refusal_tests, refusals_in_turn, kind_of_build_fault, is_kind, term_declared}
+use Rattle.mpslp_lp_sentences.proofs.Prelude
+use Prelude.{arith, ◌≡◌, refl, List, [], ◌∷◌, ℕ, Bool, true, false, cond, map, ◌||◌, if◌then◌else◌, list_any, flat_map, map-append}
+use Prelude.{list_any-append, Decimal, BuildFault, FaultKind, true_from, those_of, Declarations, Draft, with_declaration, with_declarations}
+use Prelude.{refusal_tests, refusals_in_turn, kind_of_build_fault, is_kind, term_declared}
 use Rattle.std.proofs.Math.Dec.{eqb_refl}
 use Rattle.mpslp_types.specs.declared.faults.FaultKind.TheVariants as kinds
 

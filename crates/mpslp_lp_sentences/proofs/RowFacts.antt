@@ -1,7 +1,8 @@
 -- What is known of rows that are not rejected: their columns are new in the row, and each row adds one to their number.
-use Rattle.mpslp_lp_sentences.proofs.Prelude.{arith, ◌≡◌, refl, ap, ◌∙◌, ℕ, ◌+◌, List, [], ◌∷◌, ◌++◌, Bool, false, length, ◌||◌, cond,
-  is_some, flat_map, list_any, find, Decimal, same_bytes, bytes_cmp, nor, RowDefinition, Draft, declare_row, with_declaration,
-  with_declarations, has_coefficient, refusals_in_turn, itself_named, has-put_key, IsSortedDraft, term_declared, AreNew, parts-taken}
+use Rattle.mpslp_lp_sentences.proofs.Prelude
+use Prelude.{arith, ◌≡◌, refl, ap, ◌∙◌, ℕ, ◌+◌, List, [], ◌∷◌, ◌++◌, Bool, false, length, ◌||◌, cond, is_some, flat_map, list_any, find}
+use Prelude.{Decimal, same_bytes, bytes_cmp, nor, RowDefinition, Draft, declare_row, with_declaration, with_declarations, has_coefficient}
+use Prelude.{refusals_in_turn, itself_named, has-put_key, IsSortedDraft, term_declared, AreNew, parts-taken}
 use Rattle.std.specs.Cmp.Lexicographic.{nat_list_cmp_total}
 use Rattle.std.specs.FinMap.Entries.{length-put}
 use Rattle.mpslp_types.specs.declared.faults.BuildFault.TheVariants as builds

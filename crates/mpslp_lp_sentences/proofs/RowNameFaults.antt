@@ -1,23 +1,27 @@
 -- A row with the name of an earlier row or of the objective is as `FaultsInWords` defines it: in each state, what is known of
 -- the rows before is known after each token.
-use Rattle.mpslp_lp_sentences.proofs.Prelude.{arith, ◌≡◌, refl, ap, subst, ℕ, List, [], ◌∷◌, Bool, true, false, Option, Some, None, ◌-◌,
-  Decimal, BuildFault, Limit, Sense, Declarations, Draft, empty_draft, with_declarations, declare_column, declare_integer, declare_binary,
-  declare_semi, refusals_in_turn, sorted-with_declarations, Section, Objective, Rows, SectionWord, Context, Relation, SignOf, ItemOwner,
-  OfObjective, OfRow, LastWord, Place, AtStart, BeforeItems, InObjective, BetweenRows, InRow, InBounds, InGenerals, InBinaries, InSemis,
-  SideOwner, SideOfRow, SideOfBound, State, Between, AtObjective, ObjectiveName, AtLastWord, AtSemi, Signs, ItemNumber, RowName, RowLabel,
-  RowSign, RowNumber, RowLeft, RowLeftRelation, BoundName, BoundSign, BoundLeft, BoundLeftRelation, AtSide, SideSign, AfterEnd, AfterToken,
-  Goes, Refuses, refuse, with_made, declare_unless_refused, take_term, take_after_signs, begin_item, take_side, no_limits, opened_by,
-  is_last_word, open_section, begin_row, take_second_relation, begin_phrase, begin, limits_by, flip, term_declared, objective_declared,
-  default_objective, first_item_declared, fits_left, PartialRow, start, Terminal, Opens, Name, Number, Sign, Compares, Colon, Free,
-  take_lone, take, IsInWords, is_section, has_opened, current_section, last_name, follows_terms, is_right_side, is_value, ends_row,
-  label_before, repeats_row}
-use Rattle.mpslp_lp_sentences.proofs.{FaultedTokens.{in-words}, Refusals.{refuses}, RowShapes.{PlaceShape, SideShape, SignedSideShape,
-  SignsShape, NameShape, SignShape, Shape, Shaped, shaped-later, in-row, relation-no_side},
-  SectionFaults.{section_at_place, section_of_item, section_of_side, section_at}, TokenCases.{first_named, signs-by, item-by, limit-by,
-  listed-by, in_row-by, last_word-by, bound_name-by, bound_column-by, side-by, begin-by, objective-by, objective_name-by, item_number-by,
-  row_sign-by, semi-by}, RowNames.{Tokens, Rowed, HasObjective, IsEmpty, ObjectiveAt, IsNameOf, ItemName, SideName, PlaceName, NameAt,
-  KeepsRows, refused, bad, branch, rowed-later, rowed-same, is_no_colon, ends-no_side, name-kept, Here, rowed-on, objective-on, declared,
-  declared-before, bound, row_ended}}
+use Rattle.mpslp_lp_sentences.proofs.Prelude
+use Prelude.{arith, ◌≡◌, refl, ap, subst, ℕ, List, [], ◌∷◌, Bool, true, false, Option, Some, None, ◌-◌, Decimal, BuildFault, Limit, Sense}
+use Prelude.{Declarations, Draft, empty_draft, with_declarations, declare_column, declare_integer, declare_binary, declare_semi}
+use Prelude.{refusals_in_turn, sorted-with_declarations, Section, Objective, Rows, SectionWord, Context, Relation, SignOf, ItemOwner}
+use Prelude.{OfObjective, OfRow, LastWord, Place, AtStart, BeforeItems, InObjective, BetweenRows, InRow, InBounds, InGenerals, InBinaries}
+use Prelude.{InSemis, SideOwner, SideOfRow, SideOfBound, State, Between, AtObjective, ObjectiveName, AtLastWord, AtSemi, Signs, ItemNumber}
+use Prelude.{RowName, RowLabel, RowSign, RowNumber, RowLeft, RowLeftRelation, BoundName, BoundSign, BoundLeft, BoundLeftRelation, AtSide}
+use Prelude.{SideSign, AfterEnd, AfterToken, Goes, Refuses, refuse, with_made, declare_unless_refused, take_term, take_after_signs}
+use Prelude.{begin_item, take_side, no_limits, opened_by, is_last_word, open_section, begin_row, take_second_relation, begin_phrase, begin}
+use Prelude.{limits_by, flip, term_declared, objective_declared, default_objective, first_item_declared, fits_left, PartialRow, start}
+use Prelude.{Terminal, Opens, Name, Number, Sign, Compares, Colon, Free, take_lone, take, IsInWords, is_section, has_opened}
+use Prelude.{current_section, last_name, follows_terms, is_right_side, is_value, ends_row, label_before, repeats_row}
+use Rattle.mpslp_lp_sentences.proofs.{FaultedTokens.{in-words}, Refusals.{refuses}}
+use Rattle.mpslp_lp_sentences.proofs.RowShapes.{PlaceShape, SideShape, SignedSideShape, SignsShape, NameShape, SignShape, Shape, Shaped}
+use Rattle.mpslp_lp_sentences.proofs.RowShapes.{shaped-later, in-row, relation-no_side}
+use Rattle.mpslp_lp_sentences.proofs.SectionFaults.{section_at_place, section_of_item, section_of_side, section_at}
+use Rattle.mpslp_lp_sentences.proofs.TokenCases.{first_named, signs-by, item-by, limit-by, listed-by, in_row-by, last_word-by}
+use Rattle.mpslp_lp_sentences.proofs.TokenCases.{bound_name-by, bound_column-by, side-by, begin-by, objective-by, objective_name-by}
+use Rattle.mpslp_lp_sentences.proofs.TokenCases.{item_number-by, row_sign-by, semi-by}
+use Rattle.mpslp_lp_sentences.proofs.RowNames.{Tokens, Rowed, HasObjective, IsEmpty, ObjectiveAt, IsNameOf, ItemName, SideName, PlaceName}
+use Rattle.mpslp_lp_sentences.proofs.RowNames.{NameAt, KeepsRows, refused, bad, branch, rowed-later, rowed-same, is_no_colon, ends-no_side}
+use Rattle.mpslp_lp_sentences.proofs.RowNames.{name-kept, Here, rowed-on, objective-on, declared, declared-before, bound, row_ended}
 use Rattle.mpslp_types.specs.declared.faults.FaultKind.TheVariants as kinds
 use Rattle.mpslp_lp_tokens.specs.declared.words.SectionWord.TheVariants as words
 

@@ -1,15 +1,17 @@
 -- The rows that were declared are those that tokens have ended, each with the name that its label or its position gives.
-use Rattle.mpslp_lp_sentences.proofs.Prelude.{arith, ◌≡◌, refl, sym, ap, ◌∙◌, subst, ℕ, List, [], ◌∷◌, ◌++◌, ◌+◌, Bool, true, false, length,
-  Option, Some, None, is_some, codes, ◌||◌, ◌&&◌, not, unwrap_or, if◌then◌else◌, flat_map, cons_option, option_map_or, Decimal, same_bytes,
-  BuildFault, FaultKind, Limit, MinusInf, PlusInf, is_plus_infinite, is_minus_infinite, or_left, or_right, either, those_of, RowDefinition,
-  Declarations, Draft, by_limits, empty_draft, with_declaration, with_declarations, declare_row, bounds_declared, has_name, has_column,
-  has_row, refusals_in_turn, itself_named, has-put, same_name, IsSortedDraft, sorted-with_declarations, kind_of_build_fault, section_of,
-  Objective, Rows, Context, Relation, ItemOwner, OfObjective, OfRow, To, That, Place, AtStart, BetweenRows, InRow, InBounds, SideOwner,
-  SideOfRow, SideOfBound, State, Between, AtObjective, ObjectiveName, AtLastWord, Signs, ItemNumber, RowName, RowLabel, RowSign, RowNumber,
-  RowLeft, RowLeftRelation, AtSide, SideSign, AfterToken, Goes, Refuses, refuse, declare_unless_refused, take_after_declarations,
-  declare_at, take_bound, take_side, term_declared, row_limits, row_declared, PartialRow, has_seen, is_out_of_order, Limits, Terminal,
-  Opens, Colon, new_column, has_opened, current_section, is_named, collected, last_name, is_right_side, is_value, ends_row, rows_before,
-  label_before, names_row, objective_before, names_objective, repeats_row, row_name}
+use Rattle.mpslp_lp_sentences.proofs.Prelude
+use Prelude.{arith, ◌≡◌, refl, sym, ap, ◌∙◌, subst, ℕ, List, [], ◌∷◌, ◌++◌, ◌+◌, Bool, true, false, length, Option, Some, None, is_some}
+use Prelude.{codes, ◌||◌, ◌&&◌, not, unwrap_or, if◌then◌else◌, flat_map, cons_option, option_map_or, Decimal, same_bytes, BuildFault}
+use Prelude.{FaultKind, Limit, MinusInf, PlusInf, is_plus_infinite, is_minus_infinite, or_left, or_right, either, those_of, RowDefinition}
+use Prelude.{Declarations, Draft, by_limits, empty_draft, with_declaration, with_declarations, declare_row, bounds_declared, has_name}
+use Prelude.{has_column, has_row, refusals_in_turn, itself_named, has-put, same_name, IsSortedDraft, sorted-with_declarations}
+use Prelude.{kind_of_build_fault, section_of, Objective, Rows, Context, Relation, ItemOwner, OfObjective, OfRow, To, That, Place, AtStart}
+use Prelude.{BetweenRows, InRow, InBounds, SideOwner, SideOfRow, SideOfBound, State, Between, AtObjective, ObjectiveName, AtLastWord, Signs}
+use Prelude.{ItemNumber, RowName, RowLabel, RowSign, RowNumber, RowLeft, RowLeftRelation, AtSide, SideSign, AfterToken, Goes, Refuses}
+use Prelude.{refuse, declare_unless_refused, take_after_declarations, declare_at, take_bound, take_side, term_declared, row_limits}
+use Prelude.{row_declared, PartialRow, has_seen, is_out_of_order, Limits, Terminal, Opens, Colon, new_column, has_opened, current_section}
+use Prelude.{is_named, collected, last_name, is_right_side, is_value, ends_row, rows_before, label_before, names_row, objective_before}
+use Prelude.{names_objective, repeats_row, row_name}
 use Rattle.mpslp_builder.specs.Declaration.{is_objective}
 use Rattle.mpslp_lp_sentences.proofs.{Refusals.{refuses, first-refused, terms-refuse}, RowFacts.{row-adds}}
 use Rattle.mpslp_types.specs.declared.faults.BuildFault.TheVariants as builds

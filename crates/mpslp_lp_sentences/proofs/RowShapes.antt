@@ -1,21 +1,24 @@
 -- What the tokens before one are in each state of a row, and that a constant in a row and a second relation are as
 -- `FaultsInWords` defines them.
-use Rattle.mpslp_lp_sentences.proofs.Prelude.{arith, ◌≡◌, refl, subst, ℕ, List, [], ◌∷◌, ◌++◌, Bool, true, false, Option, Some, None, not,
-  unwrap_or, if◌then◌else◌, list_any, list_any-append, Decimal, same_bytes, BuildFault, FaultKind, Limit, both_so, or_left, or_right,
-  Declaration, Declarations, with_declarations, declare_column, declare_constant, bounds_declared, refusals_in_turn, bounds_refusals,
-  kind_of_build_fault, section_of, Section, Objective, Rows, Bounds, SemiContinuous, SectionWord, Context, Relation, SignOf, ItemOwner,
-  OfObjective, OfRow, LastWord, To, That, Place, AtStart, BeforeItems, InObjective, BetweenRows, InRow, InBounds, InSemis, SideOwner,
-  SideOfRow, SideOfBound, State, Between, AtObjective, ObjectiveName, AtLastWord, AtSemi, Signs, ItemNumber, RowName, RowLabel, RowSign,
-  RowNumber, RowLeft, RowLeftRelation, BoundName, BoundLeftRelation, AtSide, SideSign, AfterToken, Goes, Refuses, refuse, with_made,
-  declare_unless_refused, take_after_declarations, take_term, take_after_signs, begin_item, take_side, may_begin_section, open_section,
-  begin_row, begin_bound, take_second_relation, name_taken, begin_phrase, begin, one, apply_sign, fits_second, limits_by, flip,
-  objective_declared, default_objective, first_item_declared, fits_left, PartialRow, start, has_seen, is_out_of_order, Terminal, Opens,
-  Name, Number, Sign, Compares, Colon, new_column, begin_after, take_lone, take, IsInWords, ends_in_number, ends_in_sign, last_name,
-  ends_in_name, ends_in_value, ends_in_first_word, begins_row, follows_terms, may_be_left_side, is_right_side, ends_in_constant,
-  follows_constant, left_relation, last_relation, bound_relation, agree, mixes_under, mixes_senses, term_columns, is_named}
-use Rattle.mpslp_lp_sentences.proofs.{FaultedTokens.{in-words}, TokenCases.{first_named, signs-by, item-by, limit-by, listed-by, lone-by,
-  bound_column-by, side-by, begin-by, objective-by, objective_name-by, item_number-by, semi-by},
-  SectionFaults.{section_at_place, section_of_item, section_of_side, section_at, Opened, opened-later}}
+use Rattle.mpslp_lp_sentences.proofs.Prelude
+use Prelude.{arith, ◌≡◌, refl, subst, ℕ, List, [], ◌∷◌, ◌++◌, Bool, true, false, Option, Some, None, not, unwrap_or, if◌then◌else◌}
+use Prelude.{list_any, list_any-append, Decimal, same_bytes, BuildFault, FaultKind, Limit, both_so, or_left, or_right, Declaration}
+use Prelude.{Declarations, with_declarations, declare_column, declare_constant, bounds_declared, refusals_in_turn, bounds_refusals}
+use Prelude.{kind_of_build_fault, section_of, Section, Objective, Rows, Bounds, SemiContinuous, SectionWord, Context, Relation, SignOf}
+use Prelude.{ItemOwner, OfObjective, OfRow, LastWord, To, That, Place, AtStart, BeforeItems, InObjective, BetweenRows, InRow, InBounds}
+use Prelude.{InSemis, SideOwner, SideOfRow, SideOfBound, State, Between, AtObjective, ObjectiveName, AtLastWord, AtSemi, Signs, ItemNumber}
+use Prelude.{RowName, RowLabel, RowSign, RowNumber, RowLeft, RowLeftRelation, BoundName, BoundLeftRelation, AtSide, SideSign, AfterToken}
+use Prelude.{Goes, Refuses, refuse, with_made, declare_unless_refused, take_after_declarations, take_term, take_after_signs, begin_item}
+use Prelude.{take_side, may_begin_section, open_section, begin_row, begin_bound, take_second_relation, name_taken, begin_phrase, begin, one}
+use Prelude.{apply_sign, fits_second, limits_by, flip, objective_declared, default_objective, first_item_declared, fits_left, PartialRow}
+use Prelude.{start, has_seen, is_out_of_order, Terminal, Opens, Name, Number, Sign, Compares, Colon, new_column, begin_after, take_lone}
+use Prelude.{take, IsInWords, ends_in_number, ends_in_sign, last_name, ends_in_name, ends_in_value, ends_in_first_word, begins_row}
+use Prelude.{follows_terms, may_be_left_side, is_right_side, ends_in_constant, follows_constant, left_relation, last_relation}
+use Prelude.{bound_relation, agree, mixes_under, mixes_senses, term_columns, is_named}
+use Rattle.mpslp_lp_sentences.proofs.FaultedTokens.{in-words}
+use Rattle.mpslp_lp_sentences.proofs.TokenCases.{first_named, signs-by, item-by, limit-by, listed-by, lone-by, bound_column-by, side-by}
+use Rattle.mpslp_lp_sentences.proofs.TokenCases.{begin-by, objective-by, objective_name-by, item_number-by, semi-by}
+use Rattle.mpslp_lp_sentences.proofs.SectionFaults.{section_at_place, section_of_item, section_of_side, section_at, Opened, opened-later}
 use Rattle.mpslp_types.specs.declared.faults.BuildFault.TheVariants as builds
 use Rattle.mpslp_types.specs.declared.faults.FaultKind.TheVariants as kinds
 use Rattle.mpslp_lp_tokens.specs.declared.words.SectionWord.TheVariants as words

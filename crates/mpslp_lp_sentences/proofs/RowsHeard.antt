@@ -1,18 +1,21 @@
 -- How the grammar reads rows.
-use Rattle.mpslp_lp_sentences.proofs.Prelude.{arith, ◌≡◌, refl, sym, ap, subst, ◌∙◌, ℕ, ◌+◌, List, [], ◌∷◌, ◌++◌, Bool, true, false,
-  append_assoc, map, length, Option, Some, None, if◌then◌else◌, unwrap_or, flat_map, list_all, enumerate_from, first_so, second_so,
-  append-nil, Decimal, Limit, MinusInf, PlusInf, DuplicateEntry, by_limits, RowDefinition, Declarations, Draft, declare_row,
-  with_declarations, refusals_in_turn, with_declarations-append, IsSortedDraft, sorted-with_declarations, SignOf, ◌>>=◌, next, Terminal,
-  Name, Number, Sign, Compares, Colon, Point, refuses, goes_to, SectionsSeen, Context, Relation, AtMost, AtLeast, BetweenRows, InRow,
-  PartialRow, Limits, sides_by, colon, term_declared, default_row, without_terms, row_item, row_first, row_after_left, row_signed, row_from,
-  row_named, fits_left, row_limits, row_declared, phrase_at, point_at, AreNew, at, parts-taken, Side, Term, Row, term, row, row_between,
-  row_from_above, label_tokens, side_tokens, term_tokens, terms_tokens, row_tokens, is_signed_term, is_row, coefficient, limit,
-  term_declares, row_name, row_with, row_declares}
+use Rattle.mpslp_lp_sentences.proofs.Prelude
+use Prelude.{arith, ◌≡◌, refl, sym, ap, subst, ◌∙◌, ℕ, ◌+◌, List, [], ◌∷◌, ◌++◌, Bool, true, false, append_assoc, map, length, Option, Some}
+use Prelude.{None, if◌then◌else◌, unwrap_or, flat_map, list_all, enumerate_from, first_so, second_so, append-nil, Decimal, Limit, MinusInf}
+use Prelude.{PlusInf, DuplicateEntry, by_limits, RowDefinition, Declarations, Draft, declare_row, with_declarations, refusals_in_turn}
+use Prelude.{with_declarations-append, IsSortedDraft, sorted-with_declarations, SignOf, ◌>>=◌, next, Terminal, Name, Number, Sign, Compares}
+use Prelude.{Colon, Point, refuses, goes_to, SectionsSeen, Context, Relation, AtMost, AtLeast, BetweenRows, InRow, PartialRow, Limits}
+use Prelude.{sides_by, colon, term_declared, default_row, without_terms, row_item, row_first, row_after_left, row_signed, row_from}
+use Prelude.{row_named, fits_left, row_limits, row_declared, phrase_at, point_at, AreNew, at, parts-taken, Side, Term, Row, term, row}
+use Prelude.{row_between, row_from_above, label_tokens, side_tokens, term_tokens, terms_tokens, row_tokens, is_signed_term, is_row}
+use Prelude.{coefficient, limit, term_declares, row_name, row_with, row_declares}
 use Rattle.mpslp_lp_sentences.specs.Meaning.{limits_by}
-use Rattle.mpslp_lp_sentences.proofs.{Whole.{Tokens, listened, listened-one}, Stamped.{stamped, onward, ending, first_of_all, here, Hears,
-  IsWhole, IsWholeAnywhere, whole-begins, hears-next, hears-ahead, hears-goes, whole-joined},
-  ItemsHeard.{term_before, term-before, side_first, side_rest, side-split, hears-term, hears-first, HearsTerm, hears-relation},
-  RowFacts.{Pair, terms-new, row-adds}}
+use Rattle.mpslp_lp_sentences.proofs.Whole.{Tokens, listened, listened-one}
+use Rattle.mpslp_lp_sentences.proofs.Stamped.{stamped, onward, ending, first_of_all, here, Hears, IsWhole, IsWholeAnywhere, whole-begins}
+use Rattle.mpslp_lp_sentences.proofs.Stamped.{hears-next, hears-ahead, hears-goes, whole-joined}
+use Rattle.mpslp_lp_sentences.proofs.ItemsHeard.{term_before, term-before, side_first, side_rest, side-split, hears-term, hears-first}
+use Rattle.mpslp_lp_sentences.proofs.ItemsHeard.{HearsTerm, hears-relation}
+use Rattle.mpslp_lp_sentences.proofs.RowFacts.{Pair, terms-new, row-adds}
 use Rattle.mpslp_lp_grammar.specs.Items as rules
 
 -- a column and its coefficient

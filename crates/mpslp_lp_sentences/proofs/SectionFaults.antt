@@ -1,18 +1,21 @@
 -- A section word that is repeated or out of order is as `FaultsInWords` defines it.
-use Rattle.mpslp_lp_sentences.proofs.Prelude.{◌≡◌, refl, sym, ap, ◌∙◌, ℕ, List, [], ◌∷◌, Bool, true, false, arith, Option, Some, None, ◌||◌,
-  not, nat_lt, if◌then◌else◌, list_any, Decimal, BuildFault, FaultKind, Limit, both_so, or_left, or_right, so_not, Declaration,
-  Declarations, declare_column, declare_integer, declare_binary, declare_semi, kind_of_build_fault, section_of, Section, Objective, Rows,
-  Bounds, Generals, Binaries, SemiContinuous, End, SectionWord, Context, Relation, SectionsSeen, SignOf, ItemOwner, OfObjective, OfRow,
-  LastWord, To, That, Continuous, Place, AtStart, BeforeItems, InObjective, BetweenRows, InRow, InBounds, InGenerals, InBinaries, InSemis,
-  SideOwner, SideOfRow, SideOfBound, State, Between, AtObjective, ObjectiveName, AtLastWord, AtSemi, Signs, ItemNumber, RowName, RowLabel,
-  RowSign, RowNumber, RowLeft, RowLeftRelation, BoundName, BoundSign, BoundLeft, BoundLeftRelation, AtSide, SideSign, AfterEnd, AfterToken,
-  Goes, Refuses, refuse, with_made, declare_unless_refused, take_after_declarations, take_term, take_after_signs, begin_item, declare_at,
-  take_bound, take_side, no_limits, opened_by, may_begin_section, is_last_word, open_section, begin_row, begin_bound, take_second_relation,
-  name_taken, begin_phrase, begin, one, apply_sign, Limits, limits_by, flip, objective_declared, default_objective, first_item_declared,
-  terminal_fault, start, has_seen, with_section, is_out_of_order, Terminal, Opens, Name, Compares, Colon, Free, begin_after, take_lone,
-  take, IsInWords, opens, has_opened, current_section, repeats_section, section_rank, opens_later, comes_late, comes_early, breaks_order}
-use Rattle.mpslp_lp_sentences.proofs.{FaultedTokens.{in-words}, TokenCases.{signs-by, item-by, limit-by, listed-by, last_word-by,
-  bound_name-by, bound_column-by, side-by, begin-by, objective-by, objective_name-by, item_number-by, semi-by}}
+use Rattle.mpslp_lp_sentences.proofs.Prelude
+use Prelude.{◌≡◌, refl, sym, ap, ◌∙◌, ℕ, List, [], ◌∷◌, Bool, true, false, arith, Option, Some, None, ◌||◌, not, nat_lt, if◌then◌else◌}
+use Prelude.{list_any, Decimal, BuildFault, FaultKind, Limit, both_so, or_left, or_right, so_not, Declaration, Declarations, declare_column}
+use Prelude.{declare_integer, declare_binary, declare_semi, kind_of_build_fault, section_of, Section, Objective, Rows, Bounds, Generals}
+use Prelude.{Binaries, SemiContinuous, End, SectionWord, Context, Relation, SectionsSeen, SignOf, ItemOwner, OfObjective, OfRow, LastWord}
+use Prelude.{To, That, Continuous, Place, AtStart, BeforeItems, InObjective, BetweenRows, InRow, InBounds, InGenerals, InBinaries, InSemis}
+use Prelude.{SideOwner, SideOfRow, SideOfBound, State, Between, AtObjective, ObjectiveName, AtLastWord, AtSemi, Signs, ItemNumber, RowName}
+use Prelude.{RowLabel, RowSign, RowNumber, RowLeft, RowLeftRelation, BoundName, BoundSign, BoundLeft, BoundLeftRelation, AtSide, SideSign}
+use Prelude.{AfterEnd, AfterToken, Goes, Refuses, refuse, with_made, declare_unless_refused, take_after_declarations, take_term}
+use Prelude.{take_after_signs, begin_item, declare_at, take_bound, take_side, no_limits, opened_by, may_begin_section, is_last_word}
+use Prelude.{open_section, begin_row, begin_bound, take_second_relation, name_taken, begin_phrase, begin, one, apply_sign, Limits}
+use Prelude.{limits_by, flip, objective_declared, default_objective, first_item_declared, terminal_fault, start, has_seen, with_section}
+use Prelude.{is_out_of_order, Terminal, Opens, Name, Compares, Colon, Free, begin_after, take_lone, take, IsInWords, opens, has_opened}
+use Prelude.{current_section, repeats_section, section_rank, opens_later, comes_late, comes_early, breaks_order}
+use Rattle.mpslp_lp_sentences.proofs.FaultedTokens.{in-words}
+use Rattle.mpslp_lp_sentences.proofs.TokenCases.{signs-by, item-by, limit-by, listed-by, last_word-by, bound_name-by, bound_column-by}
+use Rattle.mpslp_lp_sentences.proofs.TokenCases.{side-by, begin-by, objective-by, objective_name-by, item_number-by, semi-by}
 use Rattle.mpslp_types.specs.declared.faults.BuildFault.TheVariants as builds
 use Rattle.mpslp_types.specs.declared.faults.FaultKind.TheVariants as kinds
 use Rattle.mpslp_lp_tokens.specs.declared.words.SectionWord.TheVariants as words

@@ -1,17 +1,20 @@
 -- How the grammar reads the sections of a file, and the file.
-use Rattle.mpslp_lp_sentences.proofs.Prelude.{arith, ◌≡◌, refl, sym, ap, subst, ◌∙◌, ℕ, ◌+◌, List, [], ◌∷◌, ◌++◌, Bool, true, false, not,
-  append_assoc, length, None, flat_map, list_all, list_any, enumerate_from, first_so, second_so, nor, not_so, both_so, Declarations, Draft,
-  empty_draft, with_declarations, declare_semi, refusals_in_turn, with_declarations-append, IsSortedDraft, sorted-draft_of, Minus, Terminal,
-  Opens, Name, Sign, section_fault, with_section, has_seen, start, SectionsSeen, Context, Place, BetweenRows, InSemis, LastWord, opened_by,
-  is_last_word, last_word, semi_from, may_begin_section, Kind, point_at, at, parts-taken, Item, RowSection, File, objective, no_rows, rows,
-  bounds, generals, binaries, semis, file, name_tokens, row_tokens, objective_tokens, row_section_tokens, section_tokens, opens_rows,
-  is_row_section, same_section, are_sections, is_file, item_declares, objective_declares, objective_name, row_declares,
-  row_section_declares, section_declares, file_declares}
+use Rattle.mpslp_lp_sentences.proofs.Prelude
+use Prelude.{arith, ◌≡◌, refl, sym, ap, subst, ◌∙◌, ℕ, ◌+◌, List, [], ◌∷◌, ◌++◌, Bool, true, false, not, append_assoc, length, None}
+use Prelude.{flat_map, list_all, list_any, enumerate_from, first_so, second_so, nor, not_so, both_so, Declarations, Draft, empty_draft}
+use Prelude.{with_declarations, declare_semi, refusals_in_turn, with_declarations-append, IsSortedDraft, sorted-draft_of, Minus, Terminal}
+use Prelude.{Opens, Name, Sign, section_fault, with_section, has_seen, start, SectionsSeen, Context, Place, BetweenRows, InSemis, LastWord}
+use Prelude.{opened_by, is_last_word, last_word, semi_from, may_begin_section, Kind, point_at, at, parts-taken, Item, RowSection, File}
+use Prelude.{objective, no_rows, rows, bounds, generals, binaries, semis, file, name_tokens, row_tokens, objective_tokens}
+use Prelude.{row_section_tokens, section_tokens, opens_rows, is_row_section, same_section, are_sections, is_file, item_declares}
+use Prelude.{objective_declares, objective_name, row_declares, row_section_declares, section_declares, file_declares}
 use Rattle.mpslp_lp_sentences.specs.Phrases.{Objective, Section}
 use Rattle.mpslp_lp_sentences.specs.Spelling.{is_section}
-use Rattle.mpslp_lp_sentences.proofs.{Whole.{Tokens},
-  Stamped.{first_of_all, is_elsewhere, here, Hears, IsWhole, IsWholeAnywhere, hears-next, hears-ahead, hears-goes, whole-opens},
-  ObjectiveHeard.{is_section_word, after_word, whole-objective}, BoundsHeard.{whole-bounds, whole-names}, RowsHeard.{whole-rows}}
+use Rattle.mpslp_lp_sentences.proofs.Whole.{Tokens}
+use Rattle.mpslp_lp_sentences.proofs.Stamped.{first_of_all, is_elsewhere, here, Hears, IsWhole, IsWholeAnywhere, hears-next, hears-ahead}
+use Rattle.mpslp_lp_sentences.proofs.Stamped.{hears-goes, whole-opens}
+use Rattle.mpslp_lp_sentences.proofs.ObjectiveHeard.{is_section_word, after_word, whole-objective}
+use Rattle.mpslp_lp_sentences.proofs.{BoundsHeard.{whole-bounds, whole-names}, RowsHeard.{whole-rows}}
 use Rattle.mpslp_lp_tokens.specs.declared.words.Section.TheVariants as kinds
 use Rattle.mpslp_lp_tokens.specs.declared.words.SectionWord.TheVariants as words
 

@@ -1,14 +1,15 @@
 -- LP text is a sentence: its tokens up to `end` are those of its first lines.
-use Rattle.mpslp_lp_sentences.proofs.Prelude.{arith, ◌≡◌, refl, sym, ap, subst, ◌∙◌, ℕ, zero, suc, ◌+◌, List, [], ◌∷◌, ◌++◌, true, not,
-  append_assoc, map, Option, Some, None, is_none, flat_map, list_all, enumerate_from, lines, eq-eqb, append-nil, both_so, Fault, FaultKind,
-  Draft, Token, tokens, Outcome, Terminal, TerminalAt, terminal_of, line_terminals, lexical_fault, terminals, Opens, start, text_says,
-  numbered_lines, sound_terminals, first_own_fault, or_else, is_finished, declarations_of, at, mapped-append, ReadTextsAreSentences,
-  false≢true}
+use Rattle.mpslp_lp_sentences.proofs.Prelude
+use Prelude.{arith, ◌≡◌, refl, sym, ap, subst, ◌∙◌, ℕ, zero, suc, ◌+◌, List, [], ◌∷◌, ◌++◌, true, not, append_assoc, map, Option, Some}
+use Prelude.{None, is_none, flat_map, list_all, enumerate_from, lines, eq-eqb, append-nil, both_so, Fault, FaultKind, Draft, Token, tokens}
+use Prelude.{Outcome, Terminal, TerminalAt, terminal_of, line_terminals, lexical_fault, terminals, Opens, start, text_says, numbered_lines}
+use Prelude.{sound_terminals, first_own_fault, or_else, is_finished, declarations_of, at, mapped-append, ReadTextsAreSentences, false≢true}
 use Rattle.std.proofs.Common.{take}
 use Rattle.mpslp_lp.proofs.ModelOrFault.{whole-fine}
-use Rattle.mpslp_lp_sentences.proofs.{Whole.{Tokens, whole, whole-from_finished}, Stamped.{is_elsewhere, onward},
-  SectionsHeard.{front_tokens}, SentenceRead.{first_or, rest_of, none-longer, seen, line-seen, front-end},
-  Found.{all_at, onwards, Complete}, FoundFile.{FileFound, file-found}}
+use Rattle.mpslp_lp_sentences.proofs.{Whole.{Tokens, whole, whole-from_finished}, Stamped.{is_elsewhere, onward}}
+use Rattle.mpslp_lp_sentences.proofs.SectionsHeard.{front_tokens}
+use Rattle.mpslp_lp_sentences.proofs.SentenceRead.{first_or, rest_of, none-longer, seen, line-seen, front-end}
+use Rattle.mpslp_lp_sentences.proofs.{Found.{all_at, onwards, Complete}, FoundFile.{FileFound, file-found}}
 use Rattle.mpslp_lp_tokens.specs.declared.words.SectionWord.TheVariants as words
 
 -- ---- tokens by their lines

@@ -1,12 +1,13 @@
 -- The tokens of the first lines of a sentence are a file, and so it is LP text.
-use Rattle.mpslp_lp_sentences.proofs.Prelude.{◌≡◌, ◌<◌, refl, sym, ap, ◌∙◌, ℕ, zero, suc, ◌+◌, List, [], ◌∷◌, ◌++◌, Bool, true, not,
-  append_assoc, map, drop, length, ◌≤◌, arith, Option, Some, None, ◌==◌, is_none, flat_map, list_all, enumerate_from, first_so, second_so,
-  lines, Fault, FaultKind, Declarations, Draft, empty_draft, refusals_in_turn, Token, tokens, Outcome, phrases, made_by, Terminal,
-  TerminalAt, terminal_of, line_terminals, lexical_fault, as_terminal, terminals, Opens, start, phrase_at, numbered_lines, sound_terminals,
-  first_own_fault, or_else, is_finished, mapped-append, File, file_tokens, SentencesAreRead}
+use Rattle.mpslp_lp_sentences.proofs.Prelude
+use Prelude.{◌≡◌, ◌<◌, refl, sym, ap, ◌∙◌, ℕ, zero, suc, ◌+◌, List, [], ◌∷◌, ◌++◌, Bool, true, not, append_assoc, map, drop, length, ◌≤◌}
+use Prelude.{arith, Option, Some, None, ◌==◌, is_none, flat_map, list_all, enumerate_from, first_so, second_so, lines, Fault, FaultKind}
+use Prelude.{Declarations, Draft, empty_draft, refusals_in_turn, Token, tokens, Outcome, phrases, made_by, Terminal, TerminalAt}
+use Prelude.{terminal_of, line_terminals, lexical_fault, as_terminal, terminals, Opens, start, phrase_at, numbered_lines, sound_terminals}
+use Prelude.{first_own_fault, or_else, is_finished, mapped-append, File, file_tokens, SentencesAreRead}
 use Rattle.std.proofs.Common.{take}
-use Rattle.mpslp_lp_sentences.proofs.{Whole.{Tokens, whole as heard_whole, finished-from_whole}, Stamped.{stamped, ending, is_elsewhere},
-  SectionsHeard.{front_tokens, whole-file}}
+use Rattle.mpslp_lp_sentences.proofs.{Whole.{Tokens, whole as heard_whole, finished-from_whole}, Stamped.{stamped, ending, is_elsewhere}}
+use Rattle.mpslp_lp_sentences.proofs.SectionsHeard.{front_tokens, whole-file}
 use Rattle.mpslp_lp_tokens.specs.declared.words.SectionWord.TheVariants as words
 
 -- ---- lists

@@ -1,8 +1,9 @@
 -- Tokens with their lines, before the `end` of a text, and how the rules of the grammar listen to them.
-use Rattle.mpslp_lp_sentences.proofs.Prelude.{arith, rules, ◌≡◌, ap, ◌∙◌, ℕ, suc, List, [], ◌∷◌, ◌++◌, Bool, true, not, append_assoc, Some,
-  None, ◌==◌, Declarations, Draft, with_declarations, refusals_in_turn, ◌>>=◌, next, ahead, Terminal, TerminalAt, Opens, Point,
-  section_fault, with_section, PhraseRule, Follows, goes_to, declares, SectionsSeen, Context, Place, section_start, may_begin_section,
-  phrase_at, section_of, SectionWord, point_at, at}
+use Rattle.mpslp_lp_sentences.proofs.Prelude
+use Prelude.{arith, rules, ◌≡◌, ap, ◌∙◌, ℕ, suc, List, [], ◌∷◌, ◌++◌, Bool, true, not, append_assoc, Some, None, ◌==◌, Declarations, Draft}
+use Prelude.{with_declarations, refusals_in_turn, ◌>>=◌, next, ahead, Terminal, TerminalAt, Opens, Point, section_fault, with_section}
+use Prelude.{PhraseRule, Follows, goes_to, declares, SectionsSeen, Context, Place, section_start, may_begin_section, phrase_at, section_of}
+use Prelude.{SectionWord, point_at, at}
 use Rattle.mpslp_lp_sentences.proofs.Whole.{Tokens, preceded, whole, listened, listened-ahead}
 use Rattle.mpslp_lp_tokens.specs.declared.words.Section.TheVariants as sections
 use Rattle.mpslp_lp_tokens.specs.declared.words.SectionWord.TheVariants as words

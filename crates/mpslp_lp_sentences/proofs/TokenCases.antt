@@ -1,12 +1,13 @@
 -- What a reader does with a token, by cases on the token: what has to be shown of each token that a state accepts.
-use Rattle.mpslp_lp_sentences.proofs.Prelude.{arith, ℕ, List, [], ◌∷◌, true, Some, None, if◌then◌else◌, Decimal, limit_of, Limit, PlusInf,
-  Sense, Declaration, declare_column, declare_constant, SectionWord, Context, Relation, SignOf, Plus, Minus, ItemOwner, OfObjective, OfRow,
-  LastWord, Continuous, Place, BeforeItems, InObjective, InRow, InBounds, InSemis, SideOwner, SideOfRow, SideOfBound, Between, AtObjective,
-  ObjectiveName, AtLastWord, AtSemi, Signs, ItemNumber, RowSign, RowNumber, RowLeft, BoundName, BoundLeftRelation, AtSide, SideSign,
-  AfterToken, Goes, refuse, with_made, declare_at, take_term, take_after_signs, begin_item, take_bound, take_side, take_limit, no_limits,
-  opened_by, may_begin_section, is_last_word, open_section, name_taken, begin_phrase, begin, one, product, apply_sign, infinity, limits_by,
-  flip, objective_declared, default_objective, first_item_declared, default_row, without_terms, fits_left, PartialRow, Terminal, Opens,
-  Name, Number, Sign, Compares, Colon, Infinity, Free, begin_after, take_lone, take}
+use Rattle.mpslp_lp_sentences.proofs.Prelude
+use Prelude.{arith, ℕ, List, [], ◌∷◌, true, Some, None, if◌then◌else◌, Decimal, limit_of, Limit, PlusInf, Sense, Declaration}
+use Prelude.{declare_column, declare_constant, SectionWord, Context, Relation, SignOf, Plus, Minus, ItemOwner, OfObjective, OfRow, LastWord}
+use Prelude.{Continuous, Place, BeforeItems, InObjective, InRow, InBounds, InSemis, SideOwner, SideOfRow, SideOfBound, Between, AtObjective}
+use Prelude.{ObjectiveName, AtLastWord, AtSemi, Signs, ItemNumber, RowSign, RowNumber, RowLeft, BoundName, BoundLeftRelation, AtSide}
+use Prelude.{SideSign, AfterToken, Goes, refuse, with_made, declare_at, take_term, take_after_signs, begin_item, take_bound, take_side}
+use Prelude.{take_limit, no_limits, opened_by, may_begin_section, is_last_word, open_section, name_taken, begin_phrase, begin, one, product}
+use Prelude.{apply_sign, infinity, limits_by, flip, objective_declared, default_objective, first_item_declared, default_row, without_terms}
+use Prelude.{fits_left, PartialRow, Terminal, Opens, Name, Number, Sign, Compares, Colon, Infinity, Free, begin_after, take_lone, take}
 use Rattle.mpslp_types.specs.declared.faults.FaultKind.TheVariants as kinds
 
 -- a row without a label, whose first term has only this name

@@ -1,7 +1,8 @@
 -- What complete tokens declare, phrase by phrase: the outcome and the declarations of the grammar by rules in one.
-use Rattle.mpslp_lp_sentences.proofs.Prelude.{◌≡◌, refl, ℕ, zero, suc, ◌+◌, List, [], ◌∷◌, ◌++◌, true, arith, Option, Some, None,
-  if◌then◌else◌, Declarations, Draft, Fault, Parsed, after_taking, and_then, ◌>>=◌, gives, ahead, Outcome, phrases, made_by, Finished,
-  Refused, Open, TerminalAt, Point, PhraseRule, Follows, phrase_at, is_finished}
+use Rattle.mpslp_lp_sentences.proofs.Prelude
+use Prelude.{◌≡◌, refl, ℕ, zero, suc, ◌+◌, List, [], ◌∷◌, ◌++◌, true, arith, Option, Some, None, if◌then◌else◌, Declarations, Draft, Fault}
+use Prelude.{Parsed, after_taking, and_then, ◌>>=◌, gives, ahead, Outcome, phrases, made_by, Finished, Refused, Open, TerminalAt, Point}
+use Prelude.{PhraseRule, Follows, phrase_at, is_finished}
 use Rattle.mpslp_lp_grammar.specs.Rules.Parsed.{Reads, Refuses, Unfinished}
 use Rattle.mpslp_lp_grammar.specs.Rules.AfterPhrase.{Goes, Ends}
 

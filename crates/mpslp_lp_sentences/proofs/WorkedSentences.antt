@@ -1,11 +1,12 @@
 -- Worked files: their tokens are those of the phrases that are written out, which declare what is listed, by computation.
-use Rattle.mpslp_lp_sentences.proofs.Prelude.{String, ◌≡◌, refl, sym, ◌∙◌, map, false≢true, ℕ, ℤ, pos, negsuc, true, false, None, Some,
-  List, ◌∷◌, [], ◌++◌, codes, is_none, list_all, flat_map, lines, Sense, Minimize, Maximize, Limit, MinusInf, Finite, PlusInf, BuildFault,
-  by_limits, empty_draft, declare_sense, declare_objective, declare_constant, declare_row, declare_column, declare_coefficient,
-  declare_lower, declare_upper, declare_integer, declare_binary, declare_semi, Declaration, Declarations, refusals_in_turn, Plus, Minus,
-  AtMost, AtLeast, EqualTo, terminals, seen, lexical_fault, is_lp_text, declarations_of, Side, Term, Item, Row, RowSection, File, side,
-  term, a_term, a_constant, objective, row, row_between, no_rows, rows, bound, free_bound, bounds_between, bounds, generals, binaries,
-  semis, file, file_tokens, is_file, file_declares, Option}
+use Rattle.mpslp_lp_sentences.proofs.Prelude
+use Prelude.{String, ◌≡◌, refl, sym, ◌∙◌, map, false≢true, ℕ, ℤ, pos, negsuc, true, false, None, Some, List, ◌∷◌, [], ◌++◌, codes, is_none}
+use Prelude.{list_all, flat_map, lines, Sense, Minimize, Maximize, Limit, MinusInf, Finite, PlusInf, BuildFault, by_limits, empty_draft}
+use Prelude.{declare_sense, declare_objective, declare_constant, declare_row, declare_column, declare_coefficient, declare_lower}
+use Prelude.{declare_upper, declare_integer, declare_binary, declare_semi, Declaration, Declarations, refusals_in_turn, Plus, Minus, AtMost}
+use Prelude.{AtLeast, EqualTo, terminals, seen, lexical_fault, is_lp_text, declarations_of, Side, Term, Item, Row, RowSection, File, side}
+use Prelude.{term, a_term, a_constant, objective, row, row_between, no_rows, rows, bound, free_bound, bounds_between, bounds, generals}
+use Prelude.{binaries, semis, file, file_tokens, is_file, file_declares, Option}
 use Rattle.std.proofs.Common.{take}
 use Rattle.std.specs.Fmt.{digits}
 use Rattle.mpslp_decimal.specs.Decimal.{Number, trailing_zeros}
@@ -28,8 +29,16 @@ pub record Reads (bytes : List ℕ) (count : ℕ) (whole : File) (declared : Dec
 pub sentence-from_reads : (bytes : List ℕ) (count : ℕ) (whole : File) (declared : Declarations) → Reads bytes count whole declared
     → IsSentence bytes declared
 sentence-from_reads bytes count whole declared h =
-    record { whole = whole; right = h.right; count = count; sound = h.sound; tokens = h.tokens; declares = h.declares; unrefused =
-        h.unrefused }
+    record {
+      whole = whole;
+      right = h.right;
+      count = count;
+      sound = h.sound;
+      tokens = h.tokens;
+      declares = h.declares;
+      unrefused =
+          h.unrefused;
+    }
 
 -- ---- values
 

@@ -1,9 +1,10 @@
 -- The sentences of `FaultsInWords` hold for the token with the error, and for no token of a file that is close to it and has
 -- no such error, by computation.
-use Rattle.mpslp_lp_sentences.proofs.Prelude.{String, ◌≡◌, refl, ℕ, suc, map, Option, Some, Bool, true, false, ◌||◌, List, ◌∷◌, [], ◌++◌,
-  codes, reverse, if◌then◌else◌, lines, Fault, FaultKind, ConstantInRow, DuplicateBound, DuplicateEntry, DuplicateRow, MixedSenses,
-  SectionOrder, SectionRepeated, Terminal, terminals, fault_on_line, first_lp_fault, is_lp_text, repeats_section, breaks_order,
-  follows_constant, mixes_senses, repeats_constant, repeats_bound, repeats_row, repeats_entry, changes_kind}
+use Rattle.mpslp_lp_sentences.proofs.Prelude
+use Prelude.{String, ◌≡◌, refl, ℕ, suc, map, Option, Some, Bool, true, false, ◌||◌, List, ◌∷◌, [], ◌++◌, codes, reverse, if◌then◌else◌}
+use Prelude.{lines, Fault, FaultKind, ConstantInRow, DuplicateBound, DuplicateEntry, DuplicateRow, MixedSenses, SectionOrder}
+use Prelude.{SectionRepeated, Terminal, terminals, fault_on_line, first_lp_fault, is_lp_text, repeats_section, breaks_order}
+use Prelude.{follows_constant, mixes_senses, repeats_constant, repeats_bound, repeats_row, repeats_entry, changes_kind}
 use Rattle.std.specs.Fmt.{digits}
 use Rattle.mpslp_decimal.specs.Decimal.{trailing_zeros}
 use Rattle.mpslp_types.specs.declared.faults.FaultKind.TheVariants.{DuplicateRhs, SemiContinuous}
