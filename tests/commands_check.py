@@ -148,18 +148,18 @@ class Commands(unittest.TestCase):
     def test_a_change_proves_its_crate_and_those_above(self) -> None:
         self.make()
         before = len(self.calls())
-        with (self.copy / "crates" / "mpslp_convert" / "src" / "lib.rt").open("a") as source:
+        with (self.copy / "crates" / "mpslp_run_jobs" / "src" / "lib.rt").open("a") as source:
             source.write("// changed\n")
         self.assertEqual(self.make().returncode, 0)
-        self.assertEqual(self.calls()[before:], ["build mpslp_convert", "build mpslp", "link"])
+        self.assertEqual(self.calls()[before:], ["build mpslp_run_jobs", "build mpslp", "link"])
 
     def test_a_library_that_is_missing_is_proved_again_with_those_above(self) -> None:
         self.make()
         before = len(self.calls())
         (self.copy / "crates" / "mpslp" / "out" / "mpslp").unlink()
-        shutil.rmtree(self.copy / "build" / "proofs" / "mpslp_convert")
+        shutil.rmtree(self.copy / "build" / "proofs" / "mpslp_run_jobs")
         self.assertEqual(self.make().returncode, 0)
-        self.assertEqual(self.calls()[before:], ["build mpslp_convert", "build mpslp", "link"])
+        self.assertEqual(self.calls()[before:], ["build mpslp_run_jobs", "build mpslp", "link"])
 
     def test_an_interrupted_make_goes_on(self) -> None:
         process = subprocess.Popen(
@@ -195,13 +195,13 @@ class Commands(unittest.TestCase):
         self.assertEqual(self.make().returncode, 0)
         after = self.calls()[before:]
         self.assertIn("build mpslp_builder", after)
-        self.assertIn("build mpslp_convert", after)
+        self.assertIn("build mpslp_run_jobs", after)
         self.assertNotIn("build mpslp_types", after)
 
     def test_a_crate_that_fails_is_shown_with_its_last_lines(self) -> None:
-        made = self.make(STAND_IN_FAILS="mpslp_write")
+        made = self.make(STAND_IN_FAILS="mpslp_write_lp")
         self.assertNotEqual(made.returncode, 0)
-        self.assertIn("mpslp_write is not proved", made.stderr)
+        self.assertIn("mpslp_write_lp is not proved", made.stderr)
         self.assertIn("fn bounds::put: not proved", made.stderr)
         self.assertNotIn("build mpslp", self.calls())
 

@@ -195,9 +195,9 @@ SHORT = {
     "canonical_mps": ("mpslp_canonical_mps",),
     "canonical_lp": ("mpslp_canonical_lp",),
     "lp_sentences": ("mpslp_lp_sentences",),
-    "conversions": ("mpslp_conversions",),
-    "command": ("mpslp_command",),
     "convert": ("mpslp_convert",),
+    "command": ("mpslp_command",),
+    "run_jobs": ("mpslp_run_jobs",),
 }
 
 

@@ -28,7 +28,7 @@ from typing import NamedTuple
 ROOT = Path(__file__).resolve().parent.parent
 PAGE = ROOT / "docs" / "TRUST.md"
 CRATES = ROOT / "crates"
-FORMATS = CRATES / "mpslp_write" / "src" / "formats.rt"
+FORMATS = CRATES / "mpslp_formats" / "src" / "formats.rt"
 THEOREM = "Headline"
 # What a format gives to the theorem, and what it gives to the errors of files.
 GIVEN, ERRORS = ("declares", "text", "unfit"), ("first_fault",)

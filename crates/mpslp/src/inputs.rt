@@ -1,7 +1,7 @@
 //! The inputs of a job: files, standard input, and stand-ins for missing ones.
 
-use mpslp_convert::{Job, JobFault, perform};
 use mpslp_model::{FromRead, HashSeed, Sink, Source};
+use mpslp_run_jobs::{Job, JobFault, perform};
 use std::io::{Error, ErrorKind, Read};
 use std::rt::Files;
 use std::{fs, io};

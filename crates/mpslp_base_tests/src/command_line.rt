@@ -1,7 +1,7 @@
 //! Tests of arguments and the jobs that they request.
 
 use mpslp_command::job;
-use mpslp_jobs::{Form, Job, JobFault, Word};
+use mpslp_jobs::{FileFormat, Job, JobFault, OwnedText};
 use std::alloc::{AllocError, Global};
 use std::test::Fail;
 
@@ -86,25 +86,25 @@ fn line_of(alloc: Global, job: &Job) -> Result<String, AllocError> {
             path.as_str()
         ),
         Job::Same {
-            first_form,
+            first_format,
             first,
-            second_form,
+            second_format,
             second,
         } => format!(in alloc;
             "same {} {} {} {}",
-            name(*first_form),
+            name(*first_format),
             first.as_str(),
-            name(*second_form),
+            name(*second_format),
             second.as_str()
         ),
         Job::Show { from, path } => format!(in alloc; "show {} {}", name(*from), path.as_str()),
     }
 }
 
-fn name(form: Form) -> &'static str {
-    match form {
-        Form::Mps => "mps",
-        Form::Lp => "lp",
+fn name(format: FileFormat) -> &'static str {
+    match format {
+        FileFormat::Mps => "mps",
+        FileFormat::Lp => "lp",
     }
 }
 
@@ -181,15 +181,15 @@ fn standard_input_is_read_once(rt: HostRuntime) -> Result<(), Fail> {
     Ok(())
 }
 
-/// Whether a word of this text has the same text.
+/// Whether an owned copy of this text has the same text.
 fn keeps_text(alloc: Global, text: &str) -> bool {
-    match Word::new(alloc, text) {
+    match OwnedText::new(alloc, text) {
         Ok(word) => word.as_str() == text,
         Err(_) => false,
     }
 }
 
 #[test]
-fn a_word_has_its_text(rt: HostRuntime) {
+fn an_owned_text_has_its_text(rt: HostRuntime) {
     assert!(rt; keeps_text(rt.alloc(), "a word"));
 }

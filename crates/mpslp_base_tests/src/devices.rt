@@ -1,8 +1,8 @@
-//! Tests of what the devices of mpslp_vectors return and take, call by call.
+//! Tests of what the devices of mpslp_test_devices return and take, call by call.
 
 use crate::streams::{flushes, reads, writes};
 use mpslp_io::{IoFailed, Sink, Source};
-use mpslp_vectors::{FailingReader, FailingWriter};
+use mpslp_test_devices::{FailingReader, FailingWriter};
 use std::alloc::{AllocError, Global};
 use std::test::Fail;
 

@@ -1,8 +1,8 @@
-//! Tests of the public calls of the crates that do not use the builder, which succeed with ample memory: numbers, devices, maps,
-//! names, the parts of rows and columns, the devices for tests, and the command line.
+//! Tests of the crates below the builder, in a crate of their own because the kit proves a crate with tests twice.
 //!
-//! This crate has only tests: a crate that has tests is proved twice, the second time together with them. Tests of the model's
-//! definitions share functions with those of the builder, and so are in mpslp_model_tests.
+//! They test the public calls of the crates that do not use the builder, which succeed with ample memory: numbers, devices, maps,
+//! names, the parts of rows and columns, the devices for tests, and the command line. Tests of the model's definitions share
+//! functions with those of the builder, and so are in mpslp_model_tests.
 #![tactic(auto)]
 
 #[cfg(test)]

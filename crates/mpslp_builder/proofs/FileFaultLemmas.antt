@@ -57,14 +57,14 @@ none_mapped : {X Y : Type 0} (f : X → Y) (xs : List X) → map f xs ≡ [] →
 none_mapped f [] h = refl
 none_mapped f (x ∷ xs) h = cc
 
-abbrev stated : FaultKind → List ℕ → Fault
-stated kind name = whole_fault kind (Some name)
+abbrev reported : FaultKind → List ℕ → Fault
+reported kind name = whole_fault kind (Some name)
 
 first_left : {X : Type 0} (o : Option X) (rest : List X) → head_of (cons_option o rest) ≡ None → o ≡ None
 first_left o rest h = grind arith
 
 abbrev fault_of : Draft → FaultKind → Option Fault
-fault_of all kind = option_map (stated kind) (head_of (names_with all kind))
+fault_of all kind = option_map (reported kind) (head_of (names_with all kind))
 
 abbrev faults_from : Draft → List FaultKind → List Fault
 faults_from all kinds = filter_map (fault_of all) kinds

@@ -215,8 +215,8 @@ none_left f none [] = refl
 none_left {Y = Y} f none (x ∷ xs) = grind (arith, none_left f none xs)
 
 -- the name at an index, and the error that is reported for it
-pub stated : (kind : FaultKind) (name : Option (List ℕ)) (least : Option (List ℕ)) → name ≡ least → is_some name ≡ true → option_map (λ n. whole_fault kind (Some n)) least ≡ Some (whole_fault kind name)
-stated kind name least same h = grind arith
+pub reported : (kind : FaultKind) (name : Option (List ℕ)) (least : Option (List ℕ)) → name ≡ least → is_some name ≡ true → option_map (λ n. whole_fault kind (Some n)) least ≡ Some (whole_fault kind name)
+reported kind name least same h = grind arith
 
 pub entry_named : {V : Type 0} (es : List (List ℕ × V)) (i : ℕ) → i < length es → is_some (entry_name es i) ≡ true
 entry_named [] i h = absurd (omega (arith, h))

@@ -19,7 +19,7 @@ use Rattle.mpslp_builder.specs.Refusal.{refusals, refusals_in_turn}
 use Rattle.mpslp_builder.specs.Tables.{no_part, cells_of, name_of_row_key, draft, IsNumbered}
 use Rattle.mpslp_builder.specs.Calls.{row_name, column_name, column_satisfies, cells_at, new_column, with_cell, IsOnceEach, IsSameTables, HasColumnAdded, HasColumnChanged}
 use Rattle.mpslp_builder.specs.ColumnLine.{entry_declared, TakesLine}
-use Rattle.mpslp_builder.specs.LineTables.{IsLaid, Follows, HasStarted}
+use Rattle.mpslp_builder.specs.LineTables.{AreDeclared, Follows, HasStarted}
 use Rattle.mpslp_builder_parts.specs.declared.parts.ColumnParts.{ColumnParts}
 use Rattle.mpslp_builder.specs.declared.tables.Tables.{Tables}
 use Rattle.mpslp_builder.proofs.AnswerLemmas.{made_after}
@@ -87,25 +87,25 @@ follows_then t u v a b = record {
 pub same_cells : (t u : Tables) (i m : ℕ) → IsSameTables t u → find nat_cmp m (cells_at u i) ≡ find nat_cmp m (cells_at t i)
 same_cells t u i m h = grind arith
 
-pub laid_none : (t : Tables) → IsLaid t [] t
+pub laid_none : (t : Tables) → AreDeclared t [] t
 laid_none t = grind arith
 
-pub laid_then : (t u v : Tables) (ds es : Declarations) → IsLaid t ds u → IsLaid u es v → IsLaid t (ds ++ es) v
+pub laid_then : (t u v : Tables) (ds es : Declarations) → AreDeclared t ds u → AreDeclared u es v → AreDeclared t (ds ++ es) v
 laid_then t u v ds es a b = record {
   free = λ sense constant.
       refusals_in_turn-append ds es (draft sense constant t)
       ∙ join_none (refusals_in_turn (draft sense constant t) ds) (refusals_in_turn (with_declarations (draft sense constant t) ds) es) (a.free sense constant)
-      (ap (λ (d : Draft). refusals_in_turn d es) (sym (a.laid sense constant)) ∙ b.free sense constant);
-  laid = λ sense constant.
-      b.laid sense constant ∙ ap (λ (d : Draft). with_declarations d es) (a.laid sense constant) ∙ sym (with_declarations-append ds es (draft sense constant t));
+      (ap (λ (d : Draft). refusals_in_turn d es) (sym (a.declared sense constant)) ∙ b.free sense constant);
+  declared = λ sense constant.
+      b.declared sense constant ∙ ap (λ (d : Draft). with_declarations d es) (a.declared sense constant) ∙ sym (with_declarations-append ds es (draft sense constant t));
 }
 
 -- one declaration that has no error
 laid_one : (t u : Tables) (d : _) → ((sense : Option Sense) (constant : Option Number) → refusals (draft sense constant t) d ≡ [])
-    → ((sense : Option Sense) (constant : Option Number) → draft sense constant u ≡ with_declaration (draft sense constant t) d) → IsLaid t (d ∷ []) u
-laid_one t u d free laid = record {
+    → ((sense : Option Sense) (constant : Option Number) → draft sense constant u ≡ with_declaration (draft sense constant t) d) → AreDeclared t (d ∷ []) u
+laid_one t u d free declared = record {
   free = λ sense constant. ap (λ (faults : List BuildFault). faults ++ []) (free sense constant);
-  laid = laid;
+  declared = declared;
 }
 
 module _ (t u : Tables) (numbered : IsNumbered t) where
@@ -139,7 +139,7 @@ module _ (t u : Tables) (numbered : IsNumbered t) where
       mark_draft : (c : List ℕ) → column_name t i ≡ Some c → (sense : Option Sense) (constant : Option Number) → draft sense constant u ≡ with_declaration (draft sense constant t) (declare_marked c)
       mark_draft c is sense constant = mark_added sense constant t u once i c is h
 
-      pub mark_laid : (c : List ℕ) → column_name t i ≡ Some c → IsLaid t (declare_marked c ∷ []) u
+      pub mark_laid : (c : List ℕ) → column_name t i ≡ Some c → AreDeclared t (declare_marked c ∷ []) u
       mark_laid c is = laid_one t u (declare_marked c) (mark_free c is) (mark_draft c is)
 
       pub mark_follows : Follows t u
@@ -170,7 +170,7 @@ module _ (t u : Tables) (numbered : IsNumbered t) where
           cell_added sense constant t u once i c is numbered n r row x h
           (cell_at sense constant t once i c (entry_at t.columns.entries i c is) n r numbered row ∙ ap is_some absent)
 
-      pub cell_laid : (c : List ℕ) → column_name t i ≡ Some c → IsLaid t (entry_declared c (r, x)) u
+      pub cell_laid : (c : List ℕ) → column_name t i ≡ Some c → AreDeclared t (entry_declared c (r, x)) u
       cell_laid c is = laid_one t u (declare_coefficient (at r c) x) (cell_free c is) (cell_draft c is)
 
       pub cell_follows : is_decimal x ≡ true → Follows t u
@@ -216,7 +216,7 @@ module _ (t u : Tables) (numbered : IsNumbered t) where
         let here : slice_get u.columns.entries (length t.columns.entries) ≡ Some (k, new_column) =
         ap (λ (es : List (List ℕ × ColumnParts)). slice_get es (length t.columns.entries)) h.columns ∙ added_there t.columns.entries (k, new_column) in record {
           named = ap (option_map (λ (e : List ℕ × ColumnParts). e.0)) here;
-          laid = laid_one t u (declare_column k) (λ sense constant. refl) start_draft;
+          declared = laid_one t u (declare_column k) (λ sense constant. refl) start_draft;
           cells = ap (λ (o : Option (List ℕ × ColumnParts)). option_map_or (λ e. cells_of e.1) o []) here;
           semi = ap (λ (o : Option (List ℕ × ColumnParts)). option_map_or (λ e. e.1.semi) o false) here;
         }
@@ -224,4 +224,4 @@ module _ (t u : Tables) (numbered : IsNumbered t) where
 -- a column that is declared may be declared again
 pub taken_next : (earlier later : Draft) (column : List ℕ) (more : Declarations) → with_declaration earlier (declare_column column) ≡ earlier → refusals_in_turn earlier more ≡ []
     → later ≡ with_declarations earlier more → TakesLine earlier (declare_column column ∷ more) (Ok true) later
-taken_next earlier later column more again free laid = grind arith
+taken_next earlier later column more again free declared = grind arith

@@ -27,9 +27,9 @@ use Rattle.mpslp_builder.specs.Declaration.{Draft, Declarations, with_declaratio
 use Rattle.mpslp_builder.specs.Refusal.{refusals, refusals_in_turn}
 use Rattle.mpslp_builder.specs.Tables.{no_part, draft, IsNumbered}
 use Rattle.mpslp_builder.specs.Calls.{row_name, column_name, cells_at, with_cell, IsOnceEach, HasColumnChanged}
-use Rattle.mpslp_builder.specs.LineTables.{IsLaid, Follows}
+use Rattle.mpslp_builder.specs.LineTables.{AreDeclared, Follows}
 use Rattle.mpslp_builder.specs.RowTerms.{term_declared, DeclaresInTurn}
-use Rattle.mpslp_builder.specs.TermTables.{HasColumn, IsLaidUnless}
+use Rattle.mpslp_builder.specs.TermTables.{HasColumn, AreDeclaredUnless}
 use Rattle.mpslp_builder.specs.declared.tables.Tables.{Tables}
 use Rattle.mpslp_builder.proofs.AnswerLemmas.{put_again}
 use Rattle.mpslp_builder.proofs.MadeDrafts.{refusals_in_turn-append}
@@ -90,10 +90,10 @@ any-more name key first more all r seen named absent h = grind (arith, any-both)
 -- ---- steps
 
 -- a column that is declared may be declared again
-pub there_laid : (t : Tables) (name : List ℕ) (i : ℕ) → column_name t i ≡ Some name → IsLaid t (declare_column name ∷ []) t
+pub there_laid : (t : Tables) (name : List ℕ) (i : ℕ) → column_name t i ≡ Some name → AreDeclared t (declare_column name ∷ []) t
 there_laid t name i is = grind (arith, put_again, is_sorted-sorted_of, bytes_total, number_there)
 
-pub unless_then : (t u v : Tables) (ds es : Declarations) (answer : Answer) → IsLaid t ds u → IsLaidUnless u es answer v → IsLaidUnless t (ds ++ es) answer v
+pub unless_then : (t u v : Tables) (ds es : Declarations) (answer : Answer) → AreDeclared t ds u → AreDeclaredUnless u es answer v → AreDeclaredUnless t (ds ++ es) answer v
 unless_then t u v ds es (Ok x) a b = laid_then t u v ds es a b
 unless_then t u v ds es (Err fault) a (inl none) = inl none
 unless_then t u v ds es (Err fault) a (inr first) =
@@ -101,16 +101,16 @@ unless_then t u v ds es (Err fault) a (inr first) =
     let before = draft sense constant t in
     ap head_of (
     refusals_in_turn-append ds es before ∙ ap (λ (faults : List BuildFault). faults ++ refusals_in_turn (with_declarations before ds) es) (a.free sense constant)
-    ∙ ap (λ (all : Draft). refusals_in_turn all es) (sym (a.laid sense constant))
+    ∙ ap (λ (all : Draft). refusals_in_turn all es) (sym (a.declared sense constant))
     )
     ∙ first sense constant)
 
 -- there is no memory
-pub unless_memory : (t u : Tables) (ds : Declarations) (answer : Answer) → IsErrAnd answer (λ fault. fault ≡ OutOfMemory) → IsLaidUnless t ds answer u
+pub unless_memory : (t u : Tables) (ds : Declarations) (answer : Answer) → IsErrAnd answer (λ fault. fault ≡ OutOfMemory) → AreDeclaredUnless t ds answer u
 unless_memory t u ds answer none = grind arith
 
 -- the error that is reported
-pub unless_reported : (t u : Tables) (ds : Declarations) (answer : Answer) (fault : BuildFault) → IsErrAnd answer (λ stated. stated ≡ fault) → IsLaidUnless t ds (Err fault) u → IsLaidUnless t ds answer u
+pub unless_reported : (t u : Tables) (ds : Declarations) (answer : Answer) (fault : BuildFault) → IsErrAnd answer (λ stated. stated ≡ fault) → AreDeclaredUnless t ds (Err fault) u → AreDeclaredUnless t ds answer u
 unless_reported t u ds (Ok x) fault stated h = absurd stated
 unless_reported t u ds (Err other) fault stated h = grind arith
 
@@ -118,7 +118,7 @@ head-first : (faults more : List BuildFault) (fault : BuildFault) → head_of fa
 head-first faults more fault h = grind arith
 
 -- an error of the first declarations is the first of all
-pub unless_err : (t u v : Tables) (ds es : Declarations) (fault : BuildFault) → IsLaidUnless t ds (Err fault) u → IsLaidUnless t (ds ++ es) (Err fault) v
+pub unless_err : (t u v : Tables) (ds es : Declarations) (fault : BuildFault) → AreDeclaredUnless t ds (Err fault) u → AreDeclaredUnless t (ds ++ es) (Err fault) v
 unless_err t u v ds es fault h = grind (arith, inl, inr, refusals_in_turn-append, head-first)
 
 or_true : (b : Bool) → true ≡ (b || true)
@@ -130,10 +130,10 @@ row_there constant t n r is = search (rules, or_true, number_there)
 
 -- the coefficient is declared already
 pub taken_place : (t u v : Tables) (once : IsOnceEach u) (numbered : IsNumbered u) (n i : ℕ) (r c : List ℕ) (x : Number) → HasColumn t c i u → row_name u n ≡ Some r
-    → true ≡ is_some (find nat_cmp n (cells_at u i)) → IsLaidUnless t (term_declared r (c, x)) (Err DuplicateEntry) v
+    → true ≡ is_some (find nat_cmp n (cells_at u i)) → AreDeclaredUnless t (term_declared r (c, x)) (Err DuplicateEntry) v
 taken_place t u v once numbered n i r c x column row stated =
     inr (λ sense constant.
-    ap (λ (all : Draft). head_of (refusals all (declare_coefficient (at r c) x) ++ [])) (sym (column.laid.laid sense constant))
+    ap (λ (all : Draft). head_of (refusals all (declare_coefficient (at r c) x) ++ [])) (sym (column.declared.declared sense constant))
     ∙ ap (λ (faults : List BuildFault). head_of (faults ++ []))
     (cell_stated constant u once i c column.named (number_there no_part u.columns.entries i c column.named) n r true numbered row (row_there constant u n r row) stated))
 
@@ -164,23 +164,23 @@ rest_at f (y ∷ xs) (suc k) x h = rest_at f xs k x h
 
 -- what is left decides: whatever comes of these declarations comes of those, too
 abbrev pub Decides : Tables → Declarations → Tables → Declarations → Type 0
-Decides u left t all = (answer : Answer) (v : Tables) → IsLaidUnless u left answer v → IsLaidUnless t all answer v
+Decides u left t all = (answer : Answer) (v : Tables) → AreDeclaredUnless u left answer v → AreDeclaredUnless t all answer v
 
-pub decides_next : (t u v : Tables) (first left all : Declarations) → IsLaid u first v → Decides u (first ++ left) t all → Decides v left t all
-decides_next t u v first left all laid before = grind (arith, unless_then)
+pub decides_next : (t u v : Tables) (first left all : Declarations) → AreDeclared u first v → Decides u (first ++ left) t all → Decides v left t all
+decides_next t u v first left all declared before = grind (arith, unless_then)
 
 -- an error of the next of these declarations decides
-pub decides_err : (t u v : Tables) (first left all : Declarations) (answer : Answer) (fault : BuildFault) → IsErrAnd answer (λ stated. stated ≡ fault) → IsLaidUnless u first (Err fault) v
-    → Decides u (first ++ left) t all → IsLaidUnless t all answer v
+pub decides_err : (t u v : Tables) (first left all : Declarations) (answer : Answer) (fault : BuildFault) → IsErrAnd answer (λ stated. stated ≡ fault) → AreDeclaredUnless u first (Err fault) v
+    → Decides u (first ++ left) t all → AreDeclaredUnless t all answer v
 decides_err t u v first left all answer fault stated refused before =
     before answer v (unless_reported u v (first ++ left) answer fault stated (unless_err u v v first left fault refused))
 
 -- nothing is left
-pub decides_all : (t u : Tables) (all : Declarations) → Decides u [] t all → IsLaid t all u
+pub decides_all : (t u : Tables) (all : Declarations) → Decides u [] t all → AreDeclared t all u
 decides_all t u all before = before (Ok tt) u (laid_none u)
 
 -- the same of the drafts of builders
-pub in_turn : (sense : Option Sense) (constant : Option Number) (t u : Tables) (ds : Declarations) (answer : Answer) → IsLaidUnless t ds answer u
+pub in_turn : (sense : Option Sense) (constant : Option Number) (t u : Tables) (ds : Declarations) (answer : Answer) → AreDeclaredUnless t ds answer u
     → DeclaresInTurn (draft sense constant t) ds answer (draft sense constant u)
 in_turn sense constant t u ds answer h = grind arith
 
@@ -213,8 +213,8 @@ module _ (t u v : Tables) (name column : List ℕ) (term : List ℕ × Number) (
   decides = grind arith
 
   -- after the next term
-  pub term_laid : IsLaid u (term_declared name (column, term.1)) v → Decides v rest t all
-  term_laid laid = grind (arith, decides_next, decides)
+  pub term_laid : AreDeclared u (term_declared name (column, term.1)) v → Decides v rest t all
+  term_laid declared = grind (arith, decides_next, decides)
 
-  pub term_refused : (answer : Answer) (fault : BuildFault) → IsErrAnd answer (λ stated. stated ≡ fault) → IsLaidUnless u (term_declared name (column, term.1)) (Err fault) v → IsLaidUnless t all answer v
+  pub term_refused : (answer : Answer) (fault : BuildFault) → IsErrAnd answer (λ stated. stated ≡ fault) → AreDeclaredUnless u (term_declared name (column, term.1)) (Err fault) v → AreDeclaredUnless t all answer v
   term_refused answer fault stated refused = decides_err t u v (term_declared name (column, term.1)) rest all answer fault stated refused decides

@@ -47,9 +47,9 @@ pub record IsFreeLine (t : Tables) (name : List ℕ) (is_marked : Bool) (entries
   pub free : refusals_in_turn (draft sense constant t) (column_line is_marked name (listed entries)) ≡ []
 
 -- these declarations are made, and none of them is rejected
-pub record IsLaid (t : Tables) (declarations : Declarations) (u : Tables) : Type 0 where
+pub record AreDeclared (t : Tables) (declarations : Declarations) (u : Tables) : Type 0 where
   pub free : (sense : Option Sense) (constant : Option Number) → refusals_in_turn (draft sense constant t) declarations ≡ []
-  pub laid : (sense : Option Sense) (constant : Option Number) → draft sense constant u ≡ with_declarations (draft sense constant t) declarations
+  pub declared : (sense : Option Sense) (constant : Option Number) → draft sense constant u ≡ with_declarations (draft sense constant t) declarations
 
 -- what a builder needs of its tables holds after a call if it did before, and all names have kept their numbers
 pub record Follows (t u : Tables) : Type 0 where
@@ -61,6 +61,6 @@ pub record Follows (t u : Tables) : Type 0 where
 -- a column of this name and number is new, and has nothing yet
 pub record HasStarted (t : Tables) (name : List ℕ) (column : ℕ) (u : Tables) : Type 0 where
   pub named : column_name u column ≡ Some name
-  pub laid : IsLaid t (declare_column name ∷ []) u
+  pub declared : AreDeclared t (declare_column name ∷ []) u
   pub cells : cells_at u column ≡ []
   pub semi : column_satisfies u column (λ parts. parts.semi) ≡ false

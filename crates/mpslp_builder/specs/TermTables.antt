@@ -9,16 +9,16 @@ use Rattle.mpslp_builder.specs.Refusal.{refusals_in_turn}
 use Rattle.mpslp_builder.specs.Answer.{Answer}
 use Rattle.mpslp_builder.specs.Tables.{draft}
 use Rattle.mpslp_builder.specs.Calls.{column_name}
-use Rattle.mpslp_builder.specs.LineTables.{IsLaid}
+use Rattle.mpslp_builder.specs.LineTables.{AreDeclared}
 use Rattle.mpslp_builder.specs.declared.tables.Tables.{Tables}
 
 -- the column of this number has this name, and it is declared if it was not
 pub record HasColumn (t : Tables) (name : List ℕ) (column : ℕ) (u : Tables) : Type 0 where
   pub named : column_name u column ≡ Some name
-  pub laid : IsLaid t (declare_column name ∷ []) u
+  pub declared : AreDeclared t (declare_column name ∷ []) u
 
 -- these declarations are made, or their first error is returned, or there is no memory
-abbrev pub IsLaidUnless : Tables → Declarations → Answer → Tables → Type 0
-IsLaidUnless t declarations (Ok _) u = IsLaid t declarations u
-IsLaidUnless t declarations (Err fault) u =
+abbrev pub AreDeclaredUnless : Tables → Declarations → Answer → Tables → Type 0
+AreDeclaredUnless t declarations (Ok _) u = AreDeclared t declarations u
+AreDeclaredUnless t declarations (Err fault) u =
     (fault ≡ OutOfMemory) ⊎ ((sense : Option Sense) (constant : Option Number) → head_of (refusals_in_turn (draft sense constant t) declarations) ≡ Some fault)

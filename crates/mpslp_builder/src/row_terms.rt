@@ -11,8 +11,8 @@ ghost use Rattle.mpslp_builder.specs.RowTerms.{term_declared, DeclaresInTurn};
 ghost use Rattle.mpslp_builder.specs.Tables.{draft, IsNumbered};
 ghost use Rattle.mpslp_builder.specs.Calls.{row_name, column_name, cells_at};
 ghost use Rattle.mpslp_builder.specs.ColumnLine.{entry_declared};
-ghost use Rattle.mpslp_builder.specs.LineTables.{IsLaid, Follows};
-ghost use Rattle.mpslp_builder.specs.TermTables.{HasColumn, IsLaidUnless};
+ghost use Rattle.mpslp_builder.specs.LineTables.{AreDeclared, Follows};
+ghost use Rattle.mpslp_builder.specs.TermTables.{HasColumn, AreDeclaredUnless};
 
 use crate::reader_builder::ReaderBuilder;
 use crate::tables::Tables;
@@ -202,7 +202,7 @@ impl Tables {
     }
 
     /// Declares a term of a row, and its column if that is new.
-    fn lay_term(
+    fn declare_term(
         &mut self,
         alloc: Global,
         row: u32,
@@ -215,7 +215,7 @@ impl Tables {
         requires row { is_some (row_name self.old row) ≡ true }
         ensures kept { Follows self.old self.new }
         ensures rows { self.new.rows.entries ≡ self.old.rows.entries }
-        ensures laid { (name : List ℕ) → row_name self.old row ≡ Some name → IsLaidUnless self.old (term_declared name (column.now, value)) result self.new }
+        ensures declared { (name : List ℕ) → row_name self.old row ≡ Some name → AreDeclaredUnless self.old (term_declared name (column.now, value)) result self.new }
     {
         let number = self.term_column(alloc, column, guess)?;
         self.each_name_occurs_once();
@@ -227,7 +227,7 @@ impl Tables {
     }
 
     /// Declares terms of a row in order.
-    fn lay_rising(
+    fn declare_rising(
         &mut self,
         alloc: Global,
         row: u32,
@@ -237,7 +237,7 @@ impl Tables {
         requires row { is_some (row_name self.old row) ≡ true }
         ensures kept { Follows self.old self.new }
         ensures rows { self.new.rows.entries ≡ self.old.rows.entries }
-        ensures laid { (name : List ℕ) → row_name self.old row ≡ Some name → IsLaidUnless self.old (flat_map (term_declared name) terms.now) result self.new }
+        ensures declared { (name : List ℕ) → row_name self.old row ≡ Some name → AreDeclaredUnless self.old (flat_map (term_declared name) terms.now) result self.new }
     {
         let mut guesses = [0usize; AHEAD];
         for k in 0..terms.len() {
@@ -246,13 +246,13 @@ impl Tables {
             }
             let term = &terms[k];
             each_name_is_legal(&term.0);
-            self.lay_term(alloc, row, term.0.as_bytes(), guesses[k % AHEAD], term.1)?;
+            self.declare_term(alloc, row, term.0.as_bytes(), guesses[k % AHEAD], term.1)?;
         }
         Ok(())
     }
 
     /// Declares terms of a row in order.
-    fn lay_others(
+    fn declare_others(
         &mut self,
         alloc: Global,
         row: u32,
@@ -262,26 +262,26 @@ impl Tables {
         requires row { is_some (row_name self.old row) ≡ true }
         ensures kept { Follows self.old self.new }
         ensures rows { self.new.rows.entries ≡ self.old.rows.entries }
-        ensures laid { (name : List ℕ) → row_name self.old row ≡ Some name → IsLaidUnless self.old (flat_map (term_declared name) terms.now.entries) result self.new }
+        ensures declared { (name : List ℕ) → row_name self.old row ≡ Some name → AreDeclaredUnless self.old (flat_map (term_declared name) terms.now.entries) result self.new }
     {
         for (name, value) in terms.iter() {
             let guess = self.recent.saturating_add(1);
             each_name_is_legal(name);
-            self.lay_term(alloc, row, name.as_bytes(), guess, *value)?;
+            self.declare_term(alloc, row, name.as_bytes(), guess, *value)?;
         }
         Ok(())
     }
 
     /// Declares the terms of a row in order.
-    fn lay_terms(&mut self, alloc: Global, row: u32, terms: &RowTerms) -> Result<(), BuildFault>
+    fn declare_terms(&mut self, alloc: Global, row: u32, terms: &RowTerms) -> Result<(), BuildFault>
         requires numbered { IsNumbered self.old }
         requires row { is_some (row_name self.old row) ≡ true }
         ensures kept { Follows self.old self.new }
         ensures rows { self.new.rows.entries ≡ self.old.rows.entries }
-        ensures laid { (name : List ℕ) → row_name self.old row ≡ Some name → IsLaidUnless self.old (flat_map (term_declared name) terms.now) result self.new }
+        ensures declared { (name : List ℕ) → row_name self.old row ≡ Some name → AreDeclaredUnless self.old (flat_map (term_declared name) terms.now) result self.new }
     {
-        self.lay_rising(alloc, row, terms.rising.as_slice())?;
-        self.lay_others(alloc, row, &terms.others)
+        self.declare_rising(alloc, row, terms.rising.as_slice())?;
+        self.declare_others(alloc, row, &terms.others)
     }
 }
 
@@ -303,7 +303,7 @@ impl ReaderBuilder {
                 let guess = draft.tables.recent.saturating_add(1);
                 draft
                     .tables
-                    .lay_term(draft.alloc, number, column, guess, value)
+                    .declare_term(draft.alloc, number, column, guess, value)
             }
             None => Err(BuildFault::UnknownRow),
         }
@@ -325,7 +325,7 @@ impl ReaderBuilder {
         }
         let draft = &mut self.draft;
         match draft.tables.row_number(row) {
-            Some(number) => draft.tables.lay_terms(draft.alloc, number, terms),
+            Some(number) => draft.tables.declare_terms(draft.alloc, number, terms),
             None => Err(BuildFault::UnknownRow),
         }
     }

@@ -3,9 +3,9 @@ use Rattle.std.proofs.Common.{arith, ◌≡◌, ℕ, List, Bool, true, false, �
 use Rattle.std.specs.{Prelude.IsOkUnless, declared.alloc.Global.Global}
 use Rattle.mpslp_model_core.specs.Model.{LinearModel}
 use Rattle.mpslp_types.specs.declared.faults.{Fault.Fault, NameAt.NameAt}
-use Rattle.mpslp_conversions.specs.{Conversions.{HasFirstFault, IsConversion, IsComparison, IsTestOfText, IsErrUnless}, Laws.Declares}
-use Rattle.mpslp_conversions.specs.{Laws.{Unfit, TextOf}, declared.faults.ConvertFault.{ConvertFault, TheVariants.{First, Second, NotLp}}}
-use Rattle.mpslp_conversions.specs.declared.faults.ConvertFault.TheVariants.{OutOfMemory}
+use Rattle.mpslp_convert.specs.{Conversions.{HasFirstFault, IsConversion, IsComparison, IsTestOfText, IsErrUnless}, Laws.Declares}
+use Rattle.mpslp_convert.specs.{Laws.{Unfit, TextOf}, declared.faults.ConvertFault.{ConvertFault, TheVariants.{First, Second, NotLp}}}
+use Rattle.mpslp_convert.specs.declared.faults.ConvertFault.TheVariants.{OutOfMemory}
 use Rattle.mpslp_c.specs.Answers.{IsLoading, IsTextReturned, IsTruthReturned, IsModelReturned, IsUnless, IsTruthUnless, IsConverted}
 use Rattle.mpslp_c.specs.Answers.{IsCompared, IsTested, IsLoaded, fault_status, HasFault, IsStoring, IsStoreReturned, IsStored}
 use Rattle.mpslp_c.specs.{Answers.{store_status, IsNormalizing, AreArraysReturned, IsNormalized}, Stored.Defines}

@@ -2,11 +2,11 @@
 //!
 //! `out` and `fault` are unchanged unless the status of the call says that they are set.
 
-ghost use Rattle.mpslp_c.specs.Answers.{form_of, IsCanonicalAnswer, IsSameAnswer, IsTestAnswer, IsTextReturned, IsTruthReturned};
+ghost use Rattle.mpslp_c.specs.Answers.{format_of, IsCanonicalAnswer, IsSameAnswer, IsTestAnswer, IsTextReturned, IsTruthReturned};
 
 use crate::answers::{OK, UNKNOWN_FORMAT, fault_status, truth_status};
 use crate::faults::{MpslpFault, set_fault};
-use crate::texts::{canonical_in, form_of, is_canonical_in, same_in};
+use crate::texts::{canonical_in, format_of, is_canonical_in, same_in};
 use mpslp_convert::ConvertFault;
 use mpslp_model::HashSeed;
 use std::alloc::Global;
@@ -75,12 +75,12 @@ pub extern "C" fn seeded_canonical(
     out: &mut MpslpText,
     fault: &mut MpslpFault,
 ) -> u32
-    ensures { IsCanonicalAnswer (form_of from) (form_of to) bytes.now result out.old out.new fault.old fault.new }
+    ensures { IsCanonicalAnswer (format_of from) (format_of to) bytes.now result out.old out.new fault.old fault.new }
 {
-    let Some(from) = form_of(from) else {
+    let Some(from) = format_of(from) else {
         return UNKNOWN_FORMAT;
     };
-    let Some(to) = form_of(to) else {
+    let Some(to) = format_of(to) else {
         return UNKNOWN_FORMAT;
     };
     give_text(
@@ -111,21 +111,21 @@ pub extern "C" fn seeded_same(
     second: &[u8],
     fault: &mut MpslpFault,
 ) -> u32
-    ensures { IsSameAnswer (form_of first_format) (form_of second_format) first.now second.now result fault.old fault.new }
+    ensures { IsSameAnswer (format_of first_format) (format_of second_format) first.now second.now result fault.old fault.new }
 {
-    let Some(first_form) = form_of(first_format) else {
+    let Some(first_file_format) = format_of(first_format) else {
         return UNKNOWN_FORMAT;
     };
-    let Some(second_form) = form_of(second_format) else {
+    let Some(second_file_format) = format_of(second_format) else {
         return UNKNOWN_FORMAT;
     };
     give_truth(
         same_in(
             alloc,
             HashSeed { state, factor },
-            first_form,
+            first_file_format,
             first,
-            second_form,
+            second_file_format,
             second,
         ),
         fault,
@@ -150,11 +150,11 @@ pub extern "C" fn seeded_is_canonical(
     bytes: &[u8],
     fault: &mut MpslpFault,
 ) -> u32
-    ensures { IsTestAnswer (form_of format) bytes.now result fault.old fault.new }
+    ensures { IsTestAnswer (format_of format) bytes.now result fault.old fault.new }
 {
-    match form_of(format) {
-        Some(form) => give_truth(
-            is_canonical_in(alloc, HashSeed { state, factor }, form, bytes),
+    match format_of(format) {
+        Some(file_format) => give_truth(
+            is_canonical_in(alloc, HashSeed { state, factor }, file_format, bytes),
             fault,
         ),
         None => UNKNOWN_FORMAT,

@@ -3,17 +3,18 @@
 ghost use Rattle.std.specs.Prelude.{◌≡◌, IsOkUnless};
 ghost use Rattle.mpslp_model_core.specs.Model.{LinearModel};
 ghost use Rattle.mpslp_types.specs.declared.faults.Fault.{Fault};
-ghost use Rattle.mpslp_conversions.specs.Conversions.{IsErrUnless};
-ghost use Rattle.mpslp_convert.specs.Performed.{declares_in, first_fault_in};
-ghost use Rattle.mpslp_c.specs.Answers.{form_of, IsLoading, IsModelReturned, IsLoadAnswer};
+ghost use Rattle.mpslp_convert.specs.Conversions.{IsErrUnless};
+ghost use Rattle.mpslp_run_jobs.specs.Performed.{declares_in, first_fault_in};
+ghost use Rattle.mpslp_c.specs.Answers.{format_of, IsLoading, IsModelReturned, IsLoadAnswer};
 
 use crate::answers::{OK, UNKNOWN_FORMAT, fault_status};
 use crate::arrays::{MpslpModel, c_model};
 use crate::faults::{MpslpFault, set_fault};
-use crate::texts::form_of;
-use mpslp_convert::{ConvertFault, Form, model_of};
+use crate::texts::format_of;
+use mpslp_convert::{ConvertFault, model_of};
+use mpslp_formats::{Lp, Mps};
+use mpslp_jobs::FileFormat;
 use mpslp_model::{Format, HashSeed};
-use mpslp_write::{Lp, Mps};
 use std::alloc::Global;
 
 /// The arrays of the model that the bytes define.
@@ -38,17 +39,17 @@ fn arrays_of<A: Format>(
 fn arrays_in(
     alloc: Global,
     seed: HashSeed,
-    form: Form,
+    file_format: FileFormat,
     bytes: &[u8],
 ) -> Result<MpslpModel, ConvertFault>
-    ensures answer { IsLoading (declares_in form) (first_fault_in form) bytes.now result }
-    ensures accepts { (m : LinearModel) → declares_in form bytes.now m → IsOkUnless result ConvertFault.OutOfMemory }
-    ensures refuses { (fault : Fault) → first_fault_in form bytes.now fault
+    ensures answer { IsLoading (declares_in file_format) (first_fault_in file_format) bytes.now result }
+    ensures accepts { (m : LinearModel) → declares_in file_format bytes.now m → IsOkUnless result ConvertFault.OutOfMemory }
+    ensures refuses { (fault : Fault) → first_fault_in file_format bytes.now fault
         → IsErrUnless result (ConvertFault.First fault) ConvertFault.OutOfMemory }
 {
-    match form {
-        Form::Mps => arrays_of::<Mps>(alloc, seed, bytes),
-        Form::Lp => arrays_of::<Lp>(alloc, seed, bytes),
+    match file_format {
+        FileFormat::Mps => arrays_of::<Mps>(alloc, seed, bytes),
+        FileFormat::Lp => arrays_of::<Lp>(alloc, seed, bytes),
     }
 }
 
@@ -90,11 +91,11 @@ pub extern "C" fn seeded_load(
     out: &mut MpslpModel,
     fault: &mut MpslpFault,
 ) -> u32
-    ensures { IsLoadAnswer (form_of format) bytes.now result out.old out.new fault.old fault.new }
+    ensures { IsLoadAnswer (format_of format) bytes.now result out.old out.new fault.old fault.new }
 {
-    match form_of(format) {
-        Some(form) => give_model(
-            arrays_in(alloc, HashSeed { state, factor }, form, bytes),
+    match format_of(format) {
+        Some(file_format) => give_model(
+            arrays_in(alloc, HashSeed { state, factor }, file_format, bytes),
             out,
             fault,
         ),

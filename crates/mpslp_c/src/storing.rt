@@ -4,10 +4,10 @@ ghost use Rattle.std.specs.Prelude.{◌≡◌, ◌+◌, ◌<◌, ◌≤◌, None
 ghost use Rattle.mpslp_model_core.specs.Model.{LinearModel};
 ghost use Rattle.mpslp_types.specs.declared.faults.NameAt.{NameAt};
 ghost use Rattle.mpslp_builder.specs.Declaration.{Draft};
-ghost use Rattle.mpslp_conversions.specs.Conversions.{IsErrUnless};
-ghost use Rattle.mpslp_convert.specs.Performed.{unfit_in, text_in};
+ghost use Rattle.mpslp_convert.specs.Conversions.{IsErrUnless};
+ghost use Rattle.mpslp_run_jobs.specs.Performed.{unfit_in, text_in};
 ghost use Rattle.mpslp_c.specs.Stored.{TakesSteps, placed, row_items, element_items, own_items, elements_end, column_items, first_column_steps, items, Defines};
-ghost use Rattle.mpslp_c.specs.Answers.{form_of, TakesItems, HasFault, IsStoredModel, IsStoring, IsStoreReturned, IsStoreAnswer, store_status};
+ghost use Rattle.mpslp_c.specs.Answers.{format_of, TakesItems, HasFault, IsStoredModel, IsStoring, IsStoreReturned, IsStoreAnswer, store_status};
 
 use crate::answers::{NOT_LP, OK, OUT_OF_MEMORY, REFUSED, UNKNOWN_FORMAT};
 use crate::arrays::{MpslpColumn, MpslpElement, MpslpModel, MpslpRow};
@@ -18,12 +18,13 @@ use crate::faults::{
 use crate::stored_items::{
     bytes_at, declare_column, declare_element, declare_objective, declare_row,
 };
-use crate::texts::form_of;
-use mpslp_convert::{ConvertFault, Form, text_of};
+use crate::texts::format_of;
+use mpslp_convert::{ConvertFault, text_of};
+use mpslp_formats::{Lp, Mps};
+use mpslp_jobs::FileFormat;
 use mpslp_lines::LineError;
 use mpslp_model::laws::each_builder_is_made;
 use mpslp_model::{Builder, FaultKind, Format, HashSeed, Model, ReadFault};
-use mpslp_write::{Lp, Mps};
 use std::alloc::Global;
 
 /// The result of an item, with its place if it has an error.
@@ -217,7 +218,7 @@ fn stored_text<B: Format>(
 fn stored_text_in(
     alloc: Global,
     seed: HashSeed,
-    to: Form,
+    to: FileFormat,
     model: &MpslpModel,
 ) -> Result<Vec<u8>, StoreFault>
     ensures answer { IsStoring (unfit_in to) (text_in to) model.now result }
@@ -227,8 +228,8 @@ fn stored_text_in(
         → IsErrUnless result (StoreFault.NotLp place) StoreFault.OutOfMemory }
 {
     match to {
-        Form::Mps => stored_text::<Mps>(alloc, seed, model),
-        Form::Lp => stored_text::<Lp>(alloc, seed, model),
+        FileFormat::Mps => stored_text::<Mps>(alloc, seed, model),
+        FileFormat::Lp => stored_text::<Lp>(alloc, seed, model),
     }
 }
 
@@ -290,9 +291,9 @@ pub extern "C" fn seeded_store(
     out: &mut MpslpText,
     fault: &mut MpslpFault,
 ) -> u32
-    ensures { IsStoreAnswer (form_of to) model.now result out.old out.new fault.old fault.new }
+    ensures { IsStoreAnswer (format_of to) model.now result out.old out.new fault.old fault.new }
 {
-    match form_of(to) {
+    match format_of(to) {
         Some(to) => give_stored(
             stored_text_in(alloc, HashSeed { state, factor }, to, model),
             out,

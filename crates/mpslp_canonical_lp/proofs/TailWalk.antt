@@ -17,7 +17,7 @@ use Rattle.mpslp_lp_tokens.specs.declared.words.SectionWord.TheVariants as secti
 
 -- From a point on, the tokens are a complete text that declares these.
 pub record EndsWith (from : Point) (tokens : List TerminalAt) (made : Declarations) : Type 0 where
-  pub says : phrases phrase_at from 0 tokens ≡ Finished (with_declarations from.context.earlier made)
+  pub says : phrases phrase_at from 0 tokens ≡ Finished (with_declarations from.context.builder made)
   pub makes : made_by phrase_at from 0 tokens ≡ made
 
 pub walk-ends : (place between : Place) (sections_seen later : SectionsSeen) (all : Draft) (xs ys : List TerminalAt) (made more : Declarations)

@@ -32,7 +32,7 @@ use Rattle.mpslp_lp_tokens.specs.declared.tokens.TokenKind.TheVariants as kinds
 -- ---- lines from a point of the grammar on
 
 abbrev pub point_at : Place → SectionsSeen → Draft → Point
-point_at place sections_seen earlier = record { place = place; context = record { sections_seen = sections_seen; earlier = earlier } }
+point_at place sections_seen earlier = record { place = place; context = record { sections_seen = sections_seen; builder = earlier } }
 
 -- what the grammar sees of the lines, the first of which has this number
 abbrev pub terminals_at : ℕ → Lines → List TerminalAt

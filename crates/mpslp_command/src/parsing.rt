@@ -2,12 +2,12 @@
 
 ghost use Rattle.std.specs.Prelude.{◌≡◌, map, IfOk, IfErr, Some, None, true, false, string_bytes, slice_get};
 ghost use Rattle.std.specs.List.{list_all};
-ghost use Rattle.mpslp_command.specs.Commands.{form_text, form_of, words_of, is_plain, reads_input_twice, IsNamedRightly};
+ghost use Rattle.mpslp_command.specs.Commands.{format_text, format_of, words_of, is_plain, reads_input_twice, IsNamedRightly};
 
 use crate::usage::command;
 use clap::error::ErrorKind;
 use clap::{ArgMatches, Error};
-use mpslp_jobs::{Form, Job, JobFault, Word};
+use mpslp_jobs::{FileFormat, Job, JobFault, OwnedText};
 use std::alloc::Global;
 
 /// Returns the job of the arguments after the program's name.
@@ -51,7 +51,7 @@ fn refusal(alloc: Global, error: Error) -> JobFault
         return JobFault::OutOfMemory;
     }
     let text = match error.to_string(alloc) {
-        Ok(text) => Word::of(text),
+        Ok(text) => OwnedText::of(text),
         Err(_) => return JobFault::OutOfMemory,
     };
     if error.use_stderr() {
@@ -65,7 +65,7 @@ fn refusal(alloc: Global, error: Error) -> JobFault
 fn unlike(alloc: Global) -> JobFault
     ensures { IsNamedRightly result }
 {
-    match Word::new(alloc, "error: not a command of mpslp\n") {
+    match OwnedText::new(alloc, "error: not a command of mpslp\n") {
         Ok(text) => JobFault::Usage(text),
         Err(fault) => fault,
     }
@@ -81,13 +81,13 @@ fn job_of(alloc: Global, matches: &ArgMatches<'_>) -> Result<Job, JobFault>
     };
     match name {
         "canon" => Ok(Job::Canon {
-            from: form_at(alloc, words, "from")?,
-            to: form_at(alloc, words, "to")?,
+            from: format_at(alloc, words, "from")?,
+            to: format_at(alloc, words, "to")?,
             path: word_at(alloc, words, "path")?,
         }),
         "same" => same_of(alloc, words),
         "show" => Ok(Job::Show {
-            from: form_at(alloc, words, "from")?,
+            from: format_at(alloc, words, "from")?,
             path: word_at(alloc, words, "path")?,
         }),
         _ => Err(unlike(alloc)),
@@ -99,17 +99,17 @@ fn same_of(alloc: Global, words: &ArgMatches<'_>) -> Result<Job, JobFault>
     ensures one_input { IfOk result (λ job. reads_input_twice job ≡ false) }
     ensures unknown { IfErr result IsNamedRightly }
 {
-    let first_form = form_at(alloc, words, "first-form")?;
-    let second_form = form_at(alloc, words, "second-form")?;
+    let first_format = format_at(alloc, words, "first-form")?;
+    let second_format = format_at(alloc, words, "second-form")?;
     let first = word_at(alloc, words, "first")?;
     let second = word_at(alloc, words, "second")?;
     if first.as_str() == "-" && second.as_str() == "-" {
         return Err(JobFault::BothInputs);
     }
     Ok(Job::Same {
-        first_form,
+        first_format,
         first,
-        second_form,
+        second_format,
         second,
     })
 }
@@ -118,42 +118,42 @@ fn text_at<'a>(words: &ArgMatches<'a>, id: &str) -> &'a str {
     words.get_str(id).unwrap_or("")
 }
 
-fn word_at(alloc: Global, words: &ArgMatches<'_>, id: &str) -> Result<Word, JobFault>
+fn word_at(alloc: Global, words: &ArgMatches<'_>, id: &str) -> Result<OwnedText, JobFault>
     ensures { IfErr result IsNamedRightly }
 {
-    Word::new(alloc, text_at(words, id))
+    OwnedText::new(alloc, text_at(words, id))
 }
 
-fn form_at(alloc: Global, words: &ArgMatches<'_>, id: &str) -> Result<Form, JobFault>
+fn format_at(alloc: Global, words: &ArgMatches<'_>, id: &str) -> Result<FileFormat, JobFault>
     ensures { IfErr result IsNamedRightly }
 {
     let word = text_at(words, id);
-    match form_named(word) {
-        Some(form) => Ok(form),
-        None => Err(JobFault::UnknownFormat(Word::new(alloc, word)?)),
+    match format_named(word) {
+        Some(format) => Ok(format),
+        None => Err(JobFault::UnknownFormat(OwnedText::new(alloc, word)?)),
     }
 }
 
 /// The format with this name.
-fn form_named(word: &str) -> Option<Form>
-    ensures { result ≡ form_of word.now }
+fn format_named(word: &str) -> Option<FileFormat>
+    ensures { result ≡ format_of word.now }
 {
     if word == "mps" {
-        Some(Form::Mps)
+        Some(FileFormat::Mps)
     } else if word == "lp" {
-        Some(Form::Lp)
+        Some(FileFormat::Lp)
     } else {
         None
     }
 }
 
 /// The name of a format.
-fn name_of(form: Form) -> &'static str
-    ensures { result.now ≡ form_text form }
+fn name_of(format: FileFormat) -> &'static str
+    ensures { result.now ≡ format_text format }
 {
-    match form {
-        Form::Mps => "mps",
-        Form::Lp => "lp",
+    match format {
+        FileFormat::Mps => "mps",
+        FileFormat::Lp => "lp",
     }
 }
 
@@ -186,18 +186,18 @@ fn are_words_of(words: &[String], job: &Job) -> bool
             is_at(words, 3, path.as_str())
         }
         Job::Same {
-            first_form,
+            first_format,
             first,
-            second_form,
+            second_format,
             second,
         } => {
             if words.len() != 5 || !is_at(words, 0, "same") {
                 return false;
             }
-            if !is_at(words, 1, name_of(*first_form)) || !is_at(words, 2, first.as_str()) {
+            if !is_at(words, 1, name_of(*first_format)) || !is_at(words, 2, first.as_str()) {
                 return false;
             }
-            is_at(words, 3, name_of(*second_form)) && is_at(words, 4, second.as_str())
+            is_at(words, 3, name_of(*second_format)) && is_at(words, 4, second.as_str())
         }
         Job::Show { from, path } => {
             if words.len() != 3 || !is_at(words, 0, "show") {

@@ -1,18 +1,27 @@
-//! The jobs of the program, and conversions between any two formats of model files.
+//! Conversions between any two formats of model files, apart from the formats so that they are proved beside the readers.
 //!
-//! [`job`] makes a job of the program's arguments, and [`perform`] does it, for MPS and LP. The conversions of mpslp_conversions,
-//! which are generic over the trait [`Format`](mpslp_model::Format), are re-exported here: [`canonical`], [`same_model`] and
-//! [`is_canonical`] for bytes in memory; [`load`], [`run`] and [`show`] between a source and a sink, with [`report`] for errors.
+//! Everything is generic over the traits of formats, sources and sinks, and proved once for all that meet their contracts:
+//! [`canonical`], [`same_model`] and [`is_canonical`] for bytes in memory; [`load`], [`run`] and [`show`] between a source and a
+//! sink, [`read_text`] for a source of which only the model is wanted, with [`report`] and [`line_of`] for errors. The crate knows
+//! no format and no device.
 #![tactic(auto)]
 
-mod job_end;
-mod job_runner;
+mod collecting_sink;
+mod comparing_sink;
+mod conversion;
+mod counting_sink;
+mod fault_line;
+mod faults;
+mod fed_model;
 pub mod laws;
+mod shown_source;
+mod shown_text;
+mod shown_words;
+mod source_to_sink;
 
-pub use job_runner::perform;
-pub use mpslp_command::job;
-pub use mpslp_conversions::{
-    ConvertFault, RunFault, canonical, is_canonical, load, model_of, report, run, same_model, show,
-    text_of,
-};
-pub use mpslp_jobs::{Form, Job, JobFault, Word};
+pub use conversion::{canonical, is_canonical, model_of, same_model, text_of};
+pub use fault_line::{Line, line_of, report};
+pub use faults::{ConvertFault, RunFault};
+pub use fed_model::read_text;
+pub use shown_source::show;
+pub use source_to_sink::{load, run};

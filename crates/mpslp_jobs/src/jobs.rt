@@ -1,10 +1,10 @@
 //! Jobs, and why arguments give none.
 
-use crate::word::Word;
+use crate::owned_text::OwnedText;
 
 /// A format of model files, as the command line names it: `mps` or `lp`.
 #[derive(Clone, Copy, Debug, PartialEq, Eq)]
-pub enum Form {
+pub enum FileFormat {
     Mps,
     Lp,
 }
@@ -15,22 +15,22 @@ pub enum Job {
     /// Write the canonical text of a file in a format.
     Canon {
         /// The format of the file.
-        from: Form,
+        from: FileFormat,
         /// The format of the text.
-        to: Form,
-        path: Word,
+        to: FileFormat,
+        path: OwnedText,
     },
     /// Compare two files: whether they declare the same model. At most one of them is standard input.
     Same {
-        first_form: Form,
-        first: Word,
-        second_form: Form,
-        second: Word,
+        first_format: FileFormat,
+        first: OwnedText,
+        second_format: FileFormat,
+        second: OwnedText,
     },
     /// Show the model of a file.
     Show {
-        from: Form,
-        path: Word,
+        from: FileFormat,
+        path: OwnedText,
     },
 }
 
@@ -39,11 +39,11 @@ pub enum Job {
 #[derive(Debug, Drop)]
 pub enum JobFault {
     /// Help or the version was requested: this is its text.
-    Help(Word),
+    Help(OwnedText),
     /// The arguments are not a command: this text says why.
-    Usage(Word),
+    Usage(OwnedText),
     /// This argument is not the name of a format.
-    UnknownFormat(Word),
+    UnknownFormat(OwnedText),
     /// Both files of a comparison are standard input.
     BothInputs,
     /// An allocation failed.

@@ -5,7 +5,7 @@
 #![tactic(auto)]
 
 mod jobs;
-mod word;
+mod owned_text;
 
-pub use jobs::{Form, Job, JobFault};
-pub use word::Word;
+pub use jobs::{FileFormat, Job, JobFault};
+pub use owned_text::OwnedText;

@@ -22,9 +22,9 @@ mod read_lines;
 mod text_reader;
 
 pub use errors::{LineError, read_fault};
-pub use fault_order::lesser_kind;
+pub use fault_order::lower_ranked_kind;
 pub use legal_line::{MAX_LINE_LEN, are_legal_bytes, has_legal_length};
-pub use literals::{kind_of_number_fault, lesser_fault, value_of};
+pub use literals::{kind_of_number_fault, lower_ranked_number_fault, value_of};
 pub use piece_reader::PieceReader;
 pub use read_lines::ReadLines;
 pub use text_reader::TextReader;

@@ -20,7 +20,7 @@ pub fn kind_of_number_fault(fault: NumberFault) -> FaultKind
 }
 
 /// The error that comes first, of the literals of one line.
-pub fn lesser_fault(first: NumberFault, second: NumberFault) -> NumberFault
+pub fn lower_ranked_number_fault(first: NumberFault, second: NumberFault) -> NumberFault
     ensures { result ≡ (if nat_lt (kind_rank (kind_of_number_fault second)) (kind_rank (kind_of_number_fault first)) then second else first) }
 {
     if kind_of_number_fault(second).rank() < kind_of_number_fault(first).rank() {

@@ -21,7 +21,7 @@ use Rattle.mpslp_lp_grammar.specs.AfterToken.{AfterToken, with_made, take_after_
 use Rattle.mpslp_lp_grammar.specs.FirstToken.{begin}
 use Rattle.mpslp_lp_grammar.specs.Rows.{objective_declared, first_item_declared, default_objective}
 use Rattle.mpslp_lp_grammar.specs.Items.{apply_sign}
-use Rattle.mpslp_lp_grammar.specs.TokenStep.{begin_after, take_lone, take}
+use Rattle.mpslp_lp_grammar.specs.TokenStep.{begin_after, take_after_lone_number, take}
 use Rattle.mpslp_lp_grammar.specs.Declares.{TakesToken}
 use Rattle.mpslp_decimal.specs.Decimal.{Number as Decimal}
 use Rattle.mpslp_lp_grammar.specs.declared.context.Context.{Context}
@@ -59,9 +59,9 @@ after-declarations context (refusal ∷ more) made next h = tt
 
 begun-after : (context : Context) (made : Declarations) (place : Place) → IsRefused (begin_after context made place Other)
 begun-after context made place =
-    after-declarations context (refusals_in_turn context.earlier made) made (begin place (with_made context made) Other) (begun-other place (with_made context made))
+    after-declarations context (refusals_in_turn context.builder made) made (begin place (with_made context made) Other) (begun-other place (with_made context made))
 
-lone-other : (context : Context) (owner : ItemOwner) (value : Decimal) → IsRefused (take_lone context owner value Other)
+lone-other : (context : Context) (owner : ItemOwner) (value : Decimal) → IsRefused (take_after_lone_number context owner value Other)
 lone-other context (OfObjective name) value = tt
 lone-other context (OfRow row) value = tt
 

@@ -89,12 +89,12 @@ module _ (text : List (List ℕ)) (reader : LineReader) (led : HasRead reader te
   all_read : lines_outcome text ≡ read_from reader.context reader.state (enumerate_from reader.number [])
   all_read = ap lines_outcome (sym (append-nil text)) ∙ led.decides []
 
-  pub led-ended : is_at_end reader.state ≡ true → lines_outcome text ≡ Finished reader.context.earlier
+  pub led-ended : is_at_end reader.state ≡ true → lines_outcome text ≡ Finished reader.context.builder
   led-ended ended = all_read ∙ ended-reads reader.context reader.state [] ended
 
   -- after the line of `end` the objective has a name
-  pub led-named : is_at_end reader.state ≡ true → is_some reader.context.earlier.objective ≡ true
-  led-named ended = named-at_end (enumerate_from 1 text) reader.context.earlier (led-ended ended)
+  pub led-named : is_at_end reader.state ≡ true → is_some reader.context.builder.objective ≡ true
+  led-named ended = named-at_end (enumerate_from 1 text) reader.context.builder (led-ended ended)
 
   pub led-open : is_at_end reader.state ≡ false → lines_outcome text ≡ Open
   led-open unended = all_read ∙ none-left reader.number reader.context reader.state unended
@@ -103,8 +103,8 @@ pub ends-missing : (bytes : List ℕ) (reader : LineReader) → HasRead reader (
 ends-missing bytes reader led unended = ap fault_of (led-open (lines bytes) reader led unended)
 
 pub ends-text : (bytes : List ℕ) (reader : LineReader) (answer : Result LinearModel ReadFault) → HasRead reader (lines bytes) → is_at_end reader.state ≡ true
-    → Finishes reader.context.earlier answer → ReadsLp bytes answer
-ends-text bytes reader answer led ended = finished-reads bytes reader.context.earlier answer (led-ended (lines bytes) reader led ended)
+    → Finishes reader.context.builder answer → ReadsLp bytes answer
+ends-text bytes reader answer led ended = finished-reads bytes reader.context.builder answer (led-ended (lines bytes) reader led ended)
 
 -- ---- an error of some lines
 

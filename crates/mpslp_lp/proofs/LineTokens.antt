@@ -15,15 +15,15 @@ use Rattle.mpslp_lp_grammar.specs.declared.states.State.{State}
 use Rattle.mpslp_lp_grammar.specs.AfterToken.{AfterToken, Goes, Refuses}
 use Rattle.mpslp_lp_grammar.specs.TokenStep.{take}
 use Rattle.mpslp_lp.specs.LineByLine.{take_all, token_faults, take_tokens}
-use Rattle.mpslp_lp_grammar.specs.Declares.{TakesToken, error_before, lesser_of, IsLeastError}
+use Rattle.mpslp_lp_grammar.specs.Declares.{TakesToken, error_before, lower_ranked_of, IsLeastError}
 
 -- ---- the least error, from the left
 
 -- of the first two kinds, the lesser decides
-pub least-two : (a b : FaultKind) (more : List FaultKind) → least_kind (a ∷ b ∷ more) ≡ least_kind (lesser_of (Some a) b ∷ more)
-least-two a b more = least-append (a ∷ b ∷ []) more ∙ sym (least-append (lesser_of (Some a) b ∷ []) more)
+pub least-two : (a b : FaultKind) (more : List FaultKind) → least_kind (a ∷ b ∷ more) ≡ least_kind (lower_ranked_of (Some a) b ∷ more)
+least-two a b more = least-append (a ∷ b ∷ []) more ∙ sym (least-append (lower_ranked_of (Some a) b ∷ []) more)
 
-pub least-next : (o : Option FaultKind) (b : FaultKind) (more : List FaultKind) → least_kind (cons_option o (b ∷ more)) ≡ least_kind (lesser_of o b ∷ more)
+pub least-next : (o : Option FaultKind) (b : FaultKind) (more : List FaultKind) → least_kind (cons_option o (b ∷ more)) ≡ least_kind (lower_ranked_of o b ∷ more)
 least-next None b more = refl
 least-next (Some a) b more = least-two a b more
 

@@ -26,7 +26,7 @@ after_line n taken more = elim taken as (λ _. Outcome Fault Draft) [ Goes after
 line-read : (n : ℕ) (context : Context) (state : State) (line : List ℕ) (more : List (List ℕ)) → is_at_end state ≡ false
     → read_from context state (enumerate_from n (line ∷ more)) ≡ after_line n (take_line context state line) (enumerate_from (n + 1) more)
 line-read n context state line more unended =
-    ap (λ (b : Bool). elim b as (λ _. Outcome Fault Draft) [ true ↦ Finished context.earlier | false ↦ after_line n (take_line context state line) (enumerate_from (n + 1) more) ]) unended
+    ap (λ (b : Bool). elim b as (λ _. Outcome Fault Draft) [ true ↦ Finished context.builder | false ↦ after_line n (take_line context state line) (enumerate_from (n + 1) more) ]) unended
 
 -- line numbers that are reported the same stay the same for later lines
 counted-alike : (ls : List (List ℕ)) (n m : ℕ) (context : Context) (state : State) → min n last_number ≡ min m last_number
@@ -37,8 +37,8 @@ counted-alike (line ∷ ls) n m context state h =
     by (is_at_end state) (take_line context state line) (λ after more. counted-alike ls (n + 1) (m + 1) after more next)
   where
     by : (b : Bool) (taken : AfterToken) → ((after : Context) (next : State) → read_from after next (enumerate_from (n + 1) ls) ≡ read_from after next (enumerate_from (m + 1) ls))
-        → elim b as (λ _. Outcome Fault Draft) [ true ↦ Finished context.earlier | false ↦ after_line n taken (enumerate_from (n + 1) ls) ]
-        ≡ elim b as (λ _. Outcome Fault Draft) [ true ↦ Finished context.earlier | false ↦ after_line m taken (enumerate_from (m + 1) ls) ]
+        → elim b as (λ _. Outcome Fault Draft) [ true ↦ Finished context.builder | false ↦ after_line n taken (enumerate_from (n + 1) ls) ]
+        ≡ elim b as (λ _. Outcome Fault Draft) [ true ↦ Finished context.builder | false ↦ after_line m taken (enumerate_from (m + 1) ls) ]
     by true taken later = refl
     by false (Goes after next) later = later after next
     by false (Refuses kind) later = ap (λ (k : ℕ). Refused (record { kind = kind; line = k; name = None })) h
@@ -71,9 +71,9 @@ refused-stays (line ∷ ls) more n context state fault h =
     by (is_at_end state) (take_line context state line) h (λ after next. refused-stays ls more (n + 1) after next fault)
   where
     by : (b : Bool) (taken : AfterToken)
-        → elim b as (λ _. Outcome Fault Draft) [ true ↦ Finished context.earlier | false ↦ after_line n taken (enumerate_from (n + 1) ls) ] ≡ Refused fault
+        → elim b as (λ _. Outcome Fault Draft) [ true ↦ Finished context.builder | false ↦ after_line n taken (enumerate_from (n + 1) ls) ] ≡ Refused fault
         → ((after : Context) (next : State) → read_from after next (enumerate_from (n + 1) ls) ≡ Refused fault → read_from after next (enumerate_from (n + 1) (ls ++ more)) ≡ Refused fault)
-        → elim b as (λ _. Outcome Fault Draft) [ true ↦ Finished context.earlier | false ↦ after_line n taken (enumerate_from (n + 1) (ls ++ more)) ] ≡ Refused fault
+        → elim b as (λ _. Outcome Fault Draft) [ true ↦ Finished context.builder | false ↦ after_line n taken (enumerate_from (n + 1) (ls ++ more)) ] ≡ Refused fault
     by true taken e later = cc
     by false (Goes after next) e later = later after next e
     by false (Refuses kind) e later = e

@@ -133,7 +133,7 @@ IsSoundItem (Lone value token) = is_decimal value ≡ true
 -- ---- well-formed points
 
 abbrev pub IsNamed : Context → Type 0
-IsNamed context = (is_some context.earlier.objective ≡ true) × (context.sections_seen.objective ≡ true)
+IsNamed context = (is_some context.builder.objective ≡ true) × (context.sections_seen.objective ≡ true)
 
 -- at the start nothing is declared; later the objective has its name
 abbrev pub IsSoundPoint : Point → Type 0
@@ -151,7 +151,7 @@ IsSoundPoint point = at point.place
     at InSemis = IsNamed point.context
 
 pub record IsFineGoing (earlier : Draft) (after : Point) (made : Declarations) : Type 0 where
-  pub drafts : after.context.earlier ≡ with_declarations earlier made
+  pub drafts : after.context.builder ≡ with_declarations earlier made
   pub unrefused : refusals_in_turn earlier made ≡ []
   pub legal : list_all is_lp_legal made ≡ true
   pub sound : IsSoundPoint after
@@ -169,29 +169,29 @@ IsPlain place = (context : Context) → IsNamed context → IsSoundPoint (record
 in_row-plain : (row : PartialRow) → IsSoundRow row → IsPlain (InRow row)
 in_row-plain row h context named = (named, h)
 
-goes-fine : (context : Context) (place : Place) (made : Declarations) → IsNamed context → IsPlain place → refusals_in_turn context.earlier made ≡ [] → list_all is_lp_legal made ≡ true
-    → Gives (IsFine context.earlier) (goes_to context place made)
+goes-fine : (context : Context) (place : Place) (made : Declarations) → IsNamed context → IsPlain place → refusals_in_turn context.builder made ≡ [] → list_all is_lp_legal made ≡ true
+    → Gives (IsFine context.builder) (goes_to context place made)
 goes-fine context place made named plain unrefused legal tokens sound = record {
   drafts = refl;
   unrefused = unrefused;
   legal = legal;
-  sound = plain (record context { earlier = with_declarations context.earlier made }) (named-after made context.earlier named.0, named.1);
+  sound = plain (record context { builder = with_declarations context.builder made }) (named-after made context.builder named.0, named.1);
 }
 
-nothing-fine : (context : Context) (place : Place) → IsNamed context → IsPlain place → Gives (IsFine context.earlier) (goes_to context place [])
+nothing-fine : (context : Context) (place : Place) → IsNamed context → IsPlain place → Gives (IsFine context.builder) (goes_to context place [])
 nothing-fine context place named plain = goes-fine context place [] named plain refl refl
 
 unless_refused-fine : (context : Context) (token : TerminalAt) (refusals : List BuildFault) (place : Place) (made : Declarations) → IsNamed context → IsPlain place
-    → (refusals ≡ [] → refusals_in_turn context.earlier made ≡ []) → list_all is_lp_legal made ≡ true → Gives (IsFine context.earlier) (unless_refused context token refusals place made)
+    → (refusals ≡ [] → refusals_in_turn context.builder made ≡ []) → list_all is_lp_legal made ≡ true → Gives (IsFine context.builder) (unless_refused context token refusals place made)
 unless_refused-fine context token [] place made named plain unrefused legal = goes-fine context place made named plain (unrefused refl) legal
 unless_refused-fine context token (refusal ∷ more) place made named plain unrefused legal = λ tokens sound. tt
 
 declares-fine : (context : Context) (token : TerminalAt) (place : Place) (made : Declarations) → IsNamed context → IsPlain place → list_all is_lp_legal made ≡ true
-    → Gives (IsFine context.earlier) (declares context token place made)
+    → Gives (IsFine context.builder) (declares context token place made)
 declares-fine context token place made named plain legal =
-    unless_refused-fine context token (refusals_in_turn context.earlier made) place made named plain (λ e. e) legal
+    unless_refused-fine context token (refusals_in_turn context.builder made) place made named plain (λ e. e) legal
 
-either-fine : (context : Context) (b : Bool) (r s : PhraseRule Follows) → Gives (IsFine context.earlier) r → Gives (IsFine context.earlier) s → Gives (IsFine context.earlier) (if b then r else s)
+either-fine : (context : Context) (b : Bool) (r s : PhraseRule Follows) → Gives (IsFine context.builder) r → Gives (IsFine context.builder) s → Gives (IsFine context.builder) (if b then r else s)
 either-fine context true r s h k = h
 either-fine context false r s h k = k
 
@@ -236,12 +236,12 @@ term-legal row term h =
     both_so (is_lp_name term.0) (is_decimal term.1 && true) (first_so (is_lp_name term.0) (is_decimal term.1) h)
     (both_so (is_decimal term.1) true (second_so (is_lp_name term.0) (is_decimal term.1) h) refl)
 
-objective_item-fine : (context : Context) (name : List ℕ) (item : Item) → IsNamed context → IsSoundItem item → Gives (IsFine context.earlier) (objective_item context name item)
+objective_item-fine : (context : Context) (name : List ℕ) (item : Item) → IsNamed context → IsSoundItem item → Gives (IsFine context.builder) (objective_item context name item)
 objective_item-fine context name (Term value column token) named h =
     declares-fine context token (InObjective name) (term_declared name (column, value)) named (λ b n. n) (term-legal name (column, value) (both_so (is_lp_name column) (is_decimal value) h.1 h.0))
 objective_item-fine context name (Lone value token) named h = by token.line token.terminal
   where
-    by : (line : ℕ) (terminal : Terminal) → Gives (IsFine context.earlier) (objective_item context name (Lone value (record { line = line; terminal = terminal })))
+    by : (line : ℕ) (terminal : Terminal) → Gives (IsFine context.builder) (objective_item context name (Lone value (record { line = line; terminal = terminal })))
     by line (Sign sign) = declares-fine context (record { line = line; terminal = Sign sign }) (InObjective name) (declare_constant value ∷ []) named (λ b n. n) (both_so (is_decimal value) true h refl)
     by line (Opens word) = declares-fine context (record { line = line; terminal = Opens word }) (InObjective name) (declare_constant value ∷ []) named (λ b n. n) (both_so (is_decimal value) true h refl)
     by line _ = λ tokens sound. tt
@@ -255,7 +255,7 @@ terms-legal row (term ∷ terms) h =
     ∙ both_so (list_all is_lp_legal (term_declared row term)) (list_all is_lp_legal (flat_map (term_declared row) terms))
     (term-legal row term (first_so (is_sound_term term) (list_all is_sound_term terms) h)) (terms-legal row terms (second_so (is_sound_term term) (list_all is_sound_term terms) h))
 
-row_item-fine : (context : Context) (row : PartialRow) (item : Item) → IsNamed context → IsSoundRow row → IsSoundItem item → Gives (IsFine context.earlier) (row_item context row item)
+row_item-fine : (context : Context) (row : PartialRow) (item : Item) → IsNamed context → IsSoundRow row → IsSoundItem item → Gives (IsFine context.builder) (row_item context row item)
 row_item-fine context row (Term value column token) named r h =
     let more : PartialRow = record row { terms = row.terms ++ (column, value) ∷ [] } in
     either-fine context (list_any (λ term. same_bytes column term.0) row.terms) _ _ (λ tokens sound. tt)
@@ -268,7 +268,7 @@ row_item-fine context row (Term value column token) named r h =
     })))
 row_item-fine context row (Lone value token) named r h = by token.line token.terminal
   where
-    by : (line : ℕ) (terminal : Terminal) → Gives (IsFine context.earlier) (row_item context row (Lone value (record { line = line; terminal = terminal })))
+    by : (line : ℕ) (terminal : Terminal) → Gives (IsFine context.builder) (row_item context row (Lone value (record { line = line; terminal = terminal })))
     by line (Sign sign) = λ tokens sound. tt
     by line (Compares relation) = λ tokens sound. tt
     by line _ = λ tokens sound. tt
@@ -284,41 +284,41 @@ sense-gives context (token ∷ tokens) sound = by token.line token.terminal
     by line (Compares relation) = tt
     by line _ = tt
 
-row_first-fine : (context : Context) (row : PartialRow) (token : TerminalAt) → IsNamed context → IsSoundRow row → IsSoundToken token → Gives (IsFine context.earlier) (row_first context row token)
+row_first-fine : (context : Context) (row : PartialRow) (token : TerminalAt) → IsNamed context → IsSoundRow row → IsSoundToken token → Gives (IsFine context.builder) (row_first context row token)
 row_first-fine context row token named r s =
-    then-gives IsSoundItem (IsFine context.earlier) (item_from context token) (row_item context row) (item-gives context token.line token.terminal s) (λ item h. row_item-fine context row item named r h)
+    then-gives IsSoundItem (IsFine context.builder) (item_from context token) (row_item context row) (item-gives context token.line token.terminal s) (λ item h. row_item-fine context row item named r h)
 
-row_left-fine : (context : Context) (name : List ℕ) (limit : Limit) → IsNamed context → is_lp_name name ≡ true → is_given limit ≡ true → Gives (IsFine context.earlier) (row_after_left context name limit)
+row_left-fine : (context : Context) (name : List ℕ) (limit : Limit) → IsNamed context → is_lp_name name ≡ true → is_given limit ≡ true → Gives (IsFine context.builder) (row_after_left context name limit)
 row_left-fine context name limit named h g =
-    then-gives (λ (relation : Relation). Unit {0}) (IsFine context.earlier) (next_relation context) (λ relation. next >>= row_first context (without_terms name (Some (limit, relation)))) (sense-gives context)
-    (λ relation u. then-gives IsSoundToken (IsFine context.earlier) next (row_first context (without_terms name (Some (limit, relation)))) next-gives
+    then-gives (λ (relation : Relation). Unit {0}) (IsFine context.builder) (next_relation context) (λ relation. next >>= row_first context (without_terms name (Some (limit, relation)))) (sense-gives context)
+    (λ relation u. then-gives IsSoundToken (IsFine context.builder) next (row_first context (without_terms name (Some (limit, relation)))) next-gives
     (λ token s. row_first-fine context (without_terms name (Some (limit, relation))) token named (without-sound name (Some (limit, relation)) h g) s))
 
-row_number-fine : (context : Context) (name : List ℕ) (item : Item) → IsNamed context → is_lp_name name ≡ true → IsSoundItem item → Gives (IsFine context.earlier) (row_number context name item)
+row_number-fine : (context : Context) (name : List ℕ) (item : Item) → IsNamed context → is_lp_name name ≡ true → IsSoundItem item → Gives (IsFine context.builder) (row_number context name item)
 row_number-fine context name (Term value column token) named h s = row_item-fine context (without_terms name None) (Term value column token) named (without-sound name None h refl) s
 row_number-fine context name (Lone value token) named h s = by token.line token.terminal
   where
-    by : (line : ℕ) (terminal : Terminal) → Gives (IsFine context.earlier) (row_number context name (Lone value (record { line = line; terminal = terminal })))
+    by : (line : ℕ) (terminal : Terminal) → Gives (IsFine context.builder) (row_number context name (Lone value (record { line = line; terminal = terminal })))
     by line (Compares relation) = row_left-fine context name (limit_of value) named h (limit-given value s)
     by line (Sign sign) = λ tokens sound. tt
     by line _ = λ tokens sound. tt
 
 default_row-name : (context : Context) → is_lp_name (default_row context) ≡ true
 default_row-name context =
-    numbered-name (min (length context.earlier.rows + 1) (2 ^ 64 - 1)) (omega (arith, min-le_right (length context.earlier.rows + 1) (2 ^ 64 - 1)))
+    numbered-name (min (length context.builder.rows + 1) (2 ^ 64 - 1)) (omega (arith, min-le_right (length context.builder.rows + 1) (2 ^ 64 - 1)))
 
-row_signed-fine : (context : Context) (name : List ℕ) (sign : SignOf) (second : TerminalAt) → IsNamed context → is_lp_name name ≡ true → IsSoundToken second → Gives (IsFine context.earlier) (row_signed context name sign second)
+row_signed-fine : (context : Context) (name : List ℕ) (sign : SignOf) (second : TerminalAt) → IsNamed context → is_lp_name name ≡ true → IsSoundToken second → Gives (IsFine context.builder) (row_signed context name sign second)
 row_signed-fine context name sign second named h s = by second.line second.terminal s
   where
-    items : Gives (IsFine context.earlier) (signed_item context sign >>= row_item context (without_terms name None))
-    items = then-gives IsSoundItem (IsFine context.earlier) (signed_item context sign) (row_item context (without_terms name None)) (λ tokens sound. signed_item-gives context tokens sign sound)
+    items : Gives (IsFine context.builder) (signed_item context sign >>= row_item context (without_terms name None))
+    items = then-gives IsSoundItem (IsFine context.builder) (signed_item context sign) (row_item context (without_terms name None)) (λ tokens sound. signed_item-gives context tokens sign sound)
         (λ item i. row_item-fine context (without_terms name None) item named (without-sound name None h refl) i)
 
-    by : (line : ℕ) (terminal : Terminal) → IsSoundTerminal terminal → Gives (IsFine context.earlier) (row_signed context name sign (record { line = line; terminal = terminal }))
-    by line Infinity s = then-gives IsSoundToken (IsFine context.earlier) next (λ word. row_after_left context name (infinity sign)) next-gives (λ word w. row_left-fine context name (infinity sign) named h (infinity-given sign))
+    by : (line : ℕ) (terminal : Terminal) → IsSoundTerminal terminal → Gives (IsFine context.builder) (row_signed context name sign (record { line = line; terminal = terminal }))
+    by line Infinity s = then-gives IsSoundToken (IsFine context.builder) next (λ word. row_after_left context name (infinity sign)) next-gives (λ word w. row_left-fine context name (infinity sign) named h (infinity-given sign))
     by line (Number value) s =
-        then-gives IsSoundToken (IsFine context.earlier) next (λ number. number_item sign value >>= row_number context name) next-gives
-        (λ number w. then-gives IsSoundItem (IsFine context.earlier) (number_item sign value) (row_number context name) (number-gives sign value s) (λ item i. row_number-fine context name item named h i))
+        then-gives IsSoundToken (IsFine context.builder) next (λ number. number_item sign value >>= row_number context name) next-gives
+        (λ number w. then-gives IsSoundItem (IsFine context.builder) (number_item sign value) (row_number context name) (number-gives sign value s) (λ item i. row_number-fine context name item named h i))
     by line (Opens word) s = items
     by line (Name column) s = items
     by line (Sign more) s = items
@@ -328,14 +328,14 @@ row_signed-fine context name sign second named h s = by second.line second.termi
     by line Other s = items
 
 row_from-fine : (context : Context) (name : List ℕ) (line : ℕ) (terminal : Terminal) → IsNamed context → is_lp_name name ≡ true → IsSoundTerminal terminal
-    → Gives (IsFine context.earlier) (row_from context name (record { line = line; terminal = terminal }))
+    → Gives (IsFine context.builder) (row_from context name (record { line = line; terminal = terminal }))
 row_from-fine context name line Infinity named h s = row_left-fine context name PlusInf named h refl
 row_from-fine context name line (Number value) named h s =
-    then-gives IsSoundItem (IsFine context.earlier) (number_item Plus value) (row_number context name) (number-gives Plus value s) (λ item i. row_number-fine context name item named h i)
+    then-gives IsSoundItem (IsFine context.builder) (number_item Plus value) (row_number context name) (number-gives Plus value s) (λ item i. row_number-fine context name item named h i)
 row_from-fine context name line (Name column) named h s =
     row_item-fine context (without_terms name None) (Term one column (record { line = line; terminal = Name column })) named (without-sound name None h refl) (refl, s)
 row_from-fine context name line (Sign sign) named h s =
-    then-gives IsSoundToken (IsFine context.earlier) ahead (row_signed context name sign) ahead-gives (λ second t. row_signed-fine context name sign second named h t)
+    then-gives IsSoundToken (IsFine context.builder) ahead (row_signed context name sign) ahead-gives (λ second t. row_signed-fine context name sign second named h t)
 row_from-fine context name line _ named h s = λ tokens sound. tt
 
 colon-gives : Gives (λ (labelled : Bool). Unit {0}) colon
@@ -346,15 +346,15 @@ colon-gives (token ∷ tokens) sound = by token.line token.terminal
     by line Colon = tt
     by line _ = tt
 
-row_named-fine : (context : Context) (name : List ℕ) (labelled : Bool) → IsNamed context → is_lp_name name ≡ true → Gives (IsFine context.earlier) (row_named context name labelled)
+row_named-fine : (context : Context) (name : List ℕ) (labelled : Bool) → IsNamed context → is_lp_name name ≡ true → Gives (IsFine context.builder) (row_named context name labelled)
 row_named-fine context name labelled named h =
     let row : PartialRow = record { name = default_row context; left = None; terms = (name, one) ∷ [] } in
     either-fine context labelled _ _
-    (then-gives IsSoundToken (IsFine context.earlier) next (row_from context name) next-gives (λ token s. row_from-fine context name token.line token.terminal named h s))
+    (then-gives IsSoundToken (IsFine context.builder) next (row_from context name) next-gives (λ token s. row_from-fine context name token.line token.terminal named h s))
     (nothing-fine context (InRow row) named (in_row-plain row (record { name = default_row-name context; left = refl; terms = both_so (is_lp_name name && is_decimal one) true (both_so (is_lp_name name) true h refl) refl })))
 
-row-fine : (context : Context) (line : ℕ) (terminal : Terminal) → IsNamed context → IsSoundTerminal terminal → Gives (IsFine context.earlier) (row context (record { line = line; terminal = terminal }))
-row-fine context line (Name name) named s = then-gives (λ (labelled : Bool). Unit {0}) (IsFine context.earlier) colon (row_named context name) colon-gives (λ labelled u. row_named-fine context name labelled named s)
+row-fine : (context : Context) (line : ℕ) (terminal : Terminal) → IsNamed context → IsSoundTerminal terminal → Gives (IsFine context.builder) (row context (record { line = line; terminal = terminal }))
+row-fine context line (Name name) named s = then-gives (λ (labelled : Bool). Unit {0}) (IsFine context.builder) colon (row_named context name) colon-gives (λ labelled u. row_named-fine context name labelled named s)
 row-fine context line (Opens word) named s = row_from-fine context (default_row context) line (Opens word) named (default_row-name context) s
 row-fine context line (Number value) named s = row_from-fine context (default_row context) line (Number value) named (default_row-name context) s
 row-fine context line (Sign sign) named s = row_from-fine context (default_row context) line (Sign sign) named (default_row-name context) s
@@ -400,7 +400,7 @@ upper-given : (o : Option Limit) → IsGiven o → is_given (unwrap_or o PlusInf
 upper-given None h = refl
 upper-given (Some limit) h = h
 
-row_whole-fine : (context : Context) (row : PartialRow) (relation : Relation) (right : Side) → IsNamed context → IsSoundRow row → IsSoundSide right → Gives (IsFine context.earlier) (row_whole context row relation right)
+row_whole-fine : (context : Context) (row : PartialRow) (relation : Relation) (right : Side) → IsNamed context → IsSoundRow row → IsSoundSide right → Gives (IsFine context.builder) (row_whole context row relation right)
 row_whole-fine context row relation right named r h =
     let limits = row_limits row.left relation right.limit in
     let given = limits-legal row.left relation right.limit r.left h in
@@ -412,10 +412,10 @@ row_whole-fine context row relation right named r h =
     (both_so (is_lp_name row.name) (is_given lower && is_given upper) r.name (both_so (is_given lower) (is_given upper) (lower-given limits.lower given.0) (upper-given limits.upper given.1)))
     (terms-legal row.name row.terms r.terms))
 
-row_end-fine : (context : Context) (row : PartialRow) (relation : Relation) (token : TerminalAt) → IsNamed context → IsSoundRow row → Gives (IsFine context.earlier) (row_end context row relation token)
+row_end-fine : (context : Context) (row : PartialRow) (relation : Relation) (token : TerminalAt) → IsNamed context → IsSoundRow row → Gives (IsFine context.builder) (row_end context row relation token)
 row_end-fine context row relation token named r =
     either-fine context (fits_left row.left relation) _ _
-    (then-gives IsSoundSide (IsFine context.earlier) (side context) (row_whole context row relation) (side-gives context) (λ right h. row_whole-fine context row relation right named r h))
+    (then-gives IsSoundSide (IsFine context.builder) (side context) (row_whole context row relation) (side-gives context) (λ right h. row_whole-fine context row relation right named r h))
     (λ tokens sound. tt)
 
 -- ---- bounds
@@ -428,50 +428,50 @@ sides-legal column (Some l) (Some u) h k = both_so (is_given l) (is_given u && t
 
 -- declarations that are not rejected come before, and the place has no further requirement
 bounded-fine : (context : Context) (front : Declarations) (column : List ℕ) (limits : Limits) (last : TerminalAt) (place : Place) → IsNamed context → IsPlain place
-    → refusals_in_turn context.earlier front ≡ [] → list_all is_lp_legal front ≡ true → AreGiven limits → Gives (IsFine context.earlier) (bound_sides context front column limits last place)
+    → refusals_in_turn context.builder front ≡ [] → list_all is_lp_legal front ≡ true → AreGiven limits → Gives (IsFine context.builder) (bound_sides context front column limits last place)
 bounded-fine context front column limits last place named plain unrefused legal given =
     let sides = bounds_declared column limits.lower limits.upper in
-    let middle = with_declarations context.earlier front in
+    let middle = with_declarations context.builder front in
     unless_refused-fine context last (bounds_refusals middle column limits.lower limits.upper) place (front ++ sides) named plain
-    (λ e. refusals_in_turn-append front sides context.earlier
-    ∙ join_none (refusals_in_turn context.earlier front) (refusals_in_turn middle sides) unrefused (bounds-in_turn middle column limits.lower limits.upper e))
+    (λ e. refusals_in_turn-append front sides context.builder
+    ∙ join_none (refusals_in_turn context.builder front) (refusals_in_turn middle sides) unrefused (bounds-in_turn middle column limits.lower limits.upper e))
     (list_all-append is_lp_legal front sides ∙ both_so (list_all is_lp_legal front) (list_all is_lp_legal sides) legal (sides-legal column limits.lower limits.upper given.0 given.1))
 
 column-legal : (column : List ℕ) → is_lp_name column ≡ true → list_all is_lp_legal (declare_column column ∷ []) ≡ true
 column-legal column h = both_so (is_lp_name column) true h refl
 
-bound_after-fine : (context : Context) (column : List ℕ) (token : TerminalAt) → IsNamed context → is_lp_name column ≡ true → Gives (IsFine context.earlier) (bound_after context column token)
+bound_after-fine : (context : Context) (column : List ℕ) (token : TerminalAt) → IsNamed context → is_lp_name column ≡ true → Gives (IsFine context.builder) (bound_after context column token)
 bound_after-fine context column token named h = by token.line token.terminal
   where
-    by : (line : ℕ) (terminal : Terminal) → Gives (IsFine context.earlier) (bound_after context column (record { line = line; terminal = terminal }))
+    by : (line : ℕ) (terminal : Terminal) → Gives (IsFine context.builder) (bound_after context column (record { line = line; terminal = terminal }))
     by line Free = bounded-fine context (declare_column column ∷ []) column no_limits (record { line = line; terminal = Free }) (InBounds None) named (λ b n. n) refl (column-legal column h) (refl, refl)
     by line (Compares relation) =
-        then-gives IsSoundSide (IsFine context.earlier) (side context) (bound_right context (declare_column column ∷ []) column relation) (side-gives context)
+        then-gives IsSoundSide (IsFine context.builder) (side context) (bound_right context (declare_column column ∷ []) column relation) (side-gives context)
         (λ right s. bounded-fine context (declare_column column ∷ []) column (limits_by relation right.limit) right.last (InBounds None) named (λ b n. n) refl (column-legal column h) (limits_by-given relation right.limit s))
     by line _ = λ tokens sound. tt
 
-bound_column-fine : (context : Context) (limit : Limit) (relation : Relation) (token : TerminalAt) → IsNamed context → is_given limit ≡ true → IsSoundToken token → Gives (IsFine context.earlier) (bound_column context limit relation token)
+bound_column-fine : (context : Context) (limit : Limit) (relation : Relation) (token : TerminalAt) → IsNamed context → is_given limit ≡ true → IsSoundToken token → Gives (IsFine context.builder) (bound_column context limit relation token)
 bound_column-fine context limit relation token named g s = by token.line token.terminal s
   where
-    by : (line : ℕ) (terminal : Terminal) → IsSoundTerminal terminal → Gives (IsFine context.earlier) (bound_column context limit relation (record { line = line; terminal = terminal }))
+    by : (line : ℕ) (terminal : Terminal) → IsSoundTerminal terminal → Gives (IsFine context.builder) (bound_column context limit relation (record { line = line; terminal = terminal }))
     by line (Name column) h =
         bounded-fine context (declare_column column ∷ []) column (limits_by (flip relation) limit) (record { line = line; terminal = Name column }) (InBounds (Some (column, relation)))
         named (λ b n. n) refl (column-legal column h) (limits_by-given (flip relation) limit g)
     by line _ h = λ tokens sound. tt
 
-bound_left-fine : (context : Context) (left : Side) → IsNamed context → IsSoundSide left → Gives (IsFine context.earlier) (bound_left context left)
+bound_left-fine : (context : Context) (left : Side) → IsNamed context → IsSoundSide left → Gives (IsFine context.builder) (bound_left context left)
 bound_left-fine context left named h =
-    then-gives (λ (relation : Relation). Unit {0}) (IsFine context.earlier) (next_relation context) (λ relation. next >>= bound_column context left.limit relation) (sense-gives context)
-    (λ relation u. then-gives IsSoundToken (IsFine context.earlier) next (bound_column context left.limit relation) next-gives (λ token s. bound_column-fine context left.limit relation token named h s))
+    then-gives (λ (relation : Relation). Unit {0}) (IsFine context.builder) (next_relation context) (λ relation. next >>= bound_column context left.limit relation) (sense-gives context)
+    (λ relation u. then-gives IsSoundToken (IsFine context.builder) next (bound_column context left.limit relation) next-gives (λ token s. bound_column-fine context left.limit relation token named h s))
 
-bound-fine : (context : Context) (line : ℕ) (terminal : Terminal) → IsNamed context → IsSoundTerminal terminal → Gives (IsFine context.earlier) (bound context (record { line = line; terminal = terminal }))
+bound-fine : (context : Context) (line : ℕ) (terminal : Terminal) → IsNamed context → IsSoundTerminal terminal → Gives (IsFine context.builder) (bound context (record { line = line; terminal = terminal }))
 bound-fine context line terminal named s = by terminal s
   where
-    sided : (t : Terminal) → IsSoundTerminal t → Gives (IsFine context.earlier) (side_from context (record { line = line; terminal = t }) >>= bound_left context)
-    sided t s = then-gives IsSoundSide (IsFine context.earlier) (side_from context (record { line = line; terminal = t })) (bound_left context) (side_from-gives context (record { line = line; terminal = t }) s) (λ left h. bound_left-fine context left named h)
+    sided : (t : Terminal) → IsSoundTerminal t → Gives (IsFine context.builder) (side_from context (record { line = line; terminal = t }) >>= bound_left context)
+    sided t s = then-gives IsSoundSide (IsFine context.builder) (side_from context (record { line = line; terminal = t })) (bound_left context) (side_from-gives context (record { line = line; terminal = t }) s) (λ left h. bound_left-fine context left named h)
 
-    by : (t : Terminal) → IsSoundTerminal t → Gives (IsFine context.earlier) (bound context (record { line = line; terminal = t }))
-    by (Name column) s = then-gives IsSoundToken (IsFine context.earlier) next (bound_after context column) next-gives (λ token h. bound_after-fine context column token named s)
+    by : (t : Terminal) → IsSoundTerminal t → Gives (IsFine context.builder) (bound context (record { line = line; terminal = t }))
+    by (Name column) s = then-gives IsSoundToken (IsFine context.builder) next (bound_after context column) next-gives (λ token h. bound_after-fine context column token named s)
     by (Opens word) s = sided (Opens word) s
     by (Number value) s = sided (Number value) s
     by (Sign sign) s = sided (Sign sign) s
@@ -481,34 +481,34 @@ bound-fine context line terminal named s = by terminal s
     by Free s = sided Free s
     by Other s = sided Other s
 
-second_side-fine : (context : Context) (left : Option (List ℕ × Relation)) (relation : Relation) (token : TerminalAt) → IsNamed context → Gives (IsFine context.earlier) (second_side context left relation token)
+second_side-fine : (context : Context) (left : Option (List ℕ × Relation)) (relation : Relation) (token : TerminalAt) → IsNamed context → Gives (IsFine context.builder) (second_side context left relation token)
 second_side-fine context None relation token named = λ tokens sound. tt
 second_side-fine context (Some left) relation token named =
     either-fine context (fits_second left.1 relation) _ _
-    (then-gives IsSoundSide (IsFine context.earlier) (side context) (bound_right context [] left.0 relation) (side-gives context)
+    (then-gives IsSoundSide (IsFine context.builder) (side context) (bound_right context [] left.0 relation) (side-gives context)
     (λ right s. bounded-fine context [] left.0 (limits_by relation right.limit) right.last (InBounds None) named (λ b n. n) refl refl (limits_by-given relation right.limit s)))
     (λ tokens sound. tt)
 
 -- ---- phrases
 
 listed-fine : (place : Place) (kind_declared : List ℕ → Declaration) (context : Context) (line : ℕ) (terminal : Terminal) → IsNamed context → IsPlain place → ((name : List ℕ) → is_lp_legal (kind_declared name) ≡ true)
-    → IsSoundTerminal terminal → Gives (IsFine context.earlier) (name_in_section place kind_declared context (record { line = line; terminal = terminal }))
+    → IsSoundTerminal terminal → Gives (IsFine context.builder) (name_in_section place kind_declared context (record { line = line; terminal = terminal }))
 listed-fine place kind_declared context line (Name column) named plain legal s =
     declares-fine context (record { line = line; terminal = Name column }) place (declare_column column ∷ kind_declared column ∷ []) named plain
     (both_so (is_lp_name column) (is_lp_legal (kind_declared column) && true) s (both_so (is_lp_legal (kind_declared column)) true (legal column) refl))
 listed-fine place kind_declared context line _ named plain legal s = λ tokens sound. tt
 
 phrase-fine : (place : Place) (context : Context) (line : ℕ) (terminal : Terminal) → IsSoundPoint (record { place = place; context = context }) → IsSoundTerminal terminal
-    → Gives (IsFine context.earlier) (phrase place context (record { line = line; terminal = terminal }))
+    → Gives (IsFine context.builder) (phrase place context (record { line = line; terminal = terminal }))
 phrase-fine AtStart context line terminal point s = λ tokens sound. tt
 phrase-fine (BeforeItems name) context line terminal named s =
-    then-gives IsSoundItem (IsFine context.earlier) (item_from context (record { line = line; terminal = terminal })) (objective_item context name) (item-gives context line terminal s) (λ item i. objective_item-fine context name item named i)
+    then-gives IsSoundItem (IsFine context.builder) (item_from context (record { line = line; terminal = terminal })) (objective_item context name) (item-gives context line terminal s) (λ item i. objective_item-fine context name item named i)
 phrase-fine (InObjective name) context line (Sign sign) named s =
-    then-gives IsSoundItem (IsFine context.earlier) (signed_item context sign) (objective_item context name) (λ tokens sound. signed_item-gives context tokens sign sound) (λ item i. objective_item-fine context name item named i)
+    then-gives IsSoundItem (IsFine context.builder) (signed_item context sign) (objective_item context name) (λ tokens sound. signed_item-gives context tokens sign sound) (λ item i. objective_item-fine context name item named i)
 phrase-fine (InObjective name) context line _ named s = λ tokens sound. tt
 phrase-fine BetweenRows context line terminal named s = row-fine context line terminal named s
 phrase-fine (InRow row) context line (Sign sign) point s =
-    then-gives IsSoundItem (IsFine context.earlier) (signed_item context sign) (row_item context row) (λ tokens sound. signed_item-gives context tokens sign sound) (λ item i. row_item-fine context row item point.0 point.1 i)
+    then-gives IsSoundItem (IsFine context.builder) (signed_item context sign) (row_item context row) (λ tokens sound. signed_item-gives context tokens sign sound) (λ item i. row_item-fine context row item point.0 point.1 i)
 phrase-fine (InRow row) context line (Compares relation) point s = row_end-fine context row relation (record { line = line; terminal = Compares relation }) point.0 point.1
 phrase-fine (InRow row) context line _ point s = λ tokens sound. tt
 phrase-fine (InBounds left) context line (Compares relation) named s = second_side-fine context left relation (record { line = line; terminal = Compares relation }) named
@@ -526,11 +526,11 @@ phrase-fine InSemis context line terminal named s = listed-fine InSemis declare_
 
 -- ---- sections
 
-line_end-fine : (context : Context) (line : ℕ) → IsNamed context → Gives (IsFine context.earlier) (line_end context line)
+line_end-fine : (context : Context) (line : ℕ) → IsNamed context → Gives (IsFine context.builder) (line_end context line)
 line_end-fine context line named [] sound = (refl, named.0)
 line_end-fine context line named (token ∷ tokens) sound = by (token.line == line)
   where
-    by : (b : Bool) → Holds (IsFine context.earlier) (if b then refuses context token BadToken tokens else Reads (Ends context.earlier) 0)
+    by : (b : Bool) → Holds (IsFine context.builder) (if b then refuses context token BadToken tokens else Reads (Ends context.builder) 0)
     by true = tt
     by false = (refl, named.0)
 
@@ -539,22 +539,22 @@ sections_seen-plain To b n = n
 sections_seen-plain That b n = n
 sections_seen-plain Continuous b n = n
 
-last_word-fine : (context : Context) (wanted : LastWord) (token : TerminalAt) → IsNamed context → Gives (IsFine context.earlier) (last_word context wanted token)
+last_word-fine : (context : Context) (wanted : LastWord) (token : TerminalAt) → IsNamed context → Gives (IsFine context.builder) (last_word context wanted token)
 last_word-fine context wanted token named = by token.line token.terminal
   where
-    by : (line : ℕ) (terminal : Terminal) → Gives (IsFine context.earlier) (last_word context wanted (record { line = line; terminal = terminal }))
+    by : (line : ℕ) (terminal : Terminal) → Gives (IsFine context.builder) (last_word context wanted (record { line = line; terminal = terminal }))
     by line (Name word) = either-fine context (is_last_word wanted word) _ _ (nothing-fine context (opened_by wanted) named (sections_seen-plain wanted)) (λ tokens sound. tt)
     by line _ = λ tokens sound. tt
 
-next_word-fine : (context : Context) (wanted : LastWord) → IsNamed context → Gives (IsFine context.earlier) (next >>= last_word context wanted)
-next_word-fine context wanted named = then-gives IsSoundToken (IsFine context.earlier) next (last_word context wanted) next-gives (λ word w. last_word-fine context wanted word named)
+next_word-fine : (context : Context) (wanted : LastWord) → IsNamed context → Gives (IsFine context.builder) (next >>= last_word context wanted)
+next_word-fine context wanted named = then-gives IsSoundToken (IsFine context.builder) next (last_word context wanted) next-gives (λ word w. last_word-fine context wanted word named)
 
-semi-fine : (context : Context) (token : TerminalAt) → IsNamed context → Gives (IsFine context.earlier) (semi_from context token)
+semi-fine : (context : Context) (token : TerminalAt) → IsNamed context → Gives (IsFine context.builder) (semi_from context token)
 semi-fine context token named = by token.line token.terminal
   where
-    by : (line : ℕ) (terminal : Terminal) → Gives (IsFine context.earlier) (semi_from context (record { line = line; terminal = terminal }))
+    by : (line : ℕ) (terminal : Terminal) → Gives (IsFine context.builder) (semi_from context (record { line = line; terminal = terminal }))
     by line (Sign Minus) =
-        then-gives IsSoundToken (IsFine context.earlier) next (λ dash. next >>= last_word context Continuous) next-gives
+        then-gives IsSoundToken (IsFine context.builder) next (λ dash. next >>= last_word context Continuous) next-gives
         (λ dash d. next_word-fine context Continuous named)
     by line _ = nothing-fine context InSemis named (λ b n. n)
 
@@ -564,7 +564,7 @@ IsLater words.Minimize = ⊥
 IsLater words.Maximize = ⊥
 IsLater _ = Unit {0}
 
-start-fine : (context : Context) (token : TerminalAt) (word : SectionWord) → IsLater word → IsNamed context → Gives (IsFine context.earlier) (section_start context token word)
+start-fine : (context : Context) (token : TerminalAt) (word : SectionWord) → IsLater word → IsNamed context → Gives (IsFine context.builder) (section_start context token word)
 start-fine context token words.Minimize later named = absurd later
 start-fine context token words.Maximize later named = absurd later
 start-fine context token words.Rows later named = nothing-fine context BetweenRows named (λ b n. n)
@@ -573,14 +573,14 @@ start-fine context token words.Such later named = next_word-fine context That na
 start-fine context token words.Bounds later named = nothing-fine context (InBounds None) named (λ b n. n)
 start-fine context token words.Generals later named = nothing-fine context InGenerals named (λ b n. n)
 start-fine context token words.Binaries later named = nothing-fine context InBinaries named (λ b n. n)
-start-fine context token words.Semi later named = then-gives IsSoundToken (IsFine context.earlier) ahead (semi_from context) ahead-gives (λ second s. semi-fine context second named)
+start-fine context token words.Semi later named = then-gives IsSoundToken (IsFine context.builder) ahead (semi_from context) ahead-gives (λ second s. semi-fine context second named)
 start-fine context token words.Semis later named = nothing-fine context InSemis named (λ b n. n)
 start-fine context token words.End later named = line_end-fine context token.line named
 
-later-fine : (context : Context) (token : TerminalAt) (word : SectionWord) → IsLater word → IsNamed (record context { sections_seen = with_section context.sections_seen (section_of word) }) → Gives (IsFine context.earlier) (section_from context token word)
+later-fine : (context : Context) (token : TerminalAt) (word : SectionWord) → IsLater word → IsNamed (record context { sections_seen = with_section context.sections_seen (section_of word) }) → Gives (IsFine context.builder) (section_from context token word)
 later-fine context token word later named = by (section_fault context.sections_seen (section_of word))
   where
-    by : (o : Option FaultKind) → Gives (IsFine context.earlier) (elim o as (λ _. PhraseRule Follows) [
+    by : (o : Option FaultKind) → Gives (IsFine context.builder) (elim o as (λ _. PhraseRule Follows) [
       | Some kind ↦ fails token kind
       | None ↦ section_start (record context { sections_seen = with_section context.sections_seen (section_of word) }) token word
     ])
@@ -588,7 +588,7 @@ later-fine context token word later named = by (section_fault context.sections_s
     by None = start-fine (record context { sections_seen = with_section context.sections_seen (section_of word) }) token word later named
 
 -- after the objective was opened
-section-fine : (context : Context) (token : TerminalAt) (word : SectionWord) → IsNamed context → Gives (IsFine context.earlier) (section_from context token word)
+section-fine : (context : Context) (token : TerminalAt) (word : SectionWord) → IsNamed context → Gives (IsFine context.builder) (section_from context token word)
 section-fine context token words.Minimize named = rw (named.1, section_from) (λ tokens sound. tt)
 section-fine context token words.Maximize named = rw (named.1, section_from) (λ tokens sound. tt)
 section-fine context token words.Rows named = later-fine context token words.Rows tt named
@@ -604,7 +604,7 @@ section-fine context token words.End named = later-fine context token words.End 
 -- ---- the objective; nothing is declared before it
 
 abbrev opening : Context
-opening = record { sections_seen = with_section start.context.sections_seen Objective; earlier = empty_draft }
+opening = record { sections_seen = with_section start.context.sections_seen Objective; builder = empty_draft }
 
 -- declarations that name the objective
 opens-declared : (token : TerminalAt) (place : Place) (made : Declarations) → ((context : Context) → IsNamed context → IsSoundPoint (record { place = place; context = context }))
@@ -612,7 +612,7 @@ opens-declared : (token : TerminalAt) (place : Place) (made : Declarations) → 
 opens-declared token place made plain named legal = by (refusals_in_turn empty_draft made) refl
   where
     by : (refusals : List BuildFault) → refusals_in_turn empty_draft made ≡ refusals → Gives (IsFine empty_draft) (unless_refused opening token refusals place made)
-    by [] e = λ tokens sound. record { drafts = refl; unrefused = e; legal = legal; sound = plain (record opening { earlier = draft_of made }) (named, refl) }
+    by [] e = λ tokens sound. record { drafts = refl; unrefused = e; legal = legal; sound = plain (record opening { builder = draft_of made }) (named, refl) }
     by (refusal ∷ more) e = λ tokens sound. tt
 
 objective_named-fine : (goal : Sense) (name : List ℕ) (line : ℕ) (terminal : Terminal) → is_lp_name name ≡ true
@@ -661,14 +661,14 @@ named-point InBinaries context m h = inr h
 named-point InSemis context m h = inr h
 
 opens-fine : (place : Place) (context : Context) (token : TerminalAt) (word : SectionWord) (b : Bool) → may_begin_section place ≡ b → IsSoundPoint (record { place = place; context = context })
-    → Gives (IsFine context.earlier) (if b then section_from context token word else refuses context token BadToken)
+    → Gives (IsFine context.builder) (if b then section_from context token word else refuses context token BadToken)
 opens-fine place context token word false e h = λ tokens sound. tt
 opens-fine place context token word true e h = elim (named-point place context e h) [
-  | inl same ↦ subst (λ (b : Context). Gives (IsFine b.earlier) (section_from b token word)) (sym same) (first_section-fine token word)
+  | inl same ↦ subst (λ (b : Context). Gives (IsFine b.builder) (section_from b token word)) (sym same) (first_section-fine token word)
   | inr named ↦ section-fine context token word named
 ]
 
-pub phrase_at-fine : (point : Point) (line : ℕ) (terminal : Terminal) → IsSoundPoint point → IsSoundTerminal terminal → Gives (IsFine point.context.earlier) (phrase_at point (record { line = line; terminal = terminal }))
+pub phrase_at-fine : (point : Point) (line : ℕ) (terminal : Terminal) → IsSoundPoint point → IsSoundTerminal terminal → Gives (IsFine point.context.builder) (phrase_at point (record { line = line; terminal = terminal }))
 phrase_at-fine point line (Opens word) h s = opens-fine point.place point.context (record { line = line; terminal = Opens word }) word (may_begin_section point.place) refl h
 phrase_at-fine point line (Name name) h s = phrase-fine point.place point.context line (Name name) h s
 phrase_at-fine point line (Number value) h s = phrase-fine point.place point.context line (Number value) h s

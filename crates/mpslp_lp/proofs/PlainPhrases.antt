@@ -26,7 +26,7 @@ use Rattle.mpslp_lp_grammar.specs.Items.{limits_by, flip, fits_second}
 use Rattle.mpslp_lp_grammar.specs.Rows.{fits_left}
 use Rattle.mpslp_lp_grammar.specs.PartialRow.{PartialRow}
 use Rattle.mpslp_lp_grammar.specs.Grammar.{no_limits}
-use Rattle.mpslp_lp_grammar.specs.AfterToken.{AfterToken, Goes, refuse, take_limit, take_side, take_bound}
+use Rattle.mpslp_lp_grammar.specs.AfterToken.{AfterToken, Goes, refuse, take_side_value, take_side, take_bound}
 use Rattle.mpslp_lp_grammar.specs.FirstToken.{listed_at, kind_declared, name_taken}
 use Rattle.mpslp_lp_grammar.specs.TokenStep.{take}
 use Rattle.mpslp_lp_grammar.specs.Declares.{TakesToken, error_before}
@@ -91,7 +91,7 @@ some-after-one context after start middle next found rest terminal result begins
 -- what a number or an infinity does where a limit is taken
 record LimitOf (context : Context) (sign : SignOf) (terminal : Terminal) (limit : Limit) : Type 0 where
   unopened : terminal_fault context terminal ≡ None
-  takes : (goes : Limit → AfterToken) → take_limit goes context sign terminal ≡ goes limit
+  takes : (goes : Limit → AfterToken) → take_side_value goes context sign terminal ≡ goes limit
 
 limit-of : (context : Context) (sign : SignOf) (terminal : Terminal) (limit : Limit) → limit_of_terminal sign terminal ≡ Some limit → LimitOf context sign terminal limit
 limit-of context sign (Number value) limit gives = record { unopened = refl; takes = λ goes. ap goes (same_Some _ limit gives) }
@@ -102,7 +102,7 @@ limit-of context sign _ limit gives = absurd (none-some limit gives)
 record TakesLimit (context : Context) (start : State) (taken : Limit → Terminal → AfterToken) : Type 0 where
   signed : SignOf → State
   to_signed : (sign : SignOf) → take context start (Sign sign) ≡ Goes context (signed sign)
-  after_sign : (sign : SignOf) (terminal : Terminal) → take context (signed sign) terminal ≡ take_limit (λ limit. taken limit terminal) context sign terminal
+  after_sign : (sign : SignOf) (terminal : Terminal) → take context (signed sign) terminal ≡ take_side_value (λ limit. taken limit terminal) context sign terminal
   unsigned : (terminal : Terminal) (limit : Limit) → limit_of_terminal Plus terminal ≡ Some limit → take context start terminal ≡ taken limit terminal
 
 side-last : (context : Context) (start : State) (taken : Limit → Terminal → AfterToken) (found more : List Token) (limit : Limit) → TakesLimit context start taken → BeginsWithSide found limit more

@@ -58,34 +58,34 @@ line-says line n context AfterEnd tokens h = cc
 line-says line n context _ tokens h = refl
 
 later-says : (line n : ℕ) (context : Context) (terminal : Terminal) (more : List TerminalAt) → line < n
-    → says line context AfterEnd (record { line = n; terminal = terminal } ∷ more) ≡ Finished context.earlier
+    → says line context AfterEnd (record { line = n; terminal = terminal } ∷ more) ≡ Finished context.builder
 later-says line n context terminal more h = by (n == line) refl
   where
     token : TerminalAt
     token = record { line = n; terminal = terminal }
 
-    by : (b : Bool) → (n == line) ≡ b → follow phrase_at (if b then refuses context token BadToken more else Reads (StepEnds context.earlier) 0) (token ∷ more) ≡ Finished context.earlier
+    by : (b : Bool) → (n == line) ≡ b → follow phrase_at (if b then refuses context token BadToken more else Reads (StepEnds context.builder) 0) (token ∷ more) ≡ Finished context.builder
     by true e = absurd (omega (arith, eqb-true n line e, h))
     by false e = refl
 
-lines_after-say : (ls : List (List ℕ)) (line n : ℕ) (context : Context) → line < n → says line context AfterEnd (sound_terminals (enumerate_from n ls)) ≡ Finished context.earlier
+lines_after-say : (ls : List (List ℕ)) (line n : ℕ) (context : Context) → line < n → says line context AfterEnd (sound_terminals (enumerate_from n ls)) ≡ Finished context.builder
 lines_after-say [] line n context h = refl
 lines_after-say (l ∷ ls) line n context h = by (lexical_fault l) (lines_after-say ls line (n + 1) context (omega (arith, h)))
   where
-    of_line : (found : List Token) (more : List TerminalAt) → says line context AfterEnd more ≡ Finished context.earlier → says line context AfterEnd (terminals_on n found ++ more) ≡ Finished context.earlier
+    of_line : (found : List Token) (more : List TerminalAt) → says line context AfterEnd more ≡ Finished context.builder → says line context AfterEnd (terminals_on n found ++ more) ≡ Finished context.builder
     of_line [] more k = k
     of_line (token ∷ found) more k = later-says line n context (terminal_of token.kind token.text) (terminals_on n found ++ more) h
 
-    by : (o : Option FaultKind) → says line context AfterEnd (sound_terminals (enumerate_from (n + 1) ls)) ≡ Finished context.earlier
+    by : (o : Option FaultKind) → says line context AfterEnd (sound_terminals (enumerate_from (n + 1) ls)) ≡ Finished context.builder
         → says line context AfterEnd (elim o as (λ _. List TerminalAt) [
           | Some kind ↦ []
           | None ↦ line_terminals (n, l) ++ sound_terminals (enumerate_from (n + 1) ls)
-        ]) ≡ Finished context.earlier
+        ]) ≡ Finished context.builder
     by (Some kind) k = refl
     by None k = of_line (tokens l) (sound_terminals (enumerate_from (n + 1) ls)) k
 
 after_end-says : (ls : List (List ℕ)) (line n : ℕ) (context : Context) (state : State) → is_at_end state ≡ true → line < n
-    → says line context state (sound_terminals (enumerate_from n ls)) ≡ Finished context.earlier
+    → says line context state (sound_terminals (enumerate_from n ls)) ≡ Finished context.builder
 after_end-says ls line n context AfterEnd e h = lines_after-say ls line n context h
 after_end-says ls line n context _ e h = cc
 
@@ -126,7 +126,7 @@ lines-read (l ∷ ls) line n context state h = at (is_at_end state) refl (λ aft
         → ((after : Context) (next : State) → lines_from n (n + 1) after next ls ≡ read_from after next (enumerate_from (n + 1) ls))
         → lines_from line n context state (l ∷ ls)
         ≡ elim b as (λ _. Outcome Fault Draft) [
-          | true ↦ Finished context.earlier
+          | true ↦ Finished context.builder
           | false ↦ elim (take_line context state l) as (λ _. Outcome Fault Draft) [
             | Goes after next ↦ read_from after next (enumerate_from (n + 1) ls)
             | Refuses kind ↦ Refused (fault_on_line n kind)

@@ -51,15 +51,15 @@ joined-fine earlier next made more outcome is unrefused legal later =
     }
 
 pub text-fine : (tokens : List TerminalAt) (taken : ℕ) (point : Point) → AreSound tokens → IsSoundPoint point
-    → IsFineText point.context.earlier (made_by phrase_at point taken tokens) (phrases phrase_at point taken tokens)
-text-fine [] taken point sound h = nothing-fine point.context.earlier Open tt
+    → IsFineText point.context.builder (made_by phrase_at point taken tokens) (phrases phrase_at point taken tokens)
+text-fine [] taken point sound h = nothing-fine point.context.builder Open tt
 text-fine (token ∷ tokens) (suc taken) point sound h = text-fine tokens taken point sound.1 h
 text-fine (token ∷ tokens) zero point sound h =
     by (phrase_at point token tokens) (phrase_at-fine point token.line token.terminal h sound.0 tokens sound.1) (λ after more s. text-fine tokens more after sound.1 s)
   where
-    by : (reading : Parsed Fault Follows) → Holds (IsFine point.context.earlier) reading
-        → ((after : Point) (more : ℕ) → IsSoundPoint after → IsFineText after.context.earlier (made_by phrase_at after more tokens) (phrases phrase_at after more tokens))
-        → IsFineText point.context.earlier (elim reading as (λ _. Declarations) [
+    by : (reading : Parsed Fault Follows) → Holds (IsFine point.context.builder) reading
+        → ((after : Point) (more : ℕ) → IsSoundPoint after → IsFineText after.context.builder (made_by phrase_at after more tokens) (phrases phrase_at after more tokens))
+        → IsFineText point.context.builder (elim reading as (λ _. Declarations) [
           | Reads (Goes after made) more ↦ made ++ made_by phrase_at after more tokens
           | Reads (Ends whole) more ↦ []
           | Refuses fault ↦ []
@@ -71,8 +71,8 @@ text-fine (token ∷ tokens) zero point sound h =
           | Unfinished ↦ Open
         ])
     by (Reads (Goes after made) more) fine later =
-        joined-fine point.context.earlier after.context.earlier made (made_by phrase_at after more tokens) (phrases phrase_at after more tokens) fine.drafts fine.unrefused fine.legal (later after more fine.sound)
+        joined-fine point.context.builder after.context.builder made (made_by phrase_at after more tokens) (phrases phrase_at after more tokens) fine.drafts fine.unrefused fine.legal (later after more fine.sound)
     by (Reads (Ends whole) more) fine later =
-        nothing-fine point.context.earlier (Finished whole) (fine.0, ap (λ (d : Draft). is_some d.objective) fine.0 ∙ fine.1)
-    by (Refuses fault) fine later = nothing-fine point.context.earlier (Refused fault) tt
-    by Unfinished fine later = nothing-fine point.context.earlier Open tt
+        nothing-fine point.context.builder (Finished whole) (fine.0, ap (λ (d : Draft). is_some d.objective) fine.0 ∙ fine.1)
+    by (Refuses fault) fine later = nothing-fine point.context.builder (Refused fault) tt
+    by Unfinished fine later = nothing-fine point.context.builder Open tt

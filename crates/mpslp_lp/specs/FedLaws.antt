@@ -16,7 +16,7 @@ use Rattle.mpslp_lp_grammar.specs.declared.states.State.TheVariants.{AfterEnd}
 -- ---- lines after that of `end`
 
 -- they are ignored
-pub ended-reads : (context : Context) (state : State) (more : List (ℕ × List ℕ)) → is_at_end state ≡ true → read_from context state more ≡ Finished context.earlier
+pub ended-reads : (context : Context) (state : State) (more : List (ℕ × List ℕ)) → is_at_end state ≡ true → read_from context state more ≡ Finished context.builder
 ended-reads context AfterEnd [] h = refl
 ended-reads context AfterEnd (line ∷ more) h = refl
 ended-reads context _ more h = cc

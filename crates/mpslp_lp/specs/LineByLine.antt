@@ -45,7 +45,7 @@ take_line context state line = elim (lexical_fault line) [
 abbrev pub read_from : Context → State → List (ℕ × List ℕ) → Outcome Fault Draft
 read_from context state [] = at_end context state
 read_from context state (line ∷ more) = elim (is_at_end state) [
-  | true ↦ Finished context.earlier
+  | true ↦ Finished context.builder
   | false ↦ elim (take_line context state line.1) [
     | Goes after next ↦ read_from after next more
     | Refuses kind ↦ Refused (fault_on_line line.0 kind)

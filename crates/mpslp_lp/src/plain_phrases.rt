@@ -8,7 +8,7 @@ ghost use Rattle.mpslp_lp.specs.LineByLine.{take_tokens};
 use crate::plain_bounds::take_bound;
 use crate::plain_names::take_names;
 use crate::plain_row_starts::take_new_row;
-use crate::plain_rows::take_row;
+use crate::plain_rows::take_rest_of_row;
 use mpslp_lines::LineError;
 use mpslp_lp_grammar::{Context, ListSection, Place, State};
 use mpslp_lp_tokens::Tokens;
@@ -30,6 +30,6 @@ pub(crate) fn take_phrases<'a>(
         State::Between(Place::InGenerals) => take_names(context, ListSection::Generals, tokens),
         State::Between(Place::InBinaries) => take_names(context, ListSection::Binaries, tokens),
         State::Between(Place::InSemis) => take_names(context, ListSection::Semis, tokens),
-        _ => take_row(context, state, tokens),
+        _ => take_rest_of_row(context, state, tokens),
     }
 }

@@ -15,7 +15,7 @@ ghost use Rattle.mpslp_lp.specs.PlainTerm.{Begins};
 ghost use Rattle.mpslp_lp.specs.PlainPhrase.{BeginsWithRight, TakesSome};
 ghost use Rattle.mpslp_lp.specs.PlainStart.{BeginsWithColumn, BeginsWithTerm, row_of_term};
 
-use crate::plain_rows::{end_row, take_row};
+use crate::plain_rows::{end_row, take_rest_of_row};
 use crate::plain_terms::set_state;
 use crate::plain_tokens::{RightSide, next_name, next_terminal, right_side_after};
 use mpslp_decimal::Decimal;
@@ -292,7 +292,7 @@ pub(crate) fn take_new_row<'a>(
 {
     let left = take_row_start(context, state, tokens)?;
     match state {
-        State::Between(Place::InRow(_)) => take_row(context, state, left),
+        State::Between(Place::InRow(_)) => take_rest_of_row(context, state, left),
         _ => Ok(left),
     }
 }

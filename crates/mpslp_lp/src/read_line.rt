@@ -6,25 +6,25 @@ ghost use Rattle.mpslp_types.specs.FaultOrder.{least_kind};
 ghost use Rattle.mpslp_lp_tokens.specs.Token.{begins_comment, outside_comment, tokens};
 ghost use Rattle.mpslp_lp_tokens.specs.Scan.{token_of};
 ghost use Rattle.mpslp_lp_grammar.specs.AfterToken.{Goes};
-ghost use Rattle.mpslp_lp_grammar.specs.Declares.{error_before, lesser_of, IsLeastError, TakesToken};
+ghost use Rattle.mpslp_lp_grammar.specs.Declares.{error_before, lower_ranked_of, IsLeastError, TakesToken};
 ghost use Rattle.mpslp_lp.specs.LineByLine.{token_faults, take_tokens, take_line};
 ghost use Rattle.mpslp_lp.specs.Laws.{has_legal_bytes};
 
 use crate::plain_phrases::take_phrases;
 use crate::plain_terms::set_state;
 use bstr::ByteSlice;
-use mpslp_lines::{LineError, are_legal_bytes, has_legal_length, lesser_kind};
+use mpslp_lines::{LineError, are_legal_bytes, has_legal_length, lower_ranked_kind};
 use mpslp_lp_grammar::{Context, State, TerminalToken, classify, take};
 use mpslp_lp_tokens::{Token, Tokens, tokens_of};
 use mpslp_model::FaultKind;
 use std::mem::replace;
 
-/// The lesser of the kinds of two errors, of which the first is optional.
-fn lesser_of(first: Option<FaultKind>, second: FaultKind) -> FaultKind
-    ensures { result ≡ lesser_of first second }
+/// Of the kinds of two errors, the first of them optional, the one that comes first.
+fn lower_ranked_of(first: Option<FaultKind>, second: FaultKind) -> FaultKind
+    ensures { result ≡ lower_ranked_of first second }
 {
     match first {
-        Some(first) => lesser_kind(first, second),
+        Some(first) => lower_ranked_kind(first, second),
         None => second,
     }
 }
@@ -36,7 +36,7 @@ fn lexical_fault_of(tokens: Tokens<'_>) -> Option<FaultKind>
     let mut least = None;
     for raw_token in tokens {
         if let Err(kind) = classify(raw_token.kind, raw_token.text) {
-            least = Some(lesser_of(least, kind));
+            least = Some(lower_ranked_of(least, kind));
         }
     }
     least
@@ -60,7 +60,7 @@ pub(crate) fn least_error(kind: FaultKind, tokens: Tokens<'_>) -> LineError
     ensures { IsLeastError (kind ∷ token_faults tokens.entry) result }
 {
     match lexical_fault_of(tokens) {
-        Some(own) => LineError::Fault(lesser_kind(kind, own)),
+        Some(own) => LineError::Fault(lower_ranked_kind(kind, own)),
         None => LineError::Fault(kind),
     }
 }
@@ -96,7 +96,7 @@ fn take_token<'a>(
 /// Takes a token and the tokens after it on its line. Each is classified once, except where a plain phrase could begin but does
 /// not.
 #[inline(never)]
-fn take_others<'a>(
+fn take_rest_of_line<'a>(
     context: &mut Context,
     state: &mut State,
     first: Token<'a>,
@@ -125,7 +125,7 @@ fn take_tokens(context: &mut Context, state: &mut State, line: &[u8]) -> Result<
 {
     let mut left = take_phrases(context, state, tokens_of(line))?;
     match left.next() {
-        Some(first) => take_others(context, state, first, left),
+        Some(first) => take_rest_of_line(context, state, first, left),
         None => Ok(()),
     }
 }

@@ -19,9 +19,9 @@ use Rattle.mpslp_lp_grammar.specs.declared.states.Place.{Place}
 use Rattle.mpslp_lp_grammar.specs.declared.states.Place.TheVariants.{BeforeItems, InObjective, InSemis}
 use Rattle.mpslp_lp_grammar.specs.declared.states.SideOwner.{SideOwner}
 use Rattle.mpslp_lp_grammar.specs.declared.states.State.TheVariants.{AtObjective, ObjectiveName, AtSemi, ItemNumber, RowSign, RowNumber, AtSide}
-use Rattle.mpslp_lp_grammar.specs.AfterToken.{take_after_signs, take_side, take_limit}
+use Rattle.mpslp_lp_grammar.specs.AfterToken.{take_after_signs, take_side, take_side_value}
 use Rattle.mpslp_lp_grammar.specs.FirstToken.{begin_phrase, begin}
-use Rattle.mpslp_lp_grammar.specs.TokenStep.{begin_after, refuse_constant, take_lone, take}
+use Rattle.mpslp_lp_grammar.specs.TokenStep.{begin_after, refuse_constant, take_after_lone_number, take}
 
 -- ---- the first token of a phrase
 
@@ -48,7 +48,7 @@ semi-other context (Sign Plus) text h = refl
 semi-other context _ text h = refl
 
 pub item-other : (context : Context) (owner : ItemOwner) (sign : SignOf) (value : Decimal) (kind : TerminalKind) (text : List ℕ) → (kind ≡ Name → ⊥)
-    → take context (ItemNumber owner sign value) (terminal_with_text kind text) ≡ take_lone context owner (apply_sign sign value) (terminal_with_text kind text)
+    → take context (ItemNumber owner sign value) (terminal_with_text kind text) ≡ take_after_lone_number context owner (apply_sign sign value) (terminal_with_text kind text)
 item-other context owner sign value Name text h = absurd (h refl)
 item-other context owner sign value _ text h = refl
 
@@ -66,6 +66,6 @@ row_number-other context name sign value _ text h k = refl
 
 pub side-other : (context : Context) (sided : SideOwner) (kind : TerminalKind) (text : List ℕ) → ((sign : SignOf) → kind ≡ Sign sign → ⊥)
     → take context (AtSide sided) (terminal_with_text kind text)
-    ≡ take_limit (λ limit. take_side context sided limit (terminal_with_text kind text)) context Plus (terminal_with_text kind text)
+    ≡ take_side_value (λ limit. take_side context sided limit (terminal_with_text kind text)) context Plus (terminal_with_text kind text)
 side-other context sided (Sign sign) text h = absurd (h sign refl)
 side-other context sided _ text h = refl

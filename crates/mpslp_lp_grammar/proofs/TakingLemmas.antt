@@ -41,9 +41,9 @@ use Rattle.mpslp_lp_grammar.specs.declared.states.ItemOwner.TheVariants.{OfObjec
 use Rattle.mpslp_lp_grammar.specs.declared.states.SideOwner.TheVariants.{SideOfRow, SideOfBound}
 use Rattle.mpslp_lp_grammar.specs.TokenByToken.{item_read, new_column, side_read, signed_side_read, says}
 use Rattle.mpslp_lp_grammar.specs.declared.states.State.TheVariants.{Between, AtObjective, ObjectiveName, AtLastWord, AtSemi, Signs, ItemNumber, RowName, RowLabel, RowSign, RowNumber, RowLeft, RowLeftRelation, BoundName, BoundSign, BoundLeft, BoundLeftRelation, AtSide, SideSign, AfterEnd}
-use Rattle.mpslp_lp_grammar.specs.AfterToken.{AfterToken, Goes, Refuses, refuse, take_limit, declare_unless_refused, take_after_declarations, take_term, take_after_signs, begin_item, take_side, with_made}
+use Rattle.mpslp_lp_grammar.specs.AfterToken.{AfterToken, Goes, Refuses, refuse, take_side_value, declare_unless_refused, take_after_declarations, take_term, take_after_signs, begin_item, take_side, with_made}
 use Rattle.mpslp_lp_grammar.specs.FirstToken.{open_section, begin_row, begin_phrase, begin, begin_bound, name_taken, after_section_word}
-use Rattle.mpslp_lp_grammar.specs.TokenStep.{at_end, begin_after, take_lone, take, says_after}
+use Rattle.mpslp_lp_grammar.specs.TokenStep.{at_end, begin_after, take_after_lone_number, take, says_after}
 use Rattle.mpslp_lp_grammar.specs.declared.relations.Relation.{Relation}
 use Rattle.mpslp_lp_tokens.specs.declared.words.SectionWord.{SectionWord}
 use Rattle.mpslp_lp_tokens.specs.declared.words.SectionWord.TheVariants as words
@@ -197,7 +197,7 @@ begun-says place context line terminal tokens = phrases-more phrase_at (record {
 
 begun_after-says : (context : Context) (made : Declarations) (place : Place) (line : ℕ) (terminal : Terminal) (tokens : Tokens)
     → resume phrase_at (declares context (at line terminal) place made) (at line terminal ∷ tokens) ≡ says_after line (begin_after context made place terminal) tokens
-begun_after-says context made place line terminal tokens = by (refusals_in_turn context.earlier made)
+begun_after-says context made place line terminal tokens = by (refusals_in_turn context.builder made)
   where
     by : (refusals : List BuildFault)
         → resume phrase_at (unless_refused context (at line terminal) refusals place made) (at line terminal ∷ tokens)
@@ -206,7 +206,7 @@ begun_after-says context made place line terminal tokens = by (refusals_in_turn 
     by (refusal ∷ more) = refl
 
 lone-says : (context : Context) (owner : ItemOwner) (value : Decimal) (line : ℕ) (terminal : Terminal) (tokens : Tokens)
-    → resume phrase_at (item_read context owner (Lone value (at line terminal))) (at line terminal ∷ tokens) ≡ says_after line (take_lone context owner value terminal) tokens
+    → resume phrase_at (item_read context owner (Lone value (at line terminal))) (at line terminal ∷ tokens) ≡ says_after line (take_after_lone_number context owner value terminal) tokens
 lone-says context (OfObjective name) value line (Sign sign) tokens = begun_after-says context (declare_constant value ∷ []) (InObjective name) line (Sign sign) tokens
 lone-says context (OfObjective name) value line (Opens word) tokens = begun_after-says context (declare_constant value ∷ []) (InObjective name) line (Opens word) tokens
 lone-says context (OfObjective name) value line _ tokens = refl
@@ -219,7 +219,7 @@ lone-says context (OfRow row) value line _ tokens = refl
 -- a limit that is read is the side of what follows
 limit-says : (context : Context) (following : Side → PhraseRule Follows) (goes : Limit → AfterToken) (sign : SignOf) (line : ℕ) (terminal : Terminal) (tokens : Tokens)
     → ((limit : Limit) → resume phrase_at (following (record { limit = limit; last = at line terminal })) tokens ≡ says_after line (goes limit) tokens)
-    → resume phrase_at (unsigned_side context sign (at line terminal) >>= following) tokens ≡ says_after line (take_limit goes context sign terminal) tokens
+    → resume phrase_at (unsigned_side context sign (at line terminal) >>= following) tokens ≡ says_after line (take_side_value goes context sign terminal) tokens
 limit-says context following goes sign line (Number value) tokens h =
     resume-gives phrase_at (record { limit = limit_of (apply_sign sign value); last = at line (Number value) }) following tokens ∙ h (limit_of (apply_sign sign value))
 limit-says context following goes sign line Infinity tokens h =
@@ -287,7 +287,7 @@ objective_name-says : (context : Context) (goal : Sense) (name : List ℕ) (line
     → resume phrase_at (objective_named context goal name (at line terminal)) (at line terminal ∷ tokens) ≡ says_after line (take context (ObjectiveName goal name) terminal) tokens
 objective_name-says context goal name line Colon tokens =
     resume-next phrase_at (λ colon. declares context (at line Colon) (BeforeItems name) (objective_declared goal name)) (at line Colon) tokens
-    ∙ completed-says context line Colon (refusals_in_turn context.earlier (objective_declared goal name)) (BeforeItems name) (objective_declared goal name) tokens
+    ∙ completed-says context line Colon (refusals_in_turn context.builder (objective_declared goal name)) (BeforeItems name) (objective_declared goal name) tokens
 objective_name-says context goal name line (Name other) tokens = begun_after-says context (first_item_declared goal name) (InObjective default_objective) line (Name other) tokens
 objective_name-says context goal name line (Opens word) tokens = begun_after-says context (first_item_declared goal name) (InObjective default_objective) line (Opens word) tokens
 objective_name-says context goal name line (Number value) tokens = begun_after-says context (first_item_declared goal name) (InObjective default_objective) line (Number value) tokens
@@ -350,7 +350,7 @@ number-says context following sign value named lone line Other tokens h k = foll
 item_number-says : (context : Context) (owner : ItemOwner) (sign : SignOf) (value : Decimal) (line : ℕ) (terminal : Terminal) (tokens : Tokens)
     → resume phrase_at (number_item sign value >>= item_read context owner) (at line terminal ∷ tokens) ≡ says_after line (take context (ItemNumber owner sign value) terminal) tokens
 item_number-says context owner sign value line terminal tokens =
-    number-says context (item_read context owner) sign value (λ column. take_term context owner column (apply_sign sign value) terminal) (take_lone context owner (apply_sign sign value) terminal) line terminal tokens
+    number-says context (item_read context owner) sign value (λ column. take_term context owner column (apply_sign sign value) terminal) (take_after_lone_number context owner (apply_sign sign value) terminal) line terminal tokens
     (λ column is. term-says context owner column (apply_sign sign value) line (Name column) tokens
     ∙ ap (λ (t : Terminal). says_after line (take_term context owner column (apply_sign sign value) t) tokens) (sym is))
     (lone-says context owner (apply_sign sign value) line terminal tokens)
@@ -391,7 +391,7 @@ end-says : (context : Context) (line : ℕ) (terminal : Terminal) (tokens : Toke
     → resume phrase_at (line_end context line) (at line terminal ∷ tokens) ≡ says_after line (take context AfterEnd terminal) tokens
 end-says context line terminal tokens = by (line == line) (eq-eqb line line refl)
   where
-    by : (b : Bool) → b ≡ true → follow phrase_at ((if b then refuses context (at line terminal) BadToken tokens else Reads (Ends context.earlier) 0)) (at line terminal ∷ tokens)
+    by : (b : Bool) → b ≡ true → follow phrase_at ((if b then refuses context (at line terminal) BadToken tokens else Reads (Ends context.builder) 0)) (at line terminal ∷ tokens)
         ≡ says_after line (refuse context terminal BadToken) tokens
     by true e = refl
     by false e = cc

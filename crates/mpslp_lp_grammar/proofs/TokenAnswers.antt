@@ -28,16 +28,16 @@ stated-kind context terminal refusal kind none stated =
 
 -- a token that completes declarations
 pub completes : (context : Context) (later : Draft) (terminal : Terminal) (refusals : List BuildFault) (place : Place) (made : Declarations) (answer : LineResult) (result : TokenResult)
-    → terminal_fault context terminal ≡ None → result ≡ answer_at place answer → DeclaresUnless refusals context.earlier made answer later
-    → TakesToken (declare_unless_refused context terminal refusals place made) result (record context { earlier = later })
+    → terminal_fault context terminal ≡ None → result ≡ answer_at place answer → DeclaresUnless refusals context.builder made answer later
+    → TakesToken (declare_unless_refused context terminal refusals place made) result (record context { builder = later })
 completes context later terminal refusals place made answer result none is declared =
-    subst (λ (r : TokenResult). TakesToken (declare_unless_refused context terminal refusals place made) r (record context { earlier = later })) (sym is) (by answer refusals declared)
+    subst (λ (r : TokenResult). TakesToken (declare_unless_refused context terminal refusals place made) r (record context { builder = later })) (sym is) (by answer refusals declared)
   where
-    by : (a : LineResult) (faults : List BuildFault) → DeclaresUnless faults context.earlier made a later
-        → TakesToken (declare_unless_refused context terminal faults place made) (answer_at place a) (record context { earlier = later })
+    by : (a : LineResult) (faults : List BuildFault) → DeclaresUnless faults context.builder made a later
+        → TakesToken (declare_unless_refused context terminal faults place made) (answer_at place a) (record context { builder = later })
     by (Ok u) faults h =
         ap (λ (fs : List BuildFault). declare_unless_refused context terminal fs place made) h.0
-        ∙ ap (λ (d : Draft). Goes (record context { earlier = d }) (Between place)) (sym h.1)
+        ∙ ap (λ (d : Draft). Goes (record context { builder = d }) (Between place)) (sym h.1)
     by (Err (Fault kind)) [] h = cc
     by (Err (Fault kind)) (refusal ∷ more) h = stated-kind context terminal refusal kind none h
     by (Err OutOfMemory) faults h = tt

@@ -39,7 +39,7 @@ abbrev pub refuse : Context → Terminal → FaultKind → AfterToken
 refuse context terminal kind = Refuses (unwrap_or (terminal_fault context terminal) kind)
 
 abbrev pub with_made : Context → Declarations → Context
-with_made context made = record context { earlier = with_declarations context.earlier made }
+with_made context made = record context { builder = with_declarations context.builder made }
 
 -- declarations that the token completes, with the errors of the builder for them
 abbrev pub declare_unless_refused : Context → Terminal → List BuildFault → Place → Declarations → AfterToken
@@ -47,7 +47,7 @@ declare_unless_refused context terminal [] place made = Goes (with_made context 
 declare_unless_refused context terminal (refusal ∷ more) place made = refuse context terminal (kind_of_build_fault refusal)
 
 abbrev pub declare_at : Context → Terminal → Place → Declarations → AfterToken
-declare_at context terminal place made = declare_unless_refused context terminal (refusals_in_turn context.earlier made) place made
+declare_at context terminal place made = declare_unless_refused context terminal (refusals_in_turn context.builder made) place made
 
 -- declarations that the token before this one completes, with their errors; this token is taken at the place that follows
 abbrev pub take_after_declarations : Context → Terminal → List BuildFault → Declarations → AfterToken → AfterToken
@@ -84,7 +84,7 @@ begin_item context owner terminal = elim terminal as (λ _. AfterToken) [
 
 abbrev pub take_bound : Context → Declarations → List ℕ → Limits → Terminal → Place → AfterToken
 take_bound context front column limits terminal place =
-    declare_unless_refused context terminal (bounds_refusals (with_declarations context.earlier front) column limits.lower limits.upper) place
+    declare_unless_refused context terminal (bounds_refusals (with_declarations context.builder front) column limits.lower limits.upper) place
     (front ++ bounds_declared column limits.lower limits.upper)
 
 abbrev pub take_side : Context → SideOwner → Limit → Terminal → AfterToken
@@ -93,8 +93,8 @@ take_side context (SideOfBound is_new column relation) limit terminal =
     take_bound context (new_column is_new column) column (limits_by relation limit) terminal (InBounds None)
 
 -- a number or infinity, after the sign
-abbrev pub take_limit : (Limit → AfterToken) → Context → SignOf → Terminal → AfterToken
-take_limit goes context sign terminal = elim terminal as (λ _. AfterToken) [
+abbrev pub take_side_value : (Limit → AfterToken) → Context → SignOf → Terminal → AfterToken
+take_side_value goes context sign terminal = elim terminal as (λ _. AfterToken) [
   | Terminal.Number value ↦ goes (limit_of (apply_sign sign value))
   | Terminal.Infinity ↦ goes (infinity sign)
   | _ ↦ refuse context terminal BadToken

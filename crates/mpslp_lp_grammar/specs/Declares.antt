@@ -86,9 +86,9 @@ error_before faults (Fault kind) = elim (least_kind faults) [ Some own ↦ Fault
 error_before faults OutOfMemory = OutOfMemory
 
 -- the lesser of two kinds, of which the first is optional
-abbrev pub lesser_of : Option FaultKind → FaultKind → FaultKind
-lesser_of None second = second
-lesser_of (Some first) second = if nat_lt (kind_rank second) (kind_rank first) then second else first
+abbrev pub lower_ranked_of : Option FaultKind → FaultKind → FaultKind
+lower_ranked_of None second = second
+lower_ranked_of (Some first) second = if nat_lt (kind_rank second) (kind_rank first) then second else first
 
 -- The error is the least of these errors.
 abbrev pub IsLeastError : List FaultKind → LineError → Type 0

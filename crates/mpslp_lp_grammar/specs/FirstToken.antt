@@ -23,7 +23,7 @@ use Rattle.mpslp_lp_grammar.specs.declared.states.State.TheVariants.{Between, At
 use Rattle.mpslp_lp_grammar.specs.declared.relations.Relation.{Relation}
 use Rattle.mpslp_lp_tokens.specs.declared.words.SectionWord.{SectionWord}
 use Rattle.mpslp_lp_tokens.specs.declared.words.SectionWord.TheVariants as words
-use Rattle.mpslp_lp_grammar.specs.AfterToken.{AfterToken, refuse, with_made, declare_at, take_term, begin_item, take_limit, Goes, Refuses}
+use Rattle.mpslp_lp_grammar.specs.AfterToken.{AfterToken, refuse, with_made, declare_at, take_term, begin_item, take_side_value, Goes, Refuses}
 
 -- ---- sections
 
@@ -61,7 +61,7 @@ abbrev pub begin_bound : Context → Terminal → AfterToken
 begin_bound context terminal = elim terminal as (λ _. AfterToken) [
   | Terminal.Name column ↦ Goes context (BoundName column)
   | Terminal.Sign sign ↦ Goes context (BoundSign sign)
-  | _ ↦ take_limit (λ limit. Goes context (BoundLeft limit)) context Plus terminal
+  | _ ↦ take_side_value (λ limit. Goes context (BoundLeft limit)) context Plus terminal
 ]
 
 abbrev pub take_second_relation : Context → Option (List ℕ × Relation) → Relation → Terminal → AfterToken

@@ -16,8 +16,8 @@ use Rattle.mpslp_lp_tokens.specs.declared.words.SectionWord.{SectionWord, TheVar
 
 -- `end` must be the last token of its line
 abbrev pub line_end : Context → ℕ → PhraseRule Follows
-line_end context line [] = Reads (Ends context.earlier) 0
-line_end context line (token ∷ tokens) = if token.line == line then refuses context token BadToken tokens else Reads (Ends context.earlier) 0
+line_end context line [] = Reads (Ends context.builder) 0
+line_end context line (token ∷ tokens) = if token.line == line then refuses context token BadToken tokens else Reads (Ends context.builder) 0
 
 -- the last word of a section heading of several words, and the place where it leads
 abbrev pub last_word_text : LastWord → List ℕ
@@ -78,7 +78,7 @@ may_begin_section _ = true
 -- a token completes bounds of a column, after these declarations
 abbrev pub bound_sides : Context → Declarations → List ℕ → Limits → TerminalAt → Place → PhraseRule Follows
 bound_sides context front column limits last place =
-    unless_refused context last (bounds_refusals (with_declarations context.earlier front) column limits.lower limits.upper) place
+    unless_refused context last (bounds_refusals (with_declarations context.builder front) column limits.lower limits.upper) place
     (front ++ bounds_declared column limits.lower limits.upper)
 
 abbrev pub no_limits : Limits

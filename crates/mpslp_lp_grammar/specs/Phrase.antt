@@ -54,7 +54,7 @@ pub record Point : Type 0 where
   pub context : Context
 
 abbrev pub start : Point
-start = record { place = AtStart; context = record { sections_seen = no_section_seen; earlier = empty_draft } }
+start = record { place = AtStart; context = record { sections_seen = no_section_seen; builder = empty_draft } }
 
 -- ---- the rules of the grammar
 
@@ -85,7 +85,7 @@ Follows = AfterPhrase Point Declaration Draft
 -- the next phrase begins at a place, after these declarations
 abbrev pub goes_to : Context → Place → Declarations → PhraseRule Follows
 goes_to context place made =
-    gives (Goes (record { place = place; context = record context { earlier = with_declarations context.earlier made } }) made)
+    gives (Goes (record { place = place; context = record context { builder = with_declarations context.builder made } }) made)
 
 -- a token completes declarations with these errors, of which the first is reported
 abbrev pub unless_refused : Context → TerminalAt → List BuildFault → Place → Declarations → PhraseRule Follows
@@ -94,4 +94,4 @@ unless_refused context token (refusal ∷ more) place made = refuses context tok
 
 -- a token completes declarations that are made one after another
 abbrev pub declares : Context → TerminalAt → Place → Declarations → PhraseRule Follows
-declares context token place made = unless_refused context token (refusals_in_turn context.earlier made) place made
+declares context token place made = unless_refused context token (refusals_in_turn context.builder made) place made

@@ -60,7 +60,7 @@ abbrev pub numbered_row : (position : ℕ) → List ℕ
 numbered_row position = codes "c" ++ decimal position
 
 abbrev pub default_row : Context → List ℕ
-default_row context = numbered_row (min (length context.earlier.rows + 1) (2 ^ 64 - 1))
+default_row context = numbered_row (min (length context.builder.rows + 1) (2 ^ 64 - 1))
 
 -- ---- terms
 

@@ -24,7 +24,7 @@ use Rattle.mpslp_lp_grammar.specs.declared.states.ItemOwner.TheVariants.{OfObjec
 use Rattle.mpslp_lp_grammar.specs.declared.states.SideOwner.TheVariants.{SideOfBound}
 use Rattle.mpslp_lp_grammar.specs.TokenByToken.{says}
 use Rattle.mpslp_lp_grammar.specs.declared.states.State.TheVariants.{Between, AtObjective, ObjectiveName, AtLastWord, AtSemi, Signs, ItemNumber, RowName, RowLabel, RowSign, RowNumber, RowLeft, RowLeftRelation, BoundName, BoundSign, BoundLeft, BoundLeftRelation, AtSide, SideSign, AfterEnd}
-use Rattle.mpslp_lp_grammar.specs.AfterToken.{AfterToken, refuse, with_made, take_term, take_after_signs, begin_item, take_bound, take_side, take_limit, take_after_declarations, declare_at, Goes, Refuses}
+use Rattle.mpslp_lp_grammar.specs.AfterToken.{AfterToken, refuse, with_made, take_term, take_after_signs, begin_item, take_bound, take_side, take_side_value, take_after_declarations, declare_at, Goes, Refuses}
 use Rattle.mpslp_lp_grammar.specs.FirstToken.{begin_row, begin}
 
 -- ---- a token that completes what is before it, and is taken at the place that follows
@@ -32,7 +32,7 @@ use Rattle.mpslp_lp_grammar.specs.FirstToken.{begin_row, begin}
 -- after declarations that the token completes
 abbrev pub begin_after : Context → Declarations → Place → Terminal → AfterToken
 begin_after context made place terminal =
-    take_after_declarations context terminal (refusals_in_turn context.earlier made) made (begin place (with_made context made) terminal)
+    take_after_declarations context terminal (refusals_in_turn context.builder made) made (begin place (with_made context made) terminal)
 
 -- a number in a row that no name follows
 abbrev pub refuse_constant : Context → Terminal → AfterToken
@@ -43,13 +43,13 @@ refuse_constant context terminal = elim terminal as (λ _. AfterToken) [
 ]
 
 -- a number that no name follows
-abbrev pub take_lone : Context → ItemOwner → Decimal → Terminal → AfterToken
-take_lone context (OfObjective name) value terminal = elim terminal as (λ _. AfterToken) [
+abbrev pub take_after_lone_number : Context → ItemOwner → Decimal → Terminal → AfterToken
+take_after_lone_number context (OfObjective name) value terminal = elim terminal as (λ _. AfterToken) [
   | Terminal.Sign sign ↦ begin_after context (declare_constant value ∷ []) (InObjective name) terminal
   | Terminal.Opens word ↦ begin_after context (declare_constant value ∷ []) (InObjective name) terminal
   | _ ↦ refuse context terminal BadToken
 ]
-take_lone context (OfRow row) value terminal = refuse_constant context terminal
+take_after_lone_number context (OfRow row) value terminal = refuse_constant context terminal
 
 abbrev pub take : Context → State → Terminal → AfterToken
 take context (Between place) terminal = begin place context terminal
@@ -73,7 +73,7 @@ take context AtSemi terminal = elim terminal as (λ _. AfterToken) [
 take context (Signs owner sign) terminal = take_after_signs context owner sign terminal
 take context (ItemNumber owner sign value) terminal = elim terminal as (λ _. AfterToken) [
   | Terminal.Name column ↦ take_term context owner column (apply_sign sign value) terminal
-  | _ ↦ take_lone context owner (apply_sign sign value) terminal
+  | _ ↦ take_after_lone_number context owner (apply_sign sign value) terminal
 ]
 take context (RowName name) terminal = elim terminal as (λ _. AfterToken) [
   | Terminal.Colon ↦ Goes context (RowLabel name)
@@ -88,7 +88,7 @@ take context (RowSign name sign) terminal = elim terminal as (λ _. AfterToken) 
 take context (RowNumber name sign value) terminal = elim terminal as (λ _. AfterToken) [
   | Terminal.Name column ↦ take_term context (OfRow (without_terms name None)) column (apply_sign sign value) terminal
   | Terminal.Compares relation ↦ Goes context (RowLeftRelation (without_terms name (Some (limit_of (apply_sign sign value), relation))))
-  | _ ↦ take_lone context (OfRow (without_terms name None)) (apply_sign sign value) terminal
+  | _ ↦ take_after_lone_number context (OfRow (without_terms name None)) (apply_sign sign value) terminal
 ]
 take context (RowLeft name limit) terminal = elim terminal as (λ _. AfterToken) [
   | Terminal.Compares relation ↦ Goes context (RowLeftRelation (without_terms name (Some (limit, relation))))
@@ -100,7 +100,7 @@ take context (BoundName column) terminal = elim terminal as (λ _. AfterToken) [
   | Terminal.Compares relation ↦ Goes context (AtSide (SideOfBound true column relation))
   | _ ↦ refuse context terminal BadToken
 ]
-take context (BoundSign sign) terminal = take_limit (λ limit. Goes context (BoundLeft limit)) context sign terminal
+take context (BoundSign sign) terminal = take_side_value (λ limit. Goes context (BoundLeft limit)) context sign terminal
 take context (BoundLeft limit) terminal = elim terminal as (λ _. AfterToken) [
   | Terminal.Compares relation ↦ Goes context (BoundLeftRelation limit relation)
   | _ ↦ refuse context terminal BadToken
@@ -111,9 +111,9 @@ take context (BoundLeftRelation limit relation) terminal = elim terminal as (λ 
 ]
 take context (AtSide sided) terminal = elim terminal as (λ _. AfterToken) [
   | Terminal.Sign sign ↦ Goes context (SideSign sided sign)
-  | _ ↦ take_limit (λ limit. take_side context sided limit terminal) context Plus terminal
+  | _ ↦ take_side_value (λ limit. take_side context sided limit terminal) context Plus terminal
 ]
-take context (SideSign sided sign) terminal = take_limit (λ limit. take_side context sided limit terminal) context sign terminal
+take context (SideSign sided sign) terminal = take_side_value (λ limit. take_side context sided limit terminal) context sign terminal
 -- `end` must be the last token of its line
 take context AfterEnd terminal = refuse context terminal BadToken
 
@@ -129,5 +129,5 @@ is_at_end _ = false
 
 -- the outcome at the end of the tokens
 abbrev pub at_end : Context → State → Outcome Fault Draft
-at_end context AfterEnd = Finished context.earlier
+at_end context AfterEnd = Finished context.builder
 at_end context _ = Open

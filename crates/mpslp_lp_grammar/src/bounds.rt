@@ -13,7 +13,7 @@ ghost use Rattle.mpslp_lp_grammar.specs.Declares.{TakesToken, answer_at};
 ghost use Rattle.mpslp_lp_grammar.specs.Phrase.{terminal_fault};
 ghost use Rattle.mpslp_lp_grammar.specs.Terminal.{Terminal};
 ghost use Rattle.mpslp_lp_grammar.specs.declared.states.Place.{Place};
-ghost use Rattle.mpslp_lp_grammar.specs.AfterToken.{take_bound, take_side, take_limit};
+ghost use Rattle.mpslp_lp_grammar.specs.AfterToken.{take_bound, take_side, take_side_value};
 ghost use Rattle.mpslp_lp_grammar.specs.FirstToken.{begin_bound, take_second_relation};
 
 use crate::answers::{at_place, refuse};
@@ -38,7 +38,7 @@ pub(crate) fn begin_bound(
     ensures { TakesToken (begin_bound context.old (terminal_of_token token.now)) result context.new }
 {
     match token.kind {
-        TerminalKind::Name => Ok(State::BoundName(context.earlier.copied(token.text)?)),
+        TerminalKind::Name => Ok(State::BoundName(context.builder.copied(token.text)?)),
         TerminalKind::Sign(sign) => Ok(State::BoundSign(sign)),
         _ => match limit_of_terminal(Sign::Plus, token) {
             Some(limit) => Ok(State::BoundLeft(limit)),
@@ -86,7 +86,7 @@ pub fn declare_bound(
         → TakesToken (take_bound context.old (new_column is_new column.now) column.now (limits_by relation limit.now) terminal place) (answer_at place result) context.new }
 {
     context
-        .earlier
+        .builder
         .declare_bound_by(is_new, column, relation, limit)
 }
 
@@ -100,7 +100,7 @@ pub fn declare_free(context: &mut Context, column: &[u8]) -> Result<(), LineErro
     ensures { TakesToken (take_bound context.old (declare_column column.now ∷ []) column.now no_limits Terminal.Free (Place.InBounds None)) (answer_at (Place.InBounds None) result) context.new }
 {
     context
-        .earlier
+        .builder
         .declare_bound(true, column, Some(Limit::MinusInf), Some(Limit::PlusInf))
 }
 
@@ -140,7 +140,7 @@ pub(crate) fn take_bound_column(
     requires { IsMpsName column.now }
     ensures { TakesToken (take_bound context.old (declare_column column.now ∷ []) column.now (limits_by (flip relation) limit.now) (Terminal.Name column.now) (Place.InBounds (Some (column.now, relation)))) result context.new }
 {
-    let name = context.earlier.copied(column)?;
+    let name = context.builder.copied(column)?;
     let answer = declare_bound(context, true, column, flip(relation), limit);
     at_place(answer, Place::InBounds(Some((name, relation))))
 }
@@ -164,13 +164,13 @@ pub(crate) fn take_side(
 }
 
 /// Takes a token of a right-hand side, after its sign if it has one.
-pub(crate) fn take_limit(
+pub(crate) fn take_side_value(
     context: &mut Context,
     sided: SideOwner,
     sign: Sign,
     token: &TerminalToken<'_>,
 ) -> Result<State, LineError>
-    ensures { TakesToken (take_limit (λ limit. take_side context.old sided limit (terminal_of_token token.now)) context.old sign (terminal_of_token token.now)) result context.new }
+    ensures { TakesToken (take_side_value (λ limit. take_side context.old sided limit (terminal_of_token token.now)) context.old sign (terminal_of_token token.now)) result context.new }
 {
     match token.kind {
         TerminalKind::Number(value) => {

@@ -17,7 +17,7 @@ pub struct Context {
     /// The sections that were opened.
     pub(crate) sections_seen: SectionsSeen,
     /// What was declared.
-    pub(crate) earlier: LpBuilder,
+    pub(crate) builder: LpBuilder,
 }
 
 impl Context {
@@ -35,7 +35,7 @@ impl Context {
                 semis: false,
                 end: false,
             },
-            earlier: LpBuilder::new(alloc, seed),
+            builder: LpBuilder::new(alloc, seed),
         }
     }
 
@@ -48,13 +48,13 @@ impl Context {
         requires { IsMpsName name.now }
         ensures { MatchResult result (λ copy. copy ≡ name.now) (λ error. error ≡ LineError.OutOfMemory) }
     {
-        self.earlier.copied(name)
+        self.builder.copied(name)
     }
 
     /// The builder that all was declared to.
     pub fn into_builder(self) -> Builder
-        ensures { result ≡ self.earlier }
+        ensures { result ≡ self.builder }
     {
-        self.earlier.into_builder()
+        self.builder.into_builder()
     }
 }

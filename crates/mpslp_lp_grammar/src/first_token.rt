@@ -88,9 +88,9 @@ fn begin_labelled(context: &mut Context, token: &TerminalToken<'_>) -> Result<St
     ensures { TakesToken (begin_phrase Place.BetweenRows context.old (terminal_of_token token.now)) result context.new }
 {
     match token.kind {
-        TerminalKind::Name => Ok(State::RowName(context.earlier.copied(token.text)?)),
+        TerminalKind::Name => Ok(State::RowName(context.builder.copied(token.text)?)),
         TerminalKind::Infinity | TerminalKind::Number(_) | TerminalKind::Sign(_) => {
-            let name = context.earlier.next_row()?;
+            let name = context.builder.next_row()?;
             begin_row(context, name, token)
         }
         _ => refuse(context, token, FaultKind::BadToken),
@@ -132,11 +132,11 @@ pub fn declare_listed(
     requires { IsMpsName column.now }
     ensures { TakesToken (name_taken (listed_at section) (kind_declared section) context.old (Terminal.Name column.now)) (answer_at (listed_at section) result) context.new }
 {
-    context.earlier.declare_listed(section, column)
+    context.builder.declare_listed(section, column)
 }
 
 /// Takes a token in a section that lists names of columns.
-fn take_listed(
+fn take_in_name_section(
     context: &mut Context,
     section: ListSection,
     token: &TerminalToken<'_>,
@@ -184,9 +184,9 @@ fn begin_phrase(
         Place::BetweenRows => begin_labelled(context, token),
         Place::InRow(row) => go_on_in_row(context, row, token),
         Place::InBounds(left) => begin_in_bounds(context, left, token),
-        Place::InGenerals => take_listed(context, ListSection::Generals, token),
-        Place::InBinaries => take_listed(context, ListSection::Binaries, token),
-        Place::InSemis => take_listed(context, ListSection::Semis, token),
+        Place::InGenerals => take_in_name_section(context, ListSection::Generals, token),
+        Place::InBinaries => take_in_name_section(context, ListSection::Binaries, token),
+        Place::InSemis => take_in_name_section(context, ListSection::Semis, token),
     }
 }
 
@@ -219,8 +219,8 @@ pub(crate) fn begin_after(
     token: &TerminalToken<'_>,
 ) -> Result<State, LineError>
     requires { HasLegalName token.now }
-    ensures { (earlier : Draft) (refusals : List BuildFault) (made : Declarations) → DeclaresUnless refusals earlier made answer context.old.earlier
-        → TakesToken (take_after_declarations (record context.old { earlier = earlier }) (terminal_of_token token.now) refusals made (begin place (with_made (record context.old { earlier = earlier }) made) (terminal_of_token token.now))) result context.new }
+    ensures { (earlier : Draft) (refusals : List BuildFault) (made : Declarations) → DeclaresUnless refusals earlier made answer context.old.builder
+        → TakesToken (take_after_declarations (record context.old { builder = earlier }) (terminal_of_token token.now) refusals made (begin place (with_made (record context.old { builder = earlier }) made) (terminal_of_token token.now))) result context.new }
 {
     match answer {
         Ok(()) => begin(context, place, token),

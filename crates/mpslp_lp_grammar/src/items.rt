@@ -45,7 +45,7 @@ pub fn declare_objective_term(
     ensures { TakesToken (take_term context.old (ItemOwner.OfObjective objective.now) column.now value (Terminal.Name column.now)) (answer_at (Place.InObjective objective.now) result) context.new }
 {
     context
-        .earlier
+        .builder
         .declare_term(objective.as_bytes(), column, value)
 }
 

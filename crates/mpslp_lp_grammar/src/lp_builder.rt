@@ -173,7 +173,7 @@ impl LpBuilder {
     }
 
     /// Declares the name of the objective.
-    fn declare_name(&mut self, name: Name) -> Result<(), LineError>
+    fn declare_objective_name(&mut self, name: Name) -> Result<(), LineError>
         ensures { Declares self.old (declare_objective name ∷ []) result self.new }
     {
         self.builder.draft.objective(name)?;
@@ -185,7 +185,7 @@ impl LpBuilder {
         ensures { Declares self.old (objective_declared sense name) result self.new }
     {
         self.declare_sense(sense)?;
-        self.declare_name(name)
+        self.declare_objective_name(name)
     }
 
     /// Declares the constant of the objective.

@@ -56,7 +56,7 @@ pub fn row_without_terms(context: &mut Context, name: Name) -> Result<PartialRow
     ensures same { context.new ≡ context.old }
 {
     let left = None;
-    context.earlier.row_without_terms(name, left)
+    context.builder.row_without_terms(name, left)
 }
 
 /// Takes the first token of a row after its label, or of a row without one.
@@ -72,7 +72,7 @@ pub(crate) fn begin_row(
         TerminalKind::Infinity => Ok(State::RowLeft(name, GivenLimit::infinity(Sign::Plus))),
         TerminalKind::Number(value) => Ok(State::RowNumber(name, Sign::Plus, value)),
         TerminalKind::Name => {
-            let row = context.earlier.row_without_terms(name, None)?;
+            let row = context.builder.row_without_terms(name, None)?;
             take_term(context, ItemOwner::OfRow(row), token.text, one())
         }
         TerminalKind::Sign(sign) => Ok(State::RowSign(name, sign)),
@@ -131,8 +131,8 @@ pub fn declare_row(
 {
     let lower = lower_limit(&row, relation, right);
     let upper = upper_limit(&row, relation, right);
-    let answer = context.earlier.declare_partial(&row, lower, upper);
-    context.earlier.keep_parts(row);
+    let answer = context.builder.declare_partial(&row, lower, upper);
+    context.builder.keep_parts(row);
     answer
 }
 

@@ -96,7 +96,7 @@ impl PartialRow {
     {
         add_named(
             &mut self.parts.terms,
-            context.earlier.alloc(),
+            context.builder.alloc(),
             column,
             value,
         )

@@ -3,13 +3,13 @@
 ghost use Rattle.std.specs.Prelude.{◌≡◌, Some, None};
 ghost use Rattle.mpslp_lp_grammar.specs.TerminalToken.{HasLegalName, terminal_of_token};
 ghost use Rattle.mpslp_lp_grammar.specs.Declares.{TakesToken};
-ghost use Rattle.mpslp_lp_grammar.specs.TokenStep.{refuse_constant, take_lone, take};
+ghost use Rattle.mpslp_lp_grammar.specs.TokenStep.{refuse_constant, take_after_lone_number, take};
 ghost use Rattle.mpslp_lp_grammar.specs.Terminal.{Terminal};
 ghost use Rattle.mpslp_lp_grammar.specs.declared.states.ItemOwner.{ItemOwner};
 ghost use Rattle.mpslp_lp_grammar.specs.declared.states.State.{State};
 
 use crate::answers::{at_place, refuse};
-use crate::bounds::{take_bound_column, take_free, take_limit};
+use crate::bounds::{take_bound_column, take_free, take_side_value};
 use crate::context::Context;
 use crate::first_token::{begin, begin_after};
 use crate::given_limit::GivenLimit;
@@ -36,11 +36,11 @@ fn take_at_objective(
     ensures { TakesToken (take context.old (State.AtObjective sense) (terminal_of_token token.now)) result context.new }
 {
     match token.kind {
-        TerminalKind::Name => Ok(State::ObjectiveName(sense, context.earlier.copied(token.text)?)),
+        TerminalKind::Name => Ok(State::ObjectiveName(sense, context.builder.copied(token.text)?)),
         _ => {
-            let name = context.earlier.default_objective()?;
-            let objective = context.earlier.default_objective()?;
-            let answer = context.earlier.declare_objective(sense, name);
+            let name = context.builder.default_objective()?;
+            let objective = context.builder.default_objective()?;
+            let answer = context.builder.declare_objective(sense, name);
             begin_after(context, answer, Place::BeforeItems(objective), token)
         }
     }
@@ -51,9 +51,9 @@ fn take_objective_label(context: &mut Context, sense: Sense, name: Name) -> Resu
     ensures { TakesToken (take context.old (State.ObjectiveName sense name) Terminal.Colon) result context.new }
 {
     each_name_is_legal(&name);
-    let copy = context.earlier.copied(name.as_bytes())?;
+    let copy = context.builder.copied(name.as_bytes())?;
     at_place(
-        context.earlier.declare_objective(sense, copy),
+        context.builder.declare_objective(sense, copy),
         Place::BeforeItems(name),
     )
 }
@@ -72,8 +72,8 @@ fn take_after_objective_name(
         TerminalKind::Colon => take_objective_label(context, sense, name),
         _ => {
             each_name_is_legal(&name);
-            let objective = context.earlier.default_objective()?;
-            let answer = context.earlier.declare_first_item(sense, name.as_bytes());
+            let objective = context.builder.default_objective()?;
+            let answer = context.builder.declare_first_item(sense, name.as_bytes());
             begin_after(context, answer, Place::InObjective(objective), token)
         }
     }
@@ -118,11 +118,11 @@ fn take_constant(
     token: &TerminalToken<'_>,
 ) -> Result<State, LineError>
     requires { HasLegalName token.now }
-    ensures { TakesToken (take_lone context.old (ItemOwner.OfObjective objective) value (terminal_of_token token.now)) result context.new }
+    ensures { TakesToken (take_after_lone_number context.old (ItemOwner.OfObjective objective) value (terminal_of_token token.now)) result context.new }
 {
     match token.kind {
         TerminalKind::Sign(_) | TerminalKind::Opens(_) => {
-            let answer = context.earlier.declare_constant(value);
+            let answer = context.builder.declare_constant(value);
             begin_after(context, answer, Place::InObjective(objective), token)
         }
         _ => refuse(context, token, FaultKind::BadToken),
@@ -144,14 +144,14 @@ fn refuse_constant(context: &Context, token: &TerminalToken<'_>) -> Result<State
 }
 
 /// Takes the token after a number that no name follows.
-fn take_lone(
+fn take_after_lone_number(
     context: &mut Context,
     owner: ItemOwner,
     value: Decimal,
     token: &TerminalToken<'_>,
 ) -> Result<State, LineError>
     requires { HasLegalName token.now }
-    ensures { TakesToken (take_lone context.old owner value (terminal_of_token token.now)) result context.new }
+    ensures { TakesToken (take_after_lone_number context.old owner value (terminal_of_token token.now)) result context.new }
 {
     match owner {
         ItemOwner::OfObjective(name) => take_constant(context, name, value, token),
@@ -172,7 +172,7 @@ fn take_after_number(
 {
     match token.kind {
         TerminalKind::Name => take_term(context, owner, token.text, sign.of(value)),
-        _ => take_lone(context, owner, sign.of(value), token),
+        _ => take_after_lone_number(context, owner, sign.of(value), token),
     }
 }
 
@@ -188,8 +188,8 @@ fn take_after_row_name(
     match token.kind {
         TerminalKind::Colon => Ok(State::RowLabel(name)),
         TerminalKind::Sign(_) | TerminalKind::Compares(_) => {
-            let label = context.earlier.next_row()?;
-            let empty = context.earlier.row_without_terms(label, None)?;
+            let label = context.builder.next_row()?;
+            let empty = context.builder.row_without_terms(label, None)?;
             each_name_is_legal(&name);
             let row = empty.with_term(context, name.as_bytes(), one())?;
             begin(context, Place::InRow(row), token)
@@ -212,7 +212,7 @@ fn take_after_row_sign(
         TerminalKind::Infinity => Ok(State::RowLeft(name, GivenLimit::infinity(sign))),
         TerminalKind::Number(value) => Ok(State::RowNumber(name, sign, value)),
         TerminalKind::Sign(_) | TerminalKind::Name => {
-            let row = context.earlier.row_without_terms(name, None)?;
+            let row = context.builder.row_without_terms(name, None)?;
             take_after_signs(context, ItemOwner::OfRow(row), sign, token)
         }
         _ => refuse(context, token, FaultKind::BadToken),
@@ -232,12 +232,12 @@ fn take_after_row_number(
 {
     match token.kind {
         TerminalKind::Name => {
-            let row = context.earlier.row_without_terms(name, None)?;
+            let row = context.builder.row_without_terms(name, None)?;
             take_term(context, ItemOwner::OfRow(row), token.text, sign.of(value))
         }
         TerminalKind::Compares(relation) => {
             let left = Some((GivenLimit::of(sign.of(value)), relation));
-            Ok(State::RowLeftRelation(context.earlier.row_without_terms(name, left)?))
+            Ok(State::RowLeftRelation(context.builder.row_without_terms(name, left)?))
         }
         _ => refuse_constant(context, token),
     }
@@ -255,7 +255,7 @@ fn take_row_relation(
     match token.kind {
         TerminalKind::Compares(relation) => {
             let left = Some((limit, relation));
-            Ok(State::RowLeftRelation(context.earlier.row_without_terms(name, left)?))
+            Ok(State::RowLeftRelation(context.builder.row_without_terms(name, left)?))
         }
         _ => refuse(context, token, FaultKind::BadToken),
     }
@@ -332,7 +332,7 @@ fn take_at_side(
 {
     match token.kind {
         TerminalKind::Sign(sign) => Ok(State::SideSign(sided, sign)),
-        _ => take_limit(context, sided, Sign::Plus, token),
+        _ => take_side_value(context, sided, Sign::Plus, token),
     }
 }
 
@@ -376,7 +376,7 @@ pub fn take(
             take_after_bound_relation(context, limit, relation, token)
         }
         State::AtSide(sided) => take_at_side(context, sided, token),
-        State::SideSign(sided, sign) => take_limit(context, sided, sign, token),
+        State::SideSign(sided, sign) => take_side_value(context, sided, sign, token),
         State::AfterEnd => refuse(context, token, FaultKind::BadToken),
     }
 }

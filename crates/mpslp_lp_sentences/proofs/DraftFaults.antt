@@ -14,7 +14,7 @@ use Prelude.{RowLabel, BoundName, BoundLeftRelation, AtSide, SideSign, AfterToke
 use Prelude.{take_after_declarations, declare_at, take_term, take_after_signs, begin_item, take_bound, take_side, no_limits, open_section}
 use Prelude.{begin_row, take_second_relation, begin_phrase, begin, one, Limits, limits_by, flip, term_declared, objective_declared}
 use Prelude.{default_objective, first_item_declared, row_limits, row_declared, PartialRow, start, has_seen, is_out_of_order, Terminal}
-use Prelude.{Opens, Name, Number, Sign, Compares, Colon, Infinity, Free, new_column, begin_after, take_lone, take, IsInWords, is_section}
+use Prelude.{Opens, Name, Number, Sign, Compares, Colon, Infinity, Free, new_column, begin_after, take_after_lone_number, take, IsInWords, is_section}
 use Prelude.{current_section, is_under, is_named, collected, names_again, ends_in_number, ends_in_sign, may_follow_constant}
 use Prelude.{completes_constant, has_constant_before, repeats_constant, gives_lower, gives_upper, last_name, last_relation, column_before}
 use Prelude.{after_sign, completed, completes_bound, repeats_bound, names_integer, names_semi, changes_kind}
@@ -103,7 +103,7 @@ Says earlier token kinds.DuplicateRhs = repeats_constant earlier token ≡ true
 Says earlier token _ = Unit {0}
 
 abbrev KeepsShown : List Terminal → Terminal → AfterToken → Type 0
-KeepsShown earlier token (Goes after next) = Shown (token ∷ earlier) after.earlier
+KeepsShown earlier token (Goes after next) = Shown (token ∷ earlier) after.builder
 KeepsShown earlier token (Refuses kind) = Says earlier token kind
 
 -- if what was declared before is shown with this token
@@ -135,27 +135,27 @@ says-by : (earlier : List Terminal) (token : Terminal) (all : Draft) (made : Dec
     → Says earlier token (kind_of_build_fault first)
 says-by = grind arith
 
-declared : (context : Context) (earlier : List Terminal) (token : Terminal) (place : Place) (made : Declarations) → list_all (is_shown (token ∷ earlier)) made ≡ true → Refused earlier token context.earlier made
-    → Steps earlier context.earlier token (declare_at context token place made)
-declared context earlier token place made shown refusal n = by (refusals_in_turn context.earlier made) refl
+declared : (context : Context) (earlier : List Terminal) (token : Terminal) (place : Place) (made : Declarations) → list_all (is_shown (token ∷ earlier)) made ≡ true → Refused earlier token context.builder made
+    → Steps earlier context.builder token (declare_at context token place made)
+declared context earlier token place made shown refusal n = by (refusals_in_turn context.builder made) refl
   where
-    by : (refusals : List BuildFault) → refusals_in_turn context.earlier made ≡ refusals → KeepsShown earlier token (declare_unless_refused context token refusals place made)
-    by [] e = shown-all made context.earlier (token ∷ earlier) n shown
+    by : (refusals : List BuildFault) → refusals_in_turn context.builder made ≡ refusals → KeepsShown earlier token (declare_unless_refused context token refusals place made)
+    by [] e = shown-all made context.builder (token ∷ earlier) n shown
     by (first ∷ more) e =
-        refused context earlier token (kind_of_build_fault first) (says-by earlier token context.earlier made refusal first (first-refused made context.earlier first more e))
+        refused context earlier token (kind_of_build_fault first) (says-by earlier token context.builder made refusal first (first-refused made context.builder first more e))
 
-declared-before : (context : Context) (earlier : List Terminal) (token : Terminal) (made : Declarations) (next : AfterToken) → list_all (is_shown (token ∷ earlier)) made ≡ true → Refused earlier token context.earlier made
-    → Steps earlier (with_declarations context.earlier made) token next → Steps earlier context.earlier token (take_after_declarations context token (refusals_in_turn context.earlier made) made next)
-declared-before context earlier token made next shown refusal h n = by (refusals_in_turn context.earlier made) refl
+declared-before : (context : Context) (earlier : List Terminal) (token : Terminal) (made : Declarations) (next : AfterToken) → list_all (is_shown (token ∷ earlier)) made ≡ true → Refused earlier token context.builder made
+    → Steps earlier (with_declarations context.builder made) token next → Steps earlier context.builder token (take_after_declarations context token (refusals_in_turn context.builder made) made next)
+declared-before context earlier token made next shown refusal h n = by (refusals_in_turn context.builder made) refl
   where
-    by : (refusals : List BuildFault) → refusals_in_turn context.earlier made ≡ refusals → KeepsShown earlier token (take_after_declarations context token refusals made next)
-    by [] e = h (shown-all made context.earlier (token ∷ earlier) n shown)
+    by : (refusals : List BuildFault) → refusals_in_turn context.builder made ≡ refusals → KeepsShown earlier token (take_after_declarations context token refusals made next)
+    by [] e = h (shown-all made context.builder (token ∷ earlier) n shown)
     by (first ∷ more) e =
-        refused context earlier token (kind_of_build_fault first) (says-by earlier token context.earlier made refusal first (first-refused made context.earlier first more e))
+        refused context earlier token (kind_of_build_fault first) (says-by earlier token context.builder made refusal first (first-refused made context.builder first more e))
 
 -- ---- terms and rows
 
-term : (context : Context) (owner : ItemOwner) (column : List ℕ) (value : Decimal) (earlier : List Terminal) → Steps earlier context.earlier (Name column) (take_term context owner column value (Name column))
+term : (context : Context) (owner : ItemOwner) (column : List ℕ) (value : Decimal) (earlier : List Terminal) → Steps earlier context.builder (Name column) (take_term context owner column value (Name column))
 term context owner column value earlier n = grind arith
 
 terms-shown : (earlier : List Terminal) (name : List ℕ) (terms : List (List ℕ × Decimal)) → list_all (is_shown earlier) (flat_map (term_declared name) terms) ≡ true
@@ -165,13 +165,13 @@ terms-shown earlier name (term ∷ terms) = terms-shown earlier name terms
 never : (b : Bool) {X : Type 0} → b ≡ false → b ≡ true → X
 never b e k = grind arith
 
-row_side : (context : Context) (row : PartialRow) (relation : Relation) (l : Limit) (earlier : List Terminal) (token : Terminal) → Steps earlier context.earlier token (take_side context (SideOfRow row relation) l token)
+row_side : (context : Context) (row : PartialRow) (relation : Relation) (l : Limit) (earlier : List Terminal) (token : Terminal) → Steps earlier context.builder token (take_side context (SideOfRow row relation) l token)
 row_side context row relation l earlier token n =
     declared context earlier token BetweenRows (row_declared row (row_limits row.left relation l)) (terms-shown (token ∷ earlier) row.name row.terms)
     (record {
-      bound = λ e. never (refuses kinds.DuplicateBound context.earlier (row_declared row (row_limits row.left relation l))) (terms-refuse kinds.DuplicateBound refl refl refl row.name row.terms _) e;
-      semi = λ e. never (refuses kinds.SemiContinuous context.earlier (row_declared row (row_limits row.left relation l))) (terms-refuse kinds.SemiContinuous refl refl refl row.name row.terms _) e;
-      rhs = λ e. never (refuses kinds.DuplicateRhs context.earlier (row_declared row (row_limits row.left relation l))) (terms-refuse kinds.DuplicateRhs refl refl refl row.name row.terms _) e;
+      bound = λ e. never (refuses kinds.DuplicateBound context.builder (row_declared row (row_limits row.left relation l))) (terms-refuse kinds.DuplicateBound refl refl refl row.name row.terms _) e;
+      semi = λ e. never (refuses kinds.SemiContinuous context.builder (row_declared row (row_limits row.left relation l))) (terms-refuse kinds.SemiContinuous refl refl refl row.name row.terms _) e;
+      rhs = λ e. never (refuses kinds.DuplicateRhs context.builder (row_declared row (row_limits row.left relation l))) (terms-refuse kinds.DuplicateRhs refl refl refl row.name row.terms _) e;
     }) n
 
 -- ---- bounds
@@ -189,14 +189,14 @@ again = grind arith
 bounds-shown : (earlier : List Terminal) (token : Terminal) (column : List ℕ) (limits : Limits) → Completes earlier token column limits → list_all (is_shown (token ∷ earlier)) (bounds_declared column limits.lower limits.upper) ≡ true
 bounds-shown earlier token column limits h = search (rules, both_so, named-now)
 
-bound : (context : Context) (is_new : Bool) (column : List ℕ) (limits : Limits) (earlier : List Terminal) (token : Terminal) (place : Place) → Shown earlier context.earlier → Completes earlier token column limits
+bound : (context : Context) (is_new : Bool) (column : List ℕ) (limits : Limits) (earlier : List Terminal) (token : Terminal) (place : Place) → Shown earlier context.builder → Completes earlier token column limits
     → KeepsShown earlier token (take_bound context (new_column is_new column) column limits token place)
 bound context is_new column limits earlier token place shown h =
     by (not (has_column front column)) ((is_some limits.lower && has_name front.lowers column) || (is_some limits.upper && has_name front.uppers column))
     (option_map_or is_plus_infinite limits.lower false || option_map_or is_minus_infinite limits.upper false) (λ e. twice is_new e)
   where
     front : Draft
-    front = with_declarations context.earlier (new_column is_new column)
+    front = with_declarations context.builder (new_column is_new column)
 
     fine : (b : Bool) → list_all (is_shown (token ∷ earlier)) (new_column b column) ≡ true
     fine true = refl
@@ -205,17 +205,17 @@ bound context is_new column limits earlier token place shown h =
     one : (a b : Bool) → (a && b) ≡ true → (a ≡ true) × (b ≡ true)
     one = grind arith
 
-    repeated : ((is_some limits.lower && has_name context.earlier.lowers column) || (is_some limits.upper && has_name context.earlier.uppers column)) ≡ true → repeats_bound earlier token ≡ true
+    repeated : ((is_some limits.lower && has_name context.builder.lowers column) || (is_some limits.upper && has_name context.builder.uppers column)) ≡ true → repeats_bound earlier token ≡ true
     repeated e =
-        either (is_some limits.lower && has_name context.earlier.lowers column) (is_some limits.upper && has_name context.earlier.uppers column) (repeats_bound earlier token)
-        (λ a. let parts = one (is_some limits.lower) (has_name context.earlier.lowers column) a in
+        either (is_some limits.lower && has_name context.builder.lowers column) (is_some limits.upper && has_name context.builder.uppers column) (repeats_bound earlier token)
+        (λ a. let parts = one (is_some limits.lower) (has_name context.builder.lowers column) a in
         or_left _ _ (again (completes_bound gives_lower) earlier token column (h.lower parts.0) (shown.lowers column parts.1)))
-        (λ a. let parts = one (is_some limits.upper) (has_name context.earlier.uppers column) a in
+        (λ a. let parts = one (is_some limits.upper) (has_name context.builder.uppers column) a in
         or_right _ _ (again (completes_bound gives_upper) earlier token column (h.upper parts.0) (shown.uppers column parts.1))) e
 
     twice : (b : Bool)
-        → ((is_some limits.lower && has_name (with_declarations context.earlier (new_column b column)).lowers column)
-        || (is_some limits.upper && has_name (with_declarations context.earlier (new_column b column)).uppers column)) ≡ true → repeats_bound earlier token ≡ true
+        → ((is_some limits.lower && has_name (with_declarations context.builder (new_column b column)).lowers column)
+        || (is_some limits.upper && has_name (with_declarations context.builder (new_column b column)).uppers column)) ≡ true → repeats_bound earlier token ≡ true
     twice true e = repeated e
     twice false e = repeated e
 
@@ -226,7 +226,7 @@ bound context is_new column limits earlier token place shown h =
     by false true c k = refused context earlier token kinds.DuplicateBound (k refl)
     by false false true k = refused context earlier token kinds.InfiniteValue tt
     by false false false k =
-        shown-all (new_column is_new column ++ bounds_declared column limits.lower limits.upper) context.earlier (token ∷ earlier) (shown-later token earlier context.earlier shown)
+        shown-all (new_column is_new column ++ bounds_declared column limits.lower limits.upper) context.builder (token ∷ earlier) (shown-later token earlier context.builder shown)
         (list_all-append (is_shown (token ∷ earlier)) (new_column is_new column) (bounds_declared column limits.lower limits.upper)
         ∙ both_so _ _ (fine is_new) (bounds-shown earlier token column limits h))
 
@@ -281,24 +281,24 @@ integer-refused : (earlier : List Terminal) (column : List ℕ) (all : Draft) (m
     → changes_kind earlier (Name column) ≡ true
 integer-refused = grind arith
 
-integers_listed : (context : Context) (earlier : List Terminal) → (is_under Generals earlier || is_under Binaries earlier) ≡ true → Shown earlier context.earlier → (column : List ℕ)
-    → Steps earlier context.earlier (Name column) (declare_at context (Name column) InGenerals (declare_column column ∷ declare_integer column ∷ []))
+integers_listed : (context : Context) (earlier : List Terminal) → (is_under Generals earlier || is_under Binaries earlier) ≡ true → Shown earlier context.builder → (column : List ℕ)
+    → Steps earlier context.builder (Name column) (declare_at context (Name column) InGenerals (declare_column column ∷ declare_integer column ∷ []))
 integers_listed context earlier under shown column n =
     declared context earlier (Name column) InGenerals (declare_column column ∷ declare_integer column ∷ [])
     (both_so _ _ (named-now column (names_integer earlier (Name column)) (collected names_integer earlier)
     (integer-named earlier column under)) refl)
-    (record { bound = λ e. absurd cc; semi = λ e. integer-refused earlier column context.earlier [] under shown (only (is_semi context.earlier column) e); rhs = λ e. absurd cc }) n
+    (record { bound = λ e. absurd cc; semi = λ e. integer-refused earlier column context.builder [] under shown (only (is_semi context.builder column) e); rhs = λ e. absurd cc }) n
 
-binaries_listed : (context : Context) (earlier : List Terminal) → (is_under Generals earlier || is_under Binaries earlier) ≡ true → Shown earlier context.earlier → (column : List ℕ)
-    → Steps earlier context.earlier (Name column) (declare_at context (Name column) InBinaries (declare_column column ∷ declare_binary column ∷ []))
+binaries_listed : (context : Context) (earlier : List Terminal) → (is_under Generals earlier || is_under Binaries earlier) ≡ true → Shown earlier context.builder → (column : List ℕ)
+    → Steps earlier context.builder (Name column) (declare_at context (Name column) InBinaries (declare_column column ∷ declare_binary column ∷ []))
 binaries_listed context earlier under shown column n =
     declared context earlier (Name column) InBinaries (declare_column column ∷ declare_binary column ∷ [])
     (both_so _ _ (named-now column (names_integer earlier (Name column)) (collected names_integer earlier)
     (integer-named earlier column under)) refl)
-    (record { bound = λ e. absurd cc; semi = λ e. integer-refused earlier column context.earlier [] under shown (only (is_semi context.earlier column) e); rhs = λ e. absurd cc }) n
+    (record { bound = λ e. absurd cc; semi = λ e. integer-refused earlier column context.builder [] under shown (only (is_semi context.builder column) e); rhs = λ e. absurd cc }) n
 
-semis_listed : (context : Context) (earlier : List Terminal) → (is_under SemiContinuous earlier && not (ends_in_sign earlier)) ≡ true → Shown earlier context.earlier → (column : List ℕ)
-    → Steps earlier context.earlier (Name column) (declare_at context (Name column) InSemis (declare_column column ∷ declare_semi column ∷ []))
+semis_listed : (context : Context) (earlier : List Terminal) → (is_under SemiContinuous earlier && not (ends_in_sign earlier)) ≡ true → Shown earlier context.builder → (column : List ℕ)
+    → Steps earlier context.builder (Name column) (declare_at context (Name column) InSemis (declare_column column ∷ declare_semi column ∷ []))
 semis_listed context earlier under shown column n =
     declared context earlier (Name column) InSemis (declare_column column ∷ declare_semi column ∷ [])
     (both_so _ _ (named-now column (names_semi earlier (Name column)) (collected names_semi earlier) (semi-named earlier column under))
@@ -308,7 +308,7 @@ semis_listed context earlier under shown column n =
       semi = λ e.
           or_right _ _
           (ap (λ (o : Option (List ℕ)). option_map_or (λ c. is_named c (collected names_integer earlier)) o false) (semi-named earlier column under)
-          ∙ shown.integers column (only (is_integer context.earlier column) e));
+          ∙ shown.integers column (only (is_integer context.builder column) e));
       rhs = λ e. absurd cc;
     }) n
 
@@ -322,19 +322,19 @@ constant-there = grind arith
 
 -- ---- the first token of a phrase
 
-opened : (context : Context) (earlier : List Terminal) (word : SectionWord) → Steps earlier context.earlier (Opens word) (open_section context word)
+opened : (context : Context) (earlier : List Terminal) (word : SectionWord) → Steps earlier context.builder (Opens word) (open_section context word)
 opened context earlier word n = grind arith
 
-signs : (context : Context) (owner : ItemOwner) (sign : SignOf) (earlier : List Terminal) (token : Terminal) → Steps earlier context.earlier token (take_after_signs context owner sign token)
+signs : (context : Context) (owner : ItemOwner) (sign : SignOf) (earlier : List Terminal) (token : Terminal) → Steps earlier context.builder token (take_after_signs context owner sign token)
 signs = grind (arith, signs-by, bad, term)
 
-item : (context : Context) (owner : ItemOwner) (earlier : List Terminal) (token : Terminal) → Steps earlier context.earlier token (begin_item context owner token)
+item : (context : Context) (owner : ItemOwner) (earlier : List Terminal) (token : Terminal) → Steps earlier context.builder token (begin_item context owner token)
 item = grind (arith, item-by, bad, term)
 
-row : (context : Context) (label : List ℕ) (earlier : List Terminal) (token : Terminal) → Steps earlier context.earlier token (begin_row context label token)
+row : (context : Context) (label : List ℕ) (earlier : List Terminal) (token : Terminal) → Steps earlier context.builder token (begin_row context label token)
 row = grind arith
 
-second : (context : Context) (left : Option (List ℕ × Relation)) (earlier : List Terminal) (relation : Relation) → Steps earlier context.earlier (Compares relation) (take_second_relation context left relation (Compares relation))
+second : (context : Context) (left : Option (List ℕ × Relation)) (earlier : List Terminal) (relation : Relation) → Steps earlier context.builder (Compares relation) (take_second_relation context left relation (Compares relation))
 second context left earlier relation n = grind arith
 
 -- what is known where names are listed
@@ -344,29 +344,29 @@ Listed InBinaries earlier all = (current_section earlier ≡ Some Binaries) × S
 Listed InSemis earlier all = (current_section earlier ≡ Some SemiContinuous) × Shown earlier all × (ends_in_sign earlier ≡ false)
 Listed _ earlier all = Unit {0}
 
-phrase : (place : Place) (context : Context) (earlier : List Terminal) → Listed place earlier context.earlier → (token : Terminal) → Steps earlier context.earlier token (begin_phrase place context token)
+phrase : (place : Place) (context : Context) (earlier : List Terminal) → Listed place earlier context.builder → (token : Terminal) → Steps earlier context.builder token (begin_phrase place context token)
 phrase (BeforeItems objective) context earlier h token = item context (OfObjective objective) earlier token
 phrase InGenerals context earlier h token =
-    listed-by (Steps earlier context.earlier) context InGenerals declare_integer (bad context earlier context.earlier)
+    listed-by (Steps earlier context.builder) context InGenerals declare_integer (bad context earlier context.builder)
     (integers_listed context earlier (ap (λ (o : Option Section). option_map_or (is_section Generals) o false || option_map_or (is_section Binaries) o false) h.0) h.1) token
 phrase InBinaries context earlier h token =
-    listed-by (Steps earlier context.earlier) context InBinaries declare_binary (bad context earlier context.earlier)
+    listed-by (Steps earlier context.builder) context InBinaries declare_binary (bad context earlier context.builder)
     (binaries_listed context earlier (ap (λ (o : Option Section). option_map_or (is_section Generals) o false || option_map_or (is_section Binaries) o false) h.0) h.1) token
 phrase InSemis context earlier h token =
-    listed-by (Steps earlier context.earlier) context InSemis declare_semi (bad context earlier context.earlier)
+    listed-by (Steps earlier context.builder) context InSemis declare_semi (bad context earlier context.builder)
     (semis_listed context earlier
     (both_so _ _ (ap (λ (o : Option Section). option_map_or (is_section SemiContinuous) o false) h.0) (so_not _ h.2)) h.1) token
 phrase _ context earlier h token = grind arith
 
-first : (place : Place) (context : Context) (earlier : List Terminal) → Listed place earlier context.earlier → (token : Terminal) → Steps earlier context.earlier token (begin place context token)
+first : (place : Place) (context : Context) (earlier : List Terminal) → Listed place earlier context.builder → (token : Terminal) → Steps earlier context.builder token (begin place context token)
 first = grind (arith, begin-by, branch, opened, bad, phrase)
 
-lone : (context : Context) (owner : ItemOwner) (value : Decimal) (earlier : List Terminal) → Shown earlier context.earlier → current_section earlier ≡ section_of_item owner → NumberShape owner earlier → (token : Terminal)
-    → Steps earlier context.earlier token (take_lone context owner value token)
+lone : (context : Context) (owner : ItemOwner) (value : Decimal) (earlier : List Terminal) → Shown earlier context.builder → current_section earlier ≡ section_of_item owner → NumberShape owner earlier → (token : Terminal)
+    → Steps earlier context.builder token (take_after_lone_number context owner value token)
 lone context (OfObjective objective) value earlier shown here last token =
-    lone-by (Steps earlier context.earlier) context objective value (bad context earlier context.earlier) (λ sign. complete (Sign sign) refl) (λ word. complete (Opens word) refl) token
+    lone-by (Steps earlier context.builder) context objective value (bad context earlier context.builder) (λ sign. complete (Sign sign) refl) (λ word. complete (Opens word) refl) token
   where
-    complete : (t : Terminal) → may_follow_constant t ≡ true → Steps earlier context.earlier t (begin_after context (declare_constant value ∷ []) (InObjective objective) t)
+    complete : (t : Terminal) → may_follow_constant t ≡ true → Steps earlier context.builder t (begin_after context (declare_constant value ∷ []) (InObjective objective) t)
     complete t may =
         let now = constant-completes earlier t here last may in
         declared-before context earlier t (declare_constant value ∷ []) (begin (InObjective objective) (with_made context (declare_constant value ∷ [])) t)
@@ -374,7 +374,7 @@ lone context (OfObjective objective) value earlier shown here last token =
         (record {
           bound = λ e. absurd cc;
           semi = λ e. absurd cc;
-          rhs = λ e. both_so _ _ now (constant-there earlier context.earlier shown (only (has_constant context.earlier) e));
+          rhs = λ e. both_so _ _ now (constant-there earlier context.builder shown (only (has_constant context.builder) e));
         })
         (first (InObjective objective) (with_made context (declare_constant value ∷ [])) earlier tt t)
 lone context (OfRow partial) value earlier shown here last token = grind arith
@@ -382,8 +382,8 @@ lone context (OfRow partial) value earlier shown here last token = grind arith
 -- ---- each state
 
 -- the declarations at the start of the objective
-started : (context : Context) (earlier : List Terminal) (made : Declarations) (place : Place) → Listed place earlier (with_declarations context.earlier made) → (token : Terminal)
-    → list_all (is_shown (token ∷ earlier)) made ≡ true → Refused earlier token context.earlier made → Steps earlier context.earlier token (begin_after context made place token)
+started : (context : Context) (earlier : List Terminal) (made : Declarations) (place : Place) → Listed place earlier (with_declarations context.builder made) → (token : Terminal)
+    → list_all (is_shown (token ∷ earlier)) made ≡ true → Refused earlier token context.builder made → Steps earlier context.builder token (begin_after context made place token)
 started = grind (arith, declared-before, first)
 
 nothing-refused : (earlier : List Terminal) (token : Terminal) (all : Draft) (sense : Sense) (label : List ℕ) → Refused earlier token all (objective_declared sense label)
@@ -401,38 +401,38 @@ number-value value gives earlier = refl
 infinite-value : IsValue Infinity
 infinite-value gives earlier = refl
 
-side : (context : Context) (sided : SideOwner) (l : Limit) (earlier : List Terminal) (token : Terminal) → Shown earlier context.earlier → current_section earlier ≡ section_of_side sided → SideShape sided earlier → IsValue token
-    → Steps earlier context.earlier token (take_side context sided l token)
+side : (context : Context) (sided : SideOwner) (l : Limit) (earlier : List Terminal) (token : Terminal) → Shown earlier context.builder → current_section earlier ≡ section_of_side sided → SideShape sided earlier → IsValue token
+    → Steps earlier context.builder token (take_side context sided l token)
 side context (SideOfRow partial relation) l earlier token shown here shape value = row_side context partial relation l earlier token
 side context (SideOfBound is_new column relation) l earlier token shown here shape value = λ n.
     bound context is_new column (limits_by relation l) earlier token (InBounds None) shown (side-completes earlier token relation l column value here (λ gives k. side-completed gives earlier relation column shape k))
 
-signed_side : (context : Context) (sided : SideOwner) (l : Limit) (earlier : List Terminal) (token : Terminal) → Shown earlier context.earlier → current_section earlier ≡ section_of_side sided → SignedSideShape sided earlier
-    → IsValue token → Steps earlier context.earlier token (take_side context sided l token)
+signed_side : (context : Context) (sided : SideOwner) (l : Limit) (earlier : List Terminal) (token : Terminal) → Shown earlier context.builder → current_section earlier ≡ section_of_side sided → SignedSideShape sided earlier
+    → IsValue token → Steps earlier context.builder token (take_side context sided l token)
 signed_side context (SideOfRow partial relation) l earlier token shown here shape value = row_side context partial relation l earlier token
 signed_side context (SideOfBound is_new column relation) l earlier token shown here shape value = λ n.
     bound context is_new column (limits_by relation l) earlier token (InBounds None) shown
     (side-completes earlier token relation l column value here (λ gives k. signed-completed gives earlier is_new relation column shape k))
 
-step : (context : Context) (state : State) (earlier : List Terminal) → Shown earlier context.earlier → current_section earlier ≡ section_at state → Shape state earlier → (token : Terminal)
-    → Steps earlier context.earlier token (take context state token)
-step context (Between place) earlier shown here shape token = first place context earlier (listed-at place earlier context.earlier shown here shape) token
+step : (context : Context) (state : State) (earlier : List Terminal) → Shown earlier context.builder → current_section earlier ≡ section_at state → Shape state earlier → (token : Terminal)
+    → Steps earlier context.builder token (take context state token)
+step context (Between place) earlier shown here shape token = first place context earlier (listed-at place earlier context.builder shown here shape) token
 step context (AtObjective sense) earlier shown here shape token =
-    objective-by (Steps earlier context.earlier) context sense (λ name n. n)
-    (λ t. started context earlier (objective_declared sense default_objective) (BeforeItems default_objective) tt t refl (nothing-refused earlier t context.earlier sense default_objective)) token
+    objective-by (Steps earlier context.builder) context sense (λ name n. n)
+    (λ t. started context earlier (objective_declared sense default_objective) (BeforeItems default_objective) tt t refl (nothing-refused earlier t context.builder sense default_objective)) token
 step context (ObjectiveName sense label) earlier shown here shape token =
-    objective_name-by (Steps earlier context.earlier) context sense label
-    (declared context earlier Colon (BeforeItems label) (objective_declared sense label) refl (nothing-refused earlier Colon context.earlier sense label))
-    (λ t. started context earlier (first_item_declared sense label) (InObjective default_objective) tt t refl (first-refused_none earlier t context.earlier sense label)) token
-step context AtSemi earlier shown here shape token = semi-by (Steps earlier context.earlier) context (λ n. n) (first InSemis (with_made context []) earlier (here, shown, shape)) token
+    objective_name-by (Steps earlier context.builder) context sense label
+    (declared context earlier Colon (BeforeItems label) (objective_declared sense label) refl (nothing-refused earlier Colon context.builder sense label))
+    (λ t. started context earlier (first_item_declared sense label) (InObjective default_objective) tt t refl (first-refused_none earlier t context.builder sense label)) token
+step context AtSemi earlier shown here shape token = semi-by (Steps earlier context.builder) context (λ n. n) (first InSemis (with_made context []) earlier (here, shown, shape)) token
 step context (Signs owner sign) earlier shown here shape token = signs context owner sign earlier token
 step context (ItemNumber owner sign value) earlier shown here shape token = grind (arith, item_number-by, term, lone)
 step context (RowLabel label) earlier shown here shape token = row context label earlier token
 step context (BoundName column) earlier shown here shape token =
-    bound_name-by (Steps earlier context.earlier) context column (bad context earlier context.earlier)
+    bound_name-by (Steps earlier context.builder) context column (bad context earlier context.builder)
     (λ n. bound context true column no_limits earlier Free (InBounds None) shown (free-completes earlier column here shape)) (λ relation n. n) token
 step context (BoundLeftRelation l relation) earlier shown here shape token =
-    bound_column-by (Steps earlier context.earlier) context l relation (bad context earlier context.earlier)
+    bound_column-by (Steps earlier context.builder) context l relation (bad context earlier context.builder)
     (λ name n. bound context true name (limits_by (flip relation) l) earlier (Name name) (InBounds (Some (name, relation))) shown (name-completes earlier relation l name here shape)) token
 step context (AtSide sided) earlier shown here shape token = grind (arith, side-by, bad, side, number-value, infinite-value)
 step context (SideSign sided sign) earlier shown here shape token = grind (arith, limit-by, bad, signed_side, number-value, infinite-value)
@@ -442,13 +442,13 @@ step context _ earlier shown here shape token = grind arith
 
 pub record Known (earlier : List Terminal) (context : Context) (state : State) : Type 0 where
   pub shaped : Shaped earlier context state
-  pub shown : Shown earlier context.earlier
+  pub shown : Shown earlier context.builder
 
 pub none-known : Known [] start.context (Between AtStart)
 none-known = grind arith
 
 taken : (earlier : List Terminal) (context : Context) (state : State) (token : Terminal) → Known earlier context state → KeepsShown earlier token (take context state token)
-taken earlier context state token known = step context state earlier known.shown known.shaped.opened.current known.shaped.shape token (shown-later token earlier context.earlier known.shown)
+taken earlier context state token known = step context state earlier known.shown known.shaped.opened.current known.shaped.shape token (shown-later token earlier context.builder known.shown)
 
 pub known-later : (earlier : List Terminal) (context : Context) (state : State) (token : Terminal) (after : Context) (next : State) → Known earlier context state → take context state token ≡ Goes after next
     → Known (token ∷ earlier) after next

@@ -13,7 +13,7 @@ use Prelude.{with_made, declare_unless_refused, take_after_declarations, declare
 use Prelude.{take_side, no_limits, may_begin_section, open_section, begin_row, take_second_relation, name_taken, begin_phrase, begin, one}
 use Prelude.{apply_sign, infinity, Limits, limits_by, flip, term_declared, objective_declared, default_objective, first_item_declared}
 use Prelude.{without_terms, row_limits, row_declared, PartialRow, start, has_seen, is_out_of_order, Terminal, Opens, Name, Number, Sign}
-use Prelude.{Compares, Colon, Infinity, Free, new_column, take_lone, take, AreNew, IsInWords, is_section, current_section, is_under}
+use Prelude.{Compares, Colon, Infinity, Free, new_column, take_after_lone_number, take, AreNew, IsInWords, is_section, current_section, is_under}
 use Prelude.{is_named, last_name, ends_in_first_word, term_columns, repeats_entry}
 use Rattle.mpslp_builder.specs.Declaration.{is_objective}
 use Rattle.mpslp_model_core.specs.Model.{CoefficientKey}
@@ -76,7 +76,7 @@ Says earlier token kinds.DuplicateEntry = repeats_entry earlier token ≡ true
 Says earlier token _ = Unit {0}
 
 abbrev KeepsEntries : Tokens → Terminal → AfterToken → Type 0
-KeepsEntries earlier token (Goes after next) = AreKnown after.earlier × EntriesAt next (token ∷ earlier) after.earlier
+KeepsEntries earlier token (Goes after next) = AreKnown after.builder × EntriesAt next (token ∷ earlier) after.builder
 KeepsEntries earlier token (Refuses kind) = Says earlier token kind
 
 refused : (context : Context) (earlier : Tokens) (token : Terminal) (kind : FaultKind) → Says earlier token kind → KeepsEntries earlier token (refuse context token kind)
@@ -101,33 +101,33 @@ says-by = grind arith
 
 -- ---- declarations
 
-declared : (context : Context) (earlier : Tokens) (token : Terminal) (place : Place) (made : Declarations) → (refuses kinds.DuplicateEntry context.earlier made ≡ true → repeats_entry earlier token ≡ true)
-    → AreKnown (with_declarations context.earlier made) → PlaceEntries place (token ∷ earlier) (with_declarations context.earlier made) → KeepsEntries earlier token (declare_at context token place made)
-declared context earlier token place made refusal known entries = by (refusals_in_turn context.earlier made) refl
+declared : (context : Context) (earlier : Tokens) (token : Terminal) (place : Place) (made : Declarations) → (refuses kinds.DuplicateEntry context.builder made ≡ true → repeats_entry earlier token ≡ true)
+    → AreKnown (with_declarations context.builder made) → PlaceEntries place (token ∷ earlier) (with_declarations context.builder made) → KeepsEntries earlier token (declare_at context token place made)
+declared context earlier token place made refusal known entries = by (refusals_in_turn context.builder made) refl
   where
-    by : (refusals : List BuildFault) → refusals_in_turn context.earlier made ≡ refusals → KeepsEntries earlier token (declare_unless_refused context token refusals place made)
+    by : (refusals : List BuildFault) → refusals_in_turn context.builder made ≡ refusals → KeepsEntries earlier token (declare_unless_refused context token refusals place made)
     by [] e = (known, entries)
     by (first ∷ more) e =
-        refused context earlier token (kind_of_build_fault first) (says-by earlier token context.earlier made refusal first (first-refused made context.earlier first more e))
+        refused context earlier token (kind_of_build_fault first) (says-by earlier token context.builder made refusal first (first-refused made context.builder first more e))
 
-declared-before : (context : Context) (earlier : Tokens) (token : Terminal) (made : Declarations) (next : AfterToken) → refuses kinds.DuplicateEntry context.earlier made ≡ false → KeepsEntries earlier token next
-    → KeepsEntries earlier token (take_after_declarations context token (refusals_in_turn context.earlier made) made next)
-declared-before context earlier token made next unrefused h = by (refusals_in_turn context.earlier made) refl
+declared-before : (context : Context) (earlier : Tokens) (token : Terminal) (made : Declarations) (next : AfterToken) → refuses kinds.DuplicateEntry context.builder made ≡ false → KeepsEntries earlier token next
+    → KeepsEntries earlier token (take_after_declarations context token (refusals_in_turn context.builder made) made next)
+declared-before context earlier token made next unrefused h = by (refusals_in_turn context.builder made) refl
   where
-    by : (refusals : List BuildFault) → refusals_in_turn context.earlier made ≡ refusals → KeepsEntries earlier token (take_after_declarations context token refusals made next)
+    by : (refusals : List BuildFault) → refusals_in_turn context.builder made ≡ refusals → KeepsEntries earlier token (take_after_declarations context token refusals made next)
     by [] e = h
     by (first ∷ more) e =
         refused context earlier token (kind_of_build_fault first)
-        (says-by earlier token context.earlier made (λ k. never unrefused k) first (first-refused made context.earlier first more e))
+        (says-by earlier token context.builder made (λ k. never unrefused k) first (first-refused made context.builder first more e))
 
-bound : (context : Context) (is_new : Bool) (column : List ℕ) (limits : Limits) (earlier : Tokens) (token : Terminal) (left : Option (List ℕ × Relation)) → AreKnown context.earlier
+bound : (context : Context) (is_new : Bool) (column : List ℕ) (limits : Limits) (earlier : Tokens) (token : Terminal) (left : Option (List ℕ × Relation)) → AreKnown context.builder
     → KeepsEntries earlier token (take_bound context (new_column is_new column) column limits token (InBounds left))
 bound context is_new column limits earlier token left known =
     by (not (has_column front column)) ((is_some limits.lower && has_name front.lowers column) || (is_some limits.upper && has_name front.uppers column))
     (option_map_or is_plus_infinite limits.lower false || option_map_or is_minus_infinite limits.upper false)
   where
     front : Draft
-    front = with_declarations context.earlier (new_column is_new column)
+    front = with_declarations context.builder (new_column is_new column)
 
     by : (a b c : Bool)
         → KeepsEntries earlier token (declare_unless_refused context token (those_of ((a, builds.UnknownColumn) ∷ (b, builds.DuplicateBound) ∷ (c, builds.InfiniteValue) ∷ [])) (InBounds left)
@@ -161,22 +161,22 @@ terms-unrefused name (term ∷ terms) seen all new known =
     further : (column : List ℕ) → has_coefficient (with_declarations all (term_declared name term)) (key name column) ≡ true → list_any (λ (t : Pair). same_bytes column t.0) (seen ++ term ∷ []) ≡ true
     further = grind (arith, list_any-append, has-put_key, or_right, or_left)
 
-row_ended : (context : Context) (row : PartialRow) (relation : Relation) (l : Limit) (earlier : Tokens) (token : Terminal) → AreKnown context.earlier → AreNew [] row.terms
+row_ended : (context : Context) (row : PartialRow) (relation : Relation) (l : Limit) (earlier : Tokens) (token : Terminal) → AreKnown context.builder → AreNew [] row.terms
     → KeepsEntries earlier token (take_side context (SideOfRow row relation) l token)
-row_ended context row relation l earlier token known new = by (has_row context.earlier row.name) refl (have_infinite_side form)
+row_ended context row relation l earlier token known new = by (has_row context.builder row.name) refl (have_infinite_side form)
   where
     form : RowDefinition
     form = by_limits (unwrap_or (row_limits row.left relation l).lower MinusInf) (unwrap_or (row_limits row.left relation l).upper PlusInf)
 
     all : Draft
-    all = with_declaration context.earlier (declare_row row.name form)
+    all = with_declaration context.builder (declare_row row.name form)
 
     there : has_row all row.name ≡ true
     there = grind (arith, or_right, all, has-put, form, or_left, itself_named)
 
-    after : has_row context.earlier row.name ≡ false → (refusals : List BuildFault) → refusals_in_turn all (flat_map (term_declared row.name) row.terms) ≡ refusals
+    after : has_row context.builder row.name ≡ false → (refusals : List BuildFault) → refusals_in_turn all (flat_map (term_declared row.name) row.terms) ≡ refusals
         → KeepsEntries earlier token (declare_unless_refused context token refusals BetweenRows (row_declared row (row_limits row.left relation l)))
-    after e [] k = (known-terms row.name row.terms all (known-row context.earlier row.name form known) there, tt)
+    after e [] k = (known-terms row.name row.terms all (known-row context.builder row.name form known) there, tt)
     after e (first ∷ more) k =
         refused context earlier token (kind_of_build_fault first)
         (says-by earlier token all (flat_map (term_declared row.name) row.terms)
@@ -184,7 +184,7 @@ row_ended context row relation l earlier token known new = by (has_row context.e
         (terms-unrefused row.name row.terms [] all new (λ column n. never e (known (key row.name column) n))) m) first
         (first-refused (flat_map (term_declared row.name) row.terms) all first more k))
 
-    by : (b : Bool) → has_row context.earlier row.name ≡ b → (c : Bool)
+    by : (b : Bool) → has_row context.builder row.name ≡ b → (c : Bool)
         → KeepsEntries earlier token (declare_unless_refused context token (those_of ((b, builds.DuplicateRow) ∷ (c, builds.InfiniteValue) ∷ []) ++ refusals_in_turn all (flat_map (term_declared row.name) row.terms)) BetweenRows
         (row_declared row (row_limits row.left relation l)))
     by = grind (arith, refused, after, all)
@@ -209,7 +209,7 @@ repeats = grind arith
 under-owner : (section : Section) → (is_section Objective section || is_section Rows section) ≡ true → (earlier : Tokens) → current_section earlier ≡ Some section → (is_under Objective earlier || is_under Rows earlier) ≡ true
 under-owner = grind arith
 
-term : (context : Context) (owner : ItemOwner) (column : List ℕ) (value : Decimal) (earlier : Tokens) → AreKnown context.earlier → Owned owner earlier context.earlier
+term : (context : Context) (owner : ItemOwner) (column : List ℕ) (value : Decimal) (earlier : Tokens) → AreKnown context.builder → Owned owner earlier context.builder
     → KeepsEntries earlier (Name column) (take_term context owner column value (Name column))
 term context (OfObjective name) column value earlier known h = grind (arith, declared, repeats, under-owner, known-more, or_left, objective-no_word, has-put_key, or_right)
 term context (OfRow row) column value earlier known h =
@@ -227,11 +227,11 @@ owner-numbered = grind arith
 owner-entries : (owner : ItemOwner) (earlier : Tokens) (all : Draft) → Owned owner earlier all → OwnerEntries owner earlier all
 owner-entries = grind arith
 
-signs : (context : Context) (owner : ItemOwner) (sign : SignOf) (earlier : Tokens) → AreKnown context.earlier → Owned owner earlier context.earlier → (token : Terminal)
+signs : (context : Context) (owner : ItemOwner) (sign : SignOf) (earlier : Tokens) → AreKnown context.builder → Owned owner earlier context.builder → (token : Terminal)
     → KeepsEntries earlier token (take_after_signs context owner sign token)
 signs = grind (arith, owner-entries, signs-by, bad, owner-signed, term, owner-numbered)
 
-item : (context : Context) (owner : ItemOwner) (earlier : Tokens) → AreKnown context.earlier → Owned owner earlier context.earlier → (token : Terminal) → KeepsEntries earlier token (begin_item context owner token)
+item : (context : Context) (owner : ItemOwner) (earlier : Tokens) → AreKnown context.builder → Owned owner earlier context.builder → (token : Terminal) → KeepsEntries earlier token (begin_item context owner token)
 item = grind (arith, owner-entries, item-by, bad, owner-signed, term, owner-numbered)
 
 -- a row without terms
@@ -240,41 +240,41 @@ no_terms label earlier all here = (tt, λ column e. absurd cc, here)
 
 -- ---- the first token of a phrase
 
-opened : (context : Context) (earlier : Tokens) (word : SectionWord) → AreKnown context.earlier → KeepsEntries earlier (Opens word) (open_section context word)
+opened : (context : Context) (earlier : Tokens) (word : SectionWord) → AreKnown context.builder → KeepsEntries earlier (Opens word) (open_section context word)
 opened = grind arith
 
-row : (context : Context) (label : List ℕ) (earlier : Tokens) → AreKnown context.earlier → current_section earlier ≡ Some Rows → (token : Terminal) → KeepsEntries earlier token (begin_row context label token)
+row : (context : Context) (label : List ℕ) (earlier : Tokens) → AreKnown context.builder → current_section earlier ≡ Some Rows → (token : Terminal) → KeepsEntries earlier token (begin_row context label token)
 row = grind arith
 
-second : (context : Context) (left : Option (List ℕ × Relation)) (earlier : Tokens) → AreKnown context.earlier → (relation : Relation) → KeepsEntries earlier (Compares relation) (take_second_relation context left relation (Compares relation))
+second : (context : Context) (left : Option (List ℕ × Relation)) (earlier : Tokens) → AreKnown context.builder → (relation : Relation) → KeepsEntries earlier (Compares relation) (take_second_relation context left relation (Compares relation))
 second = grind arith
 
-listed : (place : Place) (kind_declared : List ℕ → Declaration) (context : Context) (earlier : Tokens) → AreKnown context.earlier
-    → ((column : List ℕ) → refuses kinds.DuplicateEntry context.earlier (declare_column column ∷ kind_declared column ∷ []) ≡ false)
-    → ((column : List ℕ) → AreKnown (with_declarations context.earlier (declare_column column ∷ kind_declared column ∷ [])))
-    → ((column : List ℕ) → PlaceEntries place (Name column ∷ earlier) (with_declarations context.earlier (declare_column column ∷ kind_declared column ∷ []))) → (token : Terminal)
+listed : (place : Place) (kind_declared : List ℕ → Declaration) (context : Context) (earlier : Tokens) → AreKnown context.builder
+    → ((column : List ℕ) → refuses kinds.DuplicateEntry context.builder (declare_column column ∷ kind_declared column ∷ []) ≡ false)
+    → ((column : List ℕ) → AreKnown (with_declarations context.builder (declare_column column ∷ kind_declared column ∷ [])))
+    → ((column : List ℕ) → PlaceEntries place (Name column ∷ earlier) (with_declarations context.builder (declare_column column ∷ kind_declared column ∷ []))) → (token : Terminal)
     → KeepsEntries earlier token (name_taken place kind_declared context token)
 listed place kind_declared context earlier known none same entries token =
     listed-by (KeepsEntries earlier) context place kind_declared (bad context earlier)
     (λ column. declared context earlier (Name column) place (declare_column column ∷ kind_declared column ∷ [])
     (λ e. never (none column) e) (same column) (entries column)) token
 
-phrase : (place : Place) (context : Context) (earlier : Tokens) → AreKnown context.earlier → PlaceEntries place earlier context.earlier → PlaceShape place earlier → current_section earlier ≡ section_at_place place → (token : Terminal)
+phrase : (place : Place) (context : Context) (earlier : Tokens) → AreKnown context.builder → PlaceEntries place earlier context.builder → PlaceShape place earlier → current_section earlier ≡ section_at_place place → (token : Terminal)
     → KeepsEntries earlier token (begin_phrase place context token)
 phrase AtStart context earlier known h shape here token = bad context earlier token
 phrase (BeforeItems name) context earlier known h shape here token = grind (arith, item)
 phrase InSemis context earlier known h shape here token = listed InSemis declare_semi context earlier known (λ column. refl) (λ column. known) (λ column. tt) token
 phrase _ context earlier known h shape here token = grind arith
 
-first : (place : Place) (context : Context) (earlier : Tokens) → AreKnown context.earlier → PlaceEntries place earlier context.earlier → PlaceShape place earlier → current_section earlier ≡ section_at_place place → (token : Terminal)
+first : (place : Place) (context : Context) (earlier : Tokens) → AreKnown context.builder → PlaceEntries place earlier context.builder → PlaceShape place earlier → current_section earlier ≡ section_at_place place → (token : Terminal)
     → KeepsEntries earlier token (begin place context token)
 first place context earlier known h shape here token =
     begin-by (KeepsEntries earlier) context place
     (λ word. branch earlier (Opens word) (may_begin_section place) (open_section context word) (refuse context (Opens word) kinds.BadToken) (λ e. opened context earlier word known) (λ e. bad context earlier (Opens word)))
     (phrase place context earlier known h shape here) token
 
-lone : (context : Context) (owner : ItemOwner) (value : Decimal) (earlier : Tokens) → AreKnown context.earlier → OwnerEntries owner earlier context.earlier → current_section earlier ≡ section_of_item owner → (token : Terminal)
-    → KeepsEntries earlier token (take_lone context owner value token)
+lone : (context : Context) (owner : ItemOwner) (value : Decimal) (earlier : Tokens) → AreKnown context.builder → OwnerEntries owner earlier context.builder → current_section earlier ≡ section_of_item owner → (token : Terminal)
+    → KeepsEntries earlier token (take_after_lone_number context owner value token)
 lone context owner value earlier known h here token = grind arith
 
 -- ---- the objective
@@ -282,46 +282,46 @@ lone context owner value earlier known h here token = grind arith
 none-there : (all : Draft) → all ≡ empty_draft → (k : CoefficientKey) → has_coefficient all k ≡ false
 none-there = grind arith
 
-first_objective : (context : Context) (sense : Sense) (earlier : Tokens) → AreKnown context.earlier → context.earlier ≡ empty_draft → current_section earlier ≡ Some Objective → (token : Terminal)
+first_objective : (context : Context) (sense : Sense) (earlier : Tokens) → AreKnown context.builder → context.builder ≡ empty_draft → current_section earlier ≡ Some Objective → (token : Terminal)
     → KeepsEntries earlier token (take context (AtObjective sense) token)
 first_objective context sense earlier known none here token =
     objective-by (KeepsEntries earlier) context sense (λ label. (known, tt))
     (λ t. declared-before context earlier t (objective_declared sense default_objective) (begin (BeforeItems default_objective) (with_made context (objective_declared sense default_objective)) t)
     (ap (λ (d : Draft). refuses kinds.DuplicateEntry d (objective_declared sense default_objective)) none)
     (first (BeforeItems default_objective) (with_made context (objective_declared sense default_objective)) earlier
-    (λ k e. never (none-there context.earlier none k) e)
+    (λ k e. never (none-there context.builder none k) e)
     (record {
       named = itself_named default_objective;
       columns = λ column e. never
-          (none-there context.earlier none (key default_objective column)) e;
+          (none-there context.builder none (key default_objective column)) e;
     }) tt here t)) token
 
-named_objective : (context : Context) (sense : Sense) (label : List ℕ) (earlier : Tokens) → context.earlier ≡ empty_draft → last_name earlier ≡ Some label → current_section earlier ≡ Some Objective → (token : Terminal)
+named_objective : (context : Context) (sense : Sense) (label : List ℕ) (earlier : Tokens) → context.builder ≡ empty_draft → last_name earlier ≡ Some label → current_section earlier ≡ Some Objective → (token : Terminal)
     → KeepsEntries earlier token (take context (ObjectiveName sense label) token)
 named_objective context sense label earlier none last here token =
     objective_name-by (KeepsEntries earlier) context sense label
     (declared context earlier Colon (BeforeItems label) (objective_declared sense label)
     (λ e. never (ap (λ (d : Draft). refuses kinds.DuplicateEntry d (objective_declared sense label)) none) e)
-    (λ k e. never (none-there context.earlier none k) e)
-    (record { named = itself_named label; columns = λ column e. never (none-there context.earlier none (key label column)) e }))
+    (λ k e. never (none-there context.builder none k) e)
+    (record { named = itself_named label; columns = λ column e. never (none-there context.builder none (key label column)) e }))
     (λ t. declared-before context earlier t (first_item_declared sense label) (begin (InObjective default_objective) (with_made context (first_item_declared sense label)) t)
     (ap (λ (d : Draft). refuses kinds.DuplicateEntry d (first_item_declared sense label)) none)
     (first (InObjective default_objective) (with_made context (first_item_declared sense label)) earlier known entries tt here t)) token
   where
-    known : AreKnown (with_declarations context.earlier (first_item_declared sense label))
+    known : AreKnown (with_declarations context.builder (first_item_declared sense label))
     known =
-        known-more (with_declarations context.earlier (objective_declared sense default_objective)) default_objective label one
-        (λ k e. never (none-there context.earlier none k) e)
-        (or_left (same_bytes default_objective default_objective) (has_name context.earlier.rows default_objective)
+        known-more (with_declarations context.builder (objective_declared sense default_objective)) default_objective label one
+        (λ k e. never (none-there context.builder none k) e)
+        (or_left (same_bytes default_objective default_objective) (has_name context.builder.rows default_objective)
         (itself_named default_objective))
 
     last_of : (a b : Bool) → (a && b) ≡ true → b ≡ true
     last_of = grind arith
 
-    columns : (column : List ℕ) → has_coefficient (with_declarations context.earlier (first_item_declared sense label)) (key default_objective column) ≡ true → is_named column (term_columns earlier) ≡ true
+    columns : (column : List ℕ) → has_coefficient (with_declarations context.builder (first_item_declared sense label)) (key default_objective column) ≡ true → is_named column (term_columns earlier) ≡ true
     columns = grind (arith, has-put_key, same_name, last_of, never, none-there)
 
-    entries : ObjectiveEntries default_objective earlier (with_declarations context.earlier (first_item_declared sense label))
+    entries : ObjectiveEntries default_objective earlier (with_declarations context.builder (first_item_declared sense label))
     entries = grind (arith, itself_named, columns)
 
 -- ---- each state
@@ -332,11 +332,11 @@ owned = grind arith
 owned-number : (owner : ItemOwner) (earlier : Tokens) (all : Draft) → OwnerEntries owner earlier all → NumberShape owner earlier → current_section earlier ≡ section_of_item owner → Owned owner earlier all
 owned-number = grind arith
 
-side : (context : Context) (sided : SideOwner) (l : Limit) (earlier : Tokens) (token : Terminal) → AreKnown context.earlier → SideEntries sided → KeepsEntries earlier token (take_side context sided l token)
+side : (context : Context) (sided : SideOwner) (l : Limit) (earlier : Tokens) (token : Terminal) → AreKnown context.builder → SideEntries sided → KeepsEntries earlier token (take_side context sided l token)
 side context (SideOfRow row relation) l earlier token known h = row_ended context row relation l earlier token known h
 side context (SideOfBound is_new column relation) l earlier token known h = bound context is_new column (limits_by relation l) earlier token None known
 
-step : (context : Context) (state : State) (earlier : Tokens) → AreKnown context.earlier → EntriesAt state earlier context.earlier → ObjectiveAt state earlier context.earlier → Shape state earlier
+step : (context : Context) (state : State) (earlier : Tokens) → AreKnown context.builder → EntriesAt state earlier context.builder → ObjectiveAt state earlier context.builder → Shape state earlier
     → current_section earlier ≡ section_at state → (token : Terminal) → KeepsEntries earlier token (take context state token)
 step context (Between place) earlier known h o shape here token = grind (arith, first)
 step context (AtObjective sense) earlier known h o shape here token = grind (arith, first_objective)
@@ -361,8 +361,8 @@ step context _ earlier known h o shape here token = grind arith
 
 record Entered (earlier : Tokens) (context : Context) (state : State) : Type 0 where
   rows : Known earlier context state
-  known : AreKnown context.earlier
-  entries : EntriesAt state earlier context.earlier
+  known : AreKnown context.builder
+  entries : EntriesAt state earlier context.builder
 
 none-entered : Entered [] start.context (Between AtStart)
 none-entered = grind arith

@@ -160,7 +160,7 @@ module _ (kind : FaultKind) (is_such : List Terminal → Terminal → Bool) (Kno
       own_fault rest None e f = taken rest (take_all context state (terminals l)) e (tokens-taken (terminals l) earlier context state known) f
 
       by : Rest ls n l earlier fault → (b : Bool) → elim b as (λ _. Outcome Fault Draft) [
-        | true ↦ Finished context.earlier
+        | true ↦ Finished context.builder
         | false ↦ elim (take_line context state l) as (λ _. Outcome Fault Draft) [
           | Goes after next ↦ read_from after next (enumerate_from (n + 1) ls)
           | Refuses other ↦ Refused (fault_on_line n other)

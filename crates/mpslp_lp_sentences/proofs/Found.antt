@@ -52,12 +52,12 @@ pub record Goes (point : Point) (first : Declarations) (line : ℕ → ℕ) (xs 
   pub rest : Complete point line xs more
 
 pub goes-heard : (context : Context) (place : Place) (first : Declarations) (line : ℕ → ℕ) (xs : List Terminal) (made : Declarations) → Heard (goes_to context place first) line xs made
-    → Goes (point_at place context.sections_seen (with_declarations context.earlier first)) first line xs made
+    → Goes (point_at place context.sections_seen (with_declarations context.builder first)) first line xs made
 goes-heard = grind arith
 
 pub record GoesUnrefused (context : Context) (refusals : List BuildFault) (place : Place) (first : Declarations) (line : ℕ → ℕ) (xs : List Terminal) (made : Declarations) : Type 0 where
   pub none : refusals ≡ []
-  pub goes : Goes (point_at place context.sections_seen (with_declarations context.earlier first)) first line xs made
+  pub goes : Goes (point_at place context.sections_seen (with_declarations context.builder first)) first line xs made
 
 pub unless-heard : (context : Context) (token : TerminalAt) (refusals : List BuildFault) (place : Place) (first : Declarations) (line : ℕ → ℕ) (xs : List Terminal) (made : Declarations)
     → Heard (unless_refused context token refusals place first) line xs made → GoesUnrefused context refusals place first line xs made

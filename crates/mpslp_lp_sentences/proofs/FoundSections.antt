@@ -273,7 +273,7 @@ semis-body opening seen earlier line tail made ok h =
     }
 
 -- what goes on and declares nothing
-pub moved : (context : Context) (place : Place) (line : ℕ → ℕ) (xs : List Terminal) (made : Declarations) → Heard (goes_to context place []) line xs made → Complete (point_at place context.sections_seen context.earlier) line xs made
+pub moved : (context : Context) (place : Place) (line : ℕ → ℕ) (xs : List Terminal) (made : Declarations) → Heard (goes_to context place []) line xs made → Complete (point_at place context.sections_seen context.builder) line xs made
 moved = grind arith
 
 -- the last word of a heading
@@ -282,7 +282,7 @@ pub record LastWordFound (wanted : LastWord) (context : Context) (line : ℕ →
   pub tail : List Terminal
   pub same : xs ≡ Name word ∷ tail
   pub is : is_last_word wanted word ≡ true
-  pub heard : Complete (point_at (opened_by wanted) context.sections_seen context.earlier) (onward line) tail made
+  pub heard : Complete (point_at (opened_by wanted) context.sections_seen context.builder) (onward line) tail made
 
 pub last_word-heard : (wanted : LastWord) (context : Context) (line : ℕ → ℕ) (xs : List Terminal) (made : Declarations) → Heard (next >>= last_word context wanted) line xs made → LastWordFound wanted context line xs made
 last_word-heard wanted context line [] made h = absurd (none-some made h)

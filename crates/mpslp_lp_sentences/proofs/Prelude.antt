@@ -34,7 +34,7 @@ pub use Rattle.mpslp_lp_tokens.specs.declared.words.Section.TheVariants.{Objecti
 pub use Rattle.mpslp_lp_tokens.specs.declared.words.SectionWord.{SectionWord}
 pub use Rattle.mpslp_lp_grammar.specs.AfterToken.{AfterToken, Goes, Refuses, refuse, with_made, declare_unless_refused}
 pub use Rattle.mpslp_lp_grammar.specs.AfterToken.{take_after_declarations, declare_at, take_term, take_after_signs, begin_item, take_bound}
-pub use Rattle.mpslp_lp_grammar.specs.AfterToken.{take_side, take_limit}
+pub use Rattle.mpslp_lp_grammar.specs.AfterToken.{take_side, take_side_value}
 pub use Rattle.mpslp_lp_grammar.specs.FirstToken.{open_section, begin_row, take_second_relation, begin_phrase, begin, name_taken}
 pub use Rattle.mpslp_lp_grammar.specs.FirstToken.{begin_bound}
 pub use Rattle.mpslp_lp_grammar.specs.Grammar.{may_begin_section, phrase_at, no_limits, bound_sides, bound_right, bound_after, bound_column}
@@ -56,7 +56,7 @@ pub use Rattle.mpslp_lp_grammar.specs.Terminal.{Terminal, lexical_fault, Termina
 pub use Rattle.mpslp_lp_grammar.specs.Terminal.{line_terminals, Terminal as seen}
 pub use Rattle.mpslp_lp_grammar.specs.Terminal.Terminal.{Name, Compares, Opens, Number, Sign, Colon, Infinity, Free}
 pub use Rattle.mpslp_lp_grammar.specs.{TerminalToken.{terminals, as_terminal}, TokenByToken.{new_column}}
-pub use Rattle.mpslp_lp_grammar.specs.{TokenStep.{begin_after, take_lone, take, is_at_end}, declared.context.Context.{Context}}
+pub use Rattle.mpslp_lp_grammar.specs.{TokenStep.{begin_after, take_after_lone_number, take, is_at_end}, declared.context.Context.{Context}}
 pub use Rattle.mpslp_lp_grammar.specs.declared.relations.Relation.{Relation}
 pub use Rattle.mpslp_lp_grammar.specs.declared.relations.Relation.TheVariants.{AtMost, AtLeast, EqualTo}
 pub use Rattle.mpslp_lp_grammar.specs.{declared.sections_seen.SectionsSeen.{SectionsSeen}, declared.signs.Sign.{Sign as SignOf}}

@@ -10,7 +10,7 @@ use Prelude.{RowName, RowLabel, RowSign, RowNumber, RowLeft, RowLeftRelation, Bo
 use Prelude.{SideSign, AfterEnd, AfterToken, Goes, Refuses, refuse, with_made, declare_unless_refused, take_term, take_after_signs}
 use Prelude.{begin_item, take_side, no_limits, opened_by, is_last_word, open_section, begin_row, take_second_relation, begin_phrase, begin}
 use Prelude.{limits_by, flip, term_declared, objective_declared, default_objective, first_item_declared, fits_left, PartialRow, start}
-use Prelude.{Terminal, Opens, Name, Number, Sign, Compares, Colon, Free, take_lone, take, IsInWords, is_section, has_opened}
+use Prelude.{Terminal, Opens, Name, Number, Sign, Compares, Colon, Free, take_after_lone_number, take, IsInWords, is_section, has_opened}
 use Prelude.{current_section, last_name, follows_terms, is_right_side, is_value, ends_row, label_before, repeats_row}
 use Rattle.mpslp_lp_sentences.proofs.{FaultedTokens.{in-words}, Refusals.{refuses}}
 use Rattle.mpslp_lp_sentences.proofs.RowShapes.{PlaceShape, SideShape, SignedSideShape, SignsShape, NameShape, SignShape, Shape, Shaped}
@@ -52,14 +52,14 @@ item = grind (arith, item-by, bad, rowed-on, objective-on, item-signed, term, it
 
 record IsStart (earlier : Tokens) (context : Context) : Type 0 where
   first : earlier ≡ []
-  none : context.earlier ≡ empty_draft
+  none : context.builder ≡ empty_draft
   unseen : context.sections_seen.objective ≡ false
 
 opened : (context : Context) (earlier : Tokens) (word : SectionWord) → Here earlier context → KeepsRows earlier (Opens word) (open_section context word)
 opened = grind arith
 
 -- at the start only the objective may begin
-begun : (context : Context) (earlier : Tokens) (word : SectionWord) → Rowed earlier context.earlier → IsStart earlier context → KeepsRows earlier (Opens word) (open_section context word)
+begun : (context : Context) (earlier : Tokens) (word : SectionWord) → Rowed earlier context.builder → IsStart earlier context → KeepsRows earlier (Opens word) (open_section context word)
 begun = grind arith
 
 -- ---- the first token of a phrase
@@ -104,33 +104,33 @@ first : (place : Place) (context : Context) (earlier : Tokens) → Here earlier 
 first = grind (arith, begin-by, branch, opened, bad, phrase)
 
 lone : (context : Context) (owner : ItemOwner) (value : Decimal) (earlier : Tokens) → Here earlier context → current_section earlier ≡ section_of_item owner → (token : Terminal)
-    → KeepsRows earlier token (take_lone context owner value token)
+    → KeepsRows earlier token (take_after_lone_number context owner value token)
 lone context owner value earlier h here token = grind arith
 
 -- ---- each state
 
-here_from : (earlier : Tokens) (context : Context) → Rowed earlier context.earlier → HasObjective earlier context.earlier → context.sections_seen.objective ≡ has_opened earlier Objective → Here earlier context
+here_from : (earlier : Tokens) (context : Context) → Rowed earlier context.builder → HasObjective earlier context.builder → context.sections_seen.objective ≡ has_opened earlier Objective → Here earlier context
 here_from = grind arith
 
 -- the objective gets its name without a label
-unlabelled : (context : Context) (earlier : Tokens) (made : Declarations) → Rowed earlier context.earlier → IsEmpty earlier context.earlier → context.sections_seen.objective ≡ has_opened earlier Objective
-    → (with_declarations context.earlier made).rows ≡ context.earlier.rows → (with_declarations context.earlier made).objective ≡ Some default_objective → Here earlier (with_made context made)
+unlabelled : (context : Context) (earlier : Tokens) (made : Declarations) → Rowed earlier context.builder → IsEmpty earlier context.builder → context.sections_seen.objective ≡ has_opened earlier Objective
+    → (with_declarations context.builder made).rows ≡ context.builder.rows → (with_declarations context.builder made).objective ≡ Some default_objective → Here earlier (with_made context made)
 unlabelled = grind (arith, rowed-same, sorted-with_declarations, opened)
 
-first_objective : (context : Context) (sense : Sense) (earlier : Tokens) → Rowed earlier context.earlier → IsEmpty earlier context.earlier → context.sections_seen.objective ≡ has_opened earlier Objective
+first_objective : (context : Context) (sense : Sense) (earlier : Tokens) → Rowed earlier context.builder → IsEmpty earlier context.builder → context.sections_seen.objective ≡ has_opened earlier Objective
     → current_section earlier ≡ Some Objective → (token : Terminal) → KeepsRows earlier token (take context (AtObjective sense) token)
 first_objective = grind (arith, objective-by, rowed-later, opened, declared-before, refuses, first, unlabelled)
 
-named_objective : (context : Context) (sense : Sense) (label : List ℕ) (earlier : Tokens) → Rowed earlier context.earlier → IsEmpty earlier context.earlier → last_name earlier ≡ Some label
+named_objective : (context : Context) (sense : Sense) (label : List ℕ) (earlier : Tokens) → Rowed earlier context.builder → IsEmpty earlier context.builder → last_name earlier ≡ Some label
     → context.sections_seen.objective ≡ has_opened earlier Objective → current_section earlier ≡ Some Objective → (token : Terminal) → KeepsRows earlier token (take context (ObjectiveName sense label) token)
 named_objective context sense label earlier rowed empty last seen here token =
-    objective_name-by (KeepsRows earlier) context sense label (by (refusals_in_turn context.earlier (objective_declared sense label)) refl)
+    objective_name-by (KeepsRows earlier) context sense label (by (refusals_in_turn context.builder (objective_declared sense label)) refl)
     (λ t. declared-before context earlier t (first_item_declared sense label) (begin (InObjective default_objective) (with_made context (first_item_declared sense label)) t)
     (ap (λ (d : Draft). refuses kinds.DuplicateRow d (first_item_declared sense label)) empty.none)
     (first (InObjective default_objective) (with_made context (first_item_declared sense label)) earlier
     (unlabelled context earlier (first_item_declared sense label) rowed empty seen refl refl) tt tt here t)) token
   where
-    by : (refusals : List BuildFault) → refusals_in_turn context.earlier (objective_declared sense label) ≡ refusals
+    by : (refusals : List BuildFault) → refusals_in_turn context.builder (objective_declared sense label) ≡ refusals
         → KeepsRows earlier Colon (declare_unless_refused context Colon refusals (BeforeItems label) (objective_declared sense label))
     by = grind arith
 
@@ -183,7 +183,7 @@ signed_side context (SideOfBound is_new column relation) l earlier token h name 
 side-signed : (sided : SideOwner) (sign : SignOf) (earlier : Tokens) → SideName sided earlier → SideName sided (Sign sign ∷ earlier)
 side-signed = grind arith
 
-step : (context : Context) (state : State) (earlier : Tokens) → Rowed earlier context.earlier → ObjectiveAt state earlier context.earlier → NameAt state earlier → Shape state earlier → current_section earlier ≡ section_at state
+step : (context : Context) (state : State) (earlier : Tokens) → Rowed earlier context.builder → ObjectiveAt state earlier context.builder → NameAt state earlier → Shape state earlier → current_section earlier ≡ section_at state
     → context.sections_seen.objective ≡ has_opened earlier Objective → (token : Terminal) → KeepsRows earlier token (take context state token)
 step context (Between AtStart) earlier r o n sh here v token = grind arith
 step context (AtObjective sense) earlier r o n sh here v token = grind (arith, first_objective)
@@ -216,8 +216,8 @@ step context _ earlier r o n sh here v token = grind (arith, first, here_from)
 
 pub record Known (earlier : Tokens) (context : Context) (state : State) : Type 0 where
   pub shaped : Shaped earlier context state
-  pub rowed : Rowed earlier context.earlier
-  pub objective : ObjectiveAt state earlier context.earlier
+  pub rowed : Rowed earlier context.builder
+  pub objective : ObjectiveAt state earlier context.builder
   pub name : NameAt state earlier
 
 pub none-known : Known [] start.context (Between AtStart)

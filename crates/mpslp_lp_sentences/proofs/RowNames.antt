@@ -84,7 +84,7 @@ Says earlier token kinds.DuplicateRow = repeats_row earlier token ≡ true
 Says earlier token _ = Unit {0}
 
 abbrev pub KeepsRows : Tokens → Terminal → AfterToken → Type 0
-KeepsRows earlier token (Goes after next) = Rowed (token ∷ earlier) after.earlier × ObjectiveAt next (token ∷ earlier) after.earlier × NameAt next (token ∷ earlier)
+KeepsRows earlier token (Goes after next) = Rowed (token ∷ earlier) after.builder × ObjectiveAt next (token ∷ earlier) after.builder × NameAt next (token ∷ earlier)
 KeepsRows earlier token (Refuses kind) = Says earlier token kind
 
 pub refused : (context : Context) (earlier : Tokens) (token : Terminal) (kind : FaultKind) → Says earlier token kind → KeepsRows earlier token (refuse context token kind)
@@ -139,41 +139,41 @@ name-kept = grind arith
 
 -- what is known before a token, once the objective has begun
 pub record Here (earlier : Tokens) (context : Context) : Type 0 where
-  pub rowed : Rowed earlier context.earlier
-  pub objective : HasObjective earlier context.earlier
+  pub rowed : Rowed earlier context.builder
+  pub objective : HasObjective earlier context.builder
   pub seen : context.sections_seen.objective ≡ true
 
 -- a token that ends no row and declares nothing
-pub rowed-on : (token : Terminal) (earlier : Tokens) (context : Context) → ends_row earlier token ≡ false → Here earlier context → Rowed (token ∷ earlier) context.earlier
+pub rowed-on : (token : Terminal) (earlier : Tokens) (context : Context) → ends_row earlier token ≡ false → Here earlier context → Rowed (token ∷ earlier) context.builder
 rowed-on = grind arith
 
-pub objective-on : (token : Terminal) (earlier : Tokens) (context : Context) → is_no_colon token ≡ true → Here earlier context → HasObjective (token ∷ earlier) context.earlier
+pub objective-on : (token : Terminal) (earlier : Tokens) (context : Context) → is_no_colon token ≡ true → Here earlier context → HasObjective (token ∷ earlier) context.builder
 objective-on = grind arith
 
 pub never : (b : Bool) {X : Type 0} → b ≡ false → b ≡ true → X
 never b e k = grind arith
 
 pub declared : (context : Context) (earlier : Tokens) (token : Terminal) (place : Place) (made : Declarations) → Here earlier context → ends_row earlier token ≡ false → is_no_colon token ≡ true
-    → (with_declarations context.earlier made).rows ≡ context.earlier.rows → (with_declarations context.earlier made).objective ≡ context.earlier.objective → refuses kinds.DuplicateRow context.earlier made ≡ false
-    → (HasObjective (token ∷ earlier) (with_declarations context.earlier made) → ObjectiveAt (Between place) (token ∷ earlier) (with_declarations context.earlier made)) → PlaceName place (token ∷ earlier)
+    → (with_declarations context.builder made).rows ≡ context.builder.rows → (with_declarations context.builder made).objective ≡ context.builder.objective → refuses kinds.DuplicateRow context.builder made ≡ false
+    → (HasObjective (token ∷ earlier) (with_declarations context.builder made) → ObjectiveAt (Between place) (token ∷ earlier) (with_declarations context.builder made)) → PlaceName place (token ∷ earlier)
     → KeepsRows earlier token (declare_at context token place made)
-declared context earlier token place made h none keeps rows objective unrefused at name = by (refusals_in_turn context.earlier made) refl
+declared context earlier token place made h none keeps rows objective unrefused at name = by (refusals_in_turn context.builder made) refl
   where
-    by : (refusals : List BuildFault) → refusals_in_turn context.earlier made ≡ refusals → KeepsRows earlier token (declare_unless_refused context token refusals place made)
+    by : (refusals : List BuildFault) → refusals_in_turn context.builder made ≡ refusals → KeepsRows earlier token (declare_unless_refused context token refusals place made)
     by [] e = grind (arith, rowed-later, sorted-with_declarations, objective-later)
     by (first ∷ more) e =
         refused context earlier token (kind_of_build_fault first)
-        (says-by earlier token context.earlier made (λ k. never (refuses kinds.DuplicateRow context.earlier made) unrefused k) first (first-refused made context.earlier first more e))
+        (says-by earlier token context.builder made (λ k. never (refuses kinds.DuplicateRow context.builder made) unrefused k) first (first-refused made context.builder first more e))
 
-pub declared-before : (context : Context) (earlier : Tokens) (token : Terminal) (made : Declarations) (next : AfterToken) → refuses kinds.DuplicateRow context.earlier made ≡ false → KeepsRows earlier token next
-    → KeepsRows earlier token (take_after_declarations context token (refusals_in_turn context.earlier made) made next)
-declared-before context earlier token made next unrefused h = by (refusals_in_turn context.earlier made) refl
+pub declared-before : (context : Context) (earlier : Tokens) (token : Terminal) (made : Declarations) (next : AfterToken) → refuses kinds.DuplicateRow context.builder made ≡ false → KeepsRows earlier token next
+    → KeepsRows earlier token (take_after_declarations context token (refusals_in_turn context.builder made) made next)
+declared-before context earlier token made next unrefused h = by (refusals_in_turn context.builder made) refl
   where
-    by : (refusals : List BuildFault) → refusals_in_turn context.earlier made ≡ refusals → KeepsRows earlier token (take_after_declarations context token refusals made next)
+    by : (refusals : List BuildFault) → refusals_in_turn context.builder made ≡ refusals → KeepsRows earlier token (take_after_declarations context token refusals made next)
     by [] e = h
     by (first ∷ more) e =
         refused context earlier token (kind_of_build_fault first)
-        (says-by earlier token context.earlier made (λ k. never (refuses kinds.DuplicateRow context.earlier made) unrefused k) first (first-refused made context.earlier first more e))
+        (says-by earlier token context.builder made (λ k. never (refuses kinds.DuplicateRow context.builder made) unrefused k) first (first-refused made context.builder first more e))
 
 pub bound : (context : Context) (is_new : Bool) (column : List ℕ) (limits : Limits) (earlier : Tokens) (token : Terminal) (left : Option (List ℕ × Relation)) → Here earlier context → ends_row earlier token ≡ false
     → is_no_colon token ≡ true → KeepsRows earlier token (take_bound context (new_column is_new column) column limits token (InBounds left))
@@ -182,12 +182,12 @@ bound context is_new column limits earlier token left h none keeps =
     (option_map_or is_plus_infinite limits.lower false || option_map_or is_minus_infinite limits.upper false)
   where
     front : Draft
-    front = with_declarations context.earlier (new_column is_new column)
+    front = with_declarations context.builder (new_column is_new column)
 
-    rows : (b : Bool) → (with_declarations context.earlier (new_column b column ++ bounds_declared column limits.lower limits.upper)).rows ≡ context.earlier.rows
+    rows : (b : Bool) → (with_declarations context.builder (new_column b column ++ bounds_declared column limits.lower limits.upper)).rows ≡ context.builder.rows
     rows = grind arith
 
-    objective : (b : Bool) → (with_declarations context.earlier (new_column b column ++ bounds_declared column limits.lower limits.upper)).objective ≡ context.earlier.objective
+    objective : (b : Bool) → (with_declarations context.builder (new_column b column ++ bounds_declared column limits.lower limits.upper)).objective ≡ context.builder.objective
     objective = grind arith
 
     by : (a b c : Bool)
@@ -207,7 +207,7 @@ terms-objective name (term ∷ terms) all = terms-objective name terms (with_dec
 
 pub row_ended : (context : Context) (row : PartialRow) (relation : Relation) (l : Limit) (earlier : Tokens) (token : Terminal) → Here earlier context → IsNameOf row.name earlier → is_value token ≡ true
     → current_section earlier ≡ Some Rows → is_right_side earlier ≡ true → KeepsRows earlier token (take_side context (SideOfRow row relation) l token)
-row_ended context row relation l earlier token h name value here right = by (refusals_in_turn context.earlier made) refl
+row_ended context row relation l earlier token h name value here right = by (refusals_in_turn context.builder made) refl
   where
     form : RowDefinition
     form = by_limits (unwrap_or (row_limits row.left relation l).lower MinusInf) (unwrap_or (row_limits row.left relation l).upper PlusInf)
@@ -231,27 +231,27 @@ row_ended context row relation l earlier token h name value here right = by (ref
         one : (a b : List ℕ) → Some a ≡ Some b → a ≡ b
         one a b m = cc
 
-    repeated : has_row context.earlier row.name ≡ true → repeats_row earlier token ≡ true
+    repeated : has_row context.builder row.name ≡ true → repeats_row earlier token ≡ true
     repeated k =
-        either (is_objective context.earlier row.name) (has_name context.earlier.rows row.name) (repeats_row earlier token)
-        (λ e. or_right _ _ (is_objective-named context.earlier.objective h.objective.name e))
+        either (is_objective context.builder row.name) (has_name context.builder.rows row.name) (repeats_row earlier token)
+        (λ e. or_right _ _ (is_objective-named context.builder.objective h.objective.name e))
         (λ e. or_left _ _
         (ap (λ (o : Option (List ℕ)). option_map_or (λ c. is_named c (collected names_row earlier)) o false) named ∙ h.rowed.rows row.name e)) k
 
     only : (b c : Bool) → c ≡ false → ((b || false) || c) ≡ true → b ≡ true
     only = grind arith
 
-    rowed : refusals_in_turn context.earlier made ≡ [] → Rowed (token ∷ earlier) (with_declarations context.earlier made)
+    rowed : refusals_in_turn context.builder made ≡ [] → Rowed (token ∷ earlier) (with_declarations context.builder made)
     rowed none = record {
       rows = λ other e.
           found other (same_bytes other row.name) refl
-          (sym (has-put other row.name form context.earlier.rows) ∙ ap (λ (entries : List (List ℕ × RowDefinition)). has_name entries other) (sym (terms-rows row.name row.terms (with_declaration context.earlier (declare_row row.name form)))) ∙ e);
-      count = row-adds context.earlier row.name form row.terms h.rowed.sorted none ∙ ap (λ (n : ℕ). n + 1) h.rowed.count
+          (sym (has-put other row.name form context.builder.rows) ∙ ap (λ (entries : List (List ℕ × RowDefinition)). has_name entries other) (sym (terms-rows row.name row.terms (with_declaration context.builder (declare_row row.name form)))) ∙ e);
+      count = row-adds context.builder row.name form row.terms h.rowed.sorted none ∙ ap (λ (n : ℕ). n + 1) h.rowed.count
           ∙ sym (ap (λ (b : Bool). if b then rows_before earlier + 1 else rows_before earlier) ends);
-      sorted = sorted-with_declarations made context.earlier h.rowed.sorted;
+      sorted = sorted-with_declarations made context.builder h.rowed.sorted;
     }
       where
-        found : (other : List ℕ) (b : Bool) → same_bytes other row.name ≡ b → (b || has_name context.earlier.rows other) ≡ true → is_named other (cons_option (names_row earlier token) (collected names_row earlier)) ≡ true
+        found : (other : List ℕ) (b : Bool) → same_bytes other row.name ≡ b → (b || has_name context.builder.rows other) ≡ true → is_named other (cons_option (names_row earlier token) (collected names_row earlier)) ≡ true
         found other true e k =
             ap (λ (o : Option (List ℕ)). is_named other (cons_option o (collected names_row earlier))) named ∙ or_left _ _ e
         found other false e k = named-more other (names_row earlier token) (collected names_row earlier) (h.rowed.rows other k)
@@ -262,14 +262,14 @@ row_ended context row relation l earlier token h name value here right = by (ref
     no_label : (t : Terminal) → is_value t ≡ true → ends_row earlier t ≡ true → label_before (t ∷ earlier) ≡ None
     no_label = grind arith
 
-    by : (refusals : List BuildFault) → refusals_in_turn context.earlier made ≡ refusals → KeepsRows earlier token (declare_unless_refused context token refusals BetweenRows made)
+    by : (refusals : List BuildFault) → refusals_in_turn context.builder made ≡ refusals → KeepsRows earlier token (declare_unless_refused context token refusals BetweenRows made)
     by [] e = (
       rowed e,
-      objective-later token earlier context.earlier (with_declarations context.earlier made) (keeps token value) (terms-objective row.name row.terms (with_declaration context.earlier (declare_row row.name form))) h.objective,
+      objective-later token earlier context.builder (with_declarations context.builder made) (keeps token value) (terms-objective row.name row.terms (with_declaration context.builder (declare_row row.name form))) h.objective,
       no_label token value ends,
     )
     by (first ∷ more) e =
         refused context earlier token (kind_of_build_fault first)
-        (says-by earlier token context.earlier made
-        (λ k. repeated (only (has_row context.earlier row.name) (refuses kinds.DuplicateRow (with_declaration context.earlier (declare_row row.name form)) (flat_map (term_declared row.name) row.terms))
-        (terms-refuse kinds.DuplicateRow refl refl refl row.name row.terms (with_declaration context.earlier (declare_row row.name form))) k)) first (first-refused made context.earlier first more e))
+        (says-by earlier token context.builder made
+        (λ k. repeated (only (has_row context.builder row.name) (refuses kinds.DuplicateRow (with_declaration context.builder (declare_row row.name form)) (flat_map (term_declared row.name) row.terms))
+        (terms-refuse kinds.DuplicateRow refl refl refl row.name row.terms (with_declaration context.builder (declare_row row.name form))) k)) first (first-refused made context.builder first more e))

@@ -11,7 +11,7 @@ use Prelude.{RowName, RowLabel, RowSign, RowNumber, RowLeft, RowLeftRelation, Bo
 use Prelude.{Goes, Refuses, refuse, with_made, declare_unless_refused, take_after_declarations, take_term, take_after_signs, begin_item}
 use Prelude.{take_side, may_begin_section, open_section, begin_row, begin_bound, take_second_relation, name_taken, begin_phrase, begin, one}
 use Prelude.{apply_sign, fits_second, limits_by, flip, objective_declared, default_objective, first_item_declared, fits_left, PartialRow}
-use Prelude.{start, has_seen, is_out_of_order, Terminal, Opens, Name, Number, Sign, Compares, Colon, new_column, begin_after, take_lone}
+use Prelude.{start, has_seen, is_out_of_order, Terminal, Opens, Name, Number, Sign, Compares, Colon, new_column, begin_after, take_after_lone_number}
 use Prelude.{take, IsInWords, ends_in_number, ends_in_sign, last_name, ends_in_name, ends_in_value, ends_in_first_word, begins_row}
 use Prelude.{follows_terms, may_be_left_side, is_right_side, ends_in_constant, follows_constant, left_relation, last_relation}
 use Prelude.{bound_relation, agree, mixes_under, mixes_senses, term_columns, is_named}
@@ -212,7 +212,7 @@ side : (context : Context) (sided : SideOwner) (l : Limit) (earlier : List Termi
 side context (SideOfRow row relation) l earlier token h = grind (arith, row, declared)
 side context (SideOfBound is_new column relation) l earlier token h =
     let limits = limits_by relation l in
-    declared context (Some Bounds) earlier token (bounds_refusals (with_declarations context.earlier (new_column is_new column)) column limits.lower limits.upper) (InBounds None)
+    declared context (Some Bounds) earlier token (bounds_refusals (with_declarations context.builder (new_column is_new column)) column limits.lower limits.upper) (InBounds None)
     (new_column is_new column ++ bounds_declared column limits.lower limits.upper) tt
 
 opened : (context : Context) (here : Option Section) (earlier : List Terminal) (word : SectionWord) → KeepsShape here earlier (Opens word) (open_section context word)
@@ -239,7 +239,7 @@ listed : (place : Place) (kind_declared : List ℕ → Declaration) (context : C
     → KeepsShape (section_at_place place) earlier token (name_taken place kind_declared context token)
 listed place kind_declared context earlier h token =
     listed-by (KeepsShape (section_at_place place) earlier) context place kind_declared (bad context (section_at_place place) earlier)
-    (λ name. declared context (section_at_place place) earlier (Name name) (refusals_in_turn context.earlier (declare_column name ∷ kind_declared name ∷ [])) place (declare_column name ∷ kind_declared name ∷ []) (h name)) token
+    (λ name. declared context (section_at_place place) earlier (Name name) (refusals_in_turn context.builder (declare_column name ∷ kind_declared name ∷ [])) place (declare_column name ∷ kind_declared name ∷ []) (h name)) token
 
 phrase : (place : Place) (context : Context) (earlier : List Terminal) → PlaceShape place earlier → (token : Terminal) → KeepsShape (section_at_place place) earlier token (begin_phrase place context token)
 phrase AtStart context earlier h token = bad context None earlier token
@@ -255,7 +255,7 @@ first place context earlier h token =
 later : (context : Context) (made : Declarations) (place : Place) (earlier : List Terminal) → PlaceShape place earlier → (token : Terminal) → KeepsShape (section_at_place place) earlier token (begin_after context made place token)
 later = grind (arith, declared-before, section_at_place, first)
 
-lone : (context : Context) (owner : ItemOwner) (value : Decimal) (earlier : List Terminal) → NumberShape owner earlier → (token : Terminal) → KeepsShape (section_of_item owner) earlier token (take_lone context owner value token)
+lone : (context : Context) (owner : ItemOwner) (value : Decimal) (earlier : List Terminal) → NumberShape owner earlier → (token : Terminal) → KeepsShape (section_of_item owner) earlier token (take_after_lone_number context owner value token)
 lone context (OfObjective objective) value earlier h token =
     lone-by (KeepsShape (Some Objective) earlier) context objective value (bad context (Some Objective) earlier) (λ sign. later context (declare_constant value ∷ []) (InObjective objective) earlier tt (Sign sign))
     (λ word. later context (declare_constant value ∷ []) (InObjective objective) earlier tt (Opens word)) token
@@ -294,7 +294,7 @@ step context (AtObjective sense) earlier h token =
     objective-by (KeepsShape (Some Objective) earlier) context sense (λ name. tt) (later context (objective_declared sense default_objective) (BeforeItems default_objective) earlier tt) token
 step context (ObjectiveName sense label) earlier h token =
     objective_name-by (KeepsShape (Some Objective) earlier) context sense label
-    (declared context (Some Objective) earlier Colon (refusals_in_turn context.earlier (objective_declared sense label)) (BeforeItems label) (objective_declared sense label) tt)
+    (declared context (Some Objective) earlier Colon (refusals_in_turn context.builder (objective_declared sense label)) (BeforeItems label) (objective_declared sense label) tt)
     (later context (first_item_declared sense label) (InObjective default_objective) earlier tt) token
 step context AtSemi earlier h token = semi-by (KeepsShape (Some SemiContinuous) earlier) context tt (first InSemis (with_made context []) earlier h) token
 step context (Signs owner sign) earlier h token = signs context owner sign earlier h token
@@ -304,7 +304,7 @@ step context (RowLeftRelation partial) earlier h token = item context (OfRow par
 step context (BoundLeftRelation l relation) earlier h token =
     let limits = limits_by (flip relation) l in
     bound_column-by (KeepsShape (Some Bounds) earlier) context l relation (bad context (Some Bounds) earlier)
-    (λ name. declared context (Some Bounds) earlier (Name name) (bounds_refusals (with_declarations context.earlier (declare_column name ∷ [])) name limits.lower limits.upper) (InBounds (Some (name, relation)))
+    (λ name. declared context (Some Bounds) earlier (Name name) (bounds_refusals (with_declarations context.builder (declare_column name ∷ [])) name limits.lower limits.upper) (InBounds (Some (name, relation)))
     (declare_column name ∷ bounds_declared name limits.lower limits.upper) (h, refl)) token
 step context (AtSide sided) earlier h token = grind (arith, side-by, section_of_side, bad, side)
 step context (SideSign sided sign) earlier h token = grind (arith, limit-by, section_of_side, bad, side)

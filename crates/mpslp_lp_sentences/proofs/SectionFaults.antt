@@ -11,7 +11,7 @@ use Prelude.{AfterEnd, AfterToken, Goes, Refuses, refuse, with_made, declare_unl
 use Prelude.{take_after_signs, begin_item, declare_at, take_bound, take_side, no_limits, opened_by, may_begin_section, is_last_word}
 use Prelude.{open_section, begin_row, begin_bound, take_second_relation, name_taken, begin_phrase, begin, one, apply_sign, Limits}
 use Prelude.{limits_by, flip, objective_declared, default_objective, first_item_declared, terminal_fault, start, has_seen, with_section}
-use Prelude.{is_out_of_order, Terminal, Opens, Name, Compares, Colon, Free, begin_after, take_lone, take, IsInWords, opens, has_opened}
+use Prelude.{is_out_of_order, Terminal, Opens, Name, Compares, Colon, Free, begin_after, take_after_lone_number, take, IsInWords, opens, has_opened}
 use Prelude.{current_section, repeats_section, section_rank, opens_later, comes_late, comes_early, breaks_order}
 use Rattle.mpslp_lp_sentences.proofs.FaultedTokens.{in-words}
 use Rattle.mpslp_lp_sentences.proofs.TokenCases.{signs-by, item-by, limit-by, listed-by, last_word-by, bound_name-by, bound_column-by}
@@ -182,7 +182,7 @@ first-later = grind (arith, first)
 later : (context : Context) (made : Declarations) (place : Place) (token : Terminal) → KeepsSections context (section_at_place place) token (begin_after context made place token)
 later = grind (arith, first-later)
 
-lone : (context : Context) (owner : ItemOwner) (value : Decimal) (token : Terminal) → KeepsSections context (section_of_item owner) token (take_lone context owner value token)
+lone : (context : Context) (owner : ItemOwner) (value : Decimal) (token : Terminal) → KeepsSections context (section_of_item owner) token (take_after_lone_number context owner value token)
 lone context owner value token = grind arith
 
 last_word : (context : Context) (wanted : LastWord) (token : Terminal) → KeepsSections context (section_at (AtLastWord wanted)) token (take context (AtLastWord wanted) token)

@@ -115,12 +115,12 @@ module _ (last : ℕ) (later : Tokens) where
 
   -- the last word of a heading
   hears-last_word : (context : Context) (wanted : LastWord) (word : List ℕ) (n : ℕ) (xs : List Terminal) (made : Declarations) → is_last_word wanted word ≡ true
-      → IsWhole last later (point_at (opened_by wanted) context.sections_seen context.earlier) xs made → Hears last later (last_word context wanted (at n (Name word))) xs made
+      → IsWhole last later (point_at (opened_by wanted) context.sections_seen context.builder) xs made → Hears last later (last_word context wanted (at n (Name word))) xs made
   hears-last_word context wanted word n xs made is rest line = grind arith
 
   -- what follows `semi` if no dash does
   hears-semi : (context : Context) (x : Terminal) (n : ℕ) (xs : List Terminal) (made : Declarations) → is_plain x ≡ true
-      → IsWhole last later (point_at InSemis context.sections_seen context.earlier) xs made → Hears last later (semi_from context (at n x)) xs made
+      → IsWhole last later (point_at InSemis context.sections_seen context.builder) xs made → Hears last later (semi_from context (at n x)) xs made
   hears-semi = grind arith
 
   whole-section : (part : Section) (place : Place) (seen : SectionsSeen) (earlier : Draft) (xs : List Terminal) (made : Declarations) → may_begin_section place ≡ true → section_fault seen (kind_of part) ≡ None → is_section part ≡ true

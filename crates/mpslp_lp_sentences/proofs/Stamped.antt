@@ -28,7 +28,7 @@ is_elsewhere line [] = true
 is_elsewhere line (token ∷ tokens) = not (token.line == line)
 
 abbrev pub here : SectionsSeen → Draft → Context
-here sections_seen earlier = record { sections_seen = sections_seen; earlier = earlier }
+here sections_seen earlier = record { sections_seen = sections_seen; builder = earlier }
 
 -- the `end` of a text, and what follows it
 abbrev pub ending : ℕ → Tokens → Tokens
@@ -60,11 +60,11 @@ module _ (last : ℕ) (later : Tokens) where
   hears-ahead following (x ∷ xs) made h line = grind (arith, listened-ahead, at)
 
   pub hears-goes : (context : Context) (place : Place) (made : Declarations) (xs : List Terminal) (more : Declarations)
-      → IsWhole (point_at place context.sections_seen (with_declarations context.earlier made)) xs more → Hears (goes_to context place made) xs (made ++ more)
+      → IsWhole (point_at place context.sections_seen (with_declarations context.builder made)) xs more → Hears (goes_to context place made) xs (made ++ more)
   hears-goes context place made xs more h line = ap (preceded made) (h line)
 
-  pub hears-declares : (context : Context) (token : TerminalAt) (place : Place) (made : Declarations) (xs : List Terminal) (more : Declarations) → refusals_in_turn context.earlier made ≡ []
-      → IsWhole (point_at place context.sections_seen (with_declarations context.earlier made)) xs more → Hears (declares context token place made) xs (made ++ more)
+  pub hears-declares : (context : Context) (token : TerminalAt) (place : Place) (made : Declarations) (xs : List Terminal) (more : Declarations) → refusals_in_turn context.builder made ≡ []
+      → IsWhole (point_at place context.sections_seen (with_declarations context.builder made)) xs more → Hears (declares context token place made) xs (made ++ more)
   hears-declares = grind arith
 
   -- two phrases, and what they declare

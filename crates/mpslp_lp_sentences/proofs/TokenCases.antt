@@ -5,9 +5,9 @@ use Prelude.{declare_column, declare_constant, SectionWord, Context, Relation, S
 use Prelude.{Continuous, Place, BeforeItems, InObjective, InRow, InBounds, InSemis, SideOwner, SideOfRow, SideOfBound, Between, AtObjective}
 use Prelude.{ObjectiveName, AtLastWord, AtSemi, Signs, ItemNumber, RowSign, RowNumber, RowLeft, BoundName, BoundLeftRelation, AtSide}
 use Prelude.{SideSign, AfterToken, Goes, refuse, with_made, declare_at, take_term, take_after_signs, begin_item, take_bound, take_side}
-use Prelude.{take_limit, no_limits, opened_by, may_begin_section, is_last_word, open_section, name_taken, begin_phrase, begin, one, product}
+use Prelude.{take_side_value, no_limits, opened_by, may_begin_section, is_last_word, open_section, name_taken, begin_phrase, begin, one, product}
 use Prelude.{apply_sign, infinity, limits_by, flip, objective_declared, default_objective, first_item_declared, default_row, without_terms}
-use Prelude.{fits_left, PartialRow, Terminal, Opens, Name, Number, Sign, Compares, Colon, Infinity, Free, begin_after, take_lone, take}
+use Prelude.{fits_left, PartialRow, Terminal, Opens, Name, Number, Sign, Compares, Colon, Infinity, Free, begin_after, take_after_lone_number, take}
 use Rattle.mpslp_types.specs.declared.faults.FaultKind.TheVariants as kinds
 
 -- a row without a label, whose first term has only this name
@@ -35,7 +35,7 @@ module _ (P : Terminal → AfterToken → Type 0) where
   pub limit-by : (context : Context) (goes : Limit → Terminal → AfterToken) (before : SignOf) → ((t : Terminal) → P t (refuse context t kinds.BadToken))
       → ((value : Decimal) → P (Number value) (goes (limit_of (apply_sign before value)) (Number value)))
       → (P Infinity (goes (infinity before) Infinity))
-      → (t : Terminal) → P t (take_limit (λ l. goes l t) context before t)
+      → (t : Terminal) → P t (take_side_value (λ l. goes l t) context before t)
   limit-by = grind arith
 
   -- a name in Generals, Binaries or among the semi-continuous columns
@@ -55,7 +55,7 @@ module _ (P : Terminal → AfterToken → Type 0) where
   pub lone-by : (context : Context) (objective : List ℕ) (number : Decimal) → ((t : Terminal) → P t (refuse context t kinds.BadToken))
       → ((sign : SignOf) → P (Sign sign) (begin_after context (declare_constant number ∷ []) (InObjective objective) (Sign sign)))
       → ((word : SectionWord) → P (Opens word) (begin_after context (declare_constant number ∷ []) (InObjective objective) (Opens word)))
-      → (t : Terminal) → P t (take_lone context (OfObjective objective) number t)
+      → (t : Terminal) → P t (take_after_lone_number context (OfObjective objective) number t)
   lone-by = grind arith
 
   -- the last word of a heading
@@ -109,7 +109,7 @@ module _ (P : Terminal → AfterToken → Type 0) where
   -- after the number of an item
   pub item_number-by : (context : Context) (owner : ItemOwner) (before : SignOf) (number : Decimal)
       → ((name : List ℕ) → P (Name name) (take_term context owner name (apply_sign before number) (Name name)))
-      → ((t : Terminal) → P t (take_lone context owner (apply_sign before number) t))
+      → ((t : Terminal) → P t (take_after_lone_number context owner (apply_sign before number) t))
       → (t : Terminal) → P t (take context (ItemNumber owner before number) t)
   item_number-by = grind arith
 

@@ -1,4 +1,4 @@
-//! The tokens of a line of LP text, and what words mean.
+//! The tokens of a line of LP text and its words, apart from the reader so that they are proved beside the builder.
 //!
 //! The definitions are in `specs/`: the tokens of a line and reserved words (`Token`), tokens by stages (`Scan`), and what
 //! holds of every line (`Laws`).

@@ -280,7 +280,7 @@ impl Model {
 
     /// The bytes of the name of the row of number `i`. The names are one after another here, so this reads less memory than
     /// [`Model::row_name`].
-    pub fn row_text(&self, i: usize) -> &[u8]
+    pub fn row_name_bytes(&self, i: usize) -> &[u8]
         requires { i < num_rows self.now }
         ensures { slice_get (row_names self.now) i ≡ Some result.now }
     {

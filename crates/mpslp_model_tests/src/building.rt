@@ -139,7 +139,7 @@ impl Shown {
         for k in 0..model.column_len(j) {
             let (i, value) = model.entry(j, k);
             if i < model.num_rows() {
-                self.put_name("entry ", model.row_text(i))?;
+                self.put_name("entry ", model.row_name_bytes(i))?;
                 self.put_number(" ", value)?;
                 self.put_number(" ", model.coefficient(i, j))?;
                 self.put(b"\n".as_slice())?;

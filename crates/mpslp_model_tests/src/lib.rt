@@ -1,7 +1,7 @@
-//! Tests of the public calls of the builder, and of limits and the definitions of models, which succeed with ample memory.
+//! Tests of the builder and of models, in a crate of their own because the kit proves a crate with tests twice.
 //!
-//! This crate has only tests: a crate that has tests is proved twice, the second time together with them. The tests of the other
-//! crates below the builder are in mpslp_base_tests, which is proved earlier.
+//! They test the public calls of the builder, and limits and the definitions of models, which succeed with ample memory. The tests
+//! of the other crates below the builder are in mpslp_base_tests, which is proved earlier.
 #![tactic(auto)]
 
 #[cfg(test)]

@@ -73,7 +73,7 @@ module _ (context : Context) (earlier : Draft) (fields : Fields) (column : List 
 
   pub usual-read : (next : Context) (later : Draft) → next ≡ after_column context column → later ≡ with_declarations earlier (usual_declared context.in_integer_part column values)
       → ReadsContent context earlier (data_line fields) (Ok tt) next later
-  usual-read next later step laid = search (rules, usual-fault, step-column, column-declares)
+  usual-read next later step declared = search (rules, usual-fault, step-column, column-declares)
 
 -- the same for all results
 pub usual-passed : (context : Context) (earlier : Draft) (fields : Fields) (column : List ℕ) (values : List (List ℕ × Number)) → context.section ≡ Some Columns → is_marker_line fields ≡ false

@@ -92,7 +92,7 @@ fn has_duplicate(builder: &Builder, column: &[u8], values: &RowValues<'_>) -> bo
 }
 
 /// Declares the column of a line.
-fn declare_name(builder: &mut Builder, alloc: Global, column: &[u8]) -> Result<(), LineError>
+fn declare_column_name(builder: &mut Builder, alloc: Global, column: &[u8]) -> Result<(), LineError>
     requires name { IsMpsName column.now }
     ensures { MatchResult result (λ _. builder.new ≡ with_declaration builder.old (declare_column column.now)) (λ error. error ≡ LineError.OutOfMemory) }
 {
@@ -124,7 +124,7 @@ fn declare_column(
     requires apart { (is_marked && is_semi builder.old column.now) ≡ false }
     ensures { MatchResult result (λ _. builder.new ≡ with_declarations builder.old (front_declared is_marked column.now)) (λ error. error ≡ LineError.OutOfMemory) }
 {
-    declare_name(builder, alloc, column)?;
+    declare_column_name(builder, alloc, column)?;
     declare_mark(builder, column, is_marked)?;
     Ok(())
 }

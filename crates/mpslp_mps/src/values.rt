@@ -8,7 +8,7 @@ ghost use Rattle.mpslp_mps.specs.LineFault.{literals_of};
 ghost use Rattle.mpslp_mps.specs.LineValues.{row_value};
 
 use mpslp_decimal::Decimal;
-use mpslp_lines::{kind_of_number_fault, lesser_fault, value_of};
+use mpslp_lines::{kind_of_number_fault, lower_ranked_number_fault, value_of};
 use mpslp_model::FaultKind;
 use mpslp_mps_fields::{Pair, Pairs};
 use std::marker::Model;
@@ -79,7 +79,9 @@ fn values_of_both<'a>(pair: Pair<'a>, other: Pair<'a>) -> Result<RowValues<'a>, 
         }),
         (Err(fault), Ok(_)) => Err(kind_of_number_fault(fault)),
         (Ok(_), Err(fault)) => Err(kind_of_number_fault(fault)),
-        (Err(fault), Err(second)) => Err(kind_of_number_fault(lesser_fault(fault, second))),
+        (Err(fault), Err(second)) => Err(kind_of_number_fault(lower_ranked_number_fault(
+            fault, second,
+        ))),
     }
 }
 

@@ -14,7 +14,7 @@ ghost use Rattle.mpslp_mps_fields.specs.declared.sections.Section.{Section};
 use crate::context::LineContext;
 use crate::data_lines::check_vector;
 use crate::values::{RowValue, RowValues, is_same_row};
-use mpslp_lines::{LineError, lesser_kind};
+use mpslp_lines::{LineError, lower_ranked_kind};
 use mpslp_model::{Builder, FaultKind};
 use mpslp_mps_fields::Section;
 
@@ -137,7 +137,7 @@ fn error_of_both(builder: &Builder, kind: FaultKind, second: &RowValue) -> LineE
 {
     match check_range(builder, second) {
         Ok(()) => LineError::Fault(kind),
-        Err(LineError::Fault(other)) => LineError::Fault(lesser_kind(kind, other)),
+        Err(LineError::Fault(other)) => LineError::Fault(lower_ranked_kind(kind, other)),
         Err(LineError::OutOfMemory) => LineError::OutOfMemory,
     }
 }

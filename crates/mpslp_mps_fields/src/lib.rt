@@ -1,4 +1,4 @@
-//! Lines of MPS text by themselves: their fields, the shapes of data lines, and what words mean.
+//! Lines of MPS text: their fields, shapes and words, apart from the reader so that they are proved beside the builder.
 //!
 //! The format follows the CPLEX file format reference, with fields separated by spaces and tabs. The definitions are in
 //! `specs/`: lines, their fields, and headers with their sections and what follows their keywords (`Line`), and the shapes of

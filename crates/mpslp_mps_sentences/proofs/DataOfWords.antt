@@ -11,10 +11,10 @@ use Rattle.mpslp_mps.specs.Context.{context_of, current_section, said_after, dat
 use Rattle.mpslp_mps.{specs.{Context.{bound_set, word_due}, LineFault.{data_tests, is_split}}, proofs.OrderLemmas.{IsGood, never}}
 use Rattle.mpslp_mps_sentences.specs.TextInWords.{strays, stray_lines, takes_data, words_in, has_word_at_most, is_sense, is_row_line}
 use Rattle.mpslp_mps_sentences.specs.TextInWords.{is_columns_line, is_vector_line, is_bound_line, alternate, are_together, is_one_set}
-use Rattle.mpslp_mps_sentences.proofs.{WordsOfFields.is_other_set, WordsOfColumns.columns_of, WordsOfOneWord.{is_single, IsUnderway}}
+use Rattle.mpslp_mps_sentences.proofs.{WordsOfFields.is_other_set, WordsOfColumns.columns_of, WordsOfSenseAndName.{is_single, IsUnderway}}
 use Rattle.mpslp_mps_sentences.proofs.{FieldsOfWords.{row-good, columns-good, vector-good, bound-good}, SectionsOfWords.said_after-append}
 use Rattle.mpslp_mps_sentences.proofs.SectionsOfWords.{data-occurs, passes-all, set-fits, marker-follows, together-apart}
-use Rattle.mpslp_mps_sentences.proofs.{OneWordOfWords.line-single, ColumnsOfWords.{HaveLines, not-split}}
+use Rattle.mpslp_mps_sentences.proofs.{SenseAndNameOfWords.line-single, ColumnsOfWords.{HaveLines, not-split}}
 
 -- ---- data lines
 

@@ -16,7 +16,7 @@ use Rattle.mpslp_mps.{specs.LineFault.{vector_tests, bound_tests, bound_line_tes
 use Rattle.mpslp_mps_sentences.specs.{TextInWords.{section_rank, alternate, are_together}, FaultsInWords.{IsInWords, repeats_section}}
 use Rattle.mpslp_mps_sentences.specs.FaultsInWords.{comes_early, comes_late, has_its_word, is_without_word, is_closed, occurs_out_of_order}
 use Rattle.mpslp_mps_sentences.specs.FaultsInWords.{breaks_turn, is_wrong_marker, differs_from, has_second_set, is_of_second_set}
-use Rattle.mpslp_mps_sentences.{specs.FaultsInWords.splits_column, proofs.{WordsOfColumns.columns_of, WordsOfOneWord.IsUnderway}}
+use Rattle.mpslp_mps_sentences.{specs.FaultsInWords.splits_column, proofs.{WordsOfColumns.columns_of, WordsOfSenseAndName.IsUnderway}}
 use Rattle.mpslp_mps_sentences.proofs.{SectionsOfWords.{marker-follows, together-apart}, ColumnsOfWords.not-split, NamesOfWords.Stated}
 use Rattle.mpslp_mps_sentences.proofs.KindsOfLines.{none-holds, left_only, column_kinds, unknown_kinds, unknown-among, section-among}
 use Rattle.mpslp_mps_sentences.proofs.{KindsOfLines.{column-among, no-data, no-header, by-form}, FaultedLines.{holds_of, in-words}}

@@ -14,10 +14,10 @@ use Rattle.mpslp_mps.specs.{Context.{objname_word, objname, word_due}, SeenSecti
 use Rattle.mpslp_mps.{specs.LineFault.{section_tests, header_tests}, proofs.OrderLemmas.{IsGood, never}}
 use Rattle.mpslp_mps_sentences.specs.TextInWords.{in_order, same_section, are_good_sections, may_have_more, is_good_header, word_fields}
 use Rattle.mpslp_mps_sentences.specs.TextInWords.{words_in, has_word_at_most, is_sense, is_free_row_named, has_free_row}
-use Rattle.mpslp_mps_sentences.{specs.TextInWords.has_named_objective, proofs.{WordsOfFields.section-is, WordsOfOneWord.fits_word}}
-use Rattle.mpslp_mps_sentences.proofs.{WordsOfOneWord.IsUnderway, WordsOfObjName.{section-begun, named-in_words}}
+use Rattle.mpslp_mps_sentences.{specs.TextInWords.has_named_objective, proofs.{WordsOfFields.section-is, WordsOfSenseAndName.fits_word}}
+use Rattle.mpslp_mps_sentences.proofs.{WordsOfSenseAndName.IsUnderway, WordsOfObjName.{section-begun, named-in_words}}
 use Rattle.mpslp_mps_sentences.proofs.{SectionsOfWords.{said_after-append, passes-all}, HeadersOfWords.{distinct-before, begins-so}}
-use Rattle.mpslp_mps_sentences.proofs.{HeadersOfWords.header-good, OneWordOfWords.{IsWantedThere, header-fits, no-more-words, not-left}}
+use Rattle.mpslp_mps_sentences.proofs.{HeadersOfWords.header-good, SenseAndNameOfWords.{IsWantedThere, header-fits, no-more-words, not-left}}
 use Rattle.mpslp_mps_sentences.proofs.ObjNameOfWords.{IsDeclared, no-more-lines}
 
 -- no section after this one is one of those before it

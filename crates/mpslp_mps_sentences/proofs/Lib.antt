@@ -3,13 +3,13 @@ pub mod WordsOfFields
 pub mod WordsOfSections
 pub mod WordsOfColumns
 pub mod WordsOfHeaders
-pub mod WordsOfOneWord
+pub mod WordsOfSenseAndName
 pub mod WordsOfObjName
 pub mod WordsOfText
 pub mod FieldsOfWords
 pub mod SectionsOfWords
 pub mod HeadersOfWords
-pub mod OneWordOfWords
+pub mod SenseAndNameOfWords
 pub mod ObjNameOfWords
 pub mod ColumnsOfWords
 pub mod DataOfWords

@@ -16,7 +16,7 @@ use Rattle.mpslp_mps.{specs.LineDeclarations.{header_declared, line_declares}, p
 use Rattle.mpslp_mps.proofs.SectionLemmas.{data_lines-push, said_after-push}
 use Rattle.mpslp_mps_sentences.specs.TextInWords.{is_free, is_free_row_named, has_free_row, word_fields, words_in}
 use Rattle.mpslp_mps_sentences.specs.{FaultsInWords.is_free_row_line, ValueFaultsInWords.{free_row_name, names_objective}}
-use Rattle.mpslp_mps_sentences.proofs.{WordsOfFields.section-is, WordsOfOneWord.{missing, without_word, with_word, IsUnderway}}
+use Rattle.mpslp_mps_sentences.proofs.{WordsOfFields.section-is, WordsOfSenseAndName.{missing, without_word, with_word, IsUnderway}}
 use Rattle.mpslp_mps_sentences.proofs.WordsOfObjName.{IsWantedEarly, objective-kept, header-unnamed, data-unnamed, stated-words}
 use Rattle.mpslp_mps_sentences.proofs.{NamesOfWords.Stated, RepeatsOfNames.{last-place, columns-out}, DeclaredByLines.IsPartOf}
 use Rattle.mpslp_mps_sentences.proofs.DeclaredByLines.{lines-kept}

@@ -21,7 +21,7 @@ use Rattle.mpslp_mps.proofs.OrderLemmas.{sense-passes, sides-passes, ranges-pass
 use Rattle.mpslp_mps_sentences.specs.{TextInWords.{section_rank, in_order, words_in}, FaultsInWords.{IsInWords, names_row, row_name}}
 use Rattle.mpslp_mps_sentences.specs.FaultsInWords.{has_default_objective, repeats_row, column_line, has_row_twice, has_entry_of}
 use Rattle.mpslp_mps_sentences.{specs.FaultsInWords.{repeats_entry_of, repeats_entry}, proofs.BoundsPasses.{Passes, bounds-passes}}
-use Rattle.mpslp_mps_sentences.proofs.{WordsOfObjName.stated-words, WordsOfOneWord.{missing, without_word, with_word, sense-word}}
+use Rattle.mpslp_mps_sentences.proofs.{WordsOfObjName.stated-words, WordsOfSenseAndName.{missing, without_word, with_word, sense-word}}
 use Rattle.mpslp_mps_sentences.proofs.{NamesOfWords.Stated, FaultedLines.{holds_of, refuses, is_below, IsFirst, in-words}}
 use Rattle.mpslp_mps_sentences.proofs.{KindsOfLines.{left_only, right_only, kinds_in}, FaultsOfNames.{may_refuse, no-one, form-good, some}}
 

@@ -8,7 +8,7 @@ use Rattle.mpslp_mps.{specs.{Context.context_of, LineDeclarations.line_declares,
 use Rattle.mpslp_mps.proofs.ContextLineLemmas.{form_faults, are_well_formed, lines-good}
 use Rattle.mpslp_mps_sentences.{specs.{TextInWords.is_text_in_words, Laws.TextIsInWords}, proofs.WordsOfText.{AreInWords, none-yet}}
 use Rattle.mpslp_mps_sentences.proofs.{WordsOfText.{one-more, text-in_words}, ColumnsOfWords.{HaveLines, lines-push}}
-use Rattle.mpslp_mps_sentences.proofs.{ObjNameOfWords.{IsDeclared, declared-kept}, OneWordOfWords.{IsWantedThere, wanted_there-kept}}
+use Rattle.mpslp_mps_sentences.proofs.{ObjNameOfWords.{IsDeclared, declared-kept}, SenseAndNameOfWords.{IsWantedThere, wanted_there-kept}}
 use Rattle.mpslp_mps_sentences.proofs.{DataOfWords.{AreGoodLines, data-good}, KeywordsOfWords.{AreGoodHeaders, keyword-good}}
 
 both : (a b : Bool) → (a && b) ≡ true → (a ≡ true) × (b ≡ true)

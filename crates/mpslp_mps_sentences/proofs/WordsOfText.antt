@@ -21,7 +21,7 @@ use Rattle.mpslp_mps_sentences.proofs.WordsOfFields.{section-is, row-fields, col
 use Rattle.mpslp_mps_sentences.proofs.{WordsOfFields.{bound-fields, bound-set}, WordsOfSections.{fields-kept, set-kept, markers-kept}}
 use Rattle.mpslp_mps_sentences.proofs.{WordsOfColumns.{AreThere, columns_of, there-push, columns-kept}, WordsOfHeaders.AreOrdered}
 use Rattle.mpslp_mps_sentences.proofs.WordsOfHeaders.{rows-there, columns-there, ordered-kept, headers-kept, strays-kept}
-use Rattle.mpslp_mps_sentences.proofs.WordsOfOneWord.{IsUnderway, sense-word, name-word, word-kept, word-at_end}
+use Rattle.mpslp_mps_sentences.proofs.WordsOfSenseAndName.{IsUnderway, sense-word, name-word, word-kept, word-at_end}
 use Rattle.mpslp_mps_sentences.proofs.WordsOfObjName.{IsWantedEarly, wanted_early-kept, IsNamedSo, named-kept, section-begun}
 use Rattle.mpslp_mps_sentences.proofs.WordsOfObjName.{named-in_words}
 

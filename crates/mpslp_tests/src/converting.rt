@@ -7,9 +7,9 @@ use crate::answers::{MUCH, SMALL, SMALL_CANONICAL, SMALL_CANONICAL_LP, SMALL_LP,
 use mpslp_convert::{
     ConvertFault, RunFault, canonical, is_canonical, laws, load, run, same_model, show,
 };
+use mpslp_formats::{Lp, Mps};
 use mpslp_model::{FIXED_SEED, FaultKind, Format, FromRead, NameAt, Sink, Source, ToWrite};
-use mpslp_vectors::{FailingReader, FailingWriter};
-use mpslp_write::{Lp, Mps};
+use mpslp_test_devices::{FailingReader, FailingWriter};
 use std::alloc::{AllocError, Global};
 use std::io;
 use std::io::Read;

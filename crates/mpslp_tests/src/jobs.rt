@@ -1,9 +1,9 @@
 //! Tests of jobs between inputs and outputs in memory: what is printed, the line of the error, and the exit status.
 
 use crate::answers::{MUCH, SMALL, SMALL_CANONICAL, SMALL_CANONICAL_LP, SMALL_LP};
-use mpslp_convert::{Form, Job, JobFault, Word, perform};
 use mpslp_model::{FIXED_SEED, FromRead, ToWrite};
-use mpslp_vectors::{FailingReader, FailingWriter};
+use mpslp_run_jobs::{FileFormat, Job, JobFault, OwnedText, perform};
+use mpslp_test_devices::{FailingReader, FailingWriter};
 use std::alloc::{AllocError, Global};
 use std::test::Fail;
 
@@ -44,11 +44,11 @@ fn file(name: &str) -> &'static str {
 }
 
 /// The format of a file, by the end of its name.
-fn form_of(name: &str) -> Form {
+fn format_of(name: &str) -> FileFormat {
     if name.ends_with("lp") {
-        Form::Lp
+        FileFormat::Lp
     } else {
-        Form::Mps
+        FileFormat::Mps
     }
 }
 
@@ -97,27 +97,31 @@ fn performed(alloc: Global, job: &Result<Job, JobFault>, first: &str, second: &s
     Ended { status, out, err }
 }
 
-fn canon(alloc: Global, from: Form, to: Form) -> Result<Job, JobFault> {
+fn canon(alloc: Global, from: FileFormat, to: FileFormat) -> Result<Job, JobFault> {
     Ok(Job::Canon {
         from,
         to,
-        path: Word::new(alloc, "-")?,
+        path: OwnedText::new(alloc, "-")?,
     })
 }
 
-fn show(alloc: Global, from: Form) -> Result<Job, JobFault> {
+fn show(alloc: Global, from: FileFormat) -> Result<Job, JobFault> {
     Ok(Job::Show {
         from,
-        path: Word::new(alloc, "-")?,
+        path: OwnedText::new(alloc, "-")?,
     })
 }
 
-fn same(alloc: Global, first_form: Form, second_form: Form) -> Result<Job, JobFault> {
+fn same(
+    alloc: Global,
+    first_format: FileFormat,
+    second_format: FileFormat,
+) -> Result<Job, JobFault> {
     Ok(Job::Same {
-        first_form,
-        first: Word::new(alloc, "a")?,
-        second_form,
-        second: Word::new(alloc, "b")?,
+        first_format,
+        first: OwnedText::new(alloc, "a")?,
+        second_format,
+        second: OwnedText::new(alloc, "b")?,
     })
 }
 
@@ -155,7 +159,7 @@ unfit.mps|lp|2||column 0: NotLp
 
 /// Whether a file is converted as the case says.
 fn is_converted(alloc: Global, case: Case<'_>) -> bool {
-    let job = canon(alloc, form_of(case.first), form_of(case.second));
+    let job = canon(alloc, format_of(case.first), format_of(case.second));
     performed(alloc, &job, file(case.first), SMALL).is_as(case.status, file(case.out), case.line)
 }
 
@@ -187,7 +191,7 @@ fn printed(outcome: &str) -> &'static str {
 
 /// Whether two files are compared as the case says.
 fn is_compared(alloc: Global, case: Case<'_>) -> bool {
-    let job = same(alloc, form_of(case.first), form_of(case.second));
+    let job = same(alloc, format_of(case.first), format_of(case.second));
     let ended = performed(alloc, &job, file(case.first), file(case.second));
     ended.is_as(case.status, printed(case.out), case.line)
 }
@@ -201,7 +205,7 @@ fn two_files_are_compared(rt: HostRuntime) {
 
 /// Whether the model of an LP text is shown as this text.
 fn is_shown(alloc: Global, text: &str, wanted: &str) -> bool {
-    let job = show(alloc, Form::Lp);
+    let job = show(alloc, FileFormat::Lp);
     performed(alloc, &job, text, "").is(0, wanted, "")
 }
 
@@ -247,8 +251,8 @@ fn refusals_are_reported(rt: HostRuntime) -> Result<(), Fail> {
     Ok(())
 }
 
-fn word(alloc: Global, text: &str) -> Result<Word, AllocError> {
-    match Word::new(alloc, text) {
+fn word(alloc: Global, text: &str) -> Result<OwnedText, AllocError> {
+    match OwnedText::new(alloc, text) {
         Ok(word) => Ok(word),
         Err(_) => Err(AllocError),
     }
@@ -271,7 +275,7 @@ fn ends_with_room(alloc: Global, room: usize, wanted: u8, line: &str) -> Result<
         alloc,
         FIXED_SEED,
         MUCH,
-        &same(alloc, Form::Mps, Form::Mps),
+        &same(alloc, FileFormat::Mps, FileFormat::Mps),
         &mut FromRead::new(SMALL.as_bytes()),
         &mut FromRead::new(SMALL.as_bytes()),
         &mut out,
@@ -302,7 +306,7 @@ fn ended_with_error_room(alloc: Global, room: usize) -> Result<(u8, usize, bool)
         alloc,
         FIXED_SEED,
         MUCH,
-        &same(alloc, Form::Mps, Form::Mps),
+        &same(alloc, FileFormat::Mps, FileFormat::Mps),
         &mut FromRead::new(b"ROWS\n".as_slice()),
         &mut FromRead::new(SMALL.as_bytes()),
         &mut ToWrite::new(&mut out),
@@ -329,7 +333,7 @@ fn ended_without_second(alloc: Global, wanted: &str) -> (u8, bool, bool) {
         alloc,
         FIXED_SEED,
         MUCH,
-        &same(alloc, Form::Mps, Form::Mps),
+        &same(alloc, FileFormat::Mps, FileFormat::Mps),
         &mut FromRead::new(SMALL.as_bytes()),
         &mut FailingReader::new(b"", 1, 1),
         &mut ToWrite::new(&mut out),

@@ -1,8 +1,7 @@
-//! Tests of the public calls of the readers, the writers and the conversions, which succeed with ample memory, and of their
-//! laws.
+//! Tests of readers, writers and conversions, in a crate of their own because the kit proves a crate with tests twice.
 //!
-//! This crate has only tests: a crate that has tests is proved twice, and the crates below are large. The results for each kind
-//! of line are in `vectors/`, which `try_library vectors` checks through the same calls.
+//! They test the public calls of these, which succeed with ample memory, and their laws. The results for each kind of line are in
+//! `vectors/`, which `try_library vectors` checks through the same calls.
 #![tactic(auto)]
 
 #[cfg(test)]

@@ -1,9 +1,9 @@
 //! Tests of writers: the canonical text of a worked file, a name that is not legal in LP, and a sink that fails.
 
+use mpslp_formats::{first_unfit_name, write_lp, write_mps};
 use mpslp_model::{FIXED_SEED, NameAt, Sink, ToWrite, WriteFault};
 use mpslp_mps::read_mps;
-use mpslp_vectors::FailingWriter;
-use mpslp_write::{first_unfit_name, write_lp, write_mps};
+use mpslp_test_devices::FailingWriter;
 use std::alloc::{AllocError, Global};
 use std::test::Fail;
 

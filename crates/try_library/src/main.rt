@@ -23,7 +23,7 @@ mod read;
 mod refused;
 mod vectors;
 
-use inputs::{form_named, word_at};
+use inputs::{format_named, word_at};
 use numbers::measure_numbers;
 use read::measure_reading;
 use refused::make_calls;
@@ -80,7 +80,7 @@ fn perform<R: Files + Input + Print + Eprint + Clock + AllocGlobal>(
     match command {
         Command::Vectors => return try_all(rt, alloc),
         Command::Refused => make_calls(rt, alloc, further)?,
-        Command::Read => measure_reading(rt, alloc, form_named(word_at(further, 0)))?,
+        Command::Read => measure_reading(rt, alloc, format_named(word_at(further, 0)))?,
         Command::Numbers => measure_numbers(rt, alloc)?,
     }
     Ok(true)

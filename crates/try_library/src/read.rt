@@ -4,8 +4,8 @@
 //! reader, without that of the input, on standard error.
 
 use crate::inputs::model_in;
-use mpslp_convert::Form;
 use mpslp_model::{Fault, Model, ReadFault};
+use mpslp_run_jobs::FileFormat;
 use std::alloc::Global;
 use std::io;
 use std::io::Read;
@@ -49,11 +49,11 @@ fn put_result(rt: &impl Print, alloc: Global, read: Result<Model, ReadFault>) ->
 fn timed_reading<R: Print + Clock>(
     rt: &R,
     alloc: Global,
-    form: Form,
+    format: FileFormat,
     text: &[u8],
 ) -> io::Result<u128> {
     let start = Instant::now(rt)?;
-    let model = model_in(alloc, form, text);
+    let model = model_in(alloc, format, text);
     let elapsed = start.elapsed(rt);
     put_result(rt, alloc, model)?;
     Ok(elapsed?.as_micros())
@@ -63,11 +63,11 @@ fn timed_reading<R: Print + Clock>(
 pub(crate) fn measure_reading<R: Input + Print + Eprint + Clock + AllocGlobal>(
     rt: &R,
     alloc: Global,
-    form: Form,
+    format: FileFormat,
 ) -> io::Result<()> {
     let mut text = Vec::new(alloc);
     rt.reader().read_to_end(&mut text)?;
-    let micros = timed_reading(rt, alloc, form, text.as_slice())?.max(1);
+    let micros = timed_reading(rt, alloc, format, text.as_slice())?.max(1);
     let tenths = (text.len() as u128).saturating_mul(10) / micros;
     eprintln!(rt;
         "read {} bytes, {micros} microseconds, {}.{} MB/s",

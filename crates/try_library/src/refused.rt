@@ -20,7 +20,7 @@ mod single_calls;
 mod texts;
 mod words;
 
-use crate::inputs::{content, form_named, model_in, word_at};
+use crate::inputs::{content, format_named, model_in, word_at};
 use answers::Answer;
 use building::{EACH_CALL, EACH_KIND, built, calls_of_many_rows};
 use names::NAMES;
@@ -41,7 +41,7 @@ const MOST: u32 = 10_000;
 enum Call<'a> {
     Name(&'a str),
     LegalName(&'a str),
-    Word,
+    OwnedText,
     Job(&'a str),
     Build(&'a str),
     Single(&'a SingleCall, Then),
@@ -56,7 +56,7 @@ impl Call<'_> {
         match *self {
             Call::Name(bytes) => name(alloc, bytes, growth),
             Call::LegalName(bytes) => legal_name(alloc, bytes, growth),
-            Call::Word => word(alloc, growth),
+            Call::OwnedText => word(alloc, growth),
             Call::Job(line) => job_of(alloc, line, growth),
             Call::Build(calls) => built(alloc, calls, growth),
             Call::Single(call, then) => single(alloc, call, then, growth),
@@ -127,7 +127,7 @@ fn print_builders<R: Print>(rt: &R, alloc: Global) -> io::Result<()> {
 
 fn print_without_files<R: Print>(rt: &R, alloc: Global) -> io::Result<()> {
     print_names(rt, alloc)?;
-    print_each(rt, alloc, "Word::new", &Call::Word)?;
+    print_each(rt, alloc, "OwnedText::new", &Call::OwnedText)?;
     for line in COMMAND_LINES {
         print_each(rt, alloc, line, &Call::Job(line))?;
     }
@@ -138,17 +138,17 @@ fn print_with_files<R: Files + Print>(rt: &R, alloc: Global, words: &[String]) -
     let first = content(rt, alloc, word_at(words, 1))?;
     let second = content(rt, alloc, word_at(words, 3))?;
     let first = Text {
-        form: form_named(word_at(words, 0)),
+        format: format_named(word_at(words, 0)),
         bytes: &first,
     };
     let second = Text {
-        form: form_named(word_at(words, 2)),
+        format: format_named(word_at(words, 2)),
         bytes: &second,
     };
     for (name, call) in TEXT_CALLS {
         print_each(rt, alloc, name, &Call::OnTexts(call, &first, &second))?;
     }
-    if model_in(alloc, first.form, first.bytes).is_err() {
+    if model_in(alloc, first.format, first.bytes).is_err() {
         return Ok(());
     }
     for (name, call) in MODEL_CALLS {

@@ -17,13 +17,13 @@ use checks::{
 use failing::{
     is_written_after_each_byte, shows_after_each_byte, stops_after_each_byte, stops_in_each_read,
 };
-use mpslp_convert::Form;
+use mpslp_run_jobs::FileFormat;
 use numbers::NumberTable;
 use std::alloc::{AllocError, Global};
 use std::io;
 use std::rt::Files;
 use tables::{
-    Entry, Expected, entries, entry_named, entry_of_text, field, fields, form_of, number, table,
+    Entry, Expected, entries, entry_named, entry_of_text, field, fields, format_of, number, table,
 };
 
 /// The number of checks, and of unexpected results.
@@ -71,19 +71,19 @@ fn try_entry<R: Eprint>(rt: &R, alloc: Global, tally: &mut Tally, entry: &Entry)
     let expected = &entry.expected;
     tally.note(
         rt,
-        is_converted(alloc, entry.form, text, expected),
+        is_converted(alloc, entry.format, text, expected),
         name,
         "converted",
     )?;
     tally.note(
         rt,
-        is_shown(alloc, entry.form, text, expected),
+        is_shown(alloc, entry.format, text, expected),
         name,
         "shown",
     )?;
     tally.note(
         rt,
-        is_read_in_two_pieces(alloc, entry.form, text, expected),
+        is_read_in_two_pieces(alloc, entry.format, text, expected),
         name,
         "read in two pieces",
     )?;
@@ -126,13 +126,13 @@ fn try_failing<R: Print + Eprint>(rt: &R, alloc: Global, entries: &[Entry]) -> i
         tally.note(rt, stops_in_each_read(alloc, entry), name, "failing reads")?;
         tally.note(
             rt,
-            stops_after_each_byte(alloc, entry, Form::Mps),
+            stops_after_each_byte(alloc, entry, FileFormat::Mps),
             name,
             "failing writes of MPS",
         )?;
         tally.note(
             rt,
-            stops_after_each_byte(alloc, entry, Form::Lp),
+            stops_after_each_byte(alloc, entry, FileFormat::Lp),
             name,
             "failing writes of LP",
         )?;
@@ -193,8 +193,8 @@ fn try_changed_line<R: Eprint>(
     let expected = Expected::fault(alloc, field(&fields, 3)?)?;
     tally.note(
         rt,
-        is_converted(alloc, entry.form, &text, &expected)
-            && is_read_in_two_pieces(alloc, entry.form, &text, &expected),
+        is_converted(alloc, entry.format, &text, &expected)
+            && is_read_in_two_pieces(alloc, entry.format, &text, &expected),
         line,
         "changed line",
     )
@@ -241,8 +241,8 @@ impl<'a> Cuts<'a> {
         })
     }
 
-    fn form(&self) -> Form {
-        form_of(self.name)
+    fn format(&self) -> FileFormat {
+        format_of(self.name)
     }
 }
 
@@ -256,7 +256,7 @@ fn try_each_cut<R: Eprint>(
     expected: &Expected,
 ) -> io::Result<()> {
     for len in cuts.shortest..=cuts.longest {
-        let is_right = is_converted(alloc, cuts.form(), &text[..len.min(text.len())], expected);
+        let is_right = is_converted(alloc, cuts.format(), &text[..len.min(text.len())], expected);
         tally.note(rt, is_right, cuts.name, cuts.line)?;
     }
     Ok(())
@@ -272,7 +272,7 @@ fn try_cuts_of<R: Eprint>(
     text: &[u8],
 ) -> io::Result<()> {
     if cuts.answer == "model" {
-        let entry = entry_of_text(entries, cuts.form(), text)?;
+        let entry = entry_of_text(entries, cuts.format(), text)?;
         return try_each_cut(rt, alloc, tally, cuts, text, &entry.expected);
     }
     let expected = Expected::fault(alloc, cuts.answer)?;
@@ -296,13 +296,13 @@ fn try_cuts<R: Files + Print + Eprint>(
 /// Checks the inputs of a line of `single-bytes.tsv`.
 fn try_bytes_of<R: Eprint>(rt: &R, alloc: Global, tally: &mut Tally, line: &str) -> io::Result<()> {
     let fields = fields(alloc, line)?;
-    let form = form_of(field(&fields, 0)?);
+    let format = format_of(field(&fields, 0)?);
     let expected = Expected::fault(alloc, field(&fields, 3)?)?;
     for byte in number(&fields, 1)?..=number(&fields, 2)? {
         let text = [(byte % 256) as u8];
         tally.note(
             rt,
-            is_converted(alloc, form, &text, &expected),
+            is_converted(alloc, format, &text, &expected),
             line,
             "single byte",
         )?;
@@ -359,7 +359,7 @@ fn try_long_line<R: Eprint>(
     };
     tally.note(
         rt,
-        is_converted_in_large_pieces(alloc, entry.form, &text, expected),
+        is_converted_in_large_pieces(alloc, entry.format, &text, expected),
         line,
         "long line",
     )

@@ -88,7 +88,7 @@ impl Shown {
         }
         for (i, value) in model.column_entries(j) {
             if i < model.num_rows() {
-                self.put_name("entry ", model.row_text(i))?;
+                self.put_name("entry ", model.row_name_bytes(i))?;
                 self.put_number(" ", value)?;
                 self.put(b"\n".as_slice())?;
             }

@@ -38,7 +38,7 @@ fn row_of(model: &Model, j: usize, from: usize, n: usize) -> &[u8]
         return &[];
     }
     let (i, _value) = model.entry(j, from + n);
-    model.row_text(i)
+    model.row_name_bytes(i)
 }
 
 /// The names of the rows of the coefficients of column `j` in rows, from number `from` on.

@@ -32,7 +32,7 @@ fn put_row<W: Sink>(model: &Model, i: usize, output: &mut Output<W>)
 {
     each_model_is_sound(model);
     let letter = printed_letter(model.row_sense(i));
-    put_short_line(output, [letter].as_slice(), model.row_text(i));
+    put_short_line(output, [letter].as_slice(), model.row_name_bytes(i));
 }
 
 /// Prints the lines of all rows in ROWS.
@@ -79,7 +79,7 @@ fn put_row_rhs<W: Sink>(model: &Model, i: usize, output: &mut Output<W>)
     ensures { Prints line_text W.Sink output.old output.new (lines_at row_rhs_lines (entries model.now.rows) i) }
 {
     let side = rhs_at(model, i);
-    put_rhs(output, model.row_text(i), side);
+    put_rhs(output, model.row_name_bytes(i), side);
 }
 
 /// Prints the right-hand sides of all rows.
@@ -110,7 +110,7 @@ fn put_range<W: Sink>(model: &Model, i: usize, output: &mut Output<W>)
 {
     let range = model.row_range(i);
     if !range.is_zero() {
-        put_value_line(output, b"RNG", model.row_text(i), range);
+        put_value_line(output, b"RNG", model.row_name_bytes(i), range);
     }
 }
 

@@ -9,9 +9,9 @@ use crate::refused::names::{named, spelled};
 use crate::refused::refusing::{refuse, refuse_none};
 use mpslp_convert::{RunFault, report};
 use mpslp_decimal::Decimal;
+use mpslp_formats::write_mps;
 use mpslp_model::{BuildFault, Builder, FIXED_SEED, Limit, Model, Name, ReadFault, RowType, Sense};
-use mpslp_vectors::FailingWriter;
-use mpslp_write::write_mps;
+use mpslp_test_devices::FailingWriter;
 use std::alloc::{AllocError, Global};
 
 /// Each call, with each of its errors that a line of a file can cause too. A call is its name and its arguments.

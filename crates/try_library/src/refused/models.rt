@@ -4,9 +4,9 @@ use crate::inputs::fault_of_run;
 use crate::refused::answers::Answer;
 use crate::refused::refusing::{refuse, refuse_none};
 use crate::refused::texts::{MUCH, PIECE, Text};
-use mpslp_conversions::{RunFault, model_of, read_text, text_of};
+use mpslp_convert::{RunFault, model_of, read_text, text_of};
+use mpslp_formats::Lp;
 use mpslp_model::{FIXED_SEED, Format, Model, ModelReader, ReadFault};
-use mpslp_write::Lp;
 use std::alloc::{AllocError, Global};
 
 /// The model that `model_of` returns.

@@ -8,8 +8,8 @@ use crate::refused::refusing::{refuse, refuse_none};
 use crate::refused::single_calls::begun;
 use mpslp_builder::{Entries, Entry, ReaderBuilder, RowTerms};
 use mpslp_model::{BuildFault, FIXED_SEED, Name};
+use mpslp_test_devices::FailingWriter;
 use mpslp_types::laws::each_name_is_legal;
-use mpslp_vectors::FailingWriter;
 use std::alloc::{AllocError, Global};
 
 /// A call of `ReaderBuilder`, or the one that collects the terms of a row.

@@ -4,7 +4,7 @@ use crate::refused::answers::{Answer, roomy};
 use crate::refused::building::{BuilderCall, EACH_KIND, finished, put_answer, put_finished};
 use crate::refused::refusing::{refuse, refuse_none};
 use mpslp_model::{BuildFault, Builder, FIXED_SEED, Model, ReadFault};
-use mpslp_vectors::FailingWriter;
+use mpslp_test_devices::FailingWriter;
 use std::alloc::{AllocError, Global};
 
 /// A call with its name in the crate, and the calls before it.

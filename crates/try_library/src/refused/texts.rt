@@ -6,13 +6,12 @@ use crate::refused::models::{
 };
 use crate::refused::refusing::{refuse, refuse_none};
 use crate::refused::single_calls::Ending;
-use mpslp_convert::{
-    Form, Job, JobFault, Word, canonical, is_canonical, load, perform, run, same_model, show,
-};
+use mpslp_convert::{canonical, is_canonical, load, run, same_model, show};
+use mpslp_formats::{Lp, Mps};
 use mpslp_io::Sink;
 use mpslp_model::{FIXED_SEED, Format, Model, ModelReader, ReadFault};
-use mpslp_vectors::FailingReader;
-use mpslp_write::{Lp, Mps};
+use mpslp_run_jobs::{FileFormat, Job, JobFault, OwnedText, perform};
+use mpslp_test_devices::FailingReader;
 use std::alloc::{AllocError, Global};
 
 /// A limit above the length of every text here.
@@ -28,18 +27,18 @@ pub(crate) enum TextCall {
     Feed(Ending),
     FinishByColumns,
     ModelOf,
-    TextOf(Form),
+    TextOf(FileFormat),
     ReadText,
-    Prepare(Form),
+    Prepare(FileFormat),
     WithRowLists,
-    Canonical(Form),
+    Canonical(FileFormat),
     Same,
     SameAsSecond,
     IsCanonical,
     Load,
-    Run(Form),
+    Run(FileFormat),
     Show,
-    PerformCanon(Form),
+    PerformCanon(FileFormat),
     PerformSame,
     PerformSameAsSecond,
     PerformShow,
@@ -52,17 +51,17 @@ pub(crate) const TEXT_CALLS: [(&str, TextCall); 19] = [
     ("feed by columns", TextCall::Feed(Ending::ByColumns)),
     ("model_of", TextCall::ModelOf),
     ("read_text", TextCall::ReadText),
-    ("canonical mps", TextCall::Canonical(Form::Mps)),
-    ("canonical lp", TextCall::Canonical(Form::Lp)),
+    ("canonical mps", TextCall::Canonical(FileFormat::Mps)),
+    ("canonical lp", TextCall::Canonical(FileFormat::Lp)),
     ("same_model", TextCall::Same),
     ("same_model as second", TextCall::SameAsSecond),
     ("is_canonical", TextCall::IsCanonical),
     ("load", TextCall::Load),
-    ("run mps", TextCall::Run(Form::Mps)),
-    ("run lp", TextCall::Run(Form::Lp)),
+    ("run mps", TextCall::Run(FileFormat::Mps)),
+    ("run lp", TextCall::Run(FileFormat::Lp)),
     ("show", TextCall::Show),
-    ("perform canon mps", TextCall::PerformCanon(Form::Mps)),
-    ("perform canon lp", TextCall::PerformCanon(Form::Lp)),
+    ("perform canon mps", TextCall::PerformCanon(FileFormat::Mps)),
+    ("perform canon lp", TextCall::PerformCanon(FileFormat::Lp)),
     ("perform same", TextCall::PerformSame),
     ("perform same as second", TextCall::PerformSameAsSecond),
     ("perform show", TextCall::PerformShow),
@@ -71,17 +70,17 @@ pub(crate) const TEXT_CALLS: [(&str, TextCall); 19] = [
 /// The calls on the model of a text, or on a reader that has accepted it.
 pub(crate) const MODEL_CALLS: [(&str, TextCall); 6] = [
     ("finish_by_columns", TextCall::FinishByColumns),
-    ("text_of mps", TextCall::TextOf(Form::Mps)),
-    ("text_of lp", TextCall::TextOf(Form::Lp)),
-    ("prepare mps", TextCall::Prepare(Form::Mps)),
-    ("prepare lp", TextCall::Prepare(Form::Lp)),
+    ("text_of mps", TextCall::TextOf(FileFormat::Mps)),
+    ("text_of lp", TextCall::TextOf(FileFormat::Lp)),
+    ("prepare mps", TextCall::Prepare(FileFormat::Mps)),
+    ("prepare lp", TextCall::Prepare(FileFormat::Lp)),
     ("with_row_lists", TextCall::WithRowLists),
 ];
 
 /// A text and its format.
 #[derive(Clone, Copy)]
 pub(crate) struct Text<'a> {
-    pub(crate) form: Form,
+    pub(crate) format: FileFormat,
     pub(crate) bytes: &'a [u8],
 }
 
@@ -232,11 +231,11 @@ fn performed(
     })
 }
 
-fn a_path(alloc: Global) -> Result<Word, JobFault> {
-    Word::new(alloc, "-")
+fn a_path(alloc: Global) -> Result<OwnedText, JobFault> {
+    OwnedText::new(alloc, "-")
 }
 
-fn canon_job(alloc: Global, from: Form, to: Form) -> Result<Job, JobFault> {
+fn canon_job(alloc: Global, from: FileFormat, to: FileFormat) -> Result<Job, JobFault> {
     Ok(Job::Canon {
         from,
         to,
@@ -244,16 +243,20 @@ fn canon_job(alloc: Global, from: Form, to: Form) -> Result<Job, JobFault> {
     })
 }
 
-fn same_job(alloc: Global, first_form: Form, second_form: Form) -> Result<Job, JobFault> {
+fn same_job(
+    alloc: Global,
+    first_format: FileFormat,
+    second_format: FileFormat,
+) -> Result<Job, JobFault> {
     Ok(Job::Same {
-        first_form,
+        first_format,
         first: a_path(alloc)?,
-        second_form,
+        second_format,
         second: a_path(alloc)?,
     })
 }
 
-fn show_job(alloc: Global, from: Form) -> Result<Job, JobFault> {
+fn show_job(alloc: Global, from: FileFormat) -> Result<Job, JobFault> {
     Ok(Job::Show {
         from,
         path: a_path(alloc)?,
@@ -274,35 +277,35 @@ fn answer_in<A: Format, B: Format>(
         TextCall::Feed(ending) => feed::<A>(alloc, bytes, ending, growth),
         TextCall::FinishByColumns => finished_by_columns::<A>(alloc, bytes, growth),
         TextCall::ModelOf => model_read::<A>(alloc, bytes, growth),
-        TextCall::TextOf(Form::Mps) => text_written::<A, Mps>(alloc, bytes, growth),
-        TextCall::TextOf(Form::Lp) => text_written::<A, Lp>(alloc, bytes, growth),
+        TextCall::TextOf(FileFormat::Mps) => text_written::<A, Mps>(alloc, bytes, growth),
+        TextCall::TextOf(FileFormat::Lp) => text_written::<A, Lp>(alloc, bytes, growth),
         TextCall::ReadText => text_read::<A>(alloc, first, growth),
-        TextCall::Prepare(Form::Mps) => prepared::<A, Mps>(alloc, bytes, growth),
-        TextCall::Prepare(Form::Lp) => prepared::<A, Lp>(alloc, bytes, growth),
+        TextCall::Prepare(FileFormat::Mps) => prepared::<A, Mps>(alloc, bytes, growth),
+        TextCall::Prepare(FileFormat::Lp) => prepared::<A, Lp>(alloc, bytes, growth),
         TextCall::WithRowLists => with_lists::<A>(alloc, bytes, growth),
-        TextCall::Canonical(Form::Mps) => Ok(canonical_text::<A, Mps>(alloc, bytes, growth)),
-        TextCall::Canonical(Form::Lp) => Ok(canonical_text::<A, Lp>(alloc, bytes, growth)),
+        TextCall::Canonical(FileFormat::Mps) => Ok(canonical_text::<A, Mps>(alloc, bytes, growth)),
+        TextCall::Canonical(FileFormat::Lp) => Ok(canonical_text::<A, Lp>(alloc, bytes, growth)),
         TextCall::Same => same::<A, B>(alloc, bytes, second.bytes, growth),
         TextCall::SameAsSecond => same::<B, A>(alloc, second.bytes, bytes, growth),
         TextCall::IsCanonical => is_own_text::<A>(alloc, bytes, growth),
         TextCall::Load => Ok(loaded(alloc, first, growth)),
-        TextCall::Run(Form::Mps) => ran::<A, Mps>(alloc, first, growth),
-        TextCall::Run(Form::Lp) => ran::<A, Lp>(alloc, first, growth),
+        TextCall::Run(FileFormat::Mps) => ran::<A, Mps>(alloc, first, growth),
+        TextCall::Run(FileFormat::Lp) => ran::<A, Lp>(alloc, first, growth),
         TextCall::Show => shown::<A>(alloc, first, growth),
         TextCall::PerformCanon(to) => {
-            let job = canon_job(alloc, first.form, to);
+            let job = canon_job(alloc, first.format, to);
             performed(alloc, &job, first, second, growth)
         }
         TextCall::PerformSame => {
-            let job = same_job(alloc, first.form, second.form);
+            let job = same_job(alloc, first.format, second.format);
             performed(alloc, &job, first, second, growth)
         }
         TextCall::PerformSameAsSecond => {
-            let job = same_job(alloc, second.form, first.form);
+            let job = same_job(alloc, second.format, first.format);
             performed(alloc, &job, second, first, growth)
         }
         TextCall::PerformShow => {
-            let job = show_job(alloc, first.form);
+            let job = show_job(alloc, first.format);
             performed(alloc, &job, first, second, growth)
         }
     }
@@ -316,10 +319,16 @@ pub(crate) fn answer_to(
     second: &Text<'_>,
     growth: u32,
 ) -> Result<Answer, AllocError> {
-    match (first.form, second.form) {
-        (Form::Mps, Form::Mps) => answer_in::<Mps, Mps>(alloc, call, first, second, growth),
-        (Form::Mps, Form::Lp) => answer_in::<Mps, Lp>(alloc, call, first, second, growth),
-        (Form::Lp, Form::Mps) => answer_in::<Lp, Mps>(alloc, call, first, second, growth),
-        (Form::Lp, Form::Lp) => answer_in::<Lp, Lp>(alloc, call, first, second, growth),
+    match (first.format, second.format) {
+        (FileFormat::Mps, FileFormat::Mps) => answer_in::<Mps, Mps>(
+            alloc, call, first, second, growth,
+        ),
+        (FileFormat::Mps, FileFormat::Lp) => answer_in::<Mps, Lp>(
+            alloc, call, first, second, growth,
+        ),
+        (FileFormat::Lp, FileFormat::Mps) => answer_in::<Lp, Mps>(
+            alloc, call, first, second, growth,
+        ),
+        (FileFormat::Lp, FileFormat::Lp) => answer_in::<Lp, Lp>(alloc, call, first, second, growth),
     }
 }

@@ -4,10 +4,11 @@ use crate::refused::answers::{Answer, put, roomy};
 use crate::refused::names::spelled;
 use crate::refused::refusing::{refuse, refuse_none};
 use mpslp_command::job;
-use mpslp_convert::{Form, Job, JobFault, RunFault, Word};
+use mpslp_convert::RunFault;
 use mpslp_model::{Name, NameFault};
+use mpslp_run_jobs::{FileFormat, Job, JobFault, OwnedText};
+use mpslp_test_devices::FailingWriter;
 use mpslp_types::laws::each_name_is_legal;
-use mpslp_vectors::FailingWriter;
 use std::alloc::{AllocError, Global};
 
 /// Arguments, separated by spaces: each job, and each error.
@@ -53,10 +54,10 @@ pub(crate) fn legal_name(alloc: Global, word: &str, growth: u32) -> Result<Answe
     }
 }
 
-/// The word that `Word::new` makes.
+/// The text that `OwnedText::new` makes.
 pub(crate) fn word(alloc: Global, growth: u32) -> Result<Answer, AllocError> {
     refuse(alloc, growth);
-    let answer = Word::new(alloc, "a word");
+    let answer = OwnedText::new(alloc, "a word");
     refuse_none(alloc);
     match answer {
         Ok(word) => Ok(Answer::of_text(word.as_str().as_bytes().to_vec(alloc)?)),
@@ -71,10 +72,10 @@ fn put_word(out: &mut FailingWriter, word: &str) {
     put(out, word);
 }
 
-fn put_form(out: &mut FailingWriter, form: Form) {
-    match form {
-        Form::Mps => put(out, " mps"),
-        Form::Lp => put(out, " lp"),
+fn put_format(out: &mut FailingWriter, format: FileFormat) {
+    match format {
+        FileFormat::Mps => put(out, " mps"),
+        FileFormat::Lp => put(out, " lp"),
     }
 }
 
@@ -83,25 +84,25 @@ fn put_job(out: &mut FailingWriter, job: &Job) {
     match job {
         Job::Canon { from, to, path } => {
             put(out, "canon");
-            put_form(out, *from);
-            put_form(out, *to);
+            put_format(out, *from);
+            put_format(out, *to);
             put_word(out, path.as_str());
         }
         Job::Same {
-            first_form,
+            first_format,
             first,
-            second_form,
+            second_format,
             second,
         } => {
             put(out, "same");
-            put_form(out, *first_form);
+            put_format(out, *first_format);
             put_word(out, first.as_str());
-            put_form(out, *second_form);
+            put_format(out, *second_format);
             put_word(out, second.as_str());
         }
         Job::Show { from, path } => {
             put(out, "show");
-            put_form(out, *from);
+            put_format(out, *from);
             put_word(out, path.as_str());
         }
     }

@@ -4,24 +4,30 @@ use crate::vectors::answers::{
     MUCH, canonical_in, fed_in, is_canonical_in, line_of, read_in, run_of, same_in, shown_of,
 };
 use crate::vectors::tables::{Entry, Expected};
-use mpslp_convert::{ConvertFault, Form};
+use mpslp_convert::ConvertFault;
+use mpslp_run_jobs::FileFormat;
 use std::alloc::Global;
 
 /// Each format of model files.
-const FORMS: [Form; 2] = [Form::Mps, Form::Lp];
+const FORMATS: [FileFormat; 2] = [FileFormat::Mps, FileFormat::Lp];
 
 /// Whether a text is read and converted as expected: as a whole, in memory, and in pieces of 1 and of 7 bytes.
-pub(crate) fn is_converted(alloc: Global, form: Form, text: &[u8], expected: &Expected) -> bool {
-    if !read_in(alloc, form, text).is(&expected.mps) {
+pub(crate) fn is_converted(
+    alloc: Global,
+    format: FileFormat,
+    text: &[u8],
+    expected: &Expected,
+) -> bool {
+    if !read_in(alloc, format, text).is(&expected.mps) {
         return false;
     }
-    for to in FORMS {
+    for to in FORMATS {
         let wanted = expected.answer_in(to);
-        if !canonical_in(alloc, form, to, text).is(wanted) {
+        if !canonical_in(alloc, format, to, text).is(wanted) {
             return false;
         }
         for piece in [usize::MAX, 1, 7] {
-            if !run_of(alloc, MUCH, form, to, text, piece).is(wanted) {
+            if !run_of(alloc, MUCH, format, to, text, piece).is(wanted) {
                 return false;
             }
         }
@@ -32,14 +38,14 @@ pub(crate) fn is_converted(alloc: Global, form: Form, text: &[u8], expected: &Ex
 /// Whether a text is converted as expected if its bytes come as a whole, and in pieces of 4,096 bytes.
 pub(crate) fn is_converted_in_large_pieces(
     alloc: Global,
-    form: Form,
+    format: FileFormat,
     text: &[u8],
     expected: &Expected,
 ) -> bool {
-    for to in FORMS {
+    for to in FORMATS {
         let wanted = expected.answer_in(to);
         for piece in [usize::MAX, 4_096] {
-            if !run_of(alloc, MUCH, form, to, text, piece).is(wanted) {
+            if !run_of(alloc, MUCH, format, to, text, piece).is(wanted) {
                 return false;
             }
         }
@@ -48,12 +54,17 @@ pub(crate) fn is_converted_in_large_pieces(
 }
 
 /// Whether the text that shows a model, or the error, is as expected.
-pub(crate) fn is_shown(alloc: Global, form: Form, text: &[u8], expected: &Expected) -> bool {
+pub(crate) fn is_shown(
+    alloc: Global,
+    format: FileFormat,
+    text: &[u8],
+    expected: &Expected,
+) -> bool {
     let Some(wanted) = &expected.shown else {
         return true;
     };
     for piece in [usize::MAX, 1, 7] {
-        if !shown_of(alloc, form, text, piece).is(wanted) {
+        if !shown_of(alloc, format, text, piece).is(wanted) {
             return false;
         }
     }
@@ -63,12 +74,12 @@ pub(crate) fn is_shown(alloc: Global, form: Form, text: &[u8], expected: &Expect
 /// Whether a reader that is fed in two pieces has the expected result, wherever the text is cut.
 pub(crate) fn is_read_in_two_pieces(
     alloc: Global,
-    form: Form,
+    format: FileFormat,
     text: &[u8],
     expected: &Expected,
 ) -> bool {
     for len in 0..text.len() {
-        if !fed_in(alloc, form, &text[..len], &text[len..]).is(&expected.mps) {
+        if !fed_in(alloc, format, &text[..len], &text[len..]).is(&expected.mps) {
             return false;
         }
     }
@@ -79,26 +90,26 @@ pub(crate) fn is_read_in_two_pieces(
 pub(crate) fn is_too_long_by_one(alloc: Global, entry: &Entry) -> bool {
     let text = entry.text.as_slice();
     let len = text.len() as u64;
-    if !run_of(alloc, len, entry.form, Form::Mps, text, 7).is(&entry.expected.mps) {
+    if !run_of(alloc, len, entry.format, FileFormat::Mps, text, 7).is(&entry.expected.mps) {
         return false;
     }
     if len == 0 {
         return true;
     }
-    let answer = run_of(alloc, len - 1, entry.form, Form::Mps, text, 7);
+    let answer = run_of(alloc, len - 1, entry.format, FileFormat::Mps, text, 7);
     answer.is_fault && answer.text.as_slice() == b"file: TooLong\n".as_slice()
 }
 
 /// Whether the canonical texts of an entry's model are their own, and are unchanged by a conversion to the other format and back.
 pub(crate) fn keeps_its_texts(alloc: Global, entry: &Entry) -> bool {
-    for form in FORMS {
-        let answer = entry.answer_in(form);
+    for format in FORMATS {
+        let answer = entry.answer_in(format);
         if !answer.is_fault {
             let text = answer.text.as_slice();
-            if !is_converted(alloc, form, text, &entry.expected) {
+            if !is_converted(alloc, format, text, &entry.expected) {
                 return false;
             }
-            if !matches!(is_canonical_in(alloc, form, text), Ok(true)) {
+            if !matches!(is_canonical_in(alloc, format, text), Ok(true)) {
                 return false;
             }
         }
@@ -108,8 +119,8 @@ pub(crate) fn keeps_its_texts(alloc: Global, entry: &Entry) -> bool {
 
 /// Whether `is_canonical` says if an input is its own canonical text, or returns its error.
 pub(crate) fn is_judged(alloc: Global, entry: &Entry) -> bool {
-    let wanted = entry.answer_in(entry.form);
-    match is_canonical_in(alloc, entry.form, &entry.text) {
+    let wanted = entry.answer_in(entry.format);
+    match is_canonical_in(alloc, entry.format, &entry.text) {
         Ok(is_own) => is_own == (wanted.text.as_slice() == entry.text.as_slice()),
         Err(fault) => !entry.is_model() && line_of(alloc, fault).is(wanted),
     }
@@ -119,7 +130,13 @@ pub(crate) fn is_judged(alloc: Global, entry: &Entry) -> bool {
 pub(crate) fn compares(alloc: Global, first: &Entry, second: &Entry) -> bool {
     let one = &first.expected.mps;
     let other = &second.expected.mps;
-    match same_in(alloc, first.form, &first.text, second.form, &second.text) {
+    match same_in(
+        alloc,
+        first.format,
+        &first.text,
+        second.format,
+        &second.text,
+    ) {
         Ok(is_same) => {
             first.is_model()
                 && second.is_model()

@@ -3,11 +3,12 @@
 use crate::inputs::model_in;
 use crate::vectors::answers::{MUCH, run_in, show_in};
 use crate::vectors::tables::Entry;
-use mpslp_convert::{Form, RunFault, load};
+use mpslp_convert::{RunFault, load};
+use mpslp_formats::{Lp, Mps, write_lp, write_mps};
 use mpslp_io::{Sink, Source};
 use mpslp_model::{Format, Model, WriteFault};
-use mpslp_vectors::{FailingReader, FailingWriter};
-use mpslp_write::{Lp, Mps, write_lp, write_mps};
+use mpslp_run_jobs::FileFormat;
+use mpslp_test_devices::{FailingReader, FailingWriter};
 use std::alloc::Global;
 
 /// A source that returns the text in one read.
@@ -22,7 +23,14 @@ fn run_stops_in_read(alloc: Global, entry: &Entry, fail_at: u64) -> bool {
     };
     let len = entry.text.len() as u64;
     let mut source = FailingReader::new(&entry.text, 1, fail_at);
-    let answer = run_in(alloc, len, entry.form, Form::Mps, &mut source, &mut sink);
+    let answer = run_in(
+        alloc,
+        len,
+        entry.format,
+        FileFormat::Mps,
+        &mut source,
+        &mut sink,
+    );
     matches!(&answer, Err(RunFault::Read)) && sink.calls() == 0 && source.calls() == fail_at
 }
 
@@ -32,7 +40,7 @@ fn show_stops_in_read(alloc: Global, entry: &Entry, fail_at: u64) -> bool {
         return false;
     };
     let mut source = FailingReader::new(&entry.text, 1, fail_at);
-    let answer = show_in(alloc, entry.form, &mut source, &mut sink);
+    let answer = show_in(alloc, entry.format, &mut source, &mut sink);
     matches!(&answer, Err(RunFault::Read)) && sink.calls() == 0 && source.calls() == fail_at
 }
 
@@ -72,14 +80,14 @@ fn reports_written(answer: &Result<(), RunFault>, len: usize) -> bool {
 }
 
 /// Whether a run reports how many bytes its sink took before it failed.
-fn run_is_cut(alloc: Global, entry: &Entry, to: Form, take: usize) -> bool {
+fn run_is_cut(alloc: Global, entry: &Entry, to: FileFormat, take: usize) -> bool {
     let Ok(mut sink) = FailingWriter::new(alloc, take) else {
         return false;
     };
     let answer = run_in(
         alloc,
         MUCH,
-        entry.form,
+        entry.format,
         to,
         &mut whole(&entry.text),
         &mut sink,
@@ -89,7 +97,7 @@ fn run_is_cut(alloc: Global, entry: &Entry, to: Form, take: usize) -> bool {
 }
 
 /// Whether a run succeeds if its sink has room for one byte more than the text, so that the flush succeeds too.
-fn run_is_whole(alloc: Global, entry: &Entry, to: Form) -> bool {
+fn run_is_whole(alloc: Global, entry: &Entry, to: FileFormat) -> bool {
     let text = entry.answer_in(to).text.as_slice();
     let Ok(mut sink) = FailingWriter::new(alloc, text.len().saturating_add(1)) else {
         return false;
@@ -97,7 +105,7 @@ fn run_is_whole(alloc: Global, entry: &Entry, to: Form) -> bool {
     let answer = run_in(
         alloc,
         MUCH,
-        entry.form,
+        entry.format,
         to,
         &mut whole(&entry.text),
         &mut sink,
@@ -107,7 +115,7 @@ fn run_is_whole(alloc: Global, entry: &Entry, to: Form) -> bool {
 
 /// Whether a run reports how many bytes its sink took, after whichever byte the sink fails. A sink that fails after the last
 /// byte fails in the flush.
-pub(crate) fn stops_after_each_byte(alloc: Global, entry: &Entry, to: Form) -> bool {
+pub(crate) fn stops_after_each_byte(alloc: Global, entry: &Entry, to: FileFormat) -> bool {
     let answer = entry.answer_in(to);
     if answer.is_fault {
         return true;
@@ -125,7 +133,7 @@ fn show_is_cut(alloc: Global, entry: &Entry, shown: &[u8], take: usize) -> bool 
     let Ok(mut sink) = FailingWriter::new(alloc, take) else {
         return false;
     };
-    let answer = show_in(alloc, entry.form, &mut whole(&entry.text), &mut sink);
+    let answer = show_in(alloc, entry.format, &mut whole(&entry.text), &mut sink);
     reports_written(&answer, take) && shown.starts_with(sink.bytes()) && sink.bytes().len() == take
 }
 
@@ -146,55 +154,63 @@ pub(crate) fn shows_after_each_byte(alloc: Global, entry: &Entry) -> bool {
 }
 
 /// The result of a format's writer.
-fn write_in<W: Sink>(model: &Model, form: Form, sink: &mut W) -> Result<(), WriteFault> {
-    match form {
-        Form::Mps => write_mps(model, sink),
-        Form::Lp => write_lp(model, sink),
+fn write_in<W: Sink>(model: &Model, format: FileFormat, sink: &mut W) -> Result<(), WriteFault> {
+    match format {
+        FileFormat::Mps => write_mps(model, sink),
+        FileFormat::Lp => write_lp(model, sink),
     }
 }
 
 /// Whether a writer reports how many bytes its sink took before it failed.
-fn write_is_cut(alloc: Global, model: &Model, form: Form, text: &[u8], take: usize) -> bool {
+fn write_is_cut(
+    alloc: Global,
+    model: &Model,
+    format: FileFormat,
+    text: &[u8],
+    take: usize,
+) -> bool {
     let Ok(mut sink) = FailingWriter::new(alloc, take) else {
         return false;
     };
-    let answer = write_in(model, form, &mut sink);
+    let answer = write_in(model, format, &mut sink);
     let is_reported =
         matches!(answer, Err(WriteFault::Write { written }) if written == take as u64);
     is_reported && text.starts_with(sink.bytes()) && sink.bytes().len() == take
 }
 
 /// Whether a writer succeeds if its sink has exactly enough room.
-fn write_is_whole(alloc: Global, model: &Model, form: Form, text: &[u8]) -> bool {
+fn write_is_whole(alloc: Global, model: &Model, format: FileFormat, text: &[u8]) -> bool {
     let Ok(mut sink) = FailingWriter::new(alloc, text.len()) else {
         return false;
     };
-    let answer = write_in(model, form, &mut sink);
+    let answer = write_in(model, format, &mut sink);
     matches!(answer, Ok(())) && sink.bytes() == text
 }
 
 /// Whether a writer reports how many bytes its sink took, after whichever byte the sink fails.
-fn writes_up_to_each_byte(alloc: Global, model: &Model, form: Form, text: &[u8]) -> bool {
+fn writes_up_to_each_byte(alloc: Global, model: &Model, format: FileFormat, text: &[u8]) -> bool {
     for take in 0..text.len() {
-        if !write_is_cut(alloc, model, form, text, take) {
+        if !write_is_cut(alloc, model, format, text, take) {
             return false;
         }
     }
-    write_is_whole(alloc, model, form, text)
+    write_is_whole(alloc, model, format, text)
 }
 
 /// Whether the model of an entry is expressible if and only if it has a text, and failing sinks are reported by its writers.
 pub(crate) fn is_written_after_each_byte(alloc: Global, entry: &Entry) -> bool {
-    let Ok(model) = model_in(alloc, entry.form, &entry.text) else {
+    let Ok(model) = model_in(alloc, entry.format, &entry.text) else {
         return !entry.is_model();
     };
-    let mps = entry.answer_in(Form::Mps);
-    let lp = entry.answer_in(Form::Lp);
-    if !Mps::expressible(&model) || !writes_up_to_each_byte(alloc, &model, Form::Mps, &mps.text) {
+    let mps = entry.answer_in(FileFormat::Mps);
+    let lp = entry.answer_in(FileFormat::Lp);
+    if !Mps::expressible(&model)
+        || !writes_up_to_each_byte(alloc, &model, FileFormat::Mps, &mps.text)
+    {
         return false;
     }
     if Lp::expressible(&model) {
-        !lp.is_fault && writes_up_to_each_byte(alloc, &model, Form::Lp, &lp.text)
+        !lp.is_fault && writes_up_to_each_byte(alloc, &model, FileFormat::Lp, &lp.text)
     } else {
         lp.is_fault
     }

@@ -2,7 +2,7 @@
 
 use crate::inputs::content;
 use crate::vectors::answers::Answer;
-use mpslp_convert::Form;
+use mpslp_run_jobs::FileFormat;
 use std::alloc::{AllocError, Global};
 use std::io::{Error, ErrorKind, Read};
 use std::rt::Files;
@@ -23,7 +23,7 @@ pub(crate) struct Expected {
 #[derive(Drop)]
 pub(crate) struct Entry {
     pub(crate) name: String,
-    pub(crate) form: Form,
+    pub(crate) format: FileFormat,
     pub(crate) text: Vec<u8>,
     pub(crate) expected: Expected,
 }
@@ -61,11 +61,11 @@ pub(crate) fn number(fields: &[&str], number: usize) -> io::Result<usize> {
 }
 
 /// The format of a file, by the end of its name.
-pub(crate) fn form_of(name: &str) -> Form {
+pub(crate) fn format_of(name: &str) -> FileFormat {
     if name.ends_with("lp") {
-        Form::Lp
+        FileFormat::Lp
     } else {
-        Form::Mps
+        FileFormat::Mps
     }
 }
 
@@ -144,7 +144,7 @@ impl Entry {
         let text = content(rt, alloc, name)?;
         Ok(Entry {
             name: String::from_str(alloc, name)?,
-            form: form_of(name),
+            format: format_of(name),
             text,
             expected: Expected::of_fields(rt, alloc, fields)?,
         })
@@ -156,17 +156,17 @@ impl Entry {
     }
 
     /// The expected result of a conversion to this format.
-    pub(crate) fn answer_in(&self, form: Form) -> &Answer {
-        self.expected.answer_in(form)
+    pub(crate) fn answer_in(&self, format: FileFormat) -> &Answer {
+        self.expected.answer_in(format)
     }
 }
 
 impl Expected {
     /// The expected result of a conversion to this format.
-    pub(crate) fn answer_in(&self, form: Form) -> &Answer {
-        match form {
-            Form::Mps => &self.mps,
-            Form::Lp => &self.lp,
+    pub(crate) fn answer_in(&self, format: FileFormat) -> &Answer {
+        match format {
+            FileFormat::Mps => &self.mps,
+            FileFormat::Lp => &self.lp,
         }
     }
 }
@@ -194,11 +194,11 @@ pub(crate) fn entry_named<'a>(entries: &'a [Entry], name: &str) -> io::Result<&'
 /// An entry of the model with this canonical text.
 pub(crate) fn entry_of_text<'a>(
     entries: &'a [Entry],
-    form: Form,
+    format: FileFormat,
     text: &[u8],
 ) -> io::Result<&'a Entry> {
     for entry in entries {
-        if entry.answer_in(form).text.as_slice() == text {
+        if entry.answer_in(format).text.as_slice() == text {
             return Ok(entry);
         }
     }

@@ -15,7 +15,7 @@ loop-raw_token-preserved-in-Err c =
     record {
       next = tt;
       finite = tt;
-      least = ap (λ (k : FaultKind). least_kind (k ∷ more)) c.lesser_of.ensures ∙ sym (least-next c.loop-raw_token.least kind more)
+      least = ap (λ (k : FaultKind). least_kind (k ∷ more)) c.lower_ranked_of.ensures ∙ sym (least-next c.loop-raw_token.least kind more)
           ∙ ap (λ (o : Option FaultKind). least_kind (cons_option c.loop-raw_token.least (cons_option o more))) (sym c.in-Err.ensures)
           ∙ ap (λ (left : List Token). least_kind (cons_option c.loop-raw_token.least (token_faults left))) (sym c.in-Some.ensures.steps) ∙ c.loop-raw_token.invariant.least;
     }

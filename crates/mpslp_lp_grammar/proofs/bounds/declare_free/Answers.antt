@@ -14,5 +14,5 @@ returns c =
     let context = c.args.context.now in
     let column = c.args.column.now in
     let front = declare_column column ∷ [] in
-    completes context c.declare_bound.new.self Terminal.Free (bounds_refusals (with_declarations context.earlier front) column (Some MinusInf) (Some PlusInf)) (InBounds None)
+    completes context c.declare_bound.new.self Terminal.Free (bounds_refusals (with_declarations context.builder front) column (Some MinusInf) (Some PlusInf)) (InBounds None)
     (front ++ bounds_declared column (Some MinusInf) (Some PlusInf)) c.declare_bound.result (answer_at (InBounds None) c.declare_bound.result) refl refl c.declare_bound.ensures

@@ -12,5 +12,5 @@ returns c =
     let context = c.args.context.now in
     let column = c.args.column.now in
     let made = declare_column column ∷ kind_declared c.args.section column ∷ [] in
-    completes context c.declare_listed.new.self (Terminal.Name column) (refusals_in_turn context.earlier made) (listed_at c.args.section) made c.declare_listed.result
+    completes context c.declare_listed.new.self (Terminal.Name column) (refusals_in_turn context.builder made) (listed_at c.args.section) made c.declare_listed.result
     (answer_at (listed_at c.args.section) c.declare_listed.result) refl refl c.declare_listed.ensures

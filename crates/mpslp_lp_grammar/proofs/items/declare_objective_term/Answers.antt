@@ -13,6 +13,6 @@ returns c =
     let later = c.declare_term.new.self in
     let objective = c.args.objective.now in
     let made = term_declared objective (c.args.column.now, c.args.value) in
-    completes context later (Terminal.Name c.args.column.now) (refusals_in_turn context.earlier made) (InObjective objective) made c.declare_term.result
+    completes context later (Terminal.Name c.args.column.now) (refusals_in_turn context.builder made) (InObjective objective) made c.declare_term.result
     (answer_at (InObjective objective) c.declare_term.result) refl refl
-    (subst (λ (row : List ℕ). Declares context.earlier (term_declared row (c.args.column.now, c.args.value)) c.declare_term.result later) c.as_bytes.ensures c.declare_term.ensures)
+    (subst (λ (row : List ℕ). Declares context.builder (term_declared row (c.args.column.now, c.args.value)) c.declare_term.result later) c.as_bytes.ensures c.declare_term.ensures)

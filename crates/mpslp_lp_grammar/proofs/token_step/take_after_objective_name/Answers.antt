@@ -14,8 +14,8 @@ returns-in_ok-objective-in_default c =
     let context = c.args.context.now in
     let token = c.args.token.now in
     let made = first_item_declared c.args.sense c.args.name in
-    let declared = subst (λ (name : List ℕ). Declares context.earlier (first_item_declared c.args.sense name) c.declare_first_item-answer.result c.declare_first_item-answer.new.self)
+    let declared = subst (λ (name : List ℕ). Declares context.builder (first_item_declared c.args.sense name) c.declare_first_item-answer.result c.declare_first_item-answer.new.self)
     c.as_bytes.ensures c.declare_first_item-answer.ensures in
     subst (λ (taken : AfterToken). TakesToken taken c.begin_after.result c.begin_after.new.context) (sym (objective_name-other context c.args.sense c.args.name token.kind token.text.now c.in_default.not-Colon))
     (subst (λ (name : List ℕ). TakesToken (begin_after context made (InObjective name) (terminal_of_token token)) c.begin_after.result c.begin_after.new.context) c.in_ok-objective-in_default.ensures
-    (c.begin_after.ensures context.earlier (refusals_in_turn context.earlier made) made declared))
+    (c.begin_after.ensures context.builder (refusals_in_turn context.builder made) made declared))

@@ -14,8 +14,8 @@ returns-in_ok-objective-in_default c =
     let context = c.args.context.now in
     let token = c.args.token.now in
     let made = objective_declared c.args.sense default_objective in
-    let declared = subst (λ (name : List ℕ). Declares context.earlier (objective_declared c.args.sense name) c.declare_objective-answer.result c.declare_objective-answer.new.self)
+    let declared = subst (λ (name : List ℕ). Declares context.builder (objective_declared c.args.sense name) c.declare_objective-answer.result c.declare_objective-answer.new.self)
     c.in_ok-name-in_default.ensures c.declare_objective-answer.ensures in
     subst (λ (taken : AfterToken). TakesToken taken c.begin_after.result c.begin_after.new.context) (sym (objective-other context c.args.sense token.kind token.text.now c.in_default.not-Name))
     (subst (λ (name : List ℕ). TakesToken (begin_after context made (BeforeItems name) (terminal_of_token token)) c.begin_after.result c.begin_after.new.context) c.in_ok-objective-in_default.ensures
-    (c.begin_after.ensures context.earlier (refusals_in_turn context.earlier made) made declared))
+    (c.begin_after.ensures context.builder (refusals_in_turn context.builder made) made declared))

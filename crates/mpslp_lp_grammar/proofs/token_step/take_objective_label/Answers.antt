@@ -13,5 +13,5 @@ returns c =
     let later = c.declare_objective.new.self in
     let made = objective_declared c.args.sense c.args.name in
     let named : c.in_ok-copy.copy ≡ c.args.name = c.in_ok-copy.ensures ∙ c.as_bytes.ensures in
-    completes context later Terminal.Colon (refusals_in_turn context.earlier made) (BeforeItems c.args.name) made c.declare_objective.result c.at_place.result refl c.at_place.ensures
-    (subst (λ (name : List ℕ). Declares context.earlier (objective_declared c.args.sense name) c.declare_objective.result later) named c.declare_objective.ensures)
+    completes context later Terminal.Colon (refusals_in_turn context.builder made) (BeforeItems c.args.name) made c.declare_objective.result c.at_place.result refl c.at_place.ensures
+    (subst (λ (name : List ℕ). Declares context.builder (objective_declared c.args.sense name) c.declare_objective.result later) named c.declare_objective.ensures)

@@ -28,12 +28,12 @@ returns-clause-taken c =
     let entries = listed c.args.entries.now in
     let given = c.args.name in
     let started = c.in_ok-column.ensures.ok in
-    let laid =
-    laid_then b.tables c.start_column.new.self c.put_line.new.self (declare_column given ∷ []) (when marked (declare_marked given) ++ flat_map (entry_declared given) entries) started.laid
+    let declared =
+    laid_then b.tables c.start_column.new.self c.put_line.new.self (declare_column given ∷ []) (when marked (declare_marked given) ++ flat_map (entry_declared given) entries) started.declared
     (c.in_ok-put_line.ensures.ok given started.named) in (
       ap (λ (d : Draft). refusals_in_turn d (column_line marked c.args.name entries)) (sym c.draft.view_is)
-          ∙ laid.free b.sense b.constant,
-      laid.laid b.sense b.constant ∙ ap (λ (d : Draft). with_declarations d (column_line marked c.args.name entries)) c.draft.view_is,
+          ∙ declared.free b.sense b.constant,
+      declared.declared b.sense b.constant ∙ ap (λ (d : Draft). with_declarations d (column_line marked c.args.name entries)) c.draft.view_is,
     )
 
 pub returns-in_default-clause-refused : goal.returns-in_default-clause-refused

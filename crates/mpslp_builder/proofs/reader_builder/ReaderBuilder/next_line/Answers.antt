@@ -28,10 +28,10 @@ returns-clause-taken c =
     let column = c.args.column.now in
     let place = c.in-Some.ensures.place in
     let more = when c.args.is_marked (declare_marked column) ++ flat_map (entry_declared column) (listed c.args.entries.now) in
-    let laid = c.in_ok-put_line.ensures.ok column place.column in
+    let declared = c.in_ok-put_line.ensures.ok column place.column in
     let there : has_column all column ≡ true =
     ap (λ (d : Draft). has_column d column) (sym c.draft.view_is) ∙ sym (number_there no_part b.tables.columns.entries c.in-Some.place.column column place.column) in
     let again : with_declaration all (declare_column column) ≡ all =
     ap (λ (columns : List (List ℕ × Unit {0})). record all { columns = columns }) (sym (put_again column all.columns (sorted-from_made all (made_now c.draft.view_is c.draft.invariant.0)).columns there)) in
-    taken_next all later column more again (ap (λ (d : Draft). refusals_in_turn d more) (sym c.draft.view_is) ∙ laid.free b.sense b.constant)
-    (laid.laid b.sense b.constant ∙ ap (λ (d : Draft). with_declarations d more) c.draft.view_is)
+    taken_next all later column more again (ap (λ (d : Draft). refusals_in_turn d more) (sym c.draft.view_is) ∙ declared.free b.sense b.constant)
+    (declared.declared b.sense b.constant ∙ ap (λ (d : Draft). with_declarations d more) c.draft.view_is)

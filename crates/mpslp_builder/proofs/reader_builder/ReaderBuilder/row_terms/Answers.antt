@@ -7,14 +7,14 @@ use Rattle.mpslp_builder.proofs.TermLemmas.{in_turn, rows_unknown}
 use Rattle.mpslp_builder.proofs.reader_builder.ReaderBuilder.row_terms.Goals as goal
 
 pub invariant_of-draft : goal.invariant_of-draft
-invariant_of-draft c = (c.lay_terms.ensures.kept.made c.draft.inside.sense c.draft.inside.constant c.draft.invariant.0, c.lay_terms.ensures.kept.numbered)
+invariant_of-draft c = (c.declare_terms.ensures.kept.made c.draft.inside.sense c.draft.inside.constant c.draft.invariant.0, c.declare_terms.ensures.kept.numbered)
 
 pub returns-in-Some-clause-declared : goal.returns-in-Some-clause-declared
 returns-in-Some-clause-declared c =
     let b = c.draft.inside in
     let ds = flat_map (term_declared c.args.row.now) c.args.terms.now in
-    subst (λ (all : Draft). DeclaresInTurn all ds c.lay_terms.result (draft b.sense b.constant c.lay_terms.new.self)) c.draft.view_is
-    (in_turn b.sense b.constant b.tables c.lay_terms.new.self ds c.lay_terms.result (c.lay_terms.ensures.laid c.args.row.now c.in-Some.ensures.number))
+    subst (λ (all : Draft). DeclaresInTurn all ds c.declare_terms.result (draft b.sense b.constant c.declare_terms.new.self)) c.draft.view_is
+    (in_turn b.sense b.constant b.tables c.declare_terms.new.self ds c.declare_terms.result (c.declare_terms.ensures.declared c.args.row.now c.in-Some.ensures.number))
 
 pub returns-in-None-clause-declared : goal.returns-in-None-clause-declared
 returns-in-None-clause-declared c =

@@ -7,7 +7,7 @@ use Rattle.mpslp_builder.specs.FaultFound.{column_fails, is_wrong_column, kind_o
 use Rattle.mpslp_model_core.specs.declared.bounds.ColumnFault.{ColumnFault}
 use Rattle.mpslp_model_core.specs.declared.bounds.ColumnFault.TheVariants.{NegativeUpper}
 use Rattle.mpslp_builder.specs.declared.tables.file_faults.FoundFault.TheVariants.{Column}
-use Rattle.mpslp_builder.proofs.FoundLemmas.{column_named, faultless_column, none_least, none_left, stated, entry_named, first_left, next_left}
+use Rattle.mpslp_builder.proofs.FoundLemmas.{column_named, faultless_column, none_least, none_left, reported, entry_named, first_left, next_left}
 use Rattle.mpslp_builder.proofs.tables.Tables.first_fault_of_columns.Goals as goal
 
 pub returns-then-not-has_faulty-clause-fault : goal.returns-then-not-has_faulty-clause-fault
@@ -25,7 +25,7 @@ returns-in-Some-clause-fault c =
     let name = entry_name t.columns.entries c.in-Some.at in
     sym (first_left (λ (f : ColumnFault). named_fault (draft None None t) (kind_of_column_fault f)) c.args.faults.now c.loop-fault.fault-index NegativeUpper (fault_found t (Column fault c.in-Some.at)) c.loop-fault-test.true
     (column_named t c.each_name_occurs_once.ensures fault
-    ∙ stated (kind_of_column_fault fault) name (least_name (column_fails fault) t.columns.entries) c.in-Some.ensures.name (entry_named t.columns.entries c.in-Some.at (c.in-Some.ensures.there c.in-Some.at refl))))
+    ∙ reported (kind_of_column_fault fault) name (least_name (column_fails fault) t.columns.entries) c.in-Some.ensures.name (entry_named t.columns.entries c.in-Some.at (c.in-Some.ensures.there c.in-Some.at refl))))
     ∙ c.loop-fault.invariant
 
 pub loop-fault-preserved : goal.loop-fault-preserved

@@ -7,7 +7,7 @@ use Rattle.mpslp_builder.specs.FaultFound.{row_fails, is_wrong_row, kind_of_row_
 use Rattle.mpslp_model_core.specs.declared.limits.RowFault.{RowFault}
 use Rattle.mpslp_model_core.specs.declared.limits.RowFault.TheVariants.{InfiniteLimit}
 use Rattle.mpslp_builder.specs.declared.tables.file_faults.FoundFault.TheVariants.{Row}
-use Rattle.mpslp_builder.proofs.FoundLemmas.{row_named, faultless_row, none_least, none_left, stated, entry_named, first_left, next_left}
+use Rattle.mpslp_builder.proofs.FoundLemmas.{row_named, faultless_row, none_least, none_left, reported, entry_named, first_left, next_left}
 use Rattle.mpslp_builder.proofs.tables.Tables.first_fault_of_rows.Goals as goal
 
 pub returns-then-not-has_faulty-clause-fault : goal.returns-then-not-has_faulty-clause-fault
@@ -25,7 +25,7 @@ returns-in-Some-clause-fault c =
     let name = entry_name t.rows.entries c.in-Some.at in
     sym (first_left (λ (f : RowFault). named_fault (draft None None t) (kind_of_row_fault f)) c.args.faults.now c.loop-fault.fault-index InfiniteLimit (fault_found t (Row fault c.in-Some.at)) c.loop-fault-test.true
     (row_named t c.requires c.each_name_occurs_once.ensures fault
-    ∙ stated (kind_of_row_fault fault) name (least_name (row_fails fault) t.rows.entries) c.in-Some.ensures.name (entry_named t.rows.entries c.in-Some.at (c.in-Some.ensures.there c.in-Some.at refl))))
+    ∙ reported (kind_of_row_fault fault) name (least_name (row_fails fault) t.rows.entries) c.in-Some.ensures.name (entry_named t.rows.entries c.in-Some.at (c.in-Some.ensures.there c.in-Some.at refl))))
     ∙ c.loop-fault.invariant
 
 pub loop-fault-preserved : goal.loop-fault-preserved

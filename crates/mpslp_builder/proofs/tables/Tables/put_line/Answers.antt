@@ -13,7 +13,7 @@ pub returns-clause-ok : goal.returns-clause-ok
 returns-clause-ok c =
     let t = c.args.self.now in
     on_ok c.put_entries.result
-    (λ laid name is.
-    laid_then t c.mark_if.new.self c.put_entries.new.self (when c.args.is_marked (declare_marked name)) (flat_map (entry_declared name) (listed c.args.entries.now)) (c.mark_if.ensures.laid name is)
-    (laid name (c.mark_if.ensures.kept.columns c.args.column name is)))
+    (λ declared name is.
+    laid_then t c.mark_if.new.self c.put_entries.new.self (when c.args.is_marked (declare_marked name)) (flat_map (entry_declared name) (listed c.args.entries.now)) (c.mark_if.ensures.declared name is)
+    (declared name (c.mark_if.ensures.kept.columns c.args.column name is)))
     c.put_entries.ensures.ok

@@ -7,8 +7,8 @@ use Rattle.mpslp_lp.proofs.LineReaderLemmas.{led-named, ends-missing, ends-text}
 use Rattle.mpslp_lp.proofs.line_reader.LineReaderReadLines.finish.Goals as goal
 
 -- the builder has all declarations
-same_draft : (context taken : Context) (draft : Draft) → draft ≡ taken.earlier → taken ≡ context → draft ≡ context.earlier
-same_draft context taken draft is same = is ∙ ap (λ (it : Context). it.earlier) same
+same_draft : (context taken : Context) (draft : Draft) → draft ≡ taken.builder → taken ≡ context → draft ≡ context.builder
+same_draft context taken draft is same = is ∙ ap (λ (it : Context). it.builder) same
 
 pub finish_by_columns-requires : goal.finish_by_columns-requires
 finish_by_columns-requires c =

@@ -7,8 +7,8 @@ use Rattle.mpslp_model_core.specs.Views.{column_name, column_elements}
 use Rattle.mpslp_write_mps.proofs.ColumnLemmas.{element-seen, row-within, row-named}
 use Rattle.mpslp_write_mps.proofs.mps.columns.row_of.Goals as goal
 
-pub row_text-requires : goal.row_text-requires
-row_text-requires c =
+pub row_name_bytes-requires : goal.row_name_bytes-requires
+row_name_bytes-requires c =
     let m = c.args.model.now in
     let (e, at, index, value) = element-seen m (column_elements m (column_name m c.args.j)) (c.args.from + c.args.n) c.entry-i.result.0 c.entry-i.result.1 c.entry-i.ensures in
     row-within m e.0.row c.entry-i.result.0 index
@@ -17,5 +17,5 @@ pub returns : goal.returns
 returns c = λ within.
     let m = c.args.model.now in
     let (e, at, index, value) = element-seen m (column_elements m (column_name m c.args.j)) (c.args.from + c.args.n) c.entry-i.result.0 c.entry-i.result.1 c.entry-i.ensures in
-    let row : c.row_text.result.now ≡ e.0.row = row-named m e.0.row _ c.entry-i.result.0 index c.row_text.ensures in
+    let row : c.row_name_bytes.result.now ≡ e.0.row = row-named m e.0.row _ c.entry-i.result.0 index c.row_name_bytes.ensures in
     ap (λ (o : Option (CoefficientKey × Number)). option_map (λ (e : CoefficientKey × Number). e.0.row) o) at ∙ ap (λ (name : List ℕ). Some name) (sym row)

@@ -6,7 +6,7 @@ use Rattle.mpslp_write_mps.proofs.mps.rows.put_range.Goals as goal
 
 pub returns-then-not-is_zero : goal.returns-then-not-is_zero
 returns-then-not-is_zero g c =
-    prints_same (range-put (entries c.args.model.now.rows) c.args.i _ _ c.row_text.ensures c.row_range-range.ensures (sym c.if-not-is_zero.ensures))
+    prints_same (range-put (entries c.args.model.now.rows) c.args.i _ _ c.row_name_bytes.ensures c.row_range-range.ensures (sym c.if-not-is_zero.ensures))
     c.put_value_line.ensures
 
 pub returns-else-not-is_zero : goal.returns-else-not-is_zero

@@ -7,6 +7,6 @@ use Rattle.mpslp_write_mps.proofs.mps.rows.put_row.Goals as goal
 pub returns : goal.returns
 returns g c =
     let letter = c.as_slice.ensures ∙ ap (λ (letter : ℕ). letter ∷ []) c.printed_letter-letter.ensures in
-    prints_same ((λ i. short_line (letter i ∷ c.row_text.result.now ∷ []) ∷ [])
-    ∙ row-put c.args.model.now c.each_model_is_sound.ensures c.args.i _ _ c.row_text.ensures c.row_sense.ensures)
+    prints_same ((λ i. short_line (letter i ∷ c.row_name_bytes.result.now ∷ []) ∷ [])
+    ∙ row-put c.args.model.now c.each_model_is_sound.ensures c.args.i _ _ c.row_name_bytes.ensures c.row_sense.ensures)
     c.put_short_line.ensures

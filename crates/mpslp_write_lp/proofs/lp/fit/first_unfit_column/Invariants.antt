@@ -1,0 +1,9 @@
+use Rattle.std.proofs.Common.{◌≤◌}
+use Rattle.std.specs.List.{position_or_len}
+use Rattle.mpslp_model_core.specs.Views.{column_names}
+use Rattle.mpslp_canonical_lp.specs.Unfit.{is_no_lp_name}
+use Rattle.mpslp_write_lp.proofs.lp.fit.first_unfit_column.Given as goal
+
+-- the names so far are LP names
+abbrev pub invariant-loop-j : goal.invariant-loop-j
+invariant-loop-j l = l.j ≤ position_or_len is_no_lp_name (column_names l.model)

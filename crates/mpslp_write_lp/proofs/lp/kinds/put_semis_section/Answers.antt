@@ -1,0 +1,15 @@
+use Rattle.std.proofs.Common.{refl, ◌∙◌, [], ◌∷◌}
+use Rattle.std.specs.Prelude.{codes, filter}
+use Rattle.std.specs.FinMap.{entries}
+use Rattle.mpslp_canonical_lp.specs.CanonicalLp.{name_line, is_semi_column}
+use Rattle.mpslp_write_lp.proofs.LpLineTexts.{under-semi-heading}
+use Rattle.mpslp_output.proofs.LinesAtLemmas.{map-flat_map, flat_map-filter}
+use Rattle.mpslp_output.proofs.OutputLemmas.{prints_same, section_under}
+use Rattle.mpslp_write_lp.proofs.lp.kinds.put_semis_section.Goals as goal
+
+pub returns : goal.returns
+returns g c =
+    let columns = entries c.args.model.now.columns in
+    section_under (codes "Semi-Continuous\n") (under-semi-heading _ _ refl) c.open_section.ensures
+    (prints_same (flat_map-filter (λ column. name_line column ∷ []) is_semi_column columns ∙ map-flat_map name_line (filter is_semi_column columns)) c.put_names.ensures)
+    c.close_section.ensures.closed

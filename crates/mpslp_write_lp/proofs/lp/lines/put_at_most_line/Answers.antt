@@ -1,0 +1,11 @@
+use Rattle.std.proofs.Common.{[], ◌∷◌}
+use Rattle.mpslp_lp_grammar.specs.declared.relations.Relation.TheVariants.{AtMost}
+use Rattle.mpslp_canonical_lp.specs.Printed.{number, sense}
+use Rattle.mpslp_write_lp.proofs.LpLineTexts.{line-text}
+use Rattle.mpslp_output.proofs.OutputLemmas.{puts_then, prints_line}
+use Rattle.mpslp_write_lp.proofs.lp.lines.put_at_most_line.Goals as goal
+
+pub returns : goal.returns
+returns g c =
+    prints_line (line-text 2 (sense AtMost) (number c.args.upper ∷ [])) c.put_header.ensures
+    (puts_then c.put.ensures (puts_then c.put_number.ensures c.put-2.ensures))

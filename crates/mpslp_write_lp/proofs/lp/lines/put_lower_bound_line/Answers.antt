@@ -1,0 +1,11 @@
+use Rattle.std.proofs.Common.{[], ◌∷◌}
+use Rattle.mpslp_lp_grammar.specs.declared.relations.Relation.TheVariants.{AtLeast}
+use Rattle.mpslp_canonical_lp.specs.Printed.{word, number, sense}
+use Rattle.mpslp_write_lp.proofs.LpLineTexts.{line-text}
+use Rattle.mpslp_output.proofs.OutputLemmas.{puts_then, prints_line}
+use Rattle.mpslp_write_lp.proofs.lp.lines.put_lower_bound_line.Goals as goal
+
+pub returns : goal.returns
+returns g c =
+    prints_line (line-text 1 (word c.args.column.now) (sense AtLeast ∷ number c.args.lower ∷ [])) c.put_header.ensures
+    (puts_then c.put.ensures (puts_then c.put-2.ensures (puts_then c.put-3.ensures (puts_then c.put_number.ensures c.put-4.ensures))))

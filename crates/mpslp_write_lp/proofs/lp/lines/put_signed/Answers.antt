@@ -1,0 +1,11 @@
+use Rattle.std.proofs.Common.{ap, ◌∙◌, ◌++◌}
+use Rattle.std.specs.Prelude.{codes}
+use Rattle.mpslp_decimal.specs.NumberText.{number_text}
+use Rattle.mpslp_canonical_lp.specs.Printed.{sign_bytes}
+use Rattle.mpslp_output.proofs.OutputLemmas.{puts_then, puts_same}
+use Rattle.mpslp_write_lp.proofs.lp.lines.put_signed.Goals as goal
+
+pub returns : goal.returns
+returns g c =
+    puts_then (puts_same (c.sign_text.ensures ∙ ap (λ minus. codes "  " ++ (sign_bytes minus ++ codes " ")) c.is_negative.ensures) c.put.ensures)
+    (puts_same (ap number_text c.abs.ensures) c.put_number.ensures)

@@ -1,0 +1,16 @@
+use Rattle.std.proofs.Common.{◌∙◌, ◌++◌, ◌∷◌}
+use Rattle.std.specs.FinMap.{entries}
+use Rattle.mpslp_model_core.specs.Model.{listing_of}
+use Rattle.mpslp_canonical_lp.specs.CanonicalLp.{label_line, constant_lines, objective_term}
+use Rattle.mpslp_write_lp.specs.LpLinesAt.{sense_lines}
+use Rattle.mpslp_write_lp.proofs.LpTerms.{terms-joined}
+use Rattle.mpslp_output.proofs.OutputLemmas.{section_of, section_then, section_same}
+use Rattle.mpslp_write_lp.proofs.lp.objective.put_objective_section.Goals as goal
+
+pub returns : goal.returns
+returns g c =
+    let m = c.args.model.now in
+    let name = c.as_bytes.ensures ∙ c.objective_name.ensures in
+    let terms = terms-joined (objective_term (listing_of m)) (entries m.columns) in
+    section_same (λ i. sense_lines (c.objective_sense.ensures i) ++ (label_line (name i) ∷ (terms i ++ constant_lines (c.objective_constant.ensures i))))
+    (section_then c.put_sense.ensures (section_then (section_of c.put_label_line.ensures) (section_then (section_of c.put_objective_terms.ensures) (section_of c.put_constant.ensures))))

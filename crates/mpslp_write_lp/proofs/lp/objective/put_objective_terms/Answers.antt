@@ -1,0 +1,9 @@
+use Rattle.std.proofs.Common.{rules, arith}
+use Rattle.std.specs.FinMap.{entries}
+use Rattle.mpslp_model_core.specs.Model.{listing_of}
+use Rattle.mpslp_write_lp.specs.LpLinesAt.{objective_term_lines}
+use Rattle.mpslp_output.proofs.EachLemmas.{prints_each}
+use Rattle.mpslp_write_lp.proofs.lp.objective.put_objective_terms.Goals as goal
+
+pub returns : goal.returns
+returns g c = prints_each (objective_term_lines (listing_of c.args.model.now)) (entries c.args.model.now.columns) (omega arith) (λ i within x y call. search rules) c.put_each.ensures

@@ -1,0 +1,13 @@
+use Rattle.std.proofs.Common.{refl, [], ◌∷◌}
+use Rattle.std.specs.Prelude.{codes}
+use Rattle.mpslp_canonical_lp.specs.CanonicalLp.{heading}
+use Rattle.mpslp_output.proofs.OutputLemmas.{section_then, section_text}
+use Rattle.mpslp_write_lp.proofs.lp.put_lines.Goals as goal
+
+pub returns : goal.returns
+returns g c =
+    section_then c.put_objective_section.ensures
+    (section_then c.put_rows_section.ensures
+    (section_then c.put_bounds_section.ensures
+    (section_then c.put_generals_section.ensures
+    (section_then c.put_semis_section.ensures (section_text {lines = heading (codes "End" ∷ []) ∷ []} refl c.put.ensures)))))

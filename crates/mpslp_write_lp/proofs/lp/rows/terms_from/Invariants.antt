@@ -1,0 +1,13 @@
+use Rattle.std.proofs.Common.{◌≡◌, ◌+◌, ◌<◌, ℕ, length}
+use Rattle.std.specs.Prelude.{slice_index_or}
+use Rattle.mpslp_decimal.specs.Decimal.{Number}
+use Rattle.mpslp_model_core.specs.Views.{row_name, row_columns}
+use Rattle.mpslp_write_lp.specs.LpLinesAt.{IsTerm}
+use Rattle.mpslp_write_lp.proofs.lp.rows.terms_from.Given as goal
+
+-- the terms so far are known
+abbrev pub invariant-loop-n : goal.invariant-loop-n
+invariant-loop-n l = record {
+  len : length l.terms ≡ 8;
+  known : (m : ℕ) (default : ℕ × Number) → m < l.n → l.from + m < length (row_columns l.model (row_name l.model l.i)) → IsTerm l.model l.i (l.from + m) (slice_index_or l.terms m default);
+}
