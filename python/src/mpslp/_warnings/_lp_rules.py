@@ -2,6 +2,7 @@
 
 from __future__ import annotations
 
+import re
 from itertools import pairwise
 
 from mpslp._warnings._lp import DECIMAL_COMMA, ODD_PARENTHESIS, LpText
@@ -12,6 +13,7 @@ _KEYWORDS = frozenset(
     b"MINIMIZE MAXIMIZE MINIMISE MAXIMISE MINIMUM MAXIMUM MIN MAX SUBJECT SUCH ST S.T. ST. BOUND BOUNDS GENERAL GENERALS GEN "
     b"INTEGER INTEGERS INT BINARY BINARIES BIN SEMI SEMIS SEMI-CONTINUOUS SEC SIN SOS SOS1 SOS2 LAZY USER PWLOBJ SCENARIOS".split()
 )
+_PARENTHESES = re.compile(rb"[()]+")
 _MOST_LISTED = 2
 """The names of a line that a warning has: those with the first and the last parenthesis of most sums."""
 _MOST_COMPARED = 1 << 24
@@ -28,16 +30,19 @@ def late_name(file: LpText) -> Found:
 
 def sum_in_parentheses(file: LpText) -> Found:
     for line in file.lines_with(ODD_PARENTHESIS):
-        names = [token for token in line if token.lastgroup == "word" and not _closes_its_parentheses(token[0])]
-        if names:
+        names = [token for token in line if token.lastgroup == "word" and _odd_parentheses(token[0])]
+        if any(b"(" in _odd_parentheses(name[0]) for name in names):
             listed = " and ".join(shown(name[0]) for name in names[:_MOST_LISTED])
             are = "are read as names" if len(names) > 1 else "is read as a name"
             yield names[0].start(), f"{listed} {are}, since names may have parentheses in LP; if a sum is meant, multiply it out"
 
 
-def _closes_its_parentheses(name: bytes) -> bool:
-    """Whether each parenthesis of a name is closed, and a letter comes before it, as in x(1)."""
-    return name.count(b"(") == name.count(b")") and not name.startswith(b"(")
+def _odd_parentheses(name: bytes) -> bytes:
+    """The parentheses of a name without a counterpart in it, or before which there is no letter: none of x(1) or f(x(1))."""
+    left = b"".join(_PARENTHESES.findall(name))
+    while b"()" in left:
+        left = left.replace(b"()", b"")
+    return b"(" if name.startswith(b"(") and not left else left
 
 
 def decimal_comma(file: LpText) -> Found:
