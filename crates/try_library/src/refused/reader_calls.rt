@@ -31,7 +31,7 @@ pub(crate) const READER_CALLS: [(&str, ReaderCall); 5] = [
     ("RowTerms::add", ReaderCall::AddTerms),
 ];
 
-/// The declarations before each call. The column has as many coefficients as it has room for.
+/// The declarations before the other calls. The column has as many coefficients as it has room for.
 const BEFORE: &str = "\
 objective f
 row r L
@@ -40,6 +40,22 @@ row LONG E
 column x
 coefficient f x 1
 coefficient seventeen.letters x 2";
+
+/// The declarations before the first line of a column: there is no column yet, so no room for one.
+const BEFORE_COLUMNS: &str = "\
+objective f
+row r L
+row seventeen.letters G
+row LONG E";
+
+impl ReaderCall {
+    fn before(self) -> &'static str {
+        match self {
+            ReaderCall::FirstLine => BEFORE_COLUMNS,
+            _ => BEFORE,
+        }
+    }
+}
 
 /// The names of these declarations that are those of rows or of the objective, and how many they are.
 const ROWS: &str = "f r seventeen.letters LONG";
@@ -185,7 +201,7 @@ pub(crate) fn reader_call(
     growth: u32,
 ) -> Result<Answer, AllocError> {
     let mut out = roomy(alloc)?;
-    let draft = begun(alloc, BEFORE);
+    let draft = begun(alloc, call.before());
     let mut builder = ReaderBuilder { draft };
     let answer = taken(call, &mut builder, alloc, growth);
     put_taken(&mut out, &answer);
