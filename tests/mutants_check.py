@@ -414,6 +414,16 @@ returns c = grind (arith, c.limit.ensures, c.limit-2.ensures)
 """
 
 
+class NumberOfEdits(unittest.TestCase):
+    MOST = 40
+
+    def test_a_crate_has_few_in_must_fail(self) -> None:
+        """`rt must-fail` tries them one after another: further ones are in tests/wrong-bodies/."""
+        for folder in sorted(ROOT.glob("crates/*/must-fail")):
+            with self.subTest(folder.parent.name):
+                self.assertLessEqual(len([*folder.glob("*.edit")]), self.MOST)
+
+
 class RealProver(unittest.TestCase):
     """What the kit's prover makes of an edit of each kind, in a small crate."""
 
