@@ -113,10 +113,10 @@ class Sections:
         self._first[section.name] = section
 
 
-def lines_of(text: str, first: int = 1) -> list[Line]:
-    """The lines of a text in latin-1, of which the first has this number."""
+def lines_of(text: str) -> list[Line]:
+    """The lines of a text in latin-1."""
     lines = []
-    for number, part in enumerate(text.split("\n"), first):
+    for number, part in enumerate(text.split("\n"), 1):
         end = "\r\n" if part.endswith("\r") else "\n"
         lines.append(Line(number, part[:-1] if end == "\r\n" else part, end))
     last = lines[-1]

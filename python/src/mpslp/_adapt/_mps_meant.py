@@ -16,6 +16,9 @@ from mpslp._adapt._numbers import LITERAL, parts
 NEGATED = "* the number on the objective is negated: it was that of another dialect"
 """The comment before a line whose number was negated; a file that has it is not changed again."""
 
+SENSE_OF_PULP = "PuLP has the sense in this comment, which is ignored: --from pulp maximises"
+"""The note on a comment of PuLP that says to maximise."""
+
 _MOST_NOTES = 5
 """Of columns that may be misspelt."""
 
@@ -84,7 +87,7 @@ class Meant:
             return
         if not self.state.dialect.sense_is_in_a_comment:
             if self.state.dialect.name is None:
-                self.state.log.note(said[0].number, "PuLP has the sense in this comment, which is ignored: --from pulp maximises")
+                self.state.log.note(said[0].number, SENSE_OF_PULP)
             return
         if len(words) > 1:
             raise AdaptError(said[1].number, "a second sense in a comment: keep one of the two")
@@ -130,12 +133,8 @@ class Meant:
         return next((at + 1 for at in range(len(fields) % 2, len(fields), 2) if fields[at] == self.state.objective), None)
 
     def note_the_constant(self, line: Line, is_maximum: bool) -> None:
-        if self.state.dialect.name is not None:
-            return
-        if is_maximum:
-            self.state.log.note(line.number, "glpsol means the constant itself, not its negative: --from glpsol")
-        else:
-            self.state.log.note(line.number, "glpsol and lp_solve mean the constant itself, not its negative: --from glpsol, --from lp_solve")
+        if self.state.dialect.name is None:
+            self.state.log.note(line.number, meaning_of_the_constant(is_maximum))
 
     def negate(self, line: Line, at: int) -> bool:
         """Gives the number in a field the other sign; whether that changes the line."""
@@ -195,6 +194,13 @@ class Meant:
         line = added_data(last.number, [letters, *([name] if name else []), column], last.end or "\n", " ")
         bounds.lines.append(line)
         self.state.log.add(last.number, kind, "", line.text)
+
+
+def meaning_of_the_constant(is_maximum: bool) -> str:
+    """The note on a number of the objective in RHS."""
+    if is_maximum:
+        return "glpsol means the constant itself, not its negative: --from glpsol"
+    return "glpsol and lp_solve mean the constant itself, not its negative: --from glpsol, --from lp_solve"
 
 
 def negated(literal: str) -> str:

@@ -1,7 +1,7 @@
 """The notes on a text that mpslp accepts: what other programs mean by its lines.
 
-A large text is read for them only as far as it may have one: without the coefficients of an MPS file, and an LP file only if
-something in it could be noted.
+A large text is read for them only as far as it may have one: of an MPS file the comments and the objective's number in RHS, and
+an LP file only if something in it could be noted.
 """
 
 from __future__ import annotations
@@ -10,12 +10,12 @@ import re
 from collections.abc import Iterator
 from typing import TYPE_CHECKING
 
+from mpslp import _mpslp
 from mpslp._adapt._changes import AdaptError, Log, Note, OtherLanguage
 from mpslp._adapt._lp import adapt_lp
-from mpslp._adapt._mps import Reader
-from mpslp._adapt._mps_dialects import mps_dialect
-from mpslp._adapt._mps_lines import Line, lines_of
+from mpslp._adapt._mps_meant import NEGATED, SENSE_OF_PULP, meaning_of_the_constant
 from mpslp._sources import Format
+from mpslp._warnings._mps import MpsText
 
 if TYPE_CHECKING:
     from mpslp._mpslp import Arrays
@@ -26,17 +26,18 @@ _ROWS_AFTER_NUMBERS = tuple(re.compile(relation + _SIGN_AFTER_NUMBER) for relati
 _SECTION_OF_OTHERS = re.compile(rb"\n[ \t\r]*(?:[sS](?:\.[iIcC]\.|[iI][nN]|[eE][cC])|[pP](?:\.[iI]\.|[iI][nN]))[ \t\r]*[\n\\]")  # faster than IGNORECASE
 _COMMENT = re.compile(rb"\\[^\n]*")
 _CONSTANT_OF_GLPSOL = rb"\* constant term = "
-_WITHOUT_NOTES = (b"\nCOLUMNS", b"\nRANGES", b"\nBOUNDS")
-_HEADERS = (b"\nRHS", *_WITHOUT_NOTES, b"\nENDATA")
+_COMMENT_OF_MPS = re.compile(rb"^\*", re.M)
+_SENSE = re.compile(rb"\*SENSE:([^\n]*)", re.I)
+_NEGATED = re.compile(re.escape(NEGATED.encode("ascii")) + rb"\r?(?:\n|\Z)")
 
 
 def notes_of(content: bytes, format: Format, arrays: Arrays) -> tuple[Note, ...]:
     """The notes on a text that mpslp accepts, which has these arrays; OtherLanguage for one that others read as something else."""
+    if format == "mps":
+        return tuple(Note(_mpslp.count_line_feeds(content, 0, place) + 1, text) for place, text in notes_on_mps(MpsText(content)))
     log = Log()
     try:
-        if format == "mps":
-            Reader([*lines_with_notes(content)], mps_dialect(None), log).read()
-        elif may_be_noted(content) or has_column_without_coefficients(arrays):
+        if may_be_noted(content) or has_column_without_coefficients(arrays):
             adapt_lp(content.decode("latin-1"), None, log)
     except OtherLanguage:
         raise
@@ -71,26 +72,14 @@ def has_column_without_coefficients(arrays: Arrays) -> bool:
 # ---- MPS
 
 
-def lines_with_notes(content: bytes) -> Iterator[Line]:
-    """The lines of a text in MPS without the data lines of the sections that have nothing to note; comments are kept."""
-    end = content.find(b"\nENDATA") + 1 or len(content)
-    starts = sorted(at for header in _HEADERS if (at := content.find(header, 0, end + len(header))) >= 0)
-    line, place = 1, 0
-    for start, stop in zip([-1, *starts], [*starts, len(content)]):
-        is_left_out = start >= 0 and content.startswith(_WITHOUT_NOTES, start)
-        part = content[place : stop + 1]
-        yield from kept_lines(part, line) if is_left_out else lines_of(part.decode("latin-1"), line)
-        line += part.count(b"\n")
-        place = stop + 1
-
-
-def kept_lines(part: bytes, first: int) -> Iterator[Line]:
-    """The header and the comments of a section, with the numbers of their lines."""
-    place, number = 0, first
-    while place >= 0:
-        stop = part.find(b"\n", place)
-        text = part[place : stop if stop >= 0 else len(part)].decode("latin-1")
-        yield Line(number, text.removesuffix("\r"), "\n")
-        after = part.find(b"\n*", place)
-        number += part.count(b"\n", place, after + 1)
-        place = after + 1 if after >= 0 else -1
+def notes_on_mps(file: MpsText) -> Iterator[tuple[int, str]]:
+    """Where a text in MPS has what is noted, and the note."""
+    comments = [place for place, _ in file.comments]
+    comments += [found.start() for found in _COMMENT_OF_MPS.finditer(file.content, file.end)]
+    said = [(place, found) for place in comments if (found := _SENSE.match(file.content, place)) is not None]
+    if b"OBJSENSE" not in file.sections and any(found[1].strip().upper().startswith(b"MAX") for _, found in said):
+        yield said[0][0], SENSE_OF_PULP
+    if any(_NEGATED.match(file.content, place) is not None for place in comments):
+        return
+    for pair in file.right_hand_sides(file.objective):
+        yield pair.place, meaning_of_the_constant(file.is_maximised)
