@@ -30,6 +30,9 @@ def _stand_in():
     library.load = _load
     library.count_line_feeds = lambda content, start, end: content.count(b"\n", start, end)
     library.find_first_column = _find_first_column
+    library.find_marker = _find_marker
+    library.first_fields = _first_fields
+    library.bounded_columns = _bounded_columns
     sys.modules.update({"mpslp": package, "mpslp._mpslp": library})
     package._mpslp = library
 
@@ -37,6 +40,21 @@ def _stand_in():
 def _find_first_column(content, start, end):
     found = re.compile(rb"\n[A-Z*]").search(content, start, end)
     return -1 if found is None else found.start() + 1 - start
+
+
+def _find_marker(content, start, end):
+    place = content.find(b"'MARKER'", start, end)
+    return place - start if place >= 0 else -1
+
+
+def _first_fields(content, start, end):
+    fields = re.findall(rb"\n[ \t]+(\S+)", content[start:end])
+    return [field for field, before in zip(fields, [b"", *fields]) if field != before]
+
+
+def _bounded_columns(content, start, end, types_without_number):
+    lines = (line.split() for line in re.findall(rb"\n([ \t]+\S[^\n]*)", content[start:end]))
+    return [fields[2 if len(fields) == 4 or (len(fields) == 3 and fields[0] in types_without_number.split()) else 1] for fields in lines]
 
 
 class _UnknownArrays:

@@ -12,6 +12,7 @@ OTHER = (EXAMPLES / "semi.lp").read_bytes()
 CANONICAL = (EXAMPLES / "small.canonical.mps").read_bytes()
 ON_A_LINE = b"ROWS\n N  cost\n N  cost\nENDATA\n"
 WITH_A_NAME = b"ROWS\n N  cost\nCOLUMNS\n    x  cost  1\nBOUNDS\n UP  B  x  -1\nENDATA\n"
+BOUNDS = b"BOUNDS\n UP  B  x  4\n LO  y  1\n* no bound\n FR  B  z\n MI  v\r\n  \r\n FR B w any\n"
 LOADED = _mpslp.load(OTHER, _mpslp.LP)
 NOT_LP = b"ROWS\n N  cost\nCOLUMNS\n    x[1]  cost  1\nENDATA\n"
 LOW, SMALL, LARGE, HIGH = Decimal("-Infinity"), Decimal("-1.5E-7"), Decimal("40"), Decimal("Infinity")
@@ -39,6 +40,9 @@ CALLS = {
     "is_canonical, not": partial(_mpslp.is_canonical, MPS, _mpslp.MPS),
     "is_canonical, refused": partial(_mpslp.is_canonical, b"", _mpslp.MPS),
     "lines of a text": lambda: (_mpslp.count_line_feeds(MPS, 0, len(MPS)), _mpslp.find_first_column(MPS, 0, len(MPS)), _mpslp.find_first_column(MPS, 0, 1)),
+    "a marker": lambda: (_mpslp.find_marker(MPS, 0, len(MPS)), _mpslp.find_marker(b"'MARKE''MARKER", 0, 14), _mpslp.find_marker(b"''MARKER'", 0, 9)),
+    "first fields of lines": partial(_mpslp.first_fields, MPS, 0, len(MPS)),
+    "columns of bounds": partial(_mpslp.bounded_columns, BOUNDS, 0, len(BOUNDS), b"FR MI"),
     "load": partial(_mpslp.load, OTHER, _mpslp.LP),
     "a model's counts and objective": lambda: (LOADED.counts(), LOADED.objective()),
     "a model's doubles": LOADED.doubles,
@@ -71,6 +75,10 @@ WRONG_CALLS = {
     "no bytes": partial(_mpslp.is_canonical, "NAME", _mpslp.MPS),
     "a part that is not there": partial(_mpslp.count_line_feeds, MPS, 0, len(MPS) + 1),
     "a part that ends before it starts": partial(_mpslp.find_first_column, MPS, 2, 1),
+    "a marker of a part that is not there": partial(_mpslp.find_marker, MPS, 0, len(MPS) + 1),
+    "fields of a part that is not there": partial(_mpslp.first_fields, MPS, -1, 1),
+    "columns of a part that is not there": partial(_mpslp.bounded_columns, BOUNDS, 0, len(BOUNDS) + 1, b""),
+    "columns of lines without any": partial(_mpslp.bounded_columns, b"\n UP\n", 0, 5, b"FR"),
     "a row that is not there": partial(LOADED.row, 2),
     "a column that is not there": partial(LOADED.column_entries, 2**64),
     "a number below 0": partial(LOADED.row_entries, -1),

@@ -60,6 +60,11 @@ class Calls(unittest.TestCase):
                          [(1, "no-name"), (1, "sense-in-comment"), (6, "integer-without-bound"), (8, "objective-rhs"), (10, "section-after-end")])
         self.assertEqual([(each.line, each.kind) for each in mpslp.warnings_of(text.replace(b"\n", b"\r\n"), "mps")], [(each.line, each.kind) for each in found])
 
+    def test_names_with_signs_of_comments(self):
+        """A set may be named as a comment starts, a comment may have the word of markers, and a bound without a number text after its column."""
+        text = b"NAME\nROWS\n N  C\nCOLUMNS\n M 'MARKER' 'INTORG'\n X C 1\n* 'MARKER'\n 'MARKER'5 C 1\n Y C 1\n Z C 1\n M 'MARKER' 'INTEND'\nRHS\n *R C 5\n*  R C 6\nBOUNDS\n UP B X 4\n BV B 'MARKER'5\n FR B Y any\nENDATA\n"
+        self.assertEqual([(each.line, each.kind) for each in mpslp.warnings_of(text, "mps")], [(10, "integer-without-bound"), (13, "objective-rhs")])
+
 
 def mpslp_accepts(text, form):
     try:

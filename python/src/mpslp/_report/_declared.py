@@ -108,7 +108,6 @@ class _Mps:
     _BOUNDS = {"LO": LOWER, "MI": LOWER, "LI": LOWER, "UP": UPPER, "PL": UPPER, "UI": UPPER, "SC": UPPER, "FX": BOTH, "FR": BOTH, "BV": BOTH}
     _WITHOUT_NUMBER = ("FR", "MI", "PL", "BV")
     _UNUSUAL = re.compile(rb"\n(?:\*|[ \t\r]*(?:\n|\Z))")  # a comment, or an empty line
-    _FIELD = re.compile(rb"\n[ \t]+(\S+)")
     _SENSE = re.compile(rb"\*\s*SENSE\s*:\s*(\w+)", re.IGNORECASE)
 
     def __init__(self, objective: str) -> None:
@@ -172,8 +171,7 @@ class _Mps:
             return
         self.declared.coefficients += (len(content[start:end].split()) - _mpslp.count_line_feeds(content, start, end)) // 2
         if self._in_integers:
-            names = dict.fromkeys(self._FIELD.findall(content, start, end))  # each is in several lines
-            self.declared.marked.update((name.decode("ascii"), None) for name in names)
+            self.declared.marked.update((name.decode("ascii"), None) for name in _mpslp.first_fields(content, start, end))
 
     def _header(self, fields: Fields) -> None:
         self._take = self._sections[fields[0]]

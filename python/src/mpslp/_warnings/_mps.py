@@ -5,21 +5,15 @@ from __future__ import annotations
 import re
 from collections.abc import Iterator
 from functools import cached_property
+from itertools import pairwise
 from typing import NamedTuple
 
 from mpslp import _mpslp
 
 _WORD = re.compile(rb"[A-Z]+")
 _ROW = re.compile(rb"^[ \t]+N[ \t]+(\S+)", re.M)
-_FIELD = re.compile(rb"\n[ \t]+(\S+)")
-_MARKER = b"'MARKER'"
 _BLOCK = 1 << 20
-_BOUND = re.compile(
-    rb"\n[ \t]+(?:"
-    rb"(?:UP|LO|FX|LI|UI|SC)[ \t]+(?:\S+[ \t]+)?(\S+)[ \t]+\S+"  # TYPE [SET] COLUMN NUMBER
-    rb"|(?:FR|MI|PL|BV)[ \t]+(?:\S+[ \t]+(\S+)(?:[ \t]+\S+)?|(\S+))"  # TYPE SET COLUMN [ANYTHING], or TYPE COLUMN
-    rb")(?=[ \t\r]*(?:\n|$))"
-)
+_TYPES_WITHOUT_NUMBER = b"FR MI PL BV"
 
 
 class Section(NamedTuple):
@@ -134,25 +128,30 @@ class MpsText:
             fields = self.line_at(place).split()
             first = len(fields) % 2
             for name, number in zip(fields[first::2], fields[first + 1 :: 2]):
-                if name == row and not fields[0].startswith(b"*"):
+                if name == row and self.content[place] != ord("*"):
                     yield Pair(place, name, number)
 
     def unbounded_columns(self) -> Iterator[tuple[int, list[bytes]]]:
         """For each part between markers: where it starts, and its columns that BOUNDS does not have."""
         for start, end in self._marked_parts():
-            left = [name for name in dict.fromkeys(_FIELD.findall(self.content, start, end)) if name not in self.bounded]
+            left = [name for name in _mpslp.first_fields(self.content, start, end) if name not in self.bounded]
             if left:
                 yield start, left
 
     def _marked_parts(self) -> Iterator[Section]:
         """The lines between INTORG and INTEND."""
-        section = self.sections[b"COLUMNS"]
-        place = self.content.find(_MARKER, section.start, section.end)
-        while place >= 0:
-            start = self._end_of_line(place)
-            place = self.content.find(_MARKER, start, section.end)
-            if b"'INTORG'" in self.line_at(self.start_of_line(start)):
-                yield Section(start, self.start_of_line(place) - 1 if place >= 0 else section.end)
+        end = self.sections[b"COLUMNS"].end
+        for marker, following in pairwise([*self._markers(), Section(end + 1, end)]):
+            if b"'INTORG'" in self.line_at(marker.start):
+                yield Section(marker.end, following.start - 1)
+
+    def _markers(self) -> Iterator[Section]:
+        """The lines of markers; a comment and a name may have the word, too."""
+        place, end = self.sections[b"COLUMNS"]
+        while (distance := _mpslp.find_marker(self.content, place, end)) >= 0:
+            start, place = self.start_of_line(place + distance), self._end_of_line(place + distance)
+            if self.content[start] != ord("*") and self.content[start:place].split()[1] == b"'MARKER'":
+                yield Section(start, place)
 
     def line_of(self, column: bytes, start: int) -> int:
         """Where the first line of a column starts, from a place on."""
@@ -165,7 +164,7 @@ class MpsText:
         section = self.sections.get(b"BOUNDS")
         if section is None:
             return frozenset()
-        return frozenset(first or second or third for first, second, third in _BOUND.findall(self.content, *section))
+        return frozenset(_mpslp.bounded_columns(self.content, *section, _TYPES_WITHOUT_NUMBER))
 
     @property
     def rest(self) -> bytes:
