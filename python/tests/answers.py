@@ -17,13 +17,19 @@ LOADED = _mpslp.load(OTHER, _mpslp.LP)
 NOT_LP = b"ROWS\n N  cost\nCOLUMNS\n    x[1]  cost  1\nENDATA\n"
 LOW, SMALL, LARGE, HIGH = Decimal("-Infinity"), Decimal("-1.5E-7"), Decimal("40"), Decimal("Infinity")
 ROWS = [("weight", LOW, LARGE), ("size", SMALL, HIGH)]
+FUEL = ("fuel", _mpslp.INTEGER, SMALL, HIGH, LARGE, [(0, LARGE)])
 COLUMNS = [("y", _mpslp.INTEGER, SMALL, HIGH, LARGE, [(1, SMALL), (0, LARGE)]), ("x", _mpslp.CONTINUOUS, LOW, LARGE, SMALL, [])]
 
 
 
-def changed(rows, new_rows=[], columns=[], elements=[], new_columns=[]):
-    """The call that makes a model with changes."""
-    return partial(_mpslp.make_changed, LOADED, _mpslp.MINIMIZE, "cost", LARGE, rows, new_rows, columns, elements, new_columns)
+def extended(rows, columns=[], objective="cost"):
+    """The call that makes a model with further rows and columns."""
+    return partial(_mpslp.make_extended, LOADED, _mpslp.MINIMIZE, objective, LARGE, rows, columns)
+
+
+def replaced(rows, columns):
+    """The call that makes a model with other rows and columns."""
+    return partial(_mpslp.make_replaced, LOADED, _mpslp.make(_mpslp.MINIMIZE, "cost", LARGE, rows, columns))
 
 
 # Each has all of its arguments, so that nothing but the call itself takes memory.
@@ -64,9 +70,10 @@ CALLS = {
     "store, not LP": partial(_mpslp.store, _mpslp.load(NOT_LP, _mpslp.MPS), _mpslp.LP),
     "make": lambda: _mpslp.store(_mpslp.make(_mpslp.MAXIMIZE, "profit", SMALL, ROWS, COLUMNS), _mpslp.MPS),
     "make, refused": partial(_mpslp.make, _mpslp.MINIMIZE, "weight", SMALL, ROWS, COLUMNS),
-    "make_changed": changed([(0, SMALL, HIGH)], [], [(0, _mpslp.INTEGER, SMALL, HIGH, LARGE)]),
-    "make_changed, of all parts": changed([], ROWS, [], [(0, []), (1, [(0, LARGE), (1, SMALL)])], COLUMNS),
-    "make_changed, refused": changed([(0, LARGE, SMALL)]),
+    "make_extended": extended(ROWS[1:]),
+    "make_extended, by a column": extended(ROWS[1:], COLUMNS),
+    "make_extended, refused": extended(ROWS),
+    "make_replaced": replaced(ROWS[:1], [FUEL]),
 }
 
 # Arguments that the modules of the package never give.
@@ -93,12 +100,11 @@ WRONG_CALLS = {
     "differences from no model": partial(LOADED.next_column_difference, 0, None, 0, False),
     "the rows of no model": partial(LOADED.has_same_rows, None),
     "a line that is not there": partial(LOADED.lines, 2**20),
-    "a change of a row that is not there": changed([(9, SMALL, HIGH)]),
-    "a change of a column that is not there": changed([], [], [(9, 0, SMALL, HIGH, SMALL)]),
-    "a change of elements of no column": changed([], [], [], [(9, [])]),
-    "changes of elements without order": changed([], [], [], [(1, []), (0, [])]),
-    "a change that is no tuple": changed([], [], [], [None]),
-    "a change of a number that is none": changed([(0, SMALL, None)]),
+    "another row that is not there": replaced(ROWS, [FUEL]),
+    "another column that is not there": replaced(ROWS[:1], [FUEL, COLUMNS[1]]),
+    "a replacement by no model": partial(_mpslp.make_replaced, LOADED, None),
+    "a further row that is no tuple": extended([None]),
+    "a further row with a number that is none": extended([("size", SMALL, None)]),
     "an argument too few": partial(_mpslp.same, MPS, _mpslp.MPS, LP),
 }
 

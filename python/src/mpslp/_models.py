@@ -33,12 +33,10 @@ _KINDS: dict[int, Kind] = {
 _SENSE_NUMBERS: dict[str, int] = {word: number for number, word in _SENSES.items()}
 _KIND_NUMBERS: dict[str, int] = {word: number for number, word in _KINDS.items()}
 
-# What changes in a model, as the extension module takes it.
-_RowChange: TypeAlias = tuple[int, Decimal, Decimal]
-_NewRow: TypeAlias = tuple[str, Decimal, Decimal]
-_ColumnChange: TypeAlias = tuple[int, int, Decimal, Decimal, Decimal]
-_EntriesChange: TypeAlias = tuple[int, list[tuple[int, Decimal]]]
-_NewColumn: TypeAlias = tuple[str, int, Decimal, Decimal, Decimal, list[tuple[int, Decimal]]]
+# The parts of a model, as the extension module takes them.
+_Head: TypeAlias = tuple[int, str, Decimal]
+_RowPart: TypeAlias = tuple[str, Decimal, Decimal]
+_ColumnPart: TypeAlias = tuple[str, int, Decimal, Decimal, Decimal, list[tuple[int, Decimal]]]
 
 _MOST_BYTES = 255
 _NAME = re.compile(f"[!-~]{{1,{_MOST_BYTES}}}")
@@ -343,8 +341,8 @@ class Model(_Part):
             _SENSE_NUMBERS[sense],
             objective,
             _finite("the objective", "constant", constant),
-            [(row.name, row.lower, row.upper) for row in all_rows.values()],
-            [(each.name, *_numbers_of(each), _numbered(each, numbers.get)) for each in all_columns.values()],
+            [_row_part(row) for row in all_rows.values()],
+            [_column_part(column, numbers.get) for column in all_columns.values()],
         )
         self._keep(arrays)
 
@@ -386,12 +384,15 @@ class Model(_Part):
         if new_objective in given_rows or new_objective in self.rows:
             raise ValueError(f"row {new_objective!r} has the name of the objective")
         new_constant = self.constant if constant is None else _finite("the objective", "constant", constant)
-        changed_rows, new_rows = _changed_rows(self._arrays, given_rows.values())
-        changed_columns, entries, new_columns = _changed_columns(self._arrays, given_rows, given_columns.values())
-        arrays = _mpslp.make_changed(
-            self._arrays, _SENSE_NUMBERS[new_sense], new_objective, new_constant, changed_rows, new_rows, changed_columns, entries, new_columns
-        )
-        return model_of(arrays)
+        head = _SENSE_NUMBERS[new_sense], new_objective, new_constant
+        arrays = self._arrays
+        changed_rows = [row for row in given_rows.values() if arrays.find_row(row.name) is not None]
+        changed_columns = [column for column in given_columns.values() if arrays.find_column(column.name) is not None]
+        if new_objective != self.objective or len(changed_rows) < len(given_rows) or len(changed_columns) < len(given_columns):
+            arrays = _extended(arrays, head, given_rows.values(), given_columns.values())
+        # A model has a column.
+        changed = _part(arrays, head, changed_rows, changed_columns or [next(iter(self.columns.values()))])
+        return model_of(_mpslp.make_replaced(arrays, changed))
 
     @property
     def digest(self) -> str:
@@ -540,46 +541,43 @@ def model_of(arrays: _mpslp.Arrays) -> Model:
     return model
 
 
-def _changed_rows(arrays: _mpslp.Arrays, rows: Iterable[Row]) -> tuple[list[_RowChange], list[_NewRow]]:
-    """The changes of rows that a model has, and the rows that are new."""
-    changed: list[_RowChange] = []
-    new: list[_NewRow] = []
-    for row in rows:
-        number = arrays.find_row(row.name)
-        if number is None:
-            new.append((row.name, row.lower, row.upper))
-        else:
-            changed.append((number, row.lower, row.upper))
-    return changed, new
-
-
-def _changed_columns(
-    arrays: _mpslp.Arrays, rows: Iterable[str], columns: Iterable[Column]
-) -> tuple[list[_ColumnChange], list[_EntriesChange], list[_NewColumn]]:
-    """The changes of columns that a model has, those of their entries, and the columns that are new."""
-    new_rows = (name for name in rows if arrays.find_row(name) is None)
-    numbers = {name: number for number, name in enumerate(new_rows, arrays.counts()[0])}
+def _extended(arrays: _mpslp.Arrays, head: _Head, rows: Iterable[Row], columns: Iterable[Column]) -> _mpslp.Arrays:
+    """A model with those of the rows and columns that it does not have."""
+    new_rows = [_row_part(row) for row in rows if arrays.find_row(row.name) is None]
+    numbers = {name: number for number, (name, *_) in enumerate(new_rows, arrays.counts()[0])}
 
     def number_of(row: str) -> int | None:
         number = arrays.find_row(row)
         return numbers.get(row) if number is None else number
 
-    changed: list[_ColumnChange] = []
-    entries: list[_EntriesChange] = []
-    new: list[_NewColumn] = []
-    for column in columns:
-        number = arrays.find_column(column.name)
-        if number is None:
-            new.append((column.name, *_numbers_of(column), _numbered(column, number_of)))
-            continue
-        changed.append((number, *_numbers_of(column)))
-        if list(column.entries.items()) != arrays.column_entries(number):
-            entries.append((number, _numbered(column, number_of)))
-    return changed, sorted(entries, key=lambda change: change[0]), new
+    new_columns = [_column_part(column, number_of) for column in columns if arrays.find_column(column.name) is None]
+    return _mpslp.make_extended(arrays, *head, new_rows, new_columns)
 
 
-def _numbers_of(column: Column) -> tuple[int, Decimal, Decimal, Decimal]:
-    return _KIND_NUMBERS[column.kind], column.lower, column.upper, column.cost
+def _part(arrays: _mpslp.Arrays, head: _Head, rows: Iterable[Row], columns: Iterable[Column]) -> _mpslp.Arrays:
+    """Rows and columns of a model as one of their own, which the library checks; it has the rows in which the columns have entries."""
+    all_rows = [_row_part(row) for row in rows]
+    numbers = {name: number for number, (name, *_) in enumerate(all_rows)}
+
+    def number_of(row: str) -> int | None:
+        if row not in numbers:
+            number = arrays.find_row(row)
+            if number is None:
+                return None
+            numbers[row] = len(all_rows)
+            all_rows.append(arrays.row(number))
+        return numbers[row]
+
+    return _mpslp.make(*head, all_rows, [_column_part(column, number_of) for column in columns])
+
+
+def _row_part(row: Row) -> _RowPart:
+    return row.name, row.lower, row.upper
+
+
+def _column_part(column: Column, number_of: Callable[[str], int | None]) -> _ColumnPart:
+    """The parts of a column, with the numbers of rows."""
+    return column.name, _KIND_NUMBERS[column.kind], column.lower, column.upper, column.cost, _numbered(column, number_of)
 
 
 def _numbered(column: Column, number_of: Callable[[str], int | None]) -> list[tuple[int, Decimal]]:

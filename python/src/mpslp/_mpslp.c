@@ -1159,90 +1159,32 @@ static void *copied(growing *array, const void *items, size_t count, size_t size
     return room == NULL ? NULL : memcpy(room, items, count * size);
 }
 
-/* A change of a row is a tuple of its number, lower and upper limit. */
-static int change_row(parts *all, PyObject *row) {
-    PyObject *number, *lower, *upper;
-    size_t i;
-    mpslp_row *made;
-    if (!PyArg_ParseTuple(row, "OOO:row", &number, &lower, &upper) || !find_number(number, all->rows.len, &i)) return 0;
-    made = (mpslp_row *)all->rows.items + i;
-    return make_number(lower, &made->lower) && make_number(upper, &made->upper);
-}
-
-/* A change of a column is a tuple of its number, kind, lower and upper bound and cost. */
-static int change_column(parts *all, PyObject *column) {
-    PyObject *number, *lower, *upper, *cost;
-    unsigned kind;
-    size_t j;
-    mpslp_column *made;
-    if (!PyArg_ParseTuple(column, "OIOOO:column", &number, &kind, &lower, &upper, &cost) || !find_number(number, all->columns.len, &j)) return 0;
-    made = (mpslp_column *)all->columns.items + j;
-    made->kind = kind;
-    return make_number(lower, &made->lower) && make_number(upper, &made->upper) && make_number(cost, &made->cost);
-}
-
-/* Copies the elements of the columns from `first` to the one before `end`. */
-static int copy_elements(parts *all, const mpslp_model *model, size_t first, size_t end) {
-    const size_t from = first < model->num_columns ? model->columns[first].first : model->num_elements;
-    const size_t len = (end < model->num_columns ? model->columns[end].first : model->num_elements) - from;
-    for (size_t j = first; j < end; j++) ((mpslp_column *)all->columns.items)[j].first = all->elements.len + (model->columns[j].first - from);
-    return copied(&all->elements, model->elements + from, len, sizeof *model->elements) != NULL;
-}
-
-/* Copies all elements, except those of columns that have others: each is a tuple of the column's number and a list, in order of numbers. */
-static int change_elements(parts *all, const mpslp_model *model, PyObject *changes) {
-    size_t next = 0;
-    for (Py_ssize_t k = 0; k < PyList_Size(changes); k++) {
-        PyObject *number, *entries;
-        size_t j;
-        if (!PyArg_ParseTuple(PyList_GetItem(changes, k), "OO!:entries", &number, &PyList_Type, &entries)) return 0;
-        if (!find_number(number, model->num_columns, &j)) return 0;
-        if (j < next) {
-            PyErr_SetString(PyExc_ValueError, "the columns are not in order");
-            return 0;
-        }
-        if (!copy_elements(all, model, next, j)) return 0;
-        ((mpslp_column *)all->columns.items)[j].first = all->elements.len;
-        if (!make_each(all, entries, make_element)) return 0;
-        next = j + 1;
-    }
-    return copy_elements(all, model, next, model->num_columns);
-}
-
-/* What changes in a model. */
-typedef struct {
-    PyObject *rows, *new_rows, *columns, *elements, *new_columns;
-} changes;
-
-/* Whether the elements stay those of the model. They are most of its memory, and are then not copied. */
-static int keeps_elements(const changes *from) { return PyList_Size(from->elements) == 0 && PyList_Size(from->new_columns) == 0; }
-
-static int make_changed_parts(parts *all, const mpslp_model *model, const changes *from) {
+/* Copies a model, and adds rows and columns. The elements are most of its memory: without new columns they are not copied. */
+static int make_extended_parts(parts *all, const mpslp_model *model, PyObject *rows, PyObject *columns) {
     return copied(&all->names, model->names.bytes, model->names.len, 1) != NULL &&
            copied(&all->rows, model->rows, model->num_rows, sizeof *model->rows) != NULL &&
-           copied(&all->columns, model->columns, model->num_columns, sizeof *model->columns) != NULL &&
-           make_each(all, from->rows, change_row) && make_each(all, from->new_rows, make_row) && make_each(all, from->columns, change_column) &&
-           (keeps_elements(from) || change_elements(all, model, from->elements)) && make_each(all, from->new_columns, make_column);
+           copied(&all->columns, model->columns, model->num_columns, sizeof *model->columns) != NULL && make_each(all, rows, make_row) &&
+           (PyList_Size(columns) == 0 || copied(&all->elements, model->elements, model->num_elements, sizeof *model->elements) != NULL) &&
+           make_each(all, columns, make_column);
 }
 
-static PyObject *make_changed(PyObject *module, PyObject *arguments) {
+static PyObject *make_extended(PyObject *module, PyObject *arguments) {
     const char *objective;
     Py_ssize_t len;
     unsigned sense;
-    PyObject *source, *constant, *arrays = NULL;
-    changes from;
+    PyObject *source, *constant, *rows, *columns, *arrays = NULL;
     parts all = NO_PARTS;
     mpslp_model made = MPSLP_NO_MODEL, model = MPSLP_NO_MODEL;
-    if (!PyArg_ParseTuple(arguments, "O!Is#OO!O!O!O!O!:make_changed", state_of(module)->arrays, &source, &sense, &objective, &len, &constant,
-                          &PyList_Type, &from.rows, &PyList_Type, &from.new_rows, &PyList_Type, &from.columns, &PyList_Type, &from.elements,
-                          &PyList_Type, &from.new_columns))
+    if (!PyArg_ParseTuple(arguments, "O!Is#OO!O!:make_extended", state_of(module)->arrays, &source, &sense, &objective, &len, &constant, &PyList_Type,
+                          &rows, &PyList_Type, &columns))
         return NULL;
     made.sense = sense;
-    if (make_changed_parts(&all, model_of(source), &from) && make_name(&all, objective, len, &made.objective) && make_number(constant, &made.constant)) {
+    if (make_extended_parts(&all, model_of(source), rows, columns) && make_name(&all, objective, len, &made.objective) &&
+        make_number(constant, &made.constant)) {
         mpslp_fault fault = MPSLP_NO_FAULT;
         mpslp_status status;
         take_parts(&made, &all);
-        if (keeps_elements(&from)) {
+        if (PyList_Size(columns) == 0) {
             made.elements = model_of(source)->elements;
             made.num_elements = model_of(source)->num_elements;
         }
@@ -1253,6 +1195,99 @@ static PyObject *make_changed(PyObject *module, PyObject *arguments) {
     }
     free_parts(&all);
     return arrays;
+}
+
+/* Finds a row, or a column, of a model by the name that one of another model has; otherwise it raises. */
+static int find_same(const mpslp_model *model, mpslp_text name, bool (*find)(const mpslp_model *, const char *, size_t, size_t *), size_t *number) {
+    if (find(model, (const char *)name.bytes, name.len, number)) return 1;
+    PyErr_SetString(PyExc_ValueError, "the model has no such row or column");
+    return 0;
+}
+
+static int replace_rows(parts *all, const mpslp_model *model, const mpslp_model *part) {
+    for (size_t i = 0; i < part->num_rows; i++) {
+        mpslp_row *made = all->rows.items;
+        size_t number;
+        if (!find_same(model, mpslp_row_name(part, i), mpslp_find_row, &number)) return 0;
+        made[number].lower = part->rows[i].lower;
+        made[number].upper = part->rows[i].upper;
+    }
+    return 1;
+}
+
+/* Copies the elements of the columns from `first` to the one before `end`. */
+static int copy_elements(parts *all, const mpslp_model *model, size_t first, size_t end) {
+    const size_t from = first < model->num_columns ? model->columns[first].first : model->num_elements;
+    const size_t len = (end < model->num_columns ? model->columns[end].first : model->num_elements) - from;
+    for (size_t j = first; j < end; j++) ((mpslp_column *)all->columns.items)[j].first = all->elements.len + (model->columns[j].first - from);
+    return copied(&all->elements, model->elements + from, len, sizeof *model->elements) != NULL;
+}
+
+/* Adds the elements of a column of another model; in both, rows are in the order of their names. */
+static int take_elements(parts *all, const mpslp_model *model, const mpslp_model *part, size_t j) {
+    for (size_t k = part->columns[j].first; k < column_end(part, j); k++) {
+        mpslp_element *made = more(&all->elements, 1, sizeof *made);
+        if (made == NULL || !find_same(model, mpslp_row_name(part, part->elements[k].row), mpslp_find_row, &made->row)) return 0;
+        made->value = part->elements[k].value;
+    }
+    return 1;
+}
+
+static int replace_columns(parts *all, const mpslp_model *model, const mpslp_model *part) {
+    size_t next = 0;
+    if (more(&all->elements, model->num_elements + part->num_elements, sizeof *model->elements) == NULL) return 0;
+    all->elements.len = 0; /* there is room for all */
+    for (size_t j = 0; j < part->num_columns; j++) {
+        const mpslp_column *column = &part->columns[j];
+        mpslp_column *made = all->columns.items;
+        size_t number;
+        if (!find_same(model, mpslp_column_name(part, j), mpslp_find_column, &number) || !copy_elements(all, model, next, number)) return 0;
+        made += number;
+        made->kind = column->kind;
+        made->lower = column->lower;
+        made->upper = column->upper;
+        made->cost = column->cost;
+        made->first = all->elements.len;
+        if (!take_elements(all, model, part, j)) return 0;
+        next = number + 1;
+    }
+    return copy_elements(all, model, next, model->num_columns);
+}
+
+/* Copies a model without the rows and columns that another one has, and takes the place of these from there. */
+static int make_replaced_parts(parts *all, const mpslp_model *model, const mpslp_model *part) {
+    return copied(&all->names, model->names.bytes, model->names.len, 1) != NULL &&
+           copied(&all->rows, model->rows, model->num_rows, sizeof *model->rows) != NULL &&
+           copied(&all->columns, model->columns, model->num_columns, sizeof *model->columns) != NULL && replace_rows(all, model, part) &&
+           replace_columns(all, model, part);
+}
+
+static void free_if_empty(growing *array) {
+    if (array->len != 0) return;
+    free(array->items);
+    array->items = NULL;
+}
+
+/*
+ * Both models are in normal form, and the second one has some of the rows and columns of the first. What makes a model wrong is wrong
+ * in a row or a column, or is a name that is there twice: so the model that is made is in normal form, too.
+ */
+static PyObject *make_replaced(PyObject *module, PyObject *arguments) {
+    PyObject *class = state_of(module)->arrays, *source, *changed;
+    parts all = NO_PARTS;
+    mpslp_model made = MPSLP_NO_MODEL;
+    if (!PyArg_ParseTuple(arguments, "O!O!:make_replaced", class, &source, class, &changed)) return NULL;
+    if (!make_replaced_parts(&all, model_of(source), model_of(changed))) {
+        free_parts(&all);
+        return NULL;
+    }
+    free_if_empty(&all.rows);
+    free_if_empty(&all.elements);
+    take_parts(&made, &all);
+    made.objective = model_of(source)->objective;
+    made.constant = model_of(changed)->constant;
+    made.sense = model_of(changed)->sense;
+    return arrays_of(module, &made);
 }
 
 /* ---- models that are made of arrays of doubles */
@@ -1588,9 +1623,11 @@ static PyMethodDef calls[] = {
       "store($module, arrays, format, /)\n--\n\nThe canonical text of a model." },
     { "make", make, METH_VARARGS,
       "make($module, sense, objective, constant, rows, columns, /)\n--\n\nThe model of such parts, in any order." },
-    { "make_changed", make_changed, METH_VARARGS,
-      "make_changed($module, arrays, sense, objective, constant, rows, new_rows, columns, elements, new_columns, /)\n--\n\n"
-      "A model with changes: rows and columns, the elements of columns, in order, and further rows and columns." },
+    { "make_extended", make_extended, METH_VARARGS,
+      "make_extended($module, arrays, sense, objective, constant, rows, columns, /)\n--\n\nA model with another objective, and with further rows and columns." },
+    { "make_replaced", make_replaced, METH_VARARGS,
+      "make_replaced($module, arrays, changed, /)\n--\n\n"
+      "A model with the sense, the constant, the rows and the columns of another one, which has no other rows and columns." },
     { "make_of_doubles", make_of_doubles, METH_VARARGS,
       "make_of_doubles($module, sense, objective, constant, row_names, column_names, row_lower, row_upper, lower, upper, costs, kinds, starts, rows,\n"
       "                values, /)\n--\n\nThe model of arrays of doubles and of 64-bit integers, or None if they define none." },

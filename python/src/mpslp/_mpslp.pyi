@@ -28,18 +28,16 @@ def make(
     columns: list[tuple[str, int, Decimal, Decimal, Decimal, list[tuple[int, Decimal]]]],
     /,
 ) -> Arrays: ...
-def make_changed(
+def make_extended(
     arrays: Arrays,
     sense: int,
     objective: str,
     constant: Decimal,
-    rows: list[tuple[int, Decimal, Decimal]],
-    new_rows: list[tuple[str, Decimal, Decimal]],
-    columns: list[tuple[int, int, Decimal, Decimal, Decimal]],
-    elements: list[tuple[int, list[tuple[int, Decimal]]]],
-    new_columns: list[tuple[str, int, Decimal, Decimal, Decimal, list[tuple[int, Decimal]]]],
+    rows: list[tuple[str, Decimal, Decimal]],
+    columns: list[tuple[str, int, Decimal, Decimal, Decimal, list[tuple[int, Decimal]]]],
     /,
 ) -> Arrays: ...
+def make_replaced(arrays: Arrays, changed: Arrays, /) -> Arrays: ...
 def make_of_doubles(
     sense: int,
     objective: str,
