@@ -117,6 +117,9 @@ class Context:
         if token.text[0] in ",;" or token.text[-1] in ",;":
             reason = f"a comma or a semicolon is a letter of names in LP: remove it, or rename {token.text}"
             self.reader.unclear.append(AdaptError(token.line, reason))
+        if is_part_of_expression(token.text):
+            reason = f"a parenthesis or a bar is a letter of names in LP: write the sum without it, or rename {token.text}"
+            self.reader.unclear.append(AdaptError(token.line, reason))
 
     def reject_punctuation(self, items: Iterable[Item]) -> None:
         """In a statement that is written again, neither 10,5 nor 10; is 10 times a column, and (10) is none."""
@@ -163,6 +166,11 @@ class Context:
         """A side of a row or a bound as mpslp reads it, with its sign."""
         number = item.numbers[0]
         return ("-" if item.sign < 0 else "") + ("inf" if item.is_infinite else self.literal(number, True))
+
+
+def is_part_of_expression(name: str) -> bool:
+    """Whether a name is a part of a sum in parentheses, as (x of 2 (x + y), or has parentheses or bars around it, as |x|."""
+    return name.count("(") != name.count(")") or re.fullmatch(r"\([\w.]*\)|\|.*\|", name) is not None
 
 
 def without_comments(text: str) -> str:

@@ -257,6 +257,7 @@ class Reader:
             if self.token.line != number.line:
                 reason = "a number at the end of a line, and a name on the next one: write the term on one line"
                 self.unclear.append(AdaptError(number.line, f"{reason}: {number.text} {self.token.text}"))
+            self.note_fraction(number, self.token)
             self.name_item(item)
         elif item.has_star:
             raise self.error("a factor without a name")
@@ -265,6 +266,12 @@ class Reader:
         at = number.text.lower().find("e")
         if at >= 0 and number.text[at + 1].isdigit():
             self.exponents.append(Exponent(number, number.text[at:] + rest))
+
+    def note_fraction(self, number: Token, name: Token) -> None:
+        """A name such as /2 after a number is the end of a fraction for people."""
+        if name.text.startswith("/"):
+            reason = f"{number.text} is the coefficient of a column {name.text} here: write a fraction as a decimal, or rename the column"
+            self.unclear.append(AdaptError(number.line, reason))
 
     def starts_next_row(self, item: Item) -> bool:
         """Whether a name comes on another line than the number that is the right-hand side."""
