@@ -112,8 +112,14 @@ def truncated(case: Case) -> Optional[Found]:
     return FOUND if case.is_last_line else None
 
 
+def cr_after_comment(case: Case) -> Optional[Found]:
+    """The text has no LF, but CRs after its first byte: it is one line, which is a comment."""
+    text = case.content.strip()
+    return FOUND if b"\r" in text and b"\n" not in text else None
+
+
 def emptied(case: Case) -> Optional[Found]:
     return None if case.content.strip() else FOUND
 
 
-RULES: tuple[Rule, ...] = (compressed, byte_order_mark, utf_16, cr_only, latin_1, utf_8_letter, decimal_comma, nan, other_number, tiny_number, truncated, emptied)
+RULES: tuple[Rule, ...] = (compressed, byte_order_mark, utf_16, cr_only, latin_1, utf_8_letter, decimal_comma, nan, other_number, tiny_number, truncated, cr_after_comment, emptied)
