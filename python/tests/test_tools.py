@@ -321,6 +321,9 @@ class Files(Directory):
         for command in ("same", "diff"):
             self.prints([command, "a.mps", "d.mps"], 4, error="a.mps: No such file or directory\n")
         self.prints(["same", EXAMPLES / "small.mps", "d.mps"], 4, error="d.mps: Is a directory\n")
+        (self.folder / "plans").mkdir()
+        self.prints(["diff", "plans", EXAMPLES / "small.mps"], 4, error="plans: Is a directory\n")
+        self.prints(["diff", "plans", "missing"], 4, error="missing: No such file or directory\n")
 
     def test_a_file_that_may_not_be_read(self):
         self.file("a.mps").chmod(0)

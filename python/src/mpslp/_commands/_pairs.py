@@ -3,6 +3,7 @@
 from __future__ import annotations
 
 import argparse
+import errno
 import os
 from collections.abc import Callable, Collection, Iterable, Iterator
 from itertools import chain
@@ -81,6 +82,9 @@ def _pair(options: argparse.Namespace) -> Pair:
 def outcome_of_files(pair: Pair, options: argparse.Namespace, comparison: Comparison) -> Outcome:
     """What comes of two files that both have to be there."""
     texts = []
+    for each in pair:
+        if each.path != STANDARD_INPUT and not os.path.exists(each.path):
+            return failure(each.path, FileNotFoundError(errno.ENOENT, os.strerror(errno.ENOENT), each.path))
     for each in pair:
         try:
             texts.append(text_of(each, options))
