@@ -322,7 +322,7 @@ class Files(Directory):
             self.prints([command, "a.mps", "d.mps"], 4, error="a.mps: No such file or directory\n")
         self.prints(["same", EXAMPLES / "small.mps", "d.mps"], 4, error="d.mps: Is a directory\n")
         (self.folder / "plans").mkdir()
-        self.prints(["diff", "plans", EXAMPLES / "small.mps"], 4, error="plans: Is a directory\n")
+        self.prints(["diff", "plans", EXAMPLES / "small.mps"], 3, error="python3 -m mpslp: error: plans is a directory: give a file\n")
         self.prints(["diff", "plans", "missing"], 4, error="missing: No such file or directory\n")
 
     def test_a_file_that_may_not_be_read(self):

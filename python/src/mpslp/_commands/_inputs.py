@@ -3,7 +3,6 @@
 from __future__ import annotations
 
 import argparse
-import errno
 import os
 import stat
 from collections.abc import Sequence
@@ -61,7 +60,7 @@ def text_of(given: Input, options: argparse.Namespace) -> Text:
         if path == STANDARD_INPUT:
             raise UsageError("standard input has no extension: give -f mps or -f lp")
         if stat.S_ISDIR(os.stat(path).st_mode):  # what is wrong with a path that is missing, or a directory, is not its name
-            raise IsADirectoryError(errno.EISDIR, os.strerror(errno.EISDIR), path)
+            raise UsageError(f"{path} is a directory: give a file")
         raise UsageError(f"{path}: its name ends neither in .mps nor in .lp: give -f mps or -f lp")
     if path == STANDARD_INPUT:
         return Text(read_standard_input(), format_number(format), path)
