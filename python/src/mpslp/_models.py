@@ -365,7 +365,7 @@ class Model(_Part):
         A row or a column that is given takes the place of the one with its name, or is added if there is none. A row has the
         limits that are given, and keeps its coefficients, which are those of the columns. Whatever is left out stays the same.
 
-        This takes less time and memory than a new :class:`Model`: the library copies what stays the same.
+        This takes less time and memory than a new :class:`Model`: the library checks what changes, and the rest is copied.
 
         Raises ValueError for what is no model, as :class:`Model` does.
 
