@@ -303,9 +303,9 @@ class Patches(Directory):
         source = random.Random(77)
         lines = [b"  x%d  %d\n" % (number, number % 9) for number in range(50000)]
         shuffled = source.sample(lines, len(lines))
-        begun = time.monotonic()
+        begun = time.process_time()
         self.assertTrue(_patch.unified_diff("x", b"".join(lines), b"".join(shuffled)))
-        self.assertLess(time.monotonic() - begun, 20)
+        self.assertLess(time.process_time() - begun, 20)
 
     def test_paths_with_spaces_and_quotes(self):
         self.assertTrue(_patch.unified_diff('a "b"\n', b"1\n", b"2\n").startswith(rb'--- "a \"b\"\012"' + b"\n"))
