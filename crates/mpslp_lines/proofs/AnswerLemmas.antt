@@ -1,18 +1,12 @@
 -- Laws of a format and of the result of its reader: bytes that declare a model have no first error, and all others do.
-use Rattle.std.proofs.Common.{◌≡◌, refl, sym, subst, ◌∙◌, ℕ, List}
-use Rattle.std.specs.Prelude.{Option, Some, None, Result, Ok, Err, IsErrAnd, MatchResult}
+use Rattle.mpslp_lines.proofs.Prelude
+use Prelude.{◌≡◌, refl, sym, subst, ◌∙◌, ℕ, List, Option, Some, None, Result, Ok, Err, IsErrAnd, Draft, Fault, FaultKind, ReadFault, File}
+use Prelude.{Failed, OutOfMemory, LineResult, IsErrorOf, LineError}
+use Rattle.std.specs.Prelude.{MatchResult}
 use Rattle.mpslp_model_core.specs.Model.{LinearModel}
-use Rattle.mpslp_builder.specs.Declaration.{Draft}
-use Rattle.mpslp_builder.specs.Meaning.{model_of}
-use Rattle.mpslp_builder.specs.FileFault.{file_fault}
-use Rattle.mpslp_builder.specs.Finish.{Finishes}
+use Rattle.mpslp_builder.specs.{FileFault.{file_fault}, Finish.{Finishes}, Meaning.{model_of}}
 use Rattle.mpslp_model.specs.Formats.{IsAnswerTo}
-use Rattle.mpslp_types.specs.declared.faults.Fault.{Fault}
-use Rattle.mpslp_types.specs.declared.faults.FaultKind.{FaultKind}
-use Rattle.mpslp_types.specs.declared.faults.ReadFault.{ReadFault}
-use Rattle.mpslp_types.specs.declared.faults.ReadFault.TheVariants.{File, Failed, OutOfMemory}
-use Rattle.mpslp_lines.specs.LineAnswer.{LineResult, IsErrorOf, IsFaultOf}
-use Rattle.mpslp_lines.specs.declared.errors.LineError.{LineError}
+use Rattle.mpslp_lines.specs.LineAnswer.{IsFaultOf}
 
 -- ---- laws
 

@@ -1,16 +1,12 @@
 -- A column that would be both integer and semi-continuous: its error comes before all other errors of what a line declares.
-use Rattle.std.proofs.Common.{◌≡◌, refl, ap, ◌∙◌, List, [], ◌∷◌, ◌++◌, Bool, true, false, cond}
-use Rattle.std.specs.Prelude.{◌||◌}
-use Rattle.std.specs.List.{list_any, list_all}
-use Rattle.std.specs.Cmp.{first_so, second_so}
+use Rattle.mpslp_lines.proofs.Prelude
+use Prelude.{◌≡◌, refl, ap, ◌∙◌, List, [], ◌∷◌, ◌++◌, Bool, true, false, cond, ◌||◌, list_any, list_all, first_so, second_so, Declaration}
+use Prelude.{declare_sense, declare_objective, declare_constant, declare_row, declare_rhs, declare_range, declare_column}
+use Prelude.{declare_coefficient, declare_lower, declare_upper, declare_marked, declare_integer, declare_binary, declare_semi, Declarations}
+use Prelude.{Draft, with_declaration, with_declarations, those_of, refusals, refusal_tests, refusals_in_turn, BuildFault, is_kind_clash}
+use Prelude.{nor, refusals_in_turn-append}
 use Rattle.std.proofs.lemmas.List.Folds.{list_any-append}
-use Rattle.mpslp_builder.specs.Declaration.{Declaration, declare_sense, declare_objective, declare_constant, declare_row, declare_rhs, declare_range, declare_column, declare_coefficient, declare_lower, declare_upper, declare_marked, declare_integer, declare_binary, declare_semi, Declarations, Draft, with_declaration, with_declarations}
-use Rattle.mpslp_types.specs.Lists.{those_of}
-use Rattle.mpslp_builder.specs.Refusal.{refusals, refusal_tests, refusals_in_turn}
-use Rattle.mpslp_types.specs.declared.faults.BuildFault.{BuildFault}
-use Rattle.mpslp_lines.specs.Declaring.{is_kind_clash}
-use Rattle.mpslp_types.proofs.BoolLemmas.{both_false, nor}
-use Rattle.mpslp_builder.proofs.MadeDrafts.{refusals_in_turn-append}
+use Rattle.mpslp_types.proofs.BoolLemmas.{both_false}
 
 abbrev pub has_kind_clash : Draft → Declarations → Bool
 has_kind_clash earlier ds = list_any is_kind_clash (refusals_in_turn earlier ds)

@@ -1,28 +1,17 @@
 -- The first error of a line is that of its form, or else the least of what it declares.
 -- Errors of declarations have kinds from UnknownRow on, except for a column that would be both integer and semi-continuous,
 -- which comes before both.
-use Rattle.std.proofs.Common.{◌≡◌, refl, ap, ◌∙◌, ℕ, List, [], ◌∷◌, ◌++◌, Bool, true, false, cond, map, arith}
-use Rattle.std.specs.Prelude.{◌||◌, nat_le, nat_lt, Option, Some, None}
-use Rattle.std.specs.List.{list_any, list_all}
-use Rattle.std.specs.Option.{option_map_or}
-use Rattle.std.specs.Cmp.{first_so, second_so}
-use Rattle.std.proofs.lemmas.Bool.Decides.{nat_tests}
-use Rattle.mpslp_types.proofs.BoolLemmas.{both_so, nor}
+use Rattle.mpslp_lines.proofs.Prelude
+use Prelude.{◌≡◌, refl, ap, ◌∙◌, ℕ, List, [], ◌∷◌, ◌++◌, Bool, true, false, cond, map, arith, ◌||◌, nat_le, nat_lt, Option, Some, None}
+use Prelude.{list_any, list_all, option_map_or, first_so, second_so, nat_tests, both_so, nor, Declarations, Draft, those_of}
+use Prelude.{refusals_in_turn, kind_rank, least_kind, BuildFault, FaultKind, FaultTests, first_held, has_legal_length, kind_of_build_fault}
+use Prelude.{is_kind_clash, declaring_faults, declared_fault}
 use Rattle.mpslp_builder.proofs.RefusalLemmas.{left_none, right_none}
-use Rattle.mpslp_builder.specs.Declaration.{Declarations, Draft}
-use Rattle.mpslp_types.specs.Lists.{those_of}
-use Rattle.mpslp_builder.specs.Refusal.{refusals_in_turn}
-use Rattle.mpslp_types.specs.FaultOrder.{kind_rank, least_kind}
-use Rattle.mpslp_types.specs.declared.faults.BuildFault.{BuildFault}
-use Rattle.mpslp_types.specs.declared.faults.BuildFault.TheVariants as builds
-use Rattle.mpslp_types.specs.declared.faults.FaultKind.{FaultKind}
-use Rattle.mpslp_types.specs.declared.faults.FaultKind.TheVariants as kinds
-use Rattle.mpslp_lines.specs.FaultTests.{FaultTests, first_held, has_legal_length, is_legal_byte, legal_tests, kind_of_build_fault}
-use Rattle.mpslp_lines.specs.Declaring.{is_kind_clash, declaring_faults, declared_fault, first_fault}
+use Rattle.mpslp_lines.proofs.{ClashLemmas.{has_kind_clash}, DeclaringLemmas.{unrefused}, HeldLemmas.{held-among}}
 use Rattle.mpslp_lines.proofs.LeastLemmas.{is_from, are_rising, lesser, stays-least, earlier_of, least-those_of, least-append, least-none}
-use Rattle.mpslp_lines.proofs.HeldLemmas.{held-among}
-use Rattle.mpslp_lines.proofs.ClashLemmas.{has_kind_clash}
-use Rattle.mpslp_lines.proofs.DeclaringLemmas.{unrefused}
+use Rattle.mpslp_lines.specs.{Declaring.{first_fault}, FaultTests.{is_legal_byte, legal_tests}}
+use Rattle.mpslp_types.specs.declared.faults.BuildFault.TheVariants as builds
+use Rattle.mpslp_types.specs.declared.faults.FaultKind.TheVariants as kinds
 
 -- ---- what is declared
 

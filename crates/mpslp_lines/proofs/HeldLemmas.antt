@@ -1,12 +1,8 @@
 -- The first failing test, if more tests come after it; and tests none of which fails.
-use Rattle.std.proofs.Common.{◌≡◌, refl, sym, ap, ◌∙◌, [], ◌∷◌, ◌++◌, Bool, true, false, cond, append_assoc}
-use Rattle.std.specs.Prelude.{Option, Some, None}
-use Rattle.std.specs.List.{list_all}
+use Rattle.mpslp_lines.proofs.Prelude
+use Prelude.{◌≡◌, refl, sym, ap, ◌∙◌, [], ◌∷◌, ◌++◌, Bool, true, false, cond, append_assoc, Option, Some, None, list_all, first_so}
+use Prelude.{second_so, those_of, FaultKind, FaultTests, first_held}
 use Rattle.std.specs.Option.{option_or}
-use Rattle.std.specs.Cmp.{first_so, second_so}
-use Rattle.mpslp_types.specs.Lists.{those_of}
-use Rattle.mpslp_types.specs.declared.faults.FaultKind.{FaultKind}
-use Rattle.mpslp_lines.specs.FaultTests.{FaultTests, first_held}
 
 pub held-append : (tests more : FaultTests) → first_held (tests ++ more) ≡ option_or (first_held tests) (first_held more)
 held-append [] more = refl

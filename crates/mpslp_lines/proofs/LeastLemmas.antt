@@ -1,14 +1,8 @@
 -- The least kind of failing tests in the order of kinds is that of the first one.
-use Rattle.std.proofs.Common.{◌≡◌, refl, ap, ◌∙◌, ℕ, List, [], ◌∷◌, ◌++◌, Bool, true, false, cond, arith}
-use Rattle.std.specs.Prelude.{nat_le, nat_lt, ◌&&◌, Option, Some, None}
-use Rattle.std.specs.List.{list_all}
-use Rattle.std.specs.Option.{option_map_or}
-use Rattle.std.specs.Cmp.{first_so, second_so}
-use Rattle.std.proofs.lemmas.Bool.Decides.{nat_tests}
-use Rattle.mpslp_types.specs.Lists.{those_of}
-use Rattle.mpslp_types.specs.FaultOrder.{kind_rank, least_kind}
-use Rattle.mpslp_types.specs.declared.faults.FaultKind.{FaultKind}
-use Rattle.mpslp_lines.specs.FaultTests.{FaultTests, first_held}
+use Rattle.mpslp_lines.proofs.Prelude
+use Prelude.{◌≡◌, refl, ap, ◌∙◌, ℕ, List, [], ◌∷◌, ◌++◌, Bool, true, false, cond, arith, nat_le, nat_lt, Option, Some, None, list_all}
+use Prelude.{option_map_or, first_so, second_so, nat_tests, those_of, kind_rank, least_kind, FaultKind, FaultTests, first_held}
+use Rattle.std.specs.Prelude.{◌&&◌}
 
 -- not before the kind, in the order of kinds
 abbrev pub is_from : FaultKind → FaultKind → Bool

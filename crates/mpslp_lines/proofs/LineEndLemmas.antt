@@ -1,10 +1,10 @@
 -- A piece that is divided after its last line feed.
-use Rattle.std.proofs.Common.{◌≡◌, refl, ap, ◌∙◌, ℕ, ◌+◌, ◌≤◌, ◌<◌, List, [], ◌∷◌, ◌++◌, length, length-drop, take, drop, true, false, get_or-drop, slice_index, arith}
-use Rattle.std.proofs.lemmas.Bool.{eqb-true}
-use Rattle.std.proofs.lemmas.List.{take_more}
+use Rattle.mpslp_lines.proofs.Prelude
+use Prelude.{◌≡◌, refl, ap, ◌∙◌, ℕ, ◌+◌, ◌≤◌, ◌<◌, List, [], ◌∷◌, ◌++◌, length, take, drop, true, false, arith, open_tail, HasNoFeed}
+use Prelude.{open_tail-ended}
+use Rattle.std.proofs.{Common.{length-drop, get_or-drop, slice_index}, lemmas.Bool.{eqb-true}, lemmas.List.{take_more}}
 use Rattle.std.proofs.lemmas.List.Elements.{All-from_get_or}
-use Rattle.mpslp_model.specs.CompleteLines.{is_feed, open_tail, HasNoFeed}
-use Rattle.mpslp_model.proofs.CompleteLineLemmas.{open_tail-ended}
+use Rattle.mpslp_model.specs.CompleteLines.{is_feed}
 
 pub cut-lines : (piece : List ℕ) (last : ℕ) → last < length piece → is_feed (slice_index piece last) ≡ true → open_tail (take (last + 1) piece) ≡ []
 cut-lines piece last within is =

@@ -1,13 +1,10 @@
 -- The lines that bstr finds are those of std's `lines`.
-use Rattle.std.proofs.Common.{◌≡◌, refl, sym, ap, ◌∙◌, List, [], ◌∷◌, ◌++◌, length, take, drop, ℕ, zero, suc, Bool, true, false, map, arith, ◌<◌, ◌≤◌, ◌+◌, ◌-◌, ◌⊎◌, inl, inr, length-append}
-use Rattle.std.specs.Prelude.{nat_lt, ◌==◌, slice_index}
-use Rattle.std.specs.List.{slice_split}
-use Rattle.std.specs.Str.Lines.{lines, lines_of_parts, strip_carriage_return}
-use Rattle.std.proofs.Math.Seq.{take-append_seam, drop-append_seam, take-length, drop-length}
+use Rattle.mpslp_lines.proofs.Prelude
+use Prelude.{◌≡◌, refl, sym, ap, ◌∙◌, List, [], ◌∷◌, ◌++◌, length, take, drop, ℕ, zero, suc, Bool, true, false, map, arith, ◌<◌, ◌≤◌, ◌+◌}
+use Prelude.{nat_lt, ◌==◌, slice_index, slice_split, lines, lines_of_parts, strip_carriage_return, nat_tests}
+use Rattle.std.proofs.{Common.{◌-◌, ◌⊎◌, inl, inr, length-append}, Math.Seq.{take-append_seam, drop-append_seam, take-length, drop-length}}
 use Rattle.std.proofs.lemmas.Bool.{lt-ltb}
-use Rattle.std.proofs.lemmas.Bool.Decides.{nat_tests}
-use Rattle.bstr.specs.Text.{lines_of, line_len, without_terminator, no_cr}
-use Rattle.bstr.proofs.lemmas.LineLemmas.{lines-nil, lines-step}
+use Rattle.bstr.{proofs.lemmas.LineLemmas.{lines-nil, lines-step}, specs.Text.{lines_of, line_len, without_terminator, no_cr}}
 
 abbrev pub is_feed : ℕ → Bool
 is_feed b = b == 10

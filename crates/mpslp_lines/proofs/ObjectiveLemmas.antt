@@ -1,9 +1,11 @@
 -- The name of the objective in the draft of some declarations.
-use Rattle.std.proofs.Common.{◌≡◌, refl, ap, [], ◌∷◌, Bool, true, false}
-use Rattle.std.specs.Prelude.{◌||◌, is_some}
-use Rattle.mpslp_builder.specs.Declaration.{Declaration, declare_sense, declare_objective, declare_constant, declare_row, declare_rhs, declare_range, declare_column, declare_coefficient, declare_lower, declare_upper, declare_marked, declare_integer, declare_binary, declare_semi, Declarations, Draft, with_declaration, with_declarations}
-use Rattle.mpslp_builder.specs.Consistency.{has_objective}
+use Rattle.mpslp_lines.proofs.Prelude
+use Prelude.{◌≡◌, refl, ap, [], ◌∷◌, Bool, true, false, ◌||◌, Declaration, declare_sense, declare_objective, declare_constant, declare_row}
+use Prelude.{declare_rhs, declare_range, declare_column, declare_coefficient, declare_lower, declare_upper, declare_marked, declare_integer}
+use Prelude.{declare_binary, declare_semi, Declarations, Draft, with_declaration, with_declarations}
+use Rattle.std.specs.Prelude.{is_some}
 use Rattle.mpslp_types.proofs.BoolLemmas.{or_right}
+use Rattle.mpslp_builder.specs.Consistency.{has_objective}
 
 -- a name of the objective stays
 stays-named : (all : Draft) (d : Declaration) → is_some all.objective ≡ true → is_some (with_declaration all d).objective ≡ true

@@ -1,20 +1,14 @@
 -- A text that comes in pieces: what a reader has read after each, and what it keeps.
-use Rattle.std.proofs.Common.{◌≡◌, refl, sym, ap, subst, ◌∙◌, ℕ, ◌+◌, ◌<◌, List, [], ◌∷◌, ◌++◌, length, take, slice_index, length-take-le, Bool, true, false, cond, append-nil, append_assoc, arith}
-use Rattle.std.specs.Prelude.{◌-◌, ◌==◌, nat_le, Result, Ok, Err, IsErrAnd}
-use Rattle.std.specs.Str.Lines.{lines, strip_carriage_return}
-use Rattle.std.proofs.lemmas.Bool.Decides.{nat_tests}
-use Rattle.mpslp_types.specs.declared.faults.Fault.{Fault}
-use Rattle.mpslp_types.specs.declared.faults.ReadFault.{ReadFault}
-use Rattle.mpslp_types.specs.declared.faults.ReadFault.TheVariants.{File, Failed, OutOfMemory}
-use Rattle.mpslp_model.specs.Readers.{IsFedBy}
-use Rattle.mpslp_model.specs.CompleteLines.{complete_lines, open_tail, HasNoFeed}
-use Rattle.mpslp_model.proofs.CompleteLineLemmas.{complete-more, complete-same, open_tail-on, complete-ended, open_tail-ended, complete-from, open_tail-from, lines-are, last_line}
-use Rattle.mpslp_lines.specs.FaultTests.{has_legal_length}
-use Rattle.mpslp_lines.specs.declared.legal_line.TheConstants.{MAX_LINE_LEN}
+use Rattle.mpslp_lines.proofs.Prelude
+use Prelude.{◌≡◌, refl, sym, ap, subst, ◌∙◌, ℕ, ◌+◌, ◌<◌, List, [], ◌∷◌, ◌++◌, length, take, Bool, true, false, cond, append-nil}
+use Prelude.{append_assoc, arith, ◌==◌, nat_le, Result, Ok, Err, IsErrAnd, lines, strip_carriage_return, nat_tests, Fault, ReadFault, File}
+use Prelude.{Failed, OutOfMemory, open_tail, HasNoFeed, open_tail-ended, has_legal_length, IsReader, RefusesLines, ReadsOn}
+use Rattle.std.{proofs.Common.{slice_index, length-take-le}, specs.Prelude.{◌-◌}}
+use Rattle.mpslp_model.proofs.CompleteLineLemmas.{complete-more, complete-same, open_tail-on, complete-ended, complete-from, open_tail-from}
+use Rattle.mpslp_model.{proofs.CompleteLineLemmas.{lines-are, last_line}, specs.CompleteLines.{complete_lines}, specs.Readers.{IsFedBy}}
 use Rattle.mpslp_lines.specs.OpenLine.{KeptLine, Keeps, is_beyond}
-use Rattle.mpslp_lines.specs.LinesRead.{IsReader, RefusesLines, ReadsOn}
 use Rattle.mpslp_lines.specs.Pieces.{unread, IsFed, WasFed, RefusesPiece, Feeds, RefusesText, EndsText}
-use Rattle.mpslp_lines.specs.declared.piece_reader.PieceReader.{PieceReader}
+use Rattle.mpslp_lines.specs.declared.{legal_line.TheConstants.{MAX_LINE_LEN}, piece_reader.PieceReader.{PieceReader}}
 
 -- ---- the line that is kept
 

@@ -1,10 +1,7 @@
 -- Lines that are read one after another: some were read, and the others are left.
-use Rattle.std.proofs.Common.{◌≡◌, sym, ap, subst, ◌∙◌, ℕ, List, [], ◌∷◌, ◌++◌, Bool, true, append-nil, append_assoc}
-use Rattle.std.specs.Prelude.{Result, Ok, Err, IsErrAnd}
-use Rattle.mpslp_types.specs.declared.faults.Fault.{Fault}
-use Rattle.mpslp_types.specs.declared.faults.ReadFault.{ReadFault}
-use Rattle.mpslp_types.specs.declared.faults.ReadFault.TheVariants.{File, Failed, OutOfMemory}
-use Rattle.mpslp_lines.specs.LinesRead.{IsReader, RefusesLines, ReadsOn}
+use Rattle.mpslp_lines.proofs.Prelude
+use Prelude.{◌≡◌, sym, ap, subst, ◌∙◌, ℕ, List, [], ◌∷◌, ◌++◌, Bool, true, append-nil, append_assoc, Result, Ok, Err, IsErrAnd, Fault}
+use Prelude.{ReadFault, File, Failed, OutOfMemory, IsReader, RefusesLines, ReadsOn}
 
 -- some of these lines were read, and the others are left
 pub record Passed {L : Type 0} (has_read : L → List (List ℕ) → Type 0) (old now : L) (all left : List (List ℕ)) : Type 0 where

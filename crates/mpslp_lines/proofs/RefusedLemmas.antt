@@ -1,21 +1,12 @@
 -- The first error of declarations that the builder rejects.
-use Rattle.std.proofs.Common.{◌≡◌, refl, sym, ap, subst, ◌∙◌, List, [], ◌∷◌, ◌++◌, Bool, true, false, cond, map}
-use Rattle.std.specs.Prelude.{Option, Some, None, Ok, Err}
+use Rattle.mpslp_lines.proofs.Prelude
+use Prelude.{◌≡◌, refl, sym, ap, subst, ◌∙◌, List, [], ◌∷◌, ◌++◌, Bool, true, false, cond, map, Option, Some, None, Ok, Err, Declaration}
+use Prelude.{Declarations, Draft, with_declarations, those_of, refusals, refusal_tests, refusals_in_turn, least_kind, BuildFault, FaultKind}
+use Prelude.{refusals_in_turn-append, FaultTests, first_held, kind_of_build_fault, declared_fault, IsErrorOf}
 use Rattle.std.proofs.lemmas.List.{append-nil, map-append}
 use Rattle.mpslp_builder.specs.Answer.{Answers, first_refusal}
-use Rattle.mpslp_builder.specs.Declaration.{Declaration, Declarations, Draft, with_declarations}
-use Rattle.mpslp_types.specs.Lists.{those_of}
-use Rattle.mpslp_builder.specs.Refusal.{refusals, refusal_tests, refusals_in_turn}
-use Rattle.mpslp_types.specs.FaultOrder.{least_kind}
-use Rattle.mpslp_types.specs.declared.faults.BuildFault.{BuildFault}
+use Rattle.mpslp_lines.{proofs.LeastLemmas.{are_rising, earlier_of, least-those_of, least-append}, specs.ErrorOf.{error_of_build}}
 use Rattle.mpslp_types.specs.declared.faults.BuildFault.TheVariants as builds
-use Rattle.mpslp_types.specs.declared.faults.FaultKind.{FaultKind}
-use Rattle.mpslp_builder.proofs.MadeDrafts.{refusals_in_turn-append}
-use Rattle.mpslp_lines.specs.FaultTests.{FaultTests, first_held, kind_of_build_fault}
-use Rattle.mpslp_lines.specs.Declaring.{declared_fault}
-use Rattle.mpslp_lines.specs.ErrorOf.{error_of_build}
-use Rattle.mpslp_lines.specs.LineAnswer.{IsErrorOf}
-use Rattle.mpslp_lines.proofs.LeastLemmas.{are_rising, earlier_of, least-those_of, least-append}
 
 abbrev pub RefusalTests : Type 0
 RefusalTests = List (Bool × BuildFault)

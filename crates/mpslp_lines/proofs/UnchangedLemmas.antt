@@ -1,12 +1,8 @@
 -- What holds after a line with an error.
-use Rattle.std.proofs.Common.{◌≡◌, sym, subst, ◌∙◌}
-use Rattle.std.specs.Prelude.{Option, Some, None, Ok, Err, IsErrAnd}
-use Rattle.mpslp_types.specs.declared.faults.FaultKind.{FaultKind}
-use Rattle.mpslp_builder.specs.Declaration.{Declarations, Draft}
-use Rattle.mpslp_lines.specs.Declaring.{declared_fault}
-use Rattle.mpslp_lines.specs.LineAnswer.{LineResult, IsErrorOf, AreDeclared, IfFault}
-use Rattle.mpslp_lines.specs.declared.errors.LineError.{LineError}
-use Rattle.mpslp_lines.specs.declared.errors.LineError.TheVariants.{Fault, OutOfMemory}
+use Rattle.mpslp_lines.proofs.Prelude
+use Prelude.{◌≡◌, sym, subst, ◌∙◌, Option, Some, None, Ok, Err, IsErrAnd, FaultKind, Declarations, Draft, declared_fault, LineResult}
+use Prelude.{IsErrorOf, LineError}
+use Rattle.mpslp_lines.specs.{LineAnswer.{AreDeclared, IfFault}, declared.errors.LineError.TheVariants.{Fault, OutOfMemory}}
 
 -- of a call that ends with this error
 pub if_fault-ends : (answer : LineResult) (error : LineError) (Claim : Type 0) → IsErrAnd answer (λ e. e ≡ error) → IfFault (Err error) Claim → IfFault answer Claim

@@ -1,10 +1,8 @@
 -- Lines that are written one after another are read as these lines.
-use Rattle.std.proofs.Common.{◌≡◌, refl, ap, ◌∙◌, List, [], ◌∷◌, ◌++◌, ℕ, zero, suc, Bool, false}
-use Rattle.std.specs.Prelude.{◌==◌, slice_index}
-use Rattle.std.specs.List.{slice_split}
-use Rattle.std.specs.Str.Lines.{lines, lines_of_parts, strip_carriage_return}
-use Rattle.mpslp_types.proofs.EachLemmas.{Each}
-use Rattle.mpslp_types.specs.Lists.{with_line_feeds}
+use Rattle.mpslp_lines.proofs.Prelude
+use Prelude.{◌≡◌, refl, ap, ◌∙◌, List, [], ◌∷◌, ◌++◌, ℕ, zero, suc, Bool, false, ◌==◌, slice_index, slice_split, lines, lines_of_parts}
+use Prelude.{strip_carriage_return}
+use Rattle.mpslp_types.{proofs.EachLemmas.{Each}, specs.Lists.{with_line_feeds}}
 
 abbrev pub is_feed : ℕ → Bool
 is_feed b = b == 10

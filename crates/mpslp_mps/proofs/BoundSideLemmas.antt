@@ -1,23 +1,18 @@
 -- The first error of a bound, whose lower and upper bound are declared by one call.
-use Rattle.std.proofs.Common.{arith, rules, ◌≡◌, refl, sym, ap, ◌∙◌, ℕ, List, [], ◌∷◌, ◌++◌, Bool, true, false, not, cond}
-use Rattle.std.specs.{Prelude.{◌&&◌, ◌||◌, Option, Some, None, is_some, Ok, Err}, Option.{option_map, option_map_or}}
-use Rattle.mpslp_decimal.specs.Decimal.{Number}
-use Rattle.mpslp_builder.specs.{Answer.{Answers, first_refusal}, Bounds.{zero_limit, one_limit}, Declaration.{Declaration, declare_integer}}
-use Rattle.mpslp_builder.specs.Declaration.{declare_semi, declare_lower, declare_upper, Draft, with_declaration, with_declarations}
-use Rattle.mpslp_builder.specs.{Declaration.{has_name, has_column, is_integer, is_semi, bounds_declared}, Refusal.refusals}
-use Rattle.mpslp_builder.{specs.Refusal.{bounds_refusals, bounds_tests}, proofs.MadeDrafts.with_declarations-append}
-use Rattle.mpslp_types.specs.{Limit.{limit_of, is_plus_infinite, is_minus_infinite}, Lists.{those_of, when}, declared.kinds.Limit.Limit}
-use Rattle.mpslp_types.specs.declared.faults.{BuildFault.{BuildFault, TheVariants.{UnknownColumn, SemiContinuous}}, FaultKind.FaultKind}
-use Rattle.mpslp_types.proofs.BoolLemmas.{nor}
+use Rattle.mpslp_mps.proofs.Prelude
+use Prelude.{arith, rules, ◌≡◌, refl, sym, ap, ◌∙◌, ℕ, List, [], ◌∷◌, ◌++◌, Bool, true, false, cond, ◌&&◌, ◌||◌, Option, Some, None}
+use Prelude.{is_some, Ok, Err, option_map, option_map_or, Number, Answers, first_refusal, zero_limit, one_limit, Declaration}
+use Prelude.{declare_integer, declare_semi, declare_lower, declare_upper, Draft, with_declaration, with_declarations, has_name, has_column}
+use Prelude.{is_integer, is_semi, bounds_declared, refusals, bounds_refusals, bounds_tests, with_declarations-append, limit_of}
+use Prelude.{is_plus_infinite, is_minus_infinite, those_of, when, Limit, BuildFault, FaultKind, nor, Fields, BoundLine, bound_type}
+use Prelude.{bound_shape, is_integer_type, is_semi_type, BoundType, lower_given, upper_given, kind_declared, bound_declared}
+use Prelude.{bound_line_declared, type_clash, value_of, first_held, declared_fault, error_of_build, IsErrorOf, IfFault, LineResult}
+use Prelude.{AreDeclared, LineError, earlier_of, kind_tests, declared-append, call-refused, tests-none, tests-error}
+use Rattle.std.proofs.Common.{not}
+use Rattle.mpslp_types.specs.declared.faults.BuildFault.TheVariants.{UnknownColumn, SemiContinuous}
+use Rattle.mpslp_lines.specs.declared.errors.LineError.TheVariants.{Fault}
 use Rattle.mpslp_types.specs.declared.faults.FaultKind.TheVariants as kinds
-use Rattle.mpslp_mps_fields.specs.{Line.Fields, DataLine.{BoundLine, bound_type, bound_shape, is_integer_type, is_semi_type}}
-use Rattle.mpslp_mps_fields.specs.declared.bound_types.BoundType.{BoundType}
 use Rattle.mpslp_mps_fields.specs.declared.bound_types.BoundType.TheVariants as bounds
-use Rattle.mpslp_mps.specs.LineDeclarations.{lower_given, upper_given, kind_declared, bound_declared, bound_line_declared}
-use Rattle.mpslp_mps.specs.KindClash.{type_clash}
-use Rattle.mpslp_lines.specs.{FaultTests.{value_of, first_held}, Declaring.declared_fault, ErrorOf.error_of_build, LineAnswer.IsErrorOf}
-use Rattle.mpslp_lines.specs.{LineAnswer.{IfFault, LineResult, AreDeclared}, declared.errors.LineError.{LineError, TheVariants.Fault}}
-use Rattle.mpslp_lines.proofs.{LeastLemmas.earlier_of, RefusedLemmas.{kind_tests, declared-append, call-refused, tests-none, tests-error}}
 
 -- the kind of the error, by whether the column exists, a bound is declared already, and one is infinite in the wrong
 -- direction

@@ -1,21 +1,15 @@
 -- Lines that would make a column both integer and semi-continuous: the first error of their form, and of no other line.
-use Rattle.std.proofs.Common.{arith, ◌≡◌, refl, sym, ap, ◌∙◌, ℕ, List, [], ◌∷◌, ◌++◌, Bool, true, false, not, cond}
-use Rattle.std.{proofs.lemmas.List.Folds.list_any-append, specs.{Prelude.{◌||◌, ◌&&◌, Option, Some, None, Ok, Err}, List.list_any}}
-use Rattle.std.specs.{List.{list_all, flat_map}, Option.{option_map, option_map_or}}
-use Rattle.mpslp_decimal.specs.Decimal.{Number}
-use Rattle.mpslp_builder.specs.{Answer.{Answer, first_refusal}, Declaration.{Declaration, declare_column, declare_marked, declare_integer}}
-use Rattle.mpslp_builder.specs.{Declaration.{declare_semi, Declarations, Draft, has_column, is_integer, is_semi}, Made.IsMade}
-use Rattle.mpslp_builder.{specs.Refusal.refusals, proofs.MadeDrafts.declared_names-from_made}
-use Rattle.mpslp_types.specs.{Lists.{those_of, when}, declared.kinds.Limit.Limit}
+use Rattle.mpslp_mps.proofs.Prelude
+use Prelude.{arith, ◌≡◌, refl, sym, ap, ◌∙◌, ℕ, List, [], ◌∷◌, ◌++◌, Bool, true, false, cond, list_any-append, ◌||◌, ◌&&◌, Option, Some}
+use Prelude.{None, Ok, Err, list_any, list_all, flat_map, option_map, option_map_or, Number, Answer, first_refusal, Declaration}
+use Prelude.{declare_column, declare_marked, declare_integer, declare_semi, Declarations, Draft, has_column, is_integer, is_semi, IsMade}
+use Prelude.{refusals, declared_names-from_made, those_of, when, Limit, is_kind_clash, has_kind_clash, says_no_kind, no-clash, Fields}
+use Prelude.{ValuesLine, column_shape, is_marker_line, BoundLine, bound_type, bound_shape, BoundType, Section, ObjSense, Rows, Columns, Rhs}
+use Prelude.{Ranges, Context, declared_if_some, coefficient_declared, column_declared, bound_declared, bound_value, bound_line_declared}
+use Prelude.{data_declared, header_declared, named_values, column_clash, type_clash, bound_clash}
+use Rattle.std.proofs.Common.{not}
+use Rattle.mpslp_mps.proofs.{OrderLemmas.{each-flat, sense-passes, sides-passes, ranges-passes}, SectionLemmas.{or_false}}
 use Rattle.mpslp_types.specs.declared.faults.BuildFault.TheVariants as builds
-use Rattle.mpslp_lines.{specs.Declaring.is_kind_clash, proofs.ClashLemmas.{has_kind_clash, says_no_kind, no-clash}}
-use Rattle.mpslp_mps_fields.specs.{Line.Fields, DataLine.{ValuesLine, column_shape, is_marker_line, BoundLine, bound_type, bound_shape}}
-use Rattle.mpslp_mps_fields.specs.declared.{bound_types.BoundType.BoundType, sections.Section.{Section, TheVariants.{ObjSense, Rows}}}
-use Rattle.mpslp_mps_fields.specs.declared.sections.Section.TheVariants.{Columns, Rhs, Ranges}
-use Rattle.mpslp_mps.specs.{Context.Context, LineDeclarations.{declared_if_some, coefficient_declared, column_declared, bound_declared}}
-use Rattle.mpslp_mps.specs.{LineDeclarations.{bound_value, bound_line_declared, data_declared, header_declared}, LineValues.named_values}
-use Rattle.mpslp_mps.{specs.KindClash.{column_clash, type_clash, bound_clash}, proofs.OrderLemmas.{each-flat, sense-passes, sides-passes}}
-use Rattle.mpslp_mps.proofs.{OrderLemmas.ranges-passes, SectionLemmas.or_false}
 
 -- ---- checks by the builder
 

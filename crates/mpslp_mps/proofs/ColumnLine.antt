@@ -1,23 +1,16 @@
 -- The first error of a line of a column: of its form, or an unknown row, a split column, or a repeated coefficient.
-use Rattle.std.{proofs.Common.{◌≡◌, refl, ap, ◌∙◌, ℕ, List, [], ◌∷◌, ◌++◌, Bool, true, false, cond, arith}, specs.Prelude.{not, Option}}
-use Rattle.std.specs.{Prelude.{Some, None}, List.{list_all, flat_map}, Option.option_map}
-use Rattle.mpslp_decimal.specs.Decimal.{Number}
-use Rattle.mpslp_types.specs.{Name.is_mps_name, Lists.those_of, FaultOrder.least_kind, declared.faults.FaultKind.FaultKind}
-use Rattle.mpslp_types.specs.declared.faults.FaultKind.TheVariants as kinds
-use Rattle.mpslp_builder.specs.Declaration.{Draft, with_declarations, has_column}
-use Rattle.mpslp_mps_fields.specs.{Line.{Fields, data_line}, DataLine.{ValuesLine, column_shape, is_marker_line}}
-use Rattle.mpslp_mps_fields.specs.declared.sections.Section.{Section, TheVariants.Columns}
-use Rattle.mpslp_mps.specs.{Context.Context, LineFault.{literals_of, is_split, marker_tests, column_tests, data_tests}}
-use Rattle.mpslp_mps.specs.{LineValues.named_values, LineDeclarations.data_declared, LineAnswer.item_fault, ColumnDeclared.front_declared}
-use Rattle.mpslp_mps.{specs.{ColumnDeclared.{value_declared, has_duplicate}, KindClash.column_clash}, proofs.RisingTests.data-rising}
-use Rattle.mpslp_mps.proofs.{TakingLemmas.is_early, TakenLemmas.clash-reported, ClashLemmas.{column-clashes, column-apart}}
+use Rattle.mpslp_mps.proofs.Prelude
+use Prelude.{◌≡◌, refl, ap, ◌∙◌, ℕ, List, [], ◌∷◌, ◌++◌, Bool, true, false, cond, arith, not, Option, Some, None, list_all, flat_map}
+use Prelude.{option_map, Number, is_mps_name, those_of, least_kind, FaultKind, Draft, with_declarations, has_column, Fields, data_line}
+use Prelude.{ValuesLine, column_shape, is_marker_line, Section, Columns, Context, literals_of, is_split, marker_tests, column_tests}
+use Prelude.{data_tests, named_values, data_declared, item_fault, front_declared, value_declared, has_duplicate, column_clash, FaultTests}
+use Prelude.{judged_by, first_held, name_tests, number_tests, declaring_faults, declared_fault, IsErrorOf, LineError, held-third}
+use Prelude.{held-among, is_from, earlier_of, stays-least, least-those_of, least-append, form-first, is_after_clash, declared-after}
+use Prelude.{are_from}
+use Rattle.mpslp_mps.proofs.ClashLemmas.{column-clashes, column-apart}
 use Rattle.mpslp_mps.proofs.ColumnTaking.{are_rows, front-none, front-there, front-rows, values-late, values-unknown, values-double}
-use Rattle.mpslp_mps.proofs.ColumnTaking.{front-double}
-use Rattle.mpslp_lines.specs.{FaultTests.{FaultTests, judged_by, first_held, name_tests, number_tests}, Declaring.declaring_faults}
-use Rattle.mpslp_lines.specs.{Declaring.declared_fault, LineAnswer.IsErrorOf, declared.errors.LineError.LineError}
-use Rattle.mpslp_lines.proofs.{HeldLemmas.{held-third, held-among}, LeastLemmas.{is_from, earlier_of, stays-least, least-those_of}}
-use Rattle.mpslp_lines.proofs.{LeastLemmas.least-append, FirstFaultLemmas.{form-first, is_after_clash}, DeclaringLemmas.declared-after}
-use Rattle.mpslp_lines.proofs.DeclaringLemmas.{are_from}
+use Rattle.mpslp_mps.proofs.{ColumnTaking.{front-double}, RisingTests.{data-rising}, TakenLemmas.{clash-reported}, TakingLemmas.{is_early}}
+use Rattle.mpslp_types.specs.declared.faults.FaultKind.TheVariants as kinds
 use Rattle.mpslp_lines.specs.declared.errors.LineError.TheVariants as errors
 
 -- ---- the form

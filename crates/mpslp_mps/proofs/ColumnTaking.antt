@@ -1,21 +1,15 @@
 -- Lines of COLUMNS: the first error of their form and of what they declare together.
-use Rattle.std.{proofs.Common.{arith, ◌≡◌, refl, sym, ap, ◌∙◌, ℕ, List, [], ◌∷◌, Bool, true, false, cond}, specs.Prelude.{◌||◌, ◌&&◌, not}}
-use Rattle.std.specs.{Prelude.{Option, Some, None, is_some}, List.{list_all, flat_map}, Cmp.{first_so, second_so}, FinMap.{find, put}}
-use Rattle.mpslp_decimal.specs.Decimal.{Number}
-use Rattle.mpslp_types.specs.{Name.same_bytes, declared.faults.FaultKind.FaultKind}
+use Rattle.mpslp_mps.proofs.Prelude
+use Prelude.{arith, ◌≡◌, refl, sym, ap, ◌∙◌, ℕ, List, [], ◌∷◌, Bool, true, false, cond, ◌||◌, ◌&&◌, not, Option, Some, None, is_some}
+use Prelude.{list_all, flat_map, first_so, second_so, find, put, Number, same_bytes, FaultKind, CoefficientKey, key_cmp}
+use Prelude.{declare_coefficient, Declarations, Draft, with_declaration, with_declarations, has_row, has_column, has_coefficient, is_semi}
+use Prelude.{has-put_key, itself_named, Fields, column_shape, is_marker_line, Columns, Context, marker_tests, column_tests, data_tests}
+use Prelude.{data_declared, declared_if_some, column_declared, front_declared, value_declared, has_duplicate, judged_by, declared_fault}
+use Prelude.{IsErrorOf, LineError, OutOfMemory, lesser, earlier_of, stays-least, has_kind_clash, says_no_kind, no-clash, form-first}
+use Prelude.{declared-append, are_from, from-earlier}
+use Rattle.mpslp_lines.specs.declared.errors.LineError.TheVariants.{Fault}
+use Rattle.mpslp_mps.proofs.{KnownLemmas.{column-there}, OrderLemmas.{each-flat}, TakingLemmas.{is_early}}
 use Rattle.mpslp_types.specs.declared.faults.FaultKind.TheVariants as kinds
-use Rattle.mpslp_model_core.specs.Model.{CoefficientKey, key_cmp}
-use Rattle.mpslp_builder.specs.Declaration.{declare_coefficient, Declarations, Draft, with_declaration, with_declarations, has_row}
-use Rattle.mpslp_builder.{specs.Declaration.{has_column, has_coefficient, is_semi}, proofs.SlotLemmas.has-put_key}
-use Rattle.mpslp_builder.proofs.LaterDrafts.{itself_named}
-use Rattle.mpslp_mps_fields.specs.{Line.Fields, DataLine.{column_shape, is_marker_line}, declared.sections.Section.TheVariants.Columns}
-use Rattle.mpslp_mps.specs.{Context.Context, LineFault.{marker_tests, column_tests, data_tests}, LineDeclarations.data_declared}
-use Rattle.mpslp_mps.specs.{LineDeclarations.{declared_if_some, column_declared}, ColumnDeclared.{front_declared, value_declared}}
-use Rattle.mpslp_mps.{specs.ColumnDeclared.has_duplicate, proofs.{OrderLemmas.each-flat, TakingLemmas.is_early, KnownLemmas.column-there}}
-use Rattle.mpslp_lines.specs.{FaultTests.judged_by, Declaring.declared_fault, LineAnswer.IsErrorOf, declared.errors.LineError.LineError}
-use Rattle.mpslp_lines.{specs.declared.errors.LineError.TheVariants.{Fault, OutOfMemory}, proofs.LeastLemmas.{lesser, earlier_of}}
-use Rattle.mpslp_lines.proofs.{LeastLemmas.stays-least, ClashLemmas.{has_kind_clash, says_no_kind, no-clash}, FirstFaultLemmas.form-first}
-use Rattle.mpslp_lines.proofs.{RefusedLemmas.declared-append, DeclaringLemmas.{are_from, from-earlier}}
 
 -- ---- marker lines
 

@@ -1,14 +1,11 @@
 -- One more line changes the context as `next_context` defines.
-use Rattle.std.proofs.{Common.{arith, ◌≡◌, refl, ap, ◌∙◌, ℕ, List, [], ◌∷◌, ◌++◌, false, cond}, lemmas.List.append-nil}
-use Rattle.std.{proofs.lemmas.List.Elements.{filter_map-append, filter-append}, specs.Prelude.{Option, Some, None, filter_map}}
-use Rattle.std.specs.{List.{last_or, cons_option}, Option.{option_map_or, option_or}}
-use Rattle.mpslp_types.specs.{Name.same_bytes, Lists.head_of}
-use Rattle.mpslp_mps_fields.specs.{Line.{Fields, LineContent, section_of_header}, DataLine.opening_word, declared.sections.Section.Section}
-use Rattle.mpslp_mps_fields.specs.declared.sections.Section.TheVariants.{Columns, Rhs, Ranges, Bounds}
-use Rattle.mpslp_mps.specs.Context.{is_read, word_due_after, word_due, said_after, objname_word, objname, marker_word, line_column}
-use Rattle.mpslp_mps.specs.{Context.{vector_set, bound_set, first_set, current_section, data_lines, context_of}, NextContext.changed_under}
-use Rattle.mpslp_mps.{specs.NextContext.{next_part, next_set, next_context}, proofs.SectionLemmas.{last_or-append, current_section-push}}
-use Rattle.mpslp_mps.proofs.SectionLemmas.{said_after-push, data_lines-push}
+use Rattle.mpslp_mps.proofs.Prelude
+use Prelude.{arith, ◌≡◌, refl, ap, ◌∙◌, ℕ, List, [], ◌∷◌, ◌++◌, false, cond, append-nil, filter_map-append, filter-append, Option, Some}
+use Prelude.{None, filter_map, last_or, cons_option, option_map_or, option_or, same_bytes, head_of, Fields, LineContent, section_of_header}
+use Prelude.{opening_word, Section, Columns, Rhs, Ranges, Bounds, is_read, word_due_after, word_due, said_after, objname_word, objname}
+use Prelude.{marker_word, line_column, vector_set, bound_set, first_set, current_section, data_lines, context_of, changed_under, next_part}
+use Prelude.{next_set, next_context}
+use Rattle.mpslp_mps.proofs.SectionLemmas.{last_or-append, current_section-push, said_after-push, data_lines-push}
 
 pub word_due-push : (before : List LineContent) (item : LineContent) → word_due (before ++ item ∷ []) ≡ cond (is_read item) (word_due_after item) (word_due before)
 word_due-push before item = grind (arith, filter-append, last_or-append)

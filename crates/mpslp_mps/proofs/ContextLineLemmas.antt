@@ -1,12 +1,9 @@
 -- Lines after other lines: what they declare, and that they are well-formed.
-use Rattle.std.{proofs.Common.{arith, ◌≡◌, refl, ap, ◌∙◌, ℕ, List, [], ◌∷◌, ◌++◌, Bool, true, map}, specs.Prelude.{◌&&◌, not}}
-use Rattle.std.specs.{List.{flat_map, list_all}, Cmp.{first_so, second_so}}
-use Rattle.mpslp_builder.specs.Declaration.{Declarations, Draft, with_declarations}
-use Rattle.mpslp_types.{specs.{Lists.{is_nonempty, those_of}, declared.faults.FaultKind.FaultKind}, proofs.BoolLemmas.both_so}
-use Rattle.mpslp_lines.{specs.FaultTests.{has_legal_length, is_legal_byte}, proofs.{HeldLemmas.later_tests, FirstFaultLemmas.legal-only}}
-use Rattle.mpslp_mps_fields.specs.Line.{LineContent, content_of, outside_comment}
-use Rattle.mpslp_mps.specs.{LegalLine.is_legal_line, Context.{Context, context_of}, LineDeclarations.line_declares, LineFault.item_tests}
-use Rattle.mpslp_mps.specs.{LineFault.line_tests, MpsText.{declared_at, is_well_formed, lines_in_context_after}}
+use Rattle.mpslp_mps.proofs.Prelude
+use Prelude.{arith, ◌≡◌, refl, ap, ◌∙◌, ℕ, List, [], ◌∷◌, ◌++◌, Bool, true, map, ◌&&◌, not, flat_map, list_all, first_so, second_so}
+use Prelude.{Declarations, Draft, with_declarations, is_nonempty, those_of, FaultKind, both_so, has_legal_length, is_legal_byte}
+use Prelude.{later_tests, legal-only, LineContent, content_of, outside_comment, is_legal_line, Context, context_of, line_declares}
+use Prelude.{item_tests, line_tests, declared_at, is_well_formed, lines_in_context_after}
 
 -- the errors of the form of the content of a line
 abbrev pub form_faults : Context → Draft → LineContent → List FaultKind

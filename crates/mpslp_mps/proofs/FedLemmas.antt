@@ -1,15 +1,13 @@
 -- Lines that are read one after another, and the rest of a text that comes in pieces.
-use Rattle.std.proofs.Common.{◌≡◌, refl, sym, ap, subst, ◌∙◌, ℕ, ◌+◌, ◌-◌, ◌^◌, min, List, [], ◌∷◌, ◌++◌, length, Bool, true, false}
-use Rattle.std.{proofs.{Common.{append-nil, arith}, lemmas.List.{length-append, Folds.list_any-append}}, specs.Prelude.{◌||◌, Option, Some}}
-use Rattle.std.specs.{Prelude.{None, is_some, if◌then◌else◌}, List.list_any, Option.{option_or, option_map}}
-use Rattle.mpslp_builder.specs.Declaration.{Draft, empty_draft}
-use Rattle.mpslp_types.specs.declared.faults.{Fault.Fault, FaultKind.FaultKind}
-use Rattle.mpslp_lines.specs.FaultTests.{fault_on_line}
-use Rattle.mpslp_mps_fields.specs.{Line.{is_section, content_of}, declared.sections.Section.TheVariants.EndData}
-use Rattle.mpslp_mps.specs.{Context.{Context, context_of}, NextContext.{without_names, kept_context}, MpsText.is_end, FirstFault.line_fault}
-use Rattle.mpslp_mps.specs.LineByLine.{placed_in, draft_after, context_after, fault_from, draft_from, context_from}
-use Rattle.mpslp_mps.specs.{ReadAnswer.lines_to_end, Fed.{lines_fault, LedTo}, FedLaws.to_end-more, VectorDeclared.HasMpsSides}
-use Rattle.mpslp_mps.proofs.{EndLemmas.at_end-after, LoopLemmas.sides-next, NamedLemmas.named-lines_to_end, ReadingLemmas.fault_from-is}
+use Rattle.mpslp_mps.proofs.Prelude
+use Prelude.{◌≡◌, refl, sym, ap, subst, ◌∙◌, ℕ, ◌+◌, ◌^◌, min, List, [], ◌∷◌, ◌++◌, length, Bool, true, false, arith, length-append}
+use Prelude.{list_any-append, ◌||◌, Option, Some, None, is_some, if◌then◌else◌, list_any, option_or, option_map, Draft, empty_draft, Fault}
+use Prelude.{FaultKind, fault_on_line, is_section, content_of, EndData, Context, context_of, without_names, kept_context, is_end}
+use Prelude.{line_fault, placed_in, draft_after, context_after, fault_from, draft_from, context_from, lines_to_end, lines_fault, LedTo}
+use Prelude.{to_end-more, HasMpsSides}
+use Rattle.std.proofs.Common.{◌-◌, append-nil}
+use Rattle.mpslp_mps.proofs.{EndLemmas.{at_end-after}, LoopLemmas.{sides-next}, NamedLemmas.{named-lines_to_end}}
+use Rattle.mpslp_mps.proofs.ReadingLemmas.{fault_from-is}
 
 -- ---- lines after others
 

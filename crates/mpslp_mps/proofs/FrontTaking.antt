@@ -1,13 +1,10 @@
 -- A line is read as its first six fields are.
-use Rattle.std.proofs.Common.{◌≡◌, refl, sym, ap, ◌∙◌, ℕ, List, [], ◌∷◌, map, length, take, Bor, Bool, true, false, cond, arith}
-use Rattle.std.{proofs.lemmas.Bool.Decides.nat_tests, specs.{Cmp.{first_so, second_so}, List.list_all, Prelude.◌==◌}}
-use Rattle.mpslp_builder.specs.Declaration.{Draft}
-use Rattle.mpslp_mps_fields.specs.Line.{Fields, LineContent, skipped, header, data_line, header_of, fields, is_blank, is_comment}
-use Rattle.mpslp_mps_fields.specs.Line.{is_skipped, is_data, content_of}
-use Rattle.mpslp_mps.specs.{Context.Context, NextContext.next_context, LineDeclarations.line_declares, LineFault.item_tests}
-use Rattle.mpslp_mps.{specs.LineAnswer.ReadsContent, proofs.FrontLemmas.{data_tests-front, data_declared-front, next_context-front}}
-use Rattle.mpslp_mps.proofs.FrontLemmas.{header_tests-front, header_declared-front}
-use Rattle.mpslp_lines.specs.LineAnswer.{LineResult}
+use Rattle.mpslp_mps.proofs.Prelude
+use Prelude.{◌≡◌, refl, sym, ap, ◌∙◌, ℕ, List, [], ◌∷◌, map, length, take, Bor, Bool, true, false, cond, arith, nat_tests, first_so}
+use Prelude.{second_so, list_all, ◌==◌, Draft, Fields, LineContent, skipped, header, data_line, header_of, fields, is_blank, is_comment}
+use Prelude.{is_skipped, is_data, content_of, Context, next_context, line_declares, item_tests, ReadsContent, LineResult}
+use Rattle.mpslp_mps.proofs.FrontLemmas.{data_tests-front, data_declared-front, next_context-front, header_tests-front}
+use Rattle.mpslp_mps.proofs.FrontLemmas.{header_declared-front}
 
 -- contents with the same errors, declarations and next context have the same result
 taken_as : (context : Context) (earlier : Draft) (item other : LineContent) (answer : LineResult) (next : Context) (later : Draft)

@@ -1,27 +1,19 @@
 -- In well-formed lines each row and column is declared before it is used.
-use Rattle.std.proofs.Common.{arith, ◌≡◌, refl, sym, subst, ◌∙◌, List, [], ◌∷◌, ◌++◌, ℕ, Bool, true, false, cond}
-use Rattle.std.{proofs.lemmas.List.Folds.list_all-append, specs.{Prelude.{Option, Some, None, ◌&&◌, not}, List.{list_all, flat_map}}}
-use Rattle.std.specs.Cmp.{first_so, second_so}
-use Rattle.mpslp_builder.specs.Declaration.{Declaration, declare_rhs, declare_range, declare_column, declare_coefficient, declare_marked}
-use Rattle.mpslp_builder.specs.Declaration.{Declarations, Draft, with_declaration, with_declarations, has_row, has_column, is_free_row}
-use Rattle.mpslp_builder.{specs.{Declaration.rhs_declared, Consistency.is_known}, proofs.RefusalLemmas.are_known_in_turn}
-use Rattle.mpslp_builder.proofs.{LaterDrafts.itself_named, SlotLemmas.has-put, MadeDrafts.with_declarations-append}
-use Rattle.mpslp_types.{specs.{Name.same_bytes, Lists.{those_of, is_nonempty, when}, declared.kinds.Limit.Limit}, proofs.BoolLemmas.both_so}
-use Rattle.mpslp_types.proofs.BoolLemmas.{or_left}
-use Rattle.mpslp_mps_fields.specs.Line.{Fields, LineContent, skipped, header, data_line, has, section_named, begins, is_section}
-use Rattle.mpslp_mps_fields.specs.DataLine.{Pair, ValuesLine, word_shape, row_shape, column_shape, is_marker_line, vector_shape, BoundLine}
-use Rattle.mpslp_mps_fields.specs.{DataLine.{bound_type, bound_shape}, declared.sections.Section.{Section, TheVariants.{Name, ObjSense}}}
-use Rattle.mpslp_mps_fields.specs.declared.sections.Section.TheVariants.{ObjName, Rows, Columns, Rhs, Ranges, Bounds, EndData}
-use Rattle.mpslp_mps_fields.specs.declared.bound_types.BoundType.{BoundType}
-use Rattle.mpslp_mps_fields.specs.declared.bound_types.BoundType.TheVariants as bounds
-use Rattle.mpslp_mps.specs.{Context.{Context, context_of, current_section}, SeenSection.has_section, LineDeclarations.declared_if_some}
-use Rattle.mpslp_mps.specs.LineDeclarations.{sense_declared, row_declared, coefficient_declared, column_declared, columns_line_declared}
-use Rattle.mpslp_mps.specs.LineDeclarations.{rhs_line_declared, ranges_declared, bound_declared, bound_value, bound_line_declared}
-use Rattle.mpslp_mps.specs.{LineDeclarations.{data_declared, header_declared, line_declares}, LineFault.header_tests}
-use Rattle.mpslp_mps.proofs.{ContextLineLemmas.{form_faults, declared_items, are_well_formed, no_faults}, SectionLemmas.has_section-push}
+use Rattle.mpslp_mps.proofs.Prelude
+use Prelude.{arith, ◌≡◌, refl, sym, subst, ◌∙◌, List, [], ◌∷◌, ◌++◌, ℕ, Bool, true, false, cond, list_all-append, Option, Some, None, ◌&&◌}
+use Prelude.{not, list_all, flat_map, first_so, second_so, Declaration, declare_rhs, declare_range, declare_column, declare_coefficient}
+use Prelude.{declare_marked, Declarations, Draft, with_declaration, with_declarations, has_row, has_column, is_free_row, rhs_declared}
+use Prelude.{is_known, are_known_in_turn, itself_named, has-put, with_declarations-append, same_bytes, those_of, is_nonempty, when, Limit}
+use Prelude.{both_so, or_left, Fields, LineContent, skipped, header, data_line, has, section_named, begins, is_section, Pair, ValuesLine}
+use Prelude.{word_shape, row_shape, column_shape, is_marker_line, vector_shape, BoundLine, bound_type, bound_shape, Section, Name, ObjSense}
+use Prelude.{ObjName, Rows, Columns, Rhs, Ranges, Bounds, EndData, BoundType, Context, context_of, current_section, has_section}
+use Prelude.{declared_if_some, sense_declared, row_declared, coefficient_declared, column_declared, columns_line_declared}
+use Prelude.{rhs_line_declared, ranges_declared, bound_declared, bound_value, bound_line_declared, data_declared, header_declared}
+use Prelude.{line_declares, header_tests, value_of}
+use Rattle.mpslp_mps.proofs.ContextLineLemmas.{form_faults, declared_items, are_well_formed, no_faults}
 use Rattle.mpslp_mps.proofs.OrderLemmas.{Past, past-rows, past-columns, IsGood, is_late, Ordered, ordered-push, declares_row}
-use Rattle.mpslp_mps.proofs.OrderLemmas.{declares_column, no_rows, no_columns, rows-kept, columns-kept}
-use Rattle.mpslp_lines.specs.FaultTests.{value_of}
+use Rattle.mpslp_mps.proofs.{OrderLemmas.{declares_column, no_rows, no_columns, rows-kept, columns-kept}, SectionLemmas.{has_section-push}}
+use Rattle.mpslp_mps_fields.specs.declared.bound_types.BoundType.TheVariants as bounds
 
 -- ---- no rows are declared after ROWS, and no columns after COLUMNS
 

@@ -1,19 +1,15 @@
 -- What well-formed lines declare has legal names and decimals.
-use Rattle.std.proofs.{Common.{arith, ◌≡◌, refl, ◌∙◌, List, [], ◌∷◌, ◌++◌, ℕ, Bool, true, false, cond}, lemmas.List.Folds.list_all-append}
-use Rattle.std.specs.{Prelude.{Option, Some, None}, List.{list_all, flat_map}}
-use Rattle.mpslp_types.{specs.{Limit.is_given, Lists.those_of, declared.kinds.Limit.Limit}, proofs.BoolLemmas.both_so}
-use Rattle.mpslp_builder.specs.{Declaration.{declare_rhs, Draft, with_declarations, is_free_row, rhs_declared}, Made.is_legal}
-use Rattle.mpslp_lines.{proofs.FieldLemmas.{name-legal, value-decimal, limit-given}, specs.FaultTests.{value_of, judged_by}}
-use Rattle.mpslp_mps_fields.specs.{Line.{Fields, LineContent, skipped, header, data_line, section_named}, DataLine.{RowLine, Pair}}
-use Rattle.mpslp_mps_fields.specs.DataLine.{ValuesLine, word_shape, row_shape, vector_shape, BoundLine, bound_type, bound_shape}
-use Rattle.mpslp_mps_fields.specs.declared.sections.Section.{Section, TheVariants.{Name, ObjSense, ObjName, Rows, Columns, Rhs, Ranges}}
-use Rattle.mpslp_mps_fields.specs.declared.{sections.Section.TheVariants.{Bounds, EndData}, bound_types.BoundType.BoundType}
-use Rattle.mpslp_mps.specs.{Context.{Context, context_of, current_section}, LineDeclarations.{declared_if_some, sense_declared}}
-use Rattle.mpslp_mps.specs.LineDeclarations.{row_declared, coefficient_declared, column_declared, columns_line_declared, rhs_line_declared}
-use Rattle.mpslp_mps.specs.LineDeclarations.{ranges_declared, bound_declared, bound_value, bound_line_declared, data_declared}
-use Rattle.mpslp_mps.specs.{LineDeclarations.{header_declared, line_declares}, LineFault.{row_line_tests, column_tests, columns_line_tests}}
-use Rattle.mpslp_mps.{specs.LineFault.data_tests, proofs.{ContextLineLemmas.{declared_items, are_well_formed}, OrderLemmas.IsGood}}
-use Rattle.mpslp_mps.proofs.{OrderLemmas.{each-declared, each-flat, each-mapped}, KnownLemmas.{good-first, good-rest}}
+use Rattle.mpslp_mps.proofs.Prelude
+use Prelude.{arith, ◌≡◌, refl, ◌∙◌, List, [], ◌∷◌, ◌++◌, ℕ, Bool, true, false, cond, list_all-append, Option, Some, None, list_all}
+use Prelude.{flat_map, is_given, those_of, Limit, both_so, declare_rhs, Draft, with_declarations, is_free_row, rhs_declared, is_legal}
+use Prelude.{name-legal, value-decimal, limit-given, value_of, judged_by, Fields, LineContent, skipped, header, data_line, section_named}
+use Prelude.{RowLine, Pair, ValuesLine, word_shape, row_shape, vector_shape, BoundLine, bound_type, bound_shape, Section, Name, ObjSense}
+use Prelude.{ObjName, Rows, Columns, Rhs, Ranges, Bounds, EndData, BoundType, Context, context_of, current_section, declared_if_some}
+use Prelude.{sense_declared, row_declared, coefficient_declared, column_declared, columns_line_declared, rhs_line_declared, ranges_declared}
+use Prelude.{bound_declared, bound_value, bound_line_declared, data_declared, header_declared, line_declares, row_line_tests, column_tests}
+use Prelude.{columns_line_tests, data_tests}
+use Rattle.mpslp_mps.proofs.{ContextLineLemmas.{declared_items, are_well_formed}, KnownLemmas.{good-first, good-rest}}
+use Rattle.mpslp_mps.proofs.OrderLemmas.{IsGood, each-declared, each-flat, each-mapped}
 
 -- ---- lines
 

@@ -1,18 +1,13 @@
 -- Bytes without a first error declare a model.
-use Rattle.std.proofs.Common.{◌≡◌, refl, sym, ap, subst, ◌∙◌, List, [], ◌∷◌, ◌++◌, ℕ, suc, ◌+◌, true, false, cond, map, arith, take}
-use Rattle.std.specs.{Prelude.{Option, None, is_some, ◌||◌, not}, List.{list_all, list_any, flat_map, position_or_len}, Option.option_map}
-use Rattle.std.specs.{Option.option_or, Str.Lines.lines}
-use Rattle.mpslp_builder.specs.{Declaration.{Declarations, Draft, with_declarations, empty_draft, draft_of}, Refusal.refusals_in_turn}
-use Rattle.mpslp_builder.{specs.{Made.is_legal, Meaning.model_of, FileFault.file_fault}, proofs.RefusalLemmas.join_none}
-use Rattle.mpslp_builder.proofs.{MadeDrafts.refusals_in_turn-append, Acceptance.means-from_none}
-use Rattle.mpslp_types.{specs.{Lists.is_nonempty, declared.faults.FaultKind.FaultKind}, proofs.BoolLemmas.{both_so, or_left, or_right}}
-use Rattle.mpslp_lines.{specs.FaultTests.fault_on_line, proofs.{FirstFaultLemmas.faultless, ObjectiveLemmas.objective-declared}}
-use Rattle.mpslp_lines.proofs.AnswerLemmas.{no_fault-unless}
-use Rattle.mpslp_mps_fields.specs.Line.{LineContent, content_of}
-use Rattle.mpslp_mps.specs.{Context.context_of, MpsText.{LineInContext, is_end, read_lines, has_end, declared_at, tests_at, is_well_formed}}
-use Rattle.mpslp_mps.specs.{MpsText.{lines_in_context_after, lines_in_context, declarations_of, DeclaresMps}, FirstFault.line_fault}
-use Rattle.mpslp_mps.specs.{FirstFault.{first_line_fault, whole_mps_fault, first_mps_fault}, Laws.DeclareUnlessFaulty}
-use Rattle.mpslp_mps.proofs.{ContextLineLemmas.{lines-declare, items-good}, LegalLemmas.lines-legal, ObjectiveLemmas.named-lines}
+use Rattle.mpslp_mps.proofs.Prelude
+use Prelude.{◌≡◌, refl, sym, ap, subst, ◌∙◌, List, [], ◌∷◌, ◌++◌, ℕ, suc, ◌+◌, true, false, cond, map, arith, take, Option, None, is_some}
+use Prelude.{◌||◌, not, list_all, list_any, flat_map, position_or_len, option_map, option_or, lines, Declarations, Draft, with_declarations}
+use Prelude.{empty_draft, draft_of, refusals_in_turn, is_legal, model_of, file_fault, join_none, refusals_in_turn-append, means-from_none}
+use Prelude.{is_nonempty, FaultKind, both_so, or_left, or_right, fault_on_line, faultless, objective-declared, no_fault-unless, LineContent}
+use Prelude.{content_of, context_of, LineInContext, is_end, read_lines, has_end, declared_at, tests_at, is_well_formed}
+use Prelude.{lines_in_context_after, lines_in_context, declarations_of, DeclaresMps, line_fault, first_line_fault, whole_mps_fault}
+use Prelude.{first_mps_fault, DeclareUnlessFaulty}
+use Rattle.mpslp_mps.proofs.{ContextLineLemmas.{lines-declare, items-good}, LegalLemmas.{lines-legal}, ObjectiveLemmas.{named-lines}}
 
 -- ---- lines without an error
 

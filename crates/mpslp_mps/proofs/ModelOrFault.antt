@@ -1,18 +1,13 @@
 -- Bytes that declare a model have no first error.
-use Rattle.std.{proofs.Common.{◌≡◌, refl, sym, ap, subst, ◌∙◌, List, [], ◌∷◌, ◌++◌, ℕ, ◌+◌, true, map}, specs.Prelude.{Option, None}}
-use Rattle.std.specs.{List.{list_all, flat_map}, Option.{option_map, option_or}, Cmp.{first_so, second_so}}
-use Rattle.mpslp_model_core.specs.Model.{LinearModel}
-use Rattle.mpslp_builder.specs.{Declaration.{Declarations, Draft, empty_draft, with_declarations, draft_of}, Refusal.refusals_in_turn}
-use Rattle.mpslp_builder.{specs.{Meaning.Means, FileFault.file_fault}, proofs.RefusalLemmas.{left_none, right_none}}
-use Rattle.mpslp_builder.proofs.{MadeDrafts.refusals_in_turn-append, Acceptance.none-from_means}
-use Rattle.mpslp_types.specs.{Lists.those_of, declared.faults.FaultKind.FaultKind}
-use Rattle.mpslp_lines.{specs.FaultTests.fault_on_line, proofs.{FirstFaultLemmas.no_fault, AnswerLemmas.model-or_fault as one_of_both}}
-use Rattle.mpslp_mps_fields.specs.Line.{LineContent, content_of}
-use Rattle.mpslp_mps.specs.{Context.context_of, MpsText.{LineInContext, read_lines, has_end, declared_at, tests_at, is_well_formed}}
-use Rattle.mpslp_mps.specs.{MpsText.{lines_in_context_after, lines_in_context, DeclaresMps}, FirstFault.{first_line_fault, whole_mps_fault}}
-use Rattle.mpslp_mps.{specs.{FirstFault.first_mps_fault, Laws.DeclareOrFail}, proofs.ContextLineLemmas.{declared_items, are_well_formed}}
-use Rattle.mpslp_mps.proofs.{ContextLineLemmas.{no_faults, lines-declare, items-good}, OrderLemmas.ordered-nil, KnownLemmas.known-lines}
-use Rattle.mpslp_mps.proofs.LegalLemmas.{lines-legal}
+use Rattle.mpslp_mps.proofs.Prelude
+use Prelude.{◌≡◌, refl, sym, ap, subst, ◌∙◌, List, [], ◌∷◌, ◌++◌, ℕ, ◌+◌, true, map, Option, None, list_all, flat_map, option_map}
+use Prelude.{option_or, first_so, second_so, LinearModel, Declarations, Draft, empty_draft, with_declarations, draft_of, refusals_in_turn}
+use Prelude.{Means, file_fault, left_none, right_none, refusals_in_turn-append, none-from_means, those_of, FaultKind, fault_on_line}
+use Prelude.{no_fault, one_of_both, LineContent, content_of, context_of, LineInContext, read_lines, has_end, declared_at, tests_at}
+use Prelude.{is_well_formed, lines_in_context_after, lines_in_context, DeclaresMps, first_line_fault, whole_mps_fault, first_mps_fault}
+use Prelude.{DeclareOrFail}
+use Rattle.mpslp_mps.proofs.ContextLineLemmas.{declared_items, are_well_formed, no_faults, lines-declare, items-good}
+use Rattle.mpslp_mps.proofs.{KnownLemmas.{known-lines}, LegalLemmas.{lines-legal}, OrderLemmas.{ordered-nil}}
 
 -- well-formed lines, none of whose declarations is rejected
 lines-no_fault : (n : ℕ) (lines : List (List ℕ)) (before : List LineContent) (earlier : Draft) → list_all is_well_formed (lines_in_context_after before earlier lines) ≡ true

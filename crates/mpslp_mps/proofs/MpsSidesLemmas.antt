@@ -1,23 +1,16 @@
 -- Lines of MPS text without an error declare right-hand sides only of declared rows that are not of type N.
-use Rattle.std.proofs.Common.{arith, rules, ◌≡◌, refl, sym, ap, subst, ◌∙◌, ℕ, List, [], ◌∷◌, Bool, true, false, cond}
-use Rattle.std.specs.{Prelude.{Option, Some, None, is_none}, List.{list_all, flat_map}, Option.option_map_or, Cmp.{first_so, second_so}}
-use Rattle.mpslp_types.specs.{Name.same_bytes, FaultOrder.least_kind, declared.kinds.RowType.{RowType, TheVariants.{Free, AtMost, AtLeast}}}
-use Rattle.mpslp_types.specs.declared.{kinds.RowType.TheVariants.Equal, faults.FaultKind.FaultKind}
-use Rattle.mpslp_builder.specs.Declaration.{RowDefinition, by_type, Declaration, declare_objective, declare_constant, declare_row}
-use Rattle.mpslp_builder.specs.Declaration.{declare_rhs, Declarations, Draft, with_declaration, with_declarations, has_row, is_free_row}
-use Rattle.mpslp_builder.{specs.Declaration.rhs_declared, proofs.{MadeDrafts.with_declarations-append, SlotLemmas.{at-put, has-put}}}
-use Rattle.mpslp_builder.proofs.SlotLemmas.{same_name}
-use Rattle.mpslp_mps_fields.specs.{Line.{Fields, LineContent, skipped, header, data_line, section_named}, DataLine.{RowLine, Pair}}
-use Rattle.mpslp_mps_fields.specs.{DataLine.{ValuesLine, word_shape, row_shape, row_type, vector_shape}, declared.sections.Section.Section}
-use Rattle.mpslp_mps_fields.specs.declared.sections.Section.TheVariants.{Name, ObjSense, ObjName, Rows, Columns, Rhs, Ranges, Bounds}
-use Rattle.mpslp_mps_fields.specs.declared.sections.Section.TheVariants.{EndData}
-use Rattle.mpslp_mps.specs.{Context.Context, LineDeclarations.{declared_if_some, sense_declared, is_new_objective, row_of_type}}
-use Rattle.mpslp_mps.specs.LineDeclarations.{row_declared, columns_line_declared, rhs_line_declared, ranges_declared, bound_line_declared}
-use Rattle.mpslp_mps.specs.{LineDeclarations.{data_declared, header_declared, line_declares}, LineAnswer.item_fault}
-use Rattle.mpslp_mps.{specs.VectorDeclared.HasMpsSides, proofs.{ContextLineLemmas.form_faults, OrderLemmas.sense-passes}}
+use Rattle.mpslp_mps.proofs.Prelude
+use Prelude.{arith, rules, ◌≡◌, refl, sym, ap, subst, ◌∙◌, ℕ, List, [], ◌∷◌, Bool, true, false, cond, Option, Some, None, is_none, list_all}
+use Prelude.{flat_map, option_map_or, first_so, second_so, same_bytes, least_kind, RowType, Free, AtMost, AtLeast, Equal, FaultKind}
+use Prelude.{RowDefinition, by_type, Declaration, declare_objective, declare_constant, declare_row, declare_rhs, Declarations, Draft}
+use Prelude.{with_declaration, with_declarations, has_row, is_free_row, rhs_declared, with_declarations-append, at-put, has-put, same_name}
+use Prelude.{Fields, LineContent, skipped, header, data_line, section_named, RowLine, Pair, ValuesLine, word_shape, row_shape, row_type}
+use Prelude.{vector_shape, Section, Name, ObjSense, ObjName, Rows, Columns, Rhs, Ranges, Bounds, EndData, Context, declared_if_some}
+use Prelude.{sense_declared, is_new_objective, row_of_type, row_declared, columns_line_declared, rhs_line_declared, ranges_declared}
+use Prelude.{bound_line_declared, data_declared, header_declared, line_declares, item_fault, HasMpsSides, value_of, declaring_faults}
+use Prelude.{declared_fault, earlier_of, least-append, declared-append}
+use Rattle.mpslp_mps.proofs.{ContextLineLemmas.{form_faults}, OrderLemmas.{sense-passes}}
 use Rattle.mpslp_mps.proofs.RhsLemmas.{side_kind, limited, side_fault, same_free, sides-after}
-use Rattle.mpslp_lines.{specs.{FaultTests.value_of, Declaring.{declaring_faults, declared_fault}}, proofs.LeastLemmas.earlier_of}
-use Rattle.mpslp_lines.proofs.{LeastLemmas.least-append, RefusedLemmas.declared-append}
 
 both_none : (o p : Option FaultKind) → earlier_of o p ≡ None → (o ≡ None) × (p ≡ None)
 both_none o p h = grind arith

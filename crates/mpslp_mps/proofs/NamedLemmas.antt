@@ -1,14 +1,10 @@
 -- After lines without an error, the last of which is that of ENDATA, the objective has a name.
-use Rattle.std.{proofs.Common.{arith, ◌≡◌, refl, sym, ap, ◌∙◌, ℕ, ◌+◌, List, [], ◌∷◌, Bool, true, false}, specs.Prelude.{◌||◌, Option}}
-use Rattle.std.specs.{Prelude.{None, is_some}, List.list_any, Option.{option_map, option_or}}
-use Rattle.mpslp_builder.specs.Declaration.{Draft, with_declarations}
-use Rattle.mpslp_types.specs.declared.faults.{Fault.Fault, FaultKind.FaultKind}
-use Rattle.mpslp_lines.{proofs.ObjectiveLemmas.named-after, specs.FaultTests.fault_on_line}
-use Rattle.mpslp_mps_fields.specs.{Line.{LineContent, content_of, has, begins}, declared.sections.Section.TheVariants.{Columns, EndData}}
-use Rattle.mpslp_mps.specs.{Context.Context, NextContext.next_context, LineDeclarations.line_declares, MpsText.is_end}
-use Rattle.mpslp_mps.specs.{LineAnswer.item_fault, FirstFault.line_fault, LineByLine.{placed_in, context_after, draft_after, fault_from}}
-use Rattle.mpslp_mps.{specs.{LineByLine.draft_from, ReadAnswer.lines_to_end}, proofs.{SectionLemmas.has-more, EndLemmas.up_to_end-last}}
-use Rattle.mpslp_mps.proofs.{EndLemmas.up_to_end-more, LoopLemmas.no-item}
+use Rattle.mpslp_mps.proofs.Prelude
+use Prelude.{arith, ◌≡◌, refl, sym, ap, ◌∙◌, ℕ, ◌+◌, List, [], ◌∷◌, Bool, true, false, ◌||◌, Option, None, is_some, list_any, option_map}
+use Prelude.{option_or, Draft, with_declarations, Fault, FaultKind, named-after, fault_on_line, LineContent, content_of, has, begins}
+use Prelude.{Columns, EndData, Context, next_context, line_declares, is_end, item_fault, line_fault, placed_in, context_after, draft_after}
+use Prelude.{fault_from, draft_from, lines_to_end}
+use Rattle.mpslp_mps.proofs.{EndLemmas.{up_to_end-last, up_to_end-more}, LoopLemmas.{no-item}, SectionLemmas.{has-more}}
 
 -- once COLUMNS has begun, the objective exists
 abbrev pub HasName : Context → Draft → Type 0

@@ -1,14 +1,11 @@
 -- By ENDATA the objective is declared: by an N row, or by the header of COLUMNS.
-use Rattle.std.proofs.{Common.{arith, ◌≡◌, refl, ap, ◌∙◌, List, [], ◌∷◌, ◌++◌, ℕ, true, false, map}, lemmas.Bool.false≢true}
-use Rattle.std.specs.{Prelude.{Option, is_some, ◌||◌}, List.list_any}
-use Rattle.mpslp_builder.{specs.Declaration.{Draft, with_declarations}, proofs.MadeDrafts.with_declarations-append}
-use Rattle.mpslp_types.specs.Lists.{those_of}
-use Rattle.mpslp_lines.proofs.ObjectiveLemmas.{named-after}
-use Rattle.mpslp_mps_fields.specs.Line.{Fields, LineContent, skipped, header, data_line, content_of, has, section_named, begins, is_section}
-use Rattle.mpslp_mps_fields.specs.declared.sections.Section.{Section, TheVariants.{Columns, EndData}}
-use Rattle.mpslp_mps.specs.{Context.{Context, context_of}, SeenSection.has_section, LineDeclarations.{header_declared, line_declares}}
-use Rattle.mpslp_mps.{specs.{LineFault.header_tests, MpsText.is_end}, proofs.SectionLemmas.has_section-push}
-use Rattle.mpslp_mps.proofs.{ContextLineLemmas.{declared_items, are_well_formed}, OrderLemmas.IsGood, KnownLemmas.{good-first, good-rest}}
+use Rattle.mpslp_mps.proofs.Prelude
+use Prelude.{arith, ◌≡◌, refl, ap, ◌∙◌, List, [], ◌∷◌, ◌++◌, ℕ, true, false, map, false≢true, Option, is_some, ◌||◌, list_any, Draft}
+use Prelude.{with_declarations, with_declarations-append, those_of, named-after, Fields, LineContent, skipped, header, data_line}
+use Prelude.{content_of, has, section_named, begins, is_section, Section, Columns, EndData, Context, context_of, has_section}
+use Prelude.{header_declared, line_declares, header_tests, is_end}
+use Rattle.mpslp_mps.proofs.{ContextLineLemmas.{declared_items, are_well_formed}, KnownLemmas.{good-first, good-rest}, OrderLemmas.{IsGood}}
+use Rattle.mpslp_mps.proofs.SectionLemmas.{has_section-push}
 
 -- once COLUMNS has begun, the objective exists
 abbrev pub IsNamed : List LineContent → Draft → Type 0

@@ -1,20 +1,14 @@
 -- The order of sections in well-formed lines, and so the lines in which rows and columns are declared.
-use Rattle.std.proofs.{Common.{arith, ◌≡◌, refl, ◌∙◌, List, [], ◌∷◌, ◌++◌, ℕ, Bool, true, false, map}, lemmas.Bool.false≢true}
-use Rattle.std.{proofs.lemmas.List.Folds.list_all-append, specs.{Prelude.{Option, Some, None, ◌||◌, not}, List.{list_all, flat_map}}}
-use Rattle.std.specs.{Option.option_or, Cmp.{first_so, second_so}}
-use Rattle.mpslp_decimal.specs.Decimal.{Number}
-use Rattle.mpslp_builder.specs.Declaration.{Declaration, declare_sense, declare_objective, declare_row, declare_rhs, declare_range}
-use Rattle.mpslp_builder.specs.Declaration.{declare_column, Declarations, Draft, with_declaration, with_declarations, has_row, has_column}
-use Rattle.mpslp_types.{specs.{Lists.those_of, declared.kinds.Sense.Sense}, proofs.BoolLemmas.{both_so, or_left}}
+use Rattle.mpslp_mps.proofs.Prelude
+use Prelude.{arith, ◌≡◌, refl, ◌∙◌, List, [], ◌∷◌, ◌++◌, ℕ, Bool, true, false, map, false≢true, list_all-append, Option, Some, None, ◌||◌}
+use Prelude.{not, list_all, flat_map, option_or, first_so, second_so, Number, Declaration, declare_sense, declare_objective, declare_row}
+use Prelude.{declare_rhs, declare_range, declare_column, Declarations, Draft, with_declaration, with_declarations, has_row, has_column}
+use Prelude.{those_of, Sense, both_so, or_left, first_test, later_tests, value_of, FaultTests, Fields, LineContent, has, is_section}
+use Prelude.{may_follow, Pair, word_shape, sense_of, vector_shape, Section, Rows, Columns, Rhs, Ranges, Bounds, Context, context_of}
+use Prelude.{current_section, has_section, declared_if_some, sense_declared, rhs_line_declared, ranges_declared, may_begin, is_out_of_order}
+use Prelude.{lacks_objective, section_tests, header_tests}
+use Rattle.mpslp_mps.proofs.{ContextLineLemmas.{form_faults}, SectionLemmas.{current_section-push, has_section-push}}
 use Rattle.mpslp_types.specs.declared.faults.FaultKind.TheVariants as kinds
-use Rattle.mpslp_lines.{proofs.HeldLemmas.{first_test, later_tests}, specs.FaultTests.{value_of, FaultTests}}
-use Rattle.mpslp_mps_fields.specs.{Line.{Fields, LineContent, has, is_section, may_follow}, DataLine.{Pair, word_shape, sense_of}}
-use Rattle.mpslp_mps_fields.specs.{DataLine.vector_shape, declared.sections.Section.{Section, TheVariants.{Rows, Columns, Rhs, Ranges}}}
-use Rattle.mpslp_mps_fields.specs.declared.sections.Section.TheVariants.{Bounds}
-use Rattle.mpslp_mps.specs.{Context.{Context, context_of, current_section}, SeenSection.has_section, LineDeclarations.declared_if_some}
-use Rattle.mpslp_mps.specs.{LineDeclarations.{sense_declared, rhs_line_declared, ranges_declared}, LineFault.{may_begin, is_out_of_order}}
-use Rattle.mpslp_mps.{specs.LineFault.{lacks_objective, section_tests, header_tests}, proofs.ContextLineLemmas.form_faults}
-use Rattle.mpslp_mps.proofs.SectionLemmas.{current_section-push, has_section-push}
 
 -- ---- well-formed headers
 

@@ -1,13 +1,10 @@
 -- The first error of the ranges of a line.
-use Rattle.std.{proofs.Common.{arith, ◌≡◌, refl, ap, ◌∙◌, ℕ, List, [], ◌∷◌, Bool, true, false, not, cond}, specs.Prelude.{◌||◌, Option}}
-use Rattle.std.specs.Prelude.{Some, None, MatchResult}
-use Rattle.mpslp_decimal.specs.Decimal.{Number, is_infinite_size}
-use Rattle.mpslp_types.specs.{Name.same_bytes, declared.faults.FaultKind.FaultKind}
+use Rattle.mpslp_mps.proofs.Prelude
+use Prelude.{arith, ◌≡◌, refl, ap, ◌∙◌, ℕ, List, [], ◌∷◌, Bool, true, false, cond, ◌||◌, Option, Some, None, MatchResult, Number}
+use Prelude.{is_infinite_size, same_bytes, FaultKind, declare_range, Draft, with_declaration, has_name, has_row, is_objective, is_free_row}
+use Prelude.{is_row_by_limits, has-put, same_name, declared_fault, LineResult, IsErrorOf, earlier_of, declared-one, declared-append}
+use Rattle.std.proofs.Common.{not}
 use Rattle.mpslp_types.specs.declared.faults.FaultKind.TheVariants as kinds
-use Rattle.mpslp_builder.specs.Declaration.{declare_range, Draft, with_declaration, has_name, has_row, is_objective, is_free_row}
-use Rattle.mpslp_builder.{specs.Declaration.is_row_by_limits, proofs.SlotLemmas.{has-put, same_name}}
-use Rattle.mpslp_lines.{specs.{Declaring.declared_fault, LineAnswer.{LineResult, IsErrorOf}}, proofs.LeastLemmas.earlier_of}
-use Rattle.mpslp_lines.proofs.RefusedLemmas.{declared-one, declared-append}
 
 -- the kind of the error, by whether the row exists, has a range, cannot have one, and whether the value is infinite
 abbrev range_kind : Bool → Bool → Bool → Bool → Option FaultKind

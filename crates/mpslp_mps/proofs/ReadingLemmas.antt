@@ -1,13 +1,10 @@
 -- A context and a draft determine for later lines what all the lines before determine.
-use Rattle.std.{proofs.Common.{◌≡◌, refl, ap, ◌∙◌, ℕ, ◌+◌, List, [], ◌∷◌, ◌++◌}, specs.{Prelude.Option, List.flat_map, Option.option_map}}
-use Rattle.std.specs.Option.{option_or}
-use Rattle.mpslp_builder.{specs.Declaration.{Draft, empty_draft, with_declarations, draft_of}, proofs.MadeDrafts.with_declarations-append}
-use Rattle.mpslp_types.specs.declared.faults.Fault.{Fault}
-use Rattle.mpslp_mps_fields.specs.Line.{LineContent, content_of}
-use Rattle.mpslp_mps.specs.{Context.{Context, context_of}, LineDeclarations.line_declares, MpsText.{read_lines, declared_at}}
-use Rattle.mpslp_mps.specs.{MpsText.{lines_in_context_after, declarations_of}, FirstFault.{line_fault, first_line_fault, whole_mps_fault}}
-use Rattle.mpslp_mps.{specs.{FirstFault.first_mps_fault, LineByLine.{placed_in, fault_from, draft_from}}, proofs.ContextLemmas.context-push}
-use Rattle.mpslp_lines.specs.FaultTests.{fault_on_line}
+use Rattle.mpslp_mps.proofs.Prelude
+use Prelude.{◌≡◌, refl, ap, ◌∙◌, ℕ, ◌+◌, List, [], ◌∷◌, ◌++◌, Option, flat_map, option_map, option_or, Draft, empty_draft}
+use Prelude.{with_declarations, draft_of, with_declarations-append, Fault, LineContent, content_of, Context, context_of, line_declares}
+use Prelude.{read_lines, declared_at, lines_in_context_after, declarations_of, line_fault, first_line_fault, whole_mps_fault}
+use Prelude.{first_mps_fault, placed_in, fault_from, draft_from, fault_on_line}
+use Rattle.mpslp_mps.proofs.ContextLemmas.{context-push}
 
 pub fault_from-is : (lines : List (List ℕ)) (n : ℕ) (before : List LineContent) (earlier : Draft)
     → first_line_fault n (lines_in_context_after before earlier lines) ≡ fault_from n (context_of before) earlier lines

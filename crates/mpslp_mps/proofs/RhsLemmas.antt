@@ -1,14 +1,11 @@
 -- The first error of the right-hand sides of a line.
-use Rattle.std.proofs.Common.{arith, rules, ◌≡◌, refl, sym, ap, ◌∙◌, ℕ, List, [], ◌∷◌, ◌++◌, Bool, true, false, not, cond}
-use Rattle.std.specs.Prelude.{◌&&◌, ◌||◌, Option, Some, None, is_some, MatchResult}
-use Rattle.mpslp_decimal.specs.Decimal.{Number}
-use Rattle.mpslp_types.specs.{Name.same_bytes, declared.faults.FaultKind.FaultKind}
+use Rattle.mpslp_mps.proofs.Prelude
+use Prelude.{arith, rules, ◌≡◌, refl, sym, ap, ◌∙◌, ℕ, List, [], ◌∷◌, ◌++◌, Bool, true, false, cond, ◌&&◌, ◌||◌, Option, Some, None}
+use Prelude.{is_some, MatchResult, Number, same_bytes, FaultKind, declare_rhs, Draft, with_declaration, with_declarations, has_name}
+use Prelude.{has_row, is_objective, is_free_row, is_row_by_limits, rhs_declared, has-put, same_name, declared_fault, LineResult, IsErrorOf}
+use Prelude.{LineError, earlier_of, declared-append, HasMpsSides}
+use Rattle.std.proofs.Common.{not}
 use Rattle.mpslp_types.specs.declared.faults.FaultKind.TheVariants as kinds
-use Rattle.mpslp_builder.specs.Declaration.{declare_rhs, Draft, with_declaration, with_declarations, has_name, has_row, is_objective}
-use Rattle.mpslp_builder.{specs.Declaration.{is_free_row, is_row_by_limits, rhs_declared}, proofs.SlotLemmas.{has-put, same_name}}
-use Rattle.mpslp_lines.specs.{Declaring.declared_fault, LineAnswer.{LineResult, IsErrorOf}, declared.errors.LineError.LineError}
-use Rattle.mpslp_lines.proofs.{LeastLemmas.earlier_of, RefusedLemmas.declared-append}
-use Rattle.mpslp_mps.specs.VectorDeclared.{HasMpsSides}
 
 -- ---- one right-hand side
 

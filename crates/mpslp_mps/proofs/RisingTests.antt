@@ -1,15 +1,11 @@
 -- The tests of a line are in the order of kinds.
-use Rattle.std.{proofs.Common.{arith, ◌≡◌, refl, ℕ, List, [], ◌∷◌, Bool, true, false, cond}, specs.Prelude.{not, is_some, Option, Some}}
-use Rattle.std.specs.Prelude.{None}
-use Rattle.mpslp_builder.specs.Declaration.{Draft}
+use Rattle.mpslp_mps.proofs.Prelude
+use Prelude.{arith, ◌≡◌, refl, ℕ, List, [], ◌∷◌, Bool, true, false, cond, not, is_some, Option, Some, None, Draft, Fields, LineContent}
+use Prelude.{word_shape, row_shape, column_shape, is_marker_line, marker_shape, vector_shape, bound_type, BoundType, Section, Name}
+use Prelude.{ObjSense, ObjName, Rows, Columns, Rhs, Ranges, Bounds, EndData, item_tests, header_tests, word_tests, row_line_tests}
+use Prelude.{is_sos_marker, marker_tests, marker_word_tests, typed_bound_tests, column_tests, vector_tests, data_tests, Context, FaultTests}
+use Prelude.{judged_by, are_rising}
 use Rattle.mpslp_types.specs.declared.faults.FaultKind.TheVariants as kinds
-use Rattle.mpslp_mps_fields.specs.{Line.{Fields, LineContent}, DataLine.{word_shape, row_shape, column_shape, is_marker_line, marker_shape}}
-use Rattle.mpslp_mps_fields.specs.{DataLine.{vector_shape, bound_type}, declared.bound_types.BoundType.BoundType}
-use Rattle.mpslp_mps_fields.specs.declared.sections.Section.{Section, TheVariants.{Name, ObjSense, ObjName, Rows, Columns, Rhs, Ranges}}
-use Rattle.mpslp_mps_fields.specs.declared.sections.Section.TheVariants.{Bounds, EndData}
-use Rattle.mpslp_mps.specs.LineFault.{item_tests, header_tests, word_tests, row_line_tests, is_sos_marker, marker_tests, marker_word_tests}
-use Rattle.mpslp_mps.specs.{LineFault.{typed_bound_tests, column_tests, vector_tests, data_tests}, Context.Context}
-use Rattle.mpslp_lines.{specs.FaultTests.{FaultTests, judged_by}, proofs.LeastLemmas.are_rising}
 
 -- tests in the order of kinds, after those of the length and the bytes of a line
 abbrev pub AreRising : FaultTests → Type 0

@@ -1,9 +1,8 @@
 -- How one more line changes what is known of the lines before.
-use Rattle.std.proofs.{Common.{arith, ◌≡◌, refl, sym, ap, ◌∙◌, List, [], ◌∷◌, ◌++◌, append_assoc, Bool, false}, lemmas.List.append-nil}
-use Rattle.std.{proofs.lemmas.List.{Elements.filter_map-append, Folds.list_any-append}, specs.Prelude.{Option, Some, None, ◌||◌}}
-use Rattle.std.specs.{List.{last_or, cons_option}, Option.option_or}
-use Rattle.mpslp_mps_fields.specs.{Line.{LineContent, section_of_header, begins, is_section, has}, declared.sections.Section.Section}
-use Rattle.mpslp_mps.specs.{Context.{section_after, current_section, fields_under, said_after, data_lines}, SeenSection.has_section}
+use Rattle.mpslp_mps.proofs.Prelude
+use Prelude.{arith, ◌≡◌, refl, sym, ap, ◌∙◌, List, [], ◌∷◌, ◌++◌, append_assoc, Bool, false, append-nil, filter_map-append, list_any-append}
+use Prelude.{Option, Some, None, ◌||◌, last_or, cons_option, option_or, LineContent, section_of_header, begins, is_section, has, Section}
+use Prelude.{section_after, current_section, fields_under, said_after, data_lines, has_section}
 
 pub last_or-append : {X : Type 0} (o : Option X) (xs ys : List X) → last_or o (xs ++ ys) ≡ last_or (last_or o xs) ys
 last_or-append o [] ys = refl

@@ -1,14 +1,10 @@
 -- What a line of a known shape does to the context, as `next_context` defines.
-use Rattle.std.{proofs.{Common.{arith, ◌≡◌, ℕ, List, [], ◌∷◌, ◌++◌, Bool, true, false, cond}, lemmas.List.append-nil}, specs.Prelude.Option}
-use Rattle.std.specs.{Prelude.{Some, None}, Option.{option_map, option_or}}
-use Rattle.mpslp_decimal.specs.Decimal.{Number}
-use Rattle.mpslp_types.specs.Name.{same_bytes}
-use Rattle.mpslp_mps_fields.specs.{Line.{Fields, header, data_line, is_section, section_named, section_of_word_due}, DataLine.word_shape}
-use Rattle.mpslp_mps_fields.specs.DataLine.{column_shape, is_marker_line, marker_shape, opening_word, vector_shape, BoundLine, bound_type}
-use Rattle.mpslp_mps_fields.specs.{DataLine.bound_shape, ObjNameHeader.header_objname, declared.bound_types.BoundType.BoundType}
-use Rattle.mpslp_mps_fields.specs.declared.sections.Section.{Section, TheVariants.{ObjName, Columns, Rhs, Ranges, Bounds}}
-use Rattle.mpslp_mps.specs.{Context.{Context, line_column, vector_set, bound_set}, NextContext.{next_part, next_set, next_context}}
-use Rattle.mpslp_mps.specs.{LineValues.named_values, ContextStep.{after_header, after_objname, after_marker, after_column, after_set}}
+use Rattle.mpslp_mps.proofs.Prelude
+use Prelude.{arith, ◌≡◌, ℕ, List, [], ◌∷◌, ◌++◌, Bool, true, false, cond, append-nil, Option, Some, None, option_map, option_or, Number}
+use Prelude.{same_bytes, Fields, header, data_line, is_section, section_named, section_of_word_due, word_shape, column_shape}
+use Prelude.{is_marker_line, marker_shape, opening_word, vector_shape, BoundLine, bound_type, bound_shape, header_objname, BoundType}
+use Prelude.{Section, ObjName, Columns, Rhs, Ranges, Bounds, Context, line_column, vector_set, bound_set, next_part, next_set, next_context}
+use Prelude.{named_values, after_header, after_objname, after_marker, after_column, after_set}
 
 -- a line that gives nothing leaves what is known unchanged
 same-option : {X : Type 0} (o : Option X) → option_or o None ≡ o

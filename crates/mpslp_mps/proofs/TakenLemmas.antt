@@ -1,17 +1,12 @@
 -- The first error of a data line, by its section.
-use Rattle.std.{proofs.Common.{arith, ◌≡◌, refl, ap, ◌∙◌, ℕ, List, [], ◌∷◌, ◌++◌, true, false, map}, specs.Prelude.{Option, Some, None}}
-use Rattle.std.specs.{List.{list_all, flat_map}, Option.option_map}
-use Rattle.mpslp_decimal.specs.Decimal.{Number}
-use Rattle.mpslp_builder.specs.Declaration.{Declarations, Draft, declare_range, rhs_declared}
-use Rattle.mpslp_types.specs.{Lists.those_of, FaultOrder.least_kind, declared.faults.FaultKind.FaultKind}
+use Rattle.mpslp_mps.proofs.Prelude
+use Prelude.{arith, ◌≡◌, refl, ap, ◌∙◌, ℕ, List, [], ◌∷◌, ◌++◌, true, false, map, Option, Some, None, list_all, flat_map, option_map}
+use Prelude.{Number, Declarations, Draft, declare_range, rhs_declared, those_of, least_kind, FaultKind, Fields, data_line, Pair, ValuesLine}
+use Prelude.{Section, Context, declared_if_some, rhs_line_declared, ranges_declared, data_declared, vector_tests, bound_line_tests}
+use Prelude.{data_tests, item_fault, row_value, named_values, rhs_values_declared, ranges_of, value_of, FaultTests, judged_by, first_held}
+use Prelude.{declaring_faults, declared_fault, is_from, has_kind_clash, form-first, is_after_clash, clash-first, declared-first, held-among}
+use Rattle.mpslp_mps.proofs.RisingTests.{data-rising}
 use Rattle.mpslp_types.specs.declared.faults.FaultKind.TheVariants as kinds
-use Rattle.mpslp_mps_fields.specs.{Line.{Fields, data_line}, DataLine.{Pair, ValuesLine}, declared.sections.Section.Section}
-use Rattle.mpslp_mps.specs.{Context.Context, LineDeclarations.{declared_if_some, rhs_line_declared, ranges_declared, data_declared}}
-use Rattle.mpslp_mps.specs.{LineFault.{vector_tests, bound_line_tests, data_tests}, LineAnswer.item_fault, LineValues.row_value}
-use Rattle.mpslp_mps.{specs.{LineValues.named_values, VectorDeclared.{rhs_values_declared, ranges_of}}, proofs.RisingTests.data-rising}
-use Rattle.mpslp_lines.specs.{FaultTests.{value_of, FaultTests, judged_by, first_held}, Declaring.{declaring_faults, declared_fault}}
-use Rattle.mpslp_lines.proofs.{LeastLemmas.is_from, ClashLemmas.has_kind_clash, FirstFaultLemmas.{form-first, is_after_clash, clash-first}}
-use Rattle.mpslp_lines.proofs.{FirstFaultLemmas.declared-first, HeldLemmas.held-among}
 
 -- all kinds of the tests come before those of what is declared
 abbrev pub are_early : FaultTests → Type 0

@@ -1,9 +1,8 @@
 -- What the lines of a text determine together.
-use Rattle.std.{proofs.Common.{arith, ◌≡◌, sym, ℕ, List, [], Bool, cond}, specs.{Prelude.{Option, Some, None}, Str.Lines.lines}}
-use Rattle.mpslp_builder.specs.{Declaration.{Draft, empty_draft, draft_of}, FileFault.{whole_fault, file_fault}}
-use Rattle.mpslp_types.specs.declared.faults.{Fault.Fault, FaultKind.TheVariants.MissingEnd}
-use Rattle.mpslp_mps.specs.{Context.context_of, MpsText.{has_end, declarations_of}, FirstFault.first_mps_fault, LineByLine.fault_from}
-use Rattle.mpslp_mps.{specs.{LineByLine.draft_from, ReadAnswer.lines_to_end}, proofs.ReadingLemmas.{first_fault-is, draft-is}}
+use Rattle.mpslp_mps.proofs.Prelude
+use Prelude.{arith, ◌≡◌, sym, ℕ, List, [], Bool, cond, Option, Some, None, lines, Draft, empty_draft, draft_of, whole_fault, file_fault}
+use Prelude.{Fault, MissingEnd, context_of, has_end, declarations_of, first_mps_fault, fault_from, draft_from, lines_to_end}
+use Rattle.mpslp_mps.proofs.ReadingLemmas.{first_fault-is, draft-is}
 
 -- the error of the first line that has one
 abbrev pub fault_of_lines : List ℕ → Option Fault

@@ -1,21 +1,15 @@
 -- A line of COLUMNS whose declarations are made has no error.
-use Rattle.std.{proofs.Common.{arith, rules, ◌≡◌, refl, sym, ap, ◌∙◌, ℕ, List, [], ◌∷◌, Bool, true, false, cond, map}, specs.Prelude.not}
-use Rattle.std.specs.{Prelude.{Option, Some, None, Result, Ok, Err, ◌&&◌}, List.flat_map, Option.{option_map, option_map_or}}
-use Rattle.mpslp_decimal.specs.Decimal.{Number}
-use Rattle.mpslp_types.specs.{Name.{same_bytes, is_mps_name}, FaultOrder.least_kind, declared.faults.BuildFault.BuildFault}
-use Rattle.mpslp_types.specs.declared.faults.FaultKind.TheVariants as kinds
-use Rattle.mpslp_builder.specs.Declaration.{Draft, declare_coefficient, with_declaration, with_declarations, has_column, is_semi}
-use Rattle.mpslp_builder.specs.{Refusal.refusals_in_turn, Made.IsMade, ColumnLine.{column_line, TakesLine}}
-use Rattle.mpslp_builder.proofs.{AnswerLemmas.column_is_legal, MadeDrafts.with_declarations-append, LaterDrafts.objective_is}
-use Rattle.mpslp_lines.specs.{Declaring.declared_fault, FaultTests.{kind_of_build_fault, judged_by, first_held, number_tests}}
-use Rattle.mpslp_lines.{specs.declared.errors.LineError.LineError, proofs.{LeastLemmas.earlier_of, DeclaringLemmas.declared-after}}
-use Rattle.mpslp_mps_fields.specs.{Line.{Fields, data_line}, DataLine.{ValuesLine, column_shape, is_marker_line}}
-use Rattle.mpslp_mps_fields.specs.declared.sections.Section.TheVariants.{Columns}
-use Rattle.mpslp_mps.specs.{Context.Context, ContextStep.{after_column, after_data}, LineFault.{is_split, literals_of}}
-use Rattle.mpslp_mps.specs.{LineValues.named_values, LineAnswer.{item_fault, ReadsContent, MayRead}, ColumnDeclared.front_declared}
-use Rattle.mpslp_mps.specs.{ColumnDeclared.value_declared, UsualLine.{usual_declared, TakesUsual, MayPass}}
-use Rattle.mpslp_mps.proofs.{ColumnTaking.{front-none, front-there}, ColumnLine.{field_tests, with_column, column-fault, column-declares}}
+use Rattle.mpslp_mps.proofs.Prelude
+use Prelude.{arith, rules, ◌≡◌, refl, sym, ap, ◌∙◌, ℕ, List, [], ◌∷◌, Bool, true, false, cond, map, not, Option, Some, None, Result, Ok}
+use Prelude.{Err, ◌&&◌, flat_map, option_map, option_map_or, Number, same_bytes, is_mps_name, least_kind, BuildFault, Draft}
+use Prelude.{declare_coefficient, with_declaration, with_declarations, has_column, is_semi, refusals_in_turn, IsMade, column_line}
+use Prelude.{TakesLine, column_is_legal, with_declarations-append, objective_is, declared_fault, kind_of_build_fault, judged_by, first_held}
+use Prelude.{number_tests, LineError, earlier_of, declared-after, Fields, data_line, ValuesLine, column_shape, is_marker_line, Columns}
+use Prelude.{Context, after_column, after_data, is_split, literals_of, named_values, item_fault, ReadsContent, MayRead, front_declared}
+use Prelude.{value_declared, usual_declared, TakesUsual, MayPass}
+use Rattle.mpslp_mps.proofs.{ColumnLine.{field_tests, with_column, column-fault, column-declares}, ColumnTaking.{front-none, front-there}}
 use Rattle.mpslp_mps.proofs.StepLemmas.{step-column}
+use Rattle.mpslp_types.specs.declared.faults.FaultKind.TheVariants as kinds
 
 -- ---- the name of the column
 

@@ -1,15 +1,11 @@
 -- A line of COLUMNS without an error passes each test of the code that reads usual lines.
-use Rattle.std.{proofs.Common.{arith, ◌≡◌, refl, sym, ap, ◌∙◌, ℕ, List, [], ◌∷◌, Bool, true, false, cond, not}, specs.Prelude.{◌≢◌, ◌&&◌}}
-use Rattle.std.specs.{Prelude.{Option, Some, None, Result, Ok}, Option.{option_map, option_map_or}}
-use Rattle.mpslp_decimal.specs.Decimal.{Number}
-use Rattle.mpslp_types.specs.{Name.same_bytes, NameTests.name_refusal, Lists.those_of}
-use Rattle.mpslp_builder.specs.{Declaration.{Draft, has_column}, Refusal.refusals_in_turn}
-use Rattle.mpslp_lines.{specs.FaultTests.{FaultTests, judged_by, first_held, number_tests}, proofs.FirstFaultLemmas.IsFaultless}
-use Rattle.mpslp_lines.proofs.FirstFaultLemmas.{faultless}
-use Rattle.mpslp_mps_fields.specs.{Line.{Fields, data_line}, DataLine.{ValuesLine, column_shape, is_marker_line}}
-use Rattle.mpslp_mps_fields.specs.declared.sections.Section.TheVariants.{Columns}
-use Rattle.mpslp_mps.specs.{Context.Context, LineFault.{is_split, literals_of, column_tests, data_tests}, LineDeclarations.data_declared}
-use Rattle.mpslp_mps.specs.{LineDeclarations.line_declares, LineValues.named_values, LineAnswer.item_fault, UsualLine.usual_declared}
+use Rattle.mpslp_mps.proofs.Prelude
+use Prelude.{arith, ◌≡◌, refl, sym, ap, ◌∙◌, ℕ, List, [], ◌∷◌, Bool, true, false, cond, ◌≢◌, ◌&&◌, Option, Some, None, Result, Ok}
+use Prelude.{option_map, option_map_or, Number, same_bytes, name_refusal, those_of, Draft, has_column, refusals_in_turn, FaultTests}
+use Prelude.{judged_by, first_held, number_tests, IsFaultless, faultless, Fields, data_line, ValuesLine, column_shape, is_marker_line}
+use Prelude.{Columns, Context, is_split, literals_of, column_tests, data_tests, data_declared, line_declares, named_values, item_fault}
+use Prelude.{usual_declared}
+use Rattle.std.proofs.Common.{not}
 use Rattle.mpslp_mps.proofs.ColumnLine.{plain-tests, column-declares}
 
 -- ---- tests
