@@ -1,10 +1,8 @@
 -- The laws of MPS as a format of model files, in terms of the trait `Format`.
-use Rattle.std.{proofs.Common.{◌≡◌, refl, List, ℕ}, specs.Prelude.{Option, None}}
-use Rattle.mpslp_model_core.specs.Model.{LinearModel, IsSound}
-use Rattle.mpslp_types.specs.declared.faults.{Fault.Fault, NameAt.NameAt}
-use Rattle.mpslp_mps.{specs.{MpsText.DeclaresMps, FirstFault.IsFirstMpsFault}, proofs.ModelOrFault.model-or_fault}
-use Rattle.mpslp_canonical_mps.{specs.CanonicalMps.canonical_mps, proofs.{CanonicalDeclares.canonical-declares, OneAnswer.one-model}}
-use Rattle.mpslp_canonical_mps.proofs.OneAnswer.{one-fault}
+use Rattle.mpslp_canonical_mps.proofs.Prelude
+use Prelude.{◌≡◌, refl, List, ℕ, Option, None, LinearModel, IsSound, Fault, NameAt, DeclaresMps, IsFirstMpsFault, model-or_fault}
+use Prelude.{canonical_mps}
+use Rattle.mpslp_canonical_mps.proofs.CanonicalDeclares.{canonical-declares, one-model, one-fault}
 
 -- MPS can express every model.
 abbrev pub mps_unfit : LinearModel → Option NameAt
