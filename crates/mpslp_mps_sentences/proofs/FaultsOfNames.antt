@@ -1,53 +1,31 @@
 -- Rows and columns that a line names and the draft does not have are unknown in the sense of `FaultsInWords`.
-use Rattle.std.proofs.Common.{arith, ◌≡◌, refl, ap, ◌∙◌, List, [], ◌∷◌, ◌++◌, ℕ, Bool, true, false, cond, map}
-use Rattle.std.{proofs.lemmas.List.Folds.list_all-append, specs.Prelude.{Option, Some, None, not, filter_map, nat_lt, nat_le, ◌||◌, ◌&&◌}}
-use Rattle.std.specs.{Prelude.codes, List.{list_any, list_all, last_or, flat_map}, Option.{option_map, option_map_or}, Cmp.first_so}
-use Rattle.std.specs.Cmp.{second_so}
-use Rattle.mpslp_types.specs.{Name.{same_bytes, is_one_of}, FaultOrder.kind_rank, declared.{faults.FaultKind.FaultKind, kinds.Limit.Limit}}
-use Rattle.mpslp_types.{specs.{declared.kinds.RowType.RowType, Lists.head_of}, proofs.BoolLemmas.{both_so, or_left, or_right, so_not}}
+-- Rows and coefficients that a line names again are repeated in the sense of `FaultsInWords`.
+use Rattle.mpslp_mps_sentences.proofs.Prelude
+use Prelude.{arith, ◌≡◌, refl, ap, ◌∙◌, List, [], ◌∷◌, ◌++◌, ℕ, Bool, true, false, cond, map, list_all-append, Option, Some, None, not}
+use Prelude.{filter_map, nat_lt, nat_le, ◌||◌, ◌&&◌, codes, list_any, list_all, last_or, flat_map, option_map, option_map_or, first_so}
+use Prelude.{second_so, same_bytes, is_one_of, kind_rank, FaultKind, Limit, head_of, both_so, or_left, or_right, so_not, declare_rhs}
+use Prelude.{declare_range, declare_column, declare_coefficient, declare_marked, Draft, with_declaration, has_row, has_column, is_free_row}
+use Prelude.{rhs_declared, itself_named, same_name, has-put, is_kind, value_of, FaultTests, Fields, LineContent, skipped, header, data_line}
+use Prelude.{section_named, is_section, Pair, ValuesLine, word_shape, column_shape, is_marker_line, vector_shape, BoundLine, bound_type}
+use Prelude.{bound_shape, BoundType, Section, Name, ObjSense, Rows, Columns, Rhs, Ranges, Bounds, Context, context_of, current_section}
+use Prelude.{seen_sections, has_section, lacks_objective, section_tests, header_tests, data_tests, item_tests, declared_if_some}
+use Prelude.{coefficient_declared, column_declared, columns_line_declared, rhs_line_declared, ranges_declared, bound_declared, bound_value}
+use Prelude.{bound_line_declared, data_declared, header_declared, IsGood, never, sense-passes, section_rank, has_named_objective, IsInWords}
+use Prelude.{names_row, has_default_objective, is_row, pairs_in, names_unknown_row, bound_column, names_column, names_unknown_column}
+use Prelude.{line_declares, same_section, nat_tests, is_none, is_some, RowType, is_nonempty, those_of, both_false, CoefficientKey}
+use Prelude.{declare_objective, has_coefficient, has-put_key, has, RowLine, row_shape, row_type, data_lines, objname, word_due}
+use Prelude.{sense_declared, row_of_type, row_declared, header-fresh, in_order, words_in, row_name, repeats_row, column_line, has_row_twice}
+use Prelude.{has_entry_of, repeats_entry_of, repeats_entry}
+use Rattle.mpslp_mps_sentences.proofs.DeclaredByLines.{may_refuse, none-refuse, unrefused, unrefused-header, no-one}
+use Rattle.mpslp_mps_sentences.proofs.FaultedLines.{holds_of, refuses, is_below, IsFirst, in-words, is_among, none-holds, left_only}
+use Rattle.mpslp_mps_sentences.proofs.FaultedLines.{header_kinds, kinds_in, same-rank, unknown_kinds, unknown-among, data-among}
+use Rattle.mpslp_mps_sentences.proofs.FaultedLines.{header-among, by-declaration, by-declaration-of-data, right_only}
+use Rattle.mpslp_mps_sentences.proofs.{HeadersInWords.{AreOrdered}, NamesOfWords.{Stated}}
+use Rattle.mpslp_mps_sentences.proofs.OneWordSections.{stated-words, missing, without_word, with_word, sense-word}
 use Rattle.mpslp_types.specs.declared.faults.FaultKind.TheVariants as kinds
-use Rattle.mpslp_builder.specs.Declaration.{Declaration, declare_rhs, declare_range, declare_column, declare_coefficient, declare_marked}
-use Rattle.mpslp_builder.specs.Declaration.{Declarations, Draft, with_declaration, empty_draft, has_row, has_column, is_free_row}
-use Rattle.mpslp_builder.{specs.{Declaration.rhs_declared, Refusal.refusal_tests}, proofs.{LaterDrafts.itself_named, SlotLemmas.same_name}}
-use Rattle.mpslp_builder.proofs.SlotLemmas.{has-put}
-use Rattle.mpslp_lines.specs.FaultTests.{kind_of_build_fault, is_kind, value_of, FaultTests}
-use Rattle.mpslp_mps_fields.specs.{Line.{Fields, LineContent, skipped, header, data_line, section_named, is_section}, DataLine.Pair}
-use Rattle.mpslp_mps_fields.specs.DataLine.{ValuesLine, word_shape, row_shape, row_type, column_shape, is_marker_line, vector_shape}
-use Rattle.mpslp_mps_fields.specs.{DataLine.{BoundLine, bound_type, bound_shape}, declared.bound_types.BoundType.BoundType}
-use Rattle.mpslp_mps_fields.specs.declared.sections.Section.{Section, TheVariants.{Name, ObjSense, ObjName, Rows, Columns, Rhs, Ranges}}
-use Rattle.mpslp_mps_fields.specs.declared.sections.Section.TheVariants.{Bounds, EndData}
-use Rattle.mpslp_mps.specs.{Context.{Context, context_of, current_section, seen_sections}, SeenSection.has_section}
-use Rattle.mpslp_mps.specs.LineFault.{lacks_objective, section_tests, header_tests, data_tests, item_tests}
-use Rattle.mpslp_mps.specs.LineDeclarations.{declared_if_some, row_of_type, row_declared, coefficient_declared, column_declared}
-use Rattle.mpslp_mps.specs.LineDeclarations.{columns_line_declared, rhs_line_declared, ranges_declared, bound_declared, bound_value}
-use Rattle.mpslp_mps.{specs.LineDeclarations.{bound_line_declared, data_declared, header_declared}, proofs.OrderLemmas.{IsGood, never}}
-use Rattle.mpslp_mps.proofs.OrderLemmas.{each-declared, sense-passes, sides-passes, ranges-passes}
-use Rattle.mpslp_mps_sentences.specs.{TextInWords.{section_rank, has_named_objective}, FaultsInWords.{IsInWords, names_row}}
-use Rattle.mpslp_mps_sentences.specs.FaultsInWords.{has_default_objective, is_row, pairs_in, names_unknown_row, bound_column, names_column}
-use Rattle.mpslp_mps_sentences.{specs.FaultsInWords.names_unknown_column, proofs.BoundsPasses.{Passes, bounds-passes}}
-use Rattle.mpslp_mps_sentences.proofs.{WordsOfHeaders.AreOrdered, WordsOfObjName.stated-words, NamesOfWords.Stated, FaultedLines.holds_of}
-use Rattle.mpslp_mps_sentences.proofs.{FaultedLines.{refused_as, refuses, is_below, IsFirst, in-words}, KindsOfLines.{is_among, none-holds}}
-use Rattle.mpslp_mps_sentences.proofs.KindsOfLines.{left_only, right_only, header_kinds, kinds_in, same-rank, unknown_kinds, unknown-among}
-use Rattle.mpslp_mps_sentences.proofs.KindsOfLines.{data-among, header-among}
 
--- ---- declarations that are not rejected with a kind
+-- ---- kinds after those of all forms
 
--- an error of this kind may reject such declarations
-abbrev pub may_refuse : FaultKind → Declaration → Bool
-may_refuse kind d = list_any (λ test. is_kind kind (kind_of_build_fault test.1)) (refusal_tests empty_draft d)
-
--- the kinds of the tests of a declaration do not depend on the draft
-not-refused : (kind : FaultKind) (all : Draft) (d : Declaration) → not (may_refuse kind d) ≡ true → refused_as kind (refusal_tests all d) ≡ false
-not-refused kind all d h = grind arith
-
-none-refuse : (kind : FaultKind) (ds : Declarations) (all : Draft) → list_all (λ d. not (may_refuse kind d)) ds ≡ true → refuses kind all ds ≡ false
-none-refuse kind [] all h = refl
-none-refuse kind (d ∷ ds) all h = grind (arith, refuses, not-refused, none-refuse kind ds (with_declaration all d) (second_so (not (may_refuse kind d)) (list_all (λ d. not (may_refuse kind d)) ds) h))
-
-pub no-one : {X : Type 0} (kind : FaultKind) (ds : Declarations) (all : Draft) → list_all (λ d. not (may_refuse kind d)) ds ≡ true → refuses kind all ds ≡ true → X
-no-one kind ds all h k = absurd (never (refuses kind all ds) k (none-refuse kind ds all h))
-
--- if the kind comes after those of all forms
 pub form-good : (kind : FaultKind) (before : List LineContent) (earlier : Draft) (item : LineContent) → is_below kind kinds.LineTooLong ≡ true → is_below kind kinds.BadByte ≡ true
     → list_all (is_below kind) header_kinds ≡ true → ((o : Option Section) → list_all (is_below kind) (kinds_in o) ≡ true) → IsFirst kind before earlier item → IsGood before earlier item
 form-good kind before earlier item long byte heads lines first = first.late long byte (by item)
@@ -110,25 +88,8 @@ column-known context earlier fields = by (is_marker_line fields)
     by false = of (column_shape fields)
 
 unknown-column : (before : List LineContent) (earlier : Draft) (item : LineContent) → Stated before earlier → IsFirst kinds.UnknownColumn before earlier item → names_unknown_column before item ≡ true
-unknown-column before earlier skipped stated h = let no = h.stated in cc
-unknown-column before earlier (header keyword more) stated h = by (section_named keyword) (right_only (holds_of kinds.UnknownColumn tests) (refuses kinds.UnknownColumn earlier (header_declared (context_of before) earlier more (section_named keyword))) (none-holds header_kinds kinds.UnknownColumn tests (header-among (context_of before) earlier keyword more (section_named keyword)) refl) h.stated)
+unknown-column before earlier item stated first = by item (by-declaration kinds.UnknownColumn before earlier item refl (λ o. grind arith) first)
   where
-    tests : FaultTests
-    tests = header_tests (context_of before) earlier keyword more (section_named keyword)
-
-    by : (o : Option Section) → refuses kinds.UnknownColumn earlier (header_declared (context_of before) earlier more o) ≡ true → false ≡ true
-    by o k = grind (arith, no-one, sense-passes)
-unknown-column before earlier (data_line fields) stated h =
-    by (current_section before)
-    (right_only (holds_of kinds.UnknownColumn (data_tests (context_of before) earlier fields (current_section before))) (refuses kinds.UnknownColumn earlier (data_declared (context_of before) earlier fields (current_section before)))
-    (none-holds (kinds_in (current_section before)) kinds.UnknownColumn (data_tests (context_of before) earlier fields (current_section before)) (data-among (context_of before) earlier fields (current_section before)) (other (current_section before))) h.stated)
-  where
-    other : (o : Option Section) → is_among (kinds_in o) kinds.UnknownColumn ≡ false
-    other o = grind arith
-
-    rows : (name : List ℕ) (type : RowType) → list_all (λ d. not (may_refuse kinds.UnknownColumn d)) (row_of_type (context_of before) earlier name type) ≡ true
-    rows name type = grind arith
-
     bound : (fs : Fields) → refuses kinds.UnknownColumn earlier (bound_line_declared fs) ≡ true → option_map_or (λ name. not (names_column before name)) (bound_column fs) false ≡ true
     bound [] k = cc
     bound (letters ∷ more) k = typed (bound_type letters) k
@@ -144,21 +105,23 @@ unknown-column before earlier (data_line fields) stated h =
         typed None e = cc
         typed (Some type) e = shape type (bound_shape type more) e
 
-    by : (o : Option Section) → refuses kinds.UnknownColumn earlier (data_declared (context_of before) earlier fields o) ≡ true
+    other : (fields : Fields) (s : Section) → list_any (same_section s) (Name ∷ Columns ∷ Bounds ∷ []) ≡ false → refuses kinds.UnknownColumn earlier (data_declared (context_of before) earlier fields (Some s)) ≡ true → false ≡ true
+    other = unrefused kinds.UnknownColumn (Columns ∷ Bounds ∷ []) (λ d. grind arith) (context_of before) earlier
+
+    data_in : (fields : Fields) (o : Option Section) → refuses kinds.UnknownColumn earlier (data_declared (context_of before) earlier fields o) ≡ true
         → (is_section Bounds o && option_map_or (λ name. not (names_column before name)) (bound_column fields) false) ≡ true
-    by None k = cc
-    by (Some Name) k = cc
-    by (Some ObjSense) k = no-one kinds.UnknownColumn (data_declared (context_of before) earlier fields (Some ObjSense)) earlier (sense-passes (λ d. not (may_refuse kinds.UnknownColumn d)) (λ _. refl) fields) k
-    by (Some ObjName) k = cc
-    by (Some Rows) k =
-        no-one kinds.UnknownColumn (data_declared (context_of before) earlier fields (Some Rows)) earlier
-        (each-declared (λ d. not (may_refuse kinds.UnknownColumn d)) (row_declared (context_of before) earlier) (row_shape fields)
-        (λ line. each-declared (λ d. not (may_refuse kinds.UnknownColumn d)) (row_of_type (context_of before) earlier line.name) (row_type line.letter) (λ type. rows line.name type))) k
-    by (Some Columns) k = absurd (never (refuses kinds.UnknownColumn earlier (columns_line_declared (context_of before) fields)) k (column-known (context_of before) earlier fields))
-    by (Some Rhs) k = no-one kinds.UnknownColumn (data_declared (context_of before) earlier fields (Some Rhs)) earlier (sides-passes (λ d. not (may_refuse kinds.UnknownColumn d)) (λ r v. refl) earlier fields) k
-    by (Some Ranges) k = no-one kinds.UnknownColumn (data_declared (context_of before) earlier fields (Some Ranges)) earlier (ranges-passes (λ d. not (may_refuse kinds.UnknownColumn d)) (λ r v. refl) fields) k
-    by (Some Bounds) k = bound fields k
-    by (Some EndData) k = cc
+    data_in fields (Some ObjSense) k = other fields ObjSense refl k
+    data_in fields (Some Rows) k = other fields Rows refl k
+    data_in fields (Some Columns) k = absurd (never (refuses kinds.UnknownColumn earlier (columns_line_declared (context_of before) fields)) k (column-known (context_of before) earlier fields))
+    data_in fields (Some Rhs) k = other fields Rhs refl k
+    data_in fields (Some Ranges) k = other fields Ranges refl k
+    data_in fields (Some Bounds) k = bound fields k
+    data_in fields o k = grind arith
+
+    by : (x : LineContent) → refuses kinds.UnknownColumn earlier (line_declares (context_of before) earlier x) ≡ true → names_unknown_column before x ≡ true
+    by skipped k = k
+    by (header keyword more) k = unrefused-header kinds.UnknownColumn (λ d h. grind arith) (context_of before) earlier more (section_named keyword) k
+    by (data_line fields) k = data_in fields (current_section before) k
 
 pub unknown-columns : IsInWords kinds.UnknownColumn names_unknown_column
 unknown-columns = in-words kinds.UnknownColumn names_unknown_column refl refl refl unknown-column
@@ -226,12 +189,12 @@ unknown-row : (before : List LineContent) (earlier : Draft) (item : LineContent)
 unknown-row before earlier skipped stated h = let no = h.stated in cc
 unknown-row before earlier (header keyword more) stated h = by (section_named keyword) h.stated
   where
-    unrefused : (s : Option Section) → list_all (λ d. not (may_refuse kinds.UnknownRow d)) (header_declared (context_of before) earlier more s) ≡ true
-    unrefused s = grind (arith, sense-passes)
+    apart : (s : Option Section) → list_all (λ d. not (may_refuse kinds.UnknownRow d)) (header_declared (context_of before) earlier more s) ≡ true
+    apart s = grind (arith, sense-passes)
 
     form : (o : Option Section) → (holds_of kinds.UnknownRow (header_tests (context_of before) earlier keyword more o) || refuses kinds.UnknownRow earlier (header_declared (context_of before) earlier more o)) ≡ true
         → holds_of kinds.UnknownRow (header_tests (context_of before) earlier keyword more o) ≡ true
-    form o k = grind (arith, left_only, holds_of, refuses, none-refuse, unrefused)
+    form o k = grind (arith, left_only, holds_of, refuses, none-refuse, apart)
 
     sense : (fs : Fields) → holds_of kinds.UnknownRow (section_tests (context_of before) earlier ObjSense fs) ≡ true → false ≡ true
     sense [] k = k
@@ -249,15 +212,10 @@ unknown-row before earlier (header keyword more) stated h = by (section_named ke
         (is_one_of (codes "SOS" ∷ codes "SOS1" ∷ codes "SOS2" ∷ []) keyword) (is_one_of (codes "INDICATORS" ∷ []) keyword)) refl))
     by (Some s) k = of s (form (Some s) k)
 unknown-row before earlier (data_line fields) stated h =
-    by (current_section before) refl
-    (right_only (holds_of kinds.UnknownRow (data_tests (context_of before) earlier fields (current_section before))) (refuses kinds.UnknownRow earlier (data_declared (context_of before) earlier fields (current_section before)))
-    (none-holds (kinds_in (current_section before)) kinds.UnknownRow (data_tests (context_of before) earlier fields (current_section before)) (data-among (context_of before) earlier fields (current_section before)) (other (current_section before))) h.stated)
+    by (current_section before) refl (by-declaration-of-data kinds.UnknownRow before earlier fields (λ o. grind arith) h)
   where
-    other : (o : Option Section) → is_among (kinds_in o) kinds.UnknownRow ≡ false
-    other o = grind arith
-
-    rows : (name : List ℕ) (type : RowType) → list_all (λ d. not (may_refuse kinds.UnknownRow d)) (row_of_type (context_of before) earlier name type) ≡ true
-    rows name type = grind arith
+    other : (s : Section) → list_any (same_section s) (Name ∷ Columns ∷ Rhs ∷ Ranges ∷ []) ≡ false → refuses kinds.UnknownRow earlier (data_declared (context_of before) earlier fields (Some s)) ≡ true → false ≡ true
+    other = unrefused kinds.UnknownRow (Columns ∷ Rhs ∷ Ranges ∷ []) (λ d. grind arith) (context_of before) earlier fields
 
     marks : (line : ValuesLine) (b : Bool) → refuses kinds.UnknownRow (with_declaration earlier (declare_column line.name)) (cond b (declare_marked line.name ∷ []) [] ++ flat_map (coefficient_declared line.name) line.pairs) ≡ true
         → list_any (λ pair. not (has_row earlier pair.row)) line.pairs ≡ true
@@ -284,23 +242,213 @@ unknown-row before earlier (data_line fields) stated h =
     ranges begun None e = e
     ranges begun (Some line) e = rows-unnamed before earlier line.pairs stated begun (ranges-unknown line.pairs earlier e)
 
-    passes : Passes (λ d. not (may_refuse kinds.UnknownRow d))
-    passes = record { lower = λ _ _. refl; upper = λ _ _. refl; integer = λ _. refl; semi = λ _. refl }
-
     begun_in : (s : Section) → nat_le 3 (section_rank s) ≡ true → current_section before ≡ Some s → has_section before Columns ≡ true
     begun_in s = columns-begun before s stated.known.words.ordered
 
     by : (o : Option Section) → current_section before ≡ o → refuses kinds.UnknownRow earlier (data_declared (context_of before) earlier fields o) ≡ true → list_any (λ pair. not (is_row before pair.row)) (pairs_in o fields) ≡ true
-    by (Some ObjSense) e k = no-one kinds.UnknownRow (data_declared (context_of before) earlier fields (Some ObjSense)) earlier (sense-passes (λ d. not (may_refuse kinds.UnknownRow d)) (λ _. refl) fields) k
-    by (Some Rows) e k =
-        no-one kinds.UnknownRow (data_declared (context_of before) earlier fields (Some Rows)) earlier
-        (each-declared (λ d. not (may_refuse kinds.UnknownRow d)) (row_declared (context_of before) earlier) (row_shape fields)
-        (λ line. each-declared (λ d. not (may_refuse kinds.UnknownRow d)) (row_of_type (context_of before) earlier line.name) (row_type line.letter) (λ type. rows line.name type))) k
+    by (Some ObjSense) e k = other ObjSense refl k
+    by (Some Rows) e k = other Rows refl k
     by (Some Columns) e k = column (begun_in Columns refl e) (is_marker_line fields) k
     by (Some Rhs) e k = sides (begun_in Rhs refl e) (vector_shape fields) k
     by (Some Ranges) e k = ranges (begun_in Ranges refl e) (vector_shape fields) k
-    by (Some Bounds) e k = no-one kinds.UnknownRow (data_declared (context_of before) earlier fields (Some Bounds)) earlier (bounds-passes (λ d. not (may_refuse kinds.UnknownRow d)) passes fields) k
+    by (Some Bounds) e k = other Bounds refl k
     by o e k = grind arith
 
 pub unknown-rows : IsInWords kinds.UnknownRow names_unknown_row
 unknown-rows = in-words kinds.UnknownRow names_unknown_row refl refl refl unknown-row
+
+-- ---- DuplicateRow
+
+-- up to the header of COLUMNS, each row that exists has a line of ROWS
+row-named : (before : List LineContent) (earlier : Draft) (name : List ℕ) → Stated before earlier → has_section before Columns ≡ false → has_row earlier name ≡ true → names_row before name ≡ true
+row-named before earlier name stated out h = left_only (names_row before name) (has_section before Columns) out (stated.row_lines name h)
+
+-- in ROWS the header of COLUMNS has not come yet
+pub last-place : (sections_seen : List Section) (s : Section) → in_order sections_seen ≡ true → last_or None sections_seen ≡ Some s → list_all (λ (x : Section). nat_le (section_rank x) (section_rank s)) sections_seen ≡ true
+last-place [] s h k = refl
+last-place (x ∷ []) s h k = grind (arith, both_so, arith, nat_tests)
+last-place (x ∷ y ∷ sections_seen) s h k = grind (arith, both_so, arith, nat_tests, last-place (y ∷ sections_seen) s (second_so (list_all (λ other. nat_le (section_rank x) (section_rank other)) (y ∷ sections_seen)) (in_order (y ∷ sections_seen)) h) k)
+
+pub columns-out : (sections_seen : List Section) → list_all (λ (x : Section). nat_le (section_rank x) 2) sections_seen ≡ true → has sections_seen Columns ≡ false
+columns-out [] h = refl
+columns-out (x ∷ sections_seen) h = grind (arith, both_false, columns-out sections_seen (second_so (nat_le (section_rank x) 2) (list_all (λ (y : Section). nat_le (section_rank y) 2) sections_seen) h))
+
+pub below-all : (kind : FaultKind) → list_all (is_below kind) (kinds_in None) ≡ true → list_all (is_below kind) (kinds_in (Some Rows)) ≡ true → list_all (is_below kind) (kinds_in (Some Columns)) ≡ true → list_all (is_below kind) (kinds_in (Some Bounds)) ≡ true
+    → (o : Option Section) → list_all (is_below kind) (kinds_in o) ≡ true
+below-all kind none rows columns numbers o = grind arith
+
+-- no test of a well-formed line fails
+good-none : (kind : FaultKind) (tests : FaultTests) → those_of tests ≡ [] → holds_of kind tests ≡ false
+good-none kind [] h = refl
+good-none kind ((held, other) ∷ more) h = by held h (λ e. good-none kind more e)
+  where
+    by : (b : Bool) → cond b (other ∷ those_of more) (those_of more) ≡ [] → (those_of more ≡ [] → holds_of kind more ≡ false) → cond (is_kind kind other) (b || holds_of kind more) (holds_of kind more) ≡ false
+    by true e rest = cc
+    by false e rest = either (is_kind kind other)
+      where
+        either : (c : Bool) → cond c (false || holds_of kind more) (holds_of kind more) ≡ false
+        either true = rest e
+        either false = rest e
+
+-- so one of its declarations is rejected
+pub good-refused : (kind : FaultKind) (before : List LineContent) (earlier : Draft) (item : LineContent) → IsGood before earlier item → IsFirst kind before earlier item → refuses kind earlier (line_declares (context_of before) earlier item) ≡ true
+good-refused kind before earlier item good first = grind (arith, right_only, holds_of, refuses, good-none)
+
+-- if there is no objective, and OBJNAME gives no name, no row is of type N, and OBJNAME has no word
+default-in_words : (before : List LineContent) (earlier : Draft) → Stated before earlier → is_none earlier.objective ≡ true → is_none (objname before) ≡ true → has_default_objective before ≡ true
+default-in_words before earlier stated none untold = grind (arith, both_so, so_not, never, missing, without_word, with_word, stated-words)
+
+repeated-row : (before : List LineContent) (earlier : Draft) (item : LineContent) → Stated before earlier → IsFirst kinds.DuplicateRow before earlier item → repeats_row before item ≡ true
+repeated-row before earlier item stated first =
+    let good = form-good kinds.DuplicateRow before earlier item refl refl refl (below-all kinds.DuplicateRow refl refl refl refl) first in
+    by item good (good-refused kinds.DuplicateRow before earlier item good first)
+  where
+    head : (keyword : List ℕ) (more : Fields) (o : Option Section) → those_of (header_tests (context_of before) earlier keyword more o) ≡ [] → refuses kinds.DuplicateRow earlier (header_declared (context_of before) earlier more o) ≡ true
+        → (is_section Columns o && (has_default_objective before && names_row before (codes "obj"))) ≡ true
+    head keyword more o g k = grind (arith, no-one, sense-passes, may_refuse, header-fresh, refuses, both_so, default-in_words, row-named, left_only)
+
+    other : (fields : Fields) (s : Section) → list_any (same_section s) (Name ∷ Rows ∷ []) ≡ false → refuses kinds.DuplicateRow earlier (data_declared (context_of before) earlier fields (Some s)) ≡ true → false ≡ true
+    other = unrefused kinds.DuplicateRow (Rows ∷ []) (λ d. grind arith) (context_of before) earlier
+
+    typed : (name : List ℕ) (type : RowType) → refuses kinds.DuplicateRow earlier (row_of_type (context_of before) earlier name type) ≡ true → has_row earlier name ≡ true
+    typed name type k = grind (arith, refuses)
+
+    row : (o : Option RowLine) → has_section before Columns ≡ false → refuses kinds.DuplicateRow earlier (declared_if_some (row_declared (context_of before) earlier) o) ≡ true → option_map_or (names_row before) (option_map (λ (line : RowLine). line.name) o) false ≡ true
+    row None out k = cc
+    row (Some line) out k = of (row_type line.letter) k
+      where
+        of : (t : Option RowType) → refuses kinds.DuplicateRow earlier (declared_if_some (row_of_type (context_of before) earlier line.name) t) ≡ true → names_row before line.name ≡ true
+        of None e = cc
+        of (Some type) e = row-named before earlier line.name stated out (typed line.name type e)
+
+    data_in : (fields : Fields) (o : Option Section) → current_section before ≡ o → refuses kinds.DuplicateRow earlier (data_declared (context_of before) earlier fields o) ≡ true → (is_section Rows o && option_map_or (names_row before) (row_name fields) false) ≡ true
+    data_in fields (Some ObjSense) e k = other fields ObjSense refl k
+    data_in fields (Some Rows) e k = row (row_shape fields) (columns-out (seen_sections before) (last-place (seen_sections before) Rows stated.known.words.ordered.order e)) k
+    data_in fields (Some Columns) e k = other fields Columns refl k
+    data_in fields (Some Rhs) e k = other fields Rhs refl k
+    data_in fields (Some Ranges) e k = other fields Ranges refl k
+    data_in fields (Some Bounds) e k = other fields Bounds refl k
+    data_in fields o e k = grind arith
+
+    by : (x : LineContent) → IsGood before earlier x → refuses kinds.DuplicateRow earlier (line_declares (context_of before) earlier x) ≡ true → repeats_row before x ≡ true
+    by skipped g k = cc
+    by (header keyword more) g k = head keyword more (section_named keyword) g k
+    by (data_line fields) g k = data_in fields (current_section before) refl k
+
+pub repeated-rows : IsInWords kinds.DuplicateRow repeats_row
+repeated-rows = in-words kinds.DuplicateRow repeats_row refl refl refl repeated-row
+
+-- ---- DuplicateEntry
+
+-- one of two tests holds for some entry
+some-either : {X : Type 0} (p q : X → Bool) (xs : List X) → list_any (λ x. p x || q x) xs ≡ (list_any p xs || list_any q xs)
+some-either p q [] = refl
+some-either p q (x ∷ xs) = grind (arith, some-either p q xs)
+
+cells-repeat : (column : List ℕ) (pairs : List Pair) (all : Draft) → refuses kinds.DuplicateEntry all (flat_map (coefficient_declared column) pairs) ≡ true
+    → (has_row_twice pairs || list_any (λ pair. has_coefficient all (record { row = pair.row; column = column })) pairs) ≡ true
+cells-repeat column [] all h = h
+cells-repeat column (pair ∷ pairs) all h = by (has_coefficient all (key pair)) refl h (λ e. cells-repeat column pairs next e)
+  where
+    key : Pair → CoefficientKey
+    key p = record { row = p.row; column = column }
+
+    next : Draft
+    next = with_declaration all (declare_coefficient (record { row = pair.row; column = column }) (value_of pair.literal))
+
+    now : list_any (λ p. has_coefficient next (record { row = p.row; column = column })) pairs ≡ (list_any (λ other. same_bytes other.row pair.row && same_bytes column column) pairs || list_any (λ p. has_coefficient all (record { row = p.row; column = column })) pairs)
+    now =
+        same-any pairs
+        ∙ some-either (λ other. same_bytes other.row pair.row && same_bytes column column) (λ p. has_coefficient all (record { row = p.row; column = column })) pairs
+      where
+        same-any : (ps : List Pair) → list_any (λ p. has_coefficient next (record { row = p.row; column = column })) ps ≡ list_any (λ p. (same_bytes p.row pair.row && same_bytes column column) || has_coefficient all (record { row = p.row; column = column })) ps
+        same-any [] = refl
+        same-any (p ∷ ps) =
+            ap (λ (b : Bool). b || list_any (λ p. has_coefficient next (record { row = p.row; column = column })) ps) (has-put_key (record { row = p.row; column = column }) (record { row = pair.row; column = column }) (value_of pair.literal) all.coefficients)
+            ∙ ap (λ (b : Bool). ((same_bytes p.row pair.row && same_bytes column column) || has_coefficient all (record { row = p.row; column = column })) || b) (same-any ps)
+
+    one_column : list_any (λ other. same_bytes other.row pair.row && same_bytes column column) pairs ≡ true → list_any (λ other. same_bytes other.row pair.row) pairs ≡ true
+    one_column e = some (λ other. same_bytes other.row pair.row && same_bytes column column) (λ other. same_bytes other.row pair.row) pairs (λ other f. first_so (same_bytes other.row pair.row) (same_bytes column column) f) e
+
+    gather : (t a b : Bool) → a ≡ list_any (λ other. same_bytes other.row pair.row && same_bytes column column) pairs → (t || (a || b)) ≡ true → ((list_any (λ other. same_bytes other.row pair.row) pairs || t) || b) ≡ true
+    gather t a b e k = grind (arith, or_left, or_right, one_column)
+
+    by : (b : Bool) → has_coefficient all (record { row = pair.row; column = column }) ≡ b → ((b || false) || refuses kinds.DuplicateEntry next (flat_map (coefficient_declared column) pairs)) ≡ true
+        → (refuses kinds.DuplicateEntry next (flat_map (coefficient_declared column) pairs) ≡ true → (has_row_twice pairs || list_any (λ p. has_coefficient next (record { row = p.row; column = column })) pairs) ≡ true)
+        → ((list_any (λ other. same_bytes other.row pair.row) pairs || has_row_twice pairs) || (b || list_any (λ p. has_coefficient all (record { row = p.row; column = column })) pairs)) ≡ true
+    by b e k rest = grind (arith, or_right, gather, now)
+
+-- a well-formed line does not declare a second sense: OBJSENSE has not begun, or has no word yet
+fresh-sense : (before : List LineContent) (earlier : Draft) → Stated before earlier → is_nonempty (flat_map (λ fields. fields) (words_in ObjSense before)) ≡ false → is_some earlier.sense ≡ false
+fresh-sense before earlier stated none = grind arith
+
+sense-once : (fields : Fields) (all : Draft) → is_some all.sense ≡ false → refuses kinds.DuplicateEntry all (declared_if_some sense_declared (word_shape fields)) ≡ false
+sense-once fields all none = grind arith
+
+-- nor a second objective
+objective-once : (all : Draft) (name : List ℕ) → is_none all.objective ≡ true → refuses kinds.DuplicateEntry all (declare_objective name ∷ []) ≡ false
+objective-once all name h = grind arith
+
+repeated-entry : (before : List LineContent) (earlier : Draft) (item : LineContent) → Stated before earlier → IsFirst kinds.DuplicateEntry before earlier item → repeats_entry before item ≡ true
+repeated-entry before earlier item stated first =
+    let good = form-good kinds.DuplicateEntry before earlier item refl refl refl (below-all kinds.DuplicateEntry refl refl refl refl) first in
+    by item good (good-refused kinds.DuplicateEntry before earlier item good first)
+  where
+    not_begun : has_section before ObjSense ≡ false → is_some earlier.sense ≡ false
+    not_begun out = grind (arith, missing, fresh-sense, without_word, never, with_word)
+
+    no_word : current_section before ≡ Some ObjSense → is_some (word_due before) ≡ true → is_some earlier.sense ≡ false
+    no_word e w = grind (arith, missing, fresh-sense, without_word, with_word, never)
+
+    head : (keyword : List ℕ) (more : Fields) (o : Option Section) → those_of (header_tests (context_of before) earlier keyword more o) ≡ [] → refuses kinds.DuplicateEntry earlier (header_declared (context_of before) earlier more o) ≡ true → false ≡ true
+    head keyword more o g k = grind (arith, never, refuses, sense-once, header-fresh, objective-once, not_begun)
+
+    other : (fields : Fields) (s : Section) → list_any (same_section s) (Name ∷ ObjSense ∷ Rows ∷ Columns ∷ []) ≡ false → refuses kinds.DuplicateEntry earlier (data_declared (context_of before) earlier fields (Some s)) ≡ true → false ≡ true
+    other = unrefused kinds.DuplicateEntry (ObjSense ∷ Rows ∷ Columns ∷ []) (λ d. grind arith) (context_of before) earlier
+
+    row : (name : List ℕ) (type : RowType) → refuses kinds.DuplicateEntry earlier (row_of_type (context_of before) earlier name type) ≡ true → false ≡ true
+    row name type k = grind (arith, refuses, never, objective-once)
+
+    rows : (o : Option RowLine) → refuses kinds.DuplicateEntry earlier (declared_if_some (row_declared (context_of before) earlier) o) ≡ true → false ≡ true
+    rows o k = grind (arith, refuses, row)
+
+    -- each coefficient that exists has a line
+    lines : (line : ValuesLine) (all : Draft) → ((key : CoefficientKey) → has_coefficient all key ≡ has_coefficient earlier key) → refuses kinds.DuplicateEntry all (flat_map (coefficient_declared line.name) line.pairs) ≡ true → repeats_entry_of before line ≡ true
+    lines line all same k = of (has_row_twice line.pairs) (cells-repeat line.name line.pairs all k)
+      where
+        of : (b : Bool) → (b || list_any (λ pair. has_coefficient all (record { row = pair.row; column = line.name })) line.pairs) ≡ true → (b || list_any (λ pair. list_any (has_entry_of line.name pair.row) (data_lines Columns before)) line.pairs) ≡ true
+        of b e = grind (arith, some, row)
+
+    marks : (line : ValuesLine) (b : Bool) → refuses kinds.DuplicateEntry (with_declaration earlier (declare_column line.name)) (cond b (declare_marked line.name ∷ []) [] ++ flat_map (coefficient_declared line.name) line.pairs) ≡ true → repeats_entry_of before line ≡ true
+    marks line true k = lines line (with_declaration (with_declaration earlier (declare_column line.name)) (declare_marked line.name)) (λ key. refl) k
+    marks line false k = lines line (with_declaration earlier (declare_column line.name)) (λ key. refl) k
+
+    column : (fields : Fields) (b : Bool) → refuses kinds.DuplicateEntry earlier (cond b [] (declared_if_some (column_declared (context_of before)) (column_shape fields))) ≡ true
+        → option_map_or (repeats_entry_of before) (cond b None (column_shape fields)) false ≡ true
+    column fields true k = k
+    column fields false k = of (column_shape fields) k
+      where
+        of : (o : Option ValuesLine) → refuses kinds.DuplicateEntry earlier (declared_if_some (column_declared (context_of before)) o) ≡ true → option_map_or (repeats_entry_of before) o false ≡ true
+        of None e = e
+        of (Some line) e = marks line (context_of before).in_integer_part e
+
+    data_in : (fields : Fields) (o : Option Section) → current_section before ≡ o → those_of (data_tests (context_of before) earlier fields o) ≡ [] → refuses kinds.DuplicateEntry earlier (data_declared (context_of before) earlier fields o) ≡ true
+        → (is_section Columns o && option_map_or (repeats_entry_of before) (column_line fields) false) ≡ true
+    data_in fields (Some ObjSense) e g k =
+        absurd (never (refuses kinds.DuplicateEntry earlier (declared_if_some sense_declared (word_shape fields))) k
+        (sense-once fields earlier (no_word e (sense-word.on_line (context_of before) earlier fields g).0)))
+    data_in fields (Some Rows) e g k = rows (row_shape fields) k
+    data_in fields (Some Columns) e g k = column fields (is_marker_line fields) k
+    data_in fields (Some Rhs) e g k = other fields Rhs refl k
+    data_in fields (Some Ranges) e g k = other fields Ranges refl k
+    data_in fields (Some Bounds) e g k = other fields Bounds refl k
+    data_in fields o e g k = grind arith
+
+    by : (x : LineContent) → IsGood before earlier x → refuses kinds.DuplicateEntry earlier (line_declares (context_of before) earlier x) ≡ true → repeats_entry before x ≡ true
+    by skipped g k = k
+    by (header keyword more) g k = head keyword more (section_named keyword) g k
+    by (data_line fields) g k =
+        data_in fields (current_section before) refl g k
+
+pub repeated-entries : IsInWords kinds.DuplicateEntry repeats_entry
+repeated-entries = in-words kinds.DuplicateEntry repeats_entry refl refl refl repeated-entry

@@ -1,25 +1,19 @@
 -- Each error that depends on other lines is as `FaultsInWords` defines its kind.
-use Rattle.std.proofs.{Common.{arith, ◌≡◌, refl, List, [], ◌∷◌, ◌++◌, ℕ, Bool, true, false, cond, map}, lemmas.Bool.false≢true}
-use Rattle.std.{proofs.lemmas.Bool.true≢false, specs.Prelude.{Option, Some, None, is_none, is_some, not, filter_map, nat_lt, ◌||◌, ◌&&◌}}
-use Rattle.std.specs.{List.{list_any, last_or}, Option.{option_map, option_map_or}}
-use Rattle.mpslp_types.{specs.{Name.same_bytes, Lists.head_of}, proofs.BoolLemmas.{both_so, or_left, or_right, nor, so_not}}
+use Rattle.mpslp_mps_sentences.proofs.Prelude
+use Prelude.{arith, ◌≡◌, refl, List, [], ◌∷◌, ◌++◌, ℕ, Bool, true, false, cond, map, false≢true, true≢false, Option, Some, None, is_none}
+use Prelude.{is_some, not, filter_map, nat_lt, ◌||◌, ◌&&◌, list_any, last_or, option_map, option_map_or, same_bytes, head_of, both_so}
+use Prelude.{or_left, or_right, nor, so_not, Draft, number_tests, judged_by, Fields, LineContent, skipped, header, data_line, has}
+use Prelude.{section_named, is_section, takes_word, ValuesLine, column_shape, marker_shape, opening_word, closing_word, BoundLine, Section}
+use Prelude.{Name, ObjSense, ObjName, Rows, Columns, Rhs, Ranges, Bounds, EndData, context_of, current_section, seen_sections, data_lines}
+use Prelude.{word_due, marker_word, line_column, bound_set, has_section, set_tests, may_begin, header_tests, marker_tests, is_split}
+use Prelude.{column_tests, vector_tests, bound_tests, bound_line_tests, data_tests, item_tests, never, section_rank, alternate}
+use Prelude.{are_together, IsInWords, repeats_section, comes_early, comes_late, has_its_word, is_without_word, is_closed}
+use Prelude.{occurs_out_of_order, breaks_turn, is_wrong_marker, differs_from, has_second_set, is_of_second_set, splits_column}
+use Rattle.mpslp_mps_sentences.proofs.WholeText.{not-split}
+use Rattle.mpslp_mps_sentences.proofs.FaultedLines.{holds_of, in-words, none-holds, left_only, column_kinds, unknown_kinds, unknown-among}
+use Rattle.mpslp_mps_sentences.proofs.{FaultedLines.{section-among, column-among, no-data, no-header, by-form}, NamesOfWords.{Stated}}
+use Rattle.mpslp_mps_sentences.proofs.{SectionsInWords.{marker-follows, together-apart, columns_of}, OneWordSections.{IsUnderway}}
 use Rattle.mpslp_types.specs.declared.faults.FaultKind.TheVariants as kinds
-use Rattle.mpslp_builder.specs.Declaration.{Draft}
-use Rattle.mpslp_lines.specs.FaultTests.{number_tests, judged_by}
-use Rattle.mpslp_mps_fields.specs.Line.{Fields, LineContent, skipped, header, data_line, has, section_named, is_section, takes_word}
-use Rattle.mpslp_mps_fields.specs.DataLine.{ValuesLine, column_shape, marker_shape, opening_word, closing_word, BoundLine}
-use Rattle.mpslp_mps_fields.specs.declared.sections.Section.{Section, TheVariants.{Name, ObjSense, ObjName, Rows, Columns, Rhs, Ranges}}
-use Rattle.mpslp_mps_fields.specs.declared.sections.Section.TheVariants.{Bounds, EndData}
-use Rattle.mpslp_mps.specs.Context.{context_of, current_section, seen_sections, data_lines, word_due, marker_word, line_column, bound_set}
-use Rattle.mpslp_mps.specs.{SeenSection.has_section, LineFault.{set_tests, may_begin, header_tests, marker_tests, is_split, column_tests}}
-use Rattle.mpslp_mps.{specs.LineFault.{vector_tests, bound_tests, bound_line_tests, data_tests, item_tests}, proofs.OrderLemmas.never}
-use Rattle.mpslp_mps_sentences.specs.{TextInWords.{section_rank, alternate, are_together}, FaultsInWords.{IsInWords, repeats_section}}
-use Rattle.mpslp_mps_sentences.specs.FaultsInWords.{comes_early, comes_late, has_its_word, is_without_word, is_closed, occurs_out_of_order}
-use Rattle.mpslp_mps_sentences.specs.FaultsInWords.{breaks_turn, is_wrong_marker, differs_from, has_second_set, is_of_second_set}
-use Rattle.mpslp_mps_sentences.{specs.FaultsInWords.splits_column, proofs.{WordsOfColumns.columns_of, WordsOfSenseAndName.IsUnderway}}
-use Rattle.mpslp_mps_sentences.proofs.{SectionsOfWords.{marker-follows, together-apart}, ColumnsOfWords.not-split, NamesOfWords.Stated}
-use Rattle.mpslp_mps_sentences.proofs.KindsOfLines.{none-holds, left_only, column_kinds, unknown_kinds, unknown-among, section-among}
-use Rattle.mpslp_mps_sentences.proofs.{KindsOfLines.{column-among, no-data, no-header, by-form}, FaultedLines.{holds_of, in-words}}
 
 -- ---- SectionRepeated
 

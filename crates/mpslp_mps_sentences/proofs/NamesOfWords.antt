@@ -1,29 +1,20 @@
 -- A draft has the rows, coefficients and sense of the lines before by `TextInWords`; each row that they name exists.
-use Rattle.std.proofs.Common.{arith, rules, ◌≡◌, refl, sym, ap, ◌∙◌, List, [], ◌∷◌, ◌++◌, ℕ, Bool, true, false, cond}
-use Rattle.std.proofs.lemmas.{Bool.{false≢true, true≢false}, List.{Elements.filter_map-append, Concat.flat_map-append}}
-use Rattle.std.{proofs.lemmas.List.Folds.list_any-append, specs.Prelude.{Option, Some, None, is_none, is_some, not, filter_map, ◌||◌, ◌&&◌}}
-use Rattle.std.specs.{Prelude.codes, List.{list_any, list_all, flat_map, cons_option}, Option.{option_map, option_map_or}, Cmp.first_so}
-use Rattle.std.specs.Cmp.{second_so}
-use Rattle.mpslp_types.specs.{Name.{same_bytes, is_mps_name}, declared.kinds.RowType.RowType, Lists.{when, head_of, is_nonempty}}
-use Rattle.mpslp_types.proofs.BoolLemmas.{or_left, or_right, both_so, both_false, nor, not_so, so_not}
-use Rattle.mpslp_model_core.specs.Model.{CoefficientKey}
-use Rattle.mpslp_builder.specs.Declaration.{RowDefinition, Declaration, declare_sense, declare_objective, declare_row, declare_column}
-use Rattle.mpslp_builder.specs.Declaration.{declare_coefficient, declare_marked, Declarations, Draft, with_declaration, with_declarations}
-use Rattle.mpslp_builder.{specs.Declaration.{empty_draft, has_row, has_coefficient}, proofs.{LaterDrafts.more_entries, SlotLemmas.has-put}}
-use Rattle.mpslp_builder.proofs.SlotLemmas.{has-put_key}
-use Rattle.mpslp_lines.{specs.FaultTests.value_of, proofs.ObjectiveLemmas.named-after}
-use Rattle.mpslp_mps_fields.specs.{Line.{Fields, LineContent, data_line, begins, is_section}, DataLine.{RowLine, Pair, ValuesLine}}
-use Rattle.mpslp_mps_fields.specs.{DataLine.{word_shape, row_type, column_shape, is_marker_line}, declared.sections.Section.Section}
-use Rattle.mpslp_mps_fields.specs.declared.sections.Section.TheVariants.{ObjSense, ObjName, Rows, Columns}
-use Rattle.mpslp_mps.specs.{Context.{Context, context_of, current_section, objname, fields_under, data_lines}, SeenSection.has_section}
-use Rattle.mpslp_mps.specs.LineDeclarations.{declared_if_some, row_of_type, row_declared, coefficient_declared, column_declared}
-use Rattle.mpslp_mps.{specs.LineDeclarations.{data_declared, header_declared, line_declares}, proofs.OrderLemmas.{never, IsGood, no_rows}}
-use Rattle.mpslp_mps.proofs.{OrderLemmas.rows-kept, KnownLemmas.no-rows-data, SectionLemmas.{data_lines-push, has_section-push}}
-use Rattle.mpslp_mps.proofs.{SectionLemmas.said_after-push, ContextLemmas.objname-push}
-use Rattle.mpslp_mps_sentences.specs.{TextInWords.words_in, FaultsInWords.{row_name, is_named, names_row, is_free_row_line}}
-use Rattle.mpslp_mps_sentences.{specs.FaultsInWords.{has_default_objective, has_entry_of, has_its_word}, proofs.WordsOfFields.section-is}
-use Rattle.mpslp_mps_sentences.proofs.{WordsOfFields.row-fields, WordsOfObjName.{are_unnamed, objective-kept, header-unnamed, data-unnamed}}
-use Rattle.mpslp_mps_sentences.proofs.{WordsOfObjName.stated-words, TextOfWords.{Known, none-known, known-kept}}
+use Rattle.mpslp_mps_sentences.proofs.Prelude
+use Prelude.{arith, rules, ◌≡◌, refl, sym, ap, ◌∙◌, List, [], ◌∷◌, ◌++◌, ℕ, Bool, true, false, cond, false≢true, true≢false}
+use Prelude.{filter_map-append, flat_map-append, list_any-append, Option, Some, None, is_none, is_some, not, filter_map, ◌||◌, ◌&&◌, codes}
+use Prelude.{list_any, list_all, flat_map, cons_option, option_map, option_map_or, first_so, second_so, same_bytes, is_mps_name, RowType}
+use Prelude.{when, head_of, is_nonempty, or_left, or_right, both_so, both_false, nor, not_so, so_not, CoefficientKey, RowDefinition}
+use Prelude.{Declaration, declare_sense, declare_objective, declare_row, declare_column, declare_coefficient, declare_marked, Declarations}
+use Prelude.{Draft, with_declaration, with_declarations, empty_draft, has_row, has_coefficient, more_entries, has-put, has-put_key}
+use Prelude.{value_of, named-after, Fields, LineContent, data_line, begins, is_section, RowLine, Pair, ValuesLine, word_shape, row_type}
+use Prelude.{column_shape, is_marker_line, Section, ObjSense, ObjName, Rows, Columns, Context, context_of, current_section, objname}
+use Prelude.{fields_under, data_lines, has_section, declared_if_some, row_of_type, row_declared, coefficient_declared, column_declared}
+use Prelude.{data_declared, header_declared, line_declares, never, IsGood, no_rows, rows-kept, no-rows-data, data_lines-push}
+use Prelude.{has_section-push, said_after-push, objname-push, words_in, row_name, is_named, names_row, is_free_row_line}
+use Prelude.{has_default_objective, has_entry_of, has_its_word}
+use Rattle.mpslp_mps_sentences.proofs.WholeText.{Known, none-known, known-kept}
+use Rattle.mpslp_mps_sentences.proofs.FieldsInWords.{section-is, row-fields, Keeps, KeepsIfGood, next_draft}
+use Rattle.mpslp_mps_sentences.proofs.OneWordSections.{are_unnamed, objective-kept, header-unnamed, data-unnamed, stated-words}
 
 -- ---- one line more
 
@@ -52,7 +43,7 @@ rows-stay context earlier item name h = search (rules, new-objective, section-is
 line-there : (context : Context) (earlier : Draft) (line : RowLine) (type : RowType) (name : List ℕ) → same_bytes name line.name ≡ true → has_row (with_declarations earlier (row_of_type context earlier line.name type)) name ≡ true
 line-there context earlier line type name same = grind (arith, or_right, has-put, or_left)
 
-rows_there-kept : (before : List LineContent) (earlier : Draft) (item : LineContent) → IsGood before earlier item → AreRowsThere before earlier → AreRowsThere (before ++ item ∷ []) (with_declarations earlier (line_declares (context_of before) earlier item))
+rows_there-kept : KeepsIfGood AreRowsThere
 rows_there-kept before earlier item good there name h = by (names_row before name) refl item good (sym (names_row-push before item name) ∙ h)
   where
     typed : (line : RowLine) (o : Option RowType) → is_some o ≡ true → same_bytes name line.name ≡ true → has_row (with_declarations earlier (declared_if_some (row_of_type (context_of before) earlier line.name) o)) name ≡ true
@@ -85,7 +76,7 @@ rows_there-kept before earlier item good there name h = by (names_row before nam
 abbrev pub HaveRowLines : List LineContent → Draft → Type 0
 HaveRowLines before earlier = (name : List ℕ) → has_row earlier name ≡ true → (names_row before name || has_section before Columns) ≡ true
 
-row_lines-kept : (before : List LineContent) (earlier : Draft) (item : LineContent) → HaveRowLines before earlier → HaveRowLines (before ++ item ∷ []) (with_declarations earlier (line_declares (context_of before) earlier item))
+row_lines-kept : Keeps HaveRowLines
 row_lines-kept before earlier item have name h = grind (arith, names_row-push, has_section-push, or_right, false≢true, has-put, or_left, rows-kept, no-rows-header, no-rows-data, section-is)
 
 -- ---- each coefficient that exists has a line
@@ -116,7 +107,7 @@ own-entries column (pair ∷ pairs) all key h = grind (arith, has-put_key, own-e
 abbrev pub HaveEntryLines : List LineContent → Draft → Type 0
 HaveEntryLines before earlier = (key : CoefficientKey) → has_coefficient earlier key ≡ true → list_any (has_entry_of key.column key.row) (data_lines Columns before) ≡ true
 
-entry_lines-kept : (before : List LineContent) (earlier : Draft) (item : LineContent) → HaveEntryLines before earlier → HaveEntryLines (before ++ item ∷ []) (with_declarations earlier (line_declares (context_of before) earlier item))
+entry_lines-kept : Keeps HaveEntryLines
 entry_lines-kept before earlier item have key h =
     ap (list_any test) (data_lines-push Columns before item)
     ∙ (list_any-append test (data_lines Columns before) (fields_under Columns (current_section before) item) ∙ by item h)
@@ -174,7 +165,7 @@ no-senses-header context earlier more o h = grind arith
 no-senses-data : (context : Context) (earlier : Draft) (fields : Fields) (o : Option Section) → is_section ObjSense o ≡ false → list_all (λ d. not (declares_sense d)) (data_declared context earlier fields o) ≡ true
 no-senses-data context earlier fields o h = grind arith
 
-sense_word-kept : (before : List LineContent) (earlier : Draft) (item : LineContent) → HasSenseWord before earlier → HasSenseWord (before ++ item ∷ []) (with_declarations earlier (line_declares (context_of before) earlier item))
+sense_word-kept : Keeps HasSenseWord
 sense_word-kept before earlier item have h = grind (arith, said_after-push, flat_map-append, false≢true, section-is, senses-kept, no-senses-header, no-senses-data)
 
 -- ---- the objective: an N row, or `obj` from the header of COLUMNS on
@@ -192,14 +183,14 @@ word-push section before item h = grind (arith, said_after-push, flat_map-append
 abbrev pub IsFreeLine : List LineContent → Draft → Type 0
 IsFreeLine before earlier = is_some earlier.objective ≡ true → (has_free_line before || has_section before Columns) ≡ true
 
-free_line-kept : (before : List LineContent) (earlier : Draft) (item : LineContent) → IsFreeLine before earlier → IsFreeLine (before ++ item ∷ []) (with_declarations earlier (line_declares (context_of before) earlier item))
+free_line-kept : Keeps IsFreeLine
 free_line-kept before earlier item have h = grind (arith, free_line-push, has_section-push, or_right, false≢true, are_unnamed, objective-kept, or_left, header-unnamed, section-is, data-unnamed)
 
 -- an N row is the objective, or OBJNAME gives another name
 abbrev pub IsFreeNamed : List LineContent → Draft → Type 0
 IsFreeNamed before earlier = has_free_line before ≡ true → (is_some earlier.objective || is_some (objname before)) ≡ true
 
-free_named-kept : (before : List LineContent) (earlier : Draft) (item : LineContent) → IsFreeNamed before earlier → IsFreeNamed (before ++ item ∷ []) (with_declarations earlier (line_declares (context_of before) earlier item))
+free_named-kept : Keeps IsFreeNamed
 free_named-kept before earlier item have h = grind (arith, free_line-push, or_left, named-after, or_right, objname-push, false≢true, true≢false, section-is)
 
 -- if there is none, and OBJNAME has no word, `obj` exists from the header of COLUMNS on
@@ -214,7 +205,7 @@ no-word before h = sym (ap head_of (stated-words None before)) ∙ none (words_i
     none ([] ∷ more) e = none more e
     none ((word ∷ rest) ∷ more) e = absurd (true≢false e)
 
-default_there-kept : (before : List LineContent) (earlier : Draft) (item : LineContent) → IsFreeLine before earlier → IsDefaultThere before earlier → IsDefaultThere (before ++ item ∷ []) (with_declarations earlier (line_declares (context_of before) earlier item))
+default_there-kept : (before : List LineContent) (earlier : Draft) (item : LineContent) → IsFreeLine before earlier → IsDefaultThere before earlier → IsDefaultThere (before ++ item ∷ []) (next_draft before earlier item)
 default_there-kept before earlier item free there begun default = by (has_section before Columns) refl item (sym (has_section-push Columns before item) ∙ begun) free_before (no_word item word_after)
   where
     free_before : has_free_line before ≡ false
@@ -251,5 +242,5 @@ pub record Stated (before : List LineContent) (earlier : Draft) : Type 0 where
 pub none-stated : Stated [] empty_draft
 none-stated = record { known = none-known; rows_there = λ name h. cc; row_lines = λ name h. cc; entry_lines = λ key h. cc; sense_word = λ h. cc; free_line = λ h. cc; free_named = λ h. cc; default_there = λ h k. cc }
 
-pub stated-kept : (before : List LineContent) (earlier : Draft) (item : LineContent) → IsGood before earlier item → Stated before earlier → Stated (before ++ item ∷ []) (with_declarations earlier (line_declares (context_of before) earlier item))
+pub stated-kept : KeepsIfGood Stated
 stated-kept before earlier item good stated = search (rules, known-kept, rows_there-kept, row_lines-kept, entry_lines-kept, sense_word-kept, free_line-kept, free_named-kept, default_there-kept)

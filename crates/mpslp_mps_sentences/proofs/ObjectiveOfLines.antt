@@ -1,25 +1,18 @@
 -- The objective of a draft and its rows without limits are those that the lines before name as such.
-use Rattle.std.proofs.Common.{arith, ◌≡◌, refl, sym, ap, ◌∙◌, subst, List, [], ◌∷◌, ◌++◌, ℕ, Bool, true, false, cond}
-use Rattle.std.proofs.lemmas.{Bool.false≢true, List.{append-nil, Elements.filter_map-append, Concat.flat_map-append, Folds.list_any-append}}
-use Rattle.std.specs.{Prelude.{Option, Some, None, is_none, is_some, filter_map, ◌||◌, ◌&&◌, codes}, List.{list_any, flat_map, cons_option}}
-use Rattle.std.specs.Option.{option_map, option_map_or}
-use Rattle.mpslp_types.specs.{Name.same_bytes, declared.kinds.RowType.{RowType, TheVariants.Free}, Lists.{when, head_of, is_nonempty}}
-use Rattle.mpslp_types.proofs.BoolLemmas.{or_left, or_right}
-use Rattle.mpslp_builder.specs.Declaration.{by_type, declare_objective, declare_row, Draft, with_declaration, with_declarations}
-use Rattle.mpslp_builder.{specs.Declaration.{is_objective, is_free_definition, is_free_row}, proofs.LaterDrafts.{Extends, itself_named}}
-use Rattle.mpslp_builder.proofs.{LaterDrafts.is_objective-after, SlotLemmas.{at-put, same_name}}
-use Rattle.mpslp_mps_fields.specs.{Line.{Fields, LineContent, header, data_line, section_named, is_section}, DataLine.{RowLine, row_shape}}
-use Rattle.mpslp_mps_fields.specs.{DataLine.row_type, declared.sections.Section.{Section, TheVariants.{ObjName, Rows, Columns}}}
-use Rattle.mpslp_mps.specs.Context.{Context, context_of, current_section, seen_sections, fields_under, data_lines, objname}
-use Rattle.mpslp_mps.specs.{SeenSection.has_section, LineDeclarations.{declared_if_some, row_of_type, row_declared, data_declared}}
-use Rattle.mpslp_mps.{specs.LineDeclarations.{header_declared, line_declares}, proofs.OrderLemmas.{IsGood, never}}
-use Rattle.mpslp_mps.proofs.SectionLemmas.{data_lines-push, said_after-push}
-use Rattle.mpslp_mps_sentences.specs.TextInWords.{is_free, is_free_row_named, has_free_row, word_fields, words_in}
-use Rattle.mpslp_mps_sentences.specs.{FaultsInWords.is_free_row_line, ValueFaultsInWords.{free_row_name, names_objective}}
-use Rattle.mpslp_mps_sentences.proofs.{WordsOfFields.section-is, WordsOfSenseAndName.{missing, without_word, with_word, IsUnderway}}
-use Rattle.mpslp_mps_sentences.proofs.WordsOfObjName.{IsWantedEarly, objective-kept, header-unnamed, data-unnamed, stated-words}
-use Rattle.mpslp_mps_sentences.proofs.{NamesOfWords.Stated, RepeatsOfNames.{last-place, columns-out}, DeclaredByLines.IsPartOf}
-use Rattle.mpslp_mps_sentences.proofs.DeclaredByLines.{lines-kept}
+use Rattle.mpslp_mps_sentences.proofs.Prelude
+use Prelude.{arith, ◌≡◌, refl, sym, ap, ◌∙◌, subst, List, [], ◌∷◌, ◌++◌, ℕ, Bool, true, false, cond, false≢true, append-nil}
+use Prelude.{filter_map-append, flat_map-append, list_any-append, Option, Some, None, is_none, is_some, filter_map, ◌||◌, ◌&&◌, codes}
+use Prelude.{list_any, flat_map, cons_option, option_map, option_map_or, same_bytes, RowType, Free, when, head_of, is_nonempty, or_left}
+use Prelude.{or_right, by_type, declare_objective, declare_row, Draft, with_declaration, with_declarations, is_objective}
+use Prelude.{is_free_definition, is_free_row, Extends, itself_named, is_objective-after, at-put, same_name, Fields, LineContent, header}
+use Prelude.{data_line, section_named, is_section, RowLine, row_shape, row_type, Section, ObjName, Rows, Columns, Context, context_of}
+use Prelude.{current_section, seen_sections, fields_under, data_lines, objname, has_section, declared_if_some, row_of_type, row_declared}
+use Prelude.{data_declared, header_declared, line_declares, IsGood, never, data_lines-push, said_after-push, is_free, is_free_row_named}
+use Prelude.{has_free_row, word_fields, words_in, is_free_row_line, free_row_name, names_objective}
+use Rattle.mpslp_mps_sentences.proofs.{DeclaredByLines.{IsPartOf, lines-kept}, NamesOfWords.{Stated}}
+use Rattle.mpslp_mps_sentences.proofs.{FaultsOfNames.{last-place, columns-out}, FieldsInWords.{section-is, Keeps, next_draft}}
+use Rattle.mpslp_mps_sentences.proofs.OneWordSections.{IsWantedEarly, objective-kept, header-unnamed, data-unnamed, stated-words, missing}
+use Rattle.mpslp_mps_sentences.proofs.OneWordSections.{without_word, with_word, IsUnderway}
 
 -- ---- a row without limits has a line of type N
 
@@ -36,7 +29,7 @@ row-after all name row type = grind (arith, at-put)
 same-back : (a b : List ℕ) → same_bytes a b ≡ true → same_bytes b a ≡ true
 same-back a b h = ap (λ (x : List ℕ). same_bytes b x) (same_name a b h) ∙ itself_named b
 
-pub free_lines-kept : (before : List LineContent) (earlier : Draft) (item : LineContent) → HaveFreeLines before earlier → HaveFreeLines (before ++ item ∷ []) (with_declarations earlier (line_declares (context_of before) earlier item))
+pub free_lines-kept : Keeps HaveFreeLines
 free_lines-kept before earlier item have row h = lines-kept Rows (λ all. is_free_row all row) (free-part row) (is_free_row_named row) own before earlier item (have row) h
   where
     limited : (all : Draft) (name : List ℕ) (type : RowType) → is_free_definition (by_type type) ≡ false → is_free_row (with_declaration all (declare_row name (by_type type))) row ≡ true → is_free_row all row ≡ true
@@ -66,8 +59,8 @@ AreRowsFree before earlier = (row : List ℕ) → has_free_row before row ≡ tr
 free-after : (before after : Draft) (row : List ℕ) → Extends before after → is_free_row before row ≡ true → is_free_row after row ≡ true
 free-after before after row e h = grind arith
 
-pub rows_free-kept : (before : List LineContent) (earlier : Draft) (item : LineContent) → Extends earlier (with_declarations earlier (line_declares (context_of before) earlier item)) → AreRowsFree before earlier
-    → AreRowsFree (before ++ item ∷ []) (with_declarations earlier (line_declares (context_of before) earlier item))
+pub rows_free-kept : (before : List LineContent) (earlier : Draft) (item : LineContent) → Extends earlier (next_draft before earlier item) → AreRowsFree before earlier
+    → AreRowsFree (before ++ item ∷ []) (next_draft before earlier item)
 rows_free-kept before earlier item e have row h =
     by (has_free_row before row) refl item e
     (sym (ap (list_any (is_free_row_named row)) (data_lines-push Rows before item)
@@ -169,8 +162,8 @@ no-later-rows before earlier item stated begun = by item
     by x = grind (arith, under)
 
 pub first_named-kept : (before : List LineContent) (earlier : Draft) (item : LineContent) → IsGood before earlier item → Stated before earlier
-    → Extends earlier (with_declarations earlier (line_declares (context_of before) earlier item)) → IsFirstNamed before earlier
-    → IsFirstNamed (before ++ item ∷ []) (with_declarations earlier (line_declares (context_of before) earlier item))
+    → Extends earlier (next_draft before earlier item) → IsFirstNamed before earlier
+    → IsFirstNamed (before ++ item ∷ []) (next_draft before earlier item)
 first_named-kept before earlier item good stated extends have name h =
     ap (λ (names : List (List ℕ)). option_map_or (same_bytes name) (head_of names) false) (ap (λ (names : List (List ℕ)). names ++ (free_names (before ++ item ∷ []) ++ codes "obj" ∷ [])) (stated-push before item))
     ∙ (ap (λ (names : List (List ℕ)). option_map_or (same_bytes name) (head_of ((stated_names before ++ flat_map (λ fields. fields) (word_fields ObjName (current_section before) item)) ++ (names ++ codes "obj" ∷ []))) false) (free-push before item)
