@@ -15,4 +15,4 @@ up_to_end-more = to_end-more
 
 -- a context before the end is at the end only after the line of ENDATA
 pub at_end-after : (c : Context) (item : LineContent) → is_section EndData c.section ≡ false → is_section EndData (next_context c item).section ≡ begins EndData item
-at_end-after c item h = grind arith
+at_end-after = grind arith

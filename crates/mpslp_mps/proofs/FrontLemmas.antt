@@ -25,7 +25,7 @@ next_context-front context fields = by-front (λ f. next_context context (data_l
 
 pub header_tests-front : (context : Context) (earlier : Draft) (keyword : List ℕ) (section : Option Section) (more : Fields)
     → header_tests context earlier keyword (take 5 more) section ≡ header_tests context earlier keyword more section
-header_tests-front context earlier keyword section more = grind arith
+header_tests-front = grind arith
 
 pub header_declared-front : (context : Context) (earlier : Draft) (section : Option Section) (more : Fields) → header_declared context earlier (take 5 more) section ≡ header_declared context earlier more section
-header_declared-front context earlier section more = grind arith
+header_declared-front = grind arith

@@ -25,4 +25,4 @@ module _ (bytes : List ℕ) (reader : LineReader) (read : HasRead reader (lines 
   ends-missing unended = first_fault-whole bytes false none (sym read.ended ∙ unended)
 
   pub ends-text : (answer : Result LinearModel ReadFault) → is_section EndData reader.context.section ≡ true → Finishes reader.builder.draft answer → ReadsMps bytes answer
-  ends-text answer at_end = grind (arith, draft-whole, finished-reads, first_fault-whole, none)
+  ends-text = grind (arith, draft-whole, finished-reads, first_fault-whole, none)

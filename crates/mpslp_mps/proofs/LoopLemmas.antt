@@ -14,11 +14,11 @@ line-rising : (context : Context) (earlier : Draft) (line : List ℕ) → are_ri
 line-rising context earlier line = item-rising context earlier (content_of line)
 
 pub line-too_long : (context : Context) (earlier : Draft) (line : List ℕ) → has_legal_length line ≡ false → line_fault (placed_in context earlier line) ≡ Some LineTooLong
-line-too_long context earlier line = grind (arith, too-long, line-rising)
+line-too_long = grind (arith, too-long, line-rising)
 
 pub line-bad_byte : (context : Context) (earlier : Draft) (line : List ℕ) → has_legal_length line ≡ true → list_all is_legal_byte (outside_comment line) ≡ false
     → line_fault (placed_in context earlier line) ≡ Some BadByte
-line-bad_byte context earlier line = grind (arith, bad-byte, line-rising)
+line-bad_byte = grind (arith, bad-byte, line-rising)
 
 pub line-legal : (context : Context) (earlier : Draft) (line : List ℕ) → has_legal_length line ≡ true → list_all is_legal_byte (outside_comment line) ≡ true
     → line_fault (placed_in context earlier line) ≡ item_fault context earlier (content_of line)
@@ -28,4 +28,4 @@ line-legal context earlier line = legal-first line (outside_comment line) (item_
 
 pub sides-next : (line : List ℕ) (context : Context) (earlier later : Draft) → HasMpsSides earlier → line_fault (placed_in context earlier line) ≡ None
     → later ≡ draft_after context earlier line → HasMpsSides later
-sides-next line context earlier later sides none draft = grind (arith, sides-kept, no-item)
+sides-next = grind (arith, sides-kept, no-item)

@@ -12,30 +12,30 @@ HasName context earlier = has context.sections_seen Columns ≡ true → is_some
 
 named_begun : (context : Context) (earlier : Draft) (item : LineContent) → item_fault context earlier item ≡ None → begins Columns item ≡ true
     → is_some (with_declarations earlier (line_declares context earlier item)).objective ≡ true
-named_begun context earlier item none h = grind arith
+named_begun = grind arith
 
 named_next : (context : Context) (earlier : Draft) (item : LineContent) → item_fault context earlier item ≡ None → HasName context earlier
     → HasName (next_context context item) (with_declarations earlier (line_declares context earlier item))
-named_next context earlier item none named h = grind (arith, has-more, named-after, named_begun)
+named_next = grind (arith, has-more, named-after, named_begun)
 
 -- ENDATA comes after COLUMNS
 ended_columns : (context : Context) (earlier : Draft) (item : LineContent) → item_fault context earlier item ≡ None → begins EndData item ≡ true
     → has context.sections_seen Columns ≡ true
-ended_columns context earlier item none h = grind arith
+ended_columns = grind arith
 
 -- ---- lines
 
 first_none : (n : ℕ) (o : Option FaultKind) (rest : Option Fault) → option_or (option_map (fault_on_line n) o) rest ≡ None → o ≡ None
-first_none n o rest h = grind arith
+first_none = grind arith
 
 rest_none : (n : ℕ) (o : Option FaultKind) (rest : Option Fault) → option_or (option_map (fault_on_line n) o) rest ≡ None → rest ≡ None
-rest_none n o rest h = grind arith
+rest_none = grind arith
 
 pub named-lines_to_end : (text : List (List ℕ)) (n : ℕ) (context : Context) (earlier : Draft) → HasName context earlier
     → fault_from n context earlier (lines_to_end text) ≡ None → list_any is_end text ≡ true → is_some (draft_from context earlier (lines_to_end text)).objective ≡ true
 named-lines_to_end [] n context earlier named none ended = cc
 named-lines_to_end (line ∷ more) n context earlier named none ended =
-    by (is_end line) refl ended (λ kept h. named-lines_to_end more (n + 1) (context_after context line) (draft_after context earlier line) kept h)
+    by (is_end line) refl ended (λ kept h. named-lines_to_end more _ _ _ kept h)
   where
     fault_is : Option FaultKind
     fault_is = line_fault (placed_in context earlier line)
@@ -49,12 +49,12 @@ named-lines_to_end (line ∷ more) n context earlier named none ended =
         let last = up_to_end-last line more e in
         let only : fault_from n context earlier (line ∷ []) ≡ None = ap (fault_from n context earlier) (sym last) ∙ none in
         let item = no-item context earlier line (first_none n fault_is None only) in
-        ap (λ (text : List (List ℕ)). is_some (draft_from context earlier text).objective) last
+        ap (λ text. is_some (draft_from context earlier text).objective) last
         ∙ named-after (line_declares context earlier (content_of line)) earlier (named (ended_columns context earlier (content_of line) item e))
     by false e h later =
         let next = up_to_end-more line more e in
         let both : fault_from n context earlier (line ∷ lines_to_end more) ≡ None = ap (fault_from n context earlier) (sym next) ∙ none in
         let rest = fault_from (n + 1) (context_after context line) (draft_after context earlier line) (lines_to_end more) in
         let item = no-item context earlier line (first_none n fault_is rest both) in
-        ap (λ (text : List (List ℕ)). is_some (draft_from context earlier text).objective) next
+        ap (λ text. is_some (draft_from context earlier text).objective) next
         ∙ later (named_next context earlier (content_of line) item named) (rest_none n fault_is rest both) h

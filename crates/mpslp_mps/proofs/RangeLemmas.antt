@@ -19,13 +19,12 @@ has_no_sides all row = is_objective all row || is_free_row all row
 
 range_fault : (all : Draft) (row : List ℕ) (value : Number)
     → declared_fault all (declare_range row value ∷ []) ≡ range_kind (has_row all row) (is_ranged all row) (has_no_sides all row) (is_infinite_size value)
-range_fault all row value =
-    declared-one all (declare_range row value) refl
+range_fault all row value = declared-one all (declare_range row value) refl
 
 -- a range does not matter for another row
 range-apart : (all : Draft) (row : List ℕ) (value : Number) (other : List ℕ) (second : Number) → same_bytes other row ≡ false
     → declared_fault (with_declaration all (declare_range row value)) (declare_range other second ∷ []) ≡ declared_fault all (declare_range other second ∷ [])
-range-apart all row value other second apart = grind (arith, has-put, range_fault)
+range-apart = grind (arith, has-put, range_fault)
 
 pub ranges-apart : (all : Draft) (row : List ℕ) (value : Number) (other : List ℕ) (second : Number) → same_bytes other row ≡ false
     → declared_fault all (declare_range row value ∷ declare_range other second ∷ [])
@@ -40,13 +39,13 @@ pub second-range : (all : Draft) (row : List ℕ) (value : Number) (other : List
     → MatchResult answer (λ _. declared_fault all (declare_range other second ∷ []) ≡ None) (IsErrorOf (declared_fault all (declare_range other second ∷ [])))
     → MatchResult answer (λ _. declared_fault all (declare_range row value ∷ declare_range other second ∷ []) ≡ None)
     (IsErrorOf (declared_fault all (declare_range row value ∷ declare_range other second ∷ [])))
-second-range all row value other second answer apart none h = grind (arith, ranges-apart, earlier_of)
+second-range = grind (arith, ranges-apart, earlier_of)
 
 -- two ranges of the same row
 pub ranges-of_one : (all : Draft) (row : List ℕ) (value : Number) (other : List ℕ) (second : Number) → same_bytes other row ≡ true
     → declared_fault all (declare_range row value ∷ declare_range other second ∷ []) ≡ Some (cond (has_row all row) kinds.DuplicateRange kinds.UnknownRow)
 ranges-of_one all row value other second same =
-    let ranged = has-put other row value all.ranges ∙ ap (λ (b : Bool). b || has_name all.ranges other) same in
+    let ranged = has-put other row value all.ranges ∙ ap (λ b. b || has_name all.ranges other) same in
     let next = with_declaration all (declare_range row value) in
     declared-append (declare_range row value ∷ []) (declare_range other second ∷ []) all
     ∙ (λ i. earlier_of (range_fault all row value i) (range_fault next other second i))
@@ -55,4 +54,4 @@ ranges-of_one all row value other second same =
     ∙ by (has_row all row) (is_ranged all row) (has_no_sides all row) (is_infinite_size value)
   where
     by : (a b c d : Bool) → earlier_of (range_kind a b c d) (range_kind a true (has_no_sides all other) (is_infinite_size second)) ≡ Some (cond a kinds.DuplicateRange kinds.UnknownRow)
-    by a b c d = grind arith
+    by = grind arith

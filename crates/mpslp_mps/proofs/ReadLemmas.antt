@@ -6,4 +6,4 @@ use Rattle.mpslp_mps.proofs.ModelFromNoFault.{declares-from_no_fault}
 
 pub finished-reads : (bytes : List ℕ) (draft : Draft) (answer : Result LinearModel ReadFault) → draft ≡ draft_of (declarations_of bytes) → first_mps_fault bytes ≡ file_fault draft
     → Finishes draft answer → ReadsMps bytes answer
-finished-reads bytes draft answer same fault = grind (arith, finished-answers, declares-from_no_fault)
+finished-reads = grind (arith, finished-answers, declares-from_no_fault)

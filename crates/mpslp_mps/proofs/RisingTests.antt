@@ -13,28 +13,27 @@ AreRising tests = are_rising ((false, kinds.LineTooLong) ∷ (false, kinds.BadBy
 
 -- and so are these tests without the latter
 pub rising-only : (tests : FaultTests) → AreRising tests → are_rising tests ≡ true
-rising-only tests h = grind arith
+rising-only = grind arith
 
 -- ---- by the shape of a line
 
 judged-rising : {X : Type 0} (tests : X → FaultTests) (o : Option X) → ((x : X) → AreRising (tests x)) → AreRising (judged_by tests o)
-judged-rising tests o h = grind arith
+judged-rising = grind arith
 
-typed-rising : (context : Context) (more : Fields) (o : Option BoundType)
-    → AreRising (typed_bound_tests context more o)
-typed-rising context more o = grind arith
+typed-rising : (context : Context) (more : Fields) (o : Option BoundType) → AreRising (typed_bound_tests context more o)
+typed-rising = grind arith
 
 rising-if : (b : Bool) (x y : FaultTests) → AreRising x → AreRising y → AreRising (cond b x y)
-rising-if b x y h k = grind arith
+rising-if = grind arith
 
 sense-rising : (b : Bool) (o : Option (List ℕ)) → AreRising ((b, kinds.SectionOrder) ∷ judged_by word_tests o)
-sense-rising b o = grind arith
+sense-rising = grind arith
 
 judged-after-order : (b : Bool) (o : Option (List ℕ)) → AreRising ((b, kinds.SectionOrder) ∷ judged_by (λ _. []) o)
-judged-after-order b o = grind arith
+judged-after-order = grind arith
 
 marker-rising : (b : Bool) (context : Context) (o : Option (List ℕ)) → AreRising ((b, kinds.Sos) ∷ judged_by (marker_word_tests context) o)
-marker-rising b context o = grind arith
+marker-rising = grind arith
 
 data-after : (context : Context) (earlier : Draft) (fields : Fields) (section : Option Section) → AreRising (data_tests context earlier fields section)
 data-after context earlier fields None = refl
@@ -51,10 +50,10 @@ data-after context earlier (letters ∷ more) (Some Bounds) = typed-rising conte
 data-after context earlier fields (Some EndData) = refl
 
 header-after : (context : Context) (earlier : Draft) (keyword : List ℕ) (more : Fields) (section : Option Section) → AreRising (header_tests context earlier keyword more section)
-header-after context earlier keyword more section = grind arith
+header-after = grind arith
 
 pub item-rising : (context : Context) (earlier : Draft) (item : LineContent) → AreRising (item_tests context earlier item)
-item-rising context earlier item = grind (arith, header-after)
+item-rising = grind (arith, header-after)
 
 pub data-rising : (context : Context) (earlier : Draft) (fields : Fields) (section : Option Section) → are_rising (data_tests context earlier fields section) ≡ true
 data-rising context earlier fields section = rising-only (data_tests context earlier fields section) (data-after context earlier fields section)

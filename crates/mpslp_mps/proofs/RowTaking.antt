@@ -5,10 +5,10 @@ use Rattle.mpslp_mps.proofs.TakingLemmas.{is_early}
 use Rattle.mpslp_types.specs.declared.faults.FaultKind.TheVariants as kinds
 
 pub sense-early : (b : Bool) (o : Option (List ℕ)) → list_all is_early ((b, kinds.SectionOrder) ∷ judged_by word_tests o) ≡ true
-sense-early b o = grind arith
+sense-early = grind arith
 
 pub objective-name-early : (b : Bool) (o : Option (List ℕ)) → list_all is_early ((b, kinds.SectionOrder) ∷ judged_by (λ _. []) o) ≡ true
-objective-name-early b o = grind arith
+objective-name-early = grind arith
 
 pub row-early : (o : Option RowLine) → list_all is_early (judged_by row_line_tests o) ≡ true
-row-early o = grind arith
+row-early = grind arith

@@ -16,7 +16,7 @@ abbrev whole : List ℕ → Bool → Option Fault
 whole bytes ended = cond ended (file_fault (draft_of (declarations_of bytes))) (Some (whole_fault MissingEnd None))
 
 pub first_fault-whole : (bytes : List ℕ) (ended : Bool) → fault_of_lines bytes ≡ None → has_end bytes ≡ ended → first_mps_fault bytes ≡ whole bytes ended
-first_fault-whole bytes ended none is = grind (arith, first_fault-is)
+first_fault-whole = grind (arith, first_fault-is)
 
 pub draft-whole : (bytes : List ℕ) → draft_lines bytes ≡ draft_of (declarations_of bytes)
 draft-whole bytes = sym (draft-is bytes)

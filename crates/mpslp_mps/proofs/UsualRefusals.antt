@@ -11,7 +11,7 @@ use Rattle.mpslp_mps.proofs.ColumnLine.{plain-tests, column-declares}
 -- ---- tests
 
 by_test : {X : Type 0} (b : Bool) (x : X) (xs : List X) (o : Option X) → (xs ≡ [] → o ≡ None) → cond b (x ∷ xs) xs ≡ [] → cond b (Some x) o ≡ None
-by_test b x xs o rest h = grind arith
+by_test = grind arith
 
 held-none : (tests : FaultTests) → those_of tests ≡ [] → first_held tests ≡ None
 held-none [] h = refl
@@ -19,17 +19,17 @@ held-none (test ∷ more) h = by_test test.0 test.1 (those_of more) (first_held 
 
 numbers-fine : (context : Context) (earlier : Draft) (parts : Option ValuesLine) → first_held (judged_by (column_tests context earlier) parts) ≡ None
     → first_held (judged_by (λ line. number_tests (literals_of line.pairs)) parts) ≡ None
-numbers-fine context earlier parts h = grind arith
+numbers-fine = grind arith
 
 column-fine : (context : Context) (earlier : Draft) (parts : Option ValuesLine) (column : List ℕ) (values : List (List ℕ × Number)) → option_map named_values parts ≡ Some (column, values)
     → first_held (judged_by (column_tests context earlier) parts) ≡ None → (name_refusal column ≡ None) × (is_split context earlier column ≡ false)
-column-fine context earlier parts column values is h = grind arith
+column-fine = grind arith
 
 -- ---- the line
 
 module _ (context : Context) (earlier : Draft) (fields : Fields) (here : context.section ≡ Some Columns) (plain : is_marker_line fields ≡ false) (fine : item_fault context earlier (data_line fields) ≡ None) where
   parts : IsFaultless (data_tests context earlier fields context.section) earlier (line_declares context earlier (data_line fields))
-  parts = faultless (data_tests context earlier fields context.section) earlier (line_declares context earlier (data_line fields)) fine
+  parts = faultless _ earlier _ fine
 
   form : first_held (judged_by (column_tests context earlier) (column_shape fields)) ≡ None
   form = grind (arith, held-none, plain-tests, parts)
@@ -41,7 +41,7 @@ module _ (context : Context) (earlier : Draft) (fields : Fields) (here : context
   module _ (column : List ℕ) (values : List (List ℕ × Number)) (is : option_map named_values (column_shape fields) ≡ Some (column, values)) where
     -- its name is legal
     pub usual-legal : name_refusal column ≡ None
-    usual-legal = (column-fine context earlier (column_shape fields) column values is form).0
+    usual-legal = (column-fine context earlier _ column values is form).0
 
     -- none of its declarations is rejected
     pub usual-unrefused : refusals_in_turn earlier (usual_declared context.in_integer_part column values) ≡ []
@@ -53,7 +53,7 @@ module _ (context : Context) (earlier : Draft) (fields : Fields) (here : context
     pub usual-new : option_map_or (same_bytes column) context.last_column false ≡ false → has_column earlier column ≡ false
     usual-new other =
         by (has_column earlier column) (option_map_or (same_bytes column) context.last_column false) other
-        (column-fine context earlier (column_shape fields) column values is form).1
+        (column-fine context earlier _ column values is form).1
       where
         by : (there last : Bool) → last ≡ false → (there && not last) ≡ false → there ≡ false
         by true false e h = h

@@ -123,8 +123,7 @@ infinite_bounds = text (one_column ++ lines_of "BOUNDS\n LO B X -1e30\n UP B X 1
 -- ---- columns whose only coefficient is 0, and another N row
 
 abbrev pub empty_column_lines : List (List ℕ)
-empty_column_lines =
-    lines_of "NAME\nROWS\n N  C\n L  R\n N  S\nCOLUMNS\n    X  C  0\n    Y  S  2\nRHS\n    RHS  R  3\nENDATA"
+empty_column_lines = lines_of "NAME\nROWS\n N  C\n L  R\n N  S\nCOLUMNS\n    X  C  0\n    Y  S  2\nRHS\n    RHS  R  3\nENDATA"
 
 abbrev pub empty_column : List ℕ
 empty_column = text empty_column_lines
@@ -195,8 +194,7 @@ usual_layout = text usual_layout_lines
 -- ---- an objective named by OBJNAME among the N rows
 
 abbrev objective_tail : List (List ℕ)
-objective_tail =
-    lines_of "ROWS\n N  C\n L  R\n N  S\nCOLUMNS\n    X  C  1  R  1\n    X  S  2\nENDATA"
+objective_tail = lines_of "ROWS\n N  C\n L  R\n N  S\nCOLUMNS\n    X  C  1  R  1\n    X  S  2\nENDATA"
 
 abbrev pub header_objname : List ℕ
 header_objname = text (lines_of "NAME\nOBJNAME\n    S" ++ objective_tail)
