@@ -26,14 +26,14 @@ may_refuse kind d = list_any (λ test. is_kind kind (kind_of_build_fault test.1)
 
 -- the kinds of the tests of a declaration do not depend on the draft
 not-refused : (kind : FaultKind) (all : Draft) (d : Declaration) → not (may_refuse kind d) ≡ true → refused_as kind (refusal_tests all d) ≡ false
-not-refused kind all d h = grind arith
+not-refused = grind arith
 
 pub none-refuse : (kind : FaultKind) (ds : Declarations) (all : Draft) → list_all (λ d. not (may_refuse kind d)) ds ≡ true → refuses kind all ds ≡ false
 none-refuse kind [] all h = refl
 none-refuse kind (d ∷ ds) all h = grind (arith, refuses, not-refused, none-refuse kind ds (with_declaration all d) (second_so (not (may_refuse kind d)) (list_all (λ d. not (may_refuse kind d)) ds) h))
 
 pub no-one : {X : Type 0} (kind : FaultKind) (ds : Declarations) (all : Draft) → list_all (λ d. not (may_refuse kind d)) ds ≡ true → refuses kind all ds ≡ true → X
-no-one kind ds all h k = absurd (never (refuses kind all ds) k (none-refuse kind ds all h))
+no-one kind ds all h k = absurd (never _ k (none-refuse kind ds all h))
 
 -- ---- tests of declarations, section by section
 
@@ -61,7 +61,7 @@ is_of_header (declare_objective _) = true
 is_of_header _ = false
 
 pub header-each : (context : Context) (earlier : Draft) (more : Fields) (o : Option Section) → list_all is_of_header (header_declared context earlier more o) ≡ true
-header-each context earlier more o = grind arith
+header-each = grind arith
 
 -- ---- the section of a declaration
 
@@ -95,7 +95,7 @@ at_home = grind arith
 -- a weaker test of all
 pub all-so : (p q : Declaration → Bool) (ds : Declarations) → ((d : Declaration) → p d ≡ true → q d ≡ true) → list_all p ds ≡ true → list_all q ds ≡ true
 all-so p q [] h k = refl
-all-so p q (d ∷ ds) h k = both_so (q d) (list_all q ds) (h d (first_so (p d) (list_all p ds) k)) (all-so p q ds h (second_so (p d) (list_all p ds) k))
+all-so p q (d ∷ ds) h k = both_so _ _ (h d (first_so _ _ k)) (all-so p q ds h (second_so _ _ k))
 
 -- what lines of other sections declare
 elsewhere : (section : Section) (context : Context) (earlier : Draft) (fields : Fields) (o : Option Section) → is_section section o ≡ false
@@ -145,14 +145,13 @@ pub unrefused-header : {X : Type 0} (kind : FaultKind) → ((d : Declaration) �
     → refuses kind earlier (header_declared context earlier more o) ≡ true → X
 unrefused-header kind none context earlier more o h =
     no-one kind (header_declared context earlier more o) earlier
-    (all-so is_of_header (λ d. not (may_refuse kind d)) (header_declared context earlier more o) none (header-each context earlier more o)) h
+    (all-so is_of_header _ (header_declared context earlier more o) none (header-each context earlier more o)) h
 
 -- nor has a line of another section
 pub unrefused-data : {X : Type 0} (section : Section) (kind : FaultKind) → ((d : Declaration) → is_elsewhere section d ≡ true → not (may_refuse kind d) ≡ true)
     → (context : Context) (earlier : Draft) (fields : Fields) (o : Option Section) → is_section section o ≡ false → refuses kind earlier (data_declared context earlier fields o) ≡ true → X
 unrefused-data section kind other context earlier fields o out h =
-    no-one kind (data_declared context earlier fields o) earlier
-    (all-so (is_elsewhere section) (λ d. not (may_refuse kind d)) (data_declared context earlier fields o) other (elsewhere section context earlier fields o out)) h
+    no-one kind (data_declared context earlier fields o) earlier (all-so _ _ _ other (elsewhere section context earlier fields o out)) h
 
 -- nor has a line of another section than these, if they are the homes of all declarations that may be rejected with it
 pub unrefused : {X : Type 0} (kind : FaultKind) (homes : List Section) → ((d : Declaration) → (list_any (same_section (home_of d)) (Name ∷ homes) || not (may_refuse kind d)) ≡ true)
@@ -160,10 +159,10 @@ pub unrefused : {X : Type 0} (kind : FaultKind) (homes : List Section) → ((d :
     → refuses kind earlier (data_declared context earlier fields (Some section)) ≡ true → X
 unrefused kind homes none context earlier fields section out h =
     no-one kind (data_declared context earlier fields (Some section)) earlier
-    (all-so (is_at_home section) (λ d. not (may_refuse kind d)) (data_declared context earlier fields (Some section)) by (data-each is_at_home at_home context earlier fields (Some section))) h
+    (all-so _ _ (data_declared context earlier fields (Some section)) by (data-each is_at_home at_home context earlier fields (Some section))) h
   where
     by : (d : Declaration) → is_at_home section d ≡ true → not (may_refuse kind d) ≡ true
-    by d k = grind (arith, none)
+    by = grind (arith, none)
 
 -- so a line with this error is one of the section, and passes the test if each of those with the error does
 pub line-of : (section : Section) (kind : FaultKind) → IsErrorOfSection section kind → (test : Fields → Bool) (before : List LineContent) (earlier : Draft)

@@ -32,22 +32,22 @@ form-good kind before earlier item long byte heads lines first = first.late long
   where
     member : (ks : List FaultKind) (k : FaultKind) → list_all (is_below kind) ks ≡ true → is_among ks k ≡ true → is_below kind k ≡ true
     member [] k h e = cc
-    member (x ∷ ks) k h e = of (is_kind k x) refl e (λ f. member ks k (second_so (is_below kind x) (list_all (is_below kind) ks) h) f)
+    member (x ∷ ks) k h e = of (is_kind k x) refl e (λ f. member ks k (second_so _ _ h) f)
       where
         of : (b : Bool) → is_kind k x ≡ b → (b || is_among ks k) ≡ true → (is_among ks k ≡ true → is_below kind k ≡ true) → is_below kind k ≡ true
-        of true f g rest = ap (λ (n : ℕ). nat_lt n (kind_rank kind)) (same-rank k x f) ∙ first_so (is_below kind x) (list_all (is_below kind) ks) h
+        of true f g rest = ap (λ n. nat_lt n (kind_rank kind)) (same-rank k x f) ∙ first_so _ _ h
         of false f g rest = rest g
 
     each : (ks : List FaultKind) (tests : FaultTests) → list_all (is_below kind) ks ≡ true → list_all (λ test. is_among ks test.1) tests ≡ true → list_all (λ test. is_below kind test.1) tests ≡ true
     each ks [] h e = refl
     each ks ((held, k) ∷ more) h e =
-        both_so (is_below kind k) (list_all (λ test. is_below kind test.1) more) (member ks k h (first_so (is_among ks k) (list_all (λ test. is_among ks test.1) more) e))
+        both_so _ _ (member ks k h (first_so _ _ e))
         (each ks more h (second_so (is_among ks k) (list_all (λ test. is_among ks test.1) more) e))
 
     by : (x : LineContent) → list_all (λ test. is_below kind test.1) (item_tests (context_of before) earlier x) ≡ true
     by skipped = refl
-    by (header keyword more) = each header_kinds (header_tests (context_of before) earlier keyword more (section_named keyword)) heads (header-among (context_of before) earlier keyword more (section_named keyword))
-    by (data_line fields) = each (kinds_in (current_section before)) (data_tests (context_of before) earlier fields (current_section before)) (lines (current_section before)) (data-among (context_of before) earlier fields (current_section before))
+    by (header keyword more) = each header_kinds _ heads (header-among (context_of before) earlier keyword more _)
+    by (data_line fields) = each _ _ (lines (current_section before)) (data-among (context_of before) earlier fields _)
 
 -- ---- lists
 
@@ -56,17 +56,17 @@ some p q [] h k = k
 some p q (x ∷ xs) h k = by (λ e. some p q xs h e) (p x) refl k
   where
     by : (list_any p xs ≡ true → list_any q xs ≡ true) → (b : Bool) → p x ≡ b → (b || list_any p xs) ≡ true → (q x || list_any q xs) ≡ true
-    by rest true e l = or_left (q x) (list_any q xs) (h x e)
-    by rest false e l = or_right (q x) (list_any q xs) (rest l)
+    by rest true e l = or_left _ _ (h x e)
+    by rest false e l = or_right _ _ (rest l)
 
 -- what does not exist is not named
 unnamed : (a b : Bool) → (a ≡ true → b ≡ true) → not b ≡ true → not a ≡ true
-unnamed a b h k = grind arith
+unnamed = grind arith
 
 -- ---- UnknownColumn
 
 bounds-unknown : (type : BoundType) (column : List ℕ) (value : Limit) (all : Draft) → refuses kinds.UnknownColumn all (bound_declared type column value) ≡ true → not (has_column all column) ≡ true
-bounds-unknown type column value all h = grind arith
+bounds-unknown = grind arith
 
 -- the line of a column declares it first
 cells-known : (column : List ℕ) (pairs : List Pair) (all : Draft) → has_column all column ≡ true → refuses kinds.UnknownColumn all (flat_map (coefficient_declared column) pairs) ≡ false
@@ -77,7 +77,7 @@ column-known : (context : Context) (earlier : Draft) (fields : Fields) → refus
 column-known context earlier fields = by (is_marker_line fields)
   where
     line : (l : ValuesLine) (b : Bool) → refuses kinds.UnknownColumn (with_declaration earlier (declare_column l.name)) (cond b (declare_marked l.name ∷ []) [] ++ flat_map (coefficient_declared l.name) l.pairs) ≡ false
-    line l b = grind (arith, refuses, cells-known, has-put, or_left, itself_named)
+    line = grind (arith, refuses, cells-known, has-put, or_left, itself_named)
 
     of : (o : Option ValuesLine) → refuses kinds.UnknownColumn earlier (declared_if_some (column_declared context) o) ≡ false
     of None = refl
@@ -97,8 +97,7 @@ unknown-column before earlier item stated first = by item (by-declaration kinds.
         shape : (type : BoundType) (o : Option BoundLine) → refuses kinds.UnknownColumn earlier (declared_if_some (λ (line : BoundLine). bound_declared type line.column (bound_value line)) o) ≡ true
             → option_map_or (λ name. not (names_column before name)) (option_map (λ (line : BoundLine). line.column) o) false ≡ true
         shape type None e = cc
-        shape type (Some line) e =
-            unnamed (names_column before line.column) (has_column earlier line.column) (stated.known.words.there line.column) (bounds-unknown type line.column (bound_value line) earlier e)
+        shape type (Some line) e = unnamed _ _ (stated.known.words.there line.column) (bounds-unknown type line.column _ earlier e)
 
         typed : (o : Option BoundType) → refuses kinds.UnknownColumn earlier (declared_if_some (λ (type : BoundType). declared_if_some (λ (line : BoundLine). bound_declared type line.column (bound_value line)) (bound_shape type more)) o) ≡ true
             → option_map_or (λ name. not (names_column before name)) (option_map_or (λ type. option_map (λ (line : BoundLine). line.column) (bound_shape type more)) o None) false ≡ true
@@ -120,7 +119,7 @@ unknown-column before earlier item stated first = by item (by-declaration kinds.
 
     by : (x : LineContent) → refuses kinds.UnknownColumn earlier (line_declares (context_of before) earlier x) ≡ true → names_unknown_column before x ≡ true
     by skipped k = k
-    by (header keyword more) k = unrefused-header kinds.UnknownColumn (λ d h. grind arith) (context_of before) earlier more (section_named keyword) k
+    by (header keyword more) k = unrefused-header kinds.UnknownColumn (λ d h. grind arith) (context_of before) earlier more _ k
     by (data_line fields) k = data_in fields (current_section before) k
 
 pub unknown-columns : IsInWords kinds.UnknownColumn names_unknown_column
@@ -135,21 +134,21 @@ row-there before earlier name stated begun h = by (names_row before name) refl h
     by : (b : Bool) → names_row before name ≡ b → (b || (has_default_objective before && same_bytes name (codes "obj"))) ≡ true → has_row earlier name ≡ true
     by true e k = stated.rows_there name e
     by false e k =
-        ap (has_row earlier) (same_name name (codes "obj") (second_so (has_default_objective before) (same_bytes name (codes "obj")) k))
+        ap (has_row earlier) (same_name name _ (second_so _ _ k))
         ∙ stated.default_there begun (first_so (has_default_objective before) (same_bytes name (codes "obj")) k)
 
 -- rows that do not exist are not named
 rows-unnamed : (before : List LineContent) (earlier : Draft) (pairs : List Pair) → Stated before earlier → has_section before Columns ≡ true → list_any (λ pair. not (has_row earlier pair.row)) pairs ≡ true → list_any (λ pair. not (is_row before pair.row)) pairs ≡ true
-rows-unnamed before earlier pairs stated begun = grind (arith, some, unnamed, row-there)
+rows-unnamed = grind (arith, some, unnamed, row-there)
 
 either-pair : (a c d : Bool) → (c ≡ true → d ≡ true) → ((a || false) || c) ≡ true → (a || d) ≡ true
-either-pair a c d f h = grind arith
+either-pair = grind arith
 
 cells-unknown : (column : List ℕ) (pairs : List Pair) (all : Draft) → refuses kinds.UnknownRow all (flat_map (coefficient_declared column) pairs) ≡ true → list_any (λ pair. not (has_row all pair.row)) pairs ≡ true
 cells-unknown column [] all h = cc
 cells-unknown column (pair ∷ pairs) all h =
     let next = with_declaration all (declare_coefficient (record { row = pair.row; column = column }) (value_of pair.literal)) in
-    either-pair (not (has_row all pair.row)) (refuses kinds.UnknownRow next (flat_map (coefficient_declared column) pairs)) (list_any (λ p. not (has_row all p.row)) pairs) (cells-unknown column pairs next) h
+    either-pair _ _ _ (cells-unknown column pairs next) h
 
 sides-unknown : (earlier : Draft) (pairs : List Pair) (all : Draft) → refuses kinds.UnknownRow all (flat_map (λ (pair : Pair). rhs_declared earlier pair.row (value_of pair.literal)) pairs) ≡ true → list_any (λ pair. not (has_row all pair.row)) pairs ≡ true
 sides-unknown earlier [] all h = cc
@@ -158,23 +157,23 @@ sides-unknown earlier (pair ∷ pairs) all h = by (is_free_row earlier pair.row)
     by : (b : Bool) → ((next : Draft) → refuses kinds.UnknownRow next (flat_map (λ (pair : Pair). rhs_declared earlier pair.row (value_of pair.literal)) pairs) ≡ true → list_any (λ pair. not (has_row next pair.row)) pairs ≡ true)
         → refuses kinds.UnknownRow all (cond b [] (declare_rhs pair.row (value_of pair.literal) ∷ []) ++ flat_map (λ (pair : Pair). rhs_declared earlier pair.row (value_of pair.literal)) pairs) ≡ true
         → (not (has_row all pair.row) || list_any (λ p. not (has_row all p.row)) pairs) ≡ true
-    by b rest k = grind (arith, or_right, either-pair, refuses)
+    by = grind (arith, or_right, either-pair, refuses)
 
 ranges-unknown : (pairs : List Pair) (all : Draft) → refuses kinds.UnknownRow all (map (λ (pair : Pair). declare_range pair.row (value_of pair.literal)) pairs) ≡ true → list_any (λ pair. not (has_row all pair.row)) pairs ≡ true
 ranges-unknown [] all h = cc
 ranges-unknown (pair ∷ pairs) all h =
     let next = with_declaration all (declare_range pair.row (value_of pair.literal)) in
-    either-pair (not (has_row all pair.row)) (refuses kinds.UnknownRow next (map (λ (pair : Pair). declare_range pair.row (value_of pair.literal)) pairs)) (list_any (λ p. not (has_row all p.row)) pairs) (ranges-unknown pairs next) h
+    either-pair _ _ _ (ranges-unknown pairs next) h
 
 -- the word of OBJNAME is not the name of an N row
 word-unnamed : (test : List ℕ → Bool) (words : List Fields) (stated : List ℕ) → head_of (filter_map word_shape words) ≡ Some stated → test stated ≡ false → list_all test (flat_map (λ fields. fields) words) ≡ false
 word-unnamed test [] stated h k = cc
 word-unnamed test ([] ∷ more) stated h k = word-unnamed test more stated h k
-word-unnamed test ((word ∷ []) ∷ more) stated h k = let same : word ≡ stated = cc in ap (λ (b : Bool). b && list_all test (flat_map (λ fields. fields) more)) (ap test same ∙ k)
+word-unnamed test ((word ∷ []) ∷ more) stated h k = let same : word ≡ stated = cc in ap (λ b. b && list_all test (flat_map (λ fields. fields) more)) (ap test same ∙ k)
 word-unnamed test ((word ∷ next ∷ rest) ∷ more) stated h k = grind (arith, list_all-append, word-unnamed test more stated h k)
 
 objective-missing : (before : List LineContent) (earlier : Draft) → Stated before earlier → lacks_objective (context_of before) earlier ≡ true → not (has_named_objective before) ≡ true
-objective-missing before earlier stated h = grind (arith, so_not, word-unnamed, stated-words)
+objective-missing = grind (arith, so_not, word-unnamed, stated-words)
 
 -- in a section from COLUMNS on, COLUMNS has begun
 columns-begun : (before : List LineContent) (s : Section) → AreOrdered (seen_sections before) → nat_le 3 (section_rank s) ≡ true → current_section before ≡ Some s → has_section before Columns ≡ true
@@ -182,34 +181,34 @@ columns-begun before s ordered late e = ordered.columns (last-so (seen_sections 
   where
     last-so : (sections_seen : List Section) → last_or None sections_seen ≡ Some s → list_any (λ (x : Section). nat_le 3 (section_rank x)) sections_seen ≡ true
     last-so [] k = cc
-    last-so (x ∷ []) k = let same : x ≡ s = cc in or_left (nat_le 3 (section_rank x)) false (ap (λ (y : Section). nat_le 3 (section_rank y)) same ∙ late)
-    last-so (x ∷ y ∷ sections_seen) k = or_right (nat_le 3 (section_rank x)) (list_any (λ (z : Section). nat_le 3 (section_rank z)) (y ∷ sections_seen)) (last-so (y ∷ sections_seen) k)
+    last-so (x ∷ []) k = let same : x ≡ s = cc in or_left _ _ (ap (λ y. nat_le 3 (section_rank y)) same ∙ late)
+    last-so (x ∷ y ∷ sections_seen) k = or_right _ _ (last-so (y ∷ sections_seen) k)
 
 unknown-row : (before : List LineContent) (earlier : Draft) (item : LineContent) → Stated before earlier → IsFirst kinds.UnknownRow before earlier item → names_unknown_row before item ≡ true
 unknown-row before earlier skipped stated h = let no = h.stated in cc
 unknown-row before earlier (header keyword more) stated h = by (section_named keyword) h.stated
   where
     apart : (s : Option Section) → list_all (λ d. not (may_refuse kinds.UnknownRow d)) (header_declared (context_of before) earlier more s) ≡ true
-    apart s = grind (arith, sense-passes)
+    apart = grind (arith, sense-passes)
 
     form : (o : Option Section) → (holds_of kinds.UnknownRow (header_tests (context_of before) earlier keyword more o) || refuses kinds.UnknownRow earlier (header_declared (context_of before) earlier more o)) ≡ true
         → holds_of kinds.UnknownRow (header_tests (context_of before) earlier keyword more o) ≡ true
-    form o k = grind (arith, left_only, holds_of, refuses, none-refuse, apart)
+    form = grind (arith, left_only, holds_of, refuses, none-refuse, apart)
 
     sense : (fs : Fields) → holds_of kinds.UnknownRow (section_tests (context_of before) earlier ObjSense fs) ≡ true → false ≡ true
     sense [] k = k
     sense (word ∷ rest) k = k
 
     of : (s : Section) → holds_of kinds.UnknownRow (section_tests (context_of before) earlier s more) ≡ true → (is_section Columns (Some s) && not (has_named_objective before)) ≡ true
-    of s k = grind (arith, objective-missing, left_only, sense)
+    of = grind (arith, objective-missing, left_only, sense)
 
     by : (o : Option Section) → (holds_of kinds.UnknownRow (header_tests (context_of before) earlier keyword more o) || refuses kinds.UnknownRow earlier (header_declared (context_of before) earlier more o)) ≡ true
         → (is_section Columns o && not (has_named_objective before)) ≡ true
     by None k =
-        absurd (never (holds_of kinds.UnknownRow (header_tests (context_of before) earlier keyword more None)) (form None k)
+        absurd (never _ (form None k)
         (none-holds unknown_kinds kinds.UnknownRow (header_tests (context_of before) earlier keyword more None)
         (unknown-among (is_one_of (codes "QSECTION" ∷ codes "QMATRIX" ∷ codes "QUADOBJ" ∷ codes "QCMATRIX" ∷ codes "CSECTION" ∷ []) keyword)
-        (is_one_of (codes "SOS" ∷ codes "SOS1" ∷ codes "SOS2" ∷ []) keyword) (is_one_of (codes "INDICATORS" ∷ []) keyword)) refl))
+        _ _) refl))
     by (Some s) k = of s (form (Some s) k)
 unknown-row before earlier (data_line fields) stated h =
     by (current_section before) refl (by-declaration-of-data kinds.UnknownRow before earlier fields (λ o. grind arith) h)
@@ -219,8 +218,8 @@ unknown-row before earlier (data_line fields) stated h =
 
     marks : (line : ValuesLine) (b : Bool) → refuses kinds.UnknownRow (with_declaration earlier (declare_column line.name)) (cond b (declare_marked line.name ∷ []) [] ++ flat_map (coefficient_declared line.name) line.pairs) ≡ true
         → list_any (λ pair. not (has_row earlier pair.row)) line.pairs ≡ true
-    marks line true k = cells-unknown line.name line.pairs (with_declaration (with_declaration earlier (declare_column line.name)) (declare_marked line.name)) k
-    marks line false k = cells-unknown line.name line.pairs (with_declaration earlier (declare_column line.name)) k
+    marks line true k = cells-unknown line.name line.pairs _ k
+    marks line false k = cells-unknown line.name line.pairs _ k
 
     column : has_section before Columns ≡ true → (b : Bool) → refuses kinds.UnknownRow earlier (cond b [] (declared_if_some (column_declared (context_of before)) (column_shape fields))) ≡ true
         → list_any (λ pair. not (is_row before pair.row)) (option_map_or (λ (line : ValuesLine). line.pairs) (cond b None (column_shape fields)) []) ≡ true
@@ -261,7 +260,7 @@ unknown-rows = in-words kinds.UnknownRow names_unknown_row refl refl refl unknow
 
 -- up to the header of COLUMNS, each row that exists has a line of ROWS
 row-named : (before : List LineContent) (earlier : Draft) (name : List ℕ) → Stated before earlier → has_section before Columns ≡ false → has_row earlier name ≡ true → names_row before name ≡ true
-row-named before earlier name stated out h = left_only (names_row before name) (has_section before Columns) out (stated.row_lines name h)
+row-named before earlier name stated out h = left_only _ _ out (stated.row_lines name h)
 
 -- in ROWS the header of COLUMNS has not come yet
 pub last-place : (sections_seen : List Section) (s : Section) → in_order sections_seen ≡ true → last_or None sections_seen ≡ Some s → list_all (λ (x : Section). nat_le (section_rank x) (section_rank s)) sections_seen ≡ true
@@ -275,7 +274,7 @@ columns-out (x ∷ sections_seen) h = grind (arith, both_false, columns-out sect
 
 pub below-all : (kind : FaultKind) → list_all (is_below kind) (kinds_in None) ≡ true → list_all (is_below kind) (kinds_in (Some Rows)) ≡ true → list_all (is_below kind) (kinds_in (Some Columns)) ≡ true → list_all (is_below kind) (kinds_in (Some Bounds)) ≡ true
     → (o : Option Section) → list_all (is_below kind) (kinds_in o) ≡ true
-below-all kind none rows columns numbers o = grind arith
+below-all = grind arith
 
 -- no test of a well-formed line fails
 good-none : (kind : FaultKind) (tests : FaultTests) → those_of tests ≡ [] → holds_of kind tests ≡ false
@@ -292,11 +291,11 @@ good-none kind ((held, other) ∷ more) h = by held h (λ e. good-none kind more
 
 -- so one of its declarations is rejected
 pub good-refused : (kind : FaultKind) (before : List LineContent) (earlier : Draft) (item : LineContent) → IsGood before earlier item → IsFirst kind before earlier item → refuses kind earlier (line_declares (context_of before) earlier item) ≡ true
-good-refused kind before earlier item good first = grind (arith, right_only, holds_of, refuses, good-none)
+good-refused = grind (arith, right_only, holds_of, refuses, good-none)
 
 -- if there is no objective, and OBJNAME gives no name, no row is of type N, and OBJNAME has no word
 default-in_words : (before : List LineContent) (earlier : Draft) → Stated before earlier → is_none earlier.objective ≡ true → is_none (objname before) ≡ true → has_default_objective before ≡ true
-default-in_words before earlier stated none untold = grind (arith, both_so, so_not, never, missing, without_word, with_word, stated-words)
+default-in_words = grind (arith, both_so, so_not, never, missing, without_word, with_word, stated-words)
 
 repeated-row : (before : List LineContent) (earlier : Draft) (item : LineContent) → Stated before earlier → IsFirst kinds.DuplicateRow before earlier item → repeats_row before item ≡ true
 repeated-row before earlier item stated first =
@@ -305,13 +304,13 @@ repeated-row before earlier item stated first =
   where
     head : (keyword : List ℕ) (more : Fields) (o : Option Section) → those_of (header_tests (context_of before) earlier keyword more o) ≡ [] → refuses kinds.DuplicateRow earlier (header_declared (context_of before) earlier more o) ≡ true
         → (is_section Columns o && (has_default_objective before && names_row before (codes "obj"))) ≡ true
-    head keyword more o g k = grind (arith, no-one, sense-passes, may_refuse, header-fresh, refuses, both_so, default-in_words, row-named, left_only)
+    head = grind (arith, no-one, sense-passes, may_refuse, header-fresh, refuses, both_so, default-in_words, row-named, left_only)
 
     other : (fields : Fields) (s : Section) → list_any (same_section s) (Name ∷ Rows ∷ []) ≡ false → refuses kinds.DuplicateRow earlier (data_declared (context_of before) earlier fields (Some s)) ≡ true → false ≡ true
     other = unrefused kinds.DuplicateRow (Rows ∷ []) (λ d. grind arith) (context_of before) earlier
 
     typed : (name : List ℕ) (type : RowType) → refuses kinds.DuplicateRow earlier (row_of_type (context_of before) earlier name type) ≡ true → has_row earlier name ≡ true
-    typed name type k = grind (arith, refuses)
+    typed = grind (arith, refuses)
 
     row : (o : Option RowLine) → has_section before Columns ≡ false → refuses kinds.DuplicateRow earlier (declared_if_some (row_declared (context_of before) earlier) o) ≡ true → option_map_or (names_row before) (option_map (λ (line : RowLine). line.name) o) false ≡ true
     row None out k = cc
@@ -332,7 +331,7 @@ repeated-row before earlier item stated first =
 
     by : (x : LineContent) → IsGood before earlier x → refuses kinds.DuplicateRow earlier (line_declares (context_of before) earlier x) ≡ true → repeats_row before x ≡ true
     by skipped g k = cc
-    by (header keyword more) g k = head keyword more (section_named keyword) g k
+    by (header keyword more) g k = head keyword more _ g k
     by (data_line fields) g k = data_in fields (current_section before) refl k
 
 pub repeated-rows : IsInWords kinds.DuplicateRow repeats_row
@@ -357,37 +356,35 @@ cells-repeat column (pair ∷ pairs) all h = by (has_coefficient all (key pair))
     next = with_declaration all (declare_coefficient (record { row = pair.row; column = column }) (value_of pair.literal))
 
     now : list_any (λ p. has_coefficient next (record { row = p.row; column = column })) pairs ≡ (list_any (λ other. same_bytes other.row pair.row && same_bytes column column) pairs || list_any (λ p. has_coefficient all (record { row = p.row; column = column })) pairs)
-    now =
-        same-any pairs
-        ∙ some-either (λ other. same_bytes other.row pair.row && same_bytes column column) (λ p. has_coefficient all (record { row = p.row; column = column })) pairs
+    now = same-any pairs ∙ some-either _ _ pairs
       where
         same-any : (ps : List Pair) → list_any (λ p. has_coefficient next (record { row = p.row; column = column })) ps ≡ list_any (λ p. (same_bytes p.row pair.row && same_bytes column column) || has_coefficient all (record { row = p.row; column = column })) ps
         same-any [] = refl
         same-any (p ∷ ps) =
-            ap (λ (b : Bool). b || list_any (λ p. has_coefficient next (record { row = p.row; column = column })) ps) (has-put_key (record { row = p.row; column = column }) (record { row = pair.row; column = column }) (value_of pair.literal) all.coefficients)
-            ∙ ap (λ (b : Bool). ((same_bytes p.row pair.row && same_bytes column column) || has_coefficient all (record { row = p.row; column = column })) || b) (same-any ps)
+            ap (λ b. b || list_any (λ p. has_coefficient next (record { row = p.row; column = column })) ps) (has-put_key _ _ _ all.coefficients)
+            ∙ ap (λ b. ((same_bytes p.row pair.row && same_bytes column column) || has_coefficient all (record { row = p.row; column = column })) || b) (same-any ps)
 
     one_column : list_any (λ other. same_bytes other.row pair.row && same_bytes column column) pairs ≡ true → list_any (λ other. same_bytes other.row pair.row) pairs ≡ true
-    one_column e = some (λ other. same_bytes other.row pair.row && same_bytes column column) (λ other. same_bytes other.row pair.row) pairs (λ other f. first_so (same_bytes other.row pair.row) (same_bytes column column) f) e
+    one_column e = some _ (λ other. same_bytes other.row pair.row) pairs (λ other f. first_so _ _ f) e
 
     gather : (t a b : Bool) → a ≡ list_any (λ other. same_bytes other.row pair.row && same_bytes column column) pairs → (t || (a || b)) ≡ true → ((list_any (λ other. same_bytes other.row pair.row) pairs || t) || b) ≡ true
-    gather t a b e k = grind (arith, or_left, or_right, one_column)
+    gather = grind (arith, or_left, or_right, one_column)
 
     by : (b : Bool) → has_coefficient all (record { row = pair.row; column = column }) ≡ b → ((b || false) || refuses kinds.DuplicateEntry next (flat_map (coefficient_declared column) pairs)) ≡ true
         → (refuses kinds.DuplicateEntry next (flat_map (coefficient_declared column) pairs) ≡ true → (has_row_twice pairs || list_any (λ p. has_coefficient next (record { row = p.row; column = column })) pairs) ≡ true)
         → ((list_any (λ other. same_bytes other.row pair.row) pairs || has_row_twice pairs) || (b || list_any (λ p. has_coefficient all (record { row = p.row; column = column })) pairs)) ≡ true
-    by b e k rest = grind (arith, or_right, gather, now)
+    by = grind (arith, or_right, gather, now)
 
 -- a well-formed line does not declare a second sense: OBJSENSE has not begun, or has no word yet
 fresh-sense : (before : List LineContent) (earlier : Draft) → Stated before earlier → is_nonempty (flat_map (λ fields. fields) (words_in ObjSense before)) ≡ false → is_some earlier.sense ≡ false
-fresh-sense before earlier stated none = grind arith
+fresh-sense = grind arith
 
 sense-once : (fields : Fields) (all : Draft) → is_some all.sense ≡ false → refuses kinds.DuplicateEntry all (declared_if_some sense_declared (word_shape fields)) ≡ false
-sense-once fields all none = grind arith
+sense-once = grind arith
 
 -- nor a second objective
 objective-once : (all : Draft) (name : List ℕ) → is_none all.objective ≡ true → refuses kinds.DuplicateEntry all (declare_objective name ∷ []) ≡ false
-objective-once all name h = grind arith
+objective-once = grind arith
 
 repeated-entry : (before : List LineContent) (earlier : Draft) (item : LineContent) → Stated before earlier → IsFirst kinds.DuplicateEntry before earlier item → repeats_entry before item ≡ true
 repeated-entry before earlier item stated first =
@@ -395,29 +392,29 @@ repeated-entry before earlier item stated first =
     by item good (good-refused kinds.DuplicateEntry before earlier item good first)
   where
     not_begun : has_section before ObjSense ≡ false → is_some earlier.sense ≡ false
-    not_begun out = grind (arith, missing, fresh-sense, without_word, never, with_word)
+    not_begun = grind (arith, missing, fresh-sense, without_word, never, with_word)
 
     no_word : current_section before ≡ Some ObjSense → is_some (word_due before) ≡ true → is_some earlier.sense ≡ false
-    no_word e w = grind (arith, missing, fresh-sense, without_word, with_word, never)
+    no_word = grind (arith, missing, fresh-sense, without_word, with_word, never)
 
     head : (keyword : List ℕ) (more : Fields) (o : Option Section) → those_of (header_tests (context_of before) earlier keyword more o) ≡ [] → refuses kinds.DuplicateEntry earlier (header_declared (context_of before) earlier more o) ≡ true → false ≡ true
-    head keyword more o g k = grind (arith, never, refuses, sense-once, header-fresh, objective-once, not_begun)
+    head = grind (arith, never, refuses, sense-once, header-fresh, objective-once, not_begun)
 
     other : (fields : Fields) (s : Section) → list_any (same_section s) (Name ∷ ObjSense ∷ Rows ∷ Columns ∷ []) ≡ false → refuses kinds.DuplicateEntry earlier (data_declared (context_of before) earlier fields (Some s)) ≡ true → false ≡ true
     other = unrefused kinds.DuplicateEntry (ObjSense ∷ Rows ∷ Columns ∷ []) (λ d. grind arith) (context_of before) earlier
 
     row : (name : List ℕ) (type : RowType) → refuses kinds.DuplicateEntry earlier (row_of_type (context_of before) earlier name type) ≡ true → false ≡ true
-    row name type k = grind (arith, refuses, never, objective-once)
+    row = grind (arith, refuses, never, objective-once)
 
     rows : (o : Option RowLine) → refuses kinds.DuplicateEntry earlier (declared_if_some (row_declared (context_of before) earlier) o) ≡ true → false ≡ true
-    rows o k = grind (arith, refuses, row)
+    rows = grind (arith, refuses, row)
 
     -- each coefficient that exists has a line
     lines : (line : ValuesLine) (all : Draft) → ((key : CoefficientKey) → has_coefficient all key ≡ has_coefficient earlier key) → refuses kinds.DuplicateEntry all (flat_map (coefficient_declared line.name) line.pairs) ≡ true → repeats_entry_of before line ≡ true
     lines line all same k = of (has_row_twice line.pairs) (cells-repeat line.name line.pairs all k)
       where
         of : (b : Bool) → (b || list_any (λ pair. has_coefficient all (record { row = pair.row; column = line.name })) line.pairs) ≡ true → (b || list_any (λ pair. list_any (has_entry_of line.name pair.row) (data_lines Columns before)) line.pairs) ≡ true
-        of b e = grind (arith, some, row)
+        of = grind (arith, some, row)
 
     marks : (line : ValuesLine) (b : Bool) → refuses kinds.DuplicateEntry (with_declaration earlier (declare_column line.name)) (cond b (declare_marked line.name ∷ []) [] ++ flat_map (coefficient_declared line.name) line.pairs) ≡ true → repeats_entry_of before line ≡ true
     marks line true k = lines line (with_declaration (with_declaration earlier (declare_column line.name)) (declare_marked line.name)) (λ key. refl) k
@@ -446,9 +443,8 @@ repeated-entry before earlier item stated first =
 
     by : (x : LineContent) → IsGood before earlier x → refuses kinds.DuplicateEntry earlier (line_declares (context_of before) earlier x) ≡ true → repeats_entry before x ≡ true
     by skipped g k = k
-    by (header keyword more) g k = head keyword more (section_named keyword) g k
-    by (data_line fields) g k =
-        data_in fields (current_section before) refl g k
+    by (header keyword more) g k = head keyword more _ g k
+    by (data_line fields) g k = data_in fields (current_section before) refl g k
 
 pub repeated-entries : IsInWords kinds.DuplicateEntry repeats_entry
 repeated-entries = in-words kinds.DuplicateEntry repeats_entry refl refl refl repeated-entry

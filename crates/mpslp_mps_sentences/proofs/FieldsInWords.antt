@@ -18,7 +18,7 @@ some-word : (a b : List ℕ) → Some a ≡ Some b → a ≡ b
 some-word a b h = cc
 
 pub section-is : (section : Section) (o : Option Section) → is_section section o ≡ true → o ≡ Some section
-section-is section o h = grind arith
+section-is = grind arith
 
 -- ---- numbers
 
@@ -27,7 +27,7 @@ NoFault literals = (has_number_fault literals kinds.BadNumber ≡ false) × (has
     × (has_number_fault literals kinds.TooManyDigits ≡ false) × (has_number_fault literals kinds.ExponentRange ≡ false)
 
 number-fine : (literal : List ℕ) (literals : List (List ℕ)) → NoFault (literal ∷ literals) → is_number literal ≡ true
-number-fine literal literals h = grind arith
+number-fine = grind arith
 
 rest-fine : (literal : List ℕ) (literals : List (List ℕ)) (kind : FaultKind) → has_number_fault (literal ∷ literals) kind ≡ false → has_number_fault literals kind ≡ false
 rest-fine literal literals kind h = by (number_fault literal) refl
@@ -36,7 +36,7 @@ rest-fine literal literals kind h = by (number_fault literal) refl
     by None e = let g : has_number_fault (literal ∷ literals) kind ≡ has_number_fault literals kind = rw e refl in sym g ∙ h
     by (Some other) e =
         let g : has_number_fault (literal ∷ literals) kind ≡ (is_kind kind other || has_number_fault literals kind) = rw e refl in
-        (nor (is_kind kind other) (has_number_fault literals kind) (sym g ∙ h)).1
+        (nor _ _ (sym g ∙ h)).1
 
 numbers-fine : (literals : List (List ℕ)) → NoFault literals → list_all is_number literals ≡ true
 numbers-fine [] h = refl
@@ -44,24 +44,24 @@ numbers-fine (literal ∷ literals) (a, b, c, d) = grind (arith, both_so, number
 
 pairs-fine : (pairs : List Pair) → list_all is_number (literals_of pairs) ≡ list_all (λ (pair : Pair). is_number pair.literal) pairs
 pairs-fine [] = refl
-pairs-fine (pair ∷ pairs) = ap (λ (b : Bool). is_number pair.literal && b) (pairs-fine pairs)
+pairs-fine (pair ∷ pairs) = ap (λ b. is_number pair.literal && b) (pairs-fine pairs)
 
 after-numbers : (literals : List (List ℕ)) (more : FaultTests) → those_of (number_tests literals ++ more) ≡ [] → NoFault literals × (those_of more ≡ [])
-after-numbers literals more h = grind arith
+after-numbers = grind arith
 
 after-names : (name : List ℕ) (more : FaultTests) → those_of (name_tests name ++ more) ≡ [] → those_of more ≡ []
-after-names name more h = grind arith
+after-names = grind arith
 
 fine : (b : Bool) → not b ≡ false → b ≡ true
-fine b k = grind arith
+fine = grind arith
 
 -- ---- data lines by section
 
 something : {X : Type 0} (o : Option X) → is_none o ≡ false → is_some o ≡ true
-something o k = grind arith
+something = grind arith
 
 pub row-fields : (fields : Fields) → those_of (judged_by row_line_tests (row_shape fields)) ≡ [] → is_row_line fields ≡ true
-row-fields fields h = grind arith
+row-fields = grind arith
 
 pub numbers-of : (pairs : List Pair) (more : FaultTests) → those_of (number_tests (literals_of pairs) ++ more) ≡ [] → have_numbers pairs ≡ true
 numbers-of pairs more h = sym (pairs-fine pairs) ∙ numbers-fine (literals_of pairs) (after-numbers (literals_of pairs) more h).0
@@ -83,7 +83,7 @@ columns-fields context earlier fields h = by (is_marker_line fields) h
     line_of None k = cc
     line_of (Some line) k =
         let parts = column-parts context earlier line k in
-        both_so (is_mps_name line.name) (have_numbers line.pairs) parts.0 parts.1
+        both_so _ _ parts.0 parts.1
 
     marker_of : (o : Option (List ℕ)) → those_of (judged_by (marker_word_tests context) o) ≡ [] → is_some o ≡ true
     marker_of None k = cc
@@ -91,13 +91,13 @@ columns-fields context earlier fields h = by (is_marker_line fields) h
 
     by : (b : Bool) → those_of (cond b (marker_tests context fields) (judged_by (column_tests context earlier) (column_shape fields))) ≡ []
         → cond b (is_some (marker_shape fields)) (option_map_or (λ (line : ValuesLine). is_mps_name line.name && have_numbers line.pairs) (column_shape fields) false) ≡ true
-    by true k = marker_of (marker_shape fields) (later_tests (is_sos_marker fields) kinds.Sos (judged_by (marker_word_tests context) (marker_shape fields)) k)
+    by true k = marker_of (marker_shape fields) (later_tests _ kinds.Sos (judged_by (marker_word_tests context) (marker_shape fields)) k)
     by false k = line_of (column_shape fields) k
 
 -- a marker line closes the block that is open, or opens one
 pub marker-fits : (context : Context) (earlier : Draft) (fields : Fields) → those_of (columns_line_tests context earlier fields) ≡ [] → (word : List ℕ) → marker_word fields ≡ Some word
     → same_bytes word (cond context.in_integer_part closing_word opening_word) ≡ true
-marker-fits context earlier fields h word = grind arith
+marker-fits = grind arith
 
 -- a column continues that of the line before, or begins
 pub column-continues_column : (context : Context) (earlier : Draft) (fields : Fields) → those_of (columns_line_tests context earlier fields) ≡ [] → (name : List ℕ) → line_column fields ≡ Some name
@@ -117,7 +117,7 @@ column-continues_column context earlier fields h name = by (is_marker_line field
 
 -- a set other than the first
 abbrev pub is_other_set : Option (List ℕ) → List ℕ → Bool
-is_other_set first set = option_map_or (λ (name : List ℕ). not (same_bytes name set)) first false
+is_other_set first set = option_map_or (λ name. not (same_bytes name set)) first false
 
 pub vector-fields : (first : Option (List ℕ)) (fields : Fields) → those_of (judged_by (vector_tests first) (vector_shape fields)) ≡ [] → is_vector_line fields ≡ true
 vector-fields first fields h = by (vector_shape fields) h
@@ -131,7 +131,7 @@ pub vector-set : (first : Option (List ℕ)) (fields : Fields) → those_of (jud
 vector-set first fields h name e = by (vector_shape fields) h e
   where
     by : (o : Option ValuesLine) → those_of (judged_by (vector_tests first) o) ≡ [] → option_map (λ (line : ValuesLine). line.name) o ≡ Some name → is_other_set first name ≡ false
-    by o k f = grind (arith, some-word, first_test, after-numbers)
+    by = grind (arith, some-word, first_test, after-numbers)
 
 bound-parts : (context : Context) (line : BoundLine) → those_of (bound_tests context line) ≡ []
     → (option_map_or is_number line.literal true ≡ true) × (is_other_set context.bounds_set line.set ≡ false)
@@ -141,14 +141,14 @@ bound-parts context line h = by line.literal h
     sets = set_tests context.bounds_set line.set
 
     one : (literal : List ℕ) → have_numbers (record { row = []; literal = literal } ∷ []) ≡ true → is_number literal ≡ true
-    one literal k = first_so (is_number literal) true k
+    one literal k = first_so _ _ k
 
     by : (o : Option (List ℕ)) → those_of (option_map_or (λ (literal : List ℕ). number_tests (literal ∷ [])) o [] ++ sets) ≡ []
         → (option_map_or is_number o true ≡ true) × (is_other_set context.bounds_set line.set ≡ false)
-    by None k = (refl, first_test (is_other_set context.bounds_set line.set) kinds.SecondSet [] k)
+    by None k = (refl, first_test _ kinds.SecondSet [] k)
     by (Some literal) k = (
       one literal (numbers-of (record { row = []; literal = literal } ∷ []) sets k),
-      first_test (is_other_set context.bounds_set line.set) kinds.SecondSet [] (after-numbers (literal ∷ []) sets k).1,
+      first_test _ kinds.SecondSet [] (after-numbers (literal ∷ []) sets k).1,
     )
 
 pub bound-fields : (context : Context) (fields : Fields) → those_of (bound_line_tests context fields) ≡ [] → is_bound_line fields ≡ true
@@ -195,17 +195,17 @@ KeepsIfGood Holds = (before : List LineContent) (earlier : Draft) (item : LineCo
 -- ---- names and numbers
 
 no-fault : (literal : List ℕ) → is_number literal ≡ true → number_fault literal ≡ None
-no-fault literal h = grind arith
+no-fault = grind arith
 
 no-faults : (pairs : List Pair) → have_numbers pairs ≡ true → filter_map number_fault (literals_of pairs) ≡ []
 no-faults [] h = refl
 no-faults (pair ∷ pairs) h = grind (arith, no-faults pairs (second_so (is_number pair.literal) (have_numbers pairs) h))
 
 numbers-pass : (pairs : List Pair) (more : FaultTests) → have_numbers pairs ≡ true → those_of (number_tests (literals_of pairs) ++ more) ≡ those_of more
-numbers-pass pairs more h = grind (arith, no-faults)
+numbers-pass = grind (arith, no-faults)
 
 name-passes : (name : List ℕ) (more : FaultTests) → is_mps_name name ≡ true → those_of (name_tests name ++ more) ≡ those_of more
-name-passes name more h = grind arith
+name-passes = grind arith
 
 -- a test that passes
 passes : (b : Bool) (kind : FaultKind) (more : FaultTests) → b ≡ false → those_of ((b, kind) ∷ more) ≡ those_of more
@@ -215,11 +215,11 @@ passes false kind more h = refl
 -- ---- data lines by section
 
 pub row-good : (fields : Fields) → is_row_line fields ≡ true → those_of (judged_by row_line_tests (row_shape fields)) ≡ []
-row-good fields h = grind arith
+row-good = grind arith
 
 -- the word that opens or closes an integer block is not that of a special ordered set
 no-sos : (fields : Fields) (b : Bool) (word : List ℕ) → marker_shape fields ≡ Some word → same_bytes word (cond b closing_word opening_word) ≡ true → is_sos_marker fields ≡ false
-no-sos fields b word e h = search (rules, same_name)
+no-sos = search (rules, same_name)
 
 pub columns-good : (context : Context) (earlier : Draft) (fields : Fields) → is_columns_line fields ≡ true
     → ((word : List ℕ) → marker_word fields ≡ Some word → same_bytes word (cond context.in_integer_part closing_word opening_word) ≡ true)
@@ -229,15 +229,15 @@ columns-good context earlier fields h = by (is_marker_line fields) h
   where
     fits : (o : Option (List ℕ)) → marker_shape fields ≡ o → is_some o ≡ true → ((word : List ℕ) → o ≡ Some word → same_bytes word (cond context.in_integer_part closing_word opening_word) ≡ true)
         → those_of ((is_sos_marker fields, kinds.Sos) ∷ judged_by (marker_word_tests context) o) ≡ []
-    fits o e k m = grind (arith, passes, no-sos)
+    fits = grind (arith, passes, no-sos)
 
     of : (o : Option ValuesLine) → option_map_or (λ (line : ValuesLine). is_mps_name line.name && have_numbers line.pairs) o false ≡ true
         → ((name : List ℕ) → option_map (λ (line : ValuesLine). line.name) o ≡ Some name → is_split context earlier name ≡ false) → those_of (judged_by (column_tests context earlier) o) ≡ []
     of None k s = cc
     of (Some line) k s =
         let last : FaultTests = (is_split context earlier line.name, kinds.ColumnSplit) ∷ [] in
-        name-passes line.name (number_tests (literals_of line.pairs) ++ last) (first_so (is_mps_name line.name) (have_numbers line.pairs) k)
-        ∙ (numbers-pass line.pairs last (second_so (is_mps_name line.name) (have_numbers line.pairs) k)
+        name-passes line.name (number_tests (literals_of line.pairs) ++ last) (first_so _ _ k)
+        ∙ (numbers-pass line.pairs last (second_so _ _ k)
         ∙ passes (is_split context earlier line.name) kinds.ColumnSplit [] (s line.name refl))
 
     by : (b : Bool) → cond b (is_some (marker_shape fields)) (option_map_or (λ (line : ValuesLine). is_mps_name line.name && have_numbers line.pairs) (column_shape fields) false) ≡ true
@@ -265,7 +265,7 @@ bound-good context (letters ∷ more) h s = by (bound_type letters) h s
         → those_of (option_map_or (λ (literal : List ℕ). number_tests (literal ∷ [])) o [] ++ set_tests context.bounds_set line.set) ≡ []
     lit line None k t = passes (is_other_set context.bounds_set line.set) kinds.SecondSet [] t
     lit line (Some literal) k t =
-        numbers-pass (record { row = []; literal = literal } ∷ []) (set_tests context.bounds_set line.set) (both_so (is_number literal) true k refl)
+        numbers-pass (record { row = []; literal = literal } ∷ []) (set_tests context.bounds_set line.set) (both_so _ _ k refl)
         ∙ passes (is_other_set context.bounds_set line.set) kinds.SecondSet [] t
 
     of : (o : Option BoundLine) → option_map_or (λ (line : BoundLine). option_map_or is_number line.literal true) o false ≡ true

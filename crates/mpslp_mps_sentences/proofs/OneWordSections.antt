@@ -35,7 +35,7 @@ pub record IsOfOneWord (section : Section) (test : List ℕ → Bool) : Type 0 w
   pub itself : is_section section (Some section) ≡ true
 
 something : {X : Type 0} (o : Option X) → is_none o ≡ false → is_some o ≡ true
-something o k = grind arith
+something = grind arith
 
 pub sense-word : IsOfOneWord ObjSense is_sense
 sense-word = grind arith
@@ -66,34 +66,34 @@ IsUnderway section test before = IsSome section test (words_in section before) (
 -- replaces parts by equal ones
 carried : (section : Section) (test : List ℕ → Bool) (words words2 : List Fields) (begun begun2 : Bool) (current current2 awaited wanted2 : Option Section)
     → words2 ≡ words → begun2 ≡ begun → current2 ≡ current → wanted2 ≡ awaited → IsSome section test words begun current awaited → IsSome section test words2 begun2 current2 wanted2
-carried section test words words2 begun begun2 current current2 awaited wanted2 p q r s h = grind arith
+carried = grind arith
 
 -- ---- one more line
 
 or_false : (b : Bool) → (b || false) ≡ b
-or_false b = grind arith
+or_false = grind arith
 
 -- a line that does not concern the section, and does not come before a missing word of it
 passed : (section : Section) (test : List ℕ → Bool) (words : List Fields) (begun : Bool) (current awaited next later : Option Section) → IsSome section test words begun current awaited
     → is_some awaited ≡ false → is_section section next ≡ false → IsSome section test (words ++ []) (begun || false) next later
-passed section test words begun current awaited next later h over out = grind arith
+passed = grind arith
 
 -- the header of the section
 begun-now : (section : Section) (test : List ℕ → Bool) → IsOfOneWord section test → (words : List Fields) (begun : Bool) (current awaited : Option Section) (more : Fields)
     → IsSome section test words begun current awaited → begun ≡ false → fits_word test more ≡ true
     → IsSome section test (words ++ more ∷ []) (begun || true) (Some section) (section_of_word_due section more)
-begun-now section test one words begun current awaited more h over fits = grind arith
+begun-now = grind arith
 
 -- the data line with the word
 word-now : (section : Section) (test : List ℕ → Bool) (words : List Fields) (begun : Bool) (current awaited : Option Section) (fields : Fields)
     → IsSome section test words begun current awaited → is_section section current ≡ true → is_some awaited ≡ true → is_single test fields ≡ true
     → IsSome section test (words ++ fields ∷ []) (begun || false) current None
-word-now section test words begun current awaited fields h here there fits = grind arith
+word-now = grind arith
 
 -- a data line of another section
 elsewhere : (section : Section) (test : List ℕ → Bool) (words : List Fields) (begun : Bool) (current awaited : Option Section)
     → IsSome section test words begun current awaited → is_section section current ≡ false → IsSome section test (words ++ []) (begun || false) current None
-elsewhere section test words begun current awaited h out = grind arith
+elsewhere = grind arith
 
 pub word-kept : (section : Section) (test : List ℕ → Bool) → IsOfOneWord section test → (before : List LineContent) (earlier : Draft) (item : LineContent) → IsGood before earlier item
     → IsUnderway section test before → IsUnderway section test (before ++ item ∷ [])
@@ -143,7 +143,7 @@ word-kept section test one before earlier item good h =
 -- if the section is not current, it is missing or has its word
 pub word-at_end : (section : Section) (test : List ℕ → Bool) (before : List LineContent) → IsUnderway section test before → is_section section (current_section before) ≡ false
     → has_word_at_most test (words_in section before) ≡ true
-word-at_end section test before h out = grind arith
+word-at_end = grind arith
 
 -- ---- lines that declare no objective
 
@@ -151,7 +151,7 @@ abbrev pub are_unnamed : Declarations → Bool
 are_unnamed ds = list_all (λ d. not (declares_objective d)) ds
 
 objective-same : (all : Draft) (d : Declaration) → not (declares_objective d) ≡ true → (with_declaration all d).objective ≡ all.objective
-objective-same all d h = grind arith
+objective-same = grind arith
 
 pub objective-kept : (ds : Declarations) (all : Draft) → are_unnamed ds ≡ true → (with_declarations all ds).objective ≡ all.objective
 objective-kept [] all h = refl
@@ -161,7 +161,7 @@ pub data-unnamed : (context : Context) (earlier : Draft) (fields : Fields) (o : 
 data-unnamed context earlier fields o h = grind arith
 
 pub header-unnamed : (context : Context) (earlier : Draft) (more : Fields) (o : Option Section) → is_section Columns o ≡ false → are_unnamed (header_declared context earlier more o) ≡ true
-header-unnamed context earlier more o h = grind arith
+header-unnamed = grind arith
 
 -- ---- OBJNAME has its word before ROWS begins
 
@@ -170,10 +170,10 @@ abbrev pub IsWantedEarly : List LineContent → Type 0
 IsWantedEarly before = is_some (word_due before) ≡ true → has_section before Rows ≡ false
 
 pub none-word_due : (section : Section) (more : Fields) → takes_word section ≡ false → is_some (section_of_word_due section more) ≡ true → ⊥
-none-word_due section more h k = grind arith
+none-word_due = grind arith
 
 pub wanted_early-kept : (before : List LineContent) (earlier : Draft) (item : LineContent) → IsGood before earlier item → IsWantedEarly before → IsWantedEarly (before ++ item ∷ [])
-wanted_early-kept before earlier item good early awaited = grind (arith, has_section-push, word_due-push, none-word_due, not_so, header-begins)
+wanted_early-kept = grind (arith, has_section-push, word_due-push, none-word_due, not_so, header-begins)
 
 no-later-name : (before : List LineContent) (earlier : Draft) (item : LineContent) → IsGood before earlier item → IsWantedEarly before → has_section before Rows ≡ true → objname_word (current_section before) item ≡ None
 no-later-name before earlier item good early begun = grind arith
@@ -184,13 +184,13 @@ abbrev pub has_named_row : List LineContent → Bool
 has_named_row before = option_map_or (has_free_row before) (objname before) true
 
 free_row-kept : (before : List LineContent) (item : LineContent) (name : List ℕ) → has_free_row before name ≡ true → has_free_row (before ++ item ∷ []) name ≡ true
-free_row-kept before item name h = grind (arith, data_lines-push, list_any-append, or_left)
+free_row-kept = grind (arith, data_lines-push, list_any-append, or_left)
 
 pub same-name : (before : List LineContent) (earlier : Draft) (item : LineContent) → IsGood before earlier item → IsWantedEarly before → has_section before Rows ≡ true → objname (before ++ item ∷ []) ≡ objname before
-same-name before earlier item good early begun = grind (arith, objname-push, no-later-name)
+same-name = grind (arith, objname-push, no-later-name)
 
 row-kept : (before : List LineContent) (earlier : Draft) (item : LineContent) → IsGood before earlier item → IsWantedEarly before → has_section before Rows ≡ true → has_named_row before ≡ true → has_named_row (before ++ item ∷ []) ≡ true
-row-kept before earlier item good early begun h = grind (arith, same-name, free_row-kept)
+row-kept = grind (arith, same-name, free_row-kept)
 
 -- no objective before ROWS; an objective has the name that OBJNAME gives; and COLUMNS begins with such a row
 pub record IsNamedSo (before : List LineContent) (earlier : Draft) : Type 0 where
@@ -203,8 +203,8 @@ section-begun section [] h = cc
 section-begun section (x ∷ sections_seen) h = by x sections_seen h
   where
     by : (y : Section) (ys : List Section) → is_section section (last_or (Some y) ys) ≡ true → (is_section section (Some y) || has ys section) ≡ true
-    by y [] k = or_left (is_section section (Some y)) false k
-    by y (z ∷ ys) k = or_right (is_section section (Some y)) (has (z ∷ ys) section) (by z ys k)
+    by y [] k = or_left _ _ k
+    by y (z ∷ ys) k = or_right _ _ (by z ys k)
 
 pub named-kept : (before : List LineContent) (earlier : Draft) (item : LineContent) → IsGood before earlier item → AreOrdered (seen_sections before) → IsWantedEarly before → IsNamedSo before earlier
     → IsNamedSo (before ++ item ∷ []) (next_draft before earlier item)
@@ -302,21 +302,21 @@ stated-words current [] = refl
 stated-words current (item ∷ items) =
     let next = option_or (section_of_header item) current in
     filter_map-append word_shape (word_fields ObjName current item) (said_after (word_fields ObjName) next items)
-    ∙ ap (λ (more : List (List ℕ)). filter_map word_shape (word_fields ObjName current item) ++ more) (stated-words next items)
-    ∙ ap (λ (here : List (List ℕ)). here ++ said_after (λ (c : Option Section) (x : LineContent). cons_option (objname_word c x) []) next items) (by item)
+    ∙ ap (λ (more : List _). filter_map word_shape (word_fields ObjName current item) ++ more) (stated-words next items)
+    ∙ ap (λ (here : List _). here ++ said_after (λ (c : Option Section) (x : LineContent). cons_option (objname_word c x) []) next items) (by item)
   where
     when_so : (fields : Fields) (b : Bool) → filter_map word_shape (when b fields) ≡ cons_option (cond b (word_shape fields) None) []
     when_so fields true = refl
     when_so fields false = refl
 
     by : (x : LineContent) → filter_map word_shape (word_fields ObjName current x) ≡ cons_option (objname_word current x) []
-    by x = grind (arith, when_so)
+    by = grind (arith, when_so)
 
 words-named : (test : List ℕ → Bool) (words : List Fields) → has_word_at_most (λ _. true) words ≡ true → list_all test (flat_map (λ fields. fields) words) ≡ option_map_or test (head_of (filter_map word_shape words)) true
-words-named test words h = grind arith
+words-named = grind arith
 
 pub named-in_words : (items : List LineContent) → has_word_at_most (λ _. true) (words_in ObjName items) ≡ true → has_named_objective items ≡ has_named_row items
-named-in_words items h = grind (arith, words-named, stated-words)
+named-in_words = grind (arith, words-named, stated-words)
 
 -- ---- a word is required only under OBJSENSE or OBJNAME
 
@@ -324,19 +324,19 @@ abbrev pub IsWantedThere : List LineContent → Type 0
 IsWantedThere before = is_some (word_due before) ≡ true → (is_section ObjSense (current_section before) || is_section ObjName (current_section before)) ≡ true
 
 pub wanted_there-kept : (before : List LineContent) (item : LineContent) → IsWantedThere before → IsWantedThere (before ++ item ∷ [])
-wanted_there-kept before item there h = grind (arith, current_section-push, word_due-push, none-word_due)
+wanted_there-kept = grind (arith, current_section-push, word_due-push, none-word_due)
 
 -- ---- what the whole text implies for one line
 
 -- a data line of the section has its word, which was missing
 pub line-single : (section : Section) (test : List ℕ → Bool) (before : List LineContent) (fields : Fields) (more : List Fields) → IsUnderway section test before → is_section section (current_section before) ≡ true
     → has_word_at_most test (words_in section before ++ fields ∷ more) ≡ true → (is_some (word_due before) ≡ true) × (is_single test fields ≡ true)
-line-single section test before fields more k here h = grind arith
+line-single = grind arith
 
 -- its header has its word, or nothing
 pub header-fits : (section : Section) (test : List ℕ → Bool) (before : List LineContent) (fields : Fields) (more : List Fields) → IsUnderway section test before → has_section before section ≡ false
     → has_word_at_most test (words_in section before ++ fields ∷ more) ≡ true → fits_word test fields ≡ true
-header-fits section test before fields more k fresh h = grind arith
+header-fits = grind arith
 
 -- a section that is complete has no more words
 pub no-more-words : (section : Section) (current : Option Section) (items : List LineContent) → is_section section current ≡ false → has_section items section ≡ false → said_after (word_fields section) current items ≡ []
@@ -346,17 +346,17 @@ no-more-words section current (item ∷ items) h k = by item k (λ c e f. no-mor
     of : (o : Option Section) (more : Fields) → has (cons_option o (seen_sections items)) section ≡ false
         → ((c : Option Section) → is_section section c ≡ false → has_section items section ≡ false → said_after (word_fields section) c items ≡ [])
         → when (is_section section o) more ++ said_after (word_fields section) (option_or o current) items ≡ []
-    of o more e rest = grind (arith, nor)
+    of = grind (arith, nor)
 
     by : (x : LineContent) → has_section (x ∷ items) section ≡ false
         → ((c : Option Section) → is_section section c ≡ false → has_section items section ≡ false → said_after (word_fields section) c items ≡ [])
         → word_fields section current x ++ said_after (word_fields section) (option_or (section_of_header x) current) items ≡ []
-    by x e rest = grind (arith, of)
+    by = grind (arith, of)
 
 -- no header comes before the missing word of a section
 pub not-left : (section : Section) (test : List ℕ → Bool) (before : List LineContent) → IsUnderway section test before → is_section section (current_section before) ≡ true → is_some (word_due before) ≡ true
     → has_word_at_most test (words_in section before) ≡ true → ⊥
-not-left section test before k here there h = grind arith
+not-left = grind arith
 
 -- a section that has not begun, or is complete, has no more lines
 pub no-more-lines : (section : Section) (current : Option Section) (items : List LineContent) → is_section section current ≡ false → has_section items section ≡ false → data_lines_after section current items ≡ []
@@ -366,19 +366,19 @@ no-more-lines section current (item ∷ items) h k = by item k (λ c e f. no-mor
     of : (o : Option Section) → has (cons_option o (seen_sections items)) section ≡ false
         → ((c : Option Section) → is_section section c ≡ false → has_section items section ≡ false → data_lines_after section c items ≡ [])
         → data_lines_after section (option_or o current) items ≡ []
-    of o e rest = grind (arith, nor)
+    of = grind (arith, nor)
 
     by : (x : LineContent) → has_section (x ∷ items) section ≡ false
         → ((c : Option Section) → is_section section c ≡ false → has_section items section ≡ false → data_lines_after section c items ≡ [])
         → fields_under section current x ++ data_lines_after section (option_or (section_of_header x) current) items ≡ []
-    by x e rest = grind (arith, of)
+    by = grind (arith, of)
 
 -- an N row with the name of OBJNAME is the objective
 abbrev pub IsDeclared : List LineContent → Draft → Type 0
 IsDeclared before earlier = (stated : List ℕ) → objname before ≡ Some stated → has_free_row before stated ≡ true → is_some earlier.objective ≡ true
 
 rows_begun : (before : List LineContent) (stated : List ℕ) → has_free_row before stated ≡ true → has_section before Rows ≡ true
-rows_begun before stated h = grind (arith, no-more-lines)
+rows_begun = grind (arith, no-more-lines)
 
 pub declared-kept : (before : List LineContent) (earlier : Draft) (item : LineContent) → IsGood before earlier item → IsWantedEarly before → IsDeclared before earlier
     → IsDeclared (before ++ item ∷ []) (next_draft before earlier item)
@@ -390,7 +390,7 @@ declared-kept before earlier item good early there stated name row = by item goo
     next x = with_declarations earlier (line_declares (context_of before) earlier x)
 
     old : (x : LineContent) → IsGood before earlier x → objname (before ++ x ∷ []) ≡ Some stated → has_free_row before stated ≡ true → is_some (next x).objective ≡ true
-    old x g n r = grind (arith, named-after, same-name, rows_begun)
+    old = grind (arith, named-after, same-name, rows_begun)
 
     only : (b : Bool) → (b || false) ≡ true → b ≡ true
     only true e = refl
@@ -399,11 +399,11 @@ declared-kept before earlier item good early there stated name row = by item goo
     -- the first row with this name is declared here, if none was before
     new_row : (line : RowLine) (o : Option (List ℕ)) → earlier.objective ≡ o → objname before ≡ Some stated → row_type line.letter ≡ Some Free → same_bytes line.name stated ≡ true
         → is_some (with_declarations earlier (row_declared (context_of before) earlier line)).objective ≡ true
-    new_row line o e n t s = grind (arith, named-after)
+    new_row = grind (arith, named-after)
 
     of_type : (line : RowLine) → objname before ≡ Some stated → (o : Option RowType) → row_type line.letter ≡ o → (is_free o && same_bytes line.name stated) ≡ true
         → is_some (with_declarations earlier (row_declared (context_of before) earlier line)).objective ≡ true
-    of_type line n o t k = grind (arith, new_row)
+    of_type = grind (arith, new_row)
 
     of_row : (o : Option RowLine) → objname before ≡ Some stated → option_map_or (λ (line : RowLine). is_free (row_type line.letter) && same_bytes line.name stated) o false ≡ true
         → is_some (with_declarations earlier (declared_if_some (row_declared (context_of before) earlier) o)).objective ≡ true
@@ -412,10 +412,10 @@ declared-kept before earlier item good early there stated name row = by item goo
 
     in_rows : (fields : Fields) → IsGood before earlier (data_line fields) → objname (before ++ data_line fields ∷ []) ≡ Some stated → is_section Rows (current_section before) ≡ true
         → (b : Bool) → has_free_row before stated ≡ b → (b || (is_free_row_named stated fields || false)) ≡ true → is_some (next (data_line fields)).objective ≡ true
-    in_rows fields g n here b e k = grind (arith, section-is, same-name, section-begun, old, of_row, only)
+    in_rows = grind (arith, section-is, same-name, section-begun, old, of_row, only)
 
     none_new : (x : LineContent) → IsGood before earlier x → objname (before ++ x ∷ []) ≡ Some stated → (has_free_row before stated || false) ≡ true → is_some (next x).objective ≡ true
-    none_new x g n k = old x g n (only (has_free_row before stated) k)
+    none_new x g n k = old x g n (only _ k)
 
     under : (fields : Fields) → IsGood before earlier (data_line fields) → objname (before ++ data_line fields ∷ []) ≡ Some stated → (b : Bool) → is_section Rows (current_section before) ≡ b
         → (has_free_row before stated || list_any (is_free_row_named stated) (when b fields)) ≡ true → is_some (next (data_line fields)).objective ≡ true
@@ -424,4 +424,4 @@ declared-kept before earlier item good early there stated name row = by item goo
 
     by : (x : LineContent) → IsGood before earlier x → objname (before ++ x ∷ []) ≡ Some stated
         → (has_free_row before stated || list_any (is_free_row_named stated) (fields_under Rows (current_section before) x)) ≡ true → is_some (next x).objective ≡ true
-    by x g n k = grind (arith, none_new, under)
+    by = grind (arith, none_new, under)

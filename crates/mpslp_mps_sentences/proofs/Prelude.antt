@@ -79,5 +79,5 @@ pub use Rattle.mpslp_mps_sentences.specs.TextInWords.{is_one_word, are_good_toge
 pub use Rattle.mpslp_mps_sentences.specs.ValueFaultsInWords.{opens_block, block_lines, is_in_block, is_line_of, gives_lower, gives_upper}
 pub use Rattle.mpslp_mps_sentences.specs.ValueFaultsInWords.{is_such_bound, has_bound, repeats_bound_of, repeats_bound, is_integer_column}
 pub use Rattle.mpslp_mps_sentences.specs.ValueFaultsInWords.{clashes_with, makes_both_kinds, is_without_limits, ranges_free_row}
-pub use Rattle.mpslp_mps_sentences.specs.ValueFaultsInWords.{vector_pairs, has_value_of, repeats_row_of, repeats_range, takes_side}
-pub use Rattle.mpslp_mps_sentences.specs.ValueFaultsInWords.{repeats_side, free_row_name, names_objective}
+pub use Rattle.mpslp_mps_sentences.specs.ValueFaultsInWords.{has_value_of, repeats_row_of, repeats_range, takes_side, repeats_side}
+pub use Rattle.mpslp_mps_sentences.specs.ValueFaultsInWords.{free_row_name, names_objective}

@@ -20,29 +20,27 @@ IsGoodUnder section before earlier fields = those_of (data_tests (context_of bef
 pub section-kept : (section : Section) (test : List Fields → Bool) (before : List LineContent) (earlier : Draft) (item : LineContent)
     → ((fields : Fields) → IsGoodUnder section before earlier fields → test (data_lines section before ++ fields ∷ []) ≡ true)
     → IsGood before earlier item → test (data_lines section before) ≡ true → test (data_lines section (before ++ item ∷ [])) ≡ true
-section-kept section test before earlier item keeps good h = grind (arith, data_lines-push, append-nil, section-is)
+section-kept = grind (arith, data_lines-push, append-nil, section-is)
 
 -- each line passes a test
 pub fields-kept : (section : Section) (test : Fields → Bool) (before : List LineContent) (earlier : Draft) (item : LineContent)
     → ((fields : Fields) → IsGoodUnder section before earlier fields → test fields ≡ true)
     → IsGood before earlier item → list_all test (data_lines section before) ≡ true → list_all test (data_lines section (before ++ item ∷ [])) ≡ true
 fields-kept section test before earlier item fits good h =
-    section-kept section (list_all test) before earlier item
-    (λ fields g. list_all-append test (data_lines section before) (fields ∷ [])
-    ∙ both_so (list_all test (data_lines section before)) (list_all test (fields ∷ [])) h (both_so (test fields) true (fits fields g) refl))
-    good h
+    section-kept section (list_all test) before earlier item (λ fields g. list_all-append test _ (fields ∷ [])
+    ∙ both_so _ _ h (both_so _ _ (fits fields g) refl)) good h
 
 -- ---- one set
 
 set-more : (sets : List (List ℕ)) (set : List ℕ) → is_other_set (head_of sets) set ≡ false → is_one_set sets ≡ true → is_one_set (sets ++ set ∷ []) ≡ true
-set-more sets set h k = grind (arith, list_all-append, both_so)
+set-more = grind (arith, list_all-append, both_so)
 
 pub set-kept : (section : Section) (set_of : Fields → Option (List ℕ)) (before : List LineContent) (earlier : Draft) (item : LineContent)
     → ((fields : Fields) → IsGoodUnder section before earlier fields → (set : List ℕ) → set_of fields ≡ Some set → is_other_set (head_of (filter_map set_of (data_lines section before))) set ≡ false)
     → IsGood before earlier item → is_one_set (filter_map set_of (data_lines section before)) ≡ true → is_one_set (filter_map set_of (data_lines section (before ++ item ∷ []))) ≡ true
 set-kept section set_of before earlier item fits good h =
     section-kept section (λ lines. is_one_set (filter_map set_of lines)) before earlier item
-    (λ fields g. ap is_one_set (filter_map-append set_of (data_lines section before) (fields ∷ [])) ∙ by (set_of fields) (fits fields g)) good h
+    (λ fields g. ap is_one_set (filter_map-append set_of _ (fields ∷ [])) ∙ by (set_of fields) (fits fields g)) good h
   where
     sets : List (List ℕ)
     sets = filter_map set_of (data_lines section before)
@@ -61,19 +59,19 @@ abbrev pub opens : Option (List ℕ) → Bool
 opens word = option_map_or (same_bytes opening_word) word false
 
 pub opens-next : (b : Bool) (word : List ℕ) → same_bytes word (next_word b) ≡ true → opens (Some word) ≡ not b
-opens-next b word h = search (rules, same_name)
+opens-next = search (rules, same_name)
 
 pub alternate-more : (words : List (List ℕ)) (last : Option (List ℕ)) (word : List ℕ) (b : Bool) → opens last ≡ b → alternate (next_word b) (next_word (not b)) words ≡ true
     → same_bytes word (next_word (opens (last_or last words))) ≡ true → alternate (next_word b) (next_word (not b)) (words ++ word ∷ []) ≡ true
-alternate-more [] last word b e h k = both_so (same_bytes word (next_word b)) true (ap (λ (c : Bool). same_bytes word (next_word c)) (sym e) ∙ k) refl
+alternate-more [] last word b e h k = both_so _ _ (ap (λ c. same_bytes word (next_word c)) (sym e) ∙ k) refl
 alternate-more (first ∷ words) last word true e h k =
-    let here = first_so (same_bytes first closing_word) (alternate opening_word closing_word words) h in
-    both_so (same_bytes first closing_word) (alternate opening_word closing_word (words ++ word ∷ [])) here
-    (alternate-more words (Some first) word false (opens-next true first here) (second_so (same_bytes first closing_word) (alternate opening_word closing_word words) h) k)
+    let here = first_so _ _ h in
+    both_so _ _ here
+    (alternate-more words _ word false (opens-next true first here) (second_so _ _ h) k)
 alternate-more (first ∷ words) last word false e h k =
-    let here = first_so (same_bytes first opening_word) (alternate closing_word opening_word words) h in
-    both_so (same_bytes first opening_word) (alternate closing_word opening_word (words ++ word ∷ [])) here
-    (alternate-more words (Some first) word true (opens-next false first here) (second_so (same_bytes first opening_word) (alternate closing_word opening_word words) h) k)
+    let here = first_so _ _ h in
+    both_so _ _ here
+    (alternate-more words _ word true (opens-next false first here) (second_so _ _ h) k)
 
 pub markers-kept : (section : Section) (before : List LineContent) (earlier : Draft) (item : LineContent)
     → ((fields : Fields) → IsGoodUnder section before earlier fields → (word : List ℕ) → marker_word fields ≡ Some word
@@ -99,10 +97,10 @@ Column = Option (List ℕ)
 -- ---- columns that are the same
 
 pub one_column : (a b : Column) → same_column a b ≡ true → a ≡ b
-one_column a b h = search (rules, same_name)
+one_column = search (rules, same_name)
 
 pub turned : (a b : Column) → same_column a b ≡ true → same_column b a ≡ true
-turned a b h = search (rules, one_column)
+turned = search (rules, one_column)
 
 -- ---- one more line
 
@@ -116,7 +114,7 @@ after-more c x [] = grind (arith)
 after-more c x (next ∷ columns) = grind (arith, list_any-append, after-more c x columns)
 
 none-last : (c d : Column) (columns : List Column) → list_any (same_column c) (d ∷ columns) ≡ false → same_column c (last_of d columns) ≡ true → false ≡ true
-none-last c d [] h k = sym h ∙ or_left (same_column c d) false k
+none-last c d [] h k = sym h ∙ or_left _ _ k
 none-last c d (next ∷ columns) h k = none-last c next columns (more (same_column c d) h) k
   where
     more : (b : Bool) → (b || list_any (same_column c) (next ∷ columns)) ≡ false → list_any (same_column c) (next ∷ columns) ≡ false
@@ -138,39 +136,38 @@ abbrev pub comes_again : Column → List Column → Bool
 comes_again column columns = list_any (same_column column) columns && not (same_column column (last_of None columns))
 
 fewer : (a b n : Bool) → ((a || b) && n) ≡ false → (b && n) ≡ false
-fewer a b n h = grind arith
+fewer = grind arith
 
 pub together-more : (x : Column) (columns : List Column) → are_together columns ≡ true → comes_again x columns ≡ false → are_together (columns ++ x ∷ []) ≡ true
 together-more x [] h k = refl
 together-more x (c ∷ columns) h k =
-    both_so (not (list_any (same_column c) (entries_after c (columns ++ x ∷ [])))) (are_together (columns ++ x ∷ []))
-    (so_not (list_any (same_column c) (entries_after c (columns ++ x ∷ [])))
-    (after-more c x columns ∙ ap (λ (b : Bool). b || (is_nonempty (entries_after c columns) && same_column c x)) none ∙ last (same_column c x) refl))
-    (together-more x columns (second_so (not (list_any (same_column c) (entries_after c columns))) (are_together columns) h) (later columns k))
+    both_so _ _ (so_not _
+    (after-more c x columns ∙ ap (λ b. b || (is_nonempty (entries_after c columns) && same_column c x)) none ∙ last (same_column c x) refl))
+    (together-more x columns (second_so _ _ h) (later columns k))
   where
     none : list_any (same_column c) (entries_after c columns) ≡ false
-    none = not_so (list_any (same_column c) (entries_after c columns)) (first_so (not (list_any (same_column c) (entries_after c columns))) (are_together columns) h)
+    none = not_so _ (first_so _ _ h)
 
     later : (cs : List Column) → comes_again x (c ∷ cs) ≡ false → comes_again x cs ≡ false
     later [] e = refl
-    later (d ∷ cs) e = fewer (same_column x c) (list_any (same_column x) (d ∷ cs)) (not (same_column x (last_of d cs))) e
+    later (d ∷ cs) e = fewer _ (list_any (same_column x) (d ∷ cs)) _ e
 
     so : (a b n : Bool) → a ≡ true → ((a || b) && not n) ≡ false → n ≡ true
-    so a b n e f = grind arith
+    so = grind arith
 
     nothing : same_column c x ≡ true → is_nonempty (entries_after c columns) ≡ false
     nothing e =
         let back = turned c x e in
-        let end = so (same_column x c) (list_any (same_column x) columns) (same_column x (last_of c columns)) back k in
-        nothing-after c c columns none (ap (λ (z : Column). same_column z (last_of c columns)) (one_column c x e) ∙ end)
+        let end = so (same_column x c) (list_any (same_column x) columns) (same_column x _) back k in
+        nothing-after c c columns none (ap (λ z. same_column z (last_of c columns)) (one_column c x e) ∙ end)
 
     last : (b : Bool) → same_column c x ≡ b → (is_nonempty (entries_after c columns) && b) ≡ false
-    last b e = grind (arith, nothing)
+    last = grind (arith, nothing)
 
 -- ---- the columns of a draft
 
 stays-there : (all : Draft) (d : Declaration) (name : List ℕ) → has_column all name ≡ true → has_column (with_declaration all d) name ≡ true
-stays-there all d name h = grind (arith, more_entries)
+stays-there = grind (arith, more_entries)
 
 pub column-after : (ds : Declarations) (all : Draft) (name : List ℕ) → has_column all name ≡ true → has_column (with_declarations all ds) name ≡ true
 column-after [] all name h = h
@@ -185,7 +182,7 @@ abbrev pub AreThere : List LineContent → Draft → Type 0
 AreThere before earlier = (name : List ℕ) → list_any (same_column (Some name)) (columns_of before) ≡ true → has_column earlier name ≡ true
 
 declares-itself : (context : Context) (earlier : Draft) (fields : Fields) (name : List ℕ) → line_column fields ≡ Some name → has_column (with_declarations earlier (columns_line_declared context fields)) name ≡ true
-declares-itself context earlier fields name h = grind (arith, column-after, has-put, or_left, itself_named)
+declares-itself = grind (arith, column-after, has-put, or_left, itself_named)
 
 pub there-push : Keeps AreThere
 there-push before earlier item there name h = search (rules, data_lines-push, column-after, append-nil, map-append, list_any-append, declares-itself, one_column, section-is)
@@ -217,24 +214,24 @@ together-kept before earlier item good there h =
 
     apart : (name : List ℕ) (b : Bool) → list_any (same_column (Some name)) (columns_of before) ≡ b → is_split (context_of before) earlier name ≡ false
         → (b && not (same_column (Some name) (last_of None (columns_of before)))) ≡ false
-    apart name b e k = grind (arith, last, same_test)
+    apart = grind (arith, last, same_test)
 
     by : (x : Column) → ((name : List ℕ) → x ≡ Some name → is_split (context_of before) earlier name ≡ false) → comes_again x (columns_of before) ≡ false
-    by None k = ap (λ (b : Bool). b && not (same_column None (last_of None (columns_of before)))) (nowhere (columns_of before))
+    by None k = ap (λ b. b && not (same_column None (last_of None (columns_of before)))) (nowhere (columns_of before))
     by (Some name) k = apart name (list_any (same_column (Some name)) (columns_of before)) refl (k name refl)
 
 -- ---- lines, and those after them
 
 pub section_after-more : (current : Option Section) (item : LineContent) (items : List LineContent) → section_after current (item ∷ items) ≡ section_after (option_or (section_of_header item) current) items
-section_after-more current item items = grind arith
+section_after-more = grind arith
 
 pub said_after-append : {X : Type 0} (says : Option Section → LineContent → List X) (current : Option Section) (before items : List LineContent)
     → said_after says current (before ++ items) ≡ said_after says current before ++ said_after says (section_after current before) items
 said_after-append says current [] items = refl
 said_after-append {X} says current (item ∷ before) items =
     let next = option_or (section_of_header item) current in
-    ap (λ (more : List X). says current item ++ more)
-    (said_after-append says next before items ∙ ap (λ (c : Option Section). said_after says next before ++ said_after says c items) (sym (section_after-more current item before)))
+    ap (λ more. says current item ++ more)
+    (said_after-append says next before items ∙ ap (λ c. said_after says next before ++ said_after says c items) (sym (section_after-more current item before)))
     ∙ sym (append_assoc (says current item) (said_after says next before) _)
 
 -- a data line of the section is between those before it and those after it
@@ -247,24 +244,24 @@ data-occurs section before fields rest h =
 -- ---- what the whole text implies for one line
 
 pub passes-all : {X : Type 0} (test : X → Bool) (xs : List X) (x : X) (more : List X) → list_all test (xs ++ x ∷ more) ≡ true → test x ≡ true
-passes-all test xs x more h = first_so (test x) (list_all test more) (second_so (list_all test xs) (list_all test (x ∷ more)) (sym (list_all-append test xs (x ∷ more)) ∙ h))
+passes-all test xs x more h = first_so _ _ (second_so _ _ (sym (list_all-append test xs (x ∷ more)) ∙ h))
 
 pub set-fits : (sets : List (List ℕ)) (set : List ℕ) (more : List (List ℕ)) → is_one_set (sets ++ set ∷ more) ≡ true → is_other_set (head_of sets) set ≡ false
-set-fits sets set more h = grind (arith, passes-all)
+set-fits = grind (arith, passes-all)
 
 pub marker-follows : (words : List (List ℕ)) (last : Option (List ℕ)) (word : List ℕ) (more : List (List ℕ)) (b : Bool) → opens last ≡ b → alternate (next_word b) (next_word (not b)) (words ++ word ∷ more) ≡ true
     → same_bytes word (next_word (opens (last_or last words))) ≡ true
-marker-follows [] last word more b e h = ap (λ (c : Bool). same_bytes word (next_word c)) e ∙ first_so (same_bytes word (next_word b)) (alternate (next_word (not b)) (next_word b) more) h
+marker-follows [] last word more b e h = ap (λ c. same_bytes word (next_word c)) e ∙ first_so _ _ h
 marker-follows (first ∷ words) last word more true e h =
-    let here = first_so (same_bytes first closing_word) (alternate opening_word closing_word (words ++ word ∷ more)) h in
-    marker-follows words (Some first) word more false (opens-next true first here) (second_so (same_bytes first closing_word) (alternate opening_word closing_word (words ++ word ∷ more)) h)
+    let here = first_so _ _ h in
+    marker-follows words _ word more false (opens-next true first here) (second_so _ _ h)
 marker-follows (first ∷ words) last word more false e h =
-    let here = first_so (same_bytes first opening_word) (alternate closing_word opening_word (words ++ word ∷ more)) h in
-    marker-follows words (Some first) word more true (opens-next false first here) (second_so (same_bytes first opening_word) (alternate closing_word opening_word (words ++ word ∷ more)) h)
+    let here = first_so _ _ h in
+    marker-follows words _ word more true (opens-next false first here) (second_so _ _ h)
 
 -- a column that has ended and has a later line
 found-later : (c x d : Column) (columns more : List Column) → same_column c x ≡ true → list_any (same_column c) (d ∷ (columns ++ x ∷ more)) ≡ true
-found-later c x d columns more h = grind (arith, list_any-append, or_right, or_left)
+found-later = grind (arith, list_any-append, or_right, or_left)
 
 comes-later : (c x d : Column) (columns more : List Column) → same_column c x ≡ true → same_column c (last_of d columns) ≡ false → list_any (same_column c) (entries_after c (d ∷ (columns ++ x ∷ more))) ≡ true
 comes-later c x d [] more h k = grind (arith, found-later)
@@ -277,8 +274,7 @@ together-apart x (c ∷ d ∷ columns) more h =
     by (same_column x c) refl (together-apart x (d ∷ columns) more (second_so (not (list_any (same_column c) (entries_after c (d ∷ (columns ++ x ∷ more))))) (are_together (d ∷ (columns ++ x ∷ more))) h))
   where
     none : list_any (same_column c) (entries_after c (d ∷ (columns ++ x ∷ more))) ≡ false
-    none = not_so (list_any (same_column c) (entries_after c (d ∷ (columns ++ x ∷ more))))
-        (first_so (not (list_any (same_column c) (entries_after c (d ∷ (columns ++ x ∷ more))))) (are_together (d ∷ (columns ++ x ∷ more))) h)
+    none = not_so _ (first_so _ _ h)
 
     last : Column
     last = last_of d columns
@@ -287,7 +283,7 @@ together-apart x (c ∷ d ∷ columns) more h =
     ended true e k = refl
     ended false e k =
         let back = turned x c k in
-        let other : same_column c last ≡ false = ap (λ (z : Column). same_column z last) (one_column c x back) ∙ e in
+        let other : same_column c last ≡ false = ap (λ z. same_column z last) (one_column c x back) ∙ e in
         sym (comes-later c x d columns more back other) ∙ none
 
     by : (b : Bool) → same_column x c ≡ b → (list_any (same_column x) (d ∷ columns) && not (same_column x last)) ≡ false → ((b || list_any (same_column x) (d ∷ columns)) && not (same_column x last)) ≡ false

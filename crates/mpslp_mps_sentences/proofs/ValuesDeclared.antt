@@ -44,7 +44,7 @@ in_block-more column (x ∷ lines) fields h =
     (block-more column lines fields) (in_block-more column lines fields) h
   where
     by : (o a b c d : Bool) → (a ≡ true → c ≡ true) → (b ≡ true → d ≡ true) → ((o && a) || b) ≡ true → ((o && c) || d) ≡ true
-    by o a b c d f g k = grind (arith, or_left, or_right)
+    by = grind (arith, or_left, or_right)
 
 -- if the last marker line, or the one before all these, opens a block, a line after them is in it
 last-block : (column : List ℕ) (fields : Fields) → is_marker_line fields ≡ false → is_of column fields ≡ true → (lines : List Fields) (word : Option (List ℕ)) → is_opening (last_or word (filter_map marker_word lines)) ≡ true
@@ -58,12 +58,12 @@ last-block column fields plain of (x ∷ lines) word h = by (marker_word x) h (�
     by : (o : Option (List ℕ)) → is_opening (last_or word (cons_option o (filter_map marker_word lines))) ≡ true
         → ((w : Option (List ℕ)) → is_opening (last_or w (filter_map marker_word lines)) ≡ true → ((is_opening w && list_any (is_of column) (block_lines more)) || is_in_block column more) ≡ true)
         → ((is_opening word && list_any (is_of column) (cond (is_some o) [] (x ∷ block_lines more))) || ((is_opening o && list_any (is_of column) (block_lines more)) || is_in_block column more)) ≡ true
-    by o k rest = grind (arith, or_right, more)
+    by = grind (arith, or_right, more)
 
 -- ---- the columns that are marked
 
 marked-part : (column : List ℕ) → IsPartOf Columns (λ all. has_name all.marked column)
-marked-part column = grind arith
+marked-part = grind arith
 
 cells-same : (column name : List ℕ) (pairs : List Pair) (all : Draft) → has_name (with_declarations all (flat_map (coefficient_declared name) pairs)).marked column ≡ has_name all.marked column
 cells-same column name [] all = refl
@@ -91,7 +91,7 @@ marked_lines-kept before earlier item have column h = ap (is_in_block column) (d
     front : (fields : Fields) → is_marker_line fields ≡ false → (line : ValuesLine) → column_shape fields ≡ Some line → (b : Bool) → (context_of before).in_integer_part ≡ b
         → has_name (with_declarations earlier (declare_column line.name ∷ (cond b (declare_marked line.name ∷ []) [] ++ flat_map (coefficient_declared line.name) line.pairs))).marked column ≡ true
         → is_in_block column (lines ++ fields ∷ []) ≡ true
-    front fields plain line shape b inside k = grind (arith, has-put, cells-same, in_block-more, lines, new)
+    front = grind (arith, has-put, cells-same, in_block-more, lines, new)
 
     shaped : (fields : Fields) → is_marker_line fields ≡ false → (o : Option ValuesLine) → column_shape fields ≡ o → has_name (with_declarations earlier (declared_if_some (column_declared (context_of before)) o)).marked column ≡ true
         → is_in_block column (lines ++ fields ∷ []) ≡ true
@@ -109,7 +109,7 @@ marked_lines-kept before earlier item have column h = ap (is_in_block column) (d
     by (data_line fields) k = under (is_section Columns (current_section before)) refl
       where
         under : (b : Bool) → is_section Columns (current_section before) ≡ b → is_in_block column (lines ++ when b fields) ≡ true
-        under b e = grind (arith, section-is, data-kept, marked-part, own, old)
+        under = grind (arith, section-is, data-kept, marked-part, own, old)
 
 -- ---- no constant, no row by its limits, no binary column
 
@@ -132,7 +132,7 @@ plain-one all _ h plain = record { limits = plain.limits; constant = plain.const
 
 plain-all : (ds : Declarations) (all : Draft) → list_all is_plain ds ≡ true → IsPlain all → IsPlain (with_declarations all ds)
 plain-all [] all h plain = plain
-plain-all (d ∷ ds) all h plain = plain-all ds (with_declaration all d) (second_so (is_plain d) (list_all is_plain ds) h) (plain-one all d (first_so (is_plain d) (list_all is_plain ds) h) plain)
+plain-all (d ∷ ds) all h plain = plain-all ds (with_declaration all d) (second_so _ _ h) (plain-one all d (first_so _ _ h) plain)
 
 plain-in_sections : HoldsInSections (λ section d. is_plain d)
 plain-in_sections = grind arith
@@ -141,8 +141,7 @@ pub plain-kept : (context : Context) (earlier : Draft) (item : LineContent) → 
 plain-kept context earlier skipped plain = plain
 plain-kept context earlier (header keyword more) plain = grind (arith, plain-all, all-so, is_of_header, header-each)
 plain-kept context earlier (data_line fields) plain =
-    plain-all (data_declared context earlier fields context.section) earlier
-    (all-so (λ d. holds_in (λ section e. is_plain e) context.section d) is_plain (data_declared context earlier fields context.section) (λ d k. by context.section d k)
+    plain-all (data_declared context earlier fields context.section) earlier (all-so _ is_plain _ (λ d k. by context.section d k)
     (data-each (λ section d. is_plain d) plain-in_sections context earlier fields context.section)) plain
   where
     by : (o : Option Section) (d : Declaration) → holds_in (λ section e. is_plain e) o d ≡ true → is_plain d ≡ true
@@ -155,11 +154,11 @@ none-plain = record { limits = λ row. refl; constant = refl; binaries = λ colu
 -- ---- ranges
 
 ranges-part : (row : List ℕ) → IsPartOf Ranges (λ all. has_name all.ranges row)
-ranges-part row = grind arith
+ranges-part = grind arith
 
 -- one more first, or the others
 turned : (a b c : Bool) → (b || (a || c)) ≡ true → ((a || b) || c) ≡ true
-turned a b c h = grind arith
+turned = grind arith
 
 own-ranges : (row : List ℕ) (pairs : List Pair) (all : Draft) → has_name (with_declarations all (map (λ (pair : Pair). declare_range pair.row (value_of pair.literal)) pairs)).ranges row ≡ true
     → (list_any (λ pair. same_bytes row pair.row) pairs || has_name all.ranges row) ≡ true
@@ -170,7 +169,7 @@ abbrev pub HaveRangeLines : List LineContent → Draft → Type 0
 HaveRangeLines before earlier = (row : List ℕ) → has_name earlier.ranges row ≡ true → list_any (has_value_of row) (data_lines Ranges before) ≡ true
 
 pub range_lines-kept : Keeps HaveRangeLines
-range_lines-kept before earlier item have row h = lines-kept Ranges (λ all. has_name all.ranges row) (ranges-part row) (has_value_of row) own before earlier item (have row) h
+range_lines-kept before earlier item have row h = lines-kept Ranges (λ all. has_name all.ranges row) (ranges-part row) _ own before earlier item (have row) h
   where
     of : (all : Draft) (o : Option ValuesLine) → has_name (with_declarations all (declared_if_some ranges_declared o)).ranges row ≡ true
         → (list_any (λ pair. same_bytes row pair.row) (option_map_or (λ (line : ValuesLine). line.pairs) o []) || has_name all.ranges row) ≡ true
@@ -183,7 +182,7 @@ range_lines-kept before earlier item have row h = lines-kept Ranges (λ all. has
 -- ---- right-hand sides
 
 sides-part : (row : List ℕ) → IsPartOf Rhs (λ all. has_name all.rhs_values row)
-sides-part row = grind arith
+sides-part = grind arith
 
 own-sides : (earlier : Draft) (row : List ℕ) (pairs : List Pair) (all : Draft) → has_name (with_declarations all (flat_map (λ (pair : Pair). rhs_declared earlier pair.row (value_of pair.literal)) pairs)).rhs_values row ≡ true
     → (list_any (λ pair. same_bytes row pair.row) pairs || has_name all.rhs_values row) ≡ true
@@ -191,18 +190,18 @@ own-sides earlier row [] all h = h
 own-sides earlier row (pair ∷ pairs) all h = by (is_free_row earlier pair.row) h (λ next k. own-sides earlier row pairs next k)
   where
     more : Declarations
-    more = flat_map (λ (p : Pair). rhs_declared earlier p.row (value_of p.literal)) pairs
+    more = flat_map (λ p. rhs_declared earlier p.row (value_of p.literal)) pairs
 
     by : (b : Bool) → has_name (with_declarations all (cond b [] (declare_rhs pair.row (value_of pair.literal) ∷ []) ++ more)).rhs_values row ≡ true
         → ((next : Draft) → has_name (with_declarations next more).rhs_values row ≡ true → (list_any (λ p. same_bytes row p.row) pairs || has_name next.rhs_values row) ≡ true)
         → ((same_bytes row pair.row || list_any (λ p. same_bytes row p.row) pairs) || has_name all.rhs_values row) ≡ true
-    by b k rest = grind (arith, turned, or_right, has-put)
+    by = grind (arith, turned, or_right, has-put)
 
 abbrev pub HaveSideLines : List LineContent → Draft → Type 0
 HaveSideLines before earlier = (row : List ℕ) → has_name earlier.rhs_values row ≡ true → list_any (has_value_of row) (data_lines Rhs before) ≡ true
 
 pub side_lines-kept : Keeps HaveSideLines
-side_lines-kept before earlier item have row h = lines-kept Rhs (λ all. has_name all.rhs_values row) (sides-part row) (has_value_of row) own before earlier item (have row) h
+side_lines-kept before earlier item have row h = lines-kept Rhs (λ all. has_name all.rhs_values row) (sides-part row) _ own before earlier item (have row) h
   where
     of : (all : Draft) (o : Option ValuesLine) → has_name (with_declarations all (declared_if_some (rhs_line_declared all) o)).rhs_values row ≡ true
         → (list_any (λ pair. same_bytes row pair.row) (option_map_or (λ (line : ValuesLine). line.pairs) o []) || has_name all.rhs_values row) ≡ true
@@ -232,16 +231,16 @@ of-bounds part is_of column each (letters ∷ more) all h = typed (bound_type le
     typed (Some type) k = lined type (bound_shape type more) k
 
 lowers-part : (column : List ℕ) → IsPartOf Bounds (λ all. has_name all.lowers column)
-lowers-part column = grind arith
+lowers-part = grind arith
 
 uppers-part : (column : List ℕ) → IsPartOf Bounds (λ all. has_name all.uppers column)
-uppers-part column = grind arith
+uppers-part = grind arith
 
 integers-part : (column : List ℕ) → IsPartOf Bounds (λ all. has_name all.integers column)
-integers-part column = grind arith
+integers-part = grind arith
 
 semis-part : (column : List ℕ) → IsPartOf Bounds (λ all. has_name all.semis column)
-semis-part column = grind arith
+semis-part = grind arith
 
 abbrev pub HaveBoundLines : (Draft → List ℕ → Bool) → (BoundType → Bool) → List LineContent → Draft → Type 0
 HaveBoundLines part is_of before earlier = (column : List ℕ) → part earlier column ≡ true → has_bound before is_of column ≡ true
@@ -250,7 +249,7 @@ module _ (part : Draft → List ℕ → Bool) (is_of : BoundType → Bool) (is :
     (each : (column : List ℕ) (type : BoundType) (c : List ℕ) (v : Limit) (all : Draft) → part (with_declarations all (bound_declared type c v)) column ≡ true → ((is_of type && same_bytes column c) || part all column) ≡ true) where
   bound_lines-kept : Keeps (HaveBoundLines part is_of)
   bound_lines-kept before earlier item have column h =
-      lines-kept Bounds (λ all. part all column) (is column) (is_such_bound (λ type name. is_of type && same_bytes column name))
+      lines-kept Bounds (λ all. part all column) (is column) _
       (λ context all fields k. of-bounds (λ draft. part draft column) is_of column (each column) fields all k) before earlier item (have column) h
 
 abbrev pub lower_of : Draft → List ℕ → Bool
@@ -272,7 +271,7 @@ lower_lines-kept = bound_lines-kept lower_of gives_lower lowers-part each
     put column c v all h = sym (has-put column c v all.lowers) ∙ h
 
     each : (column : List ℕ) (type : BoundType) (c : List ℕ) (v : Limit) (all : Draft) → has_name (with_declarations all (bound_declared type c v)).lowers column ≡ true → ((gives_lower type && same_bytes column c) || has_name all.lowers column) ≡ true
-    each column type c v all h = grind (arith, put)
+    each = grind (arith, put)
 
 pub upper_lines-kept : Keeps (HaveBoundLines upper_of gives_upper)
 upper_lines-kept = bound_lines-kept upper_of gives_upper uppers-part each
@@ -281,7 +280,7 @@ upper_lines-kept = bound_lines-kept upper_of gives_upper uppers-part each
     put column c v all h = sym (has-put column c v all.uppers) ∙ h
 
     each : (column : List ℕ) (type : BoundType) (c : List ℕ) (v : Limit) (all : Draft) → has_name (with_declarations all (bound_declared type c v)).uppers column ≡ true → ((gives_upper type && same_bytes column c) || has_name all.uppers column) ≡ true
-    each column type c v all h = grind (arith, put)
+    each = grind (arith, put)
 
 pub integer_lines-kept : Keeps (HaveBoundLines integer_of is_integer_type)
 integer_lines-kept = bound_lines-kept integer_of is_integer_type integers-part each
@@ -290,7 +289,7 @@ integer_lines-kept = bound_lines-kept integer_of is_integer_type integers-part e
     put column c all h = sym (has-put column c tt all.integers) ∙ h
 
     each : (column : List ℕ) (type : BoundType) (c : List ℕ) (v : Limit) (all : Draft) → has_name (with_declarations all (bound_declared type c v)).integers column ≡ true → ((is_integer_type type && same_bytes column c) || has_name all.integers column) ≡ true
-    each column type c v all h = grind (arith, put)
+    each = grind (arith, put)
 
 pub semi_lines-kept : Keeps (HaveBoundLines semi_of is_semi_type)
 semi_lines-kept = bound_lines-kept semi_of is_semi_type semis-part each
@@ -299,4 +298,4 @@ semi_lines-kept = bound_lines-kept semi_of is_semi_type semis-part each
     put column c all h = sym (has-put column c tt all.semis) ∙ h
 
     each : (column : List ℕ) (type : BoundType) (c : List ℕ) (v : Limit) (all : Draft) → has_name (with_declarations all (bound_declared type c v)).semis column ≡ true → ((is_semi_type type && same_bytes column c) || has_name all.semis column) ≡ true
-    each column type c v all h = grind (arith, put)
+    each = grind (arith, put)

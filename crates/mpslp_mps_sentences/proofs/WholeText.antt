@@ -84,11 +84,11 @@ one-more before earlier item good h = record {
 }
 
 more-lines : (items before : List LineContent) (earlier : Draft) → are_well_formed before earlier items ≡ true → AreInWords before earlier → (all : Draft) × AreInWords (before ++ items) all
-more-lines [] before earlier good h = (earlier, subst (λ (xs : List LineContent). AreInWords xs earlier) (sym (append-nil before)) h)
+more-lines [] before earlier good h = (earlier, subst (λ xs. AreInWords xs earlier) (sym (append-nil before)) h)
 more-lines (item ∷ items) before earlier good h =
     let next = with_declarations earlier (line_declares (context_of before) earlier item) in
     let more = more-lines items (before ++ item ∷ []) next (good-rest before earlier item items good) (one-more before earlier item (good-first before earlier item items good) h) in
-    (more.0, subst (λ (xs : List LineContent). AreInWords xs more.0) (append_assoc before (item ∷ []) items) more.1)
+    (more.0, subst (λ xs. AreInWords xs more.0) (append_assoc before _ items) more.1)
 
 -- ---- at the end
 
@@ -107,7 +107,7 @@ ends-last (line ∷ ls) current h = by (λ c k. ends-last ls c k) (is_end line) 
 
     by : ((c : Option Section) → list_any is_end ls ≡ true → is_section EndData (section_after c (map content_of (up_to_end ls))) ≡ true)
         → (b : Bool) → is_end line ≡ b → (b || list_any is_end ls) ≡ true → is_section EndData (section_after current (map content_of (up_to_end (line ∷ ls)))) ≡ true
-    by rest b e k = grind (arith, up_to_end-last, up_to_end-more, up_to_end, last, passed)
+    by = grind (arith, up_to_end-last, up_to_end-more, up_to_end, last, passed)
 
 legal-lines : (ls : List (List ℕ)) (before : List LineContent) (earlier : Draft) → list_all is_well_formed (lines_in_context_after before earlier ls) ≡ true → list_all is_legal_line ls ≡ true
 legal-lines [] before earlier h = refl
@@ -119,12 +119,12 @@ legal-lines (line ∷ ls) before earlier h =
     let tests = item_tests (context_of before) earlier item in
     let bytes = not (list_all is_legal_byte (outside_comment line)) in
     let rest : FaultTests = (bytes, BadByte) ∷ tests in
-    let none = no_faults forms (first_so (not (is_nonempty forms)) more h) in
-    both_so (is_legal_line line) (list_all is_legal_line ls)
-    (both_so (has_legal_length line) (list_all is_legal_byte (outside_comment line))
-    (fine (has_legal_length line) (first_test (not (has_legal_length line)) LineTooLong rest none))
-    (fine (list_all is_legal_byte (outside_comment line)) (first_test bytes BadByte tests (later_tests (not (has_legal_length line)) LineTooLong rest none))))
-    (legal-lines ls (before ++ item ∷ []) next (second_so (not (is_nonempty forms)) more h))
+    let none = no_faults forms (first_so _ _ h) in
+    both_so _ _
+    (both_so _ _
+    (fine (has_legal_length line) (first_test _ LineTooLong rest none))
+    (fine (list_all is_legal_byte (outside_comment line)) (first_test bytes BadByte tests (later_tests _ LineTooLong rest none))))
+    (legal-lines ls (before ++ item ∷ []) next (second_so _ _ h))
   where
     fine : (b : Bool) → not b ≡ false → b ≡ true
     fine true e = refl
@@ -132,16 +132,16 @@ legal-lines (line ∷ ls) before earlier h =
 
 -- items that end at ENDATA
 together-at_end : (items : List LineContent) (all : Draft) → AreInWords items all → is_section EndData (current_section items) ≡ true → are_good_together items ≡ true
-together-at_end items all h ends = grind (arith, both_so, named-in_words, section-is, columns-there, section-begun, word-at_end, rows-there)
+together-at_end = grind (arith, both_so, named-in_words, section-is, columns-there, section-begun, word-at_end, rows-there)
 
 pub text-in_words : (bytes : List ℕ) → is_mps_text bytes ≡ true → is_text_in_words bytes ≡ true
 text-in_words bytes text =
-    let ended = first_so (has_end bytes) (list_all is_well_formed (lines_in_context bytes)) text in
-    let good = second_so (has_end bytes) (list_all is_well_formed (lines_in_context bytes)) text in
+    let ended = first_so _ (list_all is_well_formed (lines_in_context bytes)) text in
+    let good = second_so (has_end bytes) _ text in
     let items = map content_of (read_lines bytes) in
     let all = more-lines items [] empty_draft (items-good [] empty_draft (read_lines bytes) good) none-yet in
-    both_so (has_end bytes) (list_all is_legal_line (read_lines bytes) && are_good_together items) ended
-    (both_so (list_all is_legal_line (read_lines bytes)) (are_good_together items) (legal-lines (read_lines bytes) [] empty_draft good)
+    both_so _ _ ended
+    (both_so _ _ (legal-lines (read_lines bytes) [] empty_draft good)
     (together-at_end items all.0 all.1 (ends-last (lines bytes) None ended)))
 
 -- ---- the columns of a draft
@@ -151,23 +151,23 @@ abbrev pub HaveLines : List LineContent → Draft → Type 0
 HaveLines before earlier = (name : List ℕ) → has_column earlier name ≡ true → list_any (same_column (Some name)) (columns_of before) ≡ true
 
 cells-none : (line : ValuesLine) (b : Bool) → no_columns (cond b (declare_marked line.name ∷ []) [] ++ flat_map (coefficient_declared line.name) line.pairs) ≡ true
-cells-none line b = grind (arith, each-flat, declares_column)
+cells-none = grind (arith, each-flat, declares_column)
 
 own-or-old : (context : Context) (earlier : Draft) (fields : Fields) (name : List ℕ) → has_column (with_declarations earlier (columns_line_declared context fields)) name ≡ true
     → (same_column (Some name) (line_column fields) || has_column earlier name) ≡ true
-own-or-old context earlier fields name h = grind (arith, columns-kept, cells-none, has-put)
+own-or-old = grind (arith, columns-kept, cells-none, has-put)
 
 no-columns-header : (context : Context) (earlier : Draft) (more : Fields) (o : Option Section) → no_columns (header_declared context earlier more o) ≡ true
-no-columns-header context earlier more o = grind arith
+no-columns-header = grind arith
 
 no-columns-data : (context : Context) (earlier : Draft) (fields : Fields) (o : Option Section) → is_section Columns o ≡ false → no_columns (data_declared context earlier fields o) ≡ true
-no-columns-data context earlier fields o h = grind arith
+no-columns-data = grind arith
 
 pub lines-push : Keeps HaveLines
 lines-push before earlier item have name h = grind (arith, data_lines-push, map-append, list_any-append, columns_of, no_columns, columns-kept, or_right, or_left, own-or-old, section-is, no-columns-data, no-columns-header)
 
 pub not-split : (before : List LineContent) (earlier : Draft) (name : List ℕ) → HaveLines before earlier → comes_again (Some name) (columns_of before) ≡ false → is_split (context_of before) earlier name ≡ false
-not-split before earlier name have h = grind (arith, last-line, last_of, columns_of)
+not-split = grind (arith, last-line, last_of, columns_of)
 
 -- ---- data lines
 
@@ -194,7 +194,7 @@ none-strays [] false fields ys h = refl
 
 sets-fit : (set_of : Fields → Option (List ℕ)) (lines : List Fields) (fields : Fields) (more : List Fields) → is_one_set (filter_map set_of (lines ++ fields ∷ more)) ≡ true
     → (set : List ℕ) → set_of fields ≡ Some set → is_other_set (head_of (filter_map set_of lines)) set ≡ false
-sets-fit set_of lines fields more h set e = grind (arith, set-fits, filter_map-append)
+sets-fit = grind (arith, set-fits, filter_map-append)
 
 pub data-good : (before : List LineContent) (earlier : Draft) (fields : Fields) (rest : List LineContent) → IsUnderway ObjSense is_sense before → IsUnderway ObjName (λ _. true) before → HaveLines before earlier
     → AreGoodLines (before ++ data_line fields ∷ rest) → IsGood before earlier (data_line fields)
@@ -263,24 +263,24 @@ data-good before earlier fields rest sense name have h = by (current_section bef
 distinct-after : (s : Section) (sections_seen : List Section) (t : Section) (later : List Section) → has sections_seen s ≡ true → are_distinct same_section (sections_seen ++ t ∷ later) ≡ true → has later s ≡ false
 distinct-after s [] t later h k = cc
 distinct-after s (x ∷ sections_seen) t later h k =
-    by (is_section s (Some x)) refl h (not_so all (first_so (not all) (are_distinct same_section (sections_seen ++ t ∷ later)) k))
+    by (is_section s (Some x)) refl h (not_so _ (first_so _ _ k))
     (λ e. distinct-after s sections_seen t later e (second_so (not all) (are_distinct same_section (sections_seen ++ t ∷ later)) k))
   where
     all : Bool
-    all = list_any (λ (l : Section). same_section l x) (sections_seen ++ t ∷ later)
+    all = list_any (λ l. same_section l x) (sections_seen ++ t ∷ later)
 
     alike : (l : Section) → is_section s (Some x) ≡ true → same_section l x ≡ false → (b : Bool) → is_section s (Some l) ≡ b → b ≡ false
-    alike l e f b g = grind (arith, section-is)
+    alike = grind (arith, section-is)
 
     none : is_section s (Some x) ≡ true → (ls : List Section) → list_any (λ (l : Section). same_section l x) ls ≡ false → has ls s ≡ false
     none e [] f = refl
     none e (l ∷ ls) f =
-        let parts = nor (same_section l x) (list_any (λ (l : Section). same_section l x) ls) f in
-        both_false (is_section s (Some l)) (has ls s) (alike l e parts.0 (is_section s (Some l)) refl) (none e ls parts.1)
+        let parts = nor _ _ f in
+        both_false _ _ (alike l e parts.0 (is_section s (Some l)) refl) (none e ls parts.1)
 
     following : (xs : List Section) → list_any (λ (l : Section). same_section l x) (xs ++ t ∷ later) ≡ false → list_any (λ (l : Section). same_section l x) later ≡ false
-    following [] f = (nor (same_section t x) (list_any (λ (l : Section). same_section l x) later) f).1
-    following (y ∷ xs) f = following xs (nor (same_section y x) (list_any (λ (l : Section). same_section l x) (xs ++ t ∷ later)) f).1
+    following [] f = (nor _ _ f).1
+    following (y ∷ xs) f = following xs (nor _ _ f).1
 
     by : (b : Bool) → is_section s (Some x) ≡ b → (b || has sections_seen s) ≡ true → all ≡ false → (has sections_seen s ≡ true → has later s ≡ false) → has later s ≡ false
     by true e g f rest = none e later (following sections_seen f)
@@ -297,7 +297,7 @@ pub record AreGoodHeaders (items : List LineContent) : Type 0 where
   pub named : has_named_objective items ≡ true
 
 first-stays : {X : Type 0} (xs ys : List X) (x : X) → head_of xs ≡ Some x → head_of (xs ++ ys) ≡ Some x
-first-stays xs ys x h = grind arith
+first-stays = grind arith
 
 pub keyword-good : (before : List LineContent) (earlier : Draft) (keyword : List ℕ) (more : Fields) (rest : List LineContent) → IsUnderway ObjSense is_sense before → IsUnderway ObjName (λ _. true) before
     → IsWantedThere before → IsDeclared before earlier → AreGoodHeaders (before ++ header keyword more ∷ rest) → IsGood before earlier (header keyword more)
@@ -428,7 +428,7 @@ keyword-good before earlier keyword more rest sense name there stated h = by (se
         (follows t e (sym (ap (λ (o : Option Section). option_map_or (λ (s : Section). may_have_more s || not (is_nonempty more)) o false) e) ∙ k)) (tests t e))
 
 both : (a b : Bool) → (a && b) ≡ true → (a ≡ true) × (b ≡ true)
-both a b h = grind arith
+both = grind arith
 
 -- what the lines before imply for the next one
 pub record Known (before : List LineContent) (earlier : Draft) : Type 0 where
@@ -460,7 +460,7 @@ text-of_words : (bytes : List ℕ) → is_text_in_words bytes ≡ true → is_mp
 text-of_words bytes h = grind (arith, both, both_so, lines-good, all-good, none-known)
 
 same-answers : (a b : Bool) → (a ≡ true → b ≡ true) → (b ≡ true → a ≡ true) → a ≡ b
-same-answers a b f g = grind arith
+same-answers = grind arith
 
 pub text-is_in_words : TextIsInWords
 text-is_in_words bytes = same-answers (is_mps_text bytes) (is_text_in_words bytes) (text-in_words bytes) (text-of_words bytes)

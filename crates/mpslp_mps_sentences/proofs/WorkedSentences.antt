@@ -20,24 +20,15 @@ sides_before = lines_before ++ contents "RHS\n    A  R  1"
 
 abbrev faulty_lines : List ((List LineContent → LineContent → Bool) × List LineContent × String)
 faulty_lines =
-    (repeats_section, lines_before, "COLUMNS") ∷
-    (occurs_out_of_order, contents "OBJSENSE", "ROWS") ∷
-    (occurs_out_of_order, lines_before, "OBJSENSE MAX") ∷
-    (occurs_out_of_order, contents "ROWS", "BOUNDS") ∷
-    (occurs_out_of_order, [], " N  C") ∷
-    (occurs_out_of_order, contents "OBJSENSE MAX", "    MIN") ∷
-    (is_wrong_marker, lines_before, "    M  'MARKER'  'INTEND'") ∷
-    (is_of_second_set, sides_before, "    B  C  1") ∷
-    (is_of_second_set, sides_before, "    C  1") ∷
-    (splits_column, lines_before, "    X  R  2") ∷
-    (repeats_row, contents "ROWS\n N  C", " L  C") ∷
-    (repeats_row, contents "ROWS\n L  obj", "COLUMNS") ∷
-    (names_unknown_row, lines_before, "    Y  S  1") ∷
-    (names_unknown_row, contents "OBJNAME R\nROWS\n L  R", "COLUMNS") ∷
-    (names_unknown_column, lines_before ++ contents "BOUNDS", " UP  B  Z  4") ∷
-    (repeats_entry, lines_before, "    Y  C  1") ∷
-    (repeats_entry, lines_before, "    Z  R  1  R  2") ∷
-    []
+    (repeats_section, lines_before, "COLUMNS") ∷ (occurs_out_of_order, contents "OBJSENSE", "ROWS") ∷
+    (occurs_out_of_order, lines_before, "OBJSENSE MAX") ∷ (occurs_out_of_order, contents "ROWS", "BOUNDS") ∷
+    (occurs_out_of_order, [], " N  C") ∷ (occurs_out_of_order, contents "OBJSENSE MAX", "    MIN") ∷
+    (is_wrong_marker, lines_before, "    M  'MARKER'  'INTEND'") ∷ (is_of_second_set, sides_before, "    B  C  1") ∷
+    (is_of_second_set, sides_before, "    C  1") ∷ (splits_column, lines_before, "    X  R  2") ∷
+    (repeats_row, contents "ROWS\n N  C", " L  C") ∷ (repeats_row, contents "ROWS\n L  obj", "COLUMNS") ∷
+    (names_unknown_row, lines_before, "    Y  S  1") ∷ (names_unknown_row, contents "OBJNAME R\nROWS\n L  R", "COLUMNS") ∷
+    (names_unknown_column, lines_before ++ contents "BOUNDS", " UP  B  Z  4") ∷ (repeats_entry, lines_before, "    Y  C  1") ∷
+    (repeats_entry, lines_before, "    Z  R  1  R  2") ∷ []
 
 pub faulty_lines-found : list_all (λ row. row.0 row.1 (content_of (codes row.2))) faulty_lines ≡ true
 faulty_lines-found = refl

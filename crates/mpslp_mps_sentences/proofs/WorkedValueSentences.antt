@@ -52,14 +52,10 @@ ranges_of_free_rows-right = refl
 
 abbrev repeated_ranges : List Case
 repeated_ranges =
-    (front, "RANGES\n    G  R  1", "    G  R  1", true) ∷
-    (front, "RANGES\n    G  S  1  R  1", "    G  R  2", true) ∷
-    (front, "RANGES", "    G  R  1  R  2", true) ∷
-    (front, "RANGES", "    G  F  1  F  2", true) ∷
-    (front, "RANGES\n    G  R  1", "    G  S  1", false) ∷
-    (front, "RHS\n    G  R  1\nRANGES", "    G  R  1", false) ∷
-    (front, "RANGES\n    G  R  1\nRHS", "    G  R  1", false) ∷
-    []
+    (front, "RANGES\n    G  R  1", "    G  R  1", true) ∷ (front, "RANGES\n    G  S  1  R  1", "    G  R  2", true) ∷
+    (front, "RANGES", "    G  R  1  R  2", true) ∷ (front, "RANGES", "    G  F  1  F  2", true) ∷
+    (front, "RANGES\n    G  R  1", "    G  S  1", false) ∷ (front, "RHS\n    G  R  1\nRANGES", "    G  R  1", false) ∷
+    (front, "RANGES\n    G  R  1\nRHS", "    G  R  1", false) ∷ []
 
 pub repeated_ranges-right : judged repeats_range repeated_ranges ≡ map (λ row. row.3) repeated_ranges
 repeated_ranges-right = refl
@@ -68,17 +64,11 @@ repeated_ranges-right = refl
 
 abbrev repeated_sides : List Case
 repeated_sides =
-    (front, "RHS\n    A  R  1", "    A  R  1", true) ∷
-    (front, "RHS", "    A  R  1  R  2", true) ∷
-    (front, "RHS\n    A  C  1", "    A  R  1  C  1", true) ∷
-    (default_front, "RHS\n    A  obj  1", "    A  obj  1", true) ∷
-    (named_front, "RHS\n    A  F  1", "    A  F  1", true) ∷
-    (front, "RHS\n    A  R  1", "    A  S  1", false) ∷
-    (front, "RHS\n    A  F  1", "    A  F  1", false) ∷
-    (front, "RHS", "    A  F  1  F  1", false) ∷
-    (named_front, "RHS\n    A  C  1", "    A  C  1", false) ∷
-    (front, "RANGES\n    G  R  1\nRHS", "    A  R  1", false) ∷
-    []
+    (front, "RHS\n    A  R  1", "    A  R  1", true) ∷ (front, "RHS", "    A  R  1  R  2", true) ∷
+    (front, "RHS\n    A  C  1", "    A  R  1  C  1", true) ∷ (default_front, "RHS\n    A  obj  1", "    A  obj  1", true) ∷
+    (named_front, "RHS\n    A  F  1", "    A  F  1", true) ∷ (front, "RHS\n    A  R  1", "    A  S  1", false) ∷
+    (front, "RHS\n    A  F  1", "    A  F  1", false) ∷ (front, "RHS", "    A  F  1  F  1", false) ∷
+    (named_front, "RHS\n    A  C  1", "    A  C  1", false) ∷ (front, "RANGES\n    G  R  1\nRHS", "    A  R  1", false) ∷ []
 
 pub repeated_sides-right : judged repeats_side repeated_sides ≡ map (λ row. row.3) repeated_sides
 repeated_sides-right = refl
@@ -162,8 +152,7 @@ faulty_files =
     (text (front ++ lines_of "RHS\n    A  R  1\n    A  C  1  R  2\nENDATA"), Some (fault_on_line 15 DuplicateRhs)) ∷
     (text (front ++ lines_of "RHS\n    A  C  1\n    A  C  1\nENDATA"), Some (fault_on_line 15 DuplicateRhs)) ∷
     (text (front ++ lines_of "RANGES\n    G  R  1\n    G  S  1  R  2\nENDATA"), Some (fault_on_line 15 DuplicateRange)) ∷
-    (text (front ++ lines_of "RANGES\n    G  R  1\n    G  F  1\nENDATA"), Some (fault_on_line 15 RangeOnFree)) ∷
-    []
+    (text (front ++ lines_of "RANGES\n    G  R  1\n    G  F  1\nENDATA"), Some (fault_on_line 15 RangeOnFree)) ∷ []
 
 pub faulty_files-right : map (λ row. first_mps_fault row.0) faulty_files ≡ map (λ row. row.1) faulty_files
 unfolding trailing_zeros

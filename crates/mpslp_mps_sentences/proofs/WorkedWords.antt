@@ -12,12 +12,7 @@ lines_of s = lines (codes s)
 
 abbrev worked_files : List (List ℕ × Bool)
 worked_files =
-    (small, true) ∷
-    (small_with_returns, true) ∷
-    (small_with_text_after_end, true) ∷
-    (small_maximized, true) ∷
-    (ranges, true) ∷
-    []
+    (small, true) ∷ (small_with_returns, true) ∷ (small_with_text_after_end, true) ∷ (small_maximized, true) ∷ (ranges, true) ∷ []
 
 pub worked_files-right : map (λ row. is_text_in_words row.0) worked_files ≡ map (λ row. row.1) worked_files
 unfolding trailing_zeros
@@ -39,25 +34,13 @@ with_line_after n line = text (take n base ++ codes line ∷ drop n base)
 
 abbrev changed_files : List (List ℕ × Bool)
 changed_files =
-    (text base, true) ∷
-    (with_line 12 " SC  B  X  4", true) ∷
-    (with_line_after 1 "OBJNAME C", true) ∷
-    (with_line_after 1 "OBJNAME R", false) ∷
-    (with_line_after 1 "OBJSENSE", false) ∷
-    (with_line_after 4 "OBJSENSE MAX", false) ∷
-    (with_line_after 12 "QUADOBJ", false) ∷
-    (with_line_after 12 "ROWS", false) ∷
-    (with_line_after 1 " N  C", false) ∷
-    (with_line 4 " X  R", false) ∷
-    (with_line 7 "    X  R  1x", false) ∷
-    (with_line 8 "    M  'MARKER'  'INTEND'", false) ∷
-    (with_line 8 "    M  'MARKER'  'SOSORG'", false) ∷
-    (with_line_after 8 "    X  R  1", false) ∷
-    (with_line_after 6 "    M  'MARKER'  'INTORG'", false) ∷
-    (with_line_after 10 "    A2  R  1", false) ∷
-    (with_line 12 " SC  B", false) ∷
-    (text (take 12 base), false) ∷
-    []
+    (text base, true) ∷ (with_line 12 " SC  B  X  4", true) ∷ (with_line_after 1 "OBJNAME C", true) ∷
+    (with_line_after 1 "OBJNAME R", false) ∷ (with_line_after 1 "OBJSENSE", false) ∷ (with_line_after 4 "OBJSENSE MAX", false) ∷
+    (with_line_after 12 "QUADOBJ", false) ∷ (with_line_after 12 "ROWS", false) ∷ (with_line_after 1 " N  C", false) ∷
+    (with_line 4 " X  R", false) ∷ (with_line 7 "    X  R  1x", false) ∷ (with_line 8 "    M  'MARKER'  'INTEND'", false) ∷
+    (with_line 8 "    M  'MARKER'  'SOSORG'", false) ∷ (with_line_after 8 "    X  R  1", false) ∷
+    (with_line_after 6 "    M  'MARKER'  'INTORG'", false) ∷ (with_line_after 10 "    A2  R  1", false) ∷ (with_line 12 " SC  B", false) ∷
+    (text (take 12 base), false) ∷ []
 
 pub changed_files-right : map (λ row. is_text_in_words row.0) changed_files ≡ map (λ row. row.1) changed_files
 unfolding trailing_zeros
