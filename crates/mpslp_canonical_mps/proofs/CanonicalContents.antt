@@ -8,9 +8,9 @@ use Prelude.{begins, is_section, has, Section, ObjSense, Columns, Context, conte
 use Prelude.{data_lines, is_read, word_due_after, word_due, has_section, line_declares, may_begin, is_out_of_order, form_faults}
 use Prelude.{current_section-push, has_section-append, has_section-cons, or_false, word_due-push, ℕ, cond, map-append, flat_map}
 use Prelude.{option_map_or, Number, is_zero, negated, zero_number, number_text, Row, Column, Listing, BoundType, content_in, printed_type}
-use Prelude.{printed_rhs, printed_range, PrintedBound, printed_bounds, Lines, under_header, row_line, vector_line, coefficient_line}
-use Prelude.{column_coefficients, printed_coefficients, column_lines, rhs_lines, row_rhs_lines, range_lines, append_assoc, append-nil}
-use Prelude.{Declarations, is_free_row, Each, Rhs, Ranges, Bounds, EndData, data_lines-push}
+use Prelude.{printed_rhs, printed_range, PrintedBound, printed_bounds, Lines, under_header, row_line, coefficient_line, column_coefficients}
+use Prelude.{printed_coefficients, column_lines, rhs_lines, row_rhs_lines, range_lines, append_assoc, append-nil, Declarations, is_free_row}
+use Prelude.{Each, Rhs, Ranges, Bounds, EndData, data_lines-push}
 use Rattle.mpslp_canonical_mps.proofs.ColumnsWalk.{Cell, cell_item, Group, cells_of}
 use Rattle.mpslp_canonical_mps.proofs.RowsWalk.{BoundForm, fixed, lower, upper, free, no_lower, no_upper, semi_upper, Bound, RowItem}
 use Rattle.mpslp_canonical_mps.proofs.RowsWalk.{row_item, Side, side_item, bound_item, bound_decl, GoodBound, InBounds, bound_step, Walk}
@@ -39,7 +39,7 @@ pub record MayBegin (section : Section) (before : List LineContent) : Type 0 whe
   pub begins : may_begin (context_of before) section ≡ true
 
 in-order : (section : Section) (before : List LineContent) → MayBegin section before → is_out_of_order (context_of before) section ≡ false
-in-order section before h = rw (h.settled, h.fresh, h.begins) refl
+in-order = grind arith
 
 -- the objective exists at the start of COLUMNS
 pub fresh-header-good : (section : Section) (context : Context) (earlier : Draft) → is_out_of_order context section ≡ false → has context.sections_seen section ≡ false
@@ -48,14 +48,14 @@ fresh-header-good = grind arith
 
 pub header-good : (section : Section) (before : List LineContent) (earlier : Draft) → MayBegin section before → (is_section Columns (Some section) ≡ true → is_none earlier.objective ≡ false)
     → form_faults (context_of before) earlier (header_item section) ≡ []
-header-good section before earlier h named = fresh-header-good section (context_of before) earlier (in-order section before h) h.fresh named
+header-good = grind arith
 
 -- a header declares nothing, except for the objective at COLUMNS if there was none
 pub header-says : (section : Section) (context : Context) (earlier : Draft) → (is_section Columns (Some section) ≡ true → is_none earlier.objective ≡ false) → line_declares context earlier (header_item section) ≡ []
 header-says = grind arith
 
 pub current-header : (section : Section) (before : List LineContent) → current_section (before ++ header_item section ∷ []) ≡ Some section
-current-header section before = current_section-push before _ ∙ ap (λ o. option_or o (current_section before)) (section_named-keyword section)
+current-header = grind (arith, current_section-push, section_named-keyword)
 
 -- ---- the word of OBJSENSE, on a line of its own
 
@@ -63,7 +63,7 @@ pub word-says : (context : Context) (earlier : Draft) → context.section ≡ So
 word-says context earlier s = rw s refl
 
 pub word-good : (context : Context) (earlier : Draft) → context.section ≡ Some ObjSense → is_some context.word_due ≡ true → form_faults context earlier (data_line (codes "MAX" ∷ [])) ≡ []
-word-good context earlier s w = rw (s, w) refl
+word-good = grind arith
 
 -- ---- what has not begun
 
@@ -92,11 +92,11 @@ lines_of_other section (item ∷ before) current h k =
 
 -- a section that has not begun has no lines
 pub no-lines : (section : Section) (before : List LineContent) → has_section before section ≡ false → data_lines section before ≡ []
-no-lines section before h = lines_of_other section before None refl h
+no-lines = grind (arith, lines_of_other)
 
 -- after a data line, and after a header that is not a bare OBJSENSE
 pub settled-after : (before : List LineContent) (item : LineContent) → is_read item ≡ true → is_bare item ≡ false → wants_word (before ++ item ∷ []) ≡ false
-settled-after before item r b = ap is_some (word_due-push before item ∙ rw r refl) ∙ b
+settled-after = grind (arith, word_due-push)
 
 abbrev pub items_in : Lines → List LineContent
 items_in lines = map content_in lines
@@ -114,7 +114,7 @@ to_row row = (row.0, printed_type row.1.lower row.1.upper)
 
 pub row-items : (rows : List (List ℕ × Row)) → items_in (map row_line rows) ≡ map row_item (map to_row rows)
 row-items [] = refl
-row-items (row ∷ rows) = ap (λ more. row_item (to_row row) ∷ more) (row-items rows)
+row-items (row ∷ rows) = grind (arith, row-items rows)
 
 -- ---- columns
 
@@ -129,11 +129,11 @@ group_in m column = (column.0, cells_in m column)
 
 cell-items : (column : List ℕ) (cells : List (List ℕ × Number)) → items_in (map (coefficient_line column) cells) ≡ map cell_item (map (to_cell column) cells)
 cell-items column [] = refl
-cell-items column (cell ∷ cells) = ap (λ more. cell_item (to_cell column cell) ∷ more) (cell-items column cells)
+cell-items column (cell ∷ cells) = grind (arith, cell-items column cells)
 
 cells-grouped : (m : Listing) (columns : List (List ℕ × Column)) → cells_of (map (group_in m) columns) ≡ flat_map (cells_in m) columns
 cells-grouped m [] = refl
-cells-grouped m (column ∷ columns) = ap (λ more. cells_in m column ++ more) (cells-grouped m columns)
+cells-grouped m (column ∷ columns) = grind (arith, cells-grouped m columns)
 
 pub column-items : (m : Listing) (columns : List (List ℕ × Column)) → items_in (flat_map (column_lines m) columns) ≡ map cell_item (cells_of (map (group_in m) columns))
 column-items m columns =
@@ -170,11 +170,7 @@ pub ranges-items : (rows : List (List ℕ × Row)) → items_in (flat_map range_
 ranges-items rows = flat-items _ range_lines row_range one rows
   where
     one : (row : List ℕ × Row) → items_in (range_lines row) ≡ map (side_item (codes "RNG")) (row_range row)
-    one row = by (printed_range row.1.lower row.1.upper)
-      where
-        by : (o : Option Number) → items_in (option_map_or (λ value. vector_line (codes "RNG") row.0 value ∷ []) o []) ≡ map (side_item (codes "RNG")) (option_map_or (λ value. to_side row.0 value ∷ []) o [])
-        by None = refl
-        by (Some d) = refl
+    one = grind arith
 
 -- ---- bounds
 
@@ -245,13 +241,13 @@ pub record IsLateSection (section : Section) : Type 0 where
   pub bare : is_bare (header_item section) ≡ false
 
 late-rhs : IsLateSection Rhs
-late-rhs = record { may_begin = λ before earlier h f. record { settled = h.settled; fresh = f; begins = h.columns }; bare = refl }
+late-rhs = grind arith
 
 late-ranges : IsLateSection Ranges
-late-ranges = record { may_begin = λ before earlier h f. record { settled = h.settled; fresh = f; begins = h.columns }; bare = refl }
+late-ranges = grind arith
 
 late-bounds : IsLateSection Bounds
-late-bounds = record { may_begin = λ before earlier h f. record { settled = h.settled; fresh = f; begins = h.columns }; bare = refl }
+late-bounds = grind arith
 
 -- A section that is printed only if it has lines: its lines follow its header.
 under-walk : {X : Type 0} (section : Section) → IsLateSection section → (item : X → LineContent) (decl : X → Declarations) (xs : List X) (before : List LineContent) (earlier : Draft) → IsLate before earlier

@@ -3,21 +3,20 @@
 use Rattle.mpslp_canonical_mps.proofs.Prelude
 use Prelude.{◌≡◌, sym, ◌∙◌, Some, Fault, DeclareOneModel, HaveOneFirstFault, ap, subst, [], map, list_all, LinearModel, IsSound, listing_of}
 use Prelude.{empty_draft, Means, AreConsistent, both_so, content_of, is_legal_line, read_lines, declarations_of, DeclaresMps}
-use Prelude.{declared_items, are_well_formed, lines-declare, lines-good, canonical_mps, IsReadAsPrinted, DeclareTheirModels}
-use Prelude.{DistinguishModels}
+use Prelude.{are_well_formed, lines-declare, lines-good, canonical_mps, IsReadAsPrinted, DeclareTheirModels, DistinguishModels, arith}
 use Rattle.mpslp_canonical_mps.proofs.{DraftMaps.{sound-listing}, FilledOnce.{filled-once}, GoodWhole.{good-whole}}
 use Rattle.mpslp_canonical_mps.proofs.{ListedConsistency.{consistent-if_once}, ListedContents.{whole_of, listed-items}}
 use Rattle.mpslp_canonical_mps.proofs.{ListedMeaning.{draft-means}, ListedParts.{listed_decl}, ReadLemmas.{read-as-line_text}}
 use Rattle.mpslp_canonical_mps.proofs.{RowsWalk.{Walk}, WholeWalk.{whole_items, whole-walk}}
 
 pub one-model : DeclareOneModel
-one-model bytes m n first second = first.means.meant.model ∙ sym second.means.meant.model
+one-model = grind arith
 
 one-stated : (a b : Fault) → Some a ≡ Some b → a ≡ b
 one-stated a b e = cc
 
 pub one-fault : HaveOneFirstFault
-one-fault bytes a b first second = one-stated a b (sym first ∙ second)
+one-fault = grind arith
 
 pub canonical-walk : (m : LinearModel) → IsSound m → Walk [] empty_draft (whole_items (whole_of (listing_of m))) (listed_decl (listing_of m))
 canonical-walk m sound = whole-walk _ (good-whole _ (sound-listing m sound))
@@ -28,7 +27,7 @@ canonical-items m sound =
     ap (map content_of) read.lines ∙ read.items ∙ listed-items (listing_of m)
 
 pub canonical-declarations : (m : LinearModel) → IsSound m → declarations_of (canonical_mps m) ≡ listed_decl (listing_of m)
-canonical-declarations m sound = lines-declare [] empty_draft (read_lines (canonical_mps m)) ∙ ap (declared_items [] empty_draft) (canonical-items m sound) ∙ (canonical-walk m sound).declares
+canonical-declarations = grind (arith, lines-declare, canonical-items, canonical-walk)
 
 -- The canonical text of a well-formed model declares it, if its declarations are consistent.
 pub declares-if_consistent : (m : LinearModel) → IsSound m → AreConsistent (listed_decl (listing_of m)) → DeclaresMps (canonical_mps m) m

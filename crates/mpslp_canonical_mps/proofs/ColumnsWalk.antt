@@ -52,7 +52,7 @@ pub record InCells (marked : Bool) (rest : List Cell) (before : List LineContent
 
 pub cell_says : (marked : Bool) (cell : Cell) (context : Context) (earlier : Draft) → context.section ≡ Some Columns → context.in_integer_part ≡ marked → GoodCell cell
     → line_declares context earlier (cell_item cell) ≡ cell_decl marked cell
-cell_says marked cell context earlier s p g = rw (s, g.row, p, g.text) refl
+cell_says = grind arith
 
 -- tests none of which fails, before others
 pub none-first : (xs ys : FaultTests) → those_of xs ≡ [] → those_of (xs ++ ys) ≡ those_of ys
@@ -69,7 +69,7 @@ cell_tests_good = grind arith
 
 pub cell_good : (cell : Cell) (context : Context) (earlier : Draft) → context.section ≡ Some Columns → GoodCell cell → is_split_in context.last_column earlier cell.column ≡ false
     → form_faults context earlier (cell_item cell) ≡ []
-cell_good cell context earlier s g u = rw (s, g.row) (cell_tests_good cell _ g u)
+cell_good = grind arith
 
 cell_lines : (cell : Cell) (before : List LineContent) → current_section before ≡ Some Columns → data_lines Columns (before ++ cell_item cell ∷ []) ≡ data_lines Columns before ++ cell_fields cell ∷ []
 cell_lines cell before s = lines-push Columns _ before (Some Columns) s

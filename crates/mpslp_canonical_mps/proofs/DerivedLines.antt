@@ -3,16 +3,16 @@ use Rattle.mpslp_canonical_mps.proofs.Prelude
 use Prelude.{arith, ◌≡◌, ℕ, List, [], true, false, Option, Number, IsDecimal, number-text, same_bytes, is_mps_name, marker, those_of}
 use Prelude.{set_tests, form_faults, DeriveHeaders, DeriveSense, DeriveAllRows, DeriveAllColumns, is_set_of, DeriveRhs, DeriveRanges}
 use Prelude.{DeriveAllBounds}
+use Rattle.mpslp_canonical_mps.proofs.CanonicalContents.{to_cell, to_side}
+use Rattle.mpslp_canonical_mps.proofs.ColumnsWalk.{GoodCell, cell_says, cell_good, marker_says, marker_good}
 use Rattle.mpslp_canonical_mps.proofs.RowsWalk.{fixed, lower, upper, free, no_lower, no_upper, semi_upper, fields_at, decl_at, bound_says}
 use Rattle.mpslp_canonical_mps.proofs.RowsWalk.{bound_good, side_says, side_good, range_says, range_good}
-use Rattle.mpslp_canonical_mps.proofs.CanonicalContents.{to_cell, to_side, word-says, word-good}
-use Rattle.mpslp_canonical_mps.proofs.ColumnsWalk.{GoodCell, cell_says, cell_good, marker_says, marker_good}
 
 pub headers-derived : DeriveHeaders
 headers-derived = grind arith
 
 pub sense-derived : DeriveSense
-sense-derived context earlier section due = record { declares = word-says context earlier section; faultless = word-good context earlier section due }
+sense-derived = grind arith
 
 pub rows-derived : DeriveAllRows
 rows-derived = grind arith
@@ -20,7 +20,7 @@ rows-derived = grind arith
 -- ---- columns
 
 good-cell : (column row : List ℕ) (value : Number) → is_mps_name column ≡ true → same_bytes row marker ≡ false → IsDecimal value → GoodCell (to_cell column (row, value))
-good-cell column row value legal no_marker decimal = record { name = legal; row = no_marker; text = number-text value decimal }
+good-cell = grind (arith, number-text)
 
 pub columns-derived : DeriveAllColumns
 columns-derived = grind (arith, good-cell, cell_says, to_cell, cell_good, marker_says, marker_good)

@@ -136,10 +136,10 @@ marked-at m h q column is =
     by false = refl
 
 pub integers-drafted : (m : Listing) → (drafted m).integers ≡ []
-integers-drafted m = integers-all (listed_decl m) empty_draft ∙ ap (λ es. puts bytes_cmp es []) (integers-part m)
+integers-drafted = grind (arith, integers-all, integers-part)
 
 pub binaries-drafted : (m : Listing) → (drafted m).binaries ≡ []
-binaries-drafted m = binaries-all (listed_decl m) empty_draft ∙ ap (λ es. puts bytes_cmp es []) (binaries-part m)
+binaries-drafted = grind (arith, binaries-all, binaries-part)
 
 -- ---- the listing of a well-formed model
 

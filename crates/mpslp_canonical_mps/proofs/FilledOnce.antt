@@ -50,7 +50,7 @@ other-new n slot (later ∷ slots) is none = grind (arith, same-rank, other-new 
 
 -- slots of one kind before slots of others
 pub join-ranks : (n : ℕ) (xs ys : List Slot) → are_distinct same_slot xs ≡ true → are_distinct same_slot ys ≡ true → AllOf n xs → NoneOf n ys → are_distinct same_slot (xs ++ ys) ≡ true
-join-ranks n xs ys h k all none = distinct-append same_slot xs ys h k (Each-weaker _ _ (λ slot is. other-new n slot ys is none) xs all)
+join-ranks = grind (arith, distinct-append, Each-weaker, other-new)
 
 -- ---- slots of names
 
@@ -69,7 +69,7 @@ distinct-names make h es sorted = distinct-map same_bytes make h _ ∙ distinct-
 
 pub slots-flat : (ds : Declarations) → all_slots ds ≡ flat_map slots_of ds
 slots-flat [] = refl
-slots-flat (d ∷ ds) = ap (λ slots. slots_of d ++ slots) (slots-flat ds)
+slots-flat (d ∷ ds) = grind (arith, slots-flat ds)
 
 -- ---- coefficients
 
@@ -99,8 +99,7 @@ row-new coefficients row column (x ∷ rows) h =
     by : (o : Option Number) → same_bytes x row ≡ false
         → IsNew same_slot (coefficient_slot (place_at row column)) (flat_map cell_slot (map (to_cell column) (filter_map (cell_at coefficients column) rows)))
         → IsNew same_slot (coefficient_slot (place_at row column)) (flat_map cell_slot (map (to_cell column) (cons_option (option_map (λ (value : Number). (x, value)) o) (filter_map (cell_at coefficients column) rows))))
-    by None apart more = more
-    by (Some d) apart more = both_false _ _ (none_and _ _ apart) more
+    by = grind arith
 
 -- the coefficients of a column are in different rows
 pub column-distinct : (coefficients : List (CoefficientKey × Number)) (column : List ℕ) (rows : List (List ℕ)) → are_distinct same_bytes rows ≡ true
@@ -114,8 +113,7 @@ column-distinct coefficients column (row ∷ rows) h =
     by : (o : Option Number) → IsNew same_slot (coefficient_slot (place_at row column)) (flat_map cell_slot (map (to_cell column) (filter_map (cell_at coefficients column) rows)))
         → are_distinct same_slot (flat_map cell_slot (map (to_cell column) (filter_map (cell_at coefficients column) rows))) ≡ true
         → are_distinct same_slot (flat_map cell_slot (map (to_cell column) (cons_option (option_map (λ (value : Number). (row, value)) o) (filter_map (cell_at coefficients column) rows)))) ≡ true
-    by None new more = more
-    by (Some d) new more = both_so _ _ (so_not _ new) more
+    by = grind arith
 
 pub any-turned : (q : List ℕ) (names : List (List ℕ)) → list_any (λ later. same_bytes later q) names ≡ is_one_of names q
 any-turned q [] = refl
@@ -177,7 +175,7 @@ row_slots m = objective_slot ∷ map row_slot (m.objective ∷ names_in m.rows)
 
 pub rows-fill : (rows : List (List ℕ × Row)) → flat_map (made_of slots_of row_decl) (map to_row rows) ≡ map row_slot (names_in rows)
 rows-fill [] = refl
-rows-fill (row ∷ rows) = ap (λ slots. row_slot row.0 ∷ slots) (rows-fill rows)
+rows-fill (row ∷ rows) = grind (arith, rows-fill rows)
 
 no-objective : (names : List (List ℕ)) → list_any (λ later. same_slot later objective_slot) (map row_slot names) ≡ false
 no-objective [] = refl
@@ -192,7 +190,7 @@ row_slots-distinct m h =
 
 filled-names : (make : List ℕ → Slot) (sides : List Side) → flat_map (λ side. make side.row ∷ []) sides ≡ map make (names_in (flat_map own_side sides))
 filled-names make [] = refl
-filled-names make (side ∷ sides) = ap (λ slots. make side.row ∷ slots) (filled-names make sides)
+filled-names make (side ∷ sides) = grind (arith, filled-names make sides)
 
 abbrev pub side_values : Listing → List (List ℕ × Number)
 side_values m = stated m.objective (value_stated (negated m.constant)) ++ all_stated side_stated m.rows
@@ -240,7 +238,7 @@ each-slot P name l u [] = tt
 each-slot P name l u (bound ∷ line_text) = grind (arith, to_bound, each-form, each-slot P name l u line_text)
 
 pub each-bound_slot : (P : Slot → Type 0) (column : List ℕ × Column) → P (lower_slot column.0) → P (upper_slot column.0) → Each P (bound_slots column)
-each-bound_slot P column l u = each-slot P column.0 l u _
+each-bound_slot = grind arith
 
 -- ---- each bound is declared once
 
@@ -254,10 +252,10 @@ new-of_each slot [] h = refl
 new-of_each slot (later ∷ slots) h = both_false _ _ h.0 (new-of_each slot slots h.1)
 
 lower-new : (name : List ℕ) (other : List ℕ × Column) → same_bytes other.0 name ≡ false → IsNew same_slot (lower_slot name) (bound_slots other)
-lower-new name other h = new-of_each _ _ (each-bound_slot _ other h refl)
+lower-new = grind arith
 
 upper-new : (name : List ℕ) (other : List ℕ × Column) → same_bytes other.0 name ≡ false → IsNew same_slot (upper_slot name) (bound_slots other)
-upper-new name other h = new-of_each _ _ (each-bound_slot _ other refl h)
+upper-new = grind arith
 
 bounds-apart : (columns : List (List ℕ × Column)) → AreOther columns → Apart same_slot bound_slots columns
 bounds-apart [] h = tt
@@ -344,7 +342,7 @@ columns-fill : (m : Listing)
 columns-fill = grind (arith, cells-fill, flat_map-append, column_slots)
 
 column-rank : (m : Listing) (column : List ℕ × Column) → AllOf 2 (column_slots m column)
-column-rank m column = Each-flat_map _ cell_slot _ (Each-all _ (λ cell. (refl, tt)) _)
+column-rank = grind (arith, Each-flat_map, Each-all)
 
 columns-section : (m : Listing) → IsSoundListing m → Section 2 (flat_map (column_slots m) (listed_columns m))
 columns-section m h = record {

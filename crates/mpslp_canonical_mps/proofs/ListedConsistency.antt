@@ -1,14 +1,14 @@
 -- The canonical declarations of a well-formed listing are consistent, if no slot is filled twice.
 use Rattle.mpslp_canonical_mps.proofs.Prelude
-use Prelude.{arith, ◌≡◌, refl, ap, ◌∙◌, List, [], ◌∷◌, ◌++◌, ℕ, Bool, true, false, not, cond, map, Option, Some, None, is_some, filter}
-use Prelude.{filter_map, ◌&&◌, ◌||◌, flat_map, list_all, list_any, option_map_or, second_so, texts_ties, Number, is_zero, negated}
-use Prelude.{same_bytes, is_bounded_decimal, has_bounded_distance, are_distinct, Sense, Kind, Continuous, Integer, Semi, Limit, MinusInf}
-use Prelude.{Finite, PlusInf, both_so, so_not, or_left, or_right, both_false, Each, Each-weaker, Each-append, Each-map, Each-flat_map}
-use Prelude.{Each-filter, Each-all, list_all-from_Each, Row, Column, CoefficientKey, Listing, by_type, Declaration, declare_objective}
-use Prelude.{Declarations, at_name, has_name, has_row, has_column, is_integer, is_semi, is_objective, is_free_definition, is_free_row}
-use Prelude.{is_known, is_allowed, declares_objective, same_slot, all_slots, AreConsistent, is_semi_kind, itself_named, then_stated}
-use Prelude.{at-mapped, row_distance, column_suited, printed_type, printed_rhs, printed_range, PrintedBound, printed_bounds, cell_at}
-use Prelude.{printed_coefficients, is_integer_column, is_plain_column}
+use Prelude.{arith, ◌≡◌, refl, ap, ◌∙◌, List, [], ◌∷◌, ◌++◌, ℕ, Bool, true, false, not, map, Option, Some, None, is_some, filter}
+use Prelude.{filter_map, ◌&&◌, ◌||◌, flat_map, list_all, list_any, option_map_or, second_so, texts_ties, Number, negated, same_bytes}
+use Prelude.{is_bounded_decimal, has_bounded_distance, are_distinct, Sense, Kind, Integer, Limit, MinusInf, Finite, PlusInf, both_so}
+use Prelude.{so_not, or_left, or_right, Each, Each-weaker, Each-append, Each-map, Each-flat_map, Each-filter, Each-all, list_all-from_Each}
+use Prelude.{Row, Column, CoefficientKey, Listing, by_type, Declaration, declare_objective, Declarations, at_name, has_name, has_row}
+use Prelude.{has_column, is_integer, is_semi, is_objective, is_free_definition, is_free_row, is_known, is_allowed, declares_objective}
+use Prelude.{same_slot, all_slots, AreConsistent, is_semi_kind, itself_named, then_stated, at-mapped, row_distance, column_suited}
+use Prelude.{printed_type, printed_rhs, printed_range, PrintedBound, printed_bounds, cell_at, printed_coefficients, is_integer_column}
+use Prelude.{is_plain_column}
 use Rattle.mpslp_canonical_mps.proofs.CanonicalContents.{cells_in, group_in, to_side, side_unless_zero, row_side, sides_in, row_range}
 use Rattle.mpslp_canonical_mps.proofs.{CanonicalContents.{form_of, to_bound, bounds_in}, CoefficientMap.{place_at}}
 use Rattle.mpslp_canonical_mps.proofs.ColumnsWalk.{Cell, cell_decl, cells_of}
@@ -66,7 +66,7 @@ known-coefficient : (m : Listing) (cell : Cell) → KnownCell m cell → (has_ro
 known-coefficient m cell k = both_so _ _ k.0 k.1
 
 known-side : (m : Listing) (row : List ℕ) (value : Number) → has_row (drafted m) row ≡ true → Each (λ (side : Side). Each (Known m) (side_decl side)) (side_unless_zero row value)
-known-side m row value k = elim (is_zero value) as (λ b. Each (λ side. Each (Known m) (side_decl side)) (cond b [] (to_side row value ∷ []))) [ true ↦ tt | false ↦ ((k, tt), tt) ]
+known-side = grind arith
 
 known-range : (m : Listing) (row : List ℕ) (o : Option Number) → has_row (drafted m) row ≡ true → Each (λ (side : Side). Each (Known m) (range_decl side)) (option_map_or (λ value. to_side row value ∷ []) o [])
 known-range = grind arith
@@ -114,7 +114,7 @@ range-bounded PlusInf u h = tt
 range-bounded (Finite a) (Finite b) h = grind (arith)
 
 no_false : (a b : Bool) → a ≡ false → b ≡ false → not (a || b) ≡ true
-no_false a b p q = ap not (both_false a b p q)
+no_false = grind arith
 
 allowed-range : (m : Listing) → IsSoundListing m → (row : List ℕ × Row) → IsOwnRow m row → Each (λ (side : Side). Each (Allowed m) (range_decl side)) (row_range row)
 allowed-range m h row k = by (printed_range row.1.lower row.1.upper) refl (range-bounded row.1.lower row.1.upper (row_distance row k.0))
@@ -141,7 +141,7 @@ allowed-range m h row k = by (printed_range row.1.lower row.1.upper) refl (range
 -- ---- no column is both integer and semi-continuous
 
 own-semi : (m : Listing) → IsSoundListing m → (column : List ℕ × Column) → IsOwnColumn m column → is_semi (drafted m) column.0 ≡ is_semi_kind column.1.kind
-own-semi m h column k = semis-at m h column.0 column.1 (column_suited column k.0) k.1
+own-semi = grind (arith, semis-at, column_suited)
 
 own-integer : (m : Listing) → IsSoundListing m → (column : List ℕ × Column) → IsOwnColumn m column → is_integer (drafted m) column.0 ≡ is_integer_column column
 own-integer = grind (arith, marked-at, integers-drafted, binaries-drafted)
@@ -190,11 +190,7 @@ allowed-bounds m h column k = allowed-line_text m column.0 _ (by column.1.kind c
 
     by : (kind : Kind) (l u : Limit) → is_integer (drafted m) column.0 ≡ is_integer_column ([], record { kind = kind; lower = l; upper = u })
         → Each (λ (b : PrintedBound). is_semi_form (form_of b.type) ≡ true → is_integer (drafted m) column.0 ≡ false) (printed_bounds kind l u)
-    by Continuous l u e = Each-all _ (λ _ _. e) _
-    by Integer l u e =
-        Each-weaker HasNoSemi _
-        (λ b plain stated. silent (is_semi_form (form_of b.type)) (is_integer (drafted m) column.0) plain stated) _ (integer-plain l u)
-    by Semi l u e = Each-all _ (λ _ _. e) _
+    by = grind arith
 
 allowed-sense : (m : Listing) (s : Sense) → Each (Allowed m) (sense_decl s)
 allowed-sense = grind arith

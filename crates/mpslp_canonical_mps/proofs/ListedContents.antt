@@ -1,6 +1,6 @@
 -- The items that are read in the canonical lines of a listing are those of all its sections.
 use Rattle.mpslp_canonical_mps.proofs.Prelude
-use Prelude.{arith, ◌≡◌, refl, ◌∙◌, List, [], ◌∷◌, ◌++◌, ℕ, true, map, map-append, Option, filter, codes, flat_map, Number, Column, Listing}
+use Prelude.{arith, ◌≡◌, refl, List, [], ◌∷◌, ◌++◌, ℕ, true, map, map-append, Option, filter, codes, flat_map, Number, Column, Listing}
 use Prelude.{Sense, Kind, Limit, Each, LineContent, Columns, BoundType, content_in, PrintedBound, printed_bounds, Lines, sense_lines}
 use Prelude.{is_integer_column, is_plain_column, integer_part, columns_section, bound_line, column_bound_lines, listed_lines}
 use Rattle.mpslp_canonical_mps.proofs.CanonicalContents.{items_in, flat-items, to_row, row-items, group_in, column-items, sides_in}
@@ -20,7 +20,7 @@ AllFit bs = Each (λ b. is_fit b ≡ true) bs
 
 fit-items : (column : List ℕ) (bs : List PrintedBound) → AllFit bs → items_in (map (bound_line column) bs) ≡ map (bound_item (codes "BND")) (map (to_bound column) bs)
 fit-items column [] h = refl
-fit-items column (b ∷ bs) h = λ i. fit-item column b.type b.value h.0 i ∷ fit-items column bs h.1 i
+fit-items column (b ∷ bs) h = grind (arith, fit-items column bs h.1)
 
 bounds-fit : (kind : Kind) (lower upper : Limit) → AllFit (printed_bounds kind lower upper)
 bounds-fit = grind arith
@@ -48,7 +48,7 @@ part-items = grind (arith, marker_item, map-append)
 
 -- the items of lines after others
 follow : (xs ys : Lines) (is js : List LineContent) → items_in xs ≡ is → items_in ys ≡ js → items_in (xs ++ ys) ≡ is ++ js
-follow xs ys is js h k = map-append content_in xs ys ∙ (λ i. h i ++ k i)
+follow = grind (arith, map-append)
 
 columns-items : (m : Listing) → items_in (columns_section m) ≡ header_item Columns ∷ (map cell_item (cells_of (whole_of m).plain) ++ part_items (cells_of (whole_of m).integers))
 columns-items = grind (arith, header_item, follow, column-items, part-items, cells_of)

@@ -150,7 +150,7 @@ own_side side = (side.row, side.value) ∷ []
 
 pub rows-made : (rows : List (List ℕ × Row)) → flat_map (made_of row_part row_decl) (map to_row rows) ≡ row_forms rows
 rows-made [] = refl
-rows-made (row ∷ rows) = ap (λ (more : List _). (row.0, form_stated row.1) ∷ more) (rows-made rows)
+rows-made (row ∷ rows) = grind (arith, rows-made rows)
 
 pub cells-made : {Y : Type 0} (f : Cell → List Y) (m : Listing) (columns : List (List ℕ × Column)) → flat_map f (cells_of (map (group_in m) columns)) ≡ flat_map (λ column. flat_map f (cells_in m column)) columns
 cells-made f m [] = refl
@@ -278,7 +278,7 @@ pub coefficients-part : (m : Listing) → flat_map coefficient_part (listed_decl
 coefficients-part m = cells-part coefficient_part own_coefficient own_coefficient (λ _. refl) (λ _. refl) (λ _ _. refl) (λ _. refl) (λ _. refl) (λ _ _. refl) (λ _ _. refl) (λ _ _. refl) (λ _ _. refl) (λ _. refl) m
 
 from-none : {Y : Type 0} (m : Listing) (columns : List (List ℕ × Column)) → from_cells {Y = Y} (λ _. []) m columns ≡ []
-from-none m columns = flat-none _ (λ column. flat-none _ (λ _. refl) (cells_in m column)) columns
+from-none = grind (arith, flat-none)
 
 pub marked-part : (m : Listing) → flat_map marked_part (listed_decl m) ≡ from_cells own_column m (filter is_integer_column m.columns)
 marked-part m =

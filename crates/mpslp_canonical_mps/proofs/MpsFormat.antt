@@ -1,7 +1,7 @@
 -- The laws of MPS as a format of model files, in terms of the trait `Format`.
 use Rattle.mpslp_canonical_mps.proofs.Prelude
-use Prelude.{◌≡◌, refl, List, ℕ, Option, None, LinearModel, IsSound, Fault, NameAt, DeclaresMps, IsFirstMpsFault, model-or_fault}
-use Prelude.{canonical_mps}
+use Prelude.{◌≡◌, List, ℕ, Option, None, LinearModel, IsSound, Fault, NameAt, DeclaresMps, IsFirstMpsFault, model-or_fault, canonical_mps}
+use Prelude.{arith}
 use Rattle.mpslp_canonical_mps.proofs.CanonicalDeclares.{canonical-declares, one-model, one-fault}
 
 -- MPS can express every model.
@@ -18,7 +18,7 @@ one_model = one-model
 
 -- What bytes declare is well-formed, and MPS can express it.
 pub declared_sound : (bytes : List ℕ) (m : LinearModel) → DeclaresMps bytes m → IsSound m × (mps_unfit m ≡ None)
-declared_sound bytes m declares = (declares.means.meant.sound, refl)
+declared_sound = grind arith
 
 -- Bytes that declare a model have no error.
 pub no_fault : (bytes : List ℕ) (m : LinearModel) (fault : Fault) → DeclaresMps bytes m → IsFirstMpsFault bytes fault → ⊥

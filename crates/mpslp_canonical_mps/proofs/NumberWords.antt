@@ -21,7 +21,7 @@ mark-visible = grind (arith, nat_tests)
 
 both-parts : (xs ys : List ℕ) → Visible (xs ++ ys) → Visible xs × Visible ys
 both-parts [] ys h = (tt, h)
-both-parts (x ∷ xs) ys h = let more = both-parts xs ys h.1 in ((h.0, more.0), more.1)
+both-parts (x ∷ xs) ys h = grind (arith, both-parts xs ys h.1)
 
 -- the parts before and after the first byte that passes a test, and that byte
 around : (p : ℕ → Bool) → ((b : ℕ) → p b ≡ true → is_visible b ≡ true) → (xs : List ℕ) → Visible (before_first p xs) → Visible (after_first p xs) → Visible xs

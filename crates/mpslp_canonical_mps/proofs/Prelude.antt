@@ -1,7 +1,7 @@
 -- The names that the proofs of this crate use of the logic, of std, of the crates below and of `specs/`.
 pub use Rattle.std.proofs.Common.{arith, ◌≡◌, refl, List, [], ◌∷◌, ℕ, true, false, map, sym, ap, ◌∙◌, ◌++◌, Bool, cond, subst, append_assoc}
 pub use Rattle.std.proofs.Common.{not, rules, drop, get_or, suc, ◌<◌, length, ◌+◌, take, ◌≤◌, ◌*◌, length-append}
-pub use Rattle.std.proofs.lemmas.Bool.{ltb-true, leb-true, lt-ltb}
+pub use Rattle.std.proofs.lemmas.Bool.{ltb-true, leb-true}
 pub use Rattle.std.proofs.lemmas.{Bool.Decides.{nat_tests}, List.{map-append, append-nil}, List.Concat.{flat_map-append}}
 pub use Rattle.std.{proofs.lemmas.List.Elements.{filter_map-append}, specs.Cmp.{first_so, second_so}}
 pub use Rattle.std.specs.{Cmp.Lexicographic.{texts_ties, nat_list_eq_equiv}, FinMap.{find, is_sorted, entries-from_sorted, entries_sorted}}

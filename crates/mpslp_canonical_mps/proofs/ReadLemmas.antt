@@ -1,10 +1,10 @@
 -- The canonical text of a well-formed model is read line by line as it was printed, up to ENDATA, its last line.
 use Rattle.mpslp_canonical_mps.proofs.Prelude
-use Prelude.{rules, ◌≡◌, refl, sym, ap, subst, ◌∙◌, List, [], ◌∷◌, ◌++◌, ℕ, suc, ◌+◌, true, false, cond, map, arith, take, codes, list_any}
-use Prelude.{flat_map, position_or_len, lines, Number, is_zero, Row, Column, Listing, listing_of, Sense, Each, Each-append, Each-map}
-use Prelude.{Each-flat_map, Each-all, begins, Section, Name, EndData, is_end, PrintedLine, line_text, Lines, header_line, under_header}
-use Prelude.{sense_lines, rows_section, column_lines, integer_part, columns_section, vector_line, rhs_lines, rhs_section, range_lines}
-use Prelude.{ranges_section, column_bound_lines, bounds_section, listed_lines, canonical_lines, canonical_mps, content_in, AreReadAsPrinted}
+use Prelude.{rules, ◌≡◌, refl, sym, ap, subst, ◌∙◌, List, [], ◌∷◌, ◌++◌, ℕ, suc, ◌+◌, true, false, map, arith, take, list_any, flat_map}
+use Prelude.{position_or_len, lines, Number, Row, Column, Listing, listing_of, Sense, Each, Each-append, Each-map, Each-flat_map, Each-all}
+use Prelude.{begins, Section, Name, EndData, is_end, PrintedLine, line_text, Lines, header_line, under_header, sense_lines, rows_section}
+use Prelude.{column_lines, integer_part, columns_section, rhs_lines, rhs_section, range_lines, ranges_section, column_bound_lines}
+use Prelude.{bounds_section, listed_lines, canonical_lines, canonical_mps, content_in, AreReadAsPrinted}
 use Rattle.mpslp_canonical_mps.proofs.PrintableLemmas.{canonical-printable}
 use Rattle.mpslp_canonical_mps.proofs.TextLemmas.{IsPrintable, item-line_text, items-line_text, legal-lines, lines-text}
 
@@ -50,16 +50,16 @@ part-go : (ls : Lines) → AllGoOn ls → AllGoOn (integer_part ls)
 part-go = grind (arith, in-turn)
 
 columns-go : (m : Listing) (columns : List (List ℕ × Column)) → AllGoOn (flat_map (column_lines m) columns)
-columns-go m columns = flat-go _ (λ column. mapped-go _ (λ _. refl) _) columns
+columns-go = grind (arith, flat-go, mapped-go)
 
 side-go : (row : List ℕ) (value : Number) → AllGoOn (rhs_lines row value)
-side-go row value = elim (is_zero value) as (λ b. AllGoOn (cond b [] (vector_line (codes "RHS") row value ∷ []))) [ true ↦ tt | false ↦ (refl, tt) ]
+side-go = grind arith
 
 range-go : (row : List ℕ × Row) → AllGoOn (range_lines row)
 range-go = grind arith
 
 bounds-go : (column : List ℕ × Column) → AllGoOn (column_bound_lines column)
-bounds-go column = mapped-go _ (λ _. refl) _
+bounds-go = grind arith
 
 pub before-go : (m : Listing) → AllGoOn (lines_before_end m)
 before-go = grind (arith, in-turn, sense-go, mapped-go, columns-go, part-go, under-goes, side-go, flat-go, range-go, bounds-go)
@@ -67,12 +67,12 @@ before-go = grind (arith, in-turn, sense-go, mapped-go, columns-go, part-go, und
 -- ---- so all lines are read
 
 not_end : (l : PrintedLine) → IsPrintable l → GoesOn l → is_end (line_text l) ≡ false
-not_end l p g = ap (begins EndData) (item-line_text l p) ∙ g
+not_end = grind (arith, item-line_text)
 
 all-read : (ls : Lines) (last : PrintedLine) → Each IsPrintable ls → IsPrintable last → AllGoOn ls → begins EndData (content_in last) ≡ true
     → (take (suc (position_or_len is_end (map line_text (ls ++ last ∷ [])))) (map line_text (ls ++ last ∷ [])) ≡ map line_text (ls ++ last ∷ []))
     × (list_any is_end (map line_text (ls ++ last ∷ [])) ≡ true)
-all-read [] last h p g e = let here : is_end (line_text last) ≡ true = ap (begins EndData) (item-line_text last p) ∙ e in (rw here refl, rw here refl)
+all-read [] last h p g e = grind (arith, item-line_text)
 all-read (l ∷ ls) last h p g e =
     let more = all-read ls last h.1 p g.1 e in
     let here : is_end (line_text l) ≡ false = not_end l h.0 g.0 in
@@ -81,7 +81,7 @@ all-read (l ∷ ls) last h p g e =
 
 each-parts : (xs ys : Lines) → Each IsPrintable (xs ++ ys) → Each IsPrintable xs × Each IsPrintable ys
 each-parts [] ys h = (tt, h)
-each-parts (x ∷ xs) ys h = let more = each-parts xs ys h.1 in ((h.0, more.0), more.1)
+each-parts (x ∷ xs) ys h = grind (arith, each-parts xs ys h.1)
 
 abbrev up_to_end : List (List ℕ) → List (List ℕ)
 up_to_end ls = take (suc (position_or_len is_end ls)) ls

@@ -18,7 +18,7 @@ pub record Walk (before : List LineContent) (earlier : Draft) (items : List Line
   pub good : are_well_formed before earlier items ≡ true
 
 pub walk-nil : (before : List LineContent) (earlier : Draft) → Walk before earlier [] []
-walk-nil before earlier = record { declares = refl; good = refl }
+walk-nil = grind arith
 
 pub walk-cons : (before : List LineContent) (earlier : Draft) (item : LineContent) (items : List LineContent) (here ds : Declarations) → line_declares (context_of before) earlier item ≡ here
     → form_faults (context_of before) earlier item ≡ [] → Walk (before ++ item ∷ []) (with_declarations earlier here) items ds → Walk before earlier (item ∷ items) (here ++ ds)
@@ -87,7 +87,7 @@ set-good set_of set (l ∷ ls) h = rw (h.0, itself_named set) refl
 
 -- a data line stays in its section
 pub stays : (section : Section) (fields : Fields) (before : List LineContent) → current_section before ≡ Some section → current_section (before ++ data_line fields ∷ []) ≡ Some section
-stays section fields before s = current_section-push before _ ∙ s
+stays = grind (arith, current_section-push)
 
 -- ---- rows
 
@@ -149,15 +149,15 @@ pub record InSides (set : List ℕ) (rest : List Side) (before : List LineConten
 
 pub side_says : (set : List ℕ) (side : Side) (context : Context) (earlier : Draft) → context.section ≡ Some Rhs → ReadsAs side → is_free_row earlier side.row ≡ false
     → line_declares context earlier (side_item set side) ≡ side_decl side
-side_says set side context earlier s t f = rw (s, f, t) refl
+side_says = grind arith
 
 pub vector_good : (first : Option (List ℕ)) (set text : List ℕ) (value : Number) → number_of text ≡ Ok value → those_of (set_tests first set) ≡ []
     → those_of (number_tests (text ∷ []) ++ set_tests first set) ≡ []
-vector_good first set text value e h = rw e h
+vector_good = grind arith
 
 pub side_good : (set : List ℕ) (side : Side) (context : Context) (earlier : Draft) → context.section ≡ Some Rhs → ReadsAs side → those_of (set_tests context.rhs_set set) ≡ []
     → form_faults context earlier (side_item set side) ≡ []
-side_good set side context earlier s t h = rw s (vector_good context.rhs_set set side.text side.value t h)
+side_good = grind arith
 
 -- one more line of a section
 pub lines-push : (section : Section) (fields : Fields) (before : List LineContent) (o : Option Section) → current_section before ≡ o
@@ -186,11 +186,11 @@ pub record InRanges (set : List ℕ) (rest : List Side) (before : List LineConte
 
 pub range_says : (set : List ℕ) (side : Side) (context : Context) (earlier : Draft) → context.section ≡ Some Ranges → ReadsAs side
     → line_declares context earlier (side_item set side) ≡ range_decl side
-range_says set side context earlier s t = rw (s, t) refl
+range_says = grind arith
 
 pub range_good : (set : List ℕ) (side : Side) (context : Context) (earlier : Draft) → context.section ≡ Some Ranges → ReadsAs side → those_of (set_tests context.ranges_set set) ≡ []
     → form_faults context earlier (side_item set side) ≡ []
-range_good set side context earlier s t h = rw s (vector_good context.ranges_set set side.text side.value t h)
+range_good = grind arith
 
 pub range_step : (set : List ℕ) (side : Side) (rest : List Side) (before : List LineContent) (earlier : Draft) → InRanges set (side ∷ rest) before earlier
     → Step (side_item set) range_decl (InRanges set) side rest before earlier

@@ -1,6 +1,6 @@
 -- Printed lines are read back unchanged.
 use Rattle.mpslp_canonical_mps.proofs.Prelude
-use Prelude.{◌≡◌, refl, ap, ◌∙◌, List, [], ◌∷◌, ◌++◌, length, ℕ, Bool, true, false, cond, map, arith, ◌<◌, ◌≤◌, ◌*◌, length-append, lt-ltb}
+use Prelude.{◌≡◌, refl, ap, ◌∙◌, List, [], ◌∷◌, ◌++◌, length, ℕ, Bool, true, false, cond, map, arith, ◌<◌, ◌≤◌, ◌*◌, length-append}
 use Prelude.{nat_tests, append-nil, nat_lt, nat_le, ◌==◌, filter, codes, slice_split, list_all, flat_map, lines, is_visible, both_so, Each}
 use Prelude.{Each-weaker, Each-append, list_all-from_Each, Fields, skipped, header, data_line, header_of, content_of, fields, is_blank}
 use Prelude.{is_comment, outside_comment, is_legal_line, is_legal_byte, has_legal_length, MAX_LINE_LEN, IsPlain, lines-with_line_feeds}
@@ -35,13 +35,13 @@ abbrev has_bytes : List ℕ → Bool
 has_bytes run = nat_lt 0 (length run)
 
 keep-word : (w : List ℕ) (more : Fields) → Word w → filter has_bytes (w ∷ more) ≡ w ∷ filter has_bytes more
-keep-word w more h = let e : nat_lt 0 (length w) ≡ true = lt-ltb 0 (length w) h.some in rw e refl
+keep-word = grind arith
 
 fields-word : (w rest : List ℕ) → Word w → fields (w ++ 32 ∷ rest) ≡ w ∷ fields rest
-fields-word w rest h = ap (filter has_bytes) (split-word w rest (solid w h)) ∙ keep-word w (slice_split is_blank rest) h
+fields-word = grind (arith, split-word, solid, keep-word)
 
 fields-last : (w : List ℕ) → Word w → fields w ≡ w ∷ []
-fields-last w h = ap (filter has_bytes) (split-last w (solid w h)) ∙ keep-word w [] h
+fields-last = grind (arith, split-last, solid, keep-word)
 
 -- what is printed after the first field
 abbrev after_first_field : Fields → List ℕ
@@ -95,7 +95,7 @@ visible-legal : (b : ℕ) → is_visible b ≡ true → is_legal_byte b ≡ true
 visible-legal = grind (arith, nat_tests)
 
 visible-plain : (b : ℕ) → is_visible b ≡ true → IsPlain b
-visible-plain b h = (grind (arith, nat_tests), grind (arith, nat_tests))
+visible-plain = grind arith
 
 -- a property of visible bytes and of spaces holds for each byte that is printed
 module _ (P : ℕ → Type 0) (visible : (b : ℕ) → is_visible b ≡ true → P b) (blank : P 32) where
