@@ -6,7 +6,6 @@ use Rattle.std.specs.Prelude.{MatchResult}
 use Rattle.mpslp_model_core.specs.Model.{LinearModel}
 use Rattle.mpslp_builder.specs.{FileFault.{file_fault}, Finish.{Finishes}, Meaning.{model_of}}
 use Rattle.mpslp_model.specs.Formats.{IsAnswerTo}
-use Rattle.mpslp_lines.specs.LineAnswer.{IsFaultOf}
 
 -- ---- laws
 
@@ -40,8 +39,3 @@ pub ends-by : (answer : LineResult) (error : LineError) (IsRead : Type 0) (first
     → MatchResult answer (λ _. IsRead) (IsErrorOf first_fault)
 ends-by (Ok x) error IsRead first_fault h k = absurd h
 ends-by (Err e) error IsRead first_fault h k = subst (IsErrorOf first_fault) (sym h) k
-
-pub fails-by : {X : Type 0} (answer : Result X ReadFault) (error : ReadFault) (IsRead : X → Type 0) (first_fault : Option Fault) → IsErrAnd answer (λ e. e ≡ error) → IsFaultOf first_fault error
-    → MatchResult answer IsRead (IsFaultOf first_fault)
-fails-by (Ok x) error IsRead first_fault h k = absurd h
-fails-by (Err e) error IsRead first_fault h k = subst (IsFaultOf first_fault) (sym h) k

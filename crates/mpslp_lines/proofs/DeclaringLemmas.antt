@@ -7,7 +7,7 @@ use Rattle.mpslp_lines.proofs.{LeastLemmas.{is_from, earlier_of}, RefusedLemmas.
 
 -- what comes after declarations without an error
 pub declared-after : (earlier : Draft) (xs ys : Declarations) → declared_fault earlier xs ≡ None → declared_fault earlier (xs ++ ys) ≡ declared_fault (with_declarations earlier xs) ys
-declared-after earlier xs ys none = declared-append xs ys earlier ∙ ap (λ (o : Option FaultKind). earlier_of o (declared_fault (with_declarations earlier xs) ys)) none
+declared-after earlier xs ys none = declared-append xs ys earlier ∙ ap (λ o. earlier_of o (declared_fault (with_declarations earlier xs) ys)) none
 
 -- declarations without an error are not rejected
 pub unrefused : (earlier : Draft) (ds : Declarations) → declaring_faults earlier ds ≡ [] → refusals_in_turn earlier ds ≡ []

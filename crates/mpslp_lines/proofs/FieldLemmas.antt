@@ -40,4 +40,4 @@ limit-given d h = by (is_infinite_size d) (is_negative d) refl
     by : (large negative : Bool) → is_infinite_size d ≡ large → is_given (cond large (cond negative MinusInf PlusInf) (Finite d)) ≡ true
     by true true e = refl
     by true false e = refl
-    by false negative e = both_so (is_decimal d) (not (is_infinite_size d)) h (so_not (is_infinite_size d) e)
+    by false negative e = both_so _ _ h (so_not _ e)

@@ -18,9 +18,9 @@ other byte never = elim (is_feed byte) as (λ b. is_feed byte ≡ b → b ≡ fa
 ] refl
 
 pub uncut : (piece : List ℕ) → ((k : ℕ) → 0 ≤ k → k < length piece → is_feed (slice_index piece k) ≡ true → ⊥) → HasNoFeed piece
-uncut piece none = All-from_get_or (λ byte. is_feed byte ≡ false) piece 0 (λ k l. other (slice_index piece k) (none k (omega arith) l))
+uncut piece none = All-from_get_or (λ byte. is_feed byte ≡ false) piece 0 (λ k l. other _ (none k (omega arith) l))
 
 pub cut-rest : (piece : List ℕ) (len : ℕ) → ((k : ℕ) → len ≤ k → k < length piece → is_feed (slice_index piece k) ≡ true → ⊥) → HasNoFeed (drop len piece)
 cut-rest piece len none =
-    All-from_get_or (λ byte. is_feed byte ≡ false) (drop len piece) 0
-    (λ k l. ap is_feed (get_or-drop len piece k 0) ∙ other (slice_index piece (len + k)) (none (len + k) (omega arith) (omega (arith, length-drop len piece))))
+    All-from_get_or (λ byte. is_feed byte ≡ false) _ 0
+    (λ k l. ap is_feed (get_or-drop len piece k 0) ∙ other _ (none (len + k) (omega arith) (omega (arith, length-drop len piece))))

@@ -17,7 +17,7 @@ split-feed (b ∷ bs) rest h = rw (h.0.0, split-feed bs rest h.1) refl
 
 split-with_line_feeds : (ls : List (List ℕ)) → Each (Each IsPlain) ls → slice_split is_feed (with_line_feeds ls) ≡ ls ++ [] ∷ []
 split-with_line_feeds [] h = refl
-split-with_line_feeds (l ∷ ls) h = split-feed l (with_line_feeds ls) h.0 ∙ ap (λ (x : List (List ℕ)). l ∷ x) (split-with_line_feeds ls h.1)
+split-with_line_feeds (l ∷ ls) h = split-feed l _ h.0 ∙ ap (λ x. l ∷ x) (split-with_line_feeds ls h.1)
 
 no-return : (line : List ℕ) (k : ℕ) → Each IsPlain line → (slice_index line k == 13) ≡ false
 no-return [] k h = refl
@@ -29,7 +29,7 @@ strip-plain line h = rw (no-return line _ h) refl
 
 parts-lines : (ls : List (List ℕ)) → Each (Each IsPlain) ls → lines_of_parts (ls ++ [] ∷ []) ≡ ls
 parts-lines [] h = refl
-parts-lines (l ∷ []) h = ap (λ (x : List ℕ). x ∷ []) (strip-plain l h.0)
+parts-lines (l ∷ []) h = ap (λ x. x ∷ []) (strip-plain l h.0)
 parts-lines (l ∷ k ∷ ls) h = λ i. strip-plain l h.0 i ∷ parts-lines (k ∷ ls) h.1 i
 
 pub lines-with_line_feeds : (ls : List (List ℕ)) → Each (Each IsPlain) ls → lines (with_line_feeds ls) ≡ ls
