@@ -1,4 +1,3 @@
--- A test of declarations that passes for whatever a line of BOUNDS declares.
 -- What a line may change in a draft: each section declares its own, and a header only a sense or an objective.
 use Rattle.mpslp_mps_sentences.proofs.Prelude
 use Prelude.{◌≡◌, refl, List, [], ◌∷◌, ℕ, Bool, true, list_all, Declaration, declare_lower, declare_upper, declare_integer, declare_semi}
